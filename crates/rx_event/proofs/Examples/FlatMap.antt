@@ -53,8 +53,7 @@ failure_notes = refl
 -- A climb finishes with one subscriber before it goes to the next: the Source of the FlatMap is a subscriber of hub k, in whose
 -- connection stands a subscriber of hub g, and an inner of the FlatMap subscribes to g too.
 abbrev two_ways : List Event
-two_ways =
-    Hub Auto ∷ Hub Auto ∷ Open Root Flat ∷ Open (Source 2) (Sub 1) ∷ Connect 1 ∷ Open (Source 4) (Sub 0) ∷ Connect 0 ∷ Open (Source 6) Leaf
+two_ways = Hub Auto ∷ Hub Auto ∷ Open Root Flat ∷ Open (Source 2) (Sub 1) ∷ Connect 1 ∷ Open (Source 4) (Sub 0) ∷ Connect 0 ∷ Open (Source 6) Leaf
     ∷ Item 7 (pos 1) ∷ Open (Inner 2) (Sub 0) ∷ []
 
 two_ways_stops : stops two_ways 7 ≡ Projection 2 ∷ Delivery 2 ∷ []

@@ -50,8 +50,7 @@ paid_base =
       accepted = 0;
       taken = 0;
       hubs = [];
-      nodes =
-          (record { number = 0; made = Open Root Flat; source_opened = true; notifier_opened = false; source_completed = true; owed = 0 })
+      nodes = (record { number = 0; made = Open Root Flat; source_opened = true; notifier_opened = false; source_completed = true; owed = 0 })
           ∷ (record { number = 4; made = Open (Inner 0) Leaf; source_opened = false; notifier_opened = false; source_completed = false; owed = 0 }) ∷ [];
       resources = [];
       leases = [];

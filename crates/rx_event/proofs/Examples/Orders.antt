@@ -8,8 +8,7 @@ use Rattle.rx_event.proofs.Laws.InOrder.{none_connecting, settled_by_order}
 
 -- source and notifier of a TakeUntil subscribe to one hub, and the source of its connection completes
 abbrev ended : List Event
-ended =
-    Hub Auto ∷ Open Root Until ∷ Open (Source 1) (Sub 0) ∷ Connect 0 ∷ Open (Notifier 1) (Sub 0) ∷ Open (Source 3) Leaf ∷ End 5 Completed ∷ []
+ended = Hub Auto ∷ Open Root Until ∷ Open (Source 1) (Sub 0) ∷ Connect 0 ∷ Open (Notifier 1) (Sub 0) ∷ Open (Source 3) Leaf ∷ End 5 Completed ∷ []
 
 connection_due : IsDue nothing_kept ended (End 3 Completed)
 unfolding is_open is_shut ancestors parent
@@ -44,17 +43,13 @@ long = halfway ++ End 4 Completed ∷ End 1 Completed ∷ []
 
 short_course : IsForcedOn nothing_kept ended short
 unfolding first_forced source_end is_open is_shut ancestors parent shown
-short_course =
-    more (more (more stays (due (none_connecting nothing_kept ended refl) connection_due))
-    (due (none_connecting nothing_kept (ended ++ End 3 Completed ∷ []) refl) source_due))
-    (due (none_connecting nothing_kept halfway refl) until_due)
+short_course = more (more (more stays (due (none_connecting nothing_kept ended refl) connection_due))
+    (due (none_connecting nothing_kept (ended ++ End 3 Completed ∷ []) refl) source_due)) (due (none_connecting nothing_kept halfway refl) until_due)
 
 long_course : IsForcedOn nothing_kept ended long
 unfolding first_forced source_end is_open is_shut ancestors parent shown
-long_course =
-    more (more (more (more stays (due (none_connecting nothing_kept ended refl) connection_due))
-    (due (none_connecting nothing_kept (ended ++ End 3 Completed ∷ []) refl) source_due))
-    (due (none_connecting nothing_kept halfway refl) notifier_due))
+long_course = more (more (more (more stays (due (none_connecting nothing_kept ended refl) connection_due))
+    (due (none_connecting nothing_kept (ended ++ End 3 Completed ∷ []) refl) source_due)) (due (none_connecting nothing_kept halfway refl) notifier_due))
     (due (none_connecting nothing_kept (halfway ++ End 4 Completed ∷ []) refl) until_due_later)
 
 short_over : first_forced nothing_kept short ≡ None

@@ -1,8 +1,7 @@
 -- The definitions at worked examples: Publish, Connect and RefCount.
 use Rattle.rx_event.proofs.Laws.Common.{◌≡◌, List, [], ◌∷◌, ◌++◌, refl, arith, Error, Root, Source, Leaf, Sub, Auto, Manual, Event, Open, Hub, Connect, End}
 use Rattle.rx_event.proofs.Laws.Common.{Close, nothing_kept, shown, parent, ancestors, is_shut, is_open, open_nodes, is_owned, is_out, leases_of, is_held}
-use Rattle.rx_event.proofs.Laws.Common.{is_taken, is_waiting, Delivery, most_visits, climb, stops, projections, owed, moments, mirrored, cut, left, IsDue}
-use Rattle.rx_event.proofs.Laws.Common.{debt}
+use Rattle.rx_event.proofs.Laws.Common.{is_taken, is_waiting, Delivery, most_visits, climb, stops, projections, owed, moments, mirrored, cut, left, IsDue, debt}
 
 -- two hubs, one subscribed to inside a connection of the other: the last subscriber's leaving takes both connections down
 abbrev nested : List Event
@@ -46,8 +45,7 @@ connected_anew = refl
 
 -- a subscriber that comes after its hub's connection ended stays, and receives once the hub is connected again
 abbrev late : List Event
-late =
-    Hub Manual ∷ Open Root (Sub 0) ∷ Connect 0 ∷ Open (Source 2) Leaf ∷ End 3 (Error 1) ∷ End 2 (Error 1) ∷ End 1 (Error 1) ∷ Open Root (Sub 0) ∷ Connect 0
+late = Hub Manual ∷ Open Root (Sub 0) ∷ Connect 0 ∷ Open (Source 2) Leaf ∷ End 3 (Error 1) ∷ End 2 (Error 1) ∷ End 1 (Error 1) ∷ Open Root (Sub 0) ∷ Connect 0
     ∷ Open (Source 8) Leaf ∷ []
 
 late_open : open_nodes late ≡ 7 ∷ 8 ∷ 9 ∷ []

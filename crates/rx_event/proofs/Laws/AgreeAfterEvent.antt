@@ -1,9 +1,8 @@
 -- Two stored histories that agree, followed by one event that may follow, agree again.
 use Rattle.rx_event.proofs.Laws.Common.{◌≡◌, ℕ, ◌+◌, ◌<◌, Bool, true, false, List, [], ◌∷◌, ◌++◌, length, cond, Option, Some, None, refl, sym, ap, ◌∙◌, arith}
-use Rattle.rx_event.proofs.Laws.Common.{inl, inr, ◌⊎◌, slice_get, nat_lt, length-append, subst, ℤ, not, ◌&&◌, ◌||◌, option_and_then, option_map_or}
-use Rattle.rx_event.proofs.Laws.Common.{cases_order, both_ways, and_parts, Event, End, Item, is_return_of, is_take_of}
-use Rattle.rx_event.proofs.Laws.Common.{is_use_of, is_open, is_owned, is_out, leases_of, is_held, is_waiting, uses, accepted_by, Kept, resource_kept, Agree}
-use Rattle.rx_event.proofs.Laws.Common.{AreRead, MayFollow, IsLawful, Terminal, is_untaken}
+use Rattle.rx_event.proofs.Laws.Common.{inl, inr, ◌⊎◌, slice_get, nat_lt, length-append, subst, ℤ, not, ◌&&◌, ◌||◌, option_and_then, option_map_or, cases_order}
+use Rattle.rx_event.proofs.Laws.Common.{both_ways, and_parts, Event, End, Item, is_return_of, is_take_of, is_use_of, is_open, is_owned, is_out, leases_of}
+use Rattle.rx_event.proofs.Laws.Common.{is_held, is_waiting, uses, accepted_by, Kept, resource_kept, Agree, AreRead, MayFollow, IsLawful, Terminal, is_untaken}
 use Rattle.rx_event.proofs.Laws.Places.{slice_get-append, slice_get_last}
 use Rattle.rx_event.proofs.Laws.Resources.{held_is, owned_held, is_owned_past, is_owned_new, held_old, is_held_past, is_waiting_past, is_waiting_new}
 use Rattle.rx_event.proofs.Laws.Resources.{is_waiting-unheld}
@@ -70,27 +69,21 @@ module _ (b : Kept) (h : List Event) (c : Kept) (k : List Event) (e : Event) (la
   leased_on l out = by_place (cases_order l (length h)) where
     by_place : (l ≡ length h) ⊎ ((l < length h) ⊎ (length h < l)) → slice_get (h ++ e ∷ []) l ≡ slice_get (k ++ e ∷ []) l
     by_place (inl last) = ap (slice_get (h ++ e ∷ [])) last ∙ slice_get_last h e ∙ sym (ap (slice_get (k ++ e ∷ [])) (long_k l last) ∙ slice_get_last k e)
-    by_place (inr (inl less)) =
-        slice_get-append h (e ∷ []) l less ∙ a.leased l (and_parts (is_out h l) _ (sym (is_out-push h e l less) ∙ out)).0 ∙ sym
+    by_place (inr (inl less)) = slice_get-append h (e ∷ []) l less ∙ a.leased l (and_parts (is_out h l) _ (sym (is_out-push h e l less) ∙ out)).0 ∙ sym
         (slice_get-append k (e ∷ []) l (in_k l less))
     by_place (inr (inr past)) = absurd (both_ways _ (is_out_past (h ++ e ∷ []) l (omega (arith, length-append h (e ∷ [])))) out)
 
-  leases_on : (r : ℕ) → leases_of (h ++ e ∷ []) r ≡ leases_of (k ++ e ∷ []) r
-  leases_on r = leases_of_same (h ++ e ∷ []) (k ++ e ∷ []) pushed.same_length out_on leased_on r
-
   held_on : (r : ℕ) → is_held (h ++ e ∷ []) r ≡ is_held (k ++ e ∷ []) r
-  held_on r =
-      held_is (h ++ e ∷ []) r ∙
-      (λ i. owned_on r i || (is_leased-counted b (h ++ e ∷ []) (IsLawful-push b h e law next) r ∙ ap (nat_lt 0) (leases_on r) ∙ sym
-      (is_leased-counted c (k ++ e ∷ []) (IsLawful-push c k e law_k next_k) r)) i) ∙
-      sym (held_is (k ++ e ∷ []) r)
+  held_on r = held_is (h ++ e ∷ []) r ∙
+      (λ i. owned_on r i || (is_leased-counted b (h ++ e ∷ []) (IsLawful-push b h e law next) r ∙
+      ap (nat_lt 0) (leases_of_same (h ++ e ∷ []) (k ++ e ∷ []) pushed.same_length out_on leased_on r) ∙ sym
+      (is_leased-counted c (k ++ e ∷ []) (IsLawful-push c k e law_k next_k) r)) i) ∙ sym (held_is (k ++ e ∷ []) r)
 
   waiting_on : (r : ℕ) → is_waiting (h ++ e ∷ []) r ≡ is_waiting (k ++ e ∷ []) r
   waiting_on r = search (rules, cases_order, length, is_waiting_new, long_k, is_waiting-unheld, not, held_on, in_k, is_waiting_past, length-append)
 
   untaken_old : (r : ℕ) → r < length h → is_untaken (h ++ e ∷ []) r ≡ true → is_untaken h r ≡ true
-  untaken_old r l untaken =
-      shape (is_held (h ++ e ∷ []) r) (is_waiting h r) (is_held h r) (is_take_of r e) (held_old b h e law next r l)
+  untaken_old r l untaken = shape (is_held (h ++ e ∷ []) r) (is_waiting h r) (is_held h r) (is_take_of r e) (held_old b h e law next r l)
       (ap (λ x. is_held (h ++ e ∷ []) r || x) (sym (is_waiting-unheld b h e law next r l)) ∙ untaken)
     where
       shape : (after waits held takes : Bool) → (after ≡ true → held ≡ true) → (after || ((waits || (held && not after)) && not takes)) ≡ true →
@@ -105,20 +98,16 @@ module _ (b : Kept) (h : List Event) (c : Kept) (k : List Event) (e : Event) (la
     fresh : (d : Kept) (m : List Event) → IsLawful d m → r ≡ length m → accepted_by d (m ++ e ∷ []) r ≡ Some e
     fresh d m s last =
         ap (λ x. option_map_or (λ y. Some (Rattle.rx_event.specs.declared.event.Event.TheVariants.Accept y.node y.tag)) x (slice_get (m ++ e ∷ []) r))
-        (s.started.unnumbered r (let w = shown_within d m s in omega arith)) ∙
-        ap (slice_get (m ++ e ∷ [])) last ∙
-        slice_get_last m e
+        (s.started.unnumbered r (let w = shown_within d m s in omega arith)) ∙ ap (slice_get (m ++ e ∷ [])) last ∙ slice_get_last m e
 
     older : (d : Kept) (m : List Event) → r < length m → accepted_by d (m ++ e ∷ []) r ≡ accepted_by d m r
-    older d m l =
-        ap (λ x. option_map_or (λ y. Some (Rattle.rx_event.specs.declared.event.Event.TheVariants.Accept y.node y.tag)) (resource_kept d r) x)
+    older d m l = ap (λ x. option_map_or (λ y. Some (Rattle.rx_event.specs.declared.event.Event.TheVariants.Accept y.node y.tag)) (resource_kept d r) x)
         (slice_get-append m (e ∷ []) r l)
 
     by_place : (r ≡ length h) ⊎ ((r < length h) ⊎ (length h < r)) → accepted_by b (h ++ e ∷ []) r ≡ accepted_by c (k ++ e ∷ []) r
     by_place (inl last) = fresh b h law last ∙ sym (fresh c k law_k (long_k r last))
     by_place (inr (inl l)) = older b h l ∙ a.accepts r (untaken_old r l untaken) ∙ sym (older c k (in_k r l))
-    by_place (inr (inr l)) =
-        absurd (past (is_held_past (h ++ e ∷ []) r (omega (arith, length-append h (e ∷ []))))
+    by_place (inr (inr l)) = absurd (past (is_held_past (h ++ e ∷ []) r (omega (arith, length-append h (e ∷ []))))
         (is_waiting_past (h ++ e ∷ []) r (omega (arith, length-append h (e ∷ [])))))
 
   uses_on : (r : ℕ) → is_untaken (h ++ e ∷ []) r ≡ true → uses b (h ++ e ∷ []) r ≡ uses c (k ++ e ∷ []) r
@@ -129,8 +118,7 @@ module _ (b : Kept) (h : List Event) (c : Kept) (k : List Event) (e : Event) (la
     before : (r ≡ length h) ⊎ ((r < length h) ⊎ (length h < r)) → uses b h r ≡ uses c k r
     before (inl last) = uses_past b h law r (omega arith) ∙ sym (uses_past c k law_k r (let q = long_k r last in omega arith))
     before (inr (inl l)) = a.used r (untaken_old r l untaken)
-    before (inr (inr l)) =
-        absurd (past (is_held_past (h ++ e ∷ []) r (omega (arith, length-append h (e ∷ []))))
+    before (inr (inr l)) = absurd (past (is_held_past (h ++ e ∷ []) r (omega (arith, length-append h (e ∷ []))))
         (is_waiting_past (h ++ e ∷ []) r (omega (arith, length-append h (e ∷ [])))))
 
   pub agree-push : Agree b (h ++ e ∷ []) c (k ++ e ∷ [])

@@ -56,8 +56,7 @@ tells_more base {b = b} {k = k} on {e = e} d n silent still before = by_before b
   by_before (tells_end told so root was gone) = tells_end (same ∙ told) so root was (stays_closed_on base on d n gone)
 
 tells_closing : (base : Kept) → {b k : List Event} → IsDueOn base b k → IsLawful base b → IsConnected b → {e : Event} → IsDue base k e → IsClosing base k e →
-    (n : ℕ) → Tells base b k n →
-    Tells base b (k ++ e ∷ []) n
+    (n : ℕ) → Tells base b k n → Tells base b (k ++ e ∷ []) n
 tells_closing base {b = b} {k = k} on law whole d (by_close c g at_c none o) n before = tells_more base on d n refl still before where
   apart : at is_root k n ≡ true → (a : Bool) → (c == n) ≡ a → a ≡ false
   apart root false other = refl
@@ -80,19 +79,15 @@ tells_closing base {b = b} {k = k} on law whole d (by_end c {t = t} x o) n befor
   silent false a root other both = rw root refl
 
   ended : at is_root k c ≡ true → (c == n) ≡ true → Tells base b k n → Tells base b (k ++ End c t ∷ []) n
-  ended root same (tells_end told so is_root_n was gone) =
-      absurd (both_ways (is_open k n) gone (ap (is_open k) (sym (eqb-true c n same)) ∙ o))
+  ended root same (tells_end told so is_root_n was gone) = absurd (both_ways (is_open k n) gone (ap (is_open k) (sym (eqb-true c n same)) ∙ o))
   ended root same (tells_none told open_still) =
       let number : c ≡ n = eqb-true c n same in
       let here : at is_root b n ≡ true = sym (at_on base is_root root_fails on n) ∙ ap (at is_root k) (sym number) ∙ root in
       tells_end (notes_to-push k (End c t) n ∙ (λ i. told i ++ end_told root same i)) (begun_on base on law whole c t x) here
-      (sym (open_still here) ∙ ap (is_open k) (sym number) ∙ o) (is_open_outside-end k c t n ∙ closed_here same)
+      (sym (open_still here) ∙ ap (is_open k) (sym number) ∙ o) (is_open_outside-end k c t n ∙ (rw (ancestors_step k n, same) (and_false (is_open k n))))
     where
       end_told : at is_root k c ≡ true → (c == n) ≡ true → notes_in n (mail_of k (End c t)) ≡ EndNote t ∷ []
       end_told root same = rw (root, noted_to n c (length k) (EndNote t) [], same) refl
-
-      closed_here : (c == n) ≡ true → (is_open k n && not (is_within k c n)) ≡ false
-      closed_here same = rw (ancestors_step k n, same) (and_false (is_open k n))
 
   by_root : (r : Bool) → at is_root k c ≡ r → (a : Bool) → (c == n) ≡ a → Tells base b (k ++ End c t ∷ []) n
   by_root true root true same = ended root same before
@@ -100,8 +95,7 @@ tells_closing base {b = b} {k = k} on law whole d (by_end c {t = t} x o) n befor
   by_root false root false other = tells_more base on d n (silent false false root other refl) (still other) before
   by_root false root true same = tells_more base on d n (silent false true root same refl) (λ here. absurd (no_root root same here)) before where
     no_root : at is_root k c ≡ false → (c == n) ≡ true → at is_root b n ≡ true → ⊥
-    no_root root same here =
-        both_ways (at is_root k c) root (ap (at is_root k) (eqb-true c n same) ∙ at_on base is_root root_fails on n ∙ here)
+    no_root root same here = both_ways (at is_root k c) root (ap (at is_root k) (eqb-true c n same) ∙ at_on base is_root root_fails on n ∙ here)
 
 tells_on : (base : Kept) → {b k : List Event} → IsDueOn base b k → IsLawful base b → IsConnected b → (n : ℕ) → Tells base b k n
 tells_on base none_more law whole n = tells_none refl (λ root. refl)
@@ -113,10 +107,8 @@ same_notes : (base : Kept) → {b k j : List Event} → IsLawful base b → (n :
 same_notes base law n same (tells_none told still) (tells_none other also) = told ∙ sym other
 same_notes base {b = b} law n same (tells_end {t = t} told so root was gone) (tells_end {t = u} other too also was_too gone_too) =
     told ∙ ap (λ v. notes_to b n ++ EndNote v ∷ []) (ends_one base b law t u so too) ∙ sym other
-same_notes base law n same (tells_none told still) (tells_end other so root was gone) =
-    absurd (both_ways _ (same ∙ gone) (still root ∙ was))
-same_notes base law n same (tells_end told so root was gone) (tells_none other still) =
-    absurd (both_ways _ (sym same ∙ gone) (still root ∙ was))
+same_notes base law n same (tells_none told still) (tells_end other so root was gone) = absurd (both_ways _ (same ∙ gone) (still root ∙ was))
+same_notes base law n same (tells_end told so root was gone) (tells_none other still) = absurd (both_ways _ (sym same ∙ gone) (still root ∙ was))
 
 -- all the rest ------------------------------------------------------------------------------------------------
 
@@ -167,8 +159,7 @@ module _ (base : Kept) (b k j : List Event) (law : IsLawful base b) (whole : IsC
 
   leases_both : (r : ℕ) → leases_of k r ≡ leases_of j r
   unfolding leases_of
-  leases_both r =
-      sym (length-filter (is_out_of k r) (places k)) ∙
+  leases_both r = sym (length-filter (is_out_of k r) (places k)) ∙
       ap length (same_filter (is_out_of k r) (is_out_of j r) (length k) (length j) (λ l i. at_both (is_lease_of r)
       (record { at_end = λ c t. refl; at_close = λ c. refl }) l i && out_both l i)
       (λ l past. ap (λ b. at (is_lease_of r) k l && b) (is_out_past k l past) ∙ and_false (at (is_lease_of r) k l))
@@ -181,8 +172,7 @@ module _ (base : Kept) (b k j : List Event) (law : IsLawful base b) (whole : IsC
 
   taken_both : (r : ℕ) → is_taken k r ≡ is_taken j r
   unfolding is_taken
-  taken_both r =
-      search (rules, at_both, any_both)
+  taken_both r = search (rules, at_both, any_both)
 
   waiting_both : (r : ℕ) → is_waiting k r ≡ is_waiting j r
   unfolding is_waiting
@@ -241,8 +231,7 @@ module _ (base : Kept) (b k j : List Event) (law : IsLawful base b) (whole : IsC
     waiting_total = sym (length-filter (is_waiting k) (places k)) ∙ ap length all_waiting ∙ length-filter (is_waiting j) (places j);
     nodes_total = count_both makes_node (record { at_end = λ c t. refl; at_close = λ c. refl });
     items = ap (λ x. base.items + x) (count_both is_item (record { at_end = λ c t. refl; at_close = λ c. refl }));
-    accepted =
-        ap (λ x. (base.accepted - count_by makes_resource (shown base)) + x)
+    accepted = ap (λ x. (base.accepted - count_by makes_resource (shown base)) + x)
         (count_both makes_resource (record { at_end = λ c t. refl; at_close = λ c. refl }));
     taken = ap (λ x. base.taken + x) (count_both is_take (record { at_end = λ c t. refl; at_close = λ c. refl }));
   }
@@ -256,8 +245,7 @@ courses_alike {base} {b} {k} {j} law on_k settled_k on_j settled_j =
 
 -- and so do two steps
 pub steps_alike : {base : Kept} {h outside k j : List Event} → IsLawful base h → IsStep base h outside k → IsStep base h outside j → AreAlike base k j
-steps_alike {base} {h} {outside} law one other =
-    courses_alike
+steps_alike {base} {h} {outside} law one other = courses_alike
     (lawful_begun base one.forced (let long = shown_within base h law in omega (arith, length-append h outside)) one.lawful) one.forced one.settled
     other.forced other.settled
 
@@ -268,9 +256,7 @@ start_new : (base : Kept) → {b k j : List Event} (s : StartAlike base b k j) (
     (i ≡ length b) × ((g : ℕ) × (x ≡ Connect g))
 start_new base {b = b} s i x l at_i = by_start s.begun where
   by_start : (s.start ≡ b) ⊎ ((g : ℕ) × (s.start ≡ b ++ Connect g ∷ [])) → (i ≡ length b) × ((g : ℕ) × (x ≡ Connect g))
-  by_start (inl same) =
-      let w : i < length b = slice_get_within b i x (ap (λ (q : List Event). slice_get q i) (sym same) ∙ at_i) in
-      absurd (omega arith)
+  by_start (inl same) = let w : i < length b = slice_get_within b i x (ap (λ (q : List Event). slice_get q i) (sym same) ∙ at_i) in absurd (omega arith)
   by_start (inr (g, same)) =
       let here : slice_get (b ++ Connect g ∷ []) i ≡ Some x = ap (λ (q : List Event). slice_get q i) (sym same) ∙ at_i in
       let w : i < length (b ++ Connect g ∷ []) = slice_get_within (b ++ Connect g ∷ []) i x here in
@@ -281,19 +267,15 @@ not_connect : (n g : ℕ) (t : Terminal) → End n t ≡ Connect g → ⊥
 not_connect n g t same = absurd (cc)
 
 ends_after : (base : Kept) → {b k j : List Event} (s : StartAlike base b k j) {q : List Event} → IsDueOn base s.start q → (n i : ℕ) (t : Terminal) →
-    length b ≤ i →
-    slice_get q i ≡ Some (End n t) → EndsSo base s.start t
+    length b ≤ i → slice_get q i ≡ Some (End n t) → EndsSo base s.start t
 ends_after base s {q = q} on n i t l at_i = by_place (end_stands base on s.law s.whole n t i at_i) where
   by_place : EndStands base s.start q n t i → EndsSo base s.start t
   by_place (came_after was gone so) = so
-  by_place (stood_before found) =
-      let new = start_new base s i (End n t) l found in
-      absurd (not_connect n new.1.0 t new.1.1)
+  by_place (stood_before found) = let new = start_new base s i (End n t) l found in absurd (not_connect n new.1.0 t new.1.1)
 
 -- nothing stands past the end
 nothing_past : (b k : List Event) (i : ℕ) (x : Event) → k ≡ b → length b ≤ i → slice_get k i ≡ Some x → ⊥
-nothing_past b k i x same l at_i =
-    search (rules, length, slice_get_within, slice_get)
+nothing_past b k i x same l at_i = search (rules, length, slice_get_within, slice_get)
 
 -- all ends of two courses are alike
 pub one_terminal : {base : Kept} {b k j : List Event} → IsLawful base b → IsForcedOn base b k → IsForcedOn base b j → {t u : Terminal} →
@@ -304,8 +286,7 @@ one_terminal {base} {b} {k} {j} law on_k on_j {t} {u} x y = by_first (begins_wit
   by_first (inr one) (inl same) = absurd (nothing_past b j y.place (End y.node u) same y.since y.ended)
   by_first (inr one) (inr other) =
       let s = starts_with base law on_k on_j one.first one.rest other.first other.rest in
-      ends_one base s.start s.law t u (ends_after base s s.one x.node x.place t x.since x.ended)
-      (ends_after base s s.other y.node y.place u y.since y.ended)
+      ends_one base s.start s.law t u (ends_after base s s.one x.node x.place t x.since x.ended) (ends_after base s s.other y.node y.place u y.since y.ended)
 
 -- a connection comes first
 pub connects_first : {base : Kept} {b k : List Event} → IsLawful base b → IsForcedOn base b k → (c : ℕ) {g : ℕ} → length b ≤ c →
@@ -319,8 +300,7 @@ connects_first {base} {b} {k} law on c {g} l at_c = by_first (begins_with base o
 
 closed_forced : (base : Kept) → {b k : List Event} → IsForcedOn base b k → (n : ℕ) → n < length b → is_open b n ≡ false → (n < length k) × (is_open k n ≡ false)
 closed_forced base stays n l closed = (l, closed)
-closed_forced base (more {k = k} {e = e} on f) n l closed =
-    search (rules, length, length-append, stays_closed, closed_forced base on n l closed)
+closed_forced base (more {k = k} {e = e} on f) n l closed = search (rules, length, length-append, stays_closed, closed_forced base on n l closed)
 
 -- what one course has closed so far, another has closed in the end
 pub closed_in_both : {base : Kept} {b p k : List Event} → IsLawful base b → IsForcedOn base b p → IsForcedOn base b k → IsSettled base k → (n : ℕ) →

@@ -1,17 +1,17 @@
 -- The base of a settled stored history is sound, and agrees with it.
 use Rattle.rx_event.proofs.Laws.Common.{◌≡◌, ℕ, suc, ◌+◌, ◌-◌, ◌<◌, ◌≤◌, Bool, true, false, List, [], ◌∷◌, ◌++◌, length, cond, Option, Some, None, refl, sym}
-use Rattle.rx_event.proofs.Laws.Common.{ap, ◌∙◌, arith, inl, inr, ◌⊎◌, slice_get, nat_lt, not, ◌&&◌, ◌||◌, list_any, option_and_then, option_map_or}
-use Rattle.rx_event.proofs.Laws.Common.{cases_Bool, cases_lt, both_ways, false≢true, and_parts, eqb-true, slice_get_past, slice_get_within, none-some}
-use Rattle.rx_event.proofs.Laws.Common.{same_Some, sum_by-cons, Terminal, Completed, Error, Place, Leaf, Sub, IsInOrderAt, Root, Source, Inner, Notifier}
-use Rattle.rx_event.proofs.Laws.Common.{Event, Open, Hub, Connect, Accept, Lease, Item, End, Close, has_source, is_merging, is_until, makes_node}
-use Rattle.rx_event.proofs.Laws.Common.{makes_hub, makes_resource, makes_lease, parent_named, node_of_accept, is_source_of, is_inner_of, is_switch}
-use Rattle.rx_event.proofs.Laws.Common.{is_remove_of, is_return_of, is_take_of, is_use_of, pays, at, is_open, is_owned, is_out, leases_of, is_held, is_taken}
-use Rattle.rx_event.proofs.Laws.Common.{is_waiting, uses, accepted_by, Stop, Moment, moments, moments_after, is_projection_to, stops_of, projections}
-use Rattle.rx_event.proofs.Laws.Common.{is_fired, owed, completes_source, source_completed, child_terminal, marks_of, mirrored, fired, failed, completed, cut}
-use Rattle.rx_event.proofs.Laws.Common.{left, connecting, due, IsConnected, IsDue, IsForced, IsSettled, IsLawful, Kept, node_kept, resource_kept, shown}
-use Rattle.rx_event.proofs.Laws.Common.{source_opened, base_of, Agree, and_false, and_true, or_false, false_from_ne_true as never, counted_once, IsInOrder}
-use Rattle.rx_event.proofs.Laws.Common.{is_notifier_of, is_take, accepted_count, taken_count, notifier_opened, keep_node, is_untaken}
-use Rattle.std.proofs.Common.{count_by, sum_by}
+use Rattle.rx_event.proofs.Laws.Common.{ap, ◌∙◌, arith, inl, inr, ◌⊎◌, slice_get, nat_lt, not, ◌&&◌, ◌||◌, list_any, option_and_then, option_map_or, cases_Bool}
+use Rattle.rx_event.proofs.Laws.Common.{cases_lt, both_ways, false≢true, and_parts, eqb-true, slice_get_past, slice_get_within, none-some, same_Some}
+use Rattle.rx_event.proofs.Laws.Common.{sum_by-cons, Terminal, Completed, Error, Place, Leaf, Sub, IsInOrderAt, Root, Source, Inner, Notifier, Event, Open, Hub}
+use Rattle.rx_event.proofs.Laws.Common.{Connect, Accept, Lease, Item, End, Close, has_source, is_merging, is_until, makes_node, makes_hub, makes_resource}
+use Rattle.rx_event.proofs.Laws.Common.{makes_lease, parent_named, node_of_accept, is_source_of, is_inner_of, is_switch, is_remove_of, is_return_of, is_take_of}
+use Rattle.rx_event.proofs.Laws.Common.{is_use_of, pays, at, is_open, is_owned, is_out, leases_of, is_held, is_taken, is_waiting, uses, accepted_by, Stop}
+use Rattle.rx_event.proofs.Laws.Common.{Moment, moments, moments_after, is_projection_to, stops_of, projections, is_fired, owed, completes_source}
+use Rattle.rx_event.proofs.Laws.Common.{source_completed, child_terminal, marks_of, mirrored, fired, failed, completed, cut, left, connecting, due, IsConnected}
+use Rattle.rx_event.proofs.Laws.Common.{IsDue, IsForced, IsSettled, IsLawful, Kept, node_kept, resource_kept, shown, source_opened, base_of, Agree, and_false}
+use Rattle.rx_event.proofs.Laws.Common.{and_true, or_false, false_from_ne_true as never, counted_once, IsInOrder, is_notifier_of, is_take, accepted_count}
+use Rattle.rx_event.proofs.Laws.Common.{taken_count, notifier_opened, keep_node, is_untaken}
+use Rattle.std.proofs.Common.{count_by, sum_by, rules}
 use Rattle.rx_event.proofs.Laws.SameForcedAndAllowed.{hub_is, in_order_too}
 use Rattle.rx_event.specs.Events.{is_item, is_making}
 use Rattle.rx_event.specs.Moments.{projected_by}
@@ -34,11 +34,9 @@ use Rattle.rx_event.proofs.Laws.MarksAfter.{same_marks}
 use Rattle.rx_event.proofs.Laws.SameMarks.{parent_sort}
 use Rattle.rx_event.proofs.Laws.ReadDue.{connect_due_by}
 use Rattle.rx_event.proofs.Laws.SameRules.{fired_until, due_by_child}
-use Rattle.rx_event.proofs.Laws.Bases.{found, node_of_base, hub_of_base, shown_get, length_base, base_length, is_inert, KeptAt, kept_at, kept_open}
-use Rattle.rx_event.proofs.Laws.Bases.{base_alike}
+use Rattle.rx_event.proofs.Laws.Bases.{found, node_of_base, hub_of_base, shown_get, length_base, base_length, is_inert, KeptAt, kept_at, kept_open, base_alike}
 use Rattle.rx_event.proofs.Laws.Sound.{count_none, sound_of}
 use Rattle.rx_event.proofs.Laws.MakingRemovesNothing.{made_unremoved, made_unreturned, made_untaken, made_unfired}
-use Rattle.std.proofs.Common.{rules}
 
 pub resource_of_base : (b : Kept) (h : List Event) (r : ℕ) → resource_kept (base_of b h) r ≡ cond (is_untaken h r) (Some (keep_resource b h r)) None
 unfolding base_of
@@ -93,8 +91,7 @@ itemless_sum f nothing before [] none = refl
 itemless_sum f nothing before (x ∷ xs) none =
     let rest = itemless_sum f nothing (before ++ x ∷ []) xs (λ j y at_j. none (suc j) y at_j) in
     let whole = sum_by-cons (λ (m : Moment). f (stops_of m.before m.event)) (record { before = before; event = x }) (moments_after (before ++ x ∷ []) xs) in
-    let first : f (stops_of before x) ≡ 0 = ap f (no_stops before x (none 0 x refl)) ∙ nothing in
-    omega arith
+    let first : f (stops_of before x) ≡ 0 = ap f (no_stops before x (none 0 x refl)) ∙ nothing in omega arith
 
 itemless_projections : (xs : List Event) → ((i : ℕ) (x : Event) → slice_get xs i ≡ Some x → leaf_of x ≡ None) → (f : ℕ) → projections xs f ≡ 0
 unfolding projections moments
@@ -126,20 +123,17 @@ module _ (b : Kept) (h : List Event) where
   s_itemless i x at_i = by_event x (s_making i x at_i) where
     by_event : (x : Event) → is_making x ≡ true → leaf_of x ≡ None
     by_event (Item l v) making = absurd (false≢true making)
-    by_event (Open place kind) making = refl
     by_event _ making = refl
 
   -- the place of a resource: what accepted it where it is held, an acceptance at no node where it waits, and else none
   s_resource : (r : ℕ) → r < length h → is_open h r ≡ false → at makes_hub h r ≡ false →
       slice_get (shown (base_of b h)) r ≡ Some (option_map_or (resource_shown r) (cond (is_untaken h r) (Some (keep_resource b h r)) None)
       (lease_shown (base_of b h) r))
-  s_resource r l closed no_hub =
-      search (rules, shown_get, base_length, option_map_or, node_of_base, cond, hub_of_base, resource_of_base)
+  s_resource r l closed no_hub = search (rules, shown_get, base_length, option_map_or, node_of_base, cond, hub_of_base, resource_of_base)
 
   -- the place of a hub
   s_hub : (g : ℕ) → g < length h → is_open h g ≡ false → at makes_hub h g ≡ true → slice_get (shown (base_of b h)) g ≡ Some (Hub (keep_hub h g).mode)
-  s_hub g l closed hub =
-      search (rules, shown_get, base_length, option_map_or, node_of_base, cond, hub_of_base)
+  s_hub g l closed hub = search (rules, shown_get, base_length, option_map_or, node_of_base, cond, hub_of_base)
 
   resource_closed : (r : ℕ) → at makes_resource h r ≡ true → (is_open h r ≡ false) × (at makes_hub h r ≡ false)
   resource_closed r makes = search (rules, never, slice_get, open_node, Accept, false≢true, option_map_or)
@@ -150,8 +144,7 @@ module _ (b : Kept) (h : List Event) where
 
   -- an owned one
   pub s_owned : Sound b h → (r : ℕ) → is_owned h r ≡ true → slice_get (shown (base_of b h)) r ≡ slice_get h r
-  s_owned sound r owned =
-      search (rules, owned_held, held_resource, resource_closed, s_resource, is_held_within, option_map_or, cond, Accept, accepted_some)
+  s_owned sound r owned = search (rules, owned_held, held_resource, resource_closed, s_resource, is_held_within, option_map_or, cond, Accept, accepted_some)
 
   untaken_made : (r : ℕ) → is_untaken h r ≡ true → at makes_resource h r ≡ true
   untaken_made r untaken = search (rules, held_resource, waiting_parts)
@@ -161,8 +154,7 @@ module _ (b : Kept) (h : List Event) where
 
   -- one that leases alone hold, or that waits
   pub s_unowned : (r : ℕ) → is_untaken h r ≡ true → is_owned h r ≡ false → slice_get (shown (base_of b h)) r ≡ Some (Accept r (keep_resource b h r).tag)
-  s_unowned r untaken free =
-      search (rules, resource_closed, untaken_made, s_resource, untaken_within, option_map_or, cond, Accept)
+  s_unowned r untaken free = search (rules, resource_closed, untaken_made, s_resource, untaken_within, option_map_or, cond, Accept)
 
   -- else none
   pub s_no_resource : (r : ℕ) → is_untaken h r ≡ false → at makes_resource (shown (base_of b h)) r ≡ false
@@ -178,8 +170,7 @@ module _ (b : Kept) (h : List Event) where
   -- a place that is neither a node nor a hub nor a resource
   s_other : (l : ℕ) → l < length h → is_open h l ≡ false → at makes_hub h l ≡ false → is_untaken h l ≡ false → slice_get (shown (base_of b h)) l ≡ Some
       (lease_shown (base_of b h) l)
-  s_other l less closed no_hub none =
-      search (rules, s_resource, option_map_or, cond)
+  s_other l less closed no_hub none = search (rules, s_resource, option_map_or, cond)
 
   pub s_lease : (l : ℕ) → is_out h l ≡ true → slice_get (shown (base_of b h)) l ≡ slice_get h l
   s_lease l out =
@@ -188,12 +179,10 @@ module _ (b : Kept) (h : List Event) where
   pub s_no_lease : (l : ℕ) → is_out h l ≡ false → at makes_lease (shown (base_of b h)) l ≡ false
   s_no_lease l back = search (rules, never, slice_get, false≢true, length, length_base, slice_get_within, option_map_or, kept_open, open_node, both_ways, same_Some, s_hub, s_resource, cond, s_other, lease_of_base, cases_Bool)
 
-  s_unreturned : (l : ℕ) → list_any (is_return_of l) (shown (base_of b h)) ≡ false
-  s_unreturned l = made_unreturned (shown (base_of b h)) s_making l
-
   pub s_is_out : (l : ℕ) → is_out h l ≡ is_out (shown (base_of b h)) l
   unfolding is_out
-  s_is_out l = by_test (is_out h l) refl ∙ sym (ap (λ c. at makes_lease (shown (base_of b h)) l && not c) (s_unreturned l) ∙ and_true
+  s_is_out l = by_test (is_out h l) refl ∙ sym (ap (λ c. at makes_lease (shown (base_of b h)) l && not c) (made_unreturned (shown
+      (base_of b h)) s_making l) ∙ and_true
       (at makes_lease (shown (base_of b h)) l)) where
         by_test : (x : Bool) → is_out h l ≡ x → x ≡ at makes_lease (shown (base_of b h)) l
         by_test true out = sym (ap (λ o. option_map_or makes_lease o false) (s_lease l out) ∙ out_lease h l out)
@@ -204,9 +193,6 @@ module _ (b : Kept) (h : List Event) where
 
   pub s_fired : (u : ℕ) → is_fired (shown (base_of b h)) u ≡ false
   s_fired u = made_unfired (shown (base_of b h)) s_making u
-
-  s_projections : (f : ℕ) → projections (shown (base_of b h)) f ≡ 0
-  s_projections f = itemless_projections (shown (base_of b h)) s_itemless f
 
   s_completed : (n : ℕ) → list_any (completes_source (shown (base_of b h)) n) (shown (base_of b h)) ≡ false
   s_completed n = search (rules, s_none, false≢true)
@@ -241,12 +227,10 @@ module _ (b : Kept) (h : List Event) where
     unfolding is_owned
     owned_node r owned = (and_parts (option_map_or (is_open h) (node_of h r) false) _ owned).0
 
-    node_open_there : (o : Option Event) →
-        option_map_or (is_open h) (option_and_then node_of_accept o) false ≡
+    node_open_there : (o : Option Event) → option_map_or (is_open h) (option_and_then node_of_accept o) false ≡
         option_map_or (is_open (shown (base_of b h))) (option_and_then node_of_accept o) false
-    node_open_there None = refl
     node_open_there (Some (Accept n tag)) = base_is_alike.same_open n
-    node_open_there (Some _) = refl
+    node_open_there _ = refl
 
     pub s_is_owned : (r : ℕ) → is_owned h r ≡ is_owned (shown (base_of b h)) r
     unfolding is_owned
@@ -275,8 +259,7 @@ module _ (b : Kept) (h : List Event) where
       by_state false none o owned = s_no_resource r none
 
     pub s_is_held : (r : ℕ) → is_held h r ≡ is_held (shown (base_of b h)) r
-    s_is_held r =
-        held_is h r ∙ shape (is_owned h r) (at makes_resource h r) (is_untaken h r) (nat_lt 0 (leases_of h r)) up (untaken_made r) ∙
+    s_is_held r = held_is h r ∙ shape (is_owned h r) (at makes_resource h r) (is_untaken h r) (nat_lt 0 (leases_of h r)) up (untaken_made r) ∙
         (λ i. s_is_owned r i || (sym (s_resource_at r) i && nat_lt 0 (s_leases_of r i))) ∙ sym (held_is (shown (base_of b h)) r)
       where
         up : (is_owned h r || (at makes_resource h r && nat_lt 0 (leases_of h r))) ≡ true → is_untaken h r ≡ true
@@ -295,16 +278,13 @@ module _ (b : Kept) (h : List Event) where
     s_kept r untaken = resource_of_base b h r ∙ ap (λ c. cond c (Some (keep_resource b h r)) None) untaken
 
     s_accepts : (r : ℕ) → is_untaken h r ≡ true → accepted_by b h r ≡ accepted_by (base_of b h) (shown (base_of b h)) r
-    s_accepts r untaken =
-        accepted_some r (untaken_made r untaken) ∙
+    s_accepts r untaken = accepted_some r (untaken_made r untaken) ∙
         sym (ap (λ k. option_map_or (λ x. Some (Accept x.node x.tag)) k (slice_get (shown (base_of b h)) r)) (s_kept r untaken))
 
     s_uses : (r : ℕ) → is_untaken h r ≡ true → uses b h r ≡ uses (base_of b h) (shown (base_of b h)) r
-    s_uses r untaken =
-        sym (uses_is ∙
+    s_uses r untaken = sym (uses_is ∙
         ap (λ k. option_map_or (λ x. x.uses + count_by (is_use_of r) (shown (base_of b h))) k (count_by (is_use_of r) (shown (base_of b h))))
-        (s_kept r untaken) ∙
-        (let none = s_unused r in let e : uses b h r + count_by (is_use_of r) (shown (base_of b h)) ≡ uses b h r = omega arith in e))
+        (s_kept r untaken) ∙ (let none = s_unused r in let e : uses b h r + count_by (is_use_of r) (shown (base_of b h)) ≡ uses b h r = omega arith in e))
       where
         uses_is : uses (base_of b h) (shown (base_of b h)) r ≡
             option_map_or (λ x. x.uses + count_by (is_use_of r) (shown (base_of b h))) (resource_kept (base_of b h) r)
@@ -336,33 +316,29 @@ module _ (b : Kept) (h : List Event) where
     inert_notifier n m _ i = refl
 
     s_sources : (n : ℕ) → is_open h n ≡ true → source_opened b h n ≡ source_opened (base_of b h) (shown (base_of b h)) n
-    s_sources n o =
-        sym (ap (λ k. option_map_or (λ x. x.source_opened) k false || list_any (is_source_of n) (shown (base_of b h))) (s_node n o) ∙
+    s_sources n o = sym (ap (λ k. option_map_or (λ x. x.source_opened) k false || list_any (is_source_of n) (shown (base_of b h))) (s_node n o) ∙
         or_more (option_map_or (λ x. x.source_opened) (node_kept b n) false) (list_any (is_source_of n) h) (list_any (is_source_of n) (shown (base_of b h)))
         (shown_some (is_source_of n) (inert_source n)))
 
     s_notifiers : (n : ℕ) → is_open h n ≡ true → notifier_opened b h n ≡ notifier_opened (base_of b h) (shown (base_of b h)) n
-    s_notifiers n o =
-        sym (ap (λ k. option_map_or (λ x. x.notifier_opened) k false || list_any (is_notifier_of n) (shown (base_of b h))) (s_node n o) ∙
+    s_notifiers n o = sym (ap (λ k. option_map_or (λ x. x.notifier_opened) k false || list_any (is_notifier_of n) (shown (base_of b h))) (s_node n o) ∙
         or_more (option_map_or (λ x. x.notifier_opened) (node_kept b n) false) (list_any (is_notifier_of n) h)
         (list_any (is_notifier_of n) (shown (base_of b h))) (shown_some (is_notifier_of n) (inert_notifier n)))
 
     s_completions : (n : ℕ) → is_open h n ≡ true → source_completed b h n ≡ source_completed (base_of b h) (shown (base_of b h)) n
-    s_completions n o =
-        sym (completed_read (base_of b h) (shown (base_of b h)) n ∙
-        (λ i. option_map_or (λ x. x.source_completed) (s_node n o i) false || s_completed n i) ∙
-        or_false (source_completed b h n))
+    s_completions n o = sym (completed_read (base_of b h) (shown (base_of b h)) n ∙
+        (λ i. option_map_or (λ x. x.source_completed) (s_node n o i) false || s_completed n i) ∙ or_false (source_completed b h n))
 
     pub s_debts : (n : ℕ) → is_open h n ≡ true → owed b h n ≡ owed (base_of b h) (shown (base_of b h)) n
     s_debts n o =
+        let owed_is : owed (base_of b h) (shown (base_of b h)) n ≡ projected_by (base_of b h) (shown (base_of b h)) n - count_by (pays n) (shown
+        (base_of b h)) =
+        owed_is_less (base_of b h) (shown (base_of b h)) n in
         let paid = count_by (pays n) (shown (base_of b h)) in
         let shows = projections (shown (base_of b h)) n in
-        let none : shows ≡ 0 = s_projections n in
+        let none : shows ≡ 0 = (itemless_projections (shown (base_of b h)) s_itemless n) in
         let e : owed b h n + paid + shows - paid ≡ owed b h n = omega arith in
         sym (owed_is ∙ ap (λ k. option_map_or (λ x. x.owed + paid + shows) k shows - paid) (s_node n o) ∙ e)
-      where
-        owed_is : owed (base_of b h) (shown (base_of b h)) n ≡ projected_by (base_of b h) (shown (base_of b h)) n - count_by (pays n) (shown (base_of b h))
-        owed_is = owed_is_less (base_of b h) (shown (base_of b h)) n
 
     -- a base is sound ---------------------------------------------------------------------------------
 
@@ -370,7 +346,6 @@ module _ (b : Kept) (h : List Event) where
     s_below n m e at_n named = by_case (kept_at b h n e at_n) where
       inert : (x : Event) → is_inert n x ≡ true → parent_named x ≡ Some m → m < n
       inert (Open place kind) i named = absurd (false≢true i)
-      inert (Hub mode) i named = absurd (none-some m named)
       inert _ i named = absurd (none-some m named)
 
       by_case : KeptAt h n e → m < n
@@ -394,9 +369,8 @@ module _ (b : Kept) (h : List Event) where
         })
       where
         names : (f : ℕ) (o : Option Event) → option_map_or (is_inner_of f) o false ≡ true → (e : Event) × (o ≡ Some e) × (parent_named e ≡ Some f)
-        names f None inner = absurd (false≢true inner)
         names f (Some (Open (Inner g) kind)) inner = (Open (Inner g) kind, refl, ap Some (eqb-true g f inner))
-        names f (Some _) inner = absurd (false≢true inner)
+        names f _ inner = absurd (false≢true inner)
 
         inner_open : (f x : ℕ) → is_open h x ≡ true → at (is_inner_of f) h x ≡ true → is_open h f ≡ true
         inner_open f x o inner =
@@ -408,8 +382,7 @@ module _ (b : Kept) (h : List Event) where
         let paid = count_by (pays f) (shown (base_of b h)) in
         let shows = projections (shown (base_of b h)) f in
         let known : projected_by (base_of b h) (shown (base_of b h)) f ≡ owed b h f + paid + shows =
-        ap (λ k. option_map_or (λ x. x.owed + paid + shows) k shows) (s_node f o) in
-        omega arith
+        ap (λ k. option_map_or (λ x. x.owed + paid + shows) k shows) (s_node f o) in omega arith
 
     pub base_sound : Sound (base_of b h) (shown (base_of b h))
     base_sound =
@@ -418,7 +391,8 @@ module _ (b : Kept) (h : List Event) where
           stands = λ n x at_n. stands_there n x at_n (kept_at b h n x at_n);
           subscribes = λ n x at_n. subscribes_there n x (kept_at b h n x at_n);
           one_inner = s_one_inner;
-          accepted = λ r owned. accepted_there r (s_is_owned r ∙ owned);
+          accepted = λ r owned. (sym (s_accepts r (λ i. owned_held h r (s_is_owned r ∙ owned) i || is_waiting h r)) ∙ sound.accepted r (s_is_owned r ∙
+              owned) ∙ sym (s_owned sound r (s_is_owned r ∙ owned)));
         }
       where
         -- the parent of an open node is open
@@ -473,15 +447,11 @@ module _ (b : Kept) (h : List Event) where
         subscribes_there n x (inl there) = open_subscribes n x there.0 there.1 (sound.subscribes n x there.1)
         subscribes_there n x (inr inert) = inert_subscribes n x inert
 
-        accepted_there : (r : ℕ) → is_owned h r ≡ true → accepted_by (base_of b h) (shown (base_of b h)) r ≡ slice_get (shown (base_of b h)) r
-        accepted_there r owned = sym (s_accepts r (λ i. owned_held h r owned i || is_waiting h r)) ∙ sound.accepted r owned ∙ sym (s_owned sound r owned)
-
     s_accepted_less : count_by makes_resource (shown (base_of b h)) ≤ count_by makes_resource h
     s_accepted_less =
         let one = count_by-places makes_resource (shown (base_of b h)) in
         let two = count_by-places makes_resource h in
-        let less =
-        sum_by_no_rise (λ n. cond (at makes_resource h n) 1 0) (λ n. cond (at makes_resource (shown (base_of b h)) n) 1 0) (length h)
+        let less = sum_by_no_rise (λ n. cond (at makes_resource h n) 1 0) (λ n. cond (at makes_resource (shown (base_of b h)) n) 1 0) (length h)
         (λ n l. counted_once (at makes_resource (shown (base_of b h)) n) (at makes_resource h n) (made n)) in
         rw (one, two, length_base b h) less
       where
@@ -523,12 +493,9 @@ module _ (b : Kept) (h : List Event) (law : IsLawful b h) (settled : IsSettled b
     by_terminal None none = none
     by_terminal (Some t) some = let w = child_terminal_some s n t some in absurd (s_no_end b h w.0.ended.place w.0.child t w.0.ended.found)
 
-  unfired : (n : ℕ) → is_open h n ≡ true → is_fired h n ≡ false
-  unfired n o = never (is_fired h n) (λ is. settled.none (End n Completed) (due whole (fired o (fired_until b h law n is) is)))
-
   marks_still : (n : ℕ) → is_open h n ≡ true → marks_of c s n ≡ marks_of b h n
-  marks_still n o =
-      same_marks b (sym (s_sources b h sound n o)) (sym (s_notifiers b h sound n o)) (s_fired b h n ∙ sym (unfired n o))
+  marks_still n o = same_marks b (sym (s_sources b h sound n o)) (sym (s_notifiers b h sound n o)) (s_fired b h n ∙
+      sym (never (is_fired h n) (λ is. settled.none (End n Completed) (due whole (fired o (fired_until b h law n is) is)))))
       (sym (s_completions b h sound n o)) (s_unended n ∙ sym (unended n o)) (sym (s_debts b h sound n o))
       (children_by (λ n. n) (λ n. n) h s (trees_alike h s alike (named_below b h law)) n o)
 

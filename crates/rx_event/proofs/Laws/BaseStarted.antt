@@ -1,12 +1,12 @@
 -- A history may begin with the base of a lawful settled one.
-use Rattle.rx_event.proofs.Laws.Common.{◌≡◌, ℕ, ◌+◌, ◌<◌, ◌≤◌, Bool, true, false, List, ◌++◌, length, take, drop, cond, Option, Some, None, refl, sym, ap}
-use Rattle.rx_event.proofs.Laws.Common.{◌∙◌, arith, inl, inr, ◌⊎◌, ◌==◌, slice_get, ◌||◌, list_any, option_map_or, cases_Bool, both_ways, false≢true}
-use Rattle.rx_event.proofs.Laws.Common.{eqb-true, length-take-le, slice_get_within, same_Some, none-some, Place, Root, Source, Inner, Notifier, Kind, Leaf}
-use Rattle.rx_event.proofs.Laws.Common.{Sub, Event, Open, Connect, Accept, Lease, Decline, Kept, node_kept, resource_kept, shown, makes_node, makes_hub}
-use Rattle.rx_event.proofs.Laws.Common.{makes_resource, makes_lease, has_source, is_merging, is_until, is_source_of, parent_named, node_of_accept}
-use Rattle.rx_event.proofs.Laws.Common.{pays, at, is_open, is_within, is_owned, is_out, is_waiting, uses, owed, IsSettled, IsInOrderAt, Started, IsLawful}
-use Rattle.rx_event.proofs.Laws.Common.{base_of, Agree, false_from_ne_true as never, IsHubbed, IsInOrder, keep_node, is_untaken}
-use Rattle.std.proofs.Common.{count_by}
+use Rattle.rx_event.proofs.Laws.Common.{◌≡◌, ℕ, ◌+◌, ◌<◌, ◌≤◌, Bool, true, false, List, ◌++◌, length, take, drop, cond, Option, Some, None, refl, sym, ap, ◌∙◌}
+use Rattle.rx_event.proofs.Laws.Common.{arith, inl, inr, ◌⊎◌, ◌==◌, slice_get, ◌||◌, list_any, option_map_or, cases_Bool, both_ways, false≢true, eqb-true}
+use Rattle.rx_event.proofs.Laws.Common.{length-take-le, slice_get_within, same_Some, none-some, Place, Root, Source, Inner, Notifier, Kind, Leaf, Sub, Event}
+use Rattle.rx_event.proofs.Laws.Common.{Open, Connect, Accept, Lease, Decline, Kept, node_kept, resource_kept, shown, makes_node, makes_hub, makes_resource}
+use Rattle.rx_event.proofs.Laws.Common.{makes_lease, has_source, is_merging, is_until, is_source_of, parent_named, node_of_accept, pays, at, is_open, is_within}
+use Rattle.rx_event.proofs.Laws.Common.{is_owned, is_out, is_waiting, uses, owed, IsSettled, IsInOrderAt, Started, IsLawful, base_of, Agree}
+use Rattle.rx_event.proofs.Laws.Common.{false_from_ne_true as never, IsHubbed, IsInOrder, keep_node, is_untaken}
+use Rattle.std.proofs.Common.{count_by, rules}
 use Rattle.std.proofs.lemmas.List.{take-append-drop}
 use Rattle.rx_event.specs.Events.{is_making}
 use Rattle.rx_event.specs.Moments.{projected_by}
@@ -30,7 +30,6 @@ use Rattle.rx_event.proofs.Laws.SameTree.{Alike}
 use Rattle.rx_event.proofs.Laws.BaseAgrees.{resource_of_base, s_making, s_unused, s_owned, s_unowned, s_no_resource, s_resource_at, s_lease, s_no_lease}
 use Rattle.rx_event.proofs.Laws.BaseAgrees.{base_is_alike, owned_node, s_one_inner, s_paid, base_sound, s_debts, base_agrees, base_undue, shown_settled}
 use Rattle.rx_event.proofs.Laws.ShownBase.{base_one_connection, agree_accepted}
-use Rattle.std.proofs.Common.{rules}
 
 -- what an event names stands before it ----------------------------------------------------------------------
 
@@ -42,8 +41,7 @@ open_front : (h : List Event) (n p : ℕ) → n < length h → p < n → is_open
 open_front h n p l less o = by_test (cases_Bool (is_open (take n h) p)) where
   by_test : (is_open (take n h) p ≡ true) ⊎ (is_open (take n h) p ≡ false) → is_open (take n h) p ≡ true
   by_test (inl before) = before
-  by_test (inr closed) =
-      absurd (both_ways _ (ap (λ k. is_open k p) (sym (take-append-drop n h)) ∙
+  by_test (inr closed) = absurd (both_ways _ (ap (λ k. is_open k p) (sym (take-append-drop n h)) ∙
       stays_closed_after (take n h) (drop n h) p (let t = length-take-le n h (omega arith) in omega arith) closed) o)
 
 order_front : (h : List Event) (n g p : ℕ) → n < length h → p < n → IsInOrderAt h g p → IsInOrderAt (take n h) g p
@@ -67,9 +65,6 @@ module _ (b : Kept) (h : List Event) (law : IsLawful b h) (settled : IsSettled b
   sound_s : Sound (base_of b h) s
   sound_s = base_sound b h sound
 
-  agree : Agree b h (base_of b h) s
-  agree = base_agrees b h law settled
-
   inert_names : (n : ℕ) (x : Event) → is_inert n x ≡ true → parent_named x ≡ None
   inert_names n x1 i = search (rules, false≢true)
 
@@ -87,10 +82,7 @@ module _ (b : Kept) (h : List Event) (law : IsLawful b h) (settled : IsSettled b
   old n e at_n = slice_get_within s n e at_n
 
   made_there : (n : ℕ) (e : Event) → slice_get s n ≡ Some e → makes_node e ≡ true → (is_open h n ≡ true) × (slice_get h n ≡ Some e)
-  made_there n e at_n made = by_case (kept_at b h n e at_n) where
-    by_case : KeptAt h n e → (is_open h n ≡ true) × (slice_get h n ≡ Some e)
-    by_case (inl there) = there
-    by_case (inr i) = absurd (inert_not_node n e i made)
+  made_there n e at_n made = elim (kept_at b h n e at_n) [ inl there ↦ there | inr i ↦ absurd (inert_not_node n e i made) ]
 
   names : (n p : ℕ) (e : Event) → slice_get s n ≡ Some e → parent_named e ≡ Some p → is_open (take n s) p ≡ true
   names n p e at_n named = open_front s n p (old n e at_n) (sound_s.below n p e at_n named) (sym (alike.same_open p) ∙ parent_there n p e at_n named)
@@ -105,21 +97,20 @@ module _ (b : Kept) (h : List Event) (law : IsLawful b h) (settled : IsSettled b
   placed n (Notifier p) kind at_n = at_front is_until n p (sound_s.below n p _ at_n refl) (old n _ at_n) (sound_s.stands n _ at_n)
 
   hubbed : (n : ℕ) (place : Place) (kind : Kind) → slice_get s n ≡ Some (Open place kind) → IsHubbed (take n s) place kind
-  hubbed n place (Sub g) at_n = (at_front makes_hub n g below (old n _ at_n) well.0, in_order place at_n well.1) where
-    well : IsHubbed s place (Sub g)
-    well = sound_s.subscribes n (Open place (Sub g)) at_n
+  hubbed n place (Sub g) at_n =
+      let well : IsHubbed s place (Sub g) = sound_s.subscribes n (Open place (Sub g)) at_n in
+      (at_front makes_hub n g below (old n _ at_n) well.0, in_order place at_n well.1) where
+        there : slice_get h n ≡ Some (Open place (Sub g))
+        there = (made_there n _ at_n refl).1
 
-    there : slice_get h n ≡ Some (Open place (Sub g))
-    there = (made_there n _ at_n refl).1
+        below : g < n
+        below = within_front h n g (slice_get_within h n _ there) (at_within makes_hub (take n h) g (hubbed_before b h law n place (Sub g) there).0)
 
-    below : g < n
-    below = within_front h n g (slice_get_within h n _ there) (at_within makes_hub (take n h) g (hubbed_before b h law n place (Sub g) there).0)
-
-    in_order : (place : Place) → slice_get s n ≡ Some (Open place (Sub g)) → IsInOrder s g place → IsInOrder (take n s) g place
-    in_order Root at_n order = tt
-    in_order (Source p) at_n order = order_front s n g p (old n _ at_n) (sound_s.below n p _ at_n refl) order
-    in_order (Inner p) at_n order = order_front s n g p (old n _ at_n) (sound_s.below n p _ at_n refl) order
-    in_order (Notifier p) at_n order = order_front s n g p (old n _ at_n) (sound_s.below n p _ at_n refl) order
+        in_order : (place : Place) → slice_get s n ≡ Some (Open place (Sub g)) → IsInOrder s g place → IsInOrder (take n s) g place
+        in_order Root at_n order = tt
+        in_order (Source p) at_n order = order_front s n g p (old n _ at_n) (sound_s.below n p _ at_n refl) order
+        in_order (Inner p) at_n order = order_front s n g p (old n _ at_n) (sound_s.below n p _ at_n refl) order
+        in_order (Notifier p) at_n order = order_front s n g p (old n _ at_n) (sound_s.below n p _ at_n refl) order
   hubbed n place Leaf at_n = tt
   hubbed n place _ at_n = tt
 
@@ -146,8 +137,7 @@ module _ (b : Kept) (h : List Event) (law : IsLawful b h) (settled : IsSettled b
         (sym (alike.same_open n) ∙ sym (ap (λ o. option_map_or (is_open h) (Rattle.std.specs.Option.option_and_then node_of_accept o) false) there) ∙
         owned_node b h sound r owned)
     by_state false owned true untaken = at_itself (sym (node_is r (keep_resource b h r).tag (sym (s_unowned b h r untaken owned) ∙ at_r)))
-    by_state false owned false none =
-        absurd (both_ways _ (s_no_resource b h r none) (ap (λ o. option_map_or makes_resource o false) at_r))
+    by_state false owned false none = absurd (both_ways _ (s_no_resource b h r none) (ap (λ o. option_map_or makes_resource o false) at_r))
 
   accepts : (r n tag : ℕ) → slice_get s r ≡ Some (Accept n tag) → n ≤ r
   accepts r n tag at_r = search (rules, accept_at)
@@ -183,18 +173,13 @@ module _ (b : Kept) (h : List Event) (law : IsLawful b h) (settled : IsSettled b
     pays_named : (x : Event) → is_making x ≡ true → pays f x ≡ true → parent_named x ≡ Some f
     pays_named (Open (Inner g) kind) making p = ap Some (eqb-true g f p)
     pays_named (Decline g) making p = absurd (false≢true making)
-    pays_named (Open Root kind) making p = absurd (false≢true p)
-    pays_named (Open (Source g) kind) making p = absurd (false≢true p)
-    pays_named (Open (Notifier g) kind) making p = absurd (false≢true p)
     pays_named _ making p = absurd (false≢true p)
 
     by_test : (o : Bool) → is_open h f ≡ o → count_by (pays f) s ≤ projected_by (base_of b h) s f
     by_test true o = s_paid b h sound f o
     by_test false closed =
-        let none : count_by (pays f) s ≡ 0 =
-        count_none (pays f) s
-        (λ i x at_i. never (pays f x) (λ p. both_ways _ closed (parent_there i f x at_i (pays_named x (s_making b h i x at_i) p)))) in
-        omega arith
+        let none : count_by (pays f) s ≡ 0 = count_none (pays f) s
+        (λ i x at_i. never (pays f x) (λ p. both_ways _ closed (parent_there i f x at_i (pays_named x (s_making b h i x at_i) p)))) in omega arith
 
   alive : (n : ℕ) (e : Event) → slice_get s n ≡ Some e → makes_node e ≡ true → is_open s n ≡ true
   alive n e at_n made = sym (alike.same_open n) ∙ (made_there n e at_n made).0
@@ -219,18 +204,15 @@ module _ (b : Kept) (h : List Event) (law : IsLawful b h) (settled : IsSettled b
         connects = connects;
         accepts = accepts;
         holds = holds;
-        one_source =
-            λ f x y one other. one_source b h law f x y (at_there (is_source_of f) (makes_source f) x one)
+        one_source = λ f x y one other. one_source b h law f x y (at_there (is_source_of f) (makes_source f) x one)
             (at_there (is_source_of f) (makes_source f) y other);
         leases = leases;
-        one_inner =
-            λ f x y switch one one_open other other_open. s_one_inner b h sound f x y
+        one_inner = λ f x y switch one one_open other other_open. s_one_inner b h sound f x y
             (record { switch = switch; one = one; one_open = one_open; other = other; other_open = other_open });
-        one_connection =
-            λ g x y one one_open other other_open. base_one_connection b h sound (one_connection b h law) g x y
+        one_connection = λ g x y one one_open other other_open. base_one_connection b h sound (one_connection b h law) g x y
             (record { one = one; one_open = one_open; other = other; other_open = other_open });
         unused = unused;
-        parts = agree_accepted b h (base_of b h) s agree (accepted_count-parts b h law);
+        parts = agree_accepted b h (base_of b h) s (base_agrees b h law settled) (accepted_count-parts b h law);
         unkept = unkept;
         paid = paid;
         plain = plain;

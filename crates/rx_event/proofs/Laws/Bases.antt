@@ -50,8 +50,7 @@ module _ {X : Type 0} (number : X → ℕ) (keep : ℕ → X) (numbered : (n : �
 
     here : (b : Bool) → s ≡ k → p s ≡ b →
         find_by number (map keep (cond b (s ∷ filter p (range_with_len (s + 1) n)) (filter p (range_with_len (s + 1) n)))) k ≡ cond (p k) (Some (keep k)) None
-    here true same at_s =
-        ap (λ c. cond c (Some (keep s)) rest) (ap (λ m. m == k) (numbered s) ∙ eq-eqb s k same) ∙ ap (λ m. Some (keep m)) same ∙
+    here true same at_s = ap (λ c. cond c (Some (keep s)) rest) (ap (λ m. m == k) (numbered s) ∙ eq-eqb s k same) ∙ ap (λ m. Some (keep m)) same ∙
         ap (λ c. cond c (Some (keep k)) None) (sym at_s ∙ ap p same)
     here false same at_s = find_apart (s + 1) n k (inl (omega arith)) ∙ ap (λ c. cond c (Some (keep k)) None) (sym at_s ∙ ap p same)
 
@@ -92,8 +91,7 @@ length-shown b = length-map-range_with_len (shown_at b) 0 b.at_length
 
 pub shown_get : (b : Kept) (n : ℕ) → n < b.at_length → slice_get (shown b) n ≡ Some (shown_at b n)
 unfolding shown
-shown_get b n l =
-    search (rules, slice_get-map, range_with_len, range_at)
+shown_get b n l = search (rules, slice_get-map, range_with_len, range_at)
 
 -- what a place of a base's list is: an open node's event, or nothing that makes or shuts a node
 abbrev pub is_inert : ℕ → Event → Bool
@@ -131,8 +129,7 @@ kept_open b h n o =
     shown_get (base_of b h) n (rw (base_length b h) l) ∙
     ap (λ k. Some (option_map_or (λ r. r.made) k (option_map_or (λ r. Hub r.mode) (hub_kept (base_of b h) n)
     (option_map_or (resource_shown n) (resource_kept (base_of b h) n) (lease_shown (base_of b h) n)))))
-    (node_of_base b h n ∙ ap (λ c. cond c (Some (keep_node b h n)) None) o) ∙
-    ap (λ x. Some (option_map_or (λ e. e) x (Close n))) there.1 ∙ sym there.1
+    (node_of_base b h n ∙ ap (λ c. cond c (Some (keep_node b h n)) None) o) ∙ ap (λ x. Some (option_map_or (λ e. e) x (Close n))) there.1 ∙ sym there.1
 
 pub closed_here : (b : Kept) (h : List Event) (n : ℕ) → is_open h n ≡ false → at makes_node (shown (base_of b h)) n ≡ false
 closed_here b h n closed = by_event (slice_get (shown (base_of b h)) n) refl where
@@ -161,8 +158,7 @@ inner_parent h f n less inner = search (rules, option_and_then, slice_get, cond,
 
 -- no later place of the base's list shuts an open node
 not_shut_later : (b : Kept) {h : List Event} → ((f x y : ℕ) → TwoOpenInners h f x y → x ≡ y) → (n m : ℕ) {x : Event} → is_open h n ≡ true → n < m →
-    slice_get (shown (base_of b h)) m ≡ Some x →
-    shuts (shown (base_of b h)) n x ≡ true → ⊥
+    slice_get (shown (base_of b h)) m ≡ Some x → shuts (shown (base_of b h)) n x ≡ true → ⊥
 not_shut_later b {h} law n m {x} o later at_m shut = by_event x (kept_at b h m x at_m) shut where
   s : List Event
   s = shown (base_of b h)
@@ -176,15 +172,13 @@ not_shut_later b {h} law n m {x} o later at_m shut = by_event x (kept_at b h m x
       let front = and_parts (nat_lt f n) (at is_switch s f) parts.0 in
       let inner : at (is_inner_of f) h n ≡ true = sym (same_at (is_inner_of f) n o) ∙ parts.1 in
       let f_open : is_open h f ≡ true = parent_open h n f o (inner_parent h f n front.0 inner) in
-      let same =
-      law f n m (record {
+      let same = law f n m (record {
         switch = sym (same_at is_switch f f_open) ∙ front.1;
         one = inner;
         one_open = o;
         other = ap (λ e. option_map_or (is_inner_of f) e false) at_m ∙ eq-eqb f f refl;
         other_open = m_open;
-      }) in
-      absurd (omega arith)
+      }) in absurd (omega arith)
 
   by_event : (x : Event) → KeptAt h m x → shuts s n x ≡ true → ⊥
   by_event (End c t) (inl there) shut = both_ways _ (ap (λ e. option_map_or makes_node e false) there.1) (open_node h m there.0)
@@ -198,14 +192,12 @@ not_shut_later b {h} law n m {x} o later at_m shut = by_event x (kept_at b h m x
 not_shut_here : (b : Kept) (h : List Event) → ((f x y : ℕ) → TwoOpenInners h f x y → x ≡ y) → (n : ℕ) → is_open h n ≡ true →
     is_shut (shown (base_of b h)) n ≡ false
 unfolding is_shut
-not_shut_here b h law n o = by_test (cases_Bool (list_any (shuts (shown (base_of b h)) n) (drop (suc n) (shown (base_of b h))))) where
-  by_test : (list_any (shuts (shown (base_of b h)) n) (drop (suc n) (shown (base_of b h))) ≡ true) ⊎
-      (list_any (shuts (shown (base_of b h)) n) (drop (suc n) (shown (base_of b h))) ≡ false) →
-      list_any (shuts (shown (base_of b h)) n) (drop (suc n) (shown (base_of b h))) ≡ false
-  by_test (inr none) = none
-  by_test (inl some) =
+not_shut_here b h law n o = elim (cases_Bool (list_any (shuts (shown (base_of b h)) n) (drop (suc n) (shown (base_of b h))))) [
+  | inr none ↦ none
+  | inl some ↦
       let place = list_any_found (shuts (shown (base_of b h)) n) (drop (suc n) (shown (base_of b h))) some in
       absurd (not_shut_later b law n (suc n + place.0) o (omega arith) (sym (slice_get-drop (suc n) (shown (base_of b h)) place.0) ∙ place.2) place.3)
+]
 
 parent_of_event : (s h : List Event) (n : ℕ) → slice_get s n ≡ slice_get h n → parent s n ≡ parent h n
 unfolding parent
@@ -218,9 +210,6 @@ open_within_base (suc k) b h law n l = by_test (is_open h n) refl (λ m less. op
   s : List Event
   s = shown (base_of b h)
 
-  same_parent : is_open h n ≡ true → parent s n ≡ parent h n
-  same_parent o = parent_of_event s h n (kept_open b h n o)
-
   above : ((m : ℕ) → m < n → is_open s m ≡ is_open h m) → is_open h n ≡ true → (x : Option ℕ) → parent h n ≡ x → option_map_or (is_open s) x true ≡ true
   above further o None below = refl
   above further o (Some m) below = further m (parent-lt h n m below) ∙ parent_open h n m o below
@@ -229,7 +218,7 @@ open_within_base (suc k) b h law n l = by_test (is_open h n) refl (λ m less. op
   by_test true o further =
       let stands : at makes_node s n ≡ true = ap (λ e. option_map_or makes_node e false) (kept_open b h n o) ∙ open_node h n o in
       let open_above : option_map_or (is_open s) (parent s n) true ≡ true =
-      ap (λ x. option_map_or (is_open s) x true) (same_parent o) ∙ above further o (parent h n) refl in
+      ap (λ x. option_map_or (is_open s) x true) (parent_of_event s h n (kept_open b h n o)) ∙ above further o (parent h n) refl in
       is_open_step s n ∙ (λ i. (stands i && not (not_shut_here b h law n o i)) && open_above i)
   by_test false closed further = is_open_step s n ∙ (search (rules, closed_here, not, option_map_or))
 
@@ -248,21 +237,16 @@ base_alike b h law =
     hub_here n mode at_n =
         let closed : is_open h n ≡ false = no_node n mode at_n (cases_Bool (is_open h n)) in
         let l : n < length h = slice_get_within h n (Hub mode) at_n in
-        shown_get (base_of b h) n (rw (base_length b h) l) ∙
-        ap Some (shown_hub n mode at_n closed)
+        shown_get (base_of b h) n (rw (base_length b h) l) ∙ ap Some (ap (λ k. option_map_or (λ r. r.made) k (option_map_or (λ r. Hub r.mode) (hub_kept
+        (base_of b h) n) (option_map_or (resource_shown n) (resource_kept (base_of b h) n) (lease_shown (base_of b h) n)))) (node_of_base b h n ∙
+        ap (λ c. cond c (Some (keep_node b h n)) None) closed) ∙
+        ap (λ k. option_map_or (λ r. Hub r.mode) k (option_map_or (resource_shown n) (resource_kept (base_of b h) n) (lease_shown (base_of b h) n)))
+        (hub_of_base b h n ∙ ap (λ e. cond (option_map_or makes_hub e false) (Some (keep_hub h n)) None) at_n) ∙
+        ap (λ e. Hub (mode_of (option_map_or (λ x. x) e (Close n)))) at_n)
       where
         no_node : (n : ℕ) (mode : Mode) → slice_get h n ≡ Some (Hub mode) → (is_open h n ≡ true) ⊎ (is_open h n ≡ false) → is_open h n ≡ false
         no_node n mode at_n (inr closed) = closed
         no_node n mode at_n (inl o) = absurd (both_ways _ (ap (λ e. option_map_or makes_node e false) at_n) (open_node h n o))
-
-        shown_hub : (n : ℕ) (mode : Mode) → slice_get h n ≡ Some (Hub mode) → is_open h n ≡ false → shown_at (base_of b h) n ≡ Hub mode
-        shown_hub n mode at_n closed =
-            ap (λ k. option_map_or (λ r. r.made) k (option_map_or (λ r. Hub r.mode) (hub_kept (base_of b h) n)
-            (option_map_or (resource_shown n) (resource_kept (base_of b h) n) (lease_shown (base_of b h) n))))
-            (node_of_base b h n ∙ ap (λ c. cond c (Some (keep_node b h n)) None) closed) ∙
-            ap (λ k. option_map_or (λ r. Hub r.mode) k (option_map_or (resource_shown n) (resource_kept (base_of b h) n) (lease_shown (base_of b h) n)))
-            (hub_of_base b h n ∙ ap (λ e. cond (option_map_or makes_hub e false) (Some (keep_hub h n)) None) at_n) ∙
-            ap (λ e. Hub (mode_of (option_map_or (λ x. x) e (Close n)))) at_n
 
     hub_there : (n : ℕ) (mode : Mode) → KeptAt h n (Hub mode) → slice_get (shown (base_of b h)) n ≡ Some (Hub mode) → slice_get h n ≡ Some (Hub mode)
     hub_there n mode (inl there) at_n = there.1
@@ -300,9 +284,7 @@ base_alike b h law =
       by_tests (inr closed) (inl hub) =
           let shows : shown_at (base_of b h) n ≡ Hub (mode_of (event_or h n)) = past_node closed ∙ ap
           (λ k. option_map_or (λ r. Hub r.mode) k (option_map_or (resource_shown n) (resource_kept (base_of b h) n) (lease_shown (base_of b h) n)))
-          (hub_of_base b h n ∙ ap (λ c. cond c (Some (keep_hub h n)) None) hub) in
-          in_event (slice_get h n) hub ∙ ap Some (sym shows ∙ made)
-      by_tests (inr closed) (inr other) =
-          absurd (no_hub (resource_kept (base_of b h) n) (sym (past_node closed ∙ ap (λ k. option_map_or (λ r. Hub r.mode) k
+          (hub_of_base b h n ∙ ap (λ c. cond c (Some (keep_hub h n)) None) hub) in in_event (slice_get h n) hub ∙ ap Some (sym shows ∙ made)
+      by_tests (inr closed) (inr other) = absurd (no_hub (resource_kept (base_of b h) n) (sym (past_node closed ∙ ap (λ k. option_map_or (λ r. Hub r.mode) k
           (option_map_or (resource_shown n) (resource_kept (base_of b h) n) (lease_shown (base_of b h) n)))
           (hub_of_base b h n ∙ ap (λ c. cond c (Some (keep_hub h n)) None) other)) ∙ made))

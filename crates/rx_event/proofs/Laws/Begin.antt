@@ -17,8 +17,7 @@ forced_none e x1 = search (rules, closed, due_none)
 
 pub started_empty : Started nothing_kept
 unfolding shown uses is_fired notes moments projections
-started_empty =
-    search (rules, none-some, false≢true, closed, forced_none, due_none)
+started_empty = search (rules, none-some, false≢true, closed, forced_none, due_none)
 
 pub shown_nothing : shown nothing_kept ≡ []
 unfolding shown
@@ -39,5 +38,4 @@ lawful_of h each = record { started = started_empty; since = h; reads = refl; ea
 
 pub empty_base : EmptyBase
 unfolding uses owed source_completed shown
-empty_base =
-    search (rules, shown_nothing, started_empty, lawful_each, lawful_of)
+empty_base = search (rules, shown_nothing, started_empty, lawful_each, lawful_of)

@@ -47,8 +47,7 @@ due_calm {base} {h} {e} law next calm unfired {n} {t} d = by_reason (due_before 
 
 -- so no node is, where none was
 pub ends_none_on : (base : Kept) → (h : List Event) (e : Event) → IsLawful base h → MayFollow base h e → ends_or_declines e ≡ false → FiresNone h e →
-    EndsNone base h →
-    EndsNone base (h ++ e ∷ [])
+    EndsNone base h → EndsNone base (h ++ e ∷ [])
 ends_none_on base h e law next calm unfired ends_none n t d = ends_none n t (due_calm law next calm unfired d)
 
 pub settled_ends_none : (base : Kept) → (h : List Event) → IsSettled base h → EndsNone base h
@@ -66,8 +65,7 @@ quiet_ends_none base h ends_none n made o at_n = by_terminal (terminal_due made 
 pub quiet_on : {base : Kept} {h : List Event} {e : Event} → IsLawful base h → MayFollow base h e → IsSettled base h → ends_or_declines e ≡ false →
     FiresNone h e → (n : ℕ) {made : Event} → is_open (h ++ e ∷ []) n ≡ true →
     slice_get (h ++ e ∷ []) n ≡ Some made → due_at made (marks_of base (h ++ e ∷ []) n) n ≡ None
-quiet_on {base} {h} {e} law next settled calm unfired n {made} o at_n =
-    search (rules, quiet_ends_none, ends_none_on, settled_ends_none)
+quiet_on {base} {h} {e} law next settled calm unfired n {made} o at_n = search (rules, quiet_ends_none, ends_none_on, settled_ends_none)
 
 -- connections that nobody uses ----------------------------------------------------------------------
 
@@ -100,8 +98,7 @@ none_subscribed h g none = by_list (open_subscribers h g) refl where
   by_list : (ss : List ℕ) → open_subscribers h g ≡ ss → ss ≡ []
   by_list [] found = refl
   by_list (s ∷ ss) found =
-      let parts = and_parts (at (is_subscriber_of g) h s) (is_open h s) (first_passes passes (places h) s ss found) in
-      absurd (none s parts.0 parts.1)
+      let parts = and_parts (at (is_subscriber_of g) h s) (is_open h s) (first_passes passes (places h) s ss found) in absurd (none s parts.0 parts.1)
 
 -- what is open in a longer history was open
 open_older : (h t : List Event) (n : ℕ) → n < length h → is_open (h ++ t) n ≡ true → is_open h n ≡ true
@@ -113,20 +110,16 @@ KeepsSubscribers h k g = (s : ℕ) → at (is_subscriber_of g) h s ≡ true → 
 
 -- then an older connection of g that nobody uses was so before
 pub unused_older : {base : Kept} → (h t : List Event) {k : List Event} → k ≡ h ++ t → IsLawful base k → {c : ℕ} (g : ℕ) → IsUnused k c g → c < length h →
-    KeepsSubscribers h k g →
-    IsUnused h c g
+    KeepsSubscribers h k g → IsUnused h c g
 unused_older {base} h t {k} grown law {c} g u l keeps = record {
   alive = open_older h t c l (ap (λ (q : List Event). is_open q c) (sym grown) ∙ u.alive);
   made = sym (slice_get-append h t c l) ∙ ap (λ (q : List Event). slice_get q c) (sym grown) ∙ u.made;
   auto = sym (at-append is_auto_hub h t g hub_older) ∙ ap (λ (q : List Event). at is_auto_hub q g) (sym grown) ∙ u.auto;
-  unsubscribed = none_subscribed h g (λ s subscribes was. subscriber_listed k g s (subscribes_still s subscribes was) (keeps s subscribes was) u.unsubscribed);
+  unsubscribed = none_subscribed h g (λ s subscribes was. subscriber_listed k g s (ap (λ (q : List Event). at (is_subscriber_of g) q s) grown ∙
+      at-append (is_subscriber_of g) h t s (is_open_within h s was) ∙ subscribes) (keeps s subscribes was) u.unsubscribed);
 } where
   hub_older : g < length h
   hub_older = let older : g < c = connection_hub base k law g c u.made in omega arith
-
-  subscribes_still : (s : ℕ) → at (is_subscriber_of g) h s ≡ true → is_open h s ≡ true → at (is_subscriber_of g) k s ≡ true
-  subscribes_still s subscribes was =
-      ap (λ (q : List Event). at (is_subscriber_of g) q s) grown ∙ at-append (is_subscriber_of g) h t s (is_open_within h s was) ∙ subscribes
 
 -- after an event that closes nothing only what it connects is unused that was not before
 unused_new : {base : Kept} → (h : List Event) (e : Event) (c g : ℕ) → IsLawful base (h ++ e ∷ []) → ClosesNone h e → HasNoUnused h →
@@ -233,8 +226,7 @@ opened_settled base x1 = search (rules, false≢true, forced_kind)
 
 -- After the opening of a subscriber that closes nothing either nothing is forced, or just that its hub is connected, and then nothing
 pub subscribed_on : {base : Kept} {h : List Event} {place : Place} {g : ℕ} → IsLawful base h → MayFollow base h (Open place (Sub g)) →
-    ClosesNone h (Open place (Sub g)) →
-    ConnectsAtMost base (h ++ Open place (Sub g) ∷ []) g
+    ClosesNone h (Open place (Sub g)) → ConnectsAtMost base (h ++ Open place (Sub g) ∷ []) g
 subscribed_on {base} {h} {place} {g} law next still =
     let settled = opened_settled base next in
     let law_on = IsLawful-push base h (Open place (Sub g)) law next in

@@ -1,10 +1,10 @@
 -- Checkpoints: a stored history and its base agree, and go on by the same events.
 use Rattle.rx_event.proofs.Laws.Common.{◌≡◌, ℕ, ◌+◌, length, Bool, true, false, List, [], ◌∷◌, ◌++◌, map, cond, Option, Some, None, refl, sym, ap, subst, ◌∙◌}
-use Rattle.rx_event.proofs.Laws.Common.{slice_get, filter, append_assoc, append-nil, drop, AllByRecursion, range_with_len, filter_map}
-use Rattle.rx_event.proofs.Laws.Common.{option_map_or, false≢true, Event, Open, Hub, Item, End, Close, makes_hub, is_root, is_out}
-use Rattle.rx_event.proofs.Laws.Common.{at, places, open_nodes, Moment, moments_after, mail_of, IsSettled, MayFollow}
-use Rattle.rx_event.proofs.Laws.Common.{IsLawful, Kept, shown, base_of, Agree, AreRead, keep_node, is_untaken, debt}
-use Rattle.std.proofs.Common.{sum_by}
+use Rattle.rx_event.proofs.Laws.Common.{slice_get, filter, append_assoc, append-nil, drop, AllByRecursion, range_with_len, filter_map, option_map_or}
+use Rattle.rx_event.proofs.Laws.Common.{false≢true, Event, Open, Hub, Item, End, Close, makes_hub, is_root, is_out, at, places, open_nodes, Moment}
+use Rattle.rx_event.proofs.Laws.Common.{moments_after, mail_of, IsSettled, MayFollow, IsLawful, Kept, shown, base_of, Agree, AreRead, keep_node, is_untaken}
+use Rattle.rx_event.proofs.Laws.Common.{debt}
+use Rattle.std.proofs.Common.{sum_by, rules}
 use Rattle.rx_event.specs.Tree.{hubs}
 use Rattle.rx_event.specs.Notes.{told}
 use Rattle.rx_event.specs.Bases.{keep_hub, keep_resource, keep_lease, mode_of}
@@ -20,7 +20,6 @@ use Rattle.rx_event.proofs.Laws.BaseAgrees.{base_agrees}
 use Rattle.rx_event.proofs.Laws.BaseStarted.{base_started}
 use Rattle.rx_event.proofs.Laws.Begin.{empty_base}
 use Rattle.std.proofs.Math.Seq.{drop-append_seam}
-use Rattle.std.proofs.Common.{rules}
 
 -- these events may follow one after the other
 abbrev Continues : Kept → List Event → List Event → Type 0
@@ -44,10 +43,8 @@ goes_on {b} h c k (e ∷ es) law law_k a each =
 mail_alike : (b : Kept) (h : List Event) (c : Kept) (k : List Event) → Agree b h c k → IsLawful b h → (e : Event) → MayFollow b h e → mail_of h e ≡ mail_of k e
 mail_alike b h c k a law (Item l v) f =
     (λ i. filter_map (told (a.same_length i) v) (stops_of_alike b h k (Item l v) law (emits b h (Item l v) f) (alike_of a) i))
-mail_alike b h c k a law (End n t) f =
-    (λ i. cond (at_alike h k (alike_of a) is_root n (may_end b f) i)
+mail_alike b h c k a law (End n t) f = (λ i. cond (at_alike h k (alike_of a) is_root n (may_end b f) i)
     ((record { place = a.same_length i; to = n; note = Rattle.rx_note.specs.declared.note.Note.TheVariants.End t }) ∷ []) [])
-mail_alike b h c k a law (Open place kind) f = refl
 mail_alike b h c k a law _ f = refl
 
 agreeing : (b : Kept) (h : List Event) (c : Kept) (k : List Event) → IsLawful b h → IsLawful c k → Agree b h c k → (e : Event) → AgreeingGoOn b h c k e
@@ -83,19 +80,16 @@ module _ (b : Kept) (h : List Event) (c : Kept) (k : List Event) (a : Agree b h 
     by_event n None at_n fails = absurd (false≢true fails)
     by_event n (Some e) at_n passes =
         let hub = hub_is e passes in
-        let here : slice_get h n ≡ Some (Hub hub.0) = at_n ∙ ap Some hub.1 in
-        here ∙ sym (alike.same_hub n hub.0 here)
+        let here : slice_get h n ≡ Some (Hub hub.0) = at_n ∙ ap Some hub.1 in here ∙ sym (alike.same_hub n hub.0 here)
 
     same : (n : ℕ) → at makes_hub h n ≡ true → keep_hub h n ≡ keep_hub k n
     same n makes = ap (λ o. record { number = n; mode = mode_of (option_map_or (λ e. e) o (Close n)) }) (by_event n (slice_get h n) refl makes)
 
   same_resources : map (keep_resource b h) (filter (is_untaken h) (places h)) ≡ map (keep_resource c k) (filter (is_untaken k) (places k))
-  same_resources =
-      search (rules, map_filter_same, map, filter, range_with_len, option_map_or, cond)
+  same_resources = search (rules, map_filter_same, map, filter, range_with_len, option_map_or, cond)
 
   same_leases : map (keep_lease h) (filter (is_out h) (places h)) ≡ map (keep_lease k) (filter (is_out k) (places k))
-  same_leases =
-      search (rules, map_filter_same, option_map_or, map, filter, range_with_len)
+  same_leases = search (rules, map_filter_same, option_map_or, map, filter, range_with_len)
 
   -- are the same
   pub same_base : base_of b h ≡ base_of c k
@@ -104,8 +98,7 @@ module _ (b : Kept) (h : List Event) (c : Kept) (k : List Event) (a : Agree b h 
 
 pub same_debt : (b : Kept) (h : List Event) (c : Kept) (k : List Event) → Agree b h c k → debt b h ≡ debt c k
 unfolding debt
-same_debt b h c k a =
-    search (rules, sum_by-same, length, sum_by, range_with_len, alike, Alike, alike_of, cond, at_alike)
+same_debt b h c k a = search (rules, sum_by-same, length, sum_by, range_with_len, alike, Alike, alike_of, cond, at_alike)
 
 lawful_on : (b : Kept) (h es : List Event) → IsLawful b h → Continues b h es → IsLawful b (h ++ es)
 lawful_on b h [] law each = rw (append-nil h) law
@@ -131,8 +124,7 @@ pub base_lawful : (b : Kept) (h : List Event) → IsLawful b h → IsSettled b h
 base_lawful b h law settled = IsLawful_empty (base_of b h) (base_started b h law settled)
 
 after_base : (b : Kept) (h es : List Event) → IsLawful b h → IsSettled b h → IsLawful b (h ++ es) → GoesOn b h (base_of b h) (shown (base_of b h)) es
-after_base b h es law settled longer =
-    search (rules, goes_on, base_lawful, kept_agrees, list_continues)
+after_base b h es law settled longer = search (rules, goes_on, base_lawful, kept_agrees, list_continues)
 
 before_base : (b : Kept) (h es : List Event) → IsLawful b h → IsSettled b h → IsLawful (base_of b h) (shown (base_of b h) ++ es) → IsLawful b (h ++ es)
 before_base b h es law settled longer =

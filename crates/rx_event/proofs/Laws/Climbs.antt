@@ -1,9 +1,9 @@
 -- Climbs in the subject's own words: a node, and then the climbs of where it goes on, in order.
-use Rattle.rx_event.proofs.Laws.Common.{◌≡◌, ℕ, zero, suc, ◌+◌, ◌<◌, ◌≤◌, Bool, true, false, List, [], ◌∷◌, ◌++◌, length, take, Option, Some, None, cond}
-use Rattle.rx_event.proofs.Laws.Common.{refl, sym, ap, ◌∙◌, arith, ◌==◌, slice_get, append_assoc, append-nil, length-append, ◌&&◌, AllByRecursion, filter_map}
-use Rattle.rx_event.proofs.Laws.Common.{sum_by, range_with_len, option_map_or, and_parts, sum_by-cons, Kept, Event, Connect, is_subscriber_of, at, places}
-use Rattle.rx_event.proofs.Laws.Common.{parent, is_within, is_open, Stop, most_visits, climb, stops, IsLawful, ◌*◌, min, cons_option, option_to_list, visits}
-use Rattle.std.proofs.Common.{◌↔◌, add-zero}
+use Rattle.rx_event.proofs.Laws.Common.{◌≡◌, ℕ, zero, suc, ◌+◌, ◌<◌, ◌≤◌, Bool, true, false, List, [], ◌∷◌, ◌++◌, length, take, Option, Some, None, cond, refl}
+use Rattle.rx_event.proofs.Laws.Common.{sym, ap, ◌∙◌, arith, ◌==◌, slice_get, append_assoc, append-nil, length-append, ◌&&◌, AllByRecursion, filter_map, sum_by}
+use Rattle.rx_event.proofs.Laws.Common.{range_with_len, option_map_or, and_parts, sum_by-cons, Kept, Event, Connect, is_subscriber_of, at, places, parent}
+use Rattle.rx_event.proofs.Laws.Common.{is_within, is_open, Stop, most_visits, climb, stops, IsLawful, ◌*◌, min, cons_option, option_to_list, visits}
+use Rattle.std.proofs.Common.{◌↔◌, add-zero, rules}
 use Rattle.std.specs.List.{flat_map}
 use Rattle.std.proofs.Math.Nat.{add-mul}
 use Rattle.std.proofs.lemmas.List.{length-take, take_all}
@@ -18,7 +18,6 @@ use Rattle.rx_event.proofs.Laws.Sums.{sum_by-same, sum_by-plus, sum_by_none, sum
 use Rattle.rx_event.proofs.Laws.Totals.{is_within_self}
 use Rattle.rx_event.proofs.Laws.Projections.{onward_open}
 use Rattle.rx_event.proofs.Laws.Hubs.{subscriber_hub, hubs_in_order}
-use Rattle.std.proofs.Common.{rules}
 
 -- whole climbs ------------------------------------------------------------------------------------
 
@@ -67,9 +66,7 @@ ends_below h d subscribed (suc j) n l o late = whole (ends_each h (onward h n) (
   by_parent : ((p : ℕ) → p < j → is_open h p ≡ true → IsLate h d p → Ends h (p ∷ [])) → (q : Option ℕ) → parent h n ≡ q →
       AllByRecursion (λ m. Ends h (m ∷ [])) (option_to_list q)
   by_parent up None below = tt
-  by_parent up (Some p) below =
-      let s : p < n = parent-lt h n p below in
-      (search (rules, parent_open, within_parent))
+  by_parent up (Some p) below = let s : p < n = parent-lt h n p below in (search (rules, parent_open, within_parent))
 
   by_subscriber : (g : ℕ) → slice_get h n ≡ Some (Connect g) → (s : ℕ) → (at (is_subscriber_of g) h s && is_open h s) ≡ true → Ends h (s ∷ [])
   by_subscriber g connects s both =
@@ -90,8 +87,7 @@ ends_below h d subscribed (suc j) n l o late = whole (ends_each h (onward h n) (
 -- the hubs above a subscriber are later than its own, and there are only so many
 ends_from : (base : Kept) → (h : List Event) → IsLawful base h → (d : ℕ) → EndsFrom h d
 ends_from base h law zero = λ g s subscribes o l. absurd (let w = subscriber_hub base h law g s subscribes in omega arith)
-ends_from base h law (suc d) =
-    λ g s subscribes o l. ends_below h d (ends_from base h law d) (suc s) s (omega arith) o
+ends_from base h law (suc d) = λ g s subscribes o l. ends_below h d (ends_from base h law d) (suc s) s (omega arith) o
     (λ a k within connects. let m = hubs_in_order law g s a subscribes within connects in omega arith)
 
 -- so the climb from each open node ends
@@ -101,9 +97,8 @@ visits_end base h law n o = ends_below h (length h) (ends_from base h law (lengt
 -- the climb, as far as the limit ------------------------------------------------------------------
 
 visited_cut_off : (k : ℕ) {h : List Event} {ns vs : List ℕ} → Visits h ns vs → visited k h ns ≡ take k vs
-visited_cut_off zero v = refl
-visited_cut_off (suc k) nowhere = refl
 visited_cut_off (suc k) (visit {n = n} p r) = ap (λ (xs : List ℕ). n ∷ xs) (visited_cut_off k (Visits-append p r))
+visited_cut_off _ _ = refl
 
 -- it is cut off one visit after the limit
 pub climb_cut_off : (h : List Event) (n : ℕ) (vs : List ℕ) → Visits h (n ∷ []) vs → climb h n ≡ take (suc most_visits) vs
@@ -128,8 +123,7 @@ climbs_each {h = h} (visit {n = n} {others = others} {later = later} {rest = res
     let count : length (n ∷ later ++ rest) ≡ suc (length later) + length rest = omega (arith, length-append later rest) in
     let first : climb h n ≡ n ∷ later =
     climb_whole h n (n ∷ later ++ []) (visit p nowhere) (omega (arith, length-append later [])) ∙ ap (λ (xs : List ℕ). n ∷ xs) (append-nil later) in
-    let next : rest ≡ flat_map (climb h) others = climbs_each r (omega arith) in
-    λ i. sym first i ++ next i
+    let next : rest ≡ flat_map (climb h) others = climbs_each r (omega arith) in λ i. sym first i ++ next i
 
 -- within the limit the climb is the node, and then the climbs of where it goes on
 pub climb_in_order : (base : Kept) → (h : List Event) → IsLawful base h → (n : ℕ) → is_open h n ≡ true → visits h n ≤ most_visits →
@@ -151,8 +145,7 @@ visited_nothing k h = grind arith
 -- where the climb stops, it visits that node alone
 pub stops_stop : (h : List Event) (n : ℕ) (s : Stop) → stop_at h n ≡ Some s → stops h n ≡ s ∷ []
 unfolding stops climb
-stops_stop h n s stop =
-    search (rules, option_map_or, slice_get, visited_nothing, filter_map)
+stops_stop h n s stop = search (rules, option_map_or, slice_get, visited_nothing, filter_map)
 
 -- within the limit the stops are those of the whole climb
 pub stops_whole : (h : List Event) (n : ℕ) (vs : List ℕ) → Visits h (n ∷ []) vs → length vs ≤ most_visits → stops h n ≡ filter_map (stop_at h) vs
@@ -167,10 +160,8 @@ filter_map-flat_map f g (x ∷ xs) = filter_map-append f (g x) (flat_map g xs) �
 pub stops_in_order : (base : Kept) → (h : List Event) → IsLawful base h → (n : ℕ) → is_open h n ≡ true → visits h n ≤ most_visits → stop_at h n ≡ None →
     stops h n ≡ flat_map (stops h) (onward h n)
 unfolding stops
-stops_in_order base h law n o few passes =
-    ap (filter_map (stop_at h)) (climb_in_order base h law n o few) ∙
-    ap (λ t. cons_option t (filter_map (stop_at h) (flat_map (climb h) (onward h n)))) passes ∙
-    filter_map-flat_map (stop_at h) (climb h) (onward h n)
+stops_in_order base h law n o few passes = ap (filter_map (stop_at h)) (climb_in_order base h law n o few) ∙
+    ap (λ t. cons_option t (filter_map (stop_at h) (flat_map (climb h) (onward h n)))) passes ∙ filter_map-flat_map (stop_at h) (climb h) (onward h n)
 
 -- counts ------------------------------------------------------------------------------------------
 
@@ -222,7 +213,5 @@ length-sum_by (x ∷ xs) = let rest = length-sum_by xs in let first = sum_by-con
 
 -- all visits are those of the nodes together
 pub visits_all : (h : List Event) (n : ℕ) (vs : List ℕ) → is_open h n ≡ true → Visits h (n ∷ []) vs → length vs ≡ sum_by (λ k. times k vs) (places h)
-visits_all h n vs o v =
-    length-sum_by vs ∙
-    sum_by-by_number (λ x. 1) (length h) vs (visits_in h n vs o v) ∙
+visits_all h n vs o v = length-sum_by vs ∙ sum_by-by_number (λ x. 1) (length h) vs (visits_in h n vs o v) ∙
     sum_by-same (λ k. times k vs) (λ k. times k vs * 1) (length h) (λ k l. omega arith)

@@ -72,19 +72,16 @@ module _ {base : Kept} {b p k : List Event} (both : ArriveApart base b p k) wher
     under = sym (same_parent d) ∙ below
 
     by_way : EndsSo base b t → HowClosed base b k d → Has k (End d t)
-    by_way so (ended_so {t = u} place far found other) =
-        record { place = place; found = found ∙ ap (λ v. Some (End d v)) (ends_one base b law u t other so) }
+    by_way so (ended_so {t = u} place far found other) = record { place = place; found = found ∙ ap (λ v. Some (End d v)) (ends_one base b law u t other so) }
     by_way so (left_alone g at_d none) = absurd (none-some c (sym (connection_parent k d g at_d) ∙ under))
-    by_way so (closed_with q above gone) =
-        absurd (both_ways (is_open k c) (sym (ap (is_open k) (same_Some q c (sym above ∙ under))) ∙ gone) alive)
+    by_way so (closed_with q above gone) = absurd (both_ways (is_open k c) (sym (ap (is_open k) (same_Some q c (sym above ∙ under))) ∙ gone) alive)
 
     by_place : EndStands base b p d t ended.place → Has k (End d t)
     by_place (stood_before found) = record { place = ended.place; found = kept_on base on_k ended.place _ found }
     by_place (came_after was gone so) = by_way so (how_closed base on_k law whole d was (closed_in_k d gone))
 
   child_in_k : (c : ℕ) (t : Terminal) → is_open k c ≡ true → ChildEnded p c t → ChildEnded k c t
-  child_in_k c t alive child =
-      search (rules, same_parent, ended_in_k)
+  child_in_k c t alive child = search (rules, same_parent, ended_in_k)
 
   -- a connection that ended in p ended so in k, where a subscriber of its hub is open
   source_in_k : (s : ℕ) (t : Terminal) → is_open k s ≡ true → SourceEnded p s t → SourceEnded k s t
@@ -127,14 +124,13 @@ module _ {base : Kept} {b p k : List Event} (both : ArriveApart base b p k) wher
 
   -- what completed a source in p did so in k
   pub completed_in_k : (n : ℕ) → is_open k n ≡ true → source_completed base p n ≡ true → source_completed base k n ≡ true
-  completed_in_k n alive found = by_case (completed_by base p n found) where
-    by_case : (option_map_or (λ r. r.source_completed) (node_kept base n) false ≡ true) ⊎ (list_any (completes_source p n) p ≡ true) →
-        source_completed base k n ≡ true
-    by_case (inl kept) = completed_kept base k n kept
-    by_case (inr listed) =
+  completed_in_k n alive found = elim (completed_by base p n found) [
+    | inl kept ↦ completed_kept base k n kept
+    | inr listed ↦
         let w = source_completed_true base p n listed in
         source_completed_has base k n w.0 (same_at (is_source_of n) (source_fails n) w.0 w.1)
         (ended_in_k w.0 n Completed (source_parent base p (lawful_on base on_p law whole) n w.0 w.1) alive w.2)
+  ]
 
   -- so what is due in p at a node that k leaves open is due in k: each rule in turn
   due_in_k : {e : Event} → IsDue base p e → is_open k (taken_away e) ≡ true → IsDue base k e
@@ -142,11 +138,9 @@ module _ {base : Kept} {b p k : List Event} (both : ArriveApart base b p k) wher
   due_in_k (fired {u = u} o m f) alive = fired alive (same_at is_until until_fails u m) (fired_on base on_k u ∙ sym (fired_on base on_p u) ∙ f)
   due_in_k (failed {f = f} {c = code} o m child) alive = failed alive (same_at is_merging merging_fails f m) (child_in_k f (Error code) alive child)
   due_in_k (completed {f = f} o m unfailed source below paid) alive =
+      let merges : at is_merging k f ≡ true = same_at is_merging merging_fails f m in
       completed alive merges (λ code child. none_due (failed alive merges child)) (completed_in_k f alive source)
       (λ d under. closed_in_k d (below d (same_parent d ∙ under))) (owed_on base on_k f ∙ sym (owed_on base on_p f) ∙ paid)
-    where
-      merges : at is_merging k f ≡ true
-      merges = same_at is_merging merging_fails f m
   due_in_k (cut {s = s} {t = t} o x) alive = cut alive (source_in_k s t alive x)
   due_in_k (left {c = c} {g = g} o at_c auto none) alive =
       left alive (kept_on base on_k c _ (connect_on base on_p c g at_c)) (same_at is_auto_hub auto_fails g auto)
@@ -181,17 +175,14 @@ spared_step {base} {b} {p} {k} both d closing n o = by_closing closing d where
   above c inside = open_above k c n o (ap (list_any (λ a. c == a)) (ancestors_on base both.on_k n old ∙ sym (ancestors_on base both.on_p n old)) ∙ inside)
 
   by_closing : {x : Event} → IsClosing base p x → IsDue base p x → is_open (p ++ x ∷ []) n ≡ true
-  by_closing (by_end c {t = t} y alive) d =
-      is_open_outside-end p c t n ∙
+  by_closing (by_end c {t = t} y alive) d = is_open_outside-end p c t n ∙
       and_from _ _ (both.spares n o) (not_within (is_within p c n) (λ inside. closes_in_k both d (above c inside)))
-  by_closing (by_close c g at_c none alive) d =
-      is_open_outside-close p c n ∙
+  by_closing (by_close c g at_c none alive) d = is_open_outside-close p c n ∙
       and_from _ _ (both.spares n o) (not_within (is_within p c n) (λ inside. closes_in_k both d (above c inside)))
 
 -- what k leaves open no course has closed
 pub spared : {base : Kept} → {b p : List Event} → IsDueOn base b p → (k : List Event) → IsLawful base b → IsConnected b → IsDueOn base b k →
-    IsSettled base k → (n : ℕ) →
-    is_open k n ≡ true → is_open p n ≡ true
+    IsSettled base k → (n : ℕ) → is_open k n ≡ true → is_open p n ≡ true
 spared {base} none_more k law whole on_k settled = λ n o. was_open_on base on_k n o
 spared {base} {b = b} (one_more {k = p} on d) k law whole on_k settled =
     spared_step (record { law = law; whole = whole; on_p = on; on_k = on_k; settled = settled; spares = spared on k law whole on_k settled }) d
@@ -200,5 +191,4 @@ spared {base} {b = b} (one_more {k = p} on d) k law whole on_k settled =
 -- so two that leave nothing to be done leave the same open
 pub same_open : (base : Kept) → {b k j : List Event} → IsLawful base b → IsConnected b → IsDueOn base b k → IsSettled base k → IsDueOn base b j →
     IsSettled base j → (n : ℕ) → is_open k n ≡ is_open j n
-same_open base {k = k} {j = j} law whole on_k settled_k on_j settled_j n =
-    search (rules, spared, law, on_k)
+same_open base {k = k} {j = j} law whole on_k settled_k on_j settled_j n = search (rules, spared, law, on_k)

@@ -1,10 +1,9 @@
 -- Neither a closing nor what is forced opens a root or connects a hub that a caller connects, so what a caller holds open grows less.
 use Rattle.rx_event.proofs.Laws.Common.{◌≡◌, ℕ, ◌+◌, ◌<◌, ◌≤◌, Bool, true, false, List, [], ◌∷◌, ◌++◌, length, Option, Some, None, cond, refl, sym, ap, ◌∙◌}
 use Rattle.rx_event.proofs.Laws.Common.{arith, inl, inr, ◌⊎◌, slice_get, append_assoc, append-nil, not, count_by, option_map_or, both_ways, false≢true}
-use Rattle.rx_event.proofs.Laws.Common.{and_parts, and_from, eq-eqb, false_from_ne_true, slice_get_within, Kept, Manual, Event, Hub, Connect, Close}
-use Rattle.rx_event.proofs.Laws.Common.{makes_node, makes_hub, is_root, is_auto_hub, is_manual_hub, at, places, is_open, open_connections}
-use Rattle.rx_event.proofs.Laws.Common.{connecting, due, IsDue, IsForced, stays, more, IsForcedOn, IsLawful, and_false}
-use Rattle.rx_event.proofs.Laws.Common.{list_all, not-true}
+use Rattle.rx_event.proofs.Laws.Common.{and_parts, and_from, eq-eqb, false_from_ne_true, slice_get_within, Kept, Manual, Event, Hub, Connect, Close, makes_node}
+use Rattle.rx_event.proofs.Laws.Common.{makes_hub, is_root, is_auto_hub, is_manual_hub, at, places, is_open, open_connections, connecting, due, IsDue, IsForced}
+use Rattle.rx_event.proofs.Laws.Common.{stays, more, IsForcedOn, IsLawful, and_false, list_all, not-true}
 use Rattle.std.proofs.lemmas.Bool.{and_left}
 use Rattle.rx_event.specs.Claims.Closing.{is_open_root, is_manual_connect, is_manual_connection, open_root_count, manual_connection_count, IsLetGo}
 use Rattle.rx_event.specs.Claims.Closing.{makes_neither, MakesNeither}
@@ -109,9 +108,8 @@ manual_hub h g = by_event (slice_get h g) where
 pub manual_connection : (h : List Event) (c : ℕ) → is_manual_connection h c ≡ true → (g : ℕ) × IsManualConnection h g c
 manual_connection h c found = by_event (slice_get h c) refl (and_parts _ _ found).1 where
   by_event : (o : Option Event) → slice_get h c ≡ o → option_map_or (is_manual_connect h) o false ≡ true → (g : ℕ) × IsManualConnection h g c
-  by_event None at_c manual = absurd (false≢true manual)
   by_event (Some (Connect g)) at_c manual = (g, record { connected = at_c; manual = manual_hub h g manual; alive = (and_parts _ _ found).0 })
-  by_event (Some _) at_c manual = absurd (false≢true manual)
+  by_event _ at_c manual = absurd (false≢true manual)
 
 pub connection_manual : (h : List Event) (g c : ℕ) → IsManualConnection h g c → is_manual_connection h c ≡ true
 connection_manual h g c m = and_from _ _ m.alive (rw (m.connected, m.manual) refl)
@@ -140,8 +138,7 @@ connections_before (one_further {k = k} {e = e} rest opens) g c m = connections_
 
 pub manual_before : {h k : List Event} → OpensNoneUpTo h k → (c : ℕ) → is_manual_connection k c ≡ true → is_manual_connection h c ≡ true
 manual_before {h = h} {k = k} on c found =
-    let m : (g : ℕ) × IsManualConnection k g c = manual_connection k c found in
-    connection_manual h m.0 c (connections_before on m.0 c m.1)
+    let m : (g : ℕ) × IsManualConnection k g c = manual_connection k c found in connection_manual h m.0 c (connections_before on m.0 c m.1)
 
 -- the event at a place stays
 kept_at : {h k : List Event} → OpensNoneUpTo h k → (n : ℕ) (x : Event) → slice_get h n ≡ Some x → slice_get k n ≡ Some x
@@ -194,18 +191,15 @@ bit_le a b same = grind arith
 
 -- the new place counts for nothing
 last_uncounted : (t : List Event → ℕ → Bool) (h : List Event) (e : Event) → IsKeptBack t → OpensNone h e → t (h ++ e ∷ []) (length h) ≡ false
-last_uncounted t h e kept opens =
-    search (rules, false_from_ne_true, length)
+last_uncounted t h e kept opens = search (rules, false_from_ne_true, length)
 
 count_after : (t : List Event → ℕ → Bool) (h : List Event) (e : Event) → IsKeptBack t → OpensNone h e →
     count_by (t (h ++ e ∷ [])) (places (h ++ e ∷ [])) ≡ count_by (t (h ++ e ∷ [])) (places h)
-count_after t h e kept opens =
-    search (rules, sum_by-places-push, cond, length, last_uncounted)
+count_after t h e kept opens = search (rules, sum_by-places-push, cond, length, last_uncounted)
 
 count_no_more : (t : List Event → ℕ → Bool) → IsKeptBack t → {h k : List Event} → OpensNoneUpTo h k → count_by (t k) (places k) ≤ count_by (t h) (places h)
 count_no_more t kept stays_so = omega arith
-count_no_more t kept (one_further {k = k} {e = e} rest opens) =
-    search (rules, sum_by_no_rise, cond, length, bit_le, count_after, count_no_more t kept rest)
+count_no_more t kept (one_further {k = k} {e = e} rest opens) = search (rules, sum_by_no_rise, cond, length, bit_le, count_after, count_no_more t kept rest)
 
 -- what the event takes away is one less
 count_less : (t : List Event → ℕ → Bool) (h : List Event) (e : Event) (c : ℕ) → IsKeptBack t → OpensNone h e → t h c ≡ true → t (h ++ e ∷ []) c ≡ false →
@@ -213,11 +207,9 @@ count_less : (t : List Event → ℕ → Bool) (h : List Event) (e : Event) (c :
 count_less t h e c kept opens there gone =
     let one : cond {A = ℕ} (t h c) 1 0 ≡ 1 = ap (λ (b : Bool). cond {A = ℕ} b 1 0) there in
     let none : cond {A = ℕ} (t (h ++ e ∷ []) c) 1 0 ≡ 0 = ap (λ (b : Bool). cond {A = ℕ} b 1 0) gone in
-    let older =
-    sum_by_falls (λ n. cond (t h n) 1 0) (λ n. cond (t (h ++ e ∷ []) n) 1 0) (length h) c (kept.within h c there)
+    let older = sum_by_falls (λ n. cond (t h n) 1 0) (λ n. cond (t (h ++ e ∷ []) n) 1 0) (length h) c (kept.within h c there)
     (λ n l. bit_le (t h n) (t (h ++ e ∷ []) n) (kept.before h e opens n)) (omega arith) in
-    let same = count_after t h e kept opens in
-    omega arith
+    let same = count_after t h e kept opens in omega arith
 
 pub roots_no_more : {h k : List Event} → OpensNoneUpTo h k → open_root_count k ≤ open_root_count h
 roots_no_more on = count_no_more is_open_root roots_kept_back on
@@ -239,8 +231,7 @@ pub root_less : (base : Kept) → (h k : List Event) (n : ℕ) → is_open_root 
     open_root_count k + 1 ≤ open_root_count h
 root_less base h k n root f =
     let rest = roots_no_more (forced_on base f stays_so) in
-    let less = count_less is_open_root h (Close n) n roots_kept_back (close_opens h n) root (and_left _ _ (closed_after h n)) in
-    omega arith
+    let less = count_less is_open_root h (Close n) n roots_kept_back (close_opens h n) root (and_left _ _ (closed_after h n)) in omega arith
 
 pub connection_less : (base : Kept) → (h k : List Event) (c : ℕ) → is_manual_connection h c ≡ true → IsForcedOn base (h ++ Close c ∷ []) k →
     manual_connection_count k + 1 ≤ manual_connection_count h
@@ -253,16 +244,13 @@ connection_less base h k c connection f =
 pub hub_disconnected : {base : Kept} {h k : List Event} {g : ℕ} (c : ℕ) → IsLawful base h → at is_manual_hub h g ≡ true → is_open h c ≡ true →
     slice_get h c ≡ Some (Connect g) → IsForcedOn base (h ++ Close c ∷ []) k → open_connections k g ≡ []
 hub_disconnected {base} {h} {k} {g} c law manual alive connects f =
-    unconnected_after (forced_on base f stays_so) g here (by_list (open_connections (h ++ Close c ∷ []) g) refl)
+    unconnected_after (forced_on base f stays_so) g (rw later refl) (by_list (open_connections (h ++ Close c ∷ []) g) refl)
   where
     hub : slice_get h g ≡ Some (Hub Manual)
     hub = manual_hub h g manual
 
     later : slice_get (h ++ Close c ∷ []) g ≡ Some (Hub Manual)
     later = slice_get-append h (Close c ∷ []) g (slice_get_within h g (Hub Manual) hub) ∙ hub
-
-    here : at is_manual_hub (h ++ Close c ∷ []) g ≡ true
-    here = rw later refl
 
     by_list : (cs : List ℕ) → open_connections (h ++ Close c ∷ []) g ≡ cs → cs ≡ []
     by_list [] found = refl
@@ -271,7 +259,6 @@ hub_disconnected {base} {h} {k} {g} c law manual alive connects f =
         first_connection (h ++ Close c ∷ []) g d cs found in
         let before : IsManualConnection h g d =
         connection_before h (Close c) g d (close_opens h c) (record { connected = first.0; manual = later; alive = first.1 }) in
-        let same : c ≡ d =
-        one_connection base h law g c d
+        let same : c ≡ d = one_connection base h law g c d
         (record { one = rw connects (eq-eqb g g refl); one_open = alive; other = rw before.connected (eq-eqb g g refl); other_open = before.alive }) in
         absurd (both_ways _ (closed_after h c) (ap (is_open (h ++ Close c ∷ [])) same ∙ first.1))

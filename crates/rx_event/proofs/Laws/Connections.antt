@@ -1,11 +1,10 @@
 -- Connections, one event after the other: the last of a hub and its last end tell all others, and what each event changes.
-use Rattle.rx_event.proofs.Laws.Common.{◌≡◌, ℕ, zero, suc, ◌+◌, ◌<◌, ◌≤◌, Bool, true, false, List, [], ◌∷◌, ◌++◌, length, Some, cond, refl, sym, ap, subst}
-use Rattle.rx_event.proofs.Laws.Common.{◌∙◌, inl, inr, ◌⊎◌, arith, slice_get, filter, append-nil, length-append, ◌&&◌, option_map_or, sum_by, range_with_len}
-use Rattle.rx_event.proofs.Laws.Common.{sum_by_push, sum_by-cons, cases_order, and_parts, and_from, slice_get_within, same_Some, Terminal, Kept, shown}
-use Rattle.rx_event.proofs.Laws.Common.{Event, Open, Connect, End, Close, is_auto_hub, is_connect_of, is_subscriber_of, at, places, is_open}
-use Rattle.rx_event.proofs.Laws.Common.{open_subscribers, cut, left, due, SourceEnded, IsDue, IsConnectDue, Started, forced, allowed, MayFollow, IsLawful}
-use Rattle.rx_event.proofs.Laws.Common.{hub_subscribed}
-use Rattle.std.proofs.Common.{◌↔◌}
+use Rattle.rx_event.proofs.Laws.Common.{◌≡◌, ℕ, zero, suc, ◌+◌, ◌<◌, ◌≤◌, Bool, true, false, List, [], ◌∷◌, ◌++◌, length, Some, cond, refl, sym, ap, subst, ◌∙◌}
+use Rattle.rx_event.proofs.Laws.Common.{inl, inr, ◌⊎◌, arith, slice_get, filter, append-nil, length-append, ◌&&◌, option_map_or, sum_by, range_with_len}
+use Rattle.rx_event.proofs.Laws.Common.{sum_by_push, sum_by-cons, cases_order, and_parts, and_from, slice_get_within, same_Some, Terminal, Kept, shown, Event}
+use Rattle.rx_event.proofs.Laws.Common.{Open, Connect, End, Close, is_auto_hub, is_connect_of, is_subscriber_of, at, places, is_open, open_subscribers, cut}
+use Rattle.rx_event.proofs.Laws.Common.{left, due, SourceEnded, IsDue, IsConnectDue, Started, forced, allowed, MayFollow, IsLawful, hub_subscribed}
+use Rattle.std.proofs.Common.{◌↔◌, rules}
 use Rattle.std.proofs.lemmas.List.Elements.{filter-append}
 use Rattle.rx_event.specs.Claims.Connections.{EndsConnection, EndsLast, HowLeft, left_before, subscriber_gone, connected_now, EndsSource, falling}
 use Rattle.rx_event.proofs.Laws.Lists.{filter_nonempty, first_passes}
@@ -18,7 +17,6 @@ use Rattle.rx_event.proofs.Laws.Sums.{below_push}
 use Rattle.rx_event.proofs.Laws.Waits.{waited_end, waited_close, waited_close_allowed, waited_before, auto_before}
 use Rattle.rx_event.proofs.Laws.OneEnd.{one_end}
 use Rattle.rx_event.proofs.Laws.Calm.{subscriber_listed}
-use Rattle.std.proofs.Common.{rules}
 
 -- the last connection -------------------------------------------------------------------------------
 
@@ -32,12 +30,10 @@ last_connection {base} =
     start : Started base → (g c d : ℕ) → at (is_connect_of g) (shown base) c ≡ true → is_open (shown base) c ≡ true →
         at (is_connect_of g) (shown base) d ≡ true → d ≤ c
     start s g c d one alive other =
-        let same = s.one_connection g c d one alive other (s.alive d (Connect g) (at_connect (shown base) g d other) refl) in
-        omega arith
+        let same = s.one_connection g c d one alive other (s.alive d (Connect g) (at_connect (shown base) g d other) refl) in omega arith
 
     clash : {h : List Event} {e : Event} → MayFollow base h e → (g c : ℕ) {d : ℕ} → c < length h → d ≡ length h → at (is_connect_of g) (h ++ e ∷ []) c ≡ true →
-        is_open (h ++ e ∷ []) c ≡ true →
-        at (is_connect_of g) (h ++ e ∷ []) d ≡ true → ⊥
+        is_open (h ++ e ∷ []) c ≡ true → at (is_connect_of g) (h ++ e ∷ []) d ≡ true → ⊥
     clash {h} {e} next g c l last one alive other =
         let new : is_connect_of g e ≡ true =
         sym (ap (λ o. option_map_or (is_connect_of g) o false) (ap (slice_get (h ++ e ∷ [])) last ∙ slice_get_last h e)) ∙ other in
@@ -57,16 +53,14 @@ last_connection {base} =
       by_place (inr (inr l)) q = let w = within in omega arith
       by_place (inr (inl l)) (inl q) = absurd (clash next g c l q one alive other)
       by_place (inr (inl l)) (inr (inr m)) = absurd (let w = within in omega arith)
-      by_place (inr (inl l)) (inr (inl m)) =
-          before g c d (sym (at-append (is_connect_of g) h (e ∷ []) c l) ∙ one) (open_old h e c l alive)
+      by_place (inr (inl l)) (inr (inl m)) = before g c d (sym (at-append (is_connect_of g) h (e ∷ []) c l) ∙ one) (open_old h e c l alive)
           (sym (at-append (is_connect_of g) h (e ∷ []) d m) ∙ other)
 
 -- the last end ----------------------------------------------------------------------------------------
 
 -- a node subscribes to one hub
 pub one_hub : (h : List Event) (s g k : ℕ) → at (is_subscriber_of g) h s ≡ true → at (is_subscriber_of k) h s ≡ true → g ≡ k
-one_hub h s g k one other =
-    search (rules, subscriber_found, slice_get, same_Some)
+one_hub h s g k one other = search (rules, subscriber_found, slice_get, same_Some)
 
 -- what has ended its source ends a connection of its hub
 pub ends_of_source : (h : List Event) (g s : ℕ) (t : Terminal) → at (is_subscriber_of g) h s ≡ true → (x : SourceEnded h s t) → EndsConnection h g x.place t
@@ -95,8 +89,7 @@ cut_by_last {h = h} law {g} {place} {t} x s u subscribes alive = (to, back) wher
 
 -- what has ended had ended, or the event ends a connection of its hub
 pub source_ended_or_now : (base : Kept) → (h : List Event) (e : Event) → IsLawful base h → MayFollow base h e → (s : ℕ) (t : Terminal) →
-    SourceEnded (h ++ e ∷ []) s t →
-    SourceEnded h s t ⊎ EndsSource h e s t
+    SourceEnded (h ++ e ∷ []) s t → SourceEnded h s t ⊎ EndsSource h e s t
 source_ended_or_now base h e law next s t x = by_place (cases_push h e (End x.connection t) x.place x.ended) where
   old : s < length h
   old = let w = slice_get_within (h ++ e ∷ []) x.place _ x.ended in let l = x.later in omega (arith, length-append h (e ∷ []))
@@ -198,6 +191,5 @@ sum_by-falling passes number (suc n) = by_test (passes n) refl (sum_by-falling p
   by_test true is rest =
       let whole : sum_by number (filter passes (range_with_len 0 (suc n))) ≡ sum_by number below + number n =
       ap (sum_by number) (split true is) ∙ sum_by_push number below n in
-      let first : sum_by number (n ∷ falling passes n) ≡ number n + sum_by number (falling passes n) = sum_by-cons number n (falling passes n) in
-      omega arith
+      let first : sum_by number (n ∷ falling passes n) ≡ number n + sum_by number (falling passes n) = sum_by-cons number n (falling passes n) in omega arith
   by_test false is rest = rest ∙ sym (ap (sum_by number) (split false is ∙ append-nil below))

@@ -1,11 +1,10 @@
 -- What is due, event after event: it ends and closes open nodes, all in one way, and leaves all else as it was.
 use Rattle.rx_event.proofs.Laws.Common.{◌≡◌, ℕ, ◌+◌, ◌<◌, ◌≤◌, Bool, true, false, List, [], ◌∷◌, ◌++◌, length, Option, Some, None, cond, slice_get, refl, sym}
 use Rattle.rx_event.proofs.Laws.Common.{ap, subst, ◌∙◌, inl, inr, ◌⊎◌, arith, length-append, not, ◌&&◌, ◌||◌, list_any, count_by, option_and_then}
-use Rattle.rx_event.proofs.Laws.Common.{option_map_or, cases_order, false≢true, both_ways, sum_by_push, slice_get_within, slice_get_past, same_Some}
-use Rattle.rx_event.proofs.Laws.Common.{none-some, Terminal, Kept, Event, Connect, End, Close, parent_named, is_subscriber_of, at, parent}
-use Rattle.rx_event.proofs.Laws.Common.{if_less, ancestors, is_open, is_within, open_subscribers, owed, is_fired, mirrored, fired}
-use Rattle.rx_event.proofs.Laws.Common.{failed, completed, cut, connecting, due, IsDue, IsForced, IsConnected, forced, stays, more, IsLawful}
-use Rattle.rx_event.proofs.Laws.Common.{IsForcedOn, and_false, or_false, list_any-append}
+use Rattle.rx_event.proofs.Laws.Common.{option_map_or, cases_order, false≢true, both_ways, sum_by_push, slice_get_within, slice_get_past, same_Some, none-some}
+use Rattle.rx_event.proofs.Laws.Common.{Terminal, Kept, Event, Connect, End, Close, parent_named, is_subscriber_of, at, parent, if_less, ancestors, is_open}
+use Rattle.rx_event.proofs.Laws.Common.{is_within, open_subscribers, owed, is_fired, mirrored, fired, failed, completed, cut, connecting, due, IsDue, IsForced}
+use Rattle.rx_event.proofs.Laws.Common.{IsConnected, forced, stays, more, IsLawful, IsForcedOn, and_false, or_false, list_any-append}
 use Rattle.rx_event.proofs.Laws.Places.{slice_get-append, slice_get_last, cases_push}
 use Rattle.rx_event.proofs.Laws.Parents.{ancestors-append, within_cases}
 use Rattle.rx_event.proofs.Laws.Openness.{is_open_outside-end, is_open_outside-close, open_before}
@@ -45,10 +44,8 @@ seen_same : {X : Type 0} (f : Option Event → X) (h : List Event) (e : Event) �
 seen_same {X = X} f h e unseen n = by_place (cases_order n (length h)) where
   by_place : (n ≡ length h) ⊎ ((n < length h) ⊎ (length h < n)) → f (slice_get (h ++ e ∷ []) n) ≡ f (slice_get h n)
   by_place (inr (inl l)) = ap f (slice_get-append h (e ∷ []) n l)
-  by_place (inl same) =
-      ap (λ m. f (slice_get (h ++ e ∷ []) m)) same ∙ ap f (slice_get_last h e) ∙ unseen ∙ sym (ap f (slice_get_past h n (omega arith)))
-  by_place (inr (inr past)) =
-      ap f (slice_get_past (h ++ e ∷ []) n (omega (arith, length-append h (e ∷ [])))) ∙ sym (ap f (slice_get_past h n (omega arith)))
+  by_place (inl same) = ap (λ m. f (slice_get (h ++ e ∷ []) m)) same ∙ ap f (slice_get_last h e) ∙ unseen ∙ sym (ap f (slice_get_past h n (omega arith)))
+  by_place (inr (inr past)) = ap f (slice_get_past (h ++ e ∷ []) n (omega (arith, length-append h (e ∷ [])))) ∙ sym (ap f (slice_get_past h n (omega arith)))
 
 unseen_closing : (base : Kept) → {X : Type 0} (f : Option Event → X) → SeesNone f → {h : List Event} {e : Event} → IsClosing base h e → f (Some e) ≡ f None
 unseen_closing base f sees x3 = search rules
@@ -71,19 +68,15 @@ at_on base p fails on n = seen_on base (λ o. option_map_or p o false) (record {
 
 pub any_on : (base : Kept) → (p : Event → Bool) → Fails p → {b k : List Event} → IsDueOn base b k → list_any p k ≡ list_any p b
 any_on base p fails none_more = refl
-any_on base p fails (one_more {k = k} {e = e} on d) =
-    list_any-append p k (e ∷ []) ∙
-    ap (λ c. list_any p k || (c || false)) (fails_closing base p fails (closing_of base d)) ∙
-    or_false (list_any p k) ∙
-    any_on base p fails on
+any_on base p fails (one_more {k = k} {e = e} on d) = list_any-append p k (e ∷ []) ∙
+    ap (λ c. list_any p k || (c || false)) (fails_closing base p fails (closing_of base d)) ∙ or_false (list_any p k) ∙ any_on base p fails on
 
 pub count_on : (base : Kept) → (p : Event → Bool) → Fails p → {b k : List Event} → IsDueOn base b k → count_by p k ≡ count_by p b
 count_on base p fails none_more = refl
 count_on base p fails {b = b} (one_more {k = k} {e = e} on d) =
     let none : cond {A = ℕ} (p e) 1 0 ≡ 0 = ap (λ c. cond {A = ℕ} c 1 0) (fails_closing base p fails (closing_of base d)) in
     let push : count_by p (k ++ e ∷ []) ≡ count_by p k + cond (p e) 1 0 = sum_by_push (λ (x : Event). cond (p x) 1 0) k e in
-    let rest : count_by p k ≡ count_by p b = count_on base p fails on in
-    omega arith
+    let rest : count_by p k ≡ count_by p b = count_on base p fails on in omega arith
 
 -- no parents
 pub parent_on : (base : Kept) → {b k : List Event} → IsDueOn base b k → (n : ℕ) → parent k n ≡ parent b n
@@ -119,8 +112,7 @@ connect_on base {b = b} {k = k} on n g at_n =
   where
     is_connect : (o : Option Event) → connect_of o ≡ Some g → o ≡ Some (Connect g)
     is_connect (Some (Connect j)) same = ap (λ i. Some (Connect i)) (same_Some j g same)
-    is_connect None same = absurd (none-some g same)
-    is_connect (Some _) same = absurd (none-some g same)
+    is_connect _ same = absurd (none-some g same)
 
 pub was_open_on : (base : Kept) → {b k : List Event} → IsDueOn base b k → (n : ℕ) → is_open k n ≡ true → is_open b n ≡ true
 was_open_on base none_more n o = o
@@ -181,8 +173,7 @@ pub ends_one : (base : Kept) → (b : List Event) → IsLawful base b → (t u :
 ends_one base b law t u a c = one_end b law a.node c.node t u a.ends_due c.ends_due
 
 begun_step : {base : Kept} → {b k : List Event} (e : Event) → IsLawful base k → IsConnected k → IsDue base k e →
-    ((n : ℕ) (t : Terminal) → IsDue base k (End n t) → EndsSo base b t) →
-    (n : ℕ) (t : Terminal) → IsDue base (k ++ e ∷ []) (End n t) → EndsSo base b t
+    ((n : ℕ) (t : Terminal) → IsDue base k (End n t) → EndsSo base b t) → (n : ℕ) (t : Terminal) → IsDue base (k ++ e ∷ []) (End n t) → EndsSo base b t
 begun_step {base} {b} {k} e law whole d before n t now = search (rules, due_before, forced, due, ends_as, by_end, same_Some, by_close, none-some, completes, false≢true, list_any, closing_of, completes_one, fires_it, both_ways)
 
 -- so does all that follows, since a due end is the reason of none but such ends
@@ -204,8 +195,7 @@ end_stands base {b = b} (one_more {k = k} {e = e} on d) law whole n t place foun
     by_place (cases_push k e (End n t) place found) (end_stands base on law whole n t place)
   where
     now : IsDue base k (End n t) → EndStands base b (k ++ End n t ∷ []) n t place
-    now x =
-        came_after (was_open_on base on n (due_open base x)) (is_open_outside-end k n t n ∙ rw (is_within_self k n) (and_false (is_open k n)))
+    now x = came_after (was_open_on base on n (due_open base x)) (is_open_outside-end k n t n ∙ rw (is_within_self k n) (and_false (is_open k n)))
         (begun_on base on law whole n t x)
 
     by_before : EndStands base b k n t place → EndStands base b (k ++ e ∷ []) n t place
@@ -215,8 +205,7 @@ end_stands base {b = b} (one_more {k = k} {e = e} on d) law whole n t place foun
     by_place : (slice_get k place ≡ Some (End n t)) ⊎ (e ≡ End n t) → (slice_get k place ≡ Some (End n t) → EndStands base b k n t place) →
         EndStands base b (k ++ e ∷ []) n t place
     by_place (inl at_place) rest = by_before (rest at_place)
-    by_place (inr same) rest =
-        subst (λ (x : Event). EndStands base b (k ++ x ∷ []) n t place) (sym same) (now (subst (λ (x : Event). IsDue base k x) same d))
+    by_place (inr same) rest = subst (λ (x : Event). EndStands base b (k ++ x ∷ []) n t place) (sym same) (now (subst (λ (x : Event). IsDue base k x) same d))
 
 -- how a node was closed ---------------------------------------------------------------------------------
 
@@ -236,8 +225,7 @@ unsubscribed_on base {b = b} {k = k} on g none = none_subscribed k g (λ s subsc
 
 how_closed_push : (base : Kept) → {b k : List Event} → IsDueOn base b k → {e : Event} → IsDue base k e → (n : ℕ) → HowClosed base b k n →
     HowClosed base b (k ++ e ∷ []) n
-how_closed_push base {k = k} on {e = e} d n (ended_so place far at_place so) =
-    ended_so place far (kept_on base (one_more none_more d) place _ at_place) so
+how_closed_push base {k = k} on {e = e} d n (ended_so place far at_place so) = ended_so place far (kept_on base (one_more none_more d) place _ at_place) so
 how_closed_push base {k = k} on {e = e} d n (left_alone g at_n none) =
     left_alone g (kept_on base (one_more none_more d) n _ at_n) (unsubscribed_on base (one_more none_more d) g none)
 how_closed_push base {k = k} on {e = e} d n (closed_with p below gone) =
@@ -246,24 +234,22 @@ how_closed_push base {k = k} on {e = e} d n (closed_with p below gone) =
 module _ (base : Kept) (b k : List Event) (on : IsDueOn base b k) (law : IsLawful base b) (whole : IsConnected b) (n : ℕ) (alive : is_open k n ≡ true) where
   -- what closes it now
   closed_by : {e : Event} → IsDue base k e → IsClosing base k e → is_open (k ++ e ∷ []) n ≡ false → HowClosed base b (k ++ e ∷ []) n
-  closed_by d (by_end c {t = t} x o) gone = by_case (within_cases k c n inside) where
-    inside : is_within k c n ≡ true
-    inside = inside_by (is_within k c n) (rw alive at (sym (is_open_outside-end k c t n) ∙ gone))
-
-    by_case : (c ≡ n) ⊎ ((p : ℕ) × (parent k n ≡ Some p) × (is_within k c p ≡ true)) → HowClosed base b (k ++ End c t ∷ []) n
-    by_case (inl same) =
-        ended_so (length k) (longer_on base on) (slice_get_last k (End c t) ∙ ap (λ (m : ℕ). Some (End m t)) same) (begun_on base on law whole c t x)
-    by_case (inr (p, below, within)) =
-        closed_with p (parent_on base (one_more none_more d) n ∙ below) (is_open_outside-end k c t p ∙ rw within (and_false (is_open k p)))
-  closed_by d (by_close c g at_c none o) gone = by_case (within_cases k c n inside) where
-    inside : is_within k c n ≡ true
-    inside = inside_by (is_within k c n) (rw alive at (sym (is_open_outside-close k c n) ∙ gone))
-
-    by_case : (c ≡ n) ⊎ ((p : ℕ) × (parent k n ≡ Some p) × (is_within k c p ≡ true)) → HowClosed base b (k ++ Close c ∷ []) n
-    by_case (inl same) =
-        left_alone g (kept_on base (one_more none_more d) n _ (ap (slice_get k) (sym same) ∙ at_c)) (unsubscribed_on base (one_more none_more d) g none)
-    by_case (inr (p, below, within)) =
-        closed_with p (parent_on base (one_more none_more d) n ∙ below) (is_open_outside-close k c p ∙ rw within (and_false (is_open k p)))
+  closed_by d (by_end c {t = t} x o) gone =
+      let inside : is_within k c n ≡ true = inside_by (is_within k c n) (rw alive at (sym (is_open_outside-end k c t n) ∙ gone)) in
+      by_case (within_cases k c n inside) where
+        by_case : (c ≡ n) ⊎ ((p : ℕ) × (parent k n ≡ Some p) × (is_within k c p ≡ true)) → HowClosed base b (k ++ End c t ∷ []) n
+        by_case (inl same) =
+            ended_so (length k) (longer_on base on) (slice_get_last k (End c t) ∙ ap (λ (m : ℕ). Some (End m t)) same) (begun_on base on law whole c t x)
+        by_case (inr (p, below, within)) =
+            closed_with p (parent_on base (one_more none_more d) n ∙ below) (is_open_outside-end k c t p ∙ rw within (and_false (is_open k p)))
+  closed_by d (by_close c g at_c none o) gone =
+      let inside : is_within k c n ≡ true = inside_by (is_within k c n) (rw alive at (sym (is_open_outside-close k c n) ∙ gone)) in
+      by_case (within_cases k c n inside) where
+        by_case : (c ≡ n) ⊎ ((p : ℕ) × (parent k n ≡ Some p) × (is_within k c p ≡ true)) → HowClosed base b (k ++ Close c ∷ []) n
+        by_case (inl same) =
+            left_alone g (kept_on base (one_more none_more d) n _ (ap (slice_get k) (sym same) ∙ at_c)) (unsubscribed_on base (one_more none_more d) g none)
+        by_case (inr (p, below, within)) =
+            closed_with p (parent_on base (one_more none_more d) n ∙ below) (is_open_outside-close k c p ∙ rw within (and_false (is_open k p)))
 
 pub how_closed : (base : Kept) → {b k : List Event} → IsDueOn base b k → IsLawful base b → IsConnected b → (n : ℕ) → is_open b n ≡ true →
     is_open k n ≡ false → HowClosed base b k n

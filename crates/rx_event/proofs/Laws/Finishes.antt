@@ -47,10 +47,7 @@ one_goes_on base {j = j} (first_next {k = k} {e = e} on f) other = by_rest (one_
   by_rest (inl there) = by_first (first_of base there)
 
 ends_there : (base : Kept) → {k j : List Event} → IsFirstOn base k j → first_forced base k ≡ None → j ≡ k
-ends_there base {k = k} {j = j} on none = by_first (first_of base on) where
-  by_first : (j ≡ k) ⊎ FirstOf base k j → j ≡ k
-  by_first (inl same) = same
-  by_first (inr begun) = absurd (none-some begun.event (sym none ∙ begun.first))
+ends_there base {k = k} {j = j} on none = elim (first_of base on) [ inl same ↦ same | inr begun ↦ absurd (none-some begun.event (sym none ∙ begun.first)) ]
 
 -- so both are the same where both are at their end
 pub one_finish : (base : Kept) → (b k j : List Event) → IsFirstOn base b k → first_forced base k ≡ None → IsFirstOn base b j → first_forced base j ≡ None →
@@ -75,8 +72,7 @@ due_connects_none base x1 = search rules
 
 finish_due : (base : Kept) → (steps : ℕ) (b : List Event) → IsLawful base b → IsConnected b → open_count b < steps → Finishes base b
 finish_due base zero b law whole l = absurd (omega arith)
-finish_due base (suc steps) b law whole l =
-    by_first (first_forced base b) refl
+finish_due base (suc steps) b law whole l = by_first (first_forced base b) refl
     (λ e next connected less. finish_due base steps (b ++ e ∷ []) next connected (let a = less in let k = l in omega arith))
   where
     by_first : (o : Option Event) → first_forced base b ≡ o →
@@ -89,8 +85,7 @@ finish_due base (suc steps) b law whole l =
           Finishes base b
       by_forced x found (connecting {g = g} d) rest = absurd (whole g d)
       by_forced x found (due connected d) rest =
-          let f : Finishes base (b ++ x ∷ []) =
-          rest (IsLawful-push base b x law (forced (due connected d))) (kept_due base b x connected d)
+          let f : Finishes base (b ++ x ∷ []) = rest (IsLawful-push base b x law (forced (due connected d))) (kept_due base b x connected d)
           (forced_closes base b x (due connected d) (due_connects_none base (closing_of base d))) in
           record { last = f.last; ordered = before_first base found f.ordered; over = f.over; law = f.law }
 

@@ -1,12 +1,12 @@
 -- Hubs: at most one connection of each is open, and in a settled history a RefCount hub has one just where it has a subscriber.
-use Rattle.rx_event.proofs.Laws.Common.{subst, ◌≡◌, ℕ, ◌+◌, ◌<◌, ◌≤◌, true, false, List, [], ◌∷◌, ◌++◌, length, Option, Some, refl, sym, ap, ◌∙◌, arith}
-use Rattle.rx_event.proofs.Laws.Common.{inl, inr, ◌⊎◌, ◌==◌, take, drop, slice_get, length-append, ◌&&◌, option_map_or, cases_order, false≢true, and_parts}
-use Rattle.rx_event.proofs.Laws.Common.{and_from, eq-eqb, eqb-true, length-take-le, slice_get_within, same_Some, none-some, list_any, Kept, Place, Root}
-use Rattle.rx_event.proofs.Laws.Common.{Source, Inner, Notifier, Kind, Sub, Event, Open, Connect, Close, makes_hub, is_auto_hub, is_manual_hub, is_connect_of}
+use Rattle.rx_event.proofs.Laws.Common.{subst, ◌≡◌, ℕ, ◌+◌, ◌<◌, ◌≤◌, true, false, List, [], ◌∷◌, ◌++◌, length, Option, Some, refl, sym, ap, ◌∙◌, arith, inl}
+use Rattle.rx_event.proofs.Laws.Common.{inr, ◌⊎◌, ◌==◌, take, drop, slice_get, length-append, ◌&&◌, option_map_or, cases_order, false≢true, and_parts, and_from}
+use Rattle.rx_event.proofs.Laws.Common.{eq-eqb, eqb-true, length-take-le, slice_get_within, same_Some, none-some, list_any, Kept, Place, Root, Source, Inner}
+use Rattle.rx_event.proofs.Laws.Common.{Notifier, Kind, Sub, Event, Open, Connect, Close, makes_hub, is_auto_hub, is_manual_hub, is_connect_of}
 use Rattle.rx_event.proofs.Laws.Common.{is_subscriber_of, at, places, parent, ancestors, is_within, is_open, open_subscribers, open_connections, cut, left}
-use Rattle.rx_event.proofs.Laws.Common.{connecting, due, IsDue, IsForced, IsConnectDue, IsSettled, IsAllowed, IsInOrderAt, MayFollow}
-use Rattle.rx_event.proofs.Laws.Common.{IsLawful, ◌≢◌, connected, IsHubbed, IsInOrder}
-use Rattle.std.proofs.Common.{take-append-drop}
+use Rattle.rx_event.proofs.Laws.Common.{connecting, due, IsDue, IsForced, IsConnectDue, IsSettled, IsAllowed, IsInOrderAt, MayFollow, IsLawful, ◌≢◌, connected}
+use Rattle.rx_event.proofs.Laws.Common.{IsHubbed, IsInOrder}
+use Rattle.std.proofs.Common.{take-append-drop, rules}
 use Rattle.std.proofs.lemmas.List.{length-take}
 use Rattle.rx_event.specs.Allowed.{opened}
 use Rattle.rx_event.proofs.Laws.Lists.{first_passes, filter_nonempty, filter_few}
@@ -15,7 +15,6 @@ use Rattle.rx_event.proofs.Laws.Parents.{parent-lt, parent_name, ancestors-appen
 use Rattle.rx_event.proofs.Laws.Lawful.{in_base, since_base, FoundAt, found_at}
 use Rattle.rx_event.proofs.Laws.Openness.{is_open_within, open_old}
 use Rattle.rx_event.proofs.Laws.Steps.{by_events, forced_kind}
-use Rattle.std.proofs.Common.{rules}
 
 -- a connection --------------------------------------------------------------------------------------
 
@@ -80,13 +79,12 @@ one_connection base =
       by_place (inr (inl l)) (inr (inr m)) = absurd (let w = within b two.other_open in omega arith)
       by_place (inr (inl l)) (inl q) = absurd (clash next g a l q two.one two.one_open two.other)
       by_place (inl p) (inr (inl l)) = absurd (clash next g b l p two.other two.other_open two.one)
-      by_place (inr (inl l)) (inr (inl m)) =
-          before g a b (record {
-            one = sym (at-append (is_connect_of g) h (e ∷ []) a l) ∙ two.one;
-            one_open = open_old h e a l two.one_open;
-            other = sym (at-append (is_connect_of g) h (e ∷ []) b m) ∙ two.other;
-            other_open = open_old h e b m two.other_open;
-          })
+      by_place (inr (inl l)) (inr (inl m)) = before g a b (record {
+        one = sym (at-append (is_connect_of g) h (e ∷ []) a l) ∙ two.one;
+        one_open = open_old h e a l two.one_open;
+        other = sym (at-append (is_connect_of g) h (e ∷ []) b m) ∙ two.other;
+        other_open = open_old h e b m two.other_open;
+      })
 
 -- so a hub has at most one
 pub one_open_connection : (base : Kept) → (h : List Event) → IsLawful base h → (g : ℕ) → length (open_connections h g) ≤ 1
@@ -126,8 +124,7 @@ pub connection_hub : (base : Kept) → (h : List Event) → IsLawful base h → 
 connection_hub base h law g c at_c =
     let l : g < length (take c h) = at_within makes_hub (take c h) g (hub_before base h law c g at_c) in
     let room = slice_get_within h c (Connect g) at_c in
-    let long : length (take c h) ≡ c = length-take-le c h (omega arith) in
-    omega arith
+    let long : length (take c h) ≡ c = length-take-le c h (omega arith) in omega arith
 
 -- settled histories -------------------------------------------------------------------------------
 
@@ -139,22 +136,20 @@ subscribed_connected base h g settled auto unconnected = by_list (open_subscribe
   none_due k d = settled.none (Connect k) (connecting d)
 
   waiting : (s : ℕ) → at (is_subscriber_of g) h s ≡ true → is_open h s ≡ true → ⊥
-  waiting s subscribes subscribed =
-      none_due g (record {
-        auto = auto;
-        subscriber = s;
-        subscribes = subscribes;
-        subscribed = subscribed;
-        waits = λ t ended. settled.none _ (due none_due (cut subscribed ended));
-        unconnected = unconnected;
-      })
+  waiting s subscribes subscribed = none_due g (record {
+    auto = auto;
+    subscriber = s;
+    subscribes = subscribes;
+    subscribed = subscribed;
+    waits = λ t ended. settled.none _ (due none_due (cut subscribed ended));
+    unconnected = unconnected;
+  })
 
   by_list : (ss : List ℕ) → open_subscribers h g ≡ ss → ss ≡ []
   by_list [] e = refl
   by_list (s ∷ ss) e =
       let first : (at (is_subscriber_of g) h s && is_open h s) ≡ true = first_passes (λ n. at (is_subscriber_of g) h n && is_open h n) (places h) s ss e in
-      let parts : (at (is_subscriber_of g) h s ≡ true) × (is_open h s ≡ true) = and_parts _ _ first in
-      absurd (waiting s parts.0 parts.1)
+      let parts : (at (is_subscriber_of g) h s ≡ true) × (is_open h s ≡ true) = and_parts _ _ first in absurd (waiting s parts.0 parts.1)
 
 -- nor a connection and no subscriber
 pub unsubscribed_unconnected : (base : Kept) → (h : List Event) (g : ℕ) → IsSettled base h → at is_auto_hub h g ≡ true → open_subscribers h g ≡ [] →
@@ -172,8 +167,7 @@ unsubscribed_unconnected base h g settled auto unsubscribed = by_list (open_conn
 
 -- so it has one connection where it has a subscriber
 pub one_where_subscribed : (base : Kept) → (h : List Event) (g : ℕ) → IsLawful base h → IsSettled base h → at is_auto_hub h g ≡ true →
-    open_subscribers h g ≢ [] →
-    length (open_connections h g) ≡ 1
+    open_subscribers h g ≢ [] → length (open_connections h g) ≡ 1
 one_where_subscribed base h g law settled auto subscribed = by_list (open_connections h g) refl (one_open_connection base h law g) where
   by_list : (cs : List ℕ) → open_connections h g ≡ cs → length cs ≤ 1 → length cs ≡ 1
   by_list [] e few = absurd (subscribed (subscribed_connected base h g settled auto e))
@@ -204,8 +198,7 @@ pub subscriber_hub : (base : Kept) → (h : List Event) → IsLawful base h → 
 subscriber_hub base h law g s subscribes =
     let found = subscriber_found g (slice_get h s) subscribes in
     let hubbed : IsHubbed (take s h) found.0 (Sub g) = hubbed_before base h law s found.0 (Sub g) found.1 in
-    let l : g < length (take s h) = at_within makes_hub (take s h) g hubbed.0 in
-    omega (arith, length-take s h)
+    let l : g < length (take s h) = at_within makes_hub (take s h) g hubbed.0 in omega (arith, length-take s h)
 
 -- the connections above an old node were there when it was a new one
 older_order : (h : List Event) {g : ℕ} (s : ℕ) {q : ℕ} (a : ℕ) {k : ℕ} → IsInOrderAt (take s h) g q → q < s → s < length h → is_within h a q ≡ true →
@@ -222,28 +215,22 @@ older_order h s {q} a {k} order l m within connects =
 pub hubs_in_order : {base : Kept} {h : List Event} → IsLawful base h → (g s a : ℕ) {k : ℕ} → at (is_subscriber_of g) h s ≡ true → is_within h a s ≡ true →
     slice_get h a ≡ Some (Connect k) → g < k
 hubs_in_order {base} {h} law g s a {k} subscribes within connects =
-    by_place found.0 found.1 (hubbed_before base h law s found.0 (Sub g) found.1).1 (within_cases h a s within)
-  where
-    found : (place : Place) × (slice_get h s ≡ Some (Open place (Sub g)))
-    found = subscriber_found g (slice_get h s) subscribes
+    let found : (place : Place) × (slice_get h s ≡ Some (Open place (Sub g))) = subscriber_found g (slice_get h s) subscribes in
+    by_place found.0 found.1 (hubbed_before base h law s found.0 (Sub g) found.1).1 (within_cases h a s within) where
+      named : (place : Place) (q p : ℕ) → slice_get h s ≡ Some (Open place (Sub g)) → IsInOrderAt (take s h) g q → Some q ≡ Some p → parent h s ≡ Some p →
+          is_within h a p ≡ true → g < k
+      named place q p at_s order name below above =
+          let number : q ≡ p = same_Some q p name in
+          let l : p < s = parent-lt h s p below in
+          older_order h s a order (omega arith) (slice_get_within h s (Open place (Sub g)) at_s) (ap (is_within h a) number ∙ above) connects
 
-    itself : (place : Place) → slice_get h s ≡ Some (Open place (Sub g)) → a ≡ s → ⊥
-    itself place at_s same =
-        false≢true (ap (is_connect_of k) (same_Some (Open place (Sub g)) (Connect k) (sym at_s ∙ ap (slice_get h) (sym same) ∙ connects)) ∙ eq-eqb k k refl)
-
-    named : (place : Place) (q p : ℕ) → slice_get h s ≡ Some (Open place (Sub g)) → IsInOrderAt (take s h) g q → Some q ≡ Some p → parent h s ≡ Some p →
-        is_within h a p ≡ true → g < k
-    named place q p at_s order name below above =
-        let number : q ≡ p = same_Some q p name in
-        let l : p < s = parent-lt h s p below in
-        older_order h s a order (omega arith) (slice_get_within h s (Open place (Sub g)) at_s) (ap (is_within h a) number ∙ above) connects
-
-    by_place : (place : Place) → slice_get h s ≡ Some (Open place (Sub g)) → IsInOrder (take s h) g place →
-        (a ≡ s) ⊎ ((p : ℕ) × (parent h s ≡ Some p) × (is_within h a p ≡ true)) → g < k
-    by_place place at_s order (inl same) = absurd (itself place at_s same)
-    by_place Root at_s order (inr (p, below, above)) = absurd (none-some p (parent_name h s p (Open Root (Sub g)) below at_s))
-    by_place (Source q) at_s order (inr (p, below, above)) =
-        named (Source q) q p at_s order (parent_name h s p (Open (Source q) (Sub g)) below at_s) below above
-    by_place (Inner q) at_s order (inr (p, below, above)) = named (Inner q) q p at_s order (parent_name h s p (Open (Inner q) (Sub g)) below at_s) below above
-    by_place (Notifier q) at_s order (inr (p, below, above)) =
-        named (Notifier q) q p at_s order (parent_name h s p (Open (Notifier q) (Sub g)) below at_s) below above
+      by_place : (place : Place) → slice_get h s ≡ Some (Open place (Sub g)) → IsInOrder (take s h) g place →
+          (a ≡ s) ⊎ ((p : ℕ) × (parent h s ≡ Some p) × (is_within h a p ≡ true)) → g < k
+      by_place place at_s order (inl same) = absurd (false≢true (ap (is_connect_of k) (same_Some (Open place (Sub g)) (Connect k) (sym at_s ∙
+          ap (slice_get h) (sym same) ∙ connects)) ∙ eq-eqb k k refl))
+      by_place Root at_s order (inr (p, below, above)) = absurd (none-some p (parent_name h s p (Open Root (Sub g)) below at_s))
+      by_place (Source q) at_s order (inr (p, below, above)) =
+          named (Source q) q p at_s order (parent_name h s p (Open (Source q) (Sub g)) below at_s) below above
+      by_place (Inner q) at_s order (inr (p, below, above)) = named (Inner q) q p at_s order (parent_name h s p (Open (Inner q) (Sub g)) below at_s) below above
+      by_place (Notifier q) at_s order (inr (p, below, above)) =
+          named (Notifier q) q p at_s order (parent_name h s p (Open (Notifier q) (Sub g)) below at_s) below above

@@ -1,15 +1,14 @@
 -- One order of what is forced: there is always one next, where anything is forced, and so one end of a step.
 use Rattle.rx_event.proofs.Laws.Common.{◌≡◌, ℕ, ◌+◌, ◌<◌, Bool, true, false, List, [], ◌∷◌, length, Option, Some, None, cond, slice_get, refl, sym, ap, subst}
 use Rattle.rx_event.proofs.Laws.Common.{◌∙◌, inl, inr, ◌⊎◌, nat_lt, arith, ◌&&◌, list_any, option_and_then, option_map_or, option_or, false≢true, and_parts}
-use Rattle.rx_event.proofs.Laws.Common.{and_from, lt-ltb, eq-eqb, same_Some, none-some, slice_get_within, Terminal, Completed, Kept}
-use Rattle.rx_event.proofs.Laws.Common.{Event, Connect, End, Close, is_mirroring, is_merging, is_until, is_auto_hub}
-use Rattle.rx_event.proofs.Laws.Common.{is_subscriber_of, at, places, is_open, open_subscribers, open_connections, is_fired, mirrored, fired, cut, left}
-use Rattle.rx_event.proofs.Laws.Common.{connecting, due, SourceEnded, IsDue, IsForced, IsConnectDue, IsConnected, IsSettled, child_terminal, marks_of, due_at}
-use Rattle.rx_event.proofs.Laws.Common.{option_map, ltb-true, cond_some, hub_subscribed, first_forced}
+use Rattle.rx_event.proofs.Laws.Common.{and_from, lt-ltb, eq-eqb, same_Some, none-some, slice_get_within, Terminal, Completed, Kept, Event, Connect, End, Close}
+use Rattle.rx_event.proofs.Laws.Common.{is_mirroring, is_merging, is_until, is_auto_hub, is_subscriber_of, at, places, is_open, open_subscribers}
+use Rattle.rx_event.proofs.Laws.Common.{open_connections, is_fired, mirrored, fired, cut, left, connecting, due, SourceEnded, IsDue, IsForced, IsConnectDue}
+use Rattle.rx_event.proofs.Laws.Common.{IsConnected, IsSettled, child_terminal, marks_of, due_at, option_map, ltb-true, cond_some, hub_subscribed, first_forced}
 use Rattle.rx_event.specs.Events.{hub_connected}
 use Rattle.rx_event.specs.Marks.{first_some, is_over}
-use Rattle.rx_event.specs.Canonical.{ends_connection, ends_source_at, source_end, is_nothing, is_nil, waits_at, Joining, Mirroring, Firing, Failing}
-use Rattle.rx_event.specs.Canonical.{Completing, Cutting, Leaving, Rule, gives}
+use Rattle.rx_event.specs.Canonical.{ends_connection, ends_source_at, source_end, is_nothing, is_nil, waits_at, Joining, Mirroring, Firing, Failing, Completing}
+use Rattle.rx_event.specs.Canonical.{Cutting, Leaving, Rule, gives}
 use Rattle.rx_event.proofs.Laws.Openness.{is_open_within}
 use Rattle.rx_event.proofs.Laws.Places.{at_within}
 use Rattle.rx_event.proofs.Laws.Hubs.{at_connect, subscriber_found}
@@ -59,8 +58,7 @@ source_found {g} {place} {c} {x} y t at_s subscribes later at_place ends connect
 
 pub source_end_some : (h : List Event) (s : ℕ) (t : Terminal) → source_end h s ≡ Some t → SourceEnded h s t
 unfolding source_end
-source_end_some h s t found =
-    search (rules, and_then_some, option_and_then, slice_get, first_found, if_some, nat_lt, connection_ends, source_found, ltb-true)
+source_end_some h s t found = search (rules, and_then_some, option_and_then, slice_get, first_found, if_some, nat_lt, connection_ends, source_found, ltb-true)
 
 pub source_end_none : (h : List Event) (s : ℕ) (t : Terminal) → source_end h s ≡ None → ¬ SourceEnded h s t
 unfolding source_end
@@ -135,24 +133,19 @@ ends_at : (h : List Event) (n : ℕ) (b : Bool) (o : Option Terminal) (e : Event
 ends_at h n x2 x3 e found = search (rules, same_Some, none-some)
 
 mirroring_due : (base : Kept) → (h : List Event) (n : ℕ) (e : Event) → gives base h Mirroring n ≡ Some e → IsDue base h e
-mirroring_due base h n e found =
-    search (rules, ends_at, and_parts, mirrored, child_terminal_some)
+mirroring_due base h n e found = search (rules, ends_at, and_parts, mirrored, child_terminal_some)
 
 firing_due : (base : Kept) → (h : List Event) (n : ℕ) (e : Event) → gives base h Firing n ≡ Some e → IsDue base h e
-firing_due base h n e found =
-    search (rules, if_some, and_parts, same_Some, fired)
+firing_due base h n e found = search (rules, if_some, and_parts, same_Some, fired)
 
 failing_due : (base : Kept) → (h : List Event) (n : ℕ) (e : Event) → gives base h Failing n ≡ Some e → IsDue base h e
-failing_due base h n e found =
-    search (rules, ends_at, and_parts, merging_due, option_or)
+failing_due base h n e found = search (rules, ends_at, and_parts, merging_due, option_or)
 
 completing_due : (base : Kept) → (h : List Event) (n : ℕ) (e : Event) → gives base h Completing n ≡ Some e → IsDue base h e
-completing_due base h n e found =
-    search (rules, if_some, and_parts, same_Some, merging_due, option_or, nothing_none)
+completing_due base h n e found = search (rules, if_some, and_parts, same_Some, merging_due, option_or, nothing_none)
 
 cutting_due : (base : Kept) → (h : List Event) (n : ℕ) (e : Event) → gives base h Cutting n ≡ Some e → IsDue base h e
-cutting_due base h n e found =
-    search (rules, ends_at, cut, source_end_some)
+cutting_due base h n e found = search (rules, ends_at, cut, source_end_some)
 
 connection_made : (o : Option Event) (g : ℕ) → option_and_then hub_connected o ≡ Some g → o ≡ Some (Connect g)
 connection_made o g found = grind arith
@@ -193,8 +186,7 @@ search_by base h rule = first_some (gives base h rule) (places h)
 -- what comes first is forced
 pub first_is_forced : (base : Kept) → (h : List Event) (e : Event) → first_forced base h ≡ Some e → IsForced base h e
 unfolding first_forced
-first_is_forced base h e found =
-    by_connecting (or_some (first_some (gives base h Joining) (places h))
+first_is_forced base h e found = by_connecting (or_some (first_some (gives base h Joining) (places h))
     (first_some (λ rule. first_some (gives base h rule) (places h)) (Mirroring ∷ Firing ∷ Failing ∷ Completing ∷ Cutting ∷ Leaving ∷ [])) e found)
   where
     by_leaving : option_or (first_some (gives base h Leaving) (places h)) None ≡ Some e → IsDue base h e
@@ -215,11 +207,8 @@ first_is_forced base h e found =
         (first_some (λ rule. first_some (gives base h rule) (places h)) (Mirroring ∷ Firing ∷ Failing ∷ Completing ∷ Cutting ∷ Leaving ∷ []) ≡ Some e)) →
         IsForced base h e
     by_connecting (inl here) = let r = first_found (gives base h Joining) (places h) e here in connecting_due base h r.1 e r.3
-    by_connecting (inr (none, rest)) = due (none_connecting base h none)
-        (by_rule Mirroring (mirroring_due base h) _
-        (by_rule Firing (firing_due base h) _
-        (by_rule Failing (failing_due base h) _ (by_rule Completing (completing_due base h) _ (by_rule Cutting (cutting_due base h) _ by_leaving))))
-        rest)
+    by_connecting (inr (none, rest)) = due (none_connecting base h none) (by_rule Mirroring (mirroring_due base h) _ (by_rule Firing (firing_due base h) _
+        (by_rule Failing (failing_due base h) _ (by_rule Completing (completing_due base h) _ (by_rule Cutting (cutting_due base h) _ by_leaving)))) rest)
 
 -- nothing is given, so nothing is forced -----------------------------------------------------------------------------------------
 
@@ -231,21 +220,18 @@ module _ (base : Kept) (h : List Event) (each : (rule : Rule) → first_some (gi
   at_node rule n o = none_given (gives base h rule) h (each rule) n (is_open_within h n o)
 
   no_source : (n : ℕ) (t : Terminal) → is_open h n ≡ true → ¬ SourceEnded h n t
-  no_source n t o =
-      source_end_none h n t
+  no_source n t o = source_end_none h n t
       (no_end_at n (source_end h n) (sym (ap (λ b. cond {A = Option Event} b (option_map (λ v. End n v) (source_end h n)) None) o) ∙ at_node Cutting n o))
 
   no_close : (c : ℕ) → ¬ IsDue base h (Close c)
   no_close c (left {g = g} o at_c auto none) = none-some (Close c) (sym (at_node Leaving c o) ∙ rw (o, at_c, auto, none) refl)
 
   no_mirrored : (n : ℕ) → is_open h n ≡ true → at is_mirroring h n ≡ true → child_terminal h n ≡ None
-  no_mirrored n o m =
-      no_end_at n (child_terminal h n)
+  no_mirrored n o m = no_end_at n (child_terminal h n)
       (sym (ap (λ b. cond {A = Option Event} b (option_map (λ v. End n v) (child_terminal h n)) None) (and_from _ _ o m)) ∙ at_node Mirroring n o)
 
   no_failed : (n : ℕ) → is_open h n ≡ true → at is_merging h n ≡ true → child_terminal h n ≡ None
-  no_failed n o m =
-      no_end_at n (child_terminal h n)
+  no_failed n o m = no_end_at n (child_terminal h n)
       (sym (ap (λ b. cond {A = Option Event} b (option_map (λ v. End n v) (child_terminal h n)) None) (and_from _ _ o m)) ∙ at_node Failing n o)
 
   no_fired : (n : ℕ) → is_open h n ≡ true → at is_until h n ≡ true → is_fired h n ≡ false

@@ -10,8 +10,7 @@ use Rattle.std.proofs.Common.{rules}
 
 pub moments_after-push : (b h : List Event) (e : Event) → moments_after b (h ++ e ∷ []) ≡ moments_after b h ++ (record { before = b ++ h; event = e }) ∷ []
 moments_after-push b [] e = ap (λ c. (record { before = c; event = e }) ∷ []) (sym (append-nil b))
-moments_after-push b (x ∷ h) e =
-    search (rules, append_assoc, moments_after-push (b ++ x ∷ []) h e)
+moments_after-push b (x ∷ h) e = search (rules, append_assoc, moments_after-push (b ++ x ∷ []) h e)
 
 -- the last moment
 pub moments-push : (h : List Event) (e : Event) → moments (h ++ e ∷ []) ≡ moments h ++ (record { before = h; event = e }) ∷ []
@@ -24,8 +23,7 @@ AllByRecursion-push P (y ∷ xs) x a p = (a.0, AllByRecursion-push P xs x a.1 p)
 
 -- a lawful history goes on by an event that may follow
 pub IsLawful-push : (base : Kept) → (h : List Event) (e : Event) → IsLawful base h → MayFollow base h e → IsLawful base (h ++ e ∷ [])
-IsLawful-push base h e law next =
-    search (rules, append_assoc, moments_after-push, AllByRecursion-push)
+IsLawful-push base h e law next = search (rules, append_assoc, moments_after-push, AllByRecursion-push)
 
 pub IsLawful_empty : (base : Kept) → Started base → IsLawful base (shown base)
 IsLawful_empty base started = record { started = started; since = []; reads = sym (append-nil (shown base)); each = tt }
@@ -45,10 +43,9 @@ pub data FoundAt (base : Kept) (h : List Event) (i : ℕ) (e : Event) : Type 0 w
   since_base : MayFollow base (take i h) e → FoundAt base h i e
 
 take-front : (xs ys : List Event) (i : ℕ) → i ≤ length xs → take i (xs ++ ys) ≡ take i xs
-take-front [] ys zero l = refl
 take-front [] ys (suc i) l = absurd (omega arith)
-take-front (x ∷ xs) ys zero l = refl
 take-front (x ∷ xs) ys (suc i) l = ap (λ k. x ∷ k) (take-front xs ys i (omega arith))
+take-front _ ys zero l = refl
 
 -- past the front, what is taken goes on after it
 split_at : {base : Kept} → (front b h : List Event) → ((k : List Event) (e : Event) → MayFollow base (b ++ k) e → MayFollow base (b ++ k) e) →
@@ -65,11 +62,10 @@ split_at {base} (x ∷ front) b h same each (suc i) e at_i =
     by_case (inr next) = inr (subst (λ k. MayFollow base k e) (append_assoc b (x ∷ []) (take i (front ++ h))) next)
 
 pub found_at : (base : Kept) → (h : List Event) → IsLawful base h → (i : ℕ) (e : Event) → slice_get h i ≡ Some e → FoundAt base h i e
-found_at base h law i e at_i = by_case (split_at (shown base) [] law.since (λ k e f. f) law.each i e (ap (λ k. slice_get k i) (sym law.reads) ∙ at_i))
-  where
-    by_case : ((slice_get (shown base) i ≡ Some e) × (i < length (shown base))) ⊎ MayFollow base (take i (shown base ++ law.since)) e → FoundAt base h i e
-    by_case (inl found) = in_base found.0 (ap (take i) law.reads ∙ take-front (shown base) law.since i (let l = found.1 in omega arith))
-    by_case (inr next) = since_base (subst (λ k. MayFollow base (take i k) e) (sym law.reads) next)
+found_at base h law i e at_i = by_case (split_at (shown base) [] law.since (λ k e f. f) law.each i e (ap (λ k. slice_get k i) (sym law.reads) ∙ at_i)) where
+  by_case : ((slice_get (shown base) i ≡ Some e) × (i < length (shown base))) ⊎ MayFollow base (take i (shown base ++ law.since)) e → FoundAt base h i e
+  by_case (inl found) = in_base found.0 (ap (take i) law.reads ∙ take-front (shown base) law.since i (let l = found.1 in omega arith))
+  by_case (inr next) = since_base (subst (λ k. MayFollow base (take i k) e) (sym law.reads) next)
 
 -- ends --------------------------------------------------------------------------------------------
 
@@ -88,10 +84,7 @@ may_end base x1 = search (rules, forced_open, allowed_open)
 
 -- an end stands after its node
 pub ended_after : (base : Kept) → (h : List Event) → IsLawful base h → (i c : ℕ) (t : Terminal) → slice_get h i ≡ Some (End c t) → c < i
-ended_after base h law i c t at_i = by_case (found_at base h law i (End c t) at_i) where
-  by_case : FoundAt base h i (End c t) → c < i
-  by_case (in_base found same) = absurd (false≢true (law.started.making i (End c t) found))
-  by_case (since_base next) =
-      let o = is_open_within (take i h) c (may_end base next) in
-      let l = slice_get_within h i (End c t) at_i in
-      grind (arith, common_steps)
+ended_after base h law i c t at_i = elim (found_at base h law i (End c t) at_i) [
+  | in_base found same ↦ absurd (false≢true (law.started.making i (End c t) found))
+  | since_base next ↦ let o = is_open_within (take i h) c (may_end base next) in let l = slice_get_within h i (End c t) at_i in grind (arith, common_steps)
+]

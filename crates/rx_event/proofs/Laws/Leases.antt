@@ -1,11 +1,10 @@
 -- Which leases are out after one more event, and how many of each resource.
-use Rattle.rx_event.proofs.Laws.Common.{◌≡◌, ℕ, ◌+◌, ◌<◌, ◌≤◌, Bool, true, false, List, [], ◌∷◌, ◌++◌, length, take, Some, cond, refl, sym, ap}
-use Rattle.rx_event.proofs.Laws.Common.{subst, ◌∙◌, arith, inl, inr, ◌⊎◌, ◌==◌, nat_lt, slice_get, length-append, not, ◌&&◌, list_any, sum_by, count_by}
-use Rattle.rx_event.proofs.Laws.Common.{range_with_len, option_and_then, option_map_or, cases_Bool, both_ways, false≢true, and_parts, ne_eqb, eqb-true}
-use Rattle.rx_event.proofs.Laws.Common.{eq-eqb, lt-ltb, false_from_ne_true, length-take-le, slice_get_past, slice_get_within, Kept, shown, Event, Open}
-use Rattle.rx_event.proofs.Laws.Common.{Accept, Lease, Return, makes_resource, makes_lease, is_return_of, at, places, is_owned}
-use Rattle.rx_event.proofs.Laws.Common.{is_out, leases_of, MayFollow, IsLawful, and_false, and_true, and_not_or, none_counted, ltb-true, is_lease_of}
-use Rattle.rx_event.proofs.Laws.Common.{is_return, is_leased}
+use Rattle.rx_event.proofs.Laws.Common.{◌≡◌, ℕ, ◌+◌, ◌<◌, ◌≤◌, Bool, true, false, List, [], ◌∷◌, ◌++◌, length, take, Some, cond, refl, sym, ap, subst, ◌∙◌}
+use Rattle.rx_event.proofs.Laws.Common.{arith, inl, inr, ◌⊎◌, ◌==◌, nat_lt, slice_get, length-append, not, ◌&&◌, list_any, sum_by, count_by, range_with_len}
+use Rattle.rx_event.proofs.Laws.Common.{option_and_then, option_map_or, cases_Bool, both_ways, false≢true, and_parts, ne_eqb, eqb-true, eq-eqb, lt-ltb}
+use Rattle.rx_event.proofs.Laws.Common.{false_from_ne_true, length-take-le, slice_get_past, slice_get_within, Kept, shown, Event, Open, Accept, Lease, Return}
+use Rattle.rx_event.proofs.Laws.Common.{makes_resource, makes_lease, is_return_of, at, places, is_owned, is_out, leases_of, MayFollow, IsLawful, and_false}
+use Rattle.rx_event.proofs.Laws.Common.{and_true, and_not_or, none_counted, ltb-true, is_lease_of, is_return, is_leased}
 use Rattle.std.proofs.lemmas.Bool.{or_from}
 use Rattle.rx_event.specs.Resources.{is_out_of}
 use Rattle.rx_event.specs.Totals.{lease_count}
@@ -35,8 +34,7 @@ is_owned_within h r owned = at_within makes_resource h r (owned_resource h r own
 -- an older lease is out if it was, and is not returned
 pub is_out-push : (h : List Event) (e : Event) (l : ℕ) → l < length h → is_out (h ++ e ∷ []) l ≡ (is_out h l && not (is_return_of l e))
 unfolding is_out
-is_out-push h e l less =
-    search (rules, at-append, not, list_any_push, and_not_or, list_any)
+is_out-push h e l less = search (rules, at-append, not, list_any_push, and_not_or, list_any)
 
 -- what is out is a lease
 pub out_lease : (h : List Event) (l : ℕ) → is_out h l ≡ true → at makes_lease h l ≡ true
@@ -67,7 +65,6 @@ is_out_last base h e law = ap (λ o. option_map_or makes_lease o false && not (l
     by_event e where
       by_event : (e : Event) → (makes_lease e && not (list_any (is_return_of (length h)) (h ++ e ∷ []))) ≡ makes_lease e
       by_event (Lease r) = ap not (list_any_push (is_return_of (length h)) h (Lease r) ∙ or_from _ _ (no_return base h law (length h) (omega arith)) refl)
-      by_event (Open place kind) = refl
       by_event _ = refl
 
 -- what is leased ---------------------------------------------------------------------------------------
@@ -85,8 +82,7 @@ lease_resource base h law l r at_l = search (rules, at_older, slice_get_within, 
 pub lease_older : (base : Kept) → (h : List Event) → IsLawful base h → (l r : ℕ) → slice_get h l ≡ Some (Lease r) → r < l
 lease_older base h law l r at_l =
     let w : r < length (take l h) = at_within makes_resource (take l h) r (lease_before base h law l r at_l) in
-    let k : length (take l h) ≡ l = length-take-le l h (let m = slice_get_within h l (Lease r) at_l in omega arith) in
-    omega arith
+    let k : length (take l h) ≡ l = length-take-le l h (let m = slice_get_within h l (Lease r) at_l in omega arith) in omega arith
 
 -- a lease of r is the event that leases r
 lease_is : (r : ℕ) (e : Event) → is_lease_of r e ≡ true → e ≡ Lease r
@@ -103,8 +99,7 @@ no_lease base h law r past l = by_test (cases_Bool (at (is_lease_of r) h l)) whe
   by_test (inl some) =
       let at_l : slice_get h l ≡ Some (Lease r) = lease_at h r l some in
       let older = lease_older base h law l r at_l in
-      let within = slice_get_within h l (Lease r) at_l in
-      absurd (omega arith)
+      let within = slice_get_within h l (Lease r) at_l in absurd (omega arith)
 
 -- counted ----------------------------------------------------------------------------------------------
 
@@ -122,8 +117,7 @@ leases_of-push base h e law r =
     let older : count_by (is_out_of (h ++ e ∷ []) r) (places h) + returned_count h r e ≡ count_by (is_out_of h r) (places h) + sum_by (λ (l : ℕ). 0)
     (places h) =
     sums_balance (λ l. cond (is_out_of (h ++ e ∷ []) r l) 1 0) (λ l. cond (is_out_of h r l && is_return_of l e) 1 0) (λ l. cond (is_out_of h r l) 1 0)
-    (λ l. 0) (length h)
-    (λ l less. ap (λ b. cond {A = ℕ} b 1 0 + cond (is_out_of h r l && is_return_of l e) 1 0)
+    (λ l. 0) (length h) (λ l less. ap (λ b. cond {A = ℕ} b 1 0 + cond (is_out_of h r l && is_return_of l e) 1 0)
     (λ i. at-append (is_lease_of r) h (e ∷ []) l less i && is_out-push h e l less i) ∙ shape (at (is_lease_of r) h l) (is_out h l) (is_return_of l e)) in
     let none = sum_by_none (λ l. 0) (length h) (λ l less. refl) in
     let last = sum_by-places-push (λ l. cond (is_out_of (h ++ e ∷ []) r l) 1 0) h e in
@@ -174,8 +168,7 @@ unfolding leases_of
 leases_of_some h l r at_l out =
     let one : cond {A = ℕ} (is_out_of h r l) 1 0 ≡ 1 = one_if ((λ i. option_map_or (is_lease_of r) (at_l i) false && out i) ∙ ap (λ b. b && true)
     (eq-eqb r r refl)) in
-    let within = term_in_sum (λ m. cond (is_out_of h r m) 1 0) l (length h) (slice_get_within h l (Lease r) at_l) in
-    omega arith
+    let within = term_in_sum (λ m. cond (is_out_of h r m) 1 0) l (length h) (slice_get_within h l (Lease r) at_l) in omega arith
 
 -- leased -----------------------------------------------------------------------------------------------
 
@@ -205,7 +198,6 @@ is_leased_last base h e law = ap (λ o. option_map_or makes_resource o false && 
       by_event : (e : Event) → (makes_resource e && nat_lt 0 (leases_of (h ++ e ∷ []) (length h))) ≡ false
       by_event (Accept n tag) = ap (nat_lt 0) (let kept = leases_of_kept base h (Accept n tag) law refl (length h) in let none = leases_of_past base h law
           (length h) (omega arith) in let e : leases_of (h ++ Accept n tag ∷ []) (length h) ≡ 0 = omega arith in e)
-      by_event (Open place kind) = refl
       by_event _ = refl
 
 -- what is leased anew was owned
@@ -217,8 +209,7 @@ pub leases_of_no_rise : (base : Kept) → (h : List Event) (e : Event) → IsLaw
     leases_of (h ++ e ∷ []) r ≤ leases_of h r
 leases_of_no_rise base h e law next r free =
     let push = leases_of-push base h e law r in
-    let none = one_if (false_from_ne_true (is_lease_of r e) (λ leases. both_ways _ free (lease_owned base h e next r leases))) in
-    omega arith
+    let none = one_if (false_from_ne_true (is_lease_of r e) (λ leases. both_ways _ free (lease_owned base h e next r leases))) in omega arith
 
 -- so what is leased was leased, or owned
 pub leased_old : (base : Kept) → (h : List Event) (e : Event) → IsLawful base h → (r : ℕ) → r < length h → (is_lease_of r e ≡ true → is_owned h r ≡ true) →
@@ -266,8 +257,7 @@ none_out h none l = by_test (cases_Bool (is_out h l)) where
   by_test (inr free) = free
   by_test (inl out) =
       let one : cond {A = ℕ} (is_out h l) 1 0 ≡ 1 = one_if out in
-      let within = term_in_sum (λ m. cond (is_out h m) 1 0) l (length h) (is_out_within h l out) in
-      absurd (omega arith)
+      let within = term_in_sum (λ m. cond (is_out h m) 1 0) l (length h) (is_out_within h l out) in absurd (omega arith)
 
 pub none_leased : (h : List Event) → lease_count h ≡ 0 → (r : ℕ) → leases_of h r ≡ 0
 unfolding leases_of
@@ -295,13 +285,10 @@ leases_of_still base h e law none r keeps = let kept = leases_of_kept base h e l
 pub leases_of_new : (base : Kept) → (h : List Event) (e : Event) → IsLawful base h → makes_resource e ≡ true → leases_of (h ++ e ∷ []) (length h) ≡ 0
 leases_of_new base h (Accept n tag) law made =
     let kept = leases_of_kept base h (Accept n tag) law refl (length h) in let none = leases_of_past base h law (length h) (omega arith) in omega arith
-leases_of_new base h (Open place kind) law made = absurd (false≢true made)
 leases_of_new base h _ law made = absurd (false≢true made)
 
 -- lists of events that have the same leases out have as many of each resource
 pub leases_of_same : (h k : List Event) → length h ≡ length k → ((l : ℕ) → is_out h l ≡ is_out k l) →
-    ((l : ℕ) → is_out h l ≡ true → slice_get h l ≡ slice_get k l) → (r : ℕ) →
-    leases_of h r ≡ leases_of k r
+    ((l : ℕ) → is_out h l ≡ true → slice_get h l ≡ slice_get k l) → (r : ℕ) → leases_of h r ≡ leases_of k r
 unfolding leases_of
-leases_of_same h k long same made r =
-    search (rules, sum_by-same, cond, length, sum_by, range_with_len, option_map_or, and_false)
+leases_of_same h k long same made r = search (rules, sum_by-same, cond, length, sum_by, range_with_len, option_map_or, and_false)

@@ -1,11 +1,10 @@
 -- Where a caller holds nothing open, nothing is open. What keeps a RefCount hub connected is a subscriber, which stands below a
 -- connection of a later hub; so were one connected, hubs would be endless.
 use Rattle.rx_event.proofs.Laws.Common.{◌≡◌, ℕ, zero, suc, ◌+◌, ◌<◌, ◌≤◌, Bool, true, false, List, [], ◌∷◌, length, Option, Some, None, cond, refl, sym, ap}
-use Rattle.rx_event.proofs.Laws.Common.{◌∙◌, arith, inl, inr, ◌⊎◌, slice_get, ◌&&◌, count_by, range_with_len, option_map_or, cases_Bool, both_ways}
-use Rattle.rx_event.proofs.Laws.Common.{false≢true, and_parts, and_from, eq-eqb, false_from_ne_true, slice_get_within, Kept, Root, Source, Inner, Notifier}
-use Rattle.rx_event.proofs.Laws.Common.{Auto, Manual, Event, Open, Hub, Connect, makes_node, makes_hub, is_root, is_auto_hub, is_manual_hub, is_connect_of}
-use Rattle.rx_event.proofs.Laws.Common.{is_subscriber_of, at, places, parent, is_within, is_open, open_subscribers, open_connections, open_count, IsSettled}
-use Rattle.rx_event.proofs.Laws.Common.{IsLawful}
+use Rattle.rx_event.proofs.Laws.Common.{◌∙◌, arith, inl, inr, ◌⊎◌, slice_get, ◌&&◌, count_by, range_with_len, option_map_or, cases_Bool, both_ways, false≢true}
+use Rattle.rx_event.proofs.Laws.Common.{and_parts, and_from, eq-eqb, false_from_ne_true, slice_get_within, Kept, Root, Source, Inner, Notifier, Auto, Manual}
+use Rattle.rx_event.proofs.Laws.Common.{Event, Open, Hub, Connect, makes_node, makes_hub, is_root, is_auto_hub, is_manual_hub, is_connect_of, is_subscriber_of}
+use Rattle.rx_event.proofs.Laws.Common.{at, places, parent, is_within, is_open, open_subscribers, open_connections, open_count, IsSettled, IsLawful}
 use Rattle.rx_event.proofs.Laws.Hubs.{hub_before, at_connect, connection_hub, unsubscribed_unconnected, hubs_in_order}
 use Rattle.rx_event.specs.Claims.Closing.{is_manual_connection, open_root_count, manual_connection_count, IsLetGo}
 use Rattle.rx_event.proofs.Laws.Lists.{first_passes, filter_nonempty}
@@ -38,13 +37,12 @@ topmost_below base h law (suc steps) n l o = by_event (topmost_below base h law 
 
   by_event : ((p : ℕ) → p < steps → is_open h p ≡ true → (a : ℕ) × IsTopOf h p a) → (e : Option Event) → slice_get h n ≡ e →
       option_map_or makes_node e false ≡ true → (a : ℕ) × IsTopOf h n a
-  by_event rest None at_n node = absurd (false≢true node)
   by_event rest (Some (Connect g)) at_n node = (n, record { above = is_within_self h n; alive = o; sort = inr (g, at_n) })
   by_event rest (Some (Open Root kind)) at_n node = (n, record { above = is_within_self h n; alive = o; sort = inl (rw at_n refl) })
   by_event rest (Some (Open (Source p) kind)) at_n node = below rest p (parent-named base h law n p (Open (Source p) kind) at_n refl)
   by_event rest (Some (Open (Inner p) kind)) at_n node = below rest p (parent-named base h law n p (Open (Inner p) kind) at_n refl)
   by_event rest (Some (Open (Notifier p) kind)) at_n node = below rest p (parent-named base h law n p (Open (Notifier p) kind) at_n refl)
-  by_event rest (Some _) at_n node = absurd (false≢true node)
+  by_event rest _ at_n node = absurd (false≢true node)
 
 pub topmost : (base : Kept) → (h : List Event) → IsLawful base h → (n : ℕ) → is_open h n ≡ true → (a : ℕ) × IsTopOf h n a
 topmost base h law n o = topmost_below base h law (suc n) n (omega arith) o
@@ -59,10 +57,8 @@ connection_listed h g c connects alive none =
     (and_from _ _ (rw connects (eq-eqb g g refl)) alive) none
 
 -- and what is one of its hub's is an open connection
-pub first_connection : (h : List Event) (g c : ℕ) (cs : List ℕ) → open_connections h g ≡ c ∷ cs →
-    (slice_get h c ≡ Some (Connect g)) × (is_open h c ≡ true)
-first_connection h g c cs found =
-    search (rules, first_passes, and_parts, at_connect)
+pub first_connection : (h : List Event) (g c : ℕ) (cs : List ℕ) → open_connections h g ≡ c ∷ cs → (slice_get h c ≡ Some (Connect g)) × (is_open h c ≡ true)
+first_connection h g c cs found = search (rules, first_passes, and_parts, at_connect)
 
 -- the hub of a connection is a hub
 pub connected_hub : (base : Kept) → (h : List Event) → IsLawful base h → (g c : ℕ) → slice_get h c ≡ Some (Connect g) → at makes_hub h g ≡ true
@@ -74,17 +70,13 @@ let_go_unconnected : {base : Kept} → {h : List Event} → IsLawful base h → 
     is_open h c ≡ true → ⊥
 let_go_unconnected {base} {h} law settled free g c connects alive = from_hub (length h) g c (omega arith) connects alive where
   from_hub : (steps i d : ℕ) → length h ≤ i + steps → slice_get h d ≡ Some (Connect i) → is_open h d ≡ true → ⊥
-  from_hub zero i d l at_d open_d =
-      let s = connection_hub base h law i d at_d in
-      let w = slice_get_within h d (Connect i) at_d in
-      absurd (omega arith)
+  from_hub zero i d l at_d open_d = let s = connection_hub base h law i d at_d in let w = slice_get_within h d (Connect i) at_d in absurd (omega arith)
   from_hub (suc steps) i d l at_d open_d = by_hub (from_hub steps) (slice_get h i) refl (connected_hub base h law i d at_d) where
     by_top : ((k a : ℕ) → length h ≤ k + steps → slice_get h a ≡ Some (Connect k) → is_open h a ≡ true → ⊥) → (s a : ℕ) →
         at (is_subscriber_of i) h s ≡ true → IsTopOf h s a → (at is_root h a ≡ true) ⊎ ((k : ℕ) × (slice_get h a ≡ Some (Connect k))) → ⊥
     by_top rest s a subscribes top (inl root) = both_ways _ (free.unsubscribed a) (and_from _ _ top.alive root)
     by_top rest s a subscribes top (inr (k, at_a)) =
-        let later : i < k = hubs_in_order law i s a subscribes top.above at_a in
-        rest k a (omega arith) at_a top.alive
+        let later : i < k = hubs_in_order law i s a subscribes top.above at_a in rest k a (omega arith) at_a top.alive
 
     by_subscribers : ((k a : ℕ) → length h ≤ k + steps → slice_get h a ≡ Some (Connect k) → is_open h a ≡ true → ⊥) →
         at is_auto_hub h i ≡ true → (ss : List ℕ) → open_subscribers h i ≡ ss → ⊥
@@ -93,15 +85,13 @@ let_go_unconnected {base} {h} law settled free g c connects alive = from_hub (le
         let first : (at (is_subscriber_of i) h s && is_open h s) ≡ true =
         first_passes (λ n. at (is_subscriber_of i) h n && is_open h n) (places h) s ss found in
         let parts : (at (is_subscriber_of i) h s ≡ true) × (is_open h s ≡ true) = and_parts _ _ first in
-        let top : (a : ℕ) × IsTopOf h s a = topmost base h law s parts.1 in
-        by_top rest s top.0 parts.0 top.1 top.1.sort
+        let top : (a : ℕ) × IsTopOf h s a = topmost base h law s parts.1 in by_top rest s top.0 parts.0 top.1 top.1.sort
 
     by_hub : ((k a : ℕ) → length h ≤ k + steps → slice_get h a ≡ Some (Connect k) → is_open h a ≡ true → ⊥) → (e : Option Event) →
         slice_get h i ≡ e → option_map_or makes_hub e false ≡ true → ⊥
-    by_hub rest None at_i hub = false≢true hub
     by_hub rest (Some (Hub Manual)) at_i hub = connection_listed h i d at_d open_d (free.disconnected i (rw at_i refl))
     by_hub rest (Some (Hub Auto)) at_i hub = by_subscribers rest (rw at_i refl) (open_subscribers h i) refl
-    by_hub rest (Some _) at_i hub = false≢true hub
+    by_hub rest _ at_i hub = false≢true hub
 
 -- nothing open -------------------------------------------------------------------------------------
 
@@ -127,15 +117,13 @@ none_passes t m none n l = by_test (cases_Bool (t n)) where
   by_test (inr fails) = fails
   by_test (inl passes) =
       let one : cond {A = ℕ} (t n) 1 0 ≡ 1 = ap (λ (b : Bool). cond {A = ℕ} b 1 0) passes in
-      let within = term_in_sum (λ k. cond (t k) 1 0) n m l in
-      absurd (omega arith)
+      let within = term_in_sum (λ k. cond (t k) 1 0) n m l in absurd (omega arith)
 
 -- what is open is in the history
 pub open_passes_within : (h : List Event) (q : Event → Bool) (n : ℕ) → (is_open h n && at q h n) ≡ true → n < length h
 open_passes_within h q n passes = is_open_within h n (and_parts _ _ passes).0
 
-none_open_passes : (h : List Event) (q : Event → Bool) → count_by (λ n. is_open h n && at q h n) (places h) ≡ 0 → (n : ℕ) →
-    (is_open h n && at q h n) ≡ false
+none_open_passes : (h : List Event) (q : Event → Bool) → count_by (λ n. is_open h n && at q h n) (places h) ≡ 0 → (n : ℕ) → (is_open h n && at q h n) ≡ false
 none_open_passes h q none n = false_from_ne_true _ (λ passes.
     both_ways _ (none_passes (λ k. is_open h k && at q h k) (length h) none n (open_passes_within h q n passes)) passes)
 

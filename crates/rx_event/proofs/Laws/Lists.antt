@@ -15,9 +15,7 @@ filtered p P holds (x ∷ xs) = search (rules, AllByRecursion, filter, cond, fil
 
 -- what a filter leaves first passes
 pub first_passes : {X : Type 0} (p : X → Bool) (xs : List X) (x : X) (rest : List X) → filter p xs ≡ x ∷ rest → p x ≡ true
-first_passes p xs x rest e =
-    let each : AllByRecursion (λ y. p y ≡ true) (filter p xs) = filtered p (λ y. p y ≡ true) (λ y t. t) xs in
-    (rw e at each).0
+first_passes p xs x rest e = let each : AllByRecursion (λ y. p y ≡ true) (filter p xs) = filtered p (λ y. p y ≡ true) (λ y t. t) xs in (rw e at each).0
 
 -- a number that passes is left
 pub filter_nonempty : (p : ℕ → Bool) (s n k : ℕ) → s ≤ k → k < s + n → p k ≡ true → filter p (range_with_len s n) ≡ [] → ⊥
@@ -37,8 +35,7 @@ filter_few p s (suc n) same = search (rules, length, filter, range_with_len, con
 
 -- what fails from there on adds nothing to a filter
 filter_to : (p : ℕ → Bool) (s a c : ℕ) → ((n : ℕ) → s + a ≤ n → p n ≡ false) → filter p (range_with_len s (a + c)) ≡ filter p (range_with_len s a)
-filter_to p s zero c past =
-    search (rules, filter, range_with_len, filter_none)
+filter_to p s zero c past = search (rules, filter, range_with_len, filter_none)
 filter_to p s (suc a) c past =
     let same : suc a + c ≡ suc (a + c) = omega arith in
     let rest = filter_to p (s + 1) a c (λ n l. past n (omega arith)) in

@@ -1,11 +1,10 @@
 -- What the marks of a node give is due there, and where they give none only a hub's rule is left.
-use Rattle.rx_event.proofs.Laws.Common.{◌≡◌, ℕ, ◌<◌, Bool, true, false, List, length, Option, Some, None, refl, sym, ap, ◌∙◌, arith, ◌==◌}
-use Rattle.rx_event.proofs.Laws.Common.{slice_get, take, not, ◌&&◌, list_any, option_map_or, option_or, both_ways, false≢true, and_parts, and_from, eq-eqb}
-use Rattle.rx_event.proofs.Laws.Common.{eqb-true, length-take-le, slice_get_within, same_Some, none-some, Terminal, Completed, Error, Kept}
-use Rattle.rx_event.proofs.Laws.Common.{Event, Connect, End, Close, is_merging, is_mirroring, is_until, makes_hub, is_auto_hub}
-use Rattle.rx_event.proofs.Laws.Common.{at, is_open, owed, is_fired, mirrored, fired, failed, completed, cut, left, connecting, due}
-use Rattle.rx_event.proofs.Laws.Common.{SourceEnded, IsDue, IsForced, IsConnectDue, IsSettled, passes_on, child_terminal, source_completed, open_children}
-use Rattle.rx_event.proofs.Laws.Common.{marks_of, due_at, IsLawful, cond_some, Marks, terminal_due}
+use Rattle.rx_event.proofs.Laws.Common.{◌≡◌, ℕ, ◌<◌, Bool, true, false, List, length, Option, Some, None, refl, sym, ap, ◌∙◌, arith, ◌==◌, slice_get, take, not}
+use Rattle.rx_event.proofs.Laws.Common.{◌&&◌, list_any, option_map_or, option_or, both_ways, false≢true, and_parts, and_from, eq-eqb, eqb-true, length-take-le}
+use Rattle.rx_event.proofs.Laws.Common.{slice_get_within, same_Some, none-some, Terminal, Completed, Error, Kept, Event, Connect, End, Close, is_merging}
+use Rattle.rx_event.proofs.Laws.Common.{is_mirroring, is_until, makes_hub, is_auto_hub, at, is_open, owed, is_fired, mirrored, fired, failed, completed, cut}
+use Rattle.rx_event.proofs.Laws.Common.{left, connecting, due, SourceEnded, IsDue, IsForced, IsConnectDue, IsSettled, passes_on, child_terminal}
+use Rattle.rx_event.proofs.Laws.Common.{source_completed, open_children, marks_of, due_at, IsLawful, cond_some, Marks, terminal_due}
 use Rattle.std.specs.Option.{option_map}
 use Rattle.rx_event.proofs.Laws.Hubs.{hub_before}
 use Rattle.rx_event.specs.Marks.{is_over, completed_if}
@@ -23,8 +22,7 @@ completed_if_some b t found = cond_some b Completed t found
 
 over_parts : (base : Kept) → (h : List Event) (n : ℕ) → is_over (marks_of base h n) ≡ true →
     (source_completed base h n ≡ true) × (open_children h n ≡ 0) × (owed base h n ≡ 0)
-over_parts base h n over =
-    search (rules, and_parts, eqb-true)
+over_parts base h n over = search (rules, and_parts, eqb-true)
 
 -- what a FlatMap's or a Switch's marks give is due
 pub merging_due : (base : Kept) → (h : List Event) (n : ℕ) (t : Terminal) → is_open h n ≡ true → at is_merging h n ≡ true →
@@ -80,8 +78,7 @@ made_passes q h n made at_n passes = sym (ap (λ o. option_map_or q o false) at_
 
 -- Where the marks of a node give none, only the end of a connection ends it
 pub none_due : (base : Kept) → (h : List Event) (n : ℕ) (made : Event) (t : Terminal) → slice_get h n ≡ Some made →
-    terminal_due made (marks_of base h n) ≡ None →
-    IsDue base h (End n t) → SourceEnded h n t
+    terminal_due made (marks_of base h n) ≡ None → IsDue base h (End n t) → SourceEnded h n t
 none_due base h n made t at_n none (mirrored o m c) =
     let w = mirroring_none made (marks_of base h n) (made_passes is_mirroring h n made at_n m) none in
     absurd (child_terminal_none h n t w.0 (ap (λ b. passes_on b t) (ap (λ o. option_map_or is_merging o false) at_n ∙ w.1) ∙ any_passes t) c)
@@ -90,8 +87,7 @@ none_due base h n made t at_n none (fired o u f) =
 none_due base h n made t at_n none (failed {c = code} o m c) =
     absurd (child_terminal_none h n (Error code) (merging_none made (marks_of base h n) (made_passes is_merging h n made at_n m) none).0 refl c)
 none_due base h n made t at_n none (completed o m unfailed source closed paid) =
-    let over : is_over (marks_of base h n) ≡ true =
-    and_from (source_completed base h n && (open_children h n == 0)) (owed base h n == 0)
+    let over : is_over (marks_of base h n) ≡ true = and_from (source_completed base h n && (open_children h n == 0)) (owed base h n == 0)
     (and_from (source_completed base h n) (open_children h n == 0) source (eq-eqb (open_children h n) 0 (open_children_zero h n closed)))
     (eq-eqb (owed base h n) 0 paid) in
     absurd (both_ways (is_over (marks_of base h n)) (merging_none made (marks_of base h n) (made_passes is_merging h n made at_n m) none).1 over)
@@ -99,14 +95,12 @@ none_due base h n made t at_n none (cut o e) = e
 
 -- the same of the event
 pub due_at_none : (base : Kept) → (h : List Event) (n : ℕ) (made : Event) (t : Terminal) → slice_get h n ≡ Some made →
-    due_at made (marks_of base h n) n ≡ None → IsDue base h (End n t) →
-    SourceEnded h n t
+    due_at made (marks_of base h n) n ≡ None → IsDue base h (End n t) → SourceEnded h n t
 due_at_none base h n made t at_n none d = search (rules, none_due, none-some)
 
 -- what the marks of an open node give is forced, where no hub waits
 pub due_at_forced : {base : Kept} → (h : List Event) (n : ℕ) (made e : Event) → ((g : ℕ) → ¬ IsConnectDue h g) → is_open h n ≡ true →
-    slice_get h n ≡ Some made →
-    due_at made (marks_of base h n) n ≡ Some e → IsForced base h e
+    slice_get h n ≡ Some made → due_at made (marks_of base h n) n ≡ Some e → IsForced base h e
 due_at_forced {base} h n made e none_waits o at_n found = due none_waits (due_at_due base h n made e o at_n found)
 
 -- a settled history -------------------------------------------------------------------------------
@@ -117,8 +111,7 @@ open_made h n o = search (rules, slice_get, both_ways, is_open_step)
 -- A history is settled where no marks of an open node give an event, and no hub's rule does
 pub settled_by_marks : (base : Kept) → (h : List Event) → ((g : ℕ) → ¬ IsConnectDue h g) → ((n : ℕ) (t : Terminal) → is_open h n ≡ true → ¬ SourceEnded h n t) →
     ((c : ℕ) → ¬ IsDue base h (Close c)) →
-    ((n : ℕ) (made : Event) → is_open h n ≡ true → slice_get h n ≡ Some made → due_at made (marks_of base h n) n ≡ None) →
-    IsSettled base h
+    ((n : ℕ) (made : Event) → is_open h n ≡ true → slice_get h n ≡ Some made → due_at made (marks_of base h n) n ≡ None) → IsSettled base h
 settled_by_marks base h none_waits whole kept quiet = record { none = none } where
   ended : (n : ℕ) (t : Terminal) → IsDue base h (End n t) → ⊥
   ended n t d =
@@ -153,8 +146,7 @@ unconnected base h law hubless c g at_c = hub_at h makes_hub (λ e is. is) huble
   older q passes =
       let w : g < length (take c h) = at_within q (take c h) g passes in
       let b : c < length h = l in
-      let k : length (take c h) ≡ c = length-take-le c h (omega arith) in
-      sym (at-take q h c g (omega arith) l) ∙ passes
+      let k : length (take c h) ≡ c = length-take-le c h (omega arith) in sym (at-take q h c g (omega arith) l) ∙ passes
 
 due_close_auto : (base : Kept) → {h : List Event} {c : ℕ} → IsDue base h (Close c) → (g : ℕ) × (at is_auto_hub h g ≡ true)
 due_close_auto base (left {g = g} o at_c a n) = (g, a)
@@ -162,8 +154,7 @@ due_close_auto base (left {g = g} o at_c a n) = (g, a)
 -- a lawful history without hubs is settled where no marks give an event
 pub settled_hubless : (base : Kept) → (h : List Event) → IsLawful base h → list_any makes_hub h ≡ false →
     ((n : ℕ) (made : Event) → is_open h n ≡ true → slice_get h n ≡ Some made → due_at made (marks_of base h n) n ≡ None) → IsSettled base h
-settled_hubless base h law hubless quiet =
-    settled_by_marks base h (λ g d. hub_at h is_auto_hub auto_makes_hub hubless g d.auto)
+settled_hubless base h law hubless quiet = settled_by_marks base h (λ g d. hub_at h is_auto_hub auto_makes_hub hubless g d.auto)
     (λ n t o s. unconnected base h law hubless s.connection s.hub s.connects)
     (λ c d. let w = due_close_auto base d in hub_at h is_auto_hub auto_makes_hub hubless w.0 w.1) quiet
 
@@ -179,8 +170,7 @@ settled_quiet base h settled n made o at_n = by_event (due_at made (marks_of bas
 
 -- what is due at a node, if not by the end of a connection, its marks give an end of it
 pub due_by_marks : (base : Kept) → (h : List Event) (n : ℕ) (made : Event) (t : Terminal) → slice_get h n ≡ Some made → ¬ SourceEnded h n t →
-    IsDue base h (End n t) →
-    (u : Terminal) × (due_at made (marks_of base h n) n ≡ Some (End n u))
+    IsDue base h (End n t) → (u : Terminal) × (due_at made (marks_of base h n) n ≡ Some (End n u))
 due_by_marks base h n made t at_n whole d = by_terminal (terminal_due made (marks_of base h n)) refl where
   by_terminal : (o : Option Terminal) → terminal_due made (marks_of base h n) ≡ o → (u : Terminal) × (option_map (λ v. End n v) o ≡ Some (End n u))
   by_terminal (Some u) found = (u, refl)

@@ -1,11 +1,10 @@
 -- The marks of what stays open after an end or a closing.
 use Rattle.rx_event.proofs.Laws.Common.{◌≡◌, ℕ, ◌-◌, Bool, true, false, List, [], ◌∷◌, ◌++◌, length, Option, Some, None, cond, refl, sym, ap, ◌∙◌, arith, inl}
 use Rattle.rx_event.proofs.Laws.Common.{inr, ◌⊎◌, ◌==◌, slice_get, not, ◌&&◌, ◌||◌, count_by, option_map_or, option_or, cases_Bool, both_ways, false≢true}
-use Rattle.rx_event.proofs.Laws.Common.{and_parts, eq-eqb, eqb-true, same_Some, none-some, Terminal, Completed, Error, Kept, Source}
-use Rattle.rx_event.proofs.Laws.Common.{Event, Open, Connect, End, Close, is_merging, is_source_of, parent_named, at, parent, is_open}
-use Rattle.rx_event.proofs.Laws.Common.{is_open_child_of, is_within, is_projection_to, left, due, IsDue, IsForced, is_child_of, completes_source, passes_on}
-use Rattle.rx_event.proofs.Laws.Common.{child_terminal, source_completed, open_children, marks_of, IsAllowed, MayFollow, IsLawful, or_false}
-use Rattle.rx_event.proofs.Laws.Common.{false_from_ne_true as never, if◌then◌else◌, ends_by, not-true}
+use Rattle.rx_event.proofs.Laws.Common.{and_parts, eq-eqb, eqb-true, same_Some, none-some, Terminal, Completed, Error, Kept, Source, Event, Open, Connect, End}
+use Rattle.rx_event.proofs.Laws.Common.{Close, is_merging, is_source_of, parent_named, at, parent, is_open, is_open_child_of, is_within, is_projection_to, left}
+use Rattle.rx_event.proofs.Laws.Common.{due, IsDue, IsForced, is_child_of, completes_source, passes_on, child_terminal, source_completed, open_children}
+use Rattle.rx_event.proofs.Laws.Common.{marks_of, IsAllowed, MayFollow, IsLawful, or_false, false_from_ne_true as never, if◌then◌else◌, ends_by, not-true}
 use Rattle.rx_event.proofs.Laws.Parents.{ancestors_step, parent-lt, parent_within, parent_name, within_cases, is_within-le}
 use Rattle.rx_event.proofs.Laws.Openness.{is_open_within, is_open_outside-end, is_open_outside-close, is_cut, parent_open}
 use Rattle.rx_event.proofs.Laws.Lawful.{may_end}
@@ -27,8 +26,7 @@ closing_cut : (h : List Event) (e : Event) (c n : ℕ) → ((k : ℕ) → is_cut
     cut_children h e n ≡ cond (is_child_of h n c) 1 0
 closing_cut h e c n cuts o outside =
     sum_by-same (λ k. cond (c == k) (cond (is_child_of h n k) 1 0) 0) (λ k. cond (is_open_child_of h n k && is_cut h e k) 1 0) (length h)
-    (λ k l. each k (c == k) refl) ∙
-    sum_by_one (λ k. cond (is_child_of h n k) 1 0) c (length h) (is_open_within h c o) where
+    (λ k l. each k (c == k) refl) ∙ sum_by_one (λ k. cond (is_child_of h n k) 1 0) c (length h) (is_open_within h c o) where
       self : (k : ℕ) → (c == k) ≡ true → is_within h c k ≡ true
       self k same = rw (ancestors_step h k, same) refl
 
@@ -52,8 +50,7 @@ closing_cut h e c n cuts o outside =
 
 -- the marks of a node that the end of c leaves open
 pub marks-end : (base : Kept) → (h : List Event) (c : ℕ) (t : Terminal) → IsLawful base h → MayFollow base h (End c t) → (n : ℕ) →
-    is_open (h ++ End c t ∷ []) n ≡ true →
-    marks_of base (h ++ End c t ∷ []) n ≡
+    is_open (h ++ End c t ∷ []) n ≡ true → marks_of base (h ++ End c t ∷ []) n ≡
     record (marks_of base h n) {
       source_completed = source_completed base h n || completes_source h n (End c t);
       child_terminal = option_or (child_terminal h n) (ends_by h n (End c t));
@@ -78,8 +75,7 @@ marks-close base h c law next n o =
 
 -- the marks of a node that is not above what ended stay, and of its parent alone do they change
 pub marks-end_other : {base : Kept} → (h : List Event) (c : ℕ) (t : Terminal) → IsLawful base h → MayFollow base h (End c t) → (n : ℕ) →
-    is_open (h ++ End c t ∷ []) n ≡ true →
-    is_child_of h n c ≡ false → marks_of base (h ++ End c t ∷ []) n ≡ marks_of base h n
+    is_open (h ++ End c t ∷ []) n ≡ true → is_child_of h n c ≡ false → marks_of base (h ++ End c t ∷ []) n ≡ marks_of base h n
 marks-end_other {base} h c t law next n o other =
     let z : cond {A = ℕ} (is_child_of h n c) 1 0 ≡ 0 = ap (λ b. cond {A = ℕ} b 1 0) other in
     marks-end base h c t law next n o ∙
@@ -87,9 +83,8 @@ marks-end_other {base} h c t law next n o other =
     (ap (option_or (child_terminal h n)) (rw other refl) ∙ or_nothing (child_terminal h n)) refl (omega arith)
   where
     source_named : (x : Option Event) → slice_get h c ≡ x → option_map_or (is_source_of n) x false ≡ true → parent h c ≡ Some n
-    source_named None at_c source = absurd (false≢true source)
     source_named (Some (Open (Source q) kind)) at_c source = parent-named base h law c n (Open (Source q) kind) at_c (ap Some (eqb-true q n source))
-    source_named (Some _) at_c source = absurd (false≢true source)
+    source_named _ at_c source = absurd (false≢true source)
 
     by_test : (at (is_source_of n) h c ≡ true) ⊎ (at (is_source_of n) h c ≡ false) → at (is_source_of n) h c ≡ false
     by_test (inr out) = out
@@ -100,10 +95,8 @@ marks-end_other {base} h c t law next n o other =
     no_source (Error code) = refl
 
 pub marks-close_other : (base : Kept) → (h : List Event) (c : ℕ) → IsLawful base h → MayFollow base h (Close c) → (n : ℕ) →
-    is_open (h ++ Close c ∷ []) n ≡ true →
-    is_child_of h n c ≡ false → marks_of base (h ++ Close c ∷ []) n ≡ marks_of base h n
-marks-close_other base h c law next n o other =
-    search (rules, cond, marks-close, same_marks)
+    is_open (h ++ Close c ∷ []) n ≡ true → is_child_of h n c ≡ false → marks_of base (h ++ Close c ∷ []) n ≡ marks_of base h n
+marks-close_other base h c law next n o other = search (rules, cond, marks-close, same_marks)
 
 -- the parent of what ended, by what the event of the child and its own say
 pub marks-end_parent : (base : Kept) → (h : List Event) (c p : ℕ) (t : Terminal) → IsLawful base h → MayFollow base h (End c t) → parent h c ≡ Some p →

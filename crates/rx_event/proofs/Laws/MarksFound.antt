@@ -28,14 +28,12 @@ ends_by_end h p x2 t found = search (rules, cond_some, and_parts, is_child_paren
 -- the terminal is that of a child
 pub child_terminal_some : (h : List Event) (n : ℕ) (t : Terminal) → child_terminal h n ≡ Some t → ChildEnded h n t × (passes_on (at is_merging h n) t ≡ true)
 unfolding child_terminal
-child_terminal_some h n t found =
-    search (rules, first_found, ends_by_end)
+child_terminal_some h n t found = search (rules, first_found, ends_by_end)
 
 -- where there is none, no child ended so that the node ends by it
 pub child_terminal_none : (h : List Event) (n : ℕ) (t : Terminal) → child_terminal h n ≡ None → passes_on (at is_merging h n) t ≡ true → ¬ ChildEnded h n t
 unfolding child_terminal
-child_terminal_none h n t none passes c =
-    search (rules, first_none, parent_is_child, none-some)
+child_terminal_none h n t none passes c = search (rules, first_none, parent_is_child, none-some)
 
 completes_end : (h : List Event) (p : ℕ) (e : Event) → completes_source h p e ≡ true → (s : ℕ) × (e ≡ End s Completed) × (at (is_source_of p) h s ≡ true)
 completes_end h p x2 found = search (rules, false≢true)
@@ -54,14 +52,12 @@ completed_kept base h n kept = ap (λ m. m || list_any (completes_source h n) h)
 pub source_completed_true : (base : Kept) → (h : List Event) (n : ℕ) → list_any (completes_source h n) h ≡ true →
     (s : ℕ) × (at (is_source_of n) h s ≡ true) × Has h (End s Completed)
 unfolding source_completed
-source_completed_true base h n found =
-    search (rules, list_any_found, completes_end)
+source_completed_true base h n found = search (rules, list_any_found, completes_end)
 
 pub source_completed_has : (base : Kept) → (h : List Event) (n s : ℕ) → at (is_source_of n) h s ≡ true → Has h (End s Completed) →
     source_completed base h n ≡ true
 unfolding source_completed
-source_completed_has base h n s source ended =
-    search (rules, or_right, option_map_or, list_any, list_any_holds)
+source_completed_has base h n s source ended = search (rules, or_right, option_map_or, list_any, list_any_holds)
 
 pub open_children_none : (h : List Event) (n : ℕ) → open_children h n ≡ 0 → (c : ℕ) → parent h c ≡ Some n → is_open h c ≡ false
 unfolding open_children
@@ -69,18 +65,15 @@ open_children_none h n none c below = by_test (cases_Bool (is_open h c)) where
   least : (k : ℕ) → (b : Bool) → (c == k) ≡ b → is_open h c ≡ true → cond {A = ℕ} b 1 0 ≤ cond (is_open_child_of h n k) 1 0
   least k true same o =
       let child : is_open_child_of h n k ≡ true = ap (is_open_child_of h n) (sym (eqb-true c k same)) ∙
-      and_from (is_open h c) (is_child_of h n c) o (parent_is_child h n c below) in
-      rw child (omega arith)
+      and_from (is_open h c) (is_child_of h n c) o (parent_is_child h n c below) in rw child (omega arith)
   least k false apart o = omega arith
 
   by_test : (is_open h c ≡ true) ⊎ (is_open h c ≡ false) → is_open h c ≡ false
   by_test (inr closed) = closed
   by_test (inl o) = absurd (
       let one : count_by (λ k. c == k) (places h) ≡ 1 = count_by_one c (length h) (is_open_within h c o) in
-      let less = sum_by_no_rise (λ k. cond (is_open_child_of h n k) 1 0) (λ k. cond (c == k) 1 0) (length h) (λ k l. least k (c == k) refl o) in
-      omega arith)
+      let less = sum_by_no_rise (λ k. cond (is_open_child_of h n k) 1 0) (λ k. cond (c == k) 1 0) (length h) (λ k l. least k (c == k) refl o) in omega arith)
 
 pub open_children_zero : (h : List Event) (n : ℕ) → ((c : ℕ) → parent h c ≡ Some n → is_open h c ≡ false) → open_children h n ≡ 0
 unfolding open_children
-open_children_zero h n closed =
-    search (rules, sum_by_none, cond, length, option_map_or, cases_Bool, both_ways, eqb-true)
+open_children_zero h n closed = search (rules, sum_by_none, cond, length, option_map_or, cases_Bool, both_ways, eqb-true)

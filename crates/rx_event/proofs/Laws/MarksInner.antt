@@ -18,37 +18,32 @@ use Rattle.std.proofs.Common.{rules}
 
 -- the opening of an inner closes children of its own Switch alone
 inner_cut_none : (base : Kept) → (h : List Event) (f : ℕ) (kind : Kind) → IsLawful base h → (n : ℕ) → is_cut h (Open (Inner f) kind) n ≡ false →
-    (f == n) ≡ false →
-    cut_children h (Open (Inner f) kind) n ≡ 0
-inner_cut_none base h f kind law n whole other =
-    sum_by_none (λ k. cond (is_open_child_of h n k && is_cut h (Open (Inner f) kind) k) 1 0) (length h)
+    (f == n) ≡ false → cut_children h (Open (Inner f) kind) n ≡ 0
+inner_cut_none base h f kind law n whole other = sum_by_none (λ k. cond (is_open_child_of h n k && is_cut h (Open (Inner f) kind) k) 1 0) (length h)
     (λ k l. by_test k (is_child_of h n k) refl (is_cut h (Open (Inner f) kind) k) refl (is_open h k))
   where
     shut_named : (k : ℕ) → shuts h k (Open (Inner f) kind) ≡ true → at (is_inner_of f) h k ≡ true
     shut_named k shut = (and_parts (nat_lt f k && at is_switch h f) (at (is_inner_of f) h k) shut).1
 
     inner_parent : (k : ℕ) (x : Option Event) → slice_get h k ≡ x → option_map_or (is_inner_of f) x false ≡ true → parent h k ≡ Some f
-    inner_parent k None at_k inner = absurd (false≢true inner)
     inner_parent k (Some (Open (Inner q) kind)) at_k inner = parent-named base h law k f (Open (Inner q) kind) at_k (ap Some (eqb-true q f inner))
-    inner_parent k (Some _) at_k inner = absurd (false≢true inner)
-
-    cut_parts : (k : ℕ) → parent h k ≡ Some n → is_cut h (Open (Inner f) kind) k ≡ (shuts h k (Open (Inner f) kind) || is_cut h (Open (Inner f) kind) n)
-    cut_parts k below = rw (ancestors_step h k, below) refl
+    inner_parent k _ at_k inner = absurd (false≢true inner)
 
     clash : (k : ℕ) → parent h k ≡ Some n → (shuts h k (Open (Inner f) kind) ≡ true) ⊎ (is_cut h (Open (Inner f) kind) n ≡ true) → ⊥
     clash k below (inr cut_above) = both_ways (is_cut h (Open (Inner f) kind) n) whole cut_above
     clash k below (inl shut) =
-        let same : f ≡ n = same_Some f n (sym (inner_parent k (slice_get h k) refl (shut_named k shut)) ∙ below) in
-        both_ways (f == n) other (eq-eqb f n same)
+        let same : f ≡ n = same_Some f n (sym (inner_parent k (slice_get h k) refl (shut_named k shut)) ∙ below) in both_ways (f == n) other (eq-eqb f n same)
 
     by_test : (k : ℕ) → (b : Bool) → is_child_of h n k ≡ b → (w : Bool) → is_cut h (Open (Inner f) kind) k ≡ w → (p : Bool) →
         cond {A = ℕ} ((p && b) && w) 1 0 ≡ 0
     by_test k b below w gone false = refl
     by_test k false below w gone true = refl
     by_test k true below false gone true = refl
-    by_test k true below true gone true =
-        absurd (clash k (is_child_parent h n k below)
-        (or_cases (shuts h k (Open (Inner f) kind)) (is_cut h (Open (Inner f) kind) n) (sym (cut_parts k (is_child_parent h n k below)) ∙ gone)))
+    by_test k true below true gone true = absurd (clash k (is_child_parent h n k below)
+        (or_cases (shuts h k (Open (Inner f) kind)) (is_cut h (Open (Inner f) kind) n) (sym (rw (
+          ancestors_step h k,
+          (is_child_parent h n k below),
+        ) refl) ∙ gone)))
 
 marks_inner : (base : Kept) → (h : List Event) (f : ℕ) (kind : Kind) → IsLawful base h → MayFollow base h (Open (Inner f) kind) → (n : ℕ) → n < length h →
     marks_of base (h ++ Open (Inner f) kind ∷ []) n ≡
@@ -56,13 +51,11 @@ marks_inner : (base : Kept) → (h : List Event) (f : ℕ) (kind : Kind) → IsL
       owed = owed base h n - cond (f == n) 1 0;
       open_children = open_children h n + cond (f == n) 1 0 - cut_children h (Open (Inner f) kind) n;
     }
-marks_inner base h f kind law next n l =
-    search (rules, count_by, marks-push, same_marks, or_false, or_nothing)
+marks_inner base h f kind law next n l = search (rules, count_by, marks-push, same_marks, or_false, or_nothing)
 
 -- no other node that stays open changes
 pub marks-inner_other : {base : Kept} → {h : List Event} (f : ℕ) (kind : Kind) → IsLawful base h → MayFollow base h (Open (Inner f) kind) → (n : ℕ) →
-    n < length h →
-    is_open (h ++ Open (Inner f) kind ∷ []) n ≡ true → (f == n) ≡ false → marks_of base (h ++ Open (Inner f) kind ∷ []) n ≡ marks_of base h n
+    n < length h → is_open (h ++ Open (Inner f) kind ∷ []) n ≡ true → (f == n) ≡ false → marks_of base (h ++ Open (Inner f) kind ∷ []) n ≡ marks_of base h n
 marks-inner_other {base} {h} f kind law next n l o other =
     search (rules, and_parts, not, is_open_cut, inner_cut_none, not_false, cond, marks_inner, same_marks)
 
@@ -82,17 +75,12 @@ switch_cut h f kind k below = search (rules, ancestors_step, is_cut_inner, or_fa
 pub switched_parent : (base : Kept) → (h : List Event) → IsLawful base h → (f k : ℕ) → at (is_inner_of f) h k ≡ true → parent h k ≡ Some f
 switched_parent base h law f k inner = by_event (slice_get h k) refl inner where
   by_event : (x : Option Event) → slice_get h k ≡ x → option_map_or (is_inner_of f) x false ≡ true → parent h k ≡ Some f
-  by_event None at_k inner = absurd (false≢true inner)
   by_event (Some (Open (Inner q) kind)) at_k inner = parent-named base h law k f (Open (Inner q) kind) at_k (ap Some (eqb-true q f inner))
-  by_event (Some (Open Root kind)) at_k inner = absurd (false≢true inner)
-  by_event (Some (Open (Source q) kind)) at_k inner = absurd (false≢true inner)
-  by_event (Some (Open (Notifier q) kind)) at_k inner = absurd (false≢true inner)
-  by_event (Some _) at_k inner = absurd (false≢true inner)
+  by_event _ at_k inner = absurd (false≢true inner)
 
 cut_child_is_inner : (h : List Event) (f : ℕ) (kind : Kind) (k : ℕ) → (is_open_child_of h f k && is_cut h (Open (Inner f) kind) k) ≡ true →
     (is_open h k ≡ true) × (at (is_inner_of f) h k ≡ true)
-cut_child_is_inner h f kind k both =
-    search (rules, and_parts, switch_cut, is_child_parent, nat_lt)
+cut_child_is_inner h f kind k both = search (rules, and_parts, switch_cut, is_child_parent, nat_lt)
 
 -- a Switch that had no open inner has one more child
 pub marks-inner_first : (base : Kept) → (h : List Event) (f : ℕ) (kind : Kind) → IsLawful base h → MayFollow base h (Open (Inner f) kind) →
@@ -108,23 +96,18 @@ pub marks-inner_next : {base : Kept} → {h : List Event} (f old : ℕ) (kind : 
 marks-inner_next {base} {h} f old kind law next switch inner o =
     let z : cut_children h (Open (Inner f) kind) f ≡ 1 =
     sum_by-same (λ k. cond (old == k) 1 0) (λ k. cond (is_open_child_of h f k && is_cut h (Open (Inner f) kind) k) 1 0) (length h)
-    (λ k l. each k (old == k) refl) ∙
-    count_by_one old (length h) (is_open_within h old o) in
+    (λ k l. each k (old == k) refl) ∙ count_by_one old (length h) (is_open_within h old o) in
     let w : cond {A = ℕ} (f == f) 1 0 ≡ 1 = ap (λ b. cond {A = ℕ} b 1 0) (eq-eqb f f refl) in
     marks_inner base h f kind law next f (is_open_within h f (may_open base next).0) ∙ same_marks base refl refl refl refl refl (omega arith) (omega arith)
   where
     below : parent h old ≡ Some f
     below = switched_parent base h law f old inner
 
-    cut_old : is_cut h (Open (Inner f) kind) old ≡ true
-    cut_old = switch_cut h f kind old below ∙
-        and_from (nat_lt f old && at is_switch h f) (at (is_inner_of f) h old)
-        (and_from (nat_lt f old) (at is_switch h f) (lt-ltb f old (parent-lt h old f below)) switch) inner
-
     gone : (is_open_child_of h f old && is_cut h (Open (Inner f) kind) old) ≡ true
-    gone =
-        and_from (is_open_child_of h f old) (is_cut h (Open (Inner f) kind) old)
-        (and_from (is_open h old) (is_child_of h f old) o (parent_is_child h f old below)) cut_old
+    gone = and_from (is_open_child_of h f old) (is_cut h (Open (Inner f) kind) old)
+        (and_from (is_open h old) (is_child_of h f old) o (parent_is_child h f old below)) (switch_cut h f kind old below ∙
+        and_from (nat_lt f old && at is_switch h f) (at (is_inner_of f) h old) (and_from (nat_lt f old) (at is_switch h f) (lt-ltb f old
+        (parent-lt h old f below)) switch) inner)
 
     apart : (k : ℕ) → (old == k) ≡ false → (b : Bool) → (is_open_child_of h f k && is_cut h (Open (Inner f) kind) k) ≡ b → cond {A = ℕ} b 1 0 ≡ 0
     apart k other false out = refl

@@ -1,11 +1,10 @@
 -- An event changes the marks of one node at most, but for an item.
 use Rattle.rx_event.proofs.Laws.Common.{◌≡◌, ℕ, ℤ, ◌+◌, ◌-◌, ◌<◌, Bool, true, false, List, [], ◌∷◌, ◌++◌, length, Some, None, cond, refl, sym, ap, ◌∙◌, arith}
-use Rattle.rx_event.proofs.Laws.Common.{◌==◌, slice_get, not, ◌&&◌, ◌||◌, list_any, count_by, option_map_or, option_or, cases_order, both_ways}
-use Rattle.rx_event.proofs.Laws.Common.{eq-eqb, sum_by-cons, Terminal, Kept, Source, Inner, Notifier, Kind, Event, Open}
-use Rattle.rx_event.proofs.Laws.Common.{Item, Decline, End, is_merging, is_source_of, is_inner_of, is_switch, at, parent, is_open, Stop, Delivery}
-use Rattle.rx_event.proofs.Laws.Common.{Projection, Firing, stops, is_firing_of, is_projection_to, passes_on, child_terminal}
-use Rattle.rx_event.proofs.Laws.Common.{source_completed, open_children, marks_of, due_at, MayFollow, IsLawful, and_false, and_true, or_false, or_true}
-use Rattle.rx_event.proofs.Laws.Common.{if◌then◌else◌, Marks, or_parts}
+use Rattle.rx_event.proofs.Laws.Common.{◌==◌, slice_get, not, ◌&&◌, ◌||◌, list_any, count_by, option_map_or, option_or, cases_order, both_ways, eq-eqb}
+use Rattle.rx_event.proofs.Laws.Common.{sum_by-cons, Terminal, Kept, Source, Inner, Notifier, Kind, Event, Open, Item, Decline, End, is_merging, is_source_of}
+use Rattle.rx_event.proofs.Laws.Common.{is_inner_of, is_switch, at, parent, is_open, Stop, Delivery, Projection, Firing, stops, is_firing_of, is_projection_to}
+use Rattle.rx_event.proofs.Laws.Common.{passes_on, child_terminal, source_completed, open_children, marks_of, due_at, MayFollow, IsLawful, and_false, and_true}
+use Rattle.rx_event.proofs.Laws.Common.{or_false, or_true, if◌then◌else◌, Marks, or_parts}
 use Rattle.rx_event.specs.Marks.{touches, after_source, after_notifier, after_inner, after_decline, after_child, after_stops, blank_marks}
 use Rattle.rx_event.specs.Claims.Nodes.{IsOpenInner}
 use Rattle.rx_event.proofs.Laws.Openness.{is_open_within}
@@ -28,14 +27,12 @@ stops_apart n (s ∷ ss) apart =
 
 -- All marks of a node that stays open, and that the event does not touch, stay
 pub marks_untouched : {base : Kept} → (h : List Event) (e : Event) → IsLawful base h → MayFollow base h e → (n : ℕ) → n < length h →
-    is_open (h ++ e ∷ []) n ≡ true →
-    touches h n e ≡ false → marks_of base (h ++ e ∷ []) n ≡ marks_of base h n
+    is_open (h ++ e ∷ []) n ≡ true → touches h n e ≡ false → marks_of base (h ++ e ∷ []) n ≡ marks_of base h n
 marks_untouched h x2 law next n l o apart = search (rules, cond, marks-source, same_marks, or_false, marks-notifier, marks-inner_other, stops_apart, marks-item, marks-decline, marks-end_other, marks-close_other, marks_kept)
 
 -- of the parent of what ended, by the events of both
 pub marks-end_parent_at : {base : Kept} → {h : List Event} {c p : ℕ} (made above : Event) (t : Terminal) → IsLawful base h → MayFollow base h (End c t) →
-    parent h c ≡ Some p → slice_get h c ≡ Some made → slice_get h p ≡ Some above →
-    marks_of base (h ++ End c t ∷ []) p ≡
+    parent h c ≡ Some p → slice_get h c ≡ Some made → slice_get h p ≡ Some above → marks_of base (h ++ End c t ∷ []) p ≡
     record (marks_of base h p) {
       source_completed = source_completed base h p || (is_source_of p made && not (passes_on true t));
       child_terminal = option_or (child_terminal h p) (if passes_on (is_merging above) t then Some t else None);
@@ -48,18 +45,15 @@ marks-end_parent_at {base} {h} {c} {p} made above t law next below at_c at_p =
 
 pub marks-source_at : (base : Kept) → (h : List Event) (p : ℕ) (kind : Kind) → IsLawful base h → MayFollow base h (Open (Source p) kind) →
     marks_of base (h ++ Open (Source p) kind ∷ []) p ≡ after_source (marks_of base h p)
-marks-source_at base h p kind law next =
-    search (rules, eq-eqb, cond, marks-source, is_open_within, may_open, same_marks, or_true)
+marks-source_at base h p kind law next = search (rules, eq-eqb, cond, marks-source, is_open_within, may_open, same_marks, or_true)
 
 pub marks-notifier_at : (base : Kept) → (h : List Event) (p : ℕ) (kind : Kind) → IsLawful base h → MayFollow base h (Open (Notifier p) kind) →
     marks_of base (h ++ Open (Notifier p) kind ∷ []) p ≡ after_notifier (marks_of base h p)
-marks-notifier_at base h p kind law next =
-    search (rules, eq-eqb, cond, marks-notifier, is_open_within, may_open, same_marks, or_true)
+marks-notifier_at base h p kind law next = search (rules, eq-eqb, cond, marks-notifier, is_open_within, may_open, same_marks, or_true)
 
 pub marks-decline_at : (base : Kept) → (h : List Event) (f : ℕ) → IsLawful base h → MayFollow base h (Decline f) →
     marks_of base (h ++ Decline f ∷ []) f ≡ after_decline (marks_of base h f)
-marks-decline_at base h f law next =
-    search (rules, cond, eq-eqb, marks-decline, is_open_within, may_decline, same_marks)
+marks-decline_at base h f law next = search (rules, cond, eq-eqb, marks-decline, is_open_within, may_decline, same_marks)
 
 pub marks-end_at : {base : Kept} {h : List Event} {c p : ℕ} {made above : Event} {t : Terminal} → IsLawful base h → MayFollow base h (End c t) →
     parent h c ≡ Some p → slice_get h c ≡ Some made → slice_get h p ≡ Some above →
@@ -70,8 +64,7 @@ marks-end_at {made = made} {above = above} {t = t} law next below at_c at_p = ma
 stops_together : (base : Kept) → (n : ℕ) (ss : List Stop) (m : Marks) →
     after_stops n ss m ≡ record m { fired = m.fired || list_any (is_firing_of n) ss; owed = m.owed + count_by (is_projection_to n) ss }
 stops_together base n [] m = sym (same_marks base refl refl (or_false m.fired) refl refl (omega arith) refl)
-stops_together base n (Delivery r ∷ ss) m =
-    search (rules, sum_by-cons, cond, same_marks, stops_together base n ss m)
+stops_together base n (Delivery r ∷ ss) m = search (rules, sum_by-cons, cond, same_marks, stops_together base n ss m)
 stops_together base n (Projection f ∷ ss) m =
     by_test (f == n) (sum_by-cons (λ s. cond (is_projection_to n s) 1 0) (Projection f) ss) (λ x. stops_together base n ss x)
   where
@@ -100,8 +93,7 @@ pub child_counted : (h : List Event) (c p : ℕ) → is_open h c ≡ true → pa
 child_counted h c p o below = search (rules, cases_order, both_ways, open_children_none)
 
 pub marks-inner_at_flat : (base : Kept) → (h : List Event) (f : ℕ) (kind : Kind) → IsLawful base h → MayFollow base h (Open (Inner f) kind) →
-    at is_switch h f ≡ false →
-    marks_of base (h ++ Open (Inner f) kind ∷ []) f ≡ after_inner false (marks_of base h f)
+    at is_switch h f ≡ false → marks_of base (h ++ Open (Inner f) kind ∷ []) f ≡ after_inner false (marks_of base h f)
 marks-inner_at_flat base h f kind law next flat = marks-inner_flat base h f kind law next flat
 
 pub marks-inner_at_first : (base : Kept) → (h : List Event) (f : ℕ) (kind : Kind) → IsLawful base h → MayFollow base h (Open (Inner f) kind) →

@@ -27,8 +27,7 @@ notes_in n mail = map (λ m. m.note) (filter (λ m. m.to == n) mail)
 
 -- what n is told by one more event comes last
 pub notes_to-push : (h : List Event) (e : Event) (n : ℕ) → notes_to (h ++ e ∷ []) n ≡ notes_to h n ++ notes_in n (mail_of h e)
-notes_to-push h e n =
-    search (rules, notes_in, notes-push, map, filter-append, map-append, filter)
+notes_to-push h e n = search (rules, notes_in, notes-push, map, filter-append, map-append, filter)
 
 -- one item ----------------------------------------------------------------------------------------
 
@@ -56,10 +55,8 @@ noted_items x0 note rest item items = search (rules, and_from)
 item_notes_items : (n place : ℕ) (value : ℤ) (ss : List Stop) → list_all is_item_note (item_notes n place value ss) ≡ true
 item_notes_items n place value [] = refl
 item_notes_items n place value (Firing u ∷ ss) = item_notes_items n place value ss
-item_notes_items n place value (Delivery m ∷ ss) =
-    search (rules, noted_to, filter_map, noted_items, item_notes_items n place value ss)
-item_notes_items n place value (Projection f ∷ ss) =
-    search (rules, noted_to, filter_map, noted_items, item_notes_items n place value ss)
+item_notes_items n place value (Delivery m ∷ ss) = search (rules, noted_to, filter_map, noted_items, item_notes_items n place value ss)
+item_notes_items n place value (Projection f ∷ ss) = search (rules, noted_to, filter_map, noted_items, item_notes_items n place value ss)
 
 -- numbers that a test tells apart differ
 differ : (p : ℕ → Bool) (n m : ℕ) → p n ≡ false → p m ≡ true → (m == n) ≡ false
@@ -163,8 +160,7 @@ told_none : (h : List Event) → notes h ≡ [] → (n : ℕ) → notes_to h n �
 told_none h none n = search rules
 
 told_always : (base : Kept) → (h : List Event) → IsLawful base h → (n : ℕ) → Told h n
-told_always base =
-    by_events base (λ h. (n : ℕ) → Told h n) (λ s n. going (rw (told_none _ (made_untold (shown base) s.making) n) refl))
+told_always base = by_events base (λ h. (n : ℕ) → Told h n) (λ s n. going (rw (told_none _ (made_untold (shown base) s.making) n) refl))
     (λ h e law next before n. by_test h e law next n (before n) (is_open h n) refl)
   where
     by_test : (h : List Event) (e : Event) → IsLawful base h → MayFollow base h e → (n : ℕ) → Told h n → (b : Bool) → is_open h n ≡ b → Told (h ++ e ∷ []) n
@@ -181,8 +177,7 @@ notes_grammatical base h law n = by_told (told_always base h law n) where
 
 -- and of what is no root it is projected items
 pub notes_projected : (base : Kept) → (h : List Event) → IsLawful base h → (n : ℕ) → at is_root h n ≡ false → AllByRecursion IsProjected (notes_to h n)
-notes_projected base =
-    by_events base (λ h. (n : ℕ) → at is_root h n ≡ false → AllByRecursion IsProjected (notes_to h n))
+notes_projected base = by_events base (λ h. (n : ℕ) → at is_root h n ≡ false → AllByRecursion IsProjected (notes_to h n))
     (λ s n plain. rw (told_none _ (made_untold (shown base) s.making) n) tt) (λ h e law next before n plain.
     let old : at is_root h n ≡ false = plain_before h e n plain (cases_lt n (length h)) in
     rw (notes_to-push h e n) (AllByRecursion-both IsProjected (notes_to h n) (notes_in n (mail_of h e)) (before n old)

@@ -1,9 +1,8 @@
 -- Where nothing is open nothing is owned, where no lease is out either nothing is held, and where nothing waits all was handed out.
 -- What a lease that is out keeps.
-use Rattle.rx_event.proofs.Laws.Common.{◌≡◌, ℕ, ◌≤◌, Bool, true, false, List, length, Some, cond, ap, arith, inl, inr, ◌⊎◌, slice_get}
-use Rattle.rx_event.proofs.Laws.Common.{option_map_or, both_ways, false≢true, and_parts, false_from_ne_true, Kept, Event, Lease, is_open, is_owned, is_out}
-use Rattle.rx_event.proofs.Laws.Common.{is_held, is_taken, is_waiting, open_count, IsLawful, is_leased, held_count, waiting_count, taken_count}
-use Rattle.rx_event.proofs.Laws.Common.{accepted_count}
+use Rattle.rx_event.proofs.Laws.Common.{◌≡◌, ℕ, ◌≤◌, Bool, true, false, List, length, Some, cond, ap, arith, inl, inr, ◌⊎◌, slice_get, option_map_or, both_ways}
+use Rattle.rx_event.proofs.Laws.Common.{false≢true, and_parts, false_from_ne_true, Kept, Event, Lease, is_open, is_owned, is_out, is_held, is_taken, is_waiting}
+use Rattle.rx_event.proofs.Laws.Common.{open_count, IsLawful, is_leased, held_count, waiting_count, taken_count, accepted_count}
 use Rattle.rx_event.specs.Totals.{owned_count, lease_count}
 use Rattle.rx_event.proofs.Laws.Openness.{is_open_within}
 use Rattle.rx_event.proofs.Laws.Sums.{sum_by_none, term_in_sum}
@@ -21,8 +20,7 @@ owned_node h r owned = search (rules, and_parts, option_map_or, false≢true)
 pub open_counted : (h : List Event) (n : ℕ) → is_open h n ≡ true → 1 ≤ open_count h
 open_counted h n o =
     let one : cond {A = ℕ} (is_open h n) 1 0 ≡ 1 = ap (λ (b : Bool). cond {A = ℕ} b 1 0) o in
-    let within = term_in_sum (λ k. cond (is_open h k) 1 0) n (length h) (is_open_within h n o) in
-    omega arith
+    let within = term_in_sum (λ k. cond (is_open h k) 1 0) n (length h) (is_open_within h n o) in omega arith
 
 -- where no node is open nothing is owned
 none_owned : (h : List Event) → open_count h ≡ 0 → (r : ℕ) → is_owned h r ≡ false
@@ -42,8 +40,7 @@ held_count_closed h closed back = sum_by_none (λ r. cond (is_held h r) 1 0) (le
 -- where nothing waits either, all that was accepted was handed out
 pub taken_count_closed : (base : Kept) → (h : List Event) → IsLawful base h → open_count h ≡ 0 → lease_count h ≡ 0 → waiting_count h ≡ 0 → taken_count base
     h ≡ accepted_count base h
-taken_count_closed base h law closed back released =
-    search (rules, held_count_closed, accepted_count-parts)
+taken_count_closed base h law closed back released = search (rules, held_count_closed, accepted_count-parts)
 
 -- what a lease that is out keeps ---------------------------------------------------------------------
 

@@ -3,10 +3,9 @@ use Rattle.rx_event.proofs.Laws.Common.{◌≡◌, ℕ, ◌<◌, ◌≤◌, Bool
 use Rattle.rx_event.proofs.Laws.Common.{inl, inr, ◌⊎◌, slice_get, not, ◌&&◌, ◌||◌, list_any, option_map_or, cases_lt, both_ways, false≢true, and_parts}
 use Rattle.rx_event.proofs.Laws.Common.{or_cases, eq-eqb, eqb-true, slice_get_within, same_Some, none-some, Terminal, Completed, Error, Kept, node_kept}
 use Rattle.rx_event.proofs.Laws.Common.{completes_source, source_completed, due_at, marks_of, is_child_of, Root, Source, Inner, Notifier, Event, Open, Item}
-use Rattle.rx_event.proofs.Laws.Common.{Decline, End, Close, is_mirroring, is_merging, is_until, is_source_of, is_inner_of, is_subscriber_of, pays, at}
-use Rattle.rx_event.proofs.Laws.Common.{parent, is_open, shuts, is_fired, is_firing_of, stops_of, mirrored, fired, failed, completed, cut, due, SourceEnded}
-use Rattle.rx_event.proofs.Laws.Common.{IsDue, IsForced, IsSettled, forced, allowed, opened_with, MayFollow, IsLawful, or_false, ChildEnded}
-use Rattle.rx_event.proofs.Laws.Common.{not-true as not_false}
+use Rattle.rx_event.proofs.Laws.Common.{Decline, End, Close, is_mirroring, is_merging, is_until, is_source_of, is_inner_of, is_subscriber_of, pays, at, parent}
+use Rattle.rx_event.proofs.Laws.Common.{is_open, shuts, is_fired, is_firing_of, stops_of, mirrored, fired, failed, completed, cut, due, SourceEnded, IsDue}
+use Rattle.rx_event.proofs.Laws.Common.{IsForced, IsSettled, forced, allowed, opened_with, MayFollow, IsLawful, or_false, ChildEnded, not-true as not_false}
 use Rattle.rx_event.proofs.Laws.MarksAfter.{source_completed-push, ended_older, child_new, adds_child, is_fired-push}
 use Rattle.rx_event.proofs.Laws.MarksNew.{source_completed_is, fired_past}
 use Rattle.rx_event.proofs.Laws.MarksFound.{source_completed_true, is_child_parent}
@@ -107,8 +106,7 @@ child_shut {base} {h} {e = Close c} law next n k below shut silent opens =
     absurd (none-some n (sym (may_close_none base next made.0 (ap (slice_get h) (eqb-true c k shut) ∙ made.1)) ∙ parent_name h k n made.0 below made.1))
 child_shut {base} {h} {e = Open (Inner f) kind} law next n k below shut silent opens =
     let inner : at (is_inner_of f) h k ≡ true = (and_parts _ _ shut).1 in
-    let same : f ≡ n = same_Some f n (sym (switched_parent base h law f k inner) ∙ below) in
-    absurd (opens (eq-eqb f n same))
+    let same : f ≡ n = same_Some f n (sym (switched_parent base h law f k inner) ∙ below) in absurd (opens (eq-eqb f n same))
 child_shut {e = Open Root kind} law next n k below shut silent opens = absurd (false≢true shut)
 child_shut {e = Open (Source f) kind} law next n k below shut silent opens = absurd (false≢true shut)
 child_shut {e = Open (Notifier f) kind} law next n k below shut silent opens = absurd (false≢true shut)
@@ -120,12 +118,8 @@ now_closed o c gone whole = grind arith
 pub source_parent : (base : Kept) → (h : List Event) → IsLawful base h → (n s : ℕ) → at (is_source_of n) h s ≡ true → parent h s ≡ Some n
 source_parent base h law n s source = by_event (slice_get h s) refl source where
   by_event : (x : Option Event) → slice_get h s ≡ x → option_map_or (is_source_of n) x false ≡ true → parent h s ≡ Some n
-  by_event None at_s source = absurd (false≢true source)
   by_event (Some (Open (Source q) kind)) at_s source = parent-named base h law s n (Open (Source q) kind) at_s (ap Some (eqb-true q n source))
-  by_event (Some (Open Root kind)) at_s source = absurd (false≢true source)
-  by_event (Some (Open (Inner q) kind)) at_s source = absurd (false≢true source)
-  by_event (Some (Open (Notifier q) kind)) at_s source = absurd (false≢true source)
-  by_event (Some _) at_s source = absurd (false≢true source)
+  by_event _ at_s source = absurd (false≢true source)
 
 not_completing : (h : List Event) (n : ℕ) (e : Event) → completes e ≡ false → completes_source h n e ≡ false
 not_completing h n x2 silent = search (rules, false≢true)
@@ -167,15 +161,9 @@ completed_before base h e law next n silent now = whole_case (cases_lt n (length
   cut_apart k below whole true shut = absurd (shut_apart k below shut)
   cut_apart k below whole false unshut = rw (ancestors_step h k, below, unshut) whole
 
-  not_now : completes_source h n e ≡ false
-  not_now = not_completing h n e silent
-
   source_old : source_completed base h n ≡ true
-  source_old =
-      sym (or_false (source_completed base h n)) ∙
-      ap (λ x. source_completed base h n || x) (sym not_now) ∙
-      sym (source_completed-push base h e law next n) ∙
-      now.source
+  source_old = sym (or_false (source_completed base h n)) ∙ ap (λ x. source_completed base h n || x) (sym (not_completing h n e silent)) ∙
+      sym (source_completed-push base h e law next n) ∙ now.source
 
   whole_case : (n < length h) ⊎ (length h ≤ n) → IsDue base h (End n Completed)
   whole_case (inr past) = absurd (by_child (source_completed_is base h n)) where
@@ -183,15 +171,11 @@ completed_before base h e law next n silent now = whole_case (cases_lt n (length
     child some =
         let r = source_completed_true base h n some in
         let below = parent-lt h r.0 n (source_parent base h law n r.0 r.1) in
-        let w = parent_within h r.0 n (source_parent base h law n r.0 r.1) in
-        absurd (omega arith)
+        let w = parent_within h r.0 n (source_parent base h law n r.0 r.1) in absurd (omega arith)
 
     by_child : source_completed base h n ≡ (option_map_or (λ k. k.source_completed) (node_kept base n) false || list_any (completes_source h n) h) → ⊥
-    by_child split =
-        child (sym (ap (λ k. option_map_or (λ x. x.source_completed) k false || list_any (completes_source h n) h)
-        (law.started.unkept n (let w = shown_within base h law in omega arith))) ∙
-        sym split ∙
-        source_old)
+    by_child split = child (sym (ap (λ k. option_map_or (λ x. x.source_completed) k false || list_any (completes_source h n) h)
+        (law.started.unkept n (let w = shown_within base h law in omega arith))) ∙ sym split ∙ source_old)
   whole_case (inl n_old) =
       let stays = and_parts (is_open h n) (not (is_cut h e n)) (sym (is_open_cut h e n n_old) ∙ now.alive) in
       let whole : is_cut h e n ≡ false = not_false (is_cut h e n) stays.1 in
@@ -205,8 +189,7 @@ completed_before base h e law next n silent now = whole_case (cases_lt n (length
 
 -- what is due after the event was due before, or the event is its reason
 pub due_before : (base : Kept) → (h : List Event) (e : Event) → IsLawful base h → MayFollow base h e → (n : ℕ) (u : Terminal) →
-    IsDue base (h ++ e ∷ []) (End n u) →
-    IsDue base h (End n u) ⊎ IsReason h e n u
+    IsDue base (h ++ e ∷ []) (End n u) → IsDue base h (End n u) ⊎ IsReason h e n u
 due_before base h e law next n u (mirrored o m c) = by_case (child_ended_before base h e law n u c) where
   by_case : (ChildEnded h n u × (n < length h)) ⊎ (ends_as e ≡ Some u) → IsDue base h (End n u) ⊎ IsReason h e n u
   by_case (inr now) = inr (ends_so now)
@@ -227,8 +210,7 @@ due_before base h e law next n u (fired o m f) = by_fired (or_cases (is_fired h 
 due_before base h e law next n u (completed o m unfailed source closed paid) = by_test (completes e) refl where
   by_test : (b : Bool) → completes e ≡ b → IsDue base h (End n Completed) ⊎ IsReason h e n Completed
   by_test true now = inr (completes_one now refl)
-  by_test false silent =
-      inl (completed_before base h e law next n silent
+  by_test false silent = inl (completed_before base h e law next n silent
       (record { alive = o; merging = m; fails_not = λ code fails. unfailed code fails.2; source = source; childless = closed; paid = paid }))
 due_before base h e law next n u (cut o s) = by_case (source_ended_before base h e law n u s) where
   by_case : (SourceEnded h n u × (n < length h)) ⊎ (ends_as e ≡ Some u) → IsDue base h (End n u) ⊎ IsReason h e n u
@@ -243,14 +225,11 @@ due_or_now : (base : Kept) → (h : List Event) (e : Event) (n : ℕ) (u : Termi
     IsDue base h (End n u) ⊎ (end_by e ≡ Some u)
 due_or_now base h e n u x5 = search (rules, reason_end)
 
-none_due : (base : Kept) → (h : List Event) (e : Event) → IsSettled base h → IsDue base h e → ⊥
-none_due base h e settled d = settled.none e (due (settled_connected base h settled) d)
-
 -- what an event makes due ends as what was due before it
 end_alike : {base : Kept} → {h : List Event} (e : Event) → MayFollow base h e →
     ((n m : ℕ) (t u : Terminal) → IsDue base h (End n t) → IsDue base h (End m u) → t ≡ u) →
     (n : ℕ) (t u : Terminal) → IsDue base h (End n t) → end_by e ≡ Some u → u ≡ t
-end_alike {base} {h} e (allowed settled a) before n t u d now = absurd (none_due base h (End n t) settled d)
+end_alike {base} {h} e (allowed settled a) before n t u d now = absurd (settled.none (End n t) (due (settled_connected base h settled) d))
 end_alike e (opened_with at_n l o) before n t u d now = absurd (none-some u now)
 end_alike {base} {h} e (forced f) before n t u d now = by_forced e f now where
   by_forced : (x : Event) → IsForced base h x → end_by x ≡ Some u → u ≡ t

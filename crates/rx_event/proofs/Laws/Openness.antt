@@ -26,8 +26,7 @@ shuts-append h t n l x4 = search (rules, cases_Bool, nat_lt, ltb-true, at-append
 -- an older node is shut if it was, or if the new event shuts it
 pub is_shut-push : (h : List Event) (e : Event) (n : ℕ) → n < length h → is_shut (h ++ e ∷ []) n ≡ (is_shut h n || shuts h n e)
 unfolding is_shut
-is_shut-push h e n l =
-    search (rules, drop-append-le, list_any-same, shuts-append, drop, list_any-append, list_any, or_false)
+is_shut-push h e n l = search (rules, drop-append-le, list_any-same, shuts-append, drop, list_any-append, list_any, or_false)
 
 -- the new node is not shut
 pub is_shut_last : (h : List Event) (e : Event) → is_shut (h ++ e ∷ []) (length h) ≡ false
@@ -53,13 +52,11 @@ standing-push h e n l = search (rules, at-append, is_shut-push, and_not_or)
 pub is_open-push : (h : List Event) (e : Event) (n : ℕ) → n < length h →
     is_open (h ++ e ∷ []) n ≡ (is_open h n && list_all (λ a. not (shuts h a e)) (ancestors h n))
 unfolding is_open
-is_open-push h e n l =
-    rw (
-      ancestors-append h (e ∷ []) n l,
-      list_all-same (λ a. a ≤ n) (is_standing (h ++ e ∷ [])) (λ a. is_standing h a && not (shuts h a e)) (λ a b. standing-push h e a (omega arith))
-          (ancestors h n) (ancestors-le h n),
-    )
-    (list_all-and (is_standing h) (λ a. not (shuts h a e)) (ancestors h n))
+is_open-push h e n l = rw (
+  ancestors-append h (e ∷ []) n l,
+  list_all-same (λ a. a ≤ n) (is_standing (h ++ e ∷ [])) (λ a. is_standing h a && not (shuts h a e)) (λ a b. standing-push h e a (omega arith))
+      (ancestors h n) (ancestors-le h n),
+) (list_all-and (is_standing h) (λ a. not (shuts h a e)) (ancestors h n))
 
 -- a node is open where it stands and its parent is open
 pub is_open_step : (h : List Event) (n : ℕ) → is_open h n ≡ (is_standing h n && option_map_or (is_open h) (parent h n) true)
@@ -82,8 +79,7 @@ list_all_yes p holds (x ∷ xs) = rw (holds x) (list_all_yes p holds xs)
 
 -- an item, an acceptance and the like leave each node as it was
 pub is_open_kept : (h : List Event) (e : Event) (n : ℕ) → n < length h → shuts_none e ≡ true → is_open (h ++ e ∷ []) n ≡ is_open h n
-is_open_kept h e n l s =
-    search (rules, is_open-push, list_all_yes, not, not_shut, and_true)
+is_open_kept h e n l s = search (rules, is_open-push, list_all_yes, not, not_shut, and_true)
 
 -- the event takes away n, or a node above it
 abbrev pub is_cut : List Event → Event → ℕ → Bool
@@ -150,8 +146,7 @@ list_any_never P p never (x ∷ xs) a = rw (never x a.0) (list_any_never P p nev
 
 -- the opening of an inner cuts nothing at or above its parent
 pub is_cut_inner : (h : List Event) (f : ℕ) (kind : Kind) (n : ℕ) → n ≤ f → is_cut h (Open (Inner f) kind) n ≡ false
-is_cut_inner h f kind n l =
-    search (rules, list_any_never, nat_lt, ancestors-le, le-ltb)
+is_cut_inner h f kind n l = search (rules, list_any_never, nat_lt, ancestors-le, le-ltb)
 
 -- nor does that of a FlatMap cut anything
 pub is_cut_inner_flat : (h : List Event) (f : ℕ) (kind : Kind) → at is_switch h f ≡ false → (n : ℕ) → is_cut h (Open (Inner f) kind) n ≡ false
@@ -167,8 +162,7 @@ is_cut_inner_flat h f kind flat n = none (ancestors h n) where
 pub is_open_made : (h : List Event) (e : Event) (p : ℕ) → makes_node e ≡ true → parent_named e ≡ Some p → is_open h p ≡ true → is_cut h e p ≡ false →
     is_open (h ++ e ∷ []) (length h) ≡ true
 unfolding parent
-is_open_made h e p node named o kept =
-    search (rules, is_open_step, length, is_shut_last, slice_get_last, lt-ltb, is_open_cut, is_open_within)
+is_open_made h e p node named o kept = search (rules, is_open_step, length, is_shut_last, slice_get_last, lt-ltb, is_open_cut, is_open_within)
 
 -- an event that makes no node opens none
 pub is_open_last_none : (h : List Event) (e : Event) → makes_node e ≡ false → is_open (h ++ e ∷ []) (length h) ≡ false
@@ -182,8 +176,7 @@ parent_open h n p o below = search (rules, and_parts, is_open_step, option_map_o
 
 -- a node whose parent is not open is not open
 pub closed_below : (h : List Event) (n p : ℕ) → parent h n ≡ Some p → is_open h p ≡ false → is_open h n ≡ false
-closed_below h n p below closed =
-    search (rules, is_open_step, option_map_or, and_false)
+closed_below h n p below closed = search (rules, is_open_step, option_map_or, and_false)
 
 -- what is not open stays so, whatever comes
 pub stays_closed : (h : List Event) (e : Event) (n : ℕ) → n < length h → is_open h n ≡ false → is_open (h ++ e ∷ []) n ≡ false

@@ -1,8 +1,7 @@
 -- Parents and ancestors in a longer history.
-use Rattle.rx_event.proofs.Laws.Common.{◌≡◌, ℕ, zero, suc, ◌<◌, ◌≤◌, true, List, [], ◌∷◌, ◌++◌, length, Option, Some, None, refl, ap, arith}
-use Rattle.rx_event.proofs.Laws.Common.{◌⊎◌, nat_lt, ◌==◌, slice_get, AllByRecursion, list_any, option_and_then, option_map_or, eqb-true, or_cases}
-use Rattle.rx_event.proofs.Laws.Common.{false≢true, slice_get_within, Event, parent_named, parent, if_less, ancestors, is_within, ltb-true}
-use Rattle.rx_event.proofs.Laws.Common.{or_right, cond_some}
+use Rattle.rx_event.proofs.Laws.Common.{◌≡◌, ℕ, zero, suc, ◌<◌, ◌≤◌, true, List, [], ◌∷◌, ◌++◌, length, Option, Some, None, refl, ap, arith, ◌⊎◌, nat_lt, ◌==◌}
+use Rattle.rx_event.proofs.Laws.Common.{slice_get, AllByRecursion, list_any, option_and_then, option_map_or, eqb-true, or_cases, false≢true, slice_get_within}
+use Rattle.rx_event.proofs.Laws.Common.{Event, parent_named, parent, if_less, ancestors, is_within, ltb-true, or_right, cond_some}
 use Rattle.std.proofs.lemmas.Option.{option_and_then_some}
 use Rattle.rx_event.specs.Tree.{ancestors_within}
 use Rattle.rx_event.proofs.Laws.Places.{slice_get-append}
@@ -11,8 +10,7 @@ use Rattle.std.proofs.Common.{rules}
 -- parents have smaller numbers
 pub parent-lt : (h : List Event) (n p : ℕ) → parent h n ≡ Some p → p < n
 unfolding parent
-parent-lt h n p e =
-    search (rules, option_and_then_some, option_and_then, slice_get, cond_some, nat_lt, ltb-true)
+parent-lt h n p e = search (rules, option_and_then_some, option_and_then, slice_get, cond_some, nat_lt, ltb-true)
 
 pub parent-append : (h t : List Event) (n : ℕ) → n < length h → parent (h ++ t) n ≡ parent h n
 unfolding parent
@@ -28,30 +26,18 @@ no_parent_of_zero h x1 e = search (rules, parent-lt)
 -- more steps lead no further
 ancestors_enough : (k j : ℕ) (h : List Event) (n : ℕ) → n ≤ k → n ≤ j → ancestors_within k h n ≡ ancestors_within j h n
 ancestors_enough zero zero h n a b = refl
-ancestors_enough zero (suc j) h n a b =
-    let z : n ≡ 0 = omega arith in
-    let e : parent h n ≡ None = rw z (no_parent_of_zero h (parent h 0) refl) in
-    rw e refl
-ancestors_enough (suc k) zero h n a b =
-    let z : n ≡ 0 = omega arith in
-    let e : parent h n ≡ None = rw z (no_parent_of_zero h (parent h 0) refl) in
-    rw e refl
-ancestors_enough (suc k) (suc j) h n a b =
-    ap (λ (xs : List ℕ). n ∷ xs)
-    (option_map_or-same (ancestors_within k h) (ancestors_within j h) (parent h n) []
+ancestors_enough (suc k) (suc j) h n a b = ap (λ (xs : List ℕ). n ∷ xs) (option_map_or-same (ancestors_within k h) (ancestors_within j h) (parent h n) []
     (λ p e. let l : p < n = parent-lt h n p e in ancestors_enough k j h p (omega arith) (omega arith)))
+ancestors_enough _ _ h n a b = let z : n ≡ 0 = omega arith in let e : parent h n ≡ None = rw z (no_parent_of_zero h (parent h 0) refl) in rw e refl
 
 -- n, and then the ancestors of its parent
 pub ancestors_step : (h : List Event) (n : ℕ) → ancestors h n ≡ n ∷ option_map_or (ancestors h) (parent h n) []
 unfolding ancestors
-ancestors_step h n =
-    search (rules, ancestors_enough, option_map_or-same, parent-lt)
+ancestors_step h n = search (rules, ancestors_enough, option_map_or-same, parent-lt)
 
 ancestors_within-append : (k : ℕ) (h t : List Event) (n : ℕ) → n < length h → ancestors_within k (h ++ t) n ≡ ancestors_within k h n
 ancestors_within-append zero h t n l = refl
-ancestors_within-append (suc k) h t n l =
-    rw (parent-append h t n l)
-    (ap (λ (xs : List ℕ). n ∷ xs)
+ancestors_within-append (suc k) h t n l = rw (parent-append h t n l) (ap (λ (xs : List ℕ). n ∷ xs)
     (option_map_or-same (ancestors_within k (h ++ t)) (ancestors_within k h) (parent h n) []
     (λ p e. let s : p < n = parent-lt h n p e in ancestors_within-append k h t p (omega arith))))
 
@@ -75,21 +61,18 @@ ancestors-le h n = ancestors_within-le n h n n (omega arith)
 
 pub parent_within : (h : List Event) (c p : ℕ) → parent h c ≡ Some p → c < length h
 unfolding parent
-parent_within h c p below =
-    search (rules, option_and_then_some, option_and_then, slice_get, slice_get_within)
+parent_within h c p below = search (rules, option_and_then_some, option_and_then, slice_get, slice_get_within)
 
 -- a node with a parent names it
 pub parent_name : (h : List Event) (n p : ℕ) (e : Event) → parent h n ≡ Some p → slice_get h n ≡ Some e → parent_named e ≡ Some p
 unfolding parent
-parent_name h n p e below at_n =
-    search (rules, option_and_then_some, option_and_then, slice_get, cond_some, nat_lt)
+parent_name h n p e below at_n = search (rules, option_and_then_some, option_and_then, slice_get, cond_some, nat_lt)
 
 -- what n is within ---------------------------------------------------------------------------------
 
 -- n is within c where it is c, or its parent is within c
 pub within_cases : (h : List Event) (c n : ℕ) → is_within h c n ≡ true → (c ≡ n) ⊎ ((p : ℕ) × (parent h n ≡ Some p) × (is_within h c p ≡ true))
-within_cases h c n within =
-    search (rules, or_cases, list_any, option_map_or, ancestors_step, false≢true, eqb-true)
+within_cases h c n within = search (rules, or_cases, list_any, option_map_or, ancestors_step, false≢true, eqb-true)
 
 pub within_parent : (h : List Event) (c n p : ℕ) → parent h n ≡ Some p → is_within h c p ≡ true → is_within h c n ≡ true
 within_parent h c n p below above = search (rules, list_any, ancestors_step, or_right)

@@ -1,9 +1,8 @@
 -- What stands at a place of a longer history.
-use Rattle.rx_event.proofs.Laws.Common.{◌≡◌, ℕ, zero, suc, ◌<◌, Bool, true, false, List, [], ◌∷◌, ◌++◌, length, take, drop, Some, refl, sym, ap}
-use Rattle.rx_event.proofs.Laws.Common.{◌∙◌, arith, inl, inr, ◌⊎◌, slice_get, length-append, option_map_or, cases_order, false≢true, slice_get_within}
-use Rattle.rx_event.proofs.Laws.Common.{same_Some, Event, at, common_steps}
-use Rattle.std.proofs.Common.{take-append-drop}
-use Rattle.std.proofs.Common.{rules}
+use Rattle.rx_event.proofs.Laws.Common.{◌≡◌, ℕ, zero, suc, ◌<◌, Bool, true, false, List, [], ◌∷◌, ◌++◌, length, take, drop, Some, refl, sym, ap, ◌∙◌, arith}
+use Rattle.rx_event.proofs.Laws.Common.{inl, inr, ◌⊎◌, slice_get, length-append, option_map_or, cases_order, false≢true, slice_get_within, same_Some, Event, at}
+use Rattle.rx_event.proofs.Laws.Common.{common_steps}
+use Rattle.std.proofs.Common.{take-append-drop, rules}
 
 -- an element stays where it was
 pub slice_get-append : {X : Type 0} (xs ys : List X) (n : ℕ) → n < length xs → slice_get (xs ++ ys) n ≡ slice_get xs n

@@ -1,11 +1,10 @@
 -- Projected items: where they go, and what each FlatMap and Switch owes after one more event.
 use Rattle.rx_event.proofs.Laws.Common.{take, ◌≡◌, ℕ, zero, suc, ◌+◌, ◌-◌, ◌<◌, ◌≤◌, Bool, true, false, List, [], ◌∷◌, ◌++◌, length, Option, Some, None, cond}
-use Rattle.rx_event.proofs.Laws.Common.{refl, sym, ap, ◌∙◌, arith, ◌==◌, slice_get, length-append, ◌&&◌, AllByRecursion, sum_by, count_by}
-use Rattle.rx_event.proofs.Laws.Common.{filter_map, option_and_then, option_map_or, cases_Bool, both_ways, false≢true, and_parts, eqb-true, sum_by_push}
-use Rattle.rx_event.proofs.Laws.Common.{sum_by-cons, slice_get_past, slice_get_within, Kept, shown, Root, Source, Notifier, Kind, Event}
-use Rattle.rx_event.proofs.Laws.Common.{Open, Connect, is_merging, is_until, pays, at, places, parent, is_open, Stop, Delivery, Projection}
-use Rattle.rx_event.proofs.Laws.Common.{Firing, climb, stops, most_visits, moments, projections, owed, is_projection_to, stops_of, MayFollow, IsLawful}
-use Rattle.rx_event.proofs.Laws.Common.{StopsAtOpen, zero_or_zero, option_to_list}
+use Rattle.rx_event.proofs.Laws.Common.{refl, sym, ap, ◌∙◌, arith, ◌==◌, slice_get, length-append, ◌&&◌, AllByRecursion, sum_by, count_by, filter_map}
+use Rattle.rx_event.proofs.Laws.Common.{option_and_then, option_map_or, cases_Bool, both_ways, false≢true, and_parts, eqb-true, sum_by_push, sum_by-cons}
+use Rattle.rx_event.proofs.Laws.Common.{slice_get_past, slice_get_within, Kept, shown, Root, Source, Notifier, Kind, Event, Open, Connect, is_merging, is_until}
+use Rattle.rx_event.proofs.Laws.Common.{pays, at, places, parent, is_open, Stop, Delivery, Projection, Firing, climb, stops, most_visits, moments, projections}
+use Rattle.rx_event.proofs.Laws.Common.{owed, is_projection_to, stops_of, MayFollow, IsLawful, StopsAtOpen, zero_or_zero, option_to_list}
 use Rattle.rx_event.specs.declared.base.BaseNode.{BaseNode}
 use Rattle.rx_event.specs.Climb.{stop_made, stop_at, onward_from, onward, onward_unless, visited}
 use Rattle.rx_event.specs.Moments.{projected_by, is_projection}
@@ -53,8 +52,7 @@ owed_new base h law e =
     let shows = projections (h ++ e ∷ []) (length h) in
     let paid = count_by (pays (length h)) in
     ap (λ k. option_map_or (λ (x : BaseNode). x.owed + paid (shown base) + shows) k shows - paid (h ++ e ∷ []))
-    (law.started.unkept (length h) (shown_within base h law)) ∙
-    omega arith
+    (law.started.unkept (length h) (shown_within base h law)) ∙ omega arith
 
 pays_owed : (base : Kept) → (h : List Event) (e : Event) → MayFollow base h e → (f : ℕ) → pays f e ≡ true → 0 < owed base h f
 pays_owed base h x2 next f same = search (rules, eqb-true, may_open, may_decline, false≢true)
@@ -66,8 +64,7 @@ projected-push base h e f = search (rules, option_map_or, count_by, projections-
 -- no more was paid than was projected
 pub paid-le : (base : Kept) → (h : List Event) → IsLawful base h → (f : ℕ) → count_by (pays f) h ≤ projected_by base h f
 unfolding owed
-paid-le base =
-    by_events base (λ h. (f : ℕ) → count_by (pays f) h ≤ projected_by base h f) (λ s f. s.paid f)
+paid-le base = by_events base (λ h. (f : ℕ) → count_by (pays f) h ≤ projected_by base h f) (λ s f. s.paid f)
     (λ h e law next before f. by_payment h e f (pays f e) (before f) (projected-push base h e f) (sum_by_push (λ (x : Event). cond (pays f x) 1 0) h e)
     (pays_owed base h e next f))
   where
@@ -82,14 +79,12 @@ paid-le base =
 pub owed-push : (base : Kept) → (h : List Event) (e : Event) → IsLawful base h → MayFollow base h e → (f : ℕ) →
     owed base (h ++ e ∷ []) f + cond (pays f e) 1 0 ≡ owed base h f + count_by (is_projection_to f) (stops_of h e)
 unfolding owed
-owed-push base h e law next f =
-    search (rules, paid-le, projected-push, sum_by_push, cond, pays_owed, count_by)
+owed-push base h e law next f = search (rules, paid-le, projected-push, sum_by_push, cond, pays_owed, count_by)
 
 -- an event that neither projects nor pays
 pub owed_kept : (base : Kept) → (h : List Event) (e : Event) (f : ℕ) → stops_of h e ≡ [] → pays f e ≡ false → owed base (h ++ e ∷ []) f ≡ owed base h f
 unfolding owed
-owed_kept base h e f no_stops pays_none =
-    search (rules, projected-push, count_by, sum_by_push, cond)
+owed_kept base h e f no_stops pays_none = search (rules, projected-push, count_by, sum_by_push, cond)
 
 notified : (base : Kept) → (h : List Event) → IsLawful base h → (n u : ℕ) (kind : Kind) → slice_get h n ≡ Some (Open (Notifier u) kind) →
     at is_until (take n h) u ≡ true
@@ -120,10 +115,7 @@ visited_open : (k : ℕ) (h : List Event) (todo : List ℕ) → AllByRecursion (
     AllByRecursion (λ m. is_open h m ≡ true) (visited k h todo)
 visited_open zero h todo open_all = tt
 visited_open (suc k) h [] open_all = tt
-visited_open (suc k) h (n ∷ todo) open_all = (
-  open_all.0,
-  visited_open k h (onward h n ++ todo) (search (rules, AllByRecursion-both, onward_open)),
-)
+visited_open (suc k) h (n ∷ todo) open_all = (open_all.0, visited_open k h (onward h n ++ todo) (search (rules, AllByRecursion-both, onward_open)))
 
 -- what an open leaf's item reaches is open
 pub climb_open : (h : List Event) (l : ℕ) → is_open h l ≡ true → AllByRecursion (λ m. is_open h m ≡ true) (climb h l)
@@ -194,15 +186,11 @@ projected_count h (s ∷ ss) well =
         cond (is_open h n && at is_merging h n) (cond b 1 0) 0 ≡ cond {A = ℕ} b 1 0
     to_one f n well true same =
         let o : is_open h n ≡ true = rw (← eqb-true f n same) well.0 in
-        let m : at is_merging h n ≡ true = rw (← eqb-true f n same) well.1 in
-        rw (o, m) refl
+        let m : at is_merging h n ≡ true = rw (← eqb-true f n same) well.1 in rw (o, m) refl
     to_one f n well false apart = zero_or_zero (is_open h n && at is_merging h n)
 
     by_stop : (s : Stop) → StopsAtOpen h s →
         sum_by (λ n. cond (is_open h n && at is_merging h n) (cond (is_projection_to n s) 1 0) 0) (places h) ≡ cond {A = ℕ} (is_projection s) 1 0
-    by_stop (Projection f) well =
-        sum_by-same (λ n. cond (f == n) 1 0) (λ n. cond (is_open h n && at is_merging h n) (cond (f == n) 1 0) 0) (length h)
-        (λ n l. to_one f n well (f == n) refl) ∙
-        count_by_one f (length h) (is_open_within h f well.0)
-    by_stop (Delivery m) well = sum_by_none _ (length h) (λ n l. zero_or_zero (is_open h n && at is_merging h n))
-    by_stop (Firing u) well = sum_by_none _ (length h) (λ n l. zero_or_zero (is_open h n && at is_merging h n))
+    by_stop (Projection f) well = sum_by-same (λ n. cond (f == n) 1 0) (λ n. cond (is_open h n && at is_merging h n) (cond (f == n) 1 0) 0) (length h)
+        (λ n l. to_one f n well (f == n) refl) ∙ count_by_one f (length h) (is_open_within h f well.0)
+    by_stop _ well = sum_by_none _ (length h) (λ n l. zero_or_zero (is_open h n && at is_merging h n))

@@ -64,21 +64,17 @@ module _ (b d : Kept) (r s : ℕ → ℕ) (h c : List Event) (a : AreRead b d r 
   projection_same : (ss : List Stop) → AllByRecursion (StopsAtOpen h) ss →
       count_by (is_projection_to (r m)) (map (stop_by r) ss) ≡ count_by (is_projection_to m) ss
   projection_same [] all = refl
-  projection_same (t ∷ ss) all =
-      sum_by-cons (λ (x : Stop). cond (is_projection_to (r m) x) 1 0) (stop_by r t) (map (stop_by r) ss) ∙
-      (λ i. cond (one t all.0 i) 1 0 + projection_same ss all.1 i) ∙
-      sym (sum_by-cons (λ (x : Stop). cond (is_projection_to m x) 1 0) t ss)
+  projection_same (t ∷ ss) all = sum_by-cons (λ (x : Stop). cond (is_projection_to (r m) x) 1 0) (stop_by r t) (map (stop_by r) ss) ∙
+      (λ i. cond (one t all.0 i) 1 0 + projection_same ss all.1 i) ∙ sym (sum_by-cons (λ (x : Stop). cond (is_projection_to m x) 1 0) t ss)
     where
       one : (t : Stop) → StopsAtOpen h t → is_projection_to (r m) (stop_by r t) ≡ is_projection_to m t
-      one (Delivery n) stands = refl
       one (Projection f) stands = is_number f stands.0
-      one (Firing u) stands = refl
+      one _ stands = refl
 
   fires_same : (e : Event) → MayFollow b h e → list_any (is_firing_of (r m)) (stops_of c (event_by r e)) ≡ list_any (is_firing_of m) (stops_of h e)
   fires_same x0 next = search (rules, list_any, stops_by, trees_of, may_emit, firing_same, stops_open)
 
-  projects_same : (e : Event) → MayFollow b h e →
-      count_by (is_projection_to (r m)) (stops_of c (event_by r e)) ≡ count_by (is_projection_to m) (stops_of h e)
+  projects_same : (e : Event) → MayFollow b h e → count_by (is_projection_to (r m)) (stops_of c (event_by r e)) ≡ count_by (is_projection_to m) (stops_of h e)
   projects_same x0 next = search (rules, count_by, stops_by, trees_of, may_emit, projection_same, stops_open)
 
 -- an end that stands in the older history ended the source there
@@ -101,8 +97,7 @@ source_older {base} h e law m u l x found =
 
 -- which sources have ended, where the law holds here and the event ends an open node
 pub ended_on : {base : Kept} {r s q t : ℕ → ℕ} {h c : List Event} {e : Event} → IsLawful base h → (a : AreTreesRead r s h c) → GoesOn r s q t h c e →
-    ((n : ℕ) (u : Terminal) → e ≡ End n u → is_open h n ≡ true) →
-    ((m : ℕ) (u : Terminal) → is_open h m ≡ true → SourceEnded h m u → SourceEnded c (r m) u) →
+    ((n : ℕ) (u : Terminal) → e ≡ End n u → is_open h n ≡ true) → ((m : ℕ) (u : Terminal) → is_open h m ≡ true → SourceEnded h m u → SourceEnded c (r m) u) →
     (m : ℕ) (u : Terminal) → is_open (h ++ e ∷ []) m ≡ true → SourceEnded (h ++ e ∷ []) m u → SourceEnded (c ++ event_by r e ∷ []) (q m) u
 ended_on {base} {r} {s} {q} {t} {h} {c} {e} law a goes ends ended m u o x =
     by_where (where_open r s q t h c e a goes m o) (cases_push h e (End x.connection u) x.place x.ended)
@@ -116,8 +111,7 @@ ended_on {base} {r} {s} {q} {t} {h} {c} {e} law a goes ends ended m u o x =
       subscribes = at-append (is_subscriber_of (r x.hub)) c (event_by r e ∷ []) (r m) near ∙
           test_there r s h c a (is_subscriber_of x.hub) (is_subscriber_of (r x.hub)) (subscriber_by r x.hub (r x.hub) refl) m was
           (sym (at-append (is_subscriber_of x.hub) h (e ∷ []) m l) ∙ x.subscribes);
-      connects = slice_get-append c (event_by r e ∷ []) (r n) (is_open_within c (r n) (a.there.alive n alive)) ∙
-          a.there.made n (Connect x.hub) alive
+      connects = slice_get-append c (event_by r e ∷ []) (r n) (is_open_within c (r n) (a.there.alive n alive)) ∙ a.there.made n (Connect x.hub) alive
           (sym (slice_get-append h (e ∷ []) n (is_open_within h n alive)) ∙ ap (slice_get (h ++ e ∷ [])) at_n ∙ x.connects);
       later = near;
       ended = slice_get_last c (event_by r e) ∙ ap (λ (z : Event). Some (event_by r z)) is;
@@ -127,8 +121,7 @@ ended_on {base} {r} {s} {q} {t} {h} {c} {e} law a goes ends ended m u o x =
         SourceEnded (c ++ event_by r e ∷ []) (q m) u
     by_where (is_new last node new back) (inl found) = absurd (let w = slice_get_within h x.place _ found in let l = x.later in omega arith)
     by_where (is_new last node new back) (inr is) = absurd (both_ways (makes_node e) (ap makes_node is) node)
-    by_where (is_old l was number near) (inl found) =
-        subst (λ (n : ℕ). SourceEnded (c ++ event_by r e ∷ []) n u) (sym number)
+    by_where (is_old l was number near) (inl found) = subst (λ (n : ℕ). SourceEnded (c ++ event_by r e ∷ []) n u) (sym number)
         (source_ended-push base c (event_by r e) (r m) u (ended m u was (source_older h e law m u l x found)))
     by_where (is_old l was number near) (inr is) =
         subst (λ (n : ℕ). SourceEnded (c ++ event_by r e ∷ []) n u) (sym number) (now x.connection refl is (ends x.connection u is) l was near)
@@ -154,8 +147,7 @@ module _ (b d : Kept) (r s q t : ℕ → ℕ) (h c : List Event) (e : Event) (a 
         let owes : owed d c (r m) ≡ owed b h m = (λ i. (marks i).owed) in
         let projects = projects_same b d r s h c a m was e next in
         let paid : cond {A = ℕ} (pays (r m) (event_by r e)) 1 0 ≡ cond (pays m e) 1 0 = ap (λ x. cond {A = ℕ} x 1 0) (pays_same b d r s h c a m was e next) in
-        same_marks b
-        (ap (source_opened d C) number ∙ source_opened-push d c (event_by r e) (r m) ∙
+        same_marks b (ap (source_opened d C) number ∙ source_opened-push d c (event_by r e) (r m) ∙
         (λ i. (marks i).source_opened || source_same b d r s h c a m was e next i) ∙ sym (source_opened-push b h e m))
         (ap (notifier_opened d C) number ∙ notifier_opened-push d c (event_by r e) (r m) ∙
         (λ i. (marks i).notifier_opened || notifier_same b d r s h c a m was e next i) ∙ sym (notifier_opened-push b h e m))
@@ -165,8 +157,7 @@ module _ (b d : Kept) (r s q t : ℕ → ℕ) (h c : List Event) (e : Event) (a 
         (λ i. (marks i).source_completed || completes_same b d r s h c a m was e next i) ∙ sym (source_completed-push b h e a.law next m))
         (ap (child_terminal C) number ∙ child_terminal-push d c (event_by r e) a.other_law other (r m) near ∙
         (λ i. option_or (marks i).child_terminal (ends_same b d r s h c a m was e next i)) ∙ sym (child_terminal-push b h e a.law next m l))
-        (ap (owed d C) number ∙ (omega arith))
-        (children_by q t H C trees m o)
+        (ap (owed d C) number ∙ (omega arith)) (children_by q t H C trees m o)
 
   read_on : AreTreesRead q t H C → IsRead b d q t H C
   read_on trees = record {
@@ -185,8 +176,7 @@ pub trees_on : {r s q t : ℕ → ℕ} {h c : List Event} {e : Event} → AreTre
     AreTreesRead q t (h ++ e ∷ []) (c ++ event_by r e ∷ [])
 trees_on {r} {s} {q} {t} {h} {c} {e} a goes back = record {
   there = tree_on r s q t h c e a goes;
-  back = subst (λ (y : Event). IsTreeRead t q (c ++ event_by r e ∷ []) (h ++ y ∷ [])) goes.same
-      (tree_on s r t q c h (event_by r e) (trees_back a) back);
+  back = subst (λ (y : Event). IsTreeRead t q (c ++ event_by r e ∷ []) (h ++ y ∷ [])) goes.same (tree_on s r t q c h (event_by r e) (trees_back a) back);
   below = below_on r s q t h c e a goes;
 }
 
@@ -221,8 +211,7 @@ goes_on {b} {d} {r} {s} {q} {t} {h} {c} {e} a next other same older older_back n
 pub renumbered_on : {b d : Kept} {r s q t : ℕ → ℕ} {h c : List Event} {e : Event} → AreRead b d r s h c → MayFollow b h e →
     MayFollow d c (event_by r e) → event_by s (event_by r e) ≡ e → ((k : ℕ) → k < length h → q k ≡ r k) → ((k : ℕ) → k < length c → t k ≡ s k) →
     (is_named e ≡ true → (q (length h) ≡ length c) × (t (length c) ≡ length h)) →
-    (is_named (event_by r e) ≡ true → (t (length c) ≡ length h) × (q (length h) ≡ length c)) →
-    AreRead b d q t (h ++ e ∷ []) (c ++ event_by r e ∷ [])
+    (is_named (event_by r e) ≡ true → (t (length c) ≡ length h) × (q (length h) ≡ length c)) → AreRead b d q t (h ++ e ∷ []) (c ++ event_by r e ∷ [])
 renumbered_on {b} {d} {r} {s} {q} {t} {h} {c} {e} a next other same older older_back newest newest_back =
     read_after a next other (goes_on a next other same older older_back newest)
     (goes_on (read_back a) other (subst (λ (y : Event). MayFollow b h y) (sym same) next) (ap (event_by r) same) older_back older newest_back)

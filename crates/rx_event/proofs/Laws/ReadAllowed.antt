@@ -87,8 +87,7 @@ module _ (b d : Kept) (r s : ℕ → ℕ) (h c : List Event) (m : MayAlike b d r
       let less : g < s k = ordered (s n) (s k) here (m.trees.back.made n (Connect k) up connects) in
       let other = hub_back k (m.connects n k connects) in
       let grows : r g < r (s k) = m.hub_order g (s k) hub other.0 less in
-      let same : r (s k) ≡ k = other.1 in
-      omega arith
+      let same : r (s k) ≡ k = other.1 in omega arith
 
   pub hubbed_by : (place : Place) (kind : Kind) → IsFree b h place → IsHubbed h place kind → IsHubbed c (place_by r place) (kind_by r kind)
   hubbed_by place (Sub g) free hubbed = (hub_there g hubbed.0, by_place place free hubbed.1) where
@@ -175,8 +174,7 @@ waits_by {b} {d} {r} {s} {h} {c} m law other_law ended place kind free hubbed g 
 -- what is allowed there ---------------------------------------------------------------------------------------------------------------------
 
 pub allowed_by : {b d : Kept} {r s : ℕ → ℕ} {h c : List Event} → MayAlike b d r s h c → IsLawful b h → IsLawful d c →
-    ((n : ℕ) (t : Terminal) → is_open h n ≡ true → SourceEnded h n t → SourceEnded c (r n) t) → {e : Event} → IsAllowed b h e →
-    IsAllowed d c (event_by r e)
+    ((n : ℕ) (t : Terminal) → is_open h n ≡ true → SourceEnded h n t → SourceEnded c (r n) t) → {e : Event} → IsAllowed b h e → IsAllowed d c (event_by r e)
 allowed_by {b} {d} {r} {s} {h} {c} m law other_law ended may = by_case may where
   few : (n : ℕ) → length (open_nodes h) + n ≤ most_nodes → length (open_nodes c) + n ≤ most_nodes
   few n less = let same = open_total b d r s h c m in omega arith
@@ -186,10 +184,8 @@ allowed_by {b} {d} {r} {s} {h} {c} m law other_law ended may = by_case may where
       opened (free_by b d r s h c m place free) (hubbed_by b d r s h c m place kind free hubbed) (few 1 room)
       (λ g x. let w = waits_by m law other_law ended place kind free hubbed g x in few 2 (more w.0 w.1))
   by_case (published room) = published (let same = m.hub_total in omega arith)
-  by_case (connected {g = g} manual none room) =
-      connected (manual_there b d r s h c m g manual)
-      (unconnected_by r s h c m.trees g (m.trees.there.hub_undone g Manual (manual_hub h g manual)) none)
-      (let same = open_total b d r s h c m in omega arith)
+  by_case (connected {g = g} manual none room) = connected (manual_there b d r s h c m g manual)
+      (unconnected_by r s h c m.trees g (m.trees.there.hub_undone g Manual (manual_hub h g manual)) none) (let same = open_total b d r s h c m in omega arith)
   by_case (accepted {n = n} o) = accepted (alive b d r s h c m n o)
   by_case (used {r = q} held) = used (m.held q held)
   by_case (removed {r = q} owned) = removed (m.owned q owned)

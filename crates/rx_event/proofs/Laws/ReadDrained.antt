@@ -53,8 +53,7 @@ out_take : (h : List Event) (q l : ℕ) → l < length h → is_out (h ++ Take q
 out_take h q l less = is_out-push h (Take q) l less ∙ and_true (is_out h l)
 
 counts_take : (p : Event → Bool) (h : List Event) (q : ℕ) → p (Take q) ≡ false → count_by p (h ++ Take q ∷ []) ≡ count_by p h
-counts_take p h q fails =
-    search (rules, count_by, cond, sum_by_push)
+counts_take p h q fails = search (rules, count_by, cond, sum_by_push)
 
 accepted_take : (base : Kept) → (h : List Event) (q : ℕ) → accepted_count base (h ++ Take q ∷ []) ≡ accepted_count base h
 accepted_take base h q = search (rules, count_by, counts_take)
@@ -187,9 +186,8 @@ taken_where base h law p made waits = by_test (is_held h p) refl (is_taken h p) 
   by_test : (held : Bool) → is_held h p ≡ held → (taken : Bool) → is_taken h p ≡ taken →
       (at makes_resource h p && not (is_held h p) && not (is_taken h p)) ≡ (true && not (is_held h p) && not (is_taken h p)) → taken ≡ not held
   by_test true holds true is same = absurd (both_ways (is_taken h p) (held_not_taken base h law p holds) is)
-  by_test true holds false is same = refl
-  by_test false holds true is same = refl
   by_test false holds false is same = absurd (false≢true (sym waits ∙ same ∙ (λ i. true && not (holds i) && not (is i))))
+  by_test _ holds _ is same = refl
 
 module _ (base : Kept) (r s : ℕ → ℕ) (k j : List Event) (b : SameBut base r s k j) (none : waiting_resources k ≡ [])
     (none_there : waiting_resources j ≡ []) where
@@ -198,8 +196,7 @@ module _ (base : Kept) (r s : ℕ → ℕ) (k j : List Event) (b : SameBut base 
       let w = resource_made k p made in ap (λ (x : Option Event). option_map_or makes_resource x false) (b.shown.kept p (Accept w.0 w.1) refl w.2)
 
   taken_same : (p : ℕ) → at makes_resource k p ≡ true → is_taken j (r p) ≡ is_taken k p
-  taken_same p made =
-      taken_where base j b.numbers.other_law (r p) (made_there p made) (none_waiting j none_there (r p)) ∙ ap not (b.shown.held p made) ∙
+  taken_same p made = taken_where base j b.numbers.other_law (r p) (made_there p made) (none_waiting j none_there (r p)) ∙ ap not (b.shown.held p made) ∙
       sym (taken_where base k b.numbers.law p made (none_waiting k none p))
 
 held_back : (base : Kept) → (r s : ℕ → ℕ) (k j : List Event) (b : SameBut base r s k j) (p : ℕ) → is_held j p ≡ true → (is_held k (s p) ≡ true) × (r (s p) ≡ p)
@@ -220,17 +217,13 @@ held_lists base r s k j b = same_list r s (is_held k) (is_held j) (length k) (le
 taken_totals : (base : Kept) → (r s : ℕ → ℕ) (k j : List Event) (b : SameBut base r s k j) → waiting_resources k ≡ [] → waiting_resources j ≡ [] →
     taken_count base j ≡ taken_count base k
 taken_totals base r s k j b none none_there =
-    let held : held_count j ≡ held_count k =
-    sym (length-filter (is_held j) (places j)) ∙
-    ap length (held_lists base r s k j b) ∙
-    length-map (held_resources k) r ∙
-    length-filter (is_held k) (places k) in
+    let held : held_count j ≡ held_count k = sym (length-filter (is_held j) (places j)) ∙ ap length (held_lists base r s k j b) ∙
+    length-map (held_resources k) r ∙ length-filter (is_held k) (places k) in
     let one : waiting_count k ≡ 0 = sym (length-filter (is_waiting k) (places k)) ∙ ap length none in
     let other : waiting_count j ≡ 0 = sym (length-filter (is_waiting j) (places j)) ∙ ap length none_there in
     let parts = accepted_count-parts base k b.numbers.law in
     let parts_there = accepted_count-parts base j b.numbers.other_law in
-    let total = b.shown.accepted_total in
-    omega arith
+    let total = b.shown.accepted_total in omega arith
 
 shown_again : (base : Kept) → (r s : ℕ → ℕ) (k j : List Event) (b : SameBut base r s k j) → waiting_resources k ≡ [] → waiting_resources j ≡ [] →
     IsShown base r s k j
@@ -267,12 +260,10 @@ but base shown = record {
 
 -- Two drains, in whatever orders
 pub drained_same : {base : Kept} → {r s : ℕ → ℕ} {h : List Event} (c k j : List Event) → AreSameBy base r s h c → TakesOn base h k → waiting_resources k ≡ [] →
-    TakesOn base c j → waiting_resources j ≡ [] →
-    AreSameBy base r s k j
+    TakesOn base c j → waiting_resources j ≡ [] → AreSameBy base r s k j
 drained_same {base} {r} {s} c k j a on_k none on_j none_there =
     record { numbers = b.numbers; shown = shown_again base r s k j b none none_there; shown_back = shown_again base s r j k (swapped base b) none_there none }
   where
     b : SameBut base r s k j
-    b =
-        swapped base (takes_left base on_j
+    b = swapped base (takes_left base on_j
         (swapped base (takes_left base on_k (record { numbers = a.numbers; shown = but base a.shown; shown_back = but base a.shown_back }))))

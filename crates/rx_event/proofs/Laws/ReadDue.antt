@@ -1,10 +1,9 @@
 -- What is due in a history is due in one that is the same but for its numbers.
-use Rattle.rx_event.proofs.Laws.Common.{arith, ◌≡◌, ℕ, Bool, true, false, List, [], Option, Some, map, slice_get, refl, ap, subst, ◌∙◌}
-use Rattle.rx_event.proofs.Laws.Common.{option_map_or, false≢true, same_Some, none-some, Terminal, Completed, Error, Kept, Place, Sub, Auto, Event, Open, Hub}
-use Rattle.rx_event.proofs.Laws.Common.{Connect, End, is_mirroring, is_merging, is_until, is_auto_hub, is_subscriber_of, at, is_open, open_subscribers}
-use Rattle.rx_event.proofs.Laws.Common.{open_connections, mirrored, fired, failed, completed, cut, left, connecting, due, SourceEnded, IsDue, IsForced}
-use Rattle.rx_event.proofs.Laws.Common.{IsConnectDue, IsConnected, IsSettled, marks_of, event_by, AreRead, option_map, Marks, terminal_due, IsRead}
-use Rattle.rx_event.proofs.Laws.Common.{AreRenumbered}
+use Rattle.rx_event.proofs.Laws.Common.{arith, ◌≡◌, ℕ, Bool, true, false, List, [], Option, Some, map, slice_get, refl, ap, subst, ◌∙◌, option_map_or}
+use Rattle.rx_event.proofs.Laws.Common.{false≢true, same_Some, none-some, Terminal, Completed, Error, Kept, Place, Sub, Auto, Event, Open, Hub, Connect, End}
+use Rattle.rx_event.proofs.Laws.Common.{is_mirroring, is_merging, is_until, is_auto_hub, is_subscriber_of, at, is_open, open_subscribers, open_connections}
+use Rattle.rx_event.proofs.Laws.Common.{mirrored, fired, failed, completed, cut, left, connecting, due, SourceEnded, IsDue, IsForced, IsConnectDue, IsConnected}
+use Rattle.rx_event.proofs.Laws.Common.{IsSettled, marks_of, event_by, AreRead, option_map, Marks, terminal_due, IsRead, AreRenumbered}
 use Rattle.rx_event.proofs.Laws.Openness.{is_open_within}
 use Rattle.rx_event.proofs.Laws.Lawful.{due_open}
 use Rattle.rx_event.proofs.Laws.Steps.{named_below}
@@ -22,8 +21,7 @@ terminal_due_by r e m = grind arith
 -- no node of another sort is a subscriber
 subscribes_only : (q : Event → Bool) → ((place : Place) (g : ℕ) → q (Open place (Sub g)) ≡ false) → (h : List Event) (n g : ℕ) → at q h n ≡ true →
     at (is_subscriber_of g) h n ≡ true → ⊥
-subscribes_only q other h n g holds subscribes =
-    search (rules, subscriber_found, slice_get, false≢true, option_map_or)
+subscribes_only q other h n g holds subscribes = search (rules, subscriber_found, slice_get, false≢true, option_map_or)
 
 ended_by : (n : ℕ) (o : Option Terminal) (t : Terminal) → option_map (λ u. End n u) o ≡ Some (End n t) → o ≡ Some t
 ended_by n x1 t same = search (rules, none-some, same_Some)
@@ -64,8 +62,7 @@ module _ (r s : ℕ → ℕ) (h c : List Event) (a : AreTreesRead r s h c) where
     subscriber = r d.subscriber;
     subscribes = test_there r s h c a (is_subscriber_of g) (is_subscriber_of (r g)) (subscriber_by r g (r g) refl) d.subscriber d.subscribed d.subscribes;
     subscribed = a.there.alive d.subscriber d.subscribed;
-    waits = λ t x.
-        d.waits t (subst (λ (n : ℕ). SourceEnded h n t) (a.there.undone d.subscriber d.subscribed)
+    waits = λ t x. d.waits t (subst (λ (n : ℕ). SourceEnded h n t) (a.there.undone d.subscriber d.subscribed)
         (ended (r d.subscriber) t (a.there.alive d.subscriber d.subscribed) x));
     unconnected = unconnected_by g (auto_undone g d.auto) d.unconnected;
   }
@@ -88,8 +85,7 @@ module _ (b d : Kept) (r s : ℕ → ℕ) (h c : List Event) (a : AreRead b d r 
   due_read (failed {f = n} {c = code} o m child) = by_marks n (Error code) (λ g. subscribes_only is_merging (λ place k. refl) h n g m) (failed o m child)
   due_read (completed {f = n} o m x q below w) = by_marks n Completed (λ g. subscribes_only is_merging (λ place k. refl) h n g m) (completed o m x q below w)
   due_read (cut {s = n} {t = t} o x) = cut (a.there.alive n o) (a.there.ended n t o x)
-  due_read (left {c = n} {g = g} o at_n auto none) =
-      left (a.there.alive n o) (a.there.made n (Connect g) o at_n) (auto_read r s h c (trees_of a) g auto)
+  due_read (left {c = n} {g = g} o at_n auto none) = left (a.there.alive n o) (a.there.made n (Connect g) o at_n) (auto_read r s h c (trees_of a) g auto)
       (unsubscribed_by r s h c (trees_of a) g (auto_undone r s h c (trees_of a) g auto) none)
 
 -- what is forced ------------------------------------------------------------------------------------------

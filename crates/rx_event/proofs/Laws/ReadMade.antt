@@ -58,21 +58,18 @@ may_hub base {h} {place} next g is = (may_subscribe base (subst (λ (k : Kind). 
 
 -- an event that may follow names older numbers alone
 pub event_by_below : (base : Kept) → (r q : ℕ → ℕ) (h : List Event) (e : Event) → ((k : ℕ) → k < length h → q k ≡ r k) → MayFollow base h e →
-    makes_node e ≡ true →
-    event_by q e ≡ event_by r e
+    makes_node e ≡ true → event_by q e ≡ event_by r e
 event_by_below base r q h (Open place kind) same next node = near_open r q h place kind same (λ p named. may_name base next named) (may_hub base next)
 event_by_below base r q h (Connect g) same next node = ap Connect (same g (at_within makes_hub h g (may_connect_hub base next)))
 event_by_below base r q h _ same next node = absurd (false≢true node)
 
 -- and so does an event that stands in a lawful history
 place_below : {base : Kept} → (r q : ℕ → ℕ) (h : List Event) (n : ℕ) {p : Place} {kind : Kind} → Started base → ((k : ℕ) → k < length h → q k ≡ r k) →
-    n < length h →
-    slice_get (shown base) n ≡ Some (Open p kind) → place_by q p ≡ place_by r p
+    n < length h → slice_get (shown base) n ≡ Some (Open p kind) → place_by q p ≡ place_by r p
 place_below {base} r q h n {p} {kind} started same l found = search (rules, take, is_open_within, slice_get_within, length-take-le, slice_get)
 
 pub names_below : {base : Kept} → (r q : ℕ → ℕ) {h : List Event} (n : ℕ) (e : Event) → IsLawful base h → ((k : ℕ) → k < length h → q k ≡ r k) →
-    slice_get h n ≡ Some e → makes_node e ≡ true →
-    event_by q e ≡ event_by r e
+    slice_get h n ≡ Some e → makes_node e ≡ true → event_by q e ≡ event_by r e
 names_below {base} r q {h} n e law same at_n node = by_case (found_at base h law n e at_n) where
   l : n < length h
   l = slice_get_within h n e at_n

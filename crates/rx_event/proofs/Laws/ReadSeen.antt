@@ -22,9 +22,6 @@ pub same_back : (base : Kept) → {r s : ℕ → ℕ} {h c : List Event} → Are
 same_back base a = record { numbers = renumbered_back base a.numbers; shown = a.shown_back; shown_back = a.shown }
 
 module _ (base : Kept) (r s : ℕ → ℕ) (h c : List Event) (a : AreSameBy base r s h c) where
-  trees : AreTreesRead r s h c
-  trees = trees_of a.numbers
-
   open_same : (n : ℕ) → at makes_node h n ≡ true → is_open c (r n) ≡ is_open h n
   open_same n node = same_test (is_open c (r n)) (is_open h n)
       (λ o. ap (is_open h) (sym (a.shown.apart n (made_at makes_node is_named node_named h n node))) ∙ a.numbers.back.alive (r n) o) (a.numbers.there.alive n)
@@ -34,8 +31,7 @@ module _ (base : Kept) (r s : ℕ → ℕ) (h c : List Event) (a : AreSameBy bas
       let w = list_any_found (is_open_child_of h n) (places h) found in
       let parts = and_parts (is_open h w.1) (is_child_of h n w.1) w.3 in
       let alive : is_open c (r w.1) ≡ true = a.numbers.there.alive w.1 parts.0 in
-      let below : parent c (r w.1) ≡ Some (r n) =
-      parent_there r s h c trees w.1 n parts.0 (is_child_parent h n w.1 parts.1) in
+      let below : parent c (r w.1) ≡ Some (r n) = parent_there r s h c (trees_of a.numbers) w.1 n parts.0 (is_child_parent h n w.1 parts.1) in
       list_any_holds (is_open_child_of c (r n)) (places c) (r w.1) (r w.1) (place_get c (r w.1) (is_open_within c (r w.1) alive))
       (and_from _ _ alive (parent_is_child c (r n) (r w.1) below))
 
@@ -63,8 +59,7 @@ children_same base r s h c a n o = same_test (has_open_child c (r n)) (has_open_
 
 ordered_back : {base : Kept} {r s : ℕ → ℕ} {h c : List Event} → AreSameBy base r s h c → (g p : ℕ) → at makes_hub h g ≡ true → is_open h p ≡ true →
     IsInOrderAt c (r g) (r p) → IsInOrderAt h g p
-ordered_back {base} {r} {s} {h} {c} a g p hub o ordered =
-    subst (λ (i : ℕ). IsInOrderAt h i p) (undone_hub base r s h c a g hub)
+ordered_back {base} {r} {s} {h} {c} a g p hub o ordered = subst (λ (i : ℕ). IsInOrderAt h i p) (undone_hub base r s h c a g hub)
     (subst (λ (n : ℕ). IsInOrderAt h (s (r g)) n) (a.numbers.there.undone p o)
     (in_order_by base base s r c h (same_may base (same_back base a)) (r g) (r p) (hub_there base base r s h c (same_may base a) g hub)
     (a.numbers.there.alive p o) ordered))
@@ -98,10 +93,7 @@ callers_see base r s h c a = record {
   waiting = waiting_same base r s h c a;
   nodes = opens_by r s h c (trees_of a.numbers);
   all_hubs = hubs_read base r s h c a;
-  open_total =
-      sym (length-filter (is_open c) (places c)) ∙
-      ap length (opens_by r s h c (trees_of a.numbers)) ∙
-      length-map (open_nodes h) r ∙
+  open_total = sym (length-filter (is_open c) (places c)) ∙ ap length (opens_by r s h c (trees_of a.numbers)) ∙ length-map (open_nodes h) r ∙
       length-filter (is_open h) (places h);
   hub_total = (same_may base a).hub_total;
 }

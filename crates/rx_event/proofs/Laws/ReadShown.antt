@@ -31,15 +31,13 @@ use Rattle.std.proofs.Common.{rules}
 -- no number past the end was told anything ------------------------------------------------------------------------------------
 
 notes_past : (base : Kept) → (h : List Event) → IsLawful base h → (n : ℕ) → length h ≤ n → notes_to h n ≡ []
-notes_past base =
-    by_events base (λ h. (n : ℕ) → length h ≤ n → notes_to h n ≡ []) (λ started n l. ap (notes_in n) (made_untold (shown base) started.making))
+notes_past base = by_events base (λ h. (n : ℕ) → length h ≤ n → notes_to h n ≡ []) (λ started n l. ap (notes_in n) (made_untold (shown base) started.making))
     (λ h e law next before n l.
     let past : length h ≤ n = omega (arith, length-append h (e ∷ [])) in
     notes_to-push h e n ∙ (λ i. before n past i ++ (mail_silent base) h e law next n (is_open_past h n past) i))
 
 notes_new : (base : Kept) → (h : List Event) (e : Event) → IsLawful base h → MayFollow base h e → notes_to (h ++ e ∷ []) (length h) ≡ []
-notes_new base h e law next =
-    notes_to-push h e (length h) ∙
+notes_new base h e law next = notes_to-push h e (length h) ∙
     (λ i. notes_past base h law (length h) (omega arith) i ++ (mail_silent base) h e law next (length h) (is_open_past h (length h) (omega arith)) i)
 
 pub root_by : (r : ℕ → ℕ) (e : Event) → is_root (event_by r e) ≡ is_root e
@@ -87,13 +85,11 @@ named_by_below base r q h _ same next named = absurd (false≢true named)
 
 -- and so does an event that stands in a lawful history
 stands_below : {base : Kept} → (r q : ℕ → ℕ) {h : List Event} (n : ℕ) (e : Event) → IsLawful base h → ((k : ℕ) → k < length h → q k ≡ r k) →
-    slice_get h n ≡ Some e → is_named e ≡ true →
-    event_by q e ≡ event_by r e
+    slice_get h n ≡ Some e → is_named e ≡ true → event_by q e ≡ event_by r e
 stands_below r q n (Open place kind) law same at_n named = names_below r q n (Open place kind) law same at_n refl
 stands_below r q n (Connect g) law same at_n named = names_below r q n (Connect g) law same at_n refl
 stands_below r q n (Hub mode) law same at_n named = refl
-stands_below {base} r q {h} n (Accept m tag) law same at_n named =
-    ap (λ k. Accept k tag)
+stands_below {base} r q {h} n (Accept m tag) law same at_n named = ap (λ k. Accept k tag)
     (same m (let w = node_of-lt base h law n m (ap (option_and_then node_of_accept) at_n) in let l = slice_get_within h n _ at_n in omega arith))
 stands_below {base} r q {h} n (Lease m) law same at_n named =
     ap Lease (same m (let w = lease_older base h law n m at_n in let l = slice_get_within h n _ at_n in omega arith))
@@ -116,12 +112,10 @@ module _ (base : Kept) (r s : ℕ → ℕ) (h c : List Event) (a : AreRenumbered
       notes_in (r n) (filter_map (told k v) (map (stop_by r) ss)) ≡ notes_in n (filter_map (told l v) ss)
   items_told l k v n named [] all = refl
   items_told l k v n named (Firing u ∷ ss) all = items_told l k v n named ss all.1
-  items_told l k v n named (Delivery m ∷ ss) all =
-      noted_to (r n) (r m) k (Next v) (filter_map (told k v) (map (stop_by r) ss)) ∙
+  items_told l k v n named (Delivery m ∷ ss) all = noted_to (r n) (r m) k (Next v) (filter_map (told k v) (map (stop_by r) ss)) ∙
       (λ i. noted (apart_named m n (open_named m all.0.0) named i) (Next v) (items_told l k v n named ss all.1 i)) ∙
       sym (noted_to n m l (Next v) (filter_map (told l v) ss))
-  items_told l k v n named (Projection f ∷ ss) all =
-      noted_to (r n) (r f) k (Project v) (filter_map (told k v) (map (stop_by r) ss)) ∙
+  items_told l k v n named (Projection f ∷ ss) all = noted_to (r n) (r f) k (Project v) (filter_map (told k v) (map (stop_by r) ss)) ∙
       (λ i. noted (apart_named f n (open_named f all.0.0) named i) (Project v) (items_told l k v n named ss all.1 i)) ∙
       sym (noted_to n f l (Project v) (filter_map (told l v) ss))
 
@@ -131,8 +125,7 @@ module _ (base : Kept) (r s : ℕ → ℕ) (h c : List Event) (a : AreRenumbered
       items_told (length h) (length c) v n named (stops h l) (stops_open base h l a.law (may_emit base next))
   mail_same (End m t) next n named =
       ap (λ b. notes_in (r n) (cond b ((record { place = length c; to = r m; note = EndNote t }) ∷ []) [])) (same_at r s h c (trees_of a) is_root
-      (root_by r) m (may_end base next)) ∙
-      by_root (at is_root h m)
+      (root_by r) m (may_end base next)) ∙ by_root (at is_root h m)
     where
       by_root : (b : Bool) → notes_in (r n) (cond b ((record { place = length c; to = r m; note = EndNote t }) ∷ []) []) ≡
           notes_in n (cond b ((record { place = length h; to = m; note = EndNote t }) ∷ []) [])
@@ -140,7 +133,6 @@ module _ (base : Kept) (r s : ℕ → ℕ) (h c : List Event) (a : AreRenumbered
       by_root true =
           noted_to (r n) (r m) (length c) (EndNote t) [] ∙ ap (λ b. noted b (EndNote t) []) (apart_named m n (open_named m (may_end base next)) named) ∙
           sym (noted_to n m (length h) (EndNote t) [])
-  mail_same (Open place kind) next n named = refl
   mail_same _ next n named = refl
 
 makes_resource_by : (r : ℕ → ℕ) (e : Event) → makes_resource (event_by r e) ≡ makes_resource e
@@ -221,20 +213,13 @@ module _ (base : Kept) (r s q t : ℕ → ℕ) (h c : List Event) (e : Event) (a
     by_where : WhereStands is_named m → WhereStands is_named n → q m < q n
     by_where (stands_last same is) (stands_last too are) = absurd (omega arith)
     by_where (stands_last same is) (stood k was) = absurd (omega arith)
-    by_where (stood k was) (stands_last same is) =
-        let new : q n ≡ length c = ap q same ∙ (newest is).0 in
-        rw (older m k, new) (near m was)
+    by_where (stood k was) (stands_last same is) = let new : q n ≡ length c = ap q same ∙ (newest is).0 in rw (older m k, new) (near m was)
     by_where (stood k was) (stood j were) = rw (older m k, older n j) (sh.in_order m n was were l)
-
-  open_both : (n : ℕ) → at makes_node H n ≡ true → is_open C (q n) ≡ is_open H n
-  open_both n node = same_test (is_open C (q n)) (is_open H n)
-      (λ o. sym (ap (is_open H) (apart_on n (made_at makes_node is_named node_named H n node))) ∙ after.back.alive (q n) o) (after.there.alive n)
 
   told_on : (n : ℕ) → at makes_node H n ≡ true → notes_to C (q n) ≡ notes_to H n
   told_on n node = by_where (where_stands makes_node n node) where
     by_where : WhereStands makes_node n → notes_to C (q n) ≡ notes_to H n
-    by_where (stood l was) =
-        ap (notes_to C) (older n l) ∙ notes_to-push c (event_by r e) (r n) ∙
+    by_where (stood l was) = ap (notes_to C) (older n l) ∙ notes_to-push c (event_by r e) (r n) ∙
         (λ i. sh.told n was i ++ (mail_same base) r s h c a sh e next n (made_at makes_node is_named node_named h n was) i) ∙ sym (notes_to-push h e n)
     by_where (stands_last same is) =
         ap (λ k. notes_to C (q k)) same ∙ ap (notes_to C) (newest (node_named e is)).0 ∙ notes_new base c (event_by r e) a.other_law other ∙
@@ -248,21 +233,18 @@ module _ (base : Kept) (r s q t : ℕ → ℕ) (h c : List Event) (e : Event) (a
   removes_same p made = by_event e next where
     by_event : (x : Event) → MayFollow base h x → is_remove_of (r p) (event_by r x) ≡ is_remove_of p x
     by_event (Remove k) next = apart_named base r s h c a sh k p (resource_at k (owned_resource h k (may_remove base next))) (resource_at p made)
-    by_event (Open place kind) next = refl
     by_event _ next = refl
 
   takes_same : (p : ℕ) → at makes_resource h p ≡ true → is_take_of (r p) (event_by r e) ≡ is_take_of p e
   takes_same p made = by_event e next where
     by_event : (x : Event) → MayFollow base h x → is_take_of (r p) (event_by r x) ≡ is_take_of p x
     by_event (Take k) next = apart_named base r s h c a sh k p (resource_at k (waiting_parts h k (may_take base next)).0) (resource_at p made)
-    by_event (Open place kind) next = refl
     by_event _ next = refl
 
   leases_same : (p : ℕ) → at makes_resource h p ≡ true → is_lease_of (r p) (event_by r e) ≡ is_lease_of p e
   leases_same p made = by_event e next where
     by_event : (x : Event) → MayFollow base h x → is_lease_of (r p) (event_by r x) ≡ is_lease_of p x
     by_event (Lease k) next = apart_named base r s h c a sh k p (resource_at k (owned_resource h k (may_lease base next))) (resource_at p made)
-    by_event (Open place kind) next = refl
     by_event _ next = refl
 
   lease_there : (l : ℕ) → at makes_lease h l ≡ true → at is_named h l ≡ true
@@ -272,14 +254,12 @@ module _ (base : Kept) (r s q t : ℕ → ℕ) (h c : List Event) (e : Event) (a
   returns_same l made = by_event e next where
     by_event : (x : Event) → MayFollow base h x → is_return_of (r l) (event_by r x) ≡ is_return_of l x
     by_event (Return k) next = apart_named base r s h c a sh k l (lease_there k (out_lease h k (may_return base next))) (lease_there l made)
-    by_event (Open place kind) next = refl
     by_event _ next = refl
 
   uses_same : (p : ℕ) → at makes_resource h p ≡ true → is_use_of (r p) (event_by r e) ≡ is_use_of p e
   uses_same p made = by_event e next where
     by_event : (x : Event) → MayFollow base h x → is_use_of (r p) (event_by r x) ≡ is_use_of p x
     by_event (Use k) next = apart_named base r s h c a sh k p (resource_at k (held_resource h k (may_use base next))) (resource_at p made)
-    by_event (Open place kind) next = refl
     by_event _ next = refl
 
   -- a resource is no node
@@ -288,12 +268,12 @@ module _ (base : Kept) (r s q t : ℕ → ℕ) (h c : List Event) (e : Event) (a
       false_from_ne_true (is_open k p) (λ o. false≢true (sym (ap (λ (x : Option Event). option_map_or makes_node x false) at_p) ∙ open_node k p o))
 
   open_there : (p n tag : ℕ) → p < length h → slice_get h p ≡ Some (Accept n tag) → (n ≡ p) ⊎ (at makes_node h n ≡ true) → is_open C (q n) ≡ is_open H n
-  open_there p n tag l at_p (inr node) = open_both n (at-append makes_node h (e ∷ []) n (at_within makes_node h n node) ∙ node)
+  open_there p n tag l at_p (inr node) = (same_test (is_open C (q n)) (is_open H n) (λ o. sym (ap (is_open H) (apart_on n
+      (made_at makes_node is_named node_named H n (at-append makes_node h (e ∷ []) n (at_within makes_node h n node) ∙ node)))) ∙
+      after.back.alive (q n) o) (after.there.alive n))
   open_there p n tag l at_p (inl same) =
       let here : slice_get H p ≡ Some (Accept n tag) = slice_get-append h (e ∷ []) p l ∙ at_p in
-      ap (λ k. is_open C (q k)) same ∙
-      not_open C (q p) (q n) tag (kept_old p (Accept n tag) refl at_p) ∙
-      sym (not_open H p n tag here) ∙
+      ap (λ k. is_open C (q k)) same ∙ not_open C (q p) (q n) tag (kept_old p (Accept n tag) refl at_p) ∙ sym (not_open H p n tag here) ∙
       ap (is_open H) (sym same)
 
   owned_on : (p : ℕ) → at makes_resource H p ≡ true → is_owned C (q p) ≡ is_owned H p
@@ -301,8 +281,7 @@ module _ (base : Kept) (r s q t : ℕ → ℕ) (h c : List Event) (e : Event) (a
     by_where : WhereStands makes_resource p → is_owned C (q p) ≡ is_owned H p
     by_where (stands_last same is) =
         ap (λ k. is_owned C (q k)) same ∙ ap (is_owned C) (newest (resource_named e is)).0 ∙ is_owned_new base c (event_by r e) a.other_law other ∙
-        makes_resource_by r e ∙
-        sym (is_owned_new base h e a.law next) ∙ ap (is_owned H) (sym same)
+        makes_resource_by r e ∙ sym (is_owned_new base h e a.law next) ∙ ap (is_owned H) (sym same)
     by_where (stood l was) =
         let w : (n : ℕ) × (tag : ℕ) × (slice_get h p ≡ Some (Accept n tag)) = resource_made h p was in
         let there : slice_get c (r p) ≡ Some (Accept (r w.0) w.1) = sh.kept p (Accept w.0 w.1) refl w.2 in
@@ -336,8 +315,7 @@ module _ (base : Kept) (r s q t : ℕ → ℕ) (h c : List Event) (e : Event) (a
     by_where : WhereStands makes_resource p → leases_of C (q p) ≡ leases_of H p
     by_where (stands_last same is) =
         ap (λ k. leases_of C (q k)) same ∙ ap (leases_of C) (newest (resource_named e is)).0 ∙ leases_of_new base c (event_by r e) a.other_law
-        (makes_resource_by r e ∙ is) ∙
-        sym (leases_of_new base h e a.law is) ∙ ap (leases_of H) (sym same)
+        (makes_resource_by r e ∙ is) ∙ sym (leases_of_new base h e a.law is) ∙ ap (leases_of H) (sym same)
     by_where (stood l was) = ap (leases_of C) (older p l) ∙ by_return (is_return e) refl was
 
   -- the same leases are out
@@ -390,16 +368,12 @@ module _ (base : Kept) (r s q t : ℕ → ℕ) (h c : List Event) (e : Event) (a
         let zero_there : cond {A = ℕ} (is_use_of (length c) (event_by r e)) 1 0 ≡ 0 = uses_none (event_by r e) (length c) (makes_resource_by r e ∙ is) in
         let both : uses base C (length c) ≡ uses base H (length h) = omega arith in
         ap (λ k. uses base C (q k)) same ∙ ap (uses base C) (newest (resource_named e is)).0 ∙ both ∙ ap (uses base H) (sym same)
-    by_where (stood l was) =
-        ap (uses base C) (older p l) ∙
-        uses-push base c (event_by r e) (r p) ∙
-        (λ i. sh.used p was i + cond (uses_same p was i) 1 0) ∙
+    by_where (stood l was) = ap (uses base C) (older p l) ∙ uses-push base c (event_by r e) (r p) ∙ (λ i. sh.used p was i + cond (uses_same p was i) 1 0) ∙
         sym (uses-push base h e p)
 
   -- a test that sees no number counts as much more
   counts_on : (p : Event → Bool) → p (event_by r e) ≡ p e → count_by p c ≡ count_by p h → count_by p C ≡ count_by p H
-  counts_on p same before =
-      search (rules, sum_by_push, cond)
+  counts_on p same before = search (rules, sum_by_push, cond)
 
   totals_on : (n : ℕ) (p : Event → Bool) → p (event_by r e) ≡ p e → n + count_by p c ≡ n + count_by p h → n + count_by p C ≡ n + count_by p H
   totals_on n p same before = let less : count_by p c ≡ count_by p h = omega arith in ap (λ x. n + x) (counts_on p same less)
@@ -413,13 +387,10 @@ module _ (base : Kept) (r s q t : ℕ → ℕ) (h c : List Event) (e : Event) (a
     owned = owned_on;
     leases = leases_on;
     held = held_on;
-    out
-        = out_on;
+    out = out_on;
     taken = taken_on;
     used = used_on;
     node_total = counts_on makes_node (makes_by r e) sh.node_total;
-    accepted_total = totals_on
-        (base.accepted - count_by makes_resource (shown base)) makes_resource (makes_resource_by r e) sh.accepted_total;
-    taken_total = totals_on base.taken
-        is_take (take_by r e) sh.taken_total;
+    accepted_total = totals_on (base.accepted - count_by makes_resource (shown base)) makes_resource (makes_resource_by r e) sh.accepted_total;
+    taken_total = totals_on base.taken is_take (take_by r e) sh.taken_total;
   }

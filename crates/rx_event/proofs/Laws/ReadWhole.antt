@@ -25,8 +25,7 @@ use Rattle.rx_event.proofs.Laws.ReadShown.{is_shown_on, made_at, resource_named,
 -- one event -----------------------------------------------------------------------------------------------------------------------
 
 undone : (base : Kept) → {r s : ℕ → ℕ} {h c : List Event} → AreSameBy base r s h c → (e : Event) → MayFollow base h e → event_by s (event_by r e) ≡ e
-undone base a (Open place kind) next =
-    open_undone (trees_of a.numbers).there place kind (λ p named. may_name base next named) (may_hub base next)
+undone base a (Open place kind) next = open_undone (trees_of a.numbers).there place kind (λ p named. may_name base next named) (may_hub base next)
 undone base a (Hub mode) next = refl
 undone base {h = h} a (Connect g) next = let hub = hub_made h g (may_connect_hub base next) in ap Connect (a.numbers.there.hub_undone g hub.0 hub.1)
 undone base a (Accept n tag) next = ap (λ m. Accept m tag) (a.numbers.there.undone n (may_accept base next))
@@ -91,13 +90,11 @@ same_made base {r = r} {s = s} {h = h} {c = c} a e next other = record {
 
 -- what makes nothing
 same_kept : (base : Kept) → {r s : ℕ → ℕ} {h c : List Event} → AreSameBy base r s h c → (e : Event) → is_named e ≡ false → is_named (event_by r e) ≡ false →
-    MayFollow base h e →
-    MayFollow base c (event_by r e) → AreSameSince base r h c (h ++ e ∷ []) (c ++ event_by r e ∷ [])
+    MayFollow base h e → MayFollow base c (event_by r e) → AreSameSince base r h c (h ++ e ∷ []) (c ++ event_by r e ∷ [])
 same_kept base {r = r} {s = s} {h = h} {c = c} a e nameless also next other = record {
   reads = r;
   reads_back = s;
-  same =
-      same_on base r s r s h c e a next other (λ k l. refl) (λ k l. refl) (λ named. absurd (false≢true (sym nameless ∙ named)))
+  same = same_on base r s r s h c e a next other (λ k l. refl) (λ k l. refl) (λ named. absurd (false≢true (sym nameless ∙ named)))
       (λ named. absurd (false≢true (sym also ∙ named)));
   older = λ n l. refl;
   newest = λ i named. absurd (false≢true (sym nameless ∙ (named_last h e i named).1));
@@ -105,8 +102,7 @@ same_kept base {r = r} {s = s} {h = h} {c = c} a e nameless also next other = re
 
 -- An event that may come next in both leaves both the same
 pub same_event_on : (base : Kept) → {r s : ℕ → ℕ} {h c : List Event} → AreSameBy base r s h c → (e : Event) → MayFollow base h e →
-    MayFollow base c (event_by r e) →
-    AreSameSince base r h c (h ++ e ∷ []) (c ++ event_by r e ∷ [])
+    MayFollow base c (event_by r e) → AreSameSince base r h c (h ++ e ∷ []) (c ++ event_by r e ∷ [])
 same_event_on base {r = r} {s = s} {h = h} {c = c} a e next other = by_name (is_named e) refl where
   named_by : (x : Event) → is_named (event_by r x) ≡ is_named x
   named_by (Open place kind) = refl
@@ -140,8 +136,7 @@ goes_nowhere base {r = r} {s = s} {h = h} {c = c} a = record {
 }
 
 pub goes_one_on : (base : Kept) → {r : ℕ → ℕ} {h c k last : List Event} (g : GoesAlike base r h c k last) (e : Event) → MayFollow base k e →
-    MayFollow base last (event_by g.since.reads e) →
-    GoesAlike base r h c (k ++ e ∷ []) (last ++ event_by g.since.reads e ∷ [])
+    MayFollow base last (event_by g.since.reads e) → GoesAlike base r h c (k ++ e ∷ []) (last ++ event_by g.since.reads e ∷ [])
 goes_one_on base {r = r} {h = h} {c = c} {k = k} {last = last} g e next other = record {
   added = g.added ++ e ∷ [];
   grown = ap (λ (q : List Event). q ++ e ∷ []) g.grown ∙ append_assoc h g.added (e ∷ []);
@@ -281,8 +276,7 @@ shown_alike base {r = r} {s = s} shown alike = record {
 
 -- Two courses of what is forced, after two histories that are the same but for numbers, come to the same but for numbers
 pub courses_since : {base : Kept} → {r : ℕ → ℕ} {h c b d : List Event} (k j : List Event) → GoesAlike base r h c b d → IsForcedOn base b k → IsSettled base k →
-    IsForcedOn base d j → IsSettled base j → IsLawful base j →
-    AreSameSince base r h c k j
+    IsForcedOn base d j → IsSettled base j → IsLawful base j → AreSameSince base r h c k j
 courses_since {base} {r} {h} {c} {d} k j start on_k settled_k on_j settled_j law = record {
   reads = since.reads;
   reads_back = since.reads_back;

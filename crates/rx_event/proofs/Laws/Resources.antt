@@ -31,8 +31,7 @@ accepted_before base h law r n (Accept m tag) at_r named = by_case (found_at bas
   by_case (since_base next) =
       let o = is_open_within (take r h) m (may_accept base next) in
       let l = slice_get_within h r (Accept m tag) at_r in
-      let same : m ≡ n = same_Some m n named in
-      grind (arith, common_steps)
+      let same : m ≡ n = same_Some m n named in grind (arith, common_steps)
 accepted_before base h law r n _ at_r named = absurd (none-some n named)
 
 -- a resource has a larger number than its node
@@ -49,19 +48,17 @@ loses h e r = option_map_or (is_cut h e) (node_of h r) false || is_remove_of r e
 pub is_owned-push : (base : Kept) → (h : List Event) (e : Event) → IsLawful base h → (r : ℕ) → r < length h → is_owned (h ++ e ∷ []) r ≡
     (is_owned h r && not (loses h e r))
 unfolding is_owned
-is_owned-push base h e law r l =
-    rw (slice_get-append h (e ∷ []) r l, list_any-append (is_remove_of r) h (e ∷ [])) (by_node (node_of h r) refl)
-  where
-    shape : (o s a b : Bool) → ((o && not s) && not (a || (b || false))) ≡ ((o && not a) && not (s || b))
-    shape o s a b = grind arith
+is_owned-push base h e law r l = rw (slice_get-append h (e ∷ []) r l, list_any-append (is_remove_of r) h (e ∷ [])) (by_node (node_of h r) refl) where
+  shape : (o s a b : Bool) → ((o && not s) && not (a || (b || false))) ≡ ((o && not a) && not (s || b))
+  shape o s a b = grind arith
 
-    by_node : (o : Option ℕ) → node_of h r ≡ o →
-        (option_map_or (is_open (h ++ e ∷ [])) o false && not (list_any (is_remove_of r) h || (is_remove_of r e || false))) ≡
-        ((option_map_or (is_open h) o false && not (list_any (is_remove_of r) h)) && not (option_map_or (is_cut h e) o false || is_remove_of r e))
-    by_node None at_r = refl
-    by_node (Some n) at_r =
-        let s : n ≤ r = node_of-lt base h law r n at_r in
-        rw (is_open_cut h e n (omega arith)) (shape (is_open h n) (is_cut h e n) (list_any (is_remove_of r) h) (is_remove_of r e))
+  by_node : (o : Option ℕ) → node_of h r ≡ o →
+      (option_map_or (is_open (h ++ e ∷ [])) o false && not (list_any (is_remove_of r) h || (is_remove_of r e || false))) ≡
+      ((option_map_or (is_open h) o false && not (list_any (is_remove_of r) h)) && not (option_map_or (is_cut h e) o false || is_remove_of r e))
+  by_node None at_r = refl
+  by_node (Some n) at_r =
+      let s : n ≤ r = node_of-lt base h law r n at_r in
+      rw (is_open_cut h e n (omega arith)) (shape (is_open h n) (is_cut h e n) (list_any (is_remove_of r) h) (is_remove_of r e))
 
 -- beyond the end nothing is owned
 pub is_owned_past : (h : List Event) (r : ℕ) → length h ≤ r → is_owned h r ≡ false
@@ -73,8 +70,7 @@ removes_none base h x2 next r l = search (rules, is_owned_within, may_remove, ne
 
 -- only older resources are removed
 pub no_remove : (base : Kept) → (h : List Event) → IsLawful base h → (r : ℕ) → length h ≤ r → list_any (is_remove_of r) h ≡ false
-no_remove base =
-    by_events base (λ h. (r : ℕ) → length h ≤ r → list_any (is_remove_of r) h ≡ false) (λ s r l. made_unremoved (shown base) s.making r)
+no_remove base = by_events base (λ h. (r : ℕ) → length h ≤ r → list_any (is_remove_of r) h ≡ false) (λ s r l. made_unremoved (shown base) s.making r)
     (λ h e law next before r l.
     let b : length h ≤ r = omega (arith, length-append h (e ∷ [])) in
     list_any-append (is_remove_of r) h (e ∷ []) ∙ or_from _ _ (before r b) (or_from _ _ (removes_none base h e next r b) refl))
@@ -84,12 +80,9 @@ pub is_owned_last : (base : Kept) → (h : List Event) (e : Event) → IsLawful 
     (node_of_accept e) false
 unfolding is_owned
 is_owned_last base h e law = rw (slice_get_last h e) (by_event e) where
-  by_event : (e : Event) →
-      (option_map_or (is_open (h ++ e ∷ [])) (node_of_accept e) false && not (list_any (is_remove_of (length h)) (h ++ e ∷ []))) ≡
+  by_event : (e : Event) → (option_map_or (is_open (h ++ e ∷ [])) (node_of_accept e) false && not (list_any (is_remove_of (length h)) (h ++ e ∷ []))) ≡
       option_map_or (is_open h) (node_of_accept e) false
-  by_event (Accept n tag) =
-      rw (is_open_unchanged h (Accept n tag) refl refl n)
-      (and_not_false (is_open h n) _
+  by_event (Accept n tag) = rw (is_open_unchanged h (Accept n tag) refl refl n) (and_not_false (is_open h n) _
       (list_any-append (is_remove_of (length h)) h (Accept n tag ∷ []) ∙ or_from _ _ (no_remove base h law (length h) (omega arith)) refl))
   by_event _ = refl
 
@@ -197,8 +190,7 @@ held_old base h e law next r l held = held_before base h e law r l (lease_owned 
 
 -- after a return just that resource is leased no more of which it was the last lease
 pub is_leased-return : {base : Kept} → (h : List Event) (l q : ℕ) → IsLawful base h → MayFollow base h (Return l) → slice_get h l ≡ Some (Lease q) → (r : ℕ)
-    → r < length h →
-    is_leased (h ++ Return l ∷ []) r ≡ (is_leased h r && not (q == r && leases_of h r == 1))
+    → r < length h → is_leased (h ++ Return l ∷ []) r ≡ (is_leased h r && not (q == r && leases_of h r == 1))
 is_leased-return {base} h l q law next at_l r less =
     ap (λ a. a && nat_lt 0 (leases_of (h ++ Return l ∷ []) r)) (at-append makes_resource h (Return l ∷ []) r less) ∙
     ap (λ b. at makes_resource h r && b) (by_number (q == r) (leases_of-return base h l q law next at_l r)) ∙
@@ -226,8 +218,7 @@ owned_return base h l law r less = is_owned_kept base h (Return l) law r less re
 -- an older resource is taken if it was, or if the event takes it
 pub is_taken-push : (h : List Event) (e : Event) (r : ℕ) → r < length h → is_taken (h ++ e ∷ []) r ≡ (is_taken h r || (at makes_resource h r && is_take_of r e))
 unfolding is_taken
-is_taken-push h e r l =
-    search (rules, at-append, list_any-append, list_any)
+is_taken-push h e r l = search (rules, at-append, list_any-append, list_any)
 
 -- what is taken is a resource
 pub taken_resource : (h : List Event) (r : ℕ) → is_taken h r ≡ true → at makes_resource h r ≡ true
@@ -253,16 +244,14 @@ is_waiting_within h r waits = search (rules, cases_order, length, both_ways, is_
 -- what waits is neither held nor taken
 pub waiting_parts : (h : List Event) (r : ℕ) → is_waiting h r ≡ true → (at makes_resource h r ≡ true) × (is_held h r ≡ false) × (is_taken h r ≡ false)
 unfolding is_waiting
-waiting_parts h r waits =
-    search (rules, and_parts, not-true)
+waiting_parts h r waits = search (rules, and_parts, not-true)
 
 takes_none : (base : Kept) → (h : List Event) (e : Event) → MayFollow base h e → (r : ℕ) → length h ≤ r → is_take_of r e ≡ false
 takes_none base h x2 next r l = search (rules, is_waiting_within, may_take, ne_eqb)
 
 -- only older resources are taken
 pub no_take : (base : Kept) → (h : List Event) → IsLawful base h → (r : ℕ) → length h ≤ r → list_any (is_take_of r) h ≡ false
-no_take base =
-    by_events base (λ h. (r : ℕ) → length h ≤ r → list_any (is_take_of r) h ≡ false) (λ s r l. made_untaken (shown base) s.making r)
+no_take base = by_events base (λ h. (r : ℕ) → length h ≤ r → list_any (is_take_of r) h ≡ false) (λ s r l. made_untaken (shown base) s.making r)
     (λ h e law next before r l.
     let b : length h ≤ r = omega (arith, length-append h (e ∷ [])) in
     list_any-append (is_take_of r) h (e ∷ []) ∙ or_from _ _ (before r b) (or_from _ _ (takes_none base h e next r b) refl))
@@ -292,8 +281,7 @@ untaken_there h r none = ap (λ c. at makes_resource h r && c) none ∙ and_fals
 
 -- what is held was not taken
 pub held_not_taken : (base : Kept) → (h : List Event) → IsLawful base h → (r : ℕ) → is_held h r ≡ true → is_taken h r ≡ false
-held_not_taken base =
-    by_events base (λ h. (r : ℕ) → is_held h r ≡ true → is_taken h r ≡ false)
+held_not_taken base = by_events base (λ h. (r : ℕ) → is_held h r ≡ true → is_taken h r ≡ false)
     (λ s r held. untaken_there (shown base) r (made_untaken (shown base) s.making r)) after
   where
     after : (h : List Event) (e : Event) → IsLawful base h → MayFollow base h e → ((r : ℕ) → is_held h r ≡ true → is_taken h r ≡ false) → (r : ℕ) →
@@ -310,8 +298,7 @@ held_not_taken base =
 waiting-held : (base : Kept) → (h : List Event) (e : Event) → IsLawful base h → (r : ℕ) → r < length h → (is_lease_of r e ≡ true → is_owned h r ≡ true) →
     is_waiting (h ++ e ∷ []) r ≡ ((is_waiting h r || (is_held h r && not (is_held (h ++ e ∷ []) r))) && not (is_take_of r e))
 unfolding is_waiting
-waiting-held base h e law r l may =
-    (λ i. at-append makes_resource h (e ∷ []) r l i && not (is_held (h ++ e ∷ []) r) && not (is_taken-push h e r l i)) ∙
+waiting-held base h e law r l may = (λ i. at-append makes_resource h (e ∷ []) r l i && not (is_held (h ++ e ∷ []) r) && not (is_taken-push h e r l i)) ∙
     shape (at makes_resource h r) (is_held h r) (is_held (h ++ e ∷ []) r) (is_taken h r) (is_take_of r e) (held_resource h r) (held_not_taken base h law r)
     (held_before base h e law r l may)
   where
@@ -327,27 +314,23 @@ is_waiting-unheld base h e law next r l = waiting-held base h e law r l (lease_o
 is_waiting-loses : {base : Kept} → (h : List Event) (e : Event) → IsLawful base h → (r : ℕ) → r < length h → is_return e ≡ false → is_lease_of r e ≡ false →
     is_take_of r e ≡ false → is_waiting (h ++ e ∷ []) r ≡ (is_waiting h r || (is_owned h r && loses h e r && not (is_leased h r)))
 is_waiting-loses {base} h e law r l none unleased leaves =
+    let after : is_held (h ++ e ∷ []) r ≡ ((is_owned h r && not (loses h e r)) || is_leased h r) =
+    held_is (h ++ e ∷ []) r ∙ (λ i. is_owned-push base h e law r l i || is_leased_kept base h e law r l none unleased i) in
     waiting-held base h e law r l (λ leases. absurd (both_ways _ unleased leases)) ∙
-    (λ i. (is_waiting h r || (held_is h r i && not (after i))) && not (leaves i)) ∙ shape (is_waiting h r) (is_owned h r) (loses h e r) (is_leased h r)
-  where
-    after : is_held (h ++ e ∷ []) r ≡ ((is_owned h r && not (loses h e r)) || is_leased h r)
-    after = held_is (h ++ e ∷ []) r ∙ (λ i. is_owned-push base h e law r l i || is_leased_kept base h e law r l none unleased i)
-
-    shape : (w o k s : Bool) → ((w || ((o || s) && not ((o && not k) || s))) && true) ≡ (w || ((o && k) && not s))
-    shape w o k s = grind arith
+    (λ i. (is_waiting h r || (held_is h r i && not (after i))) && not (leaves i)) ∙ shape (is_waiting h r) (is_owned h r) (loses h e r) (is_leased h r) where
+      shape : (w o k s : Bool) → ((w || ((o || s) && not ((o && not k) || s))) && true) ≡ (w || ((o && k) && not s))
+      shape w o k s = grind arith
 
 -- after the end or the closing of c, what was owned within c waits, but what is leased
 pub is_waiting-end : (base : Kept) → (h : List Event) (c : ℕ) (t : Terminal) → IsLawful base h → (r n : ℕ) → node_of h r ≡ Some n →
     is_waiting (h ++ End c t ∷ []) r ≡ (is_waiting h r || (is_owned h r && is_within h c n && not (is_leased h r)))
-is_waiting-end base h c t law r n at_r =
-    is_waiting-loses h (End c t) law r (node_of_within h r n at_r) refl refl refl ∙
+is_waiting-end base h c t law r n at_r = is_waiting-loses h (End c t) law r (node_of_within h r n at_r) refl refl refl ∙
     ap (λ k. is_waiting h r || (is_owned h r && k && not (is_leased h r))) (ap (λ o. option_map_or (is_cut h (End c t)) o false || false) at_r ∙ or_false
     (is_within h c n))
 
 pub is_waiting-close : (base : Kept) → (h : List Event) (c : ℕ) → IsLawful base h → (r n : ℕ) → node_of h r ≡ Some n →
     is_waiting (h ++ Close c ∷ []) r ≡ (is_waiting h r || (is_owned h r && is_within h c n && not (is_leased h r)))
-is_waiting-close base h c law r n at_r =
-    is_waiting-loses h (Close c) law r (node_of_within h r n at_r) refl refl refl ∙
+is_waiting-close base h c law r n at_r = is_waiting-loses h (Close c) law r (node_of_within h r n at_r) refl refl refl ∙
     ap (λ k. is_waiting h r || (is_owned h r && k && not (is_leased h r))) (ap (λ o. option_map_or (is_cut h (Close c)) o false || false) at_r ∙ or_false
     (is_within h c n))
 
@@ -367,8 +350,7 @@ is_waiting_new base h e law next = is_waiting_last base h e law ∙ by_event e n
 -- after a removal what was removed waits too, if it has no lease out
 pub is_waiting-remove : (base : Kept) → (h : List Event) (q : ℕ) → IsLawful base h → (r : ℕ) → r < length h →
     is_waiting (h ++ Remove q ∷ []) r ≡ (is_waiting h r || (is_owned h r && q == r && not (is_leased h r)))
-is_waiting-remove base h q law r l =
-    is_waiting-loses h (Remove q) law r l refl refl refl ∙
+is_waiting-remove base h q law r l = is_waiting-loses h (Remove q) law r l refl refl refl ∙
     ap (λ k. is_waiting h r || (is_owned h r && k && not (is_leased h r))) (ap (λ c. c || q == r) (cut_none (node_of h r)))
   where
     cut_none : (o : Option ℕ) → option_map_or (is_cut h (Remove q)) o false ≡ false
@@ -397,11 +379,9 @@ is_waiting-return base h l q law next at_l r = by_place (cases_order r (length h
 
   by_place : (r ≡ length h) ⊎ ((r < length h) ⊎ (length h < r)) → is_waiting (h ++ Return l ∷ []) r ≡
       (is_waiting h r || (q == r && not (is_owned h r) && leases_of h r == 1))
-  by_place (inr (inl less)) =
-      is_waiting-unheld base h (Return l) law next r less ∙
+  by_place (inr (inl less)) = is_waiting-unheld base h (Return l) law next r less ∙
       (λ i. (is_waiting h r || (held_is h r i && not ((held_is (h ++ Return l ∷ []) r ∙ (λ j. owned_return base h l law r less j || is_leased-return h
-      l q law next at_l r less j)) i))) && true) ∙
-      shape (is_waiting h r) (is_owned h r) (is_leased h r) (q == r) (leases_of h r == 1) leased
+      l q law next at_l r less j)) i))) && true) ∙ shape (is_waiting h r) (is_owned h r) (is_leased h r) (q == r) (leases_of h r == 1) leased
   by_place (inl same) = ap (is_waiting (h ++ Return l ∷ [])) same ∙ is_waiting_last base h (Return l) law ∙ sym (beyond (omega arith))
   by_place (inr (inr g)) = is_waiting_past (h ++ Return l ∷ []) r (omega (arith, length-append {A = Event})) ∙ sym (beyond (omega arith))
 
@@ -414,28 +394,6 @@ in_one_place base h law r = shape (at makes_resource h r) (is_held h r) (is_take
     shape : (a held taken : Bool) → (held ≡ true → a ≡ true) → (held ≡ true → taken ≡ false) → (taken ≡ true → a ≡ true) →
         cond held 1 0 + cond ((a && not held) && not taken) 1 0 + cond taken 1 0 ≡ cond a 1 0
     shape a held taken made untaken given = grind arith
-
--- what neither shuts a node nor moves a resource --------------------------------------------------
-
--- the event shuts no node, and accepts, removes, leases, returns and takes no resource
-abbrev pub moves_none : Event → Bool
-moves_none (Open (Inner f) kind) = false
-moves_none (Open place kind) = true
-moves_none (Hub mode) = true
-moves_none (Connect g) = true
-moves_none (Use r) = true
-moves_none (Item l v) = true
-moves_none (Decline f) = true
-moves_none _ = false
-
-pub record MovesNone (e : Event) : Type 0 where
-  pub shuts : shuts_none e ≡ true
-  pub accepts : makes_resource e ≡ false
-  pub named : node_of_accept e ≡ None
-  pub removes : (r : ℕ) → is_remove_of r e ≡ false
-  pub leases : (r : ℕ) → is_lease_of r e ≡ false
-  pub returns : is_return e ≡ false
-  pub takes : (r : ℕ) → is_take_of r e ≡ false
 
 -- a new resource is held
 pub is_held_new : (base : Kept) → (h : List Event) (e : Event) → IsLawful base h → MayFollow base h e → is_held (h ++ e ∷ []) (length h) ≡ makes_resource e
@@ -455,5 +413,4 @@ accepted_by-push base h e r l = search (rules, option_map_or, Accept, slice_get-
 
 -- of a new one no record is kept
 pub accepted_by_new : (base : Kept) → (h : List Event) (e : Event) → IsLawful base h → accepted_by base (h ++ e ∷ []) (length h) ≡ Some e
-accepted_by_new base h e law =
-    search (rules, option_map_or, Accept, slice_get, length, shown_within, slice_get_last)
+accepted_by_new base h e law = search (rules, option_map_or, Accept, slice_get, length, shown_within, slice_get_last)

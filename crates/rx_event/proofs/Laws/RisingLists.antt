@@ -34,16 +34,10 @@ rising_same (x ∷ xs) (y ∷ ys) a b there back = λ i. first i ∷ rising_same
   first = first_by (there x (inl refl)) (back y (inl refl))
 
   onwards : (k : ℕ) → In k xs → In k ys
-  onwards k i = by_place (there k (inr i)) where
-    by_place : (y ≡ k) ⊎ In k ys → In k ys
-    by_place (inr j) = j
-    by_place (inl same) = absurd (let l = in_all x k xs a.0 i in let f = first in omega arith)
+  onwards k i = elim (there k (inr i)) [ inr j ↦ j | inl same ↦ absurd (let l = in_all x k xs a.0 i in let f = first in omega arith) ]
 
   backwards : (k : ℕ) → In k ys → In k xs
-  backwards k i = by_place (back k (inr i)) where
-    by_place : (x ≡ k) ⊎ In k xs → In k xs
-    by_place (inr j) = j
-    by_place (inl same) = absurd (let l = in_all y k ys b.0 i in let f = first in omega arith)
+  backwards k i = elim (back k (inr i)) [ inr j ↦ j | inl same ↦ absurd (let l = in_all y k ys b.0 i in let f = first in omega arith) ]
 
 -- filters --------------------------------------------------------------------------------------------------------------
 
@@ -97,8 +91,7 @@ map_rises r (x ∷ xs) grows a = (all_in (λ y. r x < y) (map r xs) less, map_ri
   less m i =
       let w : (k : ℕ) × In k xs × (r k ≡ m) = map_in r xs m i in
       let l : r x < r w.0 = grows x w.0 (inl refl) (inr w.1) (in_all x w.0 xs a.0 w.1) in
-      let same = w.2 in
-      omega arith
+      let same = w.2 in omega arith
 
 -- r leads from the numbers below m that pass p to those below n that pass q, in their order, and s leads back
 pub record LeadsInOrder (r s : ℕ → ℕ) (p q : ℕ → Bool) (m n : ℕ) : Type 0 where
@@ -108,13 +101,11 @@ pub record LeadsInOrder (r s : ℕ → ℕ) (p q : ℕ → Bool) (m n : ℕ) : T
   pub back : (k : ℕ) → q k ≡ true → (p (s k) ≡ true) × (r (s k) ≡ k)
   pub grows : (j k : ℕ) → p j ≡ true → p k ≡ true → j < k → r j < r k
 
-pub same_list : (r s : ℕ → ℕ) (p q : ℕ → Bool) (m n : ℕ) → LeadsInOrder r s p q m n →
-    filter q (range_with_len 0 n) ≡ map r (filter p (range_with_len 0 m))
+pub same_list : (r s : ℕ → ℕ) (p q : ℕ → Bool) (m n : ℕ) → LeadsInOrder r s p q m n → filter q (range_with_len 0 n) ≡ map r (filter p (range_with_len 0 m))
 same_list r s p q m n leads = rising_same (filter q (range_with_len 0 n)) (map r (filter p (range_with_len 0 m)))
     (filter_rises q (range_with_len 0 n) (range_rises 0 n))
     (map_rises r (filter p (range_with_len 0 m)) (λ j k i l. leads.grows j k (filter_in p (range_with_len 0 m) j i).1 (filter_in p (range_with_len 0 m) k l).1)
-    (filter_rises p (range_with_len 0 m) (range_rises 0 m)))
-    onwards backwards
+    (filter_rises p (range_with_len 0 m) (range_rises 0 m))) onwards backwards
   where
     onwards : (k : ℕ) → In k (filter q (range_with_len 0 n)) → In k (map r (filter p (range_with_len 0 m)))
     onwards k i =

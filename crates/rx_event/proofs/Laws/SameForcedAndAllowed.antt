@@ -13,8 +13,7 @@ use Rattle.rx_event.proofs.Laws.ReadAllowed.{MayAlike, allowed_by}
 use Rattle.std.proofs.Common.{rules}
 
 pub agree_back : (b : Kept) (h : List Event) (c : Kept) (k : List Event) → Agree b h c k → Agree c k b h
-agree_back b h c k a =
-    search rules
+agree_back b h c k a = search rules
 
 pub reads_of : {b : Kept} {h : List Event} {c : Kept} {k : List Event} → Agree b h c k → IsLawful b h → IsLawful c k → AreRead b c (λ n. n) (λ n. n) h k
 reads_of a law law_k = record { law = law; other_law = law_k; there = a.there; back = a.back }
@@ -30,16 +29,14 @@ hubs_alike h k a = (λ i. filter (λ n. same n i) (range_with_len 0 (a.same_leng
   same n = same_test (at makes_hub h n) (at makes_hub k n) (at_hub_alike h k a makes_hub hub_is n) (at_hub_alike k h (alike_back h k a) makes_hub hub_is n)
 
 pub in_order_too : (h k : List Event) → Alike h k → (g p : ℕ) → is_open h p ≡ true → IsInOrderAt h g p → IsInOrderAt k g p
-in_order_too h k a g p o ordered m j within connects =
-    search (rules, within_alike, open_above)
+in_order_too h k a g p o ordered m j within connects = search (rules, within_alike, open_above)
 
 agree_may : {b : Kept} {h : List Event} {c : Kept} {k : List Event} → Agree b h c k → IsLawful b h → IsLawful c k → MayAlike b c (λ n. n) (λ n. n) h k
 agree_may {b} {h} {c} {k} a law law_k = search (rules, trees_of, reads_of, length, hubs_alike, alike_of, connected_hub)
 
 module _ (b : Kept) (h : List Event) (c : Kept) (k : List Event) (a : Agree b h c k) (law : IsLawful b h) (law_k : IsLawful c k) where
   pub allowed_too : {e : Event} → IsAllowed b h e → IsAllowed c k e
-  allowed_too {e} may = subst (λ (x : Event). IsAllowed c k x) (event_by_itself e)
-      (allowed_by (agree_may a law law_k) law law_k a.there.ended may)
+  allowed_too {e} may = subst (λ (x : Event). IsAllowed c k x) (event_by_itself e) (allowed_by (agree_may a law law_k) law law_k a.there.ended may)
 
   pub forced_too : {e : Event} → IsForced b h e → IsForced c k e
   forced_too {e} f = subst (λ (x : Event). IsForced c k x) (event_by_itself e) (forced_read (reads_of a law law_k) f)

@@ -22,34 +22,32 @@ pub data IsParent (h : List Event) (n : ℕ) : Type 0 where
   merges : at is_merging h n ≡ true → IsParent h n
 
 pub parent_sort : (base : Kept) → (h : List Event) → IsLawful base h → (d n : ℕ) → parent h d ≡ Some n → IsParent h n
-parent_sort base h law d n below = by_event made.0 made.1 (parent_name h d n made.0 below made.1) where
-  made : (e : Event) × (slice_get h d ≡ Some e)
-  made = event_at h d (parent_within h d n below)
+parent_sort base h law d n below =
+    let made : (e : Event) × (slice_get h d ≡ Some e) = event_at h d (parent_within h d n below) in
+    by_event made.0 made.1 (parent_name h d n made.0 below made.1) where
+      by_source : (o : Option Event) → slice_get h n ≡ o → option_map_or has_source o false ≡ true → IsParent h n
+      by_source None at_n stands = absurd (false≢true stands)
+      by_source (Some (Open place Pass)) at_n stands = mirrors (rw at_n refl)
+      by_source (Some (Open place Until)) at_n stands = mirrors (rw at_n refl)
+      by_source (Some (Open place Flat)) at_n stands = merges (rw at_n refl)
+      by_source (Some (Open place Switch)) at_n stands = merges (rw at_n refl)
+      by_source (Some (Connect g)) at_n stands = mirrors (rw at_n refl)
+      by_source (Some _) at_n stands = absurd (false≢true stands)
 
-  by_source : (o : Option Event) → slice_get h n ≡ o → option_map_or has_source o false ≡ true → IsParent h n
-  by_source None at_n stands = absurd (false≢true stands)
-  by_source (Some (Open place Pass)) at_n stands = mirrors (rw at_n refl)
-  by_source (Some (Open place Until)) at_n stands = mirrors (rw at_n refl)
-  by_source (Some (Open place Flat)) at_n stands = merges (rw at_n refl)
-  by_source (Some (Open place Switch)) at_n stands = merges (rw at_n refl)
-  by_source (Some (Connect g)) at_n stands = mirrors (rw at_n refl)
-  by_source (Some _) at_n stands = absurd (false≢true stands)
+      by_notifier : (o : Option Event) → slice_get h n ≡ o → option_map_or is_until o false ≡ true → IsParent h n
+      by_notifier (Some (Open place Until)) at_n stands = mirrors (rw at_n refl)
+      by_notifier _ at_n stands = absurd (false≢true stands)
 
-  by_notifier : (o : Option Event) → slice_get h n ≡ o → option_map_or is_until o false ≡ true → IsParent h n
-  by_notifier None at_n stands = absurd (false≢true stands)
-  by_notifier (Some (Open place Until)) at_n stands = mirrors (rw at_n refl)
-  by_notifier (Some _) at_n stands = absurd (false≢true stands)
+      named : (p : ℕ) → Some p ≡ Some n → p ≡ n
+      named p same = cc
 
-  named : (p : ℕ) → Some p ≡ Some n → p ≡ n
-  named p same = cc
-
-  by_event : (e : Event) → slice_get h d ≡ Some e → parent_named e ≡ Some n → IsParent h n
-  by_event (Open (Source p) kind) at_d name =
-      by_source (slice_get h n) refl (sym (ap (at has_source h) (named p name)) ∙ source_stands base h law d p kind at_d)
-  by_event (Open (Inner p) kind) at_d name = merges (sym (ap (at is_merging h) (named p name)) ∙ inner_stands base h law d p kind at_d)
-  by_event (Open (Notifier p) kind) at_d name =
-      by_notifier (slice_get h n) refl (sym (ap (at is_until h) (named p name)) ∙ notifier_stands base h law d p kind at_d)
-  by_event _ at_d name = absurd (cc)
+      by_event : (e : Event) → slice_get h d ≡ Some e → parent_named e ≡ Some n → IsParent h n
+      by_event (Open (Source p) kind) at_d name =
+          by_source (slice_get h n) refl (sym (ap (at has_source h) (named p name)) ∙ source_stands base h law d p kind at_d)
+      by_event (Open (Inner p) kind) at_d name = merges (sym (ap (at is_merging h) (named p name)) ∙ inner_stands base h law d p kind at_d)
+      by_event (Open (Notifier p) kind) at_d name =
+          by_notifier (slice_get h n) refl (sym (ap (at is_until h) (named p name)) ∙ notifier_stands base h law d p kind at_d)
+      by_event _ at_d name = absurd (cc)
 
 -- in a settled history no child of an open node ended so that the node ends by it
 pub settled_no_terminal : (base : Kept) → (h : List Event) → IsLawful base h → IsSettled base h → (n : ℕ) → is_open h n ≡ true → child_terminal h n ≡ None
@@ -67,9 +65,7 @@ settled_no_terminal base h law settled n o = by_terminal (child_terminal h n) re
 
   by_terminal : (x : Option Terminal) → child_terminal h n ≡ x → x ≡ None
   by_terminal None found = refl
-  by_terminal (Some t) found =
-      let w = child_terminal_some h n t found in
-      absurd (by_sort t w.0 w.1 (parent_sort base h law w.0.child n w.0.below))
+  by_terminal (Some t) found = let w = child_terminal_some h n t found in absurd (by_sort t w.0 w.1 (parent_sort base h law w.0.child n w.0.below))
 
 module _ (base : Kept) (b k j : List Event) (law : IsLawful base b) (whole : IsConnected b) (on_k : IsDueOn base b k) (settled_k : IsSettled base k)
     (on_j : IsDueOn base b j)
@@ -88,10 +84,8 @@ module _ (base : Kept) (b k j : List Event) (law : IsLawful base b) (whole : IsC
 
   -- what completed in one completed in the other
   completed_in : {p : List Event} (q : List Event) → IsDueOn base b p → IsSettled base p → IsDueOn base b q → IsSettled base q → (n : ℕ) → is_open q n ≡ true →
-      source_completed base p n ≡ true →
-      source_completed base q n ≡ true
-  completed_in {p} q on_p settled_p on_q settled_q n o found =
-      search (rules, completed_in_k, spared)
+      source_completed base p n ≡ true → source_completed base q n ≡ true
+  completed_in {p} q on_p settled_p on_q settled_q n o found = search (rules, completed_in_k, spared)
 
   any_both : (q : Event → Bool) → Fails q → list_any q k ≡ list_any q j
   any_both q fails = any_on base q fails on_k ∙ sym (any_on base q fails on_j)
@@ -99,14 +93,9 @@ module _ (base : Kept) (b k j : List Event) (law : IsLawful base b) (whole : IsC
   pub marks_both : (n : ℕ) → is_open k n ≡ true → marks_of base k n ≡ marks_of base j n
   marks_both n o =
       let also : is_open j n ≡ true = sym (opens n) ∙ o in
-      same_marks base
-      (ap (λ x. option_map_or (λ r. r.source_opened) (node_kept base n) false || x) (any_both (is_source_of n) (source_fails n)))
+      same_marks base (ap (λ x. option_map_or (λ r. r.source_opened) (node_kept base n) false || x) (any_both (is_source_of n) (source_fails n)))
       (ap (λ x. option_map_or (λ r. r.notifier_opened) (node_kept base n) false || x)
-      (any_both (is_notifier_of n) (record { at_end = λ c t. refl; at_close = λ c. refl })))
-      (fired_on base on_k n ∙ sym (fired_on base on_j n))
+      (any_both (is_notifier_of n) (record { at_end = λ c t. refl; at_close = λ c. refl }))) (fired_on base on_k n ∙ sym (fired_on base on_j n))
       (same_test (source_completed base k n) (source_completed base j n) (completed_in j on_k settled_k on_j settled_j n also)
-      (completed_in k on_j settled_j on_k settled_k n o))
-      (settled_no_terminal base k (lawful_on base on_k law whole) settled_k n o ∙
-      sym (settled_no_terminal base j (lawful_on base on_j law whole) settled_j n also))
-      (owed_on base on_k n ∙ sym (owed_on base on_j n))
-      (children n)
+      (completed_in k on_j settled_j on_k settled_k n o)) (settled_no_terminal base k (lawful_on base on_k law whole) settled_k n o ∙
+      sym (settled_no_terminal base j (lawful_on base on_j law whole) settled_j n also)) (owed_on base on_k n ∙ sym (owed_on base on_j n)) (children n)

@@ -1,9 +1,8 @@
 -- How the children of a node ended, and what each rule gives in two histories that are the same, number for number.
-use Rattle.rx_event.proofs.Laws.Common.{◌≡◌, ℕ, true, List, [], ◌∷◌, ◌++◌, Option, Some, None, refl, sym, ap, ◌∙◌, inl, inr, ◌⊎◌}
-use Rattle.rx_event.proofs.Laws.Common.{slice_get, not, AllByRecursion, list_any, option_map_or, false≢true, or_cases, eqb-true, Terminal}
-use Rattle.rx_event.proofs.Laws.Common.{Error, Kept, shown, Event, Item, End, is_until, is_mirroring, is_merging, at, is_open, Stop, Delivery, Projection}
-use Rattle.rx_event.proofs.Laws.Common.{Firing, stops, is_fired, is_firing_of, stops_of, mirrored, failed, IsDue, child_terminal, passes_on, MayFollow}
-use Rattle.rx_event.proofs.Laws.Common.{IsLawful, AreRead, StopsAtOpen, ChildEnded}
+use Rattle.rx_event.proofs.Laws.Common.{◌≡◌, ℕ, true, List, [], ◌∷◌, ◌++◌, Option, Some, None, refl, sym, ap, ◌∙◌, inl, inr, ◌⊎◌, slice_get, not}
+use Rattle.rx_event.proofs.Laws.Common.{AllByRecursion, list_any, option_map_or, false≢true, or_cases, eqb-true, Terminal, Error, Kept, shown, Event, Item, End}
+use Rattle.rx_event.proofs.Laws.Common.{is_until, is_mirroring, is_merging, at, is_open, Stop, Delivery, Projection, Firing, stops, is_fired, is_firing_of}
+use Rattle.rx_event.proofs.Laws.Common.{stops_of, mirrored, failed, IsDue, child_terminal, passes_on, MayFollow, IsLawful, AreRead, StopsAtOpen, ChildEnded}
 use Rattle.rx_event.specs.Bases.{Mirrors, Fires, Fails, Completes, Cuts, Leaves}
 use Rattle.rx_event.proofs.Laws.Places.{at-append, at_within}
 use Rattle.rx_event.proofs.Laws.Steps.{by_events, may_emit}

@@ -1,10 +1,9 @@
 -- What is the same in two histories with the same hubs and open nodes.
 use Rattle.rx_event.proofs.Laws.Common.{◌≡◌, ℕ, ℤ, zero, suc, ◌<◌, Bool, true, false, List, [], ◌∷◌, length, Option, Some, None, refl, sym, ap, ◌∙◌, arith}
 use Rattle.rx_event.proofs.Laws.Common.{◌==◌, slice_get, filter, map, ◌&&◌, list_any, range_with_len, option_and_then, option_map_or, false≢true, both_ways}
-use Rattle.rx_event.proofs.Laws.Common.{false_from_ne_true, Terminal, Mode, Event, Hub, Item, Kept, parent_named, is_auto_hub, is_subscriber_of}
-use Rattle.rx_event.proofs.Laws.Common.{is_connect_of, at, places, parent, if_less, ancestors, is_open, is_within, open_nodes, open_subscribers}
-use Rattle.rx_event.proofs.Laws.Common.{open_connections, Stop, Delivery, Projection, Firing, stops, stops_of, Agree, SourceEnded, marks_of, IsLawful, visits}
-use Rattle.rx_event.proofs.Laws.Common.{IsRead}
+use Rattle.rx_event.proofs.Laws.Common.{false_from_ne_true, Terminal, Mode, Event, Hub, Item, Kept, parent_named, is_auto_hub, is_subscriber_of, is_connect_of}
+use Rattle.rx_event.proofs.Laws.Common.{at, places, parent, if_less, ancestors, is_open, is_within, open_nodes, open_subscribers, open_connections, Stop}
+use Rattle.rx_event.proofs.Laws.Common.{Delivery, Projection, Firing, stops, stops_of, Agree, SourceEnded, marks_of, IsLawful, visits, IsRead}
 use Rattle.std.specs.Cmp.{both_ways as same_test}
 use Rattle.rx_event.proofs.Laws.Parents.{parent-lt, ancestors_step}
 use Rattle.rx_event.proofs.Laws.Openness.{is_open_within, parent_open}
@@ -52,11 +51,9 @@ parent_alike p q a n o = ap (λ x. option_and_then (if_less n) (option_and_then 
 
 ancestors_below : (k : ℕ) (p q : List Event) → Alike p q → (n : ℕ) → n < k → is_open p n ≡ true → ancestors p n ≡ ancestors q n
 ancestors_below zero p q a n l o = absurd (omega arith)
-ancestors_below (suc k) p q a n l o =
-    ancestors_step p n ∙
+ancestors_below (suc k) p q a n l o = ancestors_step p n ∙
     ap (λ ns. n ∷ ns) (above (λ m less m_open. ancestors_below k p q a m (omega arith) m_open) (parent p n) refl) ∙
-    ap (λ x. n ∷ option_map_or (ancestors q) x []) (parent_alike p q a n o) ∙
-    sym (ancestors_step q n)
+    ap (λ x. n ∷ option_map_or (ancestors q) x []) (parent_alike p q a n o) ∙ sym (ancestors_step q n)
   where
     above : ((m : ℕ) → m < n → is_open p m ≡ true → ancestors p m ≡ ancestors q m) → (x : Option ℕ) → parent p n ≡ x →
         option_map_or (ancestors p) x [] ≡ option_map_or (ancestors q) x []
@@ -102,8 +99,7 @@ tree_alike : (p q : List Event) → Alike p q → IsTreeRead (λ n. n) (λ n. n)
 tree_alike p q a = search (rules, event_by_itself)
 
 pub trees_alike : (p q : List Event) → Alike p q → NamesBelow p → AreTreesRead (λ n. n) (λ n. n) p q
-trees_alike p q a below =
-    search (rules, tree_alike, alike_back)
+trees_alike p q a below = search (rules, tree_alike, alike_back)
 
 -- as histories with the same numbers
 pub read_alike : {b c : Kept} {h k : List Event} → Alike h k → ((n : ℕ) → is_open h n ≡ true → marks_of c k n ≡ marks_of b h n) →

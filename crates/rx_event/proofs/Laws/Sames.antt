@@ -1,9 +1,8 @@
 -- Two events pass the test of sameness exactly where they are equal.
-use Rattle.rx_event.proofs.Laws.Common.{arith, ◌≡◌, true, sym, ap, ◌∙◌, false≢true, and_parts, and_from, eqb-true, Terminal, Place, Kind, Mode}
-use Rattle.rx_event.proofs.Laws.Common.{Event, Accept, number_itself, IsTrue}
-use Rattle.std.proofs.Common.{◌↔◌}
+use Rattle.rx_event.proofs.Laws.Common.{arith, ◌≡◌, true, sym, ap, ◌∙◌, false≢true, and_parts, and_from, eqb-true, Terminal, Place, Kind, Mode, Event, Accept}
+use Rattle.rx_event.proofs.Laws.Common.{number_itself, IsTrue}
+use Rattle.std.proofs.Common.{◌↔◌, rules}
 use Rattle.rx_event.specs.Sames.{same_terminal, same_place, same_kind, same_mode, same_event}
-use Rattle.std.proofs.Common.{rules}
 
 pub terminals_equal : (t u : Terminal) → same_terminal t u ≡ true → t ≡ u
 terminals_equal t u same = grind arith

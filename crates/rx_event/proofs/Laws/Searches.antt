@@ -1,7 +1,6 @@
 -- Searches of a list: by a test, and by the first value that there is.
-use Rattle.rx_event.proofs.Laws.Common.{arith, ◌≡◌, ℕ, zero, suc, Bool, true, List, [], ◌∷◌, ◌++◌, Option, Some, None, refl, ap, ◌∙◌, inl, inr}
-use Rattle.rx_event.proofs.Laws.Common.{◌⊎◌, slice_get, ◌||◌, list_any, option_or, false≢true, or_cases, same_Some, none-some, or_false, or_right}
-use Rattle.rx_event.proofs.Laws.Common.{list_any-append}
+use Rattle.rx_event.proofs.Laws.Common.{arith, ◌≡◌, ℕ, zero, suc, Bool, true, List, [], ◌∷◌, ◌++◌, Option, Some, None, refl, ap, ◌∙◌, inl, inr, ◌⊎◌, slice_get}
+use Rattle.rx_event.proofs.Laws.Common.{◌||◌, list_any, option_or, false≢true, or_cases, same_Some, none-some, or_false, or_right, list_any-append}
 use Rattle.rx_event.specs.Marks.{first_some}
 use Rattle.std.proofs.Common.{rules}
 

@@ -1,12 +1,11 @@
 -- What holds of a list holds of what its base shows: where inductions over the events since a base begin.
-use Rattle.rx_event.proofs.Laws.Common.{◌≡◌, ℕ, ◌+◌, true, List, ◌∙◌, range_with_len, Event, is_connect_of, is_open, Kept, shown, base_of, Agree}
-use Rattle.rx_event.proofs.Laws.Common.{held_count, waiting_count, taken_count, accepted_count}
-use Rattle.std.proofs.Common.{count_by}
+use Rattle.rx_event.proofs.Laws.Common.{◌≡◌, ℕ, ◌+◌, true, List, ◌∙◌, range_with_len, Event, is_connect_of, is_open, Kept, shown, base_of, Agree, held_count}
+use Rattle.rx_event.proofs.Laws.Common.{waiting_count, taken_count, accepted_count}
+use Rattle.std.proofs.Common.{count_by, rules}
 use Rattle.rx_event.proofs.Laws.SoundForm.{Sound}
 use Rattle.rx_event.proofs.Laws.SameTree.{at_alike}
 use Rattle.rx_event.proofs.Laws.Bases.{base_alike}
 use Rattle.rx_event.proofs.Laws.Hubs.{TwoConnections}
-use Rattle.std.proofs.Common.{rules}
 
 -- it has one open connection of a hub -----------------------------------------------------------------
 
@@ -26,7 +25,5 @@ base_one_connection b h sound one g x y two =
 -- and what was accepted is held, waits or was taken -----------------------------------------------------
 
 pub agree_accepted : (b : Kept) (h : List Event) (c : Kept) (k : List Event) → Agree b h c k →
-    accepted_count b h ≡ held_count h + waiting_count h + taken_count b h →
-    accepted_count c k ≡ held_count k + waiting_count k + taken_count c k
-agree_accepted b h c k a parts =
-    search (rules, count_by, range_with_len)
+    accepted_count b h ≡ held_count h + waiting_count h + taken_count b h → accepted_count c k ≡ held_count k + waiting_count k + taken_count c k
+agree_accepted b h c k a parts = search (rules, count_by, range_with_len)

@@ -14,8 +14,7 @@ use Rattle.std.proofs.Common.{rules}
 
 -- what is true of an older event is so in the whole history
 pub at_older : (q : Event → Bool) (h : List Event) (n p : ℕ) → n < length h → at q (take n h) p ≡ true → at q h p ≡ true
-at_older q h n p l passes =
-    search (rules, length, take, at_within, length-take-le, at-take)
+at_older q h n p l passes = search (rules, length, take, at_within, length-take-le, at-take)
 
 pub event_at : (h : List Event) (n : ℕ) → n < length h → (e : Event) × (slice_get h n ≡ Some e)
 event_at [] n l = absurd (omega arith)
@@ -39,9 +38,7 @@ pub opened_free : (base : Kept) → (h : List Event) → IsLawful base h → (n 
 opened_free base h law n place kind at_n = by_case (found_at base h law n (Open place kind) at_n) where
   has_place : (place : Place) → IsFree base (take n h) place → HasPlace (take n h) place
   has_place Root free = tt
-  has_place (Source p) free = free.1
-  has_place (Inner p) free = free.1
-  has_place (Notifier p) free = free.1
+  has_place _ free = free.1
 
   by_case : FoundAt base h n (Open place kind) → HasPlace (take n h) place
   by_case (in_base found same) = subst (λ k. HasPlace k place) (sym same) (law.started.placed n place kind found)

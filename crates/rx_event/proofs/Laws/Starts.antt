@@ -23,10 +23,7 @@ all_last P (y ∷ xs) x all = all_last P xs x all.1
 
 split_last : (xs : List Event) → (xs ≡ []) ⊎ ((ys : List Event) × (y : Event) × (xs ≡ ys ++ y ∷ []))
 split_last [] = inl refl
-split_last (x ∷ xs) = by_case (split_last xs) where
-  by_case : (xs ≡ []) ⊎ ((ys : List Event) × (y : Event) × (xs ≡ ys ++ y ∷ [])) → (x ∷ xs ≡ []) ⊎ ((ys : List Event) × (y : Event) × (x ∷ xs ≡ ys ++ y ∷ []))
-  by_case (inl none) = inr ([], x, ap (λ k. x ∷ k) none)
-  by_case (inr w) = inr (x ∷ w.0, w.1, ap (λ k. x ∷ k) w.2)
+split_last (x ∷ xs) = elim (split_last xs) [ inl none ↦ inr ([], x, ap (λ k. x ∷ k) none) | inr w ↦ inr (x ∷ w.0, w.1, ap (λ k. x ∷ k) w.2) ]
 
 same_push : (xs ys : List Event) (x y : Event) → xs ++ x ∷ [] ≡ ys ++ y ∷ [] → (xs ≡ ys) × (x ≡ y)
 same_push xs ys x y same =
@@ -52,12 +49,10 @@ lawful_parts base h e long law = by_case (split_last law.since) where
           started = law.started;
           since = xs;
           reads = parts.0;
-          each =
-              all_front (λ (m : Moment). MayFollow base m.before m.event) (moments_after (shown base) xs) (record { before = shown base ++ xs; event = x })
+          each = all_front (λ (m : Moment). MayFollow base m.before m.event) (moments_after (shown base) xs) (record { before = shown base ++ xs; event = x })
               each;
         },
-        subst (λ k. MayFollow base k e) (sym parts.0)
-            (subst (λ z. MayFollow base (shown base ++ xs) z) (sym parts.1)
+        subst (λ k. MayFollow base k e) (sym parts.0) (subst (λ z. MayFollow base (shown base ++ xs) z) (sym parts.1)
             (all_last (λ (m : Moment). MayFollow base m.before m.event) (moments_after (shown base) xs) (record { before = shown base ++ xs; event = x })
             each)),
       )
@@ -137,8 +132,7 @@ starts_at base {b = b} law whole on_k on_j =
     record { start = b; begun = inl refl; law = law; whole = whole; one = forced_due_on base on_k whole; other = forced_due_on base on_j whole }
 
 pub starts_with : (base : Kept) → {b k j : List Event} → IsLawful base b → IsForcedOn base b k → IsForcedOn base b j → {e x : Event} → IsForced base b e →
-    IsForcedOn base (b ++ e ∷ []) k → IsForced base b x →
-    IsForcedOn base (b ++ x ∷ []) j → StartAlike base b k j
+    IsForcedOn base (b ++ e ∷ []) k → IsForced base b x → IsForcedOn base (b ++ x ∷ []) j → StartAlike base b k j
 starts_with base law on_k on_j (due whole d) rest_k f rest_j = starts_at base law whole on_k on_j
 starts_with base law on_k on_j (connecting {g = g} d) rest_k (due whole x) rest_j = absurd (whole g d)
 starts_with base {b = b} {j = j} law on_k on_j (connecting {g = g} d) rest_k (connecting {g = i} x) rest_j =

@@ -1,11 +1,10 @@
 -- What a caller opens stays open through all that is forced after it, and so does the node at which it hands in a resource.
 use Rattle.rx_event.proofs.Laws.Common.{◌≡◌, ℕ, zero, suc, ◌+◌, ◌<◌, ◌≤◌, Bool, true, false, List, [], ◌∷◌, ◌++◌, length, Option, Some, None, slice_get, refl}
 use Rattle.rx_event.proofs.Laws.Common.{sym, ap, subst, ◌∙◌, inl, inr, ◌⊎◌, ◌==◌, arith, length-append, append_assoc, append-nil, not, ◌&&◌, list_any}
-use Rattle.rx_event.proofs.Laws.Common.{option_map_or, false≢true, cases_order, and_parts, or_cases, slice_get_within, same_Some, Completed, Error, Kept}
-use Rattle.rx_event.proofs.Laws.Common.{shown, Place, Root, Source, Inner, Notifier, Kind, Pass, Event, Open, Connect, Accept, Close, is_subscriber_of}
-use Rattle.rx_event.proofs.Laws.Common.{parent_named, at, parent, ancestors, is_open, is_within, shuts, mirrored, fired, failed, completed, cut, left}
-use Rattle.rx_event.proofs.Laws.Common.{connecting, due, IsDue, IsForced, IsSettled, forced, allowed, opened_with, stays, more, MayFollow, IsLawful}
-use Rattle.rx_event.proofs.Laws.Common.{IsForcedOn}
+use Rattle.rx_event.proofs.Laws.Common.{option_map_or, false≢true, cases_order, and_parts, or_cases, slice_get_within, same_Some, Completed, Error, Kept, shown}
+use Rattle.rx_event.proofs.Laws.Common.{Place, Root, Source, Inner, Notifier, Kind, Pass, Event, Open, Connect, Accept, Close, is_subscriber_of, parent_named}
+use Rattle.rx_event.proofs.Laws.Common.{at, parent, ancestors, is_open, is_within, shuts, mirrored, fired, failed, completed, cut, left, connecting, due, IsDue}
+use Rattle.rx_event.proofs.Laws.Common.{IsForced, IsSettled, forced, allowed, opened_with, stays, more, MayFollow, IsLawful, IsForcedOn}
 use Rattle.rx_event.proofs.Laws.Lawful.{IsLawful_empty, IsLawful-push}
 use Rattle.rx_event.specs.Claims.Stays.{ends_or_declines, FiresNone}
 use Rattle.rx_event.proofs.Laws.Places.{slice_get-append, slice_get_last, at-append, at_within}
@@ -44,15 +43,11 @@ module _ (base : Kept) (h k : List Event) (n : ℕ) (w : IsUnharmed base h k n) 
   used c g l keeps u = settled_used base h w.settled c g (unused_older h w.added w.grown w.law g u l keeps)
 
   under_before : (e : Event) (c g : ℕ) → IsUnder (k ++ e ∷ []) n c g → IsUnder k n c g
-  under_before e c g under = record { above = before; connection = sym (slice_get-append k (e ∷ []) c near) ∙ under.connection } where
-    l : n < length k
-    l = is_open_within k n w.alive
-
-    before : is_within k c n ≡ true
-    before = sym (ap (list_any (λ a. c == a)) (ancestors-append k (e ∷ []) n l)) ∙ under.above
-
-    near : c < length k
-    near = let le = is_within-le k c n before in let m = l in omega arith
+  under_before e c g under =
+      let l : n < length k = is_open_within k n w.alive in
+      let before : is_within k c n ≡ true = sym (ap (list_any (λ a. c == a)) (ancestors-append k (e ∷ []) n l)) ∙ under.above in
+      let near : c < length k = let le = is_within-le k c n before in let m = l in omega arith in
+      record { above = before; connection = sym (slice_get-append k (e ∷ []) c near) ∙ under.connection }
 
   -- one more event that keeps n and those subscribers open
   carried : (e : Event) → MayFollow base k e → ends_or_declines e ≡ false → FiresNone k e → is_open (k ++ e ∷ []) n ≡ true →
@@ -73,8 +68,7 @@ module _ (base : Kept) (h k : List Event) (n : ℕ) (w : IsUnharmed base h k n) 
 
   -- one that shuts nothing
   carried_whole : (e : Event) → MayFollow base k e → ends_or_declines e ≡ false → FiresNone k e → shuts_none e ≡ true → IsUnharmed base h (k ++ e ∷ []) n
-  carried_whole e next calm unfired spares =
-      search (rules, closes_none_kept, carried)
+  carried_whole e next calm unfired spares = search (rules, closes_none_kept, carried)
 
   -- the closing of a connection that nobody uses
   carried_close : (c g : ℕ) → IsForced base k (Close c) → IsUnused k c g → IsUnharmed base h (k ++ Close c ∷ []) n
@@ -97,8 +91,7 @@ module _ (base : Kept) (h k : List Event) (n : ℕ) (w : IsUnharmed base h k n) 
             let l : s < length h = at_within (is_subscriber_of j) h s subscribes in
             let now = ap (λ (q : List Event). at (is_subscriber_of j) q s) w.grown ∙ at-append (is_subscriber_of j) h w.added s l ∙ subscribes in
             let order : j < g = hubs_in_order w.law j s c now inside u.made in
-            let near : c ≤ s = is_within-le k c s inside in
-            used c g (omega arith) (w.keeps d i g under (omega arith)) u
+            let near : c ≤ s = is_within-le k c s inside in used c g (omega arith) (w.keeps d i g under (omega arith)) u
 
   -- what is forced
   carried_forced : (e : Event) → IsForced base k e → IsUnharmed base h (k ++ e ∷ []) n
@@ -110,8 +103,7 @@ module _ (base : Kept) (h k : List Event) (n : ℕ) (w : IsUnharmed base h k n) 
     by_due (failed {f = f} {c = code} o m c) = absurd (w.ends_none f (Error code) (failed o m c))
     by_due (completed {f = f} o m x y z v) = absurd (w.ends_none f Completed (completed o m x y z v))
     by_due (cut {s = s} {t = t} o c) = absurd (w.ends_none s t (cut o c))
-    by_due (left {c = c} {g = g} o at_c a s) =
-        carried_close c g (due none (left o at_c a s)) (record { alive = o; made = at_c; auto = a; unsubscribed = s })
+    by_due (left {c = c} {g = g} o at_c a s) = carried_close c g (due none (left o at_c a s)) (record { alive = o; made = at_c; auto = a; unsubscribed = s })
 
 -- so all that is forced keeps n open
 unharmed_on : (base : Kept) → {b k : List Event} → IsForcedOn base b k → (h : List Event) (n : ℕ) → IsUnharmed base h b n → IsUnharmed base h k n
@@ -137,13 +129,12 @@ unharmed_settled base h n law settled o = record {
 cut_within : (steps : ℕ) (h : List Event) (e : Event) (c s : ℕ) → s < steps → ((a : ℕ) → shuts h a e ≡ true → is_within h c a ≡ true) → is_cut h e s ≡ true →
     is_within h c s ≡ true
 cut_within zero h e c s l each found = absurd (omega arith)
-cut_within (suc steps) h e c s l each found = by_first (search (rules, or_cases, list_any, above, ancestors_step))
+cut_within (suc steps) h e c s l each found =
+    let above : List ℕ = option_map_or (ancestors h) (parent h s) [] in
+    by_first (search (rules, or_cases, list_any, above, ancestors_step))
     (λ p m inside. cut_within steps h e c p (let b = l in omega arith) each inside) where
       shut : ℕ → Bool
       shut a = shuts h a e
-
-      above : List ℕ
-      above = option_map_or (ancestors h) (parent h s) []
 
       by_parent : (o : Option ℕ) → parent h s ≡ o → list_any (λ a. shuts h a e) (option_map_or (ancestors h) o []) ≡ true →
           ((p : ℕ) → p < s → is_cut h e p ≡ true → is_within h c p ≡ true) → is_within h c s ≡ true
@@ -175,8 +166,7 @@ module _ (base : Kept) (h : List Event) (place : Place) (kind : Kind) (law : IsL
     by_place (inr (inr past)) = absurd (let le = is_within-le opened_on c (length h) under.above in omega arith)
     by_place (inl last) =
         let here = ap (slice_get opened_on) (sym last) ∙ under.connection in
-        let both : Some (Open place kind) ≡ Some (Connect g) = sym (slice_get_last h (Open place kind)) ∙ here in
-        absurd (cc)
+        let both : Some (Open place kind) ≡ Some (Connect g) = sym (slice_get_last h (Open place kind)) ∙ here in absurd (cc)
 
   -- and all that the opening takes away stands below it
   cut_under : (c g s : ℕ) → IsUnder opened_on (length h) c g → is_cut h (Open place kind) s ≡ true → is_within h c s ≡ true
@@ -187,8 +177,7 @@ module _ (base : Kept) (h : List Event) (place : Place) (kind : Kind) (law : IsL
         let named = parent_name opened_on (length h) p (Open place kind) below (slice_get_last h (Open place kind)) in
         let stays_above = ancestors-append h (Open place kind ∷ []) p (parent-lt opened_on (length h) p below) in
         let above : is_within h c p ≡ true = sym (ap (list_any (λ a. c == a)) stays_above) ∙ inside in
-        cut_within (suc s) h (Open place kind) c s (omega arith) (λ a shut. within_parent h c a p (shut_beside h law place kind p a named shut) above)
-        cut_off
+        cut_within (suc s) h (Open place kind) c s (omega arith) (λ a shut. within_parent h c a p (shut_beside h law place kind p a named shut) above) cut_off
 
   -- so it takes away no subscriber of the hub of that connection, or of a later one
   keeps_later : (c g j : ℕ) → IsUnder opened_on (length h) c g → g ≤ j → KeepsSubscribers h opened_on j
@@ -253,8 +242,7 @@ opened_stays base h k place kind law next on = (unharmed_on base on h (length h)
 
 -- So does the node at which a resource is accepted
 pub accepted_stays : (base : Kept) → (h k : List Event) (n tag : ℕ) → IsLawful base h → MayFollow base h (Accept n tag) →
-    IsForcedOn base (h ++ Accept n tag ∷ []) k →
-    is_open k n ≡ true
+    IsForcedOn base (h ++ Accept n tag ∷ []) k → is_open k n ≡ true
 accepted_stays base h k n tag law next on =
     let b = accepted_begun base h n tag law next in
     (unharmed_on base on b.before n (carried_whole base b.before h n b.unharmed (Accept n tag) next refl (λ m. refl) refl)).alive
@@ -269,7 +257,5 @@ opened_using_stays base h k place tag law next on =
 
 -- What a caller connects stays open
 pub connected_stays : (base : Kept) → (h k : List Event) (g : ℕ) → IsLawful base h → IsSettled base h → MayFollow base h (Connect g) →
-    IsForcedOn base (h ++ Connect g ∷ []) k →
-    is_open k (length h) ≡ true
-connected_stays base h k g law settled next on =
-    search (rules, settled_on, law, settled, closes_none_kept, length, unforced, is_open_new)
+    IsForcedOn base (h ++ Connect g ∷ []) k → is_open k (length h) ≡ true
+connected_stays base h k g law settled next on = search (rules, settled_on, law, settled, closes_none_kept, length, unforced, is_open_new)

@@ -1,10 +1,9 @@
 -- Histories, one event more at a time: proofs by their events, and what stands where an event may follow.
 use Rattle.rx_event.proofs.Laws.Common.{◌≡◌, ℕ, ℤ, ◌<◌, Bool, true, false, List, [], ◌∷◌, ◌++◌, take, Some, refl, sym, ap, ◌∙◌, subst, arith, slice_get}
 use Rattle.rx_event.proofs.Laws.Common.{append_assoc, append-nil, AllByRecursion, false≢true, lt-ltb, slice_get_within, same_Some, none-some, Kept, shown}
-use Rattle.rx_event.proofs.Laws.Common.{Place, Kind, Event, Open, Connect, Accept, Use, Remove, Lease, Return, Item, Decline}
-use Rattle.rx_event.proofs.Laws.Common.{End, Close, Take, is_merging, parent_named, at, parent, is_open, is_owned, is_out, is_held, is_waiting, Moment}
-use Rattle.rx_event.proofs.Laws.Common.{moments_after, owed, left, due, IsDue, IsForced, IsAllowed, Started}
-use Rattle.rx_event.proofs.Laws.Common.{MayFollow, IsLawful, common_steps}
+use Rattle.rx_event.proofs.Laws.Common.{Place, Kind, Event, Open, Connect, Accept, Use, Remove, Lease, Return, Item, Decline, End, Close, Take, is_merging}
+use Rattle.rx_event.proofs.Laws.Common.{parent_named, at, parent, is_open, is_owned, is_out, is_held, is_waiting, Moment, moments_after, owed, left, due, IsDue}
+use Rattle.rx_event.proofs.Laws.Common.{IsForced, IsAllowed, Started, MayFollow, IsLawful, common_steps}
 use Rattle.rx_event.specs.Allowed.{opened, accepted, used, removed, leased, returned, emitted, declined, taken, IsFree}
 use Rattle.rx_event.proofs.Laws.Openness.{is_open_within}
 use Rattle.rx_event.proofs.Laws.Lawful.{IsLawful-push, IsLawful_empty, in_base, since_base, FoundAt, found_at}
@@ -19,16 +18,14 @@ pub by_pushes : (P : List Event → Type 0) → P [] → ((h : List Event) (e : 
 by_pushes P start step h = by_pushes_after P step [] h start
 
 by_events_after : (base : Kept) → (P : List Event → Type 0) → ((h : List Event) (e : Event) → IsLawful base h → MayFollow base h e → P h → P (h ++ e ∷ [])) →
-    (b h : List Event) →
-    IsLawful base b → P b → AllByRecursion (λ (m : Moment). MayFollow base m.before m.event) (moments_after b h) → P (b ++ h)
+    (b h : List Event) → IsLawful base b → P b → AllByRecursion (λ (m : Moment). MayFollow base m.before m.event) (moments_after b h) → P (b ++ h)
 by_events_after base P step b [] law p each = rw (append-nil b) p
 by_events_after base P step b (x ∷ h) law p each =
     rw (← append_assoc b (x ∷ []) h) (by_events_after base P step (b ++ x ∷ []) h (IsLawful-push base b x law each.0) (step b x law each.0 p) each.1)
 
 -- what holds of what the base shows, and after each event that may follow, holds of each lawful history
 pub by_events : (base : Kept) → (P : List Event → Type 0) → (Started base → P (shown base)) →
-    ((h : List Event) (e : Event) → IsLawful base h → MayFollow base h e → P h → P (h ++ e ∷ [])) → (h : List Event) →
-    IsLawful base h → P h
+    ((h : List Event) (e : Event) → IsLawful base h → MayFollow base h e → P h → P (h ++ e ∷ [])) → (h : List Event) → IsLawful base h → P h
 by_events base P start step h law =
     subst P (sym law.reads) (by_events_after base P step (shown base) law.since (IsLawful_empty base law.started) (start law.started) law.each)
 
@@ -138,8 +135,7 @@ named_open base h law n p e at_n named = by_case (found_at base h law n e at_n) 
 pub named_below : (base : Kept) → (h : List Event) → IsLawful base h → (n p : ℕ) (e : Event) → slice_get h n ≡ Some e → parent_named e ≡ Some p → p < n
 named_below base h law n p e at_n named =
     let o = is_open_within (take n h) p (named_open base h law n p e at_n named) in
-    let l = slice_get_within h n e at_n in
-    grind (arith, common_steps)
+    let l = slice_get_within h n e at_n in grind (arith, common_steps)
 
 -- and stands below the node that it names
 pub parent-named : (base : Kept) → (h : List Event) → IsLawful base h → (n p : ℕ) (e : Event) → slice_get h n ≡ Some e → parent_named e ≡ Some p →

@@ -1,7 +1,6 @@
 -- Places of a stored history.
 use Rattle.rx_event.proofs.Laws.Common.{◌≡◌, ℕ, zero, suc, ◌+◌, ◌-◌, ◌≤◌, List, [], ◌∷◌, ◌++◌, length, ap, ◌∙◌, arith, map, slice_get, length-append}
-use Rattle.rx_event.proofs.Laws.Common.{append-nil}
-use Rattle.rx_event.proofs.Laws.Common.{Event, Kept, shown}
+use Rattle.rx_event.proofs.Laws.Common.{append-nil, Event, Kept, shown}
 use Rattle.std.proofs.lemmas.List.{length-map}
 use Rattle.rx_event.specs.Words.{event_of}
 use Rattle.rx_event.specs.declared.stored.StoredEvent.{StoredEvent}
@@ -21,8 +20,7 @@ stored_nothing b = append-nil (shown b)
 slice_get-after : {X : Type 0} (xs ys : List X) (n : ℕ) → length xs ≤ n → slice_get (xs ++ ys) n ≡ slice_get ys (n - length xs)
 slice_get-after [] ys n past = ap (slice_get ys) (let e : n ≡ n - 0 = omega arith in e)
 slice_get-after (x ∷ xs) ys zero past = absurd (omega arith)
-slice_get-after (x ∷ xs) ys (suc n) past =
-    search (rules, slice_get, length, slice_get-after xs ys n (omega arith))
+slice_get-after (x ∷ xs) ys (suc n) past = search (rules, slice_get, length, slice_get-after xs ys n (omega arith))
 
 pub get_stored : (b : Kept) (es : List Event) (n : ℕ) → b.at_length ≤ n → slice_get (shown b ++ es) n ≡ slice_get es (n - b.at_length)
 get_stored b es n past = search (rules, length-shown, slice_get-after, slice_get)

@@ -14,9 +14,8 @@ use Rattle.std.proofs.Common.{rules}
 
 inner_named : (f : ℕ) (o : Option Event) → option_map_or (is_inner_of f) o false ≡ true → (P : Type 0) →
     ((e : Event) → o ≡ Some e → parent_named e ≡ Some f → P) → P
-inner_named f None inner P then = absurd (false≢true inner)
 inner_named f (Some (Open (Inner g) kind)) inner P then = then (Open (Inner g) kind) refl (ap Some (eqb-true g f inner))
-inner_named f (Some _) inner P then = absurd (false≢true inner)
+inner_named f _ inner P then = absurd (false≢true inner)
 
 -- an inner has a larger number than its FlatMap or Switch
 pub inner_above : (base : Kept) → (h : List Event) → IsLawful base h → (f n : ℕ) → at (is_inner_of f) h n ≡ true → f < n
@@ -28,8 +27,7 @@ switched base h law f n switch inner = and_from _ _ (and_from _ _ (lt-ltb f n (i
 
 -- the new inner cuts the older ones
 older_cut : {base : Kept} → (h : List Event) (e : Event) → IsLawful base h → (f a : ℕ) → at is_switch h f ≡ true → at (is_inner_of f) h a ≡ true →
-    is_inner_of f e ≡ true →
-    is_cut h e a ≡ true
+    is_inner_of f e ≡ true → is_cut h e a ≡ true
 older_cut {base} h (Open (Inner g) kind) law f a switch inner new =
     self_cut h (Open (Inner g) kind) a (ap (λ q. is_switched_inner h q a) (eqb-true g f new) ∙ switched base h law f a switch inner)
 older_cut h (Open Root kind) law f a switch inner new = absurd (false≢true new)
@@ -41,10 +39,8 @@ swapped two = search rules
 
 -- two open inners of one Switch are the same
 pub one_inner : (base : Kept) → (h : List Event) → IsLawful base h → (f a b : ℕ) → TwoOpenInners h f a b → a ≡ b
-one_inner base =
-    by_events base (λ h. (f a b : ℕ) → TwoOpenInners h f a b → a ≡ b)
-    (λ s f a b two. s.one_inner f a b two.switch two.one two.one_open two.other two.other_open)
-    (λ h e law next. after e law)
+one_inner base = by_events base (λ h. (f a b : ℕ) → TwoOpenInners h f a b → a ≡ b)
+    (λ s f a b two. s.one_inner f a b two.switch two.one two.one_open two.other two.other_open) (λ h e law next. after e law)
   where
     -- the older is closed where the other is new
     clash : {h : List Event} (e : Event) → IsLawful base h → {f a b : ℕ} → TwoOpenInners (h ++ e ∷ []) f a b → a < length h → b ≡ length h → ⊥
@@ -96,8 +92,7 @@ and_yes a b none = grind arith
 
 -- the open inner of a Switch is the only one
 same_inner : {base : Kept} → {h : List Event} (f c : ℕ) → IsLawful base h → at is_switch h f ≡ true → at (is_inner_of f) h c ≡ true → is_open h c ≡ true →
-    (a : ℕ) →
-    is_open h a ≡ true → is_switched_inner h f a ≡ (c == a)
+    (a : ℕ) → is_open h a ≡ true → is_switched_inner h f a ≡ (c == a)
 same_inner {base} {h} f c law switch inner o a there = by_test (is_switched_inner h f a) refl (cases_Bool (c == a)) where
   by_test : (b : Bool) → is_switched_inner h f a ≡ b → ((c == a) ≡ true) ⊎ ((c == a) ≡ false) → b ≡ (c == a)
   by_test true s e =
@@ -108,30 +103,23 @@ same_inner {base} {h} f c law switch inner o a there = by_test (is_switched_inne
 -- the opening of another inner of a Switch closes the open inner c, and what is below it
 pub is_open-inner_switch : {base : Kept} {h : List Event} {f c : ℕ} → IsLawful base h → IsOpenInner h f c → (kind : Kind) (n : ℕ) → n < length h →
     is_open (h ++ Open (Inner f) kind ∷ []) n ≡ (is_open h n && not (is_within h c n))
-is_open-inner_switch {h = h} {f = f} {c = c} law i kind n l =
-    is_open_cut h (Open (Inner f) kind) n l ∙
-    and_same (is_open h n) _ _
+is_open-inner_switch {h = h} {f = f} {c = c} law i kind n l = is_open_cut h (Open (Inner f) kind) n l ∙ and_same (is_open h n) _ _
     (λ here. list_any-agree (λ a. is_open h a ≡ true) (λ a. is_switched_inner h f a) (λ a. c == a) (same_inner f c law i.switch i.inner i.alive)
     (ancestors h n) (ancestors_open h n here))
 
 -- where no inner is open, it closes nothing
 pub is_open-inner_first : (h : List Event) (f : ℕ) (kind : Kind) → ((c : ℕ) → at (is_inner_of f) h c ≡ true → is_open h c ≡ false) → (n : ℕ) → n < length h →
     is_open (h ++ Open (Inner f) kind ∷ []) n ≡ is_open h n
-is_open-inner_first h f kind none n l =
-    is_open_cut h (Open (Inner f) kind) n l ∙
+is_open-inner_first h f kind none n l = is_open_cut h (Open (Inner f) kind) n l ∙
     and_yes (is_open h n) _ (λ here. list_any-agree (λ a. is_open h a ≡ true) (λ a. is_switched_inner h f a) (λ a. false) same (ancestors h n)
-    (ancestors_open h n here) ∙
-    never (ancestors h n))
+    (ancestors_open h n here) ∙ never (ancestors h n))
   where
     never : (xs : List ℕ) → list_any (λ (a : ℕ). false) xs ≡ false
     never [] = refl
     never (x ∷ xs) = never xs
 
     same : (a : ℕ) → is_open h a ≡ true → is_switched_inner h f a ≡ false
-    same a there = by_test (cases_Bool (is_switched_inner h f a)) where
-      by_test : (is_switched_inner h f a ≡ true) ⊎ (is_switched_inner h f a ≡ false) → is_switched_inner h f a ≡ false
-      by_test (inl s) = absurd (both_ways _ (none a (and_parts _ _ s).1) there)
-      by_test (inr s) = s
+    same a there = elim (cases_Bool (is_switched_inner h f a)) [ inl s ↦ absurd (both_ways _ (none a (and_parts _ _ s).1) there) | inr s ↦ s ]
 
 -- the opening of an inner of a FlatMap closes nothing
 pub is_open-inner_flat : (h : List Event) (f : ℕ) (kind : Kind) → at is_switch h f ≡ false → (n : ℕ) → n < length h →
@@ -140,10 +128,8 @@ is_open-inner_flat h f kind flat n l = search (rules, is_open_cut, and_yes, is_c
 
 -- of the open nodes, it cuts those within c
 pub is_cut-inner_switch : {base : Kept} → {h : List Event} (f c : ℕ) (kind : Kind) → IsLawful base h → at is_switch h f ≡ true →
-    at (is_inner_of f) h c ≡ true → is_open h c ≡ true →
-    (n : ℕ) → (is_open h n && is_cut h (Open (Inner f) kind) n) ≡ (is_open h n && is_within h c n)
-is_cut-inner_switch {h} f c kind law switch inner o n =
-    cut_same (is_open h n) _ _
+    at (is_inner_of f) h c ≡ true → is_open h c ≡ true → (n : ℕ) → (is_open h n && is_cut h (Open (Inner f) kind) n) ≡ (is_open h n && is_within h c n)
+is_cut-inner_switch {h} f c kind law switch inner o n = cut_same (is_open h n) _ _
     (λ here. list_any-agree (λ a. is_open h a ≡ true) (λ a. is_switched_inner h f a) (λ a. c == a) (same_inner f c law switch inner o)
     (ancestors h n) (ancestors_open h n here))
   where

@@ -1,11 +1,10 @@
 -- What one more event adds to the totals.
 use Rattle.rx_event.proofs.Laws.Common.{◌≡◌, ℕ, ◌+◌, ◌<◌, ◌≤◌, Bool, true, false, List, [], ◌∷◌, ◌++◌, length, Option, Some, None, cond, refl, sym, ap, ◌∙◌}
 use Rattle.rx_event.proofs.Laws.Common.{arith, inl, inr, ◌⊎◌, ◌==◌, length-append, not, ◌&&◌, ◌||◌, sum_by, count_by, option_map_or, cases_Bool, false≢true}
-use Rattle.rx_event.proofs.Laws.Common.{eq-eqb, eqb-true, ne_eqb, sum_by_push, Terminal, Kept, Source, Inner, Notifier, Kind, Event, Open}
-use Rattle.rx_event.proofs.Laws.Common.{Accept, Use, Remove, End, Close, Take, makes_node, makes_resource, node_of_accept, parent_named, is_use_of}
-use Rattle.rx_event.proofs.Laws.Common.{is_take_of, places, is_open, is_within, is_owned, is_held, is_waiting, uses, open_count, MayFollow, IsLawful}
-use Rattle.rx_event.proofs.Laws.Common.{and_false, counted_in_parts, counted_once, none_counted, is_take, is_leased, accepted_count, taken_count, held_count}
-use Rattle.rx_event.proofs.Laws.Common.{waiting_count}
+use Rattle.rx_event.proofs.Laws.Common.{eq-eqb, eqb-true, ne_eqb, sum_by_push, Terminal, Kept, Source, Inner, Notifier, Kind, Event, Open, Accept, Use, Remove}
+use Rattle.rx_event.proofs.Laws.Common.{End, Close, Take, makes_node, makes_resource, node_of_accept, parent_named, is_use_of, is_take_of, places, is_open}
+use Rattle.rx_event.proofs.Laws.Common.{is_within, is_owned, is_held, is_waiting, uses, open_count, MayFollow, IsLawful, and_false, counted_in_parts}
+use Rattle.rx_event.proofs.Laws.Common.{counted_once, none_counted, is_take, is_leased, accepted_count, taken_count, held_count, waiting_count}
 use Rattle.rx_event.specs.Events.{is_item}
 use Rattle.rx_event.specs.Totals.{item_count, owned_count}
 use Rattle.rx_event.specs.Claims.Nodes.{IsOpenInner}
@@ -68,8 +67,7 @@ owned_count-push base h e law =
     (λ r l. rw (is_owned-push base h e law r l) (counted_in_parts (is_owned h r) (loses h e r))) in
     let none = sum_by_none (λ r. 0) (length h) (λ r l. refl) in
     let last = sum_by-places-push (λ r. cond (is_owned (h ++ e ∷ []) r) 1 0) h e in
-    let new = one_if (is_owned_last base h e law) in
-    omega arith
+    let new = one_if (is_owned_last base h e law) in omega arith
 
 -- what is owned is held
 pub owned_count_within : (h : List Event) → owned_count h ≤ held_count h
@@ -108,8 +106,7 @@ waiting_count-push base h e law next =
     let older : count_by (is_waiting (h ++ e ∷ [])) (places h) + count_by (λ r. is_take_of r e) (places h) ≡ waiting_count h + lost_count h e =
     sums_balance (λ r. cond (is_waiting (h ++ e ∷ []) r) 1 0) (λ r. cond (is_take_of r e) 1 0) (λ r. cond (is_waiting h r) 1 0)
     (λ r. cond (is_held h r && not (is_held (h ++ e ∷ []) r)) 1 0) (length h) (λ r l. rw (is_waiting-unheld base h e law next r l)
-    (shape (is_waiting h r) (is_held h r) (not (is_held (h ++ e ∷ []) r)) (is_take_of r e) (λ w. (waiting_parts h r w).1)
-    (taken_waited base h e next r))) in
+    (shape (is_waiting h r) (is_held h r) (not (is_held (h ++ e ∷ []) r)) (is_take_of r e) (λ w. (waiting_parts h r w).1) (taken_waited base h e next r))) in
     let once = takes_once base h e next in
     let last = sum_by-places-push (λ r. cond (is_waiting (h ++ e ∷ []) r) 1 0) h e in
     let new = one_if (is_waiting_new base h e law next) in
@@ -130,8 +127,7 @@ accepted_count-parts base =
     let b = held_count-push base h e law next in
     let c = waiting_count-push base h e law next in
     let d = taken_count-push base h e in
-    let n = one_if (accepts_open base h e next) in
-    omega arith)
+    let n = one_if (accepts_open base h e next) in omega arith)
 
 pub lost_none : (h : List Event) (e : Event) → ((r : ℕ) → r < length h → is_held (h ++ e ∷ []) r ≡ is_held h r) → lost_count h e ≡ 0
 lost_none h e keeps = search (rules, sum_by_none, cond, not, length)
@@ -153,8 +149,7 @@ owned_count_no_rise base h e law none = let b = owned_count-push base h e law in
 -- what is held and what waits go over into each other, but for an acceptance and a taking
 pub held_waiting_count-push : (base : Kept) → (h : List Event) (e : Event) → IsLawful base h → MayFollow base h e →
     held_count (h ++ e ∷ []) + waiting_count (h ++ e ∷ []) + cond (is_take e) 1 0 ≡ held_count h + waiting_count h + cond (makes_resource e) 1 0
-held_waiting_count-push base h e law next =
-    search (rules, held_count-push, waiting_count-push, one_if, accepts_open)
+held_waiting_count-push base h e law next = search (rules, held_count-push, waiting_count-push, one_if, accepts_open)
 
 -- an acceptance at an open node
 accept_keeps : (h : List Event) (n tag r : ℕ) → loses h (Accept n tag) r ≡ false
@@ -165,8 +160,7 @@ pub owned_count-accept : (base : Kept) → (h : List Event) (n tag : ℕ) → Is
 owned_count-accept base h n tag law o =
     let b = owned_count-push base h (Accept n tag) law in
     let k = unowned_none h (Accept n tag) (accept_keeps h n tag) in
-    let c = one_if o in
-    omega arith
+    let c = one_if o in omega arith
 
 -- what an event leaves held that is not of its own making
 held_count-kept : (base : Kept) → (h : List Event) (e : Event) → IsLawful base h → ((r : ℕ) → r < length h → is_held (h ++ e ∷ []) r ≡ is_held h r) →
@@ -174,22 +168,19 @@ held_count-kept : (base : Kept) → (h : List Event) (e : Event) → IsLawful ba
 held_count-kept base h e law keeps =
     let older = sum_by-same (λ r. cond (is_held h r) 1 0) (λ r. cond (is_held (h ++ e ∷ []) r) 1 0) (length h) (λ r l. one_if (keeps r l)) in
     let last = sum_by-places-push (λ r. cond (is_held (h ++ e ∷ []) r) 1 0) h e in
-    let new = one_if (is_held_last base h e law) in
-    omega arith
+    let new = one_if (is_held_last base h e law) in omega arith
 
 pub held_count-accept : (base : Kept) → (h : List Event) (n tag : ℕ) → IsLawful base h → is_open h n ≡ true →
     held_count (h ++ Accept n tag ∷ []) ≡ held_count h + 1
 held_count-accept base h n tag law o =
     let b = held_count-kept base h (Accept n tag) law (λ r l. is_held_kept (Accept n tag) law r l refl refl refl refl) in
-    let c = one_if o in
-    omega arith
+    let c = one_if o in omega arith
 
 pub waiting_count-take : (base : Kept) → (h : List Event) (q : ℕ) → IsLawful base h → MayFollow base h (Take q) →
     waiting_count (h ++ Take q ∷ []) + 1 ≡ waiting_count h
 waiting_count-take base h q law next =
     let b = waiting_count-push base h (Take q) law next in
-    let k = lost_none h (Take q) (λ r l. is_held_kept (Take q) law r l refl refl refl refl) in
-    omega arith
+    let k = lost_none h (Take q) (λ r l. is_held_kept (Take q) law r l refl refl refl refl) in omega arith
 
 -- a removal of what is owned
 pub unowned_one : (h : List Event) (q : ℕ) → is_owned h q ≡ true → unowned_count h (Remove q) ≡ 1
@@ -205,17 +196,15 @@ unowned_one h q owned = sum_by-same (λ r. cond (q == r) 1 0) (λ r. cond (is_ow
       just_that r o (inr apart) = rw (no_cut o (q == r), apart) (and_false (is_owned h r))
 
 pub owned_count-remove : (base : Kept) → (h : List Event) (q : ℕ) → IsLawful base h → is_owned h q ≡ true → owned_count (h ++ Remove q ∷ []) + 1 ≡ owned_count h
-owned_count-remove base h q law owned =
-    let b = owned_count-push base h (Remove q) law in
-    let k = unowned_one h q owned in
-    omega arith
+owned_count-remove base h q law owned = let b = owned_count-push base h (Remove q) law in let k = unowned_one h q owned in omega arith
 
 -- what has no lease out is held no more
 lost_one : (base : Kept) → (h : List Event) (q : ℕ) → IsLawful base h → is_owned h q ≡ true → lost_count h (Remove q) ≡ cond (is_leased h q) 0 1
 lost_one base h q law owned =
     sum_by-same (λ r. cond (q == r) (cond (is_leased h r) 0 1) 0) (λ r. cond (is_held h r && not (is_held (h ++ Remove q ∷ []) r)) 1 0) (length h)
-    (λ r l. each r l) ∙
-    sum_by_one (λ r. cond (is_leased h r) 0 1) q (length h) (is_owned_within h q owned)
+    (λ r l. (ap (λ b. cond {A = ℕ} b 1 0) (λ i. held_is h r i && not ((held_is (h ++ Remove q ∷ []) r ∙
+    (λ j. is_owned-remove base h q law r l j || is_leased_kept base h (Remove q) law r l refl refl j)) i)) ∙
+    shape (is_owned h r) (is_leased h r) (q == r) (there r))) ∙ sum_by_one (λ r. cond (is_leased h r) 0 1) q (length h) (is_owned_within h q owned)
   where
     shape : (o s same : Bool) → (same ≡ true → o ≡ true) → cond {A = ℕ} ((o || s) && not ((o && not same) || s)) 1 0 ≡ cond same (cond s 0 1) 0
     shape o s same there = grind arith
@@ -223,21 +212,13 @@ lost_one base h q law owned =
     there : (r : ℕ) → (q == r) ≡ true → is_owned h r ≡ true
     there r same = ap (is_owned h) (sym (eqb-true q r same)) ∙ owned
 
-    each : (r : ℕ) → r < length h → cond {A = ℕ} (is_held h r && not (is_held (h ++ Remove q ∷ []) r)) 1 0 ≡ cond (q == r) (cond (is_leased h r) 0 1) 0
-    each r l =
-        ap (λ b. cond {A = ℕ} b 1 0) (λ i. held_is h r i && not ((held_is (h ++ Remove q ∷ []) r ∙
-        (λ j. is_owned-remove base h q law r l j || is_leased_kept base h (Remove q) law r l refl refl j)) i)) ∙
-        shape (is_owned h r) (is_leased h r) (q == r) (there r)
-
 pub held_count-remove : (base : Kept) → (h : List Event) (q : ℕ) → IsLawful base h → MayFollow base h (Remove q) → held_count (h ++ Remove q ∷ []) + cond
     (is_leased h q) 0 1 ≡ held_count h
-held_count-remove base h q law next =
-    search (rules, held_count-push, lost_one, may_remove)
+held_count-remove base h q law next = search (rules, held_count-push, lost_one, may_remove)
 
 pub waiting_count-remove : (base : Kept) → (h : List Event) (q : ℕ) → IsLawful base h → MayFollow base h (Remove q) → waiting_count (h ++ Remove q ∷ []) ≡
     waiting_count h + cond (is_leased h q) 0 1
-waiting_count-remove base h q law next =
-    search (rules, waiting_count-push, lost_one, may_remove)
+waiting_count-remove base h q law next = search (rules, waiting_count-push, lost_one, may_remove)
 
 -- open nodes counted ------------------------------------------------------------------------------
 
@@ -252,13 +233,11 @@ open_count-push h e =
     sums_balance (λ n. cond (is_open (h ++ e ∷ []) n) 1 0) (λ n. cond (is_open h n && is_cut h e n) 1 0) (λ n. cond (is_open h n) 1 0) (λ n. 0) (length h)
     (λ n l. rw (is_open_cut h e n l) (counted_in_parts (is_open h n) (is_cut h e n))) in
     let none = sum_by_none (λ n. 0) (length h) (λ n l. refl) in
-    let last = sum_by-places-push (λ n. cond (is_open (h ++ e ∷ []) n) 1 0) h e in
-    omega arith
+    let last = sum_by-places-push (λ n. cond (is_open (h ++ e ∷ []) n) 1 0) h e in omega arith
 
 -- what is made is open, where it names an open node
 pub is_open_named : (h : List Event) (e : Event) → ((p : ℕ) → parent_named e ≡ Some p → is_open h p ≡ true) → is_open (h ++ e ∷ []) (length h) ≡ makes_node e
-is_open_named h (Open (Source p) kind) names =
-    is_open_made h (Open (Source p) kind) p refl refl (names p refl) (is_cut_none h (Open (Source p) kind) p refl)
+is_open_named h (Open (Source p) kind) names = is_open_made h (Open (Source p) kind) p refl refl (names p refl) (is_cut_none h (Open (Source p) kind) p refl)
 is_open_named h (Open (Inner p) kind) names = is_open_made h (Open (Inner p) kind) p refl refl (names p refl) (is_cut_inner h p kind p (omega arith))
 is_open_named h (Open (Notifier p) kind) names =
     is_open_made h (Open (Notifier p) kind) p refl refl (names p refl) (is_cut_none h (Open (Notifier p) kind) p refl)
@@ -272,8 +251,7 @@ is_open_new base h e next = is_open_named h e (λ p named. may_name base next na
 -- an event that cuts no node
 pub open_count_uncut : (base : Kept) → (h : List Event) (e : Event) → MayFollow base h e → ((n : ℕ) → is_cut h e n ≡ false) →
     open_count (h ++ e ∷ []) ≡ open_count h + cond (makes_node e) 1 0
-open_count_uncut base h e next whole =
-    search (rules, open_count-push, one_if, is_open_new, sum_by_none, cond, length, none_counted)
+open_count_uncut base h e next whole = search (rules, open_count-push, one_if, is_open_new, sum_by_none, cond, length, none_counted)
 
 pub open_count_made : (base : Kept) → (h : List Event) (e : Event) → MayFollow base h e → shuts_none e ≡ true →
     open_count (h ++ e ∷ []) ≡ open_count h + cond (makes_node e) 1 0
@@ -293,12 +271,10 @@ within_some h c o =
 -- the end or the closing of c closes c and what is open below it
 pub open_count-end : (h : List Event) (c : ℕ) (t : Terminal) →
     open_count (h ++ End c t ∷ []) + count_by (λ n. is_open h n && is_within h c n) (places h) ≡ open_count h
-open_count-end h c t =
-    search (rules, open_count-push, one_if, is_open_last_none)
+open_count-end h c t = search (rules, open_count-push, one_if, is_open_last_none)
 
 pub open_count-close : (h : List Event) (c : ℕ) → open_count (h ++ Close c ∷ []) + count_by (λ n. is_open h n && is_within h c n) (places h) ≡ open_count h
-open_count-close h c =
-    search (rules, open_count-push, one_if, is_open_last_none)
+open_count-close h c = search (rules, open_count-push, one_if, is_open_last_none)
 
 -- so there is at least one open node less
 pub open_count_falls-end : (h : List Event) (c : ℕ) (t : Terminal) → is_open h c ≡ true → open_count (h ++ End c t ∷ []) + 1 ≤ open_count h
@@ -309,12 +285,9 @@ open_count_falls-close h c o = let b = open_count-close h c in let s = within_so
 
 -- an inner of a Switch comes in place of the open inner c, and of what is open below it
 pub open_count-inner_switch : {base : Kept} {h : List Event} {f c : ℕ} {kind : Kind} → IsLawful base h → MayFollow base h (Open (Inner f) kind) →
-    IsOpenInner h f c →
-    open_count (h ++ Open (Inner f) kind ∷ []) + count_by (λ n. is_open h n && is_within h c n) (places h) ≡ open_count h + 1
+    IsOpenInner h f c → open_count (h ++ Open (Inner f) kind ∷ []) + count_by (λ n. is_open h n && is_within h c n) (places h) ≡ open_count h + 1
 open_count-inner_switch {base} {h} {f} {c} {kind} law next i =
     let b = open_count-push h (Open (Inner f) kind) in
     let n = one_if (is_open_new base h (Open (Inner f) kind) next) in
-    let k =
-    sum_by-same (λ n. cond (is_open h n && is_within h c n) 1 0) (λ n. cond (is_open h n && is_cut h (Open (Inner f) kind) n) 1 0) (length h)
-    (λ n l. one_if (is_cut-inner_switch f c kind law i.switch i.inner i.alive n)) in
-    omega arith
+    let k = sum_by-same (λ n. cond (is_open h n && is_within h c n) 1 0) (λ n. cond (is_open h n && is_cut h (Open (Inner f) kind) n) 1 0) (length h)
+    (λ n l. one_if (is_cut-inner_switch f c kind law i.switch i.inner i.alive n)) in omega arith

@@ -17,8 +17,7 @@ use Rattle.std.proofs.Common.{rules}
 
 -- what an event cuts, it shuts, or it cuts its parent
 cut_cases : (h : List Event) (e : Event) (n : ℕ) → is_cut h e n ≡ true → (shuts h n e ≡ true) ⊎ ((p : ℕ) × (parent h n ≡ Some p) × (is_cut h e p ≡ true))
-cut_cases h e n cuts =
-    search (rules, or_cases, list_any, option_map_or, ancestors_step, false≢true)
+cut_cases h e n cuts = search (rules, or_cases, list_any, option_map_or, ancestors_step, false≢true)
 
 cut_above : (h : List Event) (e : Event) (n p : ℕ) → parent h n ≡ Some p → is_cut h e p ≡ true → is_cut h e n ≡ true
 cut_above h e n p below cuts = search (rules, list_any, ancestors_step, or_right)
@@ -86,8 +85,7 @@ module _ (r s i j : ℕ → ℕ) (p q : List Event) (e : Event) (a : AreTreesRea
     by_place : (m ≡ length p) ⊎ ((m < length p) ⊎ (length p < m)) → WhereOpen m
     by_place (inl last) =
         let node : makes_node e ≡ true = sym (is_open_named p e g.names) ∙ ap (is_open H) (sym last) ∙ o in
-        let new = g.newest (node_named e node) in
-        is_new last node (ap i last ∙ new.0) new.1
+        let new = g.newest (node_named e node) in is_new last node (ap i last ∙ new.0) new.1
     by_place (inr (inl l)) = let was = open_old p e m l o in is_old l was (g.older m l) (is_open_within q (r m) (a.there.alive m was))
     by_place (inr (inr past)) = absurd (let w = is_open_within H m o in omega (arith, length-append p (e ∷ [])))
 
@@ -164,8 +162,7 @@ module _ (r s i j : ℕ → ℕ) (p q : List Event) (e : Event) (a : AreTreesRea
     by_where : WhereOpen n → m < n
     by_where (is_new last node new back) =
         let is : e ≡ x = same_Some e x (sym (slice_get_last p e) ∙ ap (slice_get H) (sym last) ∙ at_n) in
-        let l : m < length p = is_open_within p m (g.names m (ap parent_named is ∙ named)) in
-        omega arith
+        let l : m < length p = is_open_within p m (g.names m (ap parent_named is ∙ named)) in omega arith
     by_where (is_old l was number near) = a.below n m x was (sym (slice_get-append p (e ∷ []) n l) ∙ at_n) named
 
 -- with the same numbers

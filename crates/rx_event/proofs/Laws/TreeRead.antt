@@ -45,13 +45,11 @@ parent_named_by r e = grind arith
 
 pub named_parent : (p : List Event) (n m : ℕ) (e : Event) → slice_get p n ≡ Some e → parent_named e ≡ Some m → m < n → parent p n ≡ Some m
 unfolding parent
-named_parent p n m e at_n named l =
-    search (rules, option_and_then, cond, lt-ltb)
+named_parent p n m e at_n named l = search (rules, option_and_then, cond, lt-ltb)
 
 unnamed_parent : (p : List Event) (n : ℕ) (e : Event) → slice_get p n ≡ Some e → parent_named e ≡ None → parent p n ≡ None
 unfolding parent
-unnamed_parent p n e at_n named =
-    search (rules, option_and_then)
+unnamed_parent p n e at_n named = search (rules, option_and_then)
 
 pub trees_back : {r s : ℕ → ℕ} {p q : List Event} → AreTreesRead r s p q → AreTreesRead s r q p
 trees_back {r} {s} {p} {q} a = record { there = a.back; back = a.there; below = below } where
@@ -63,21 +61,17 @@ trees_back {r} {s} {p} {q} a = record { there = a.back; back = a.there; below = 
       let less : s m < s n = a.below (s n) (s m) (event_by s e) was made named_s in
       let up : is_open p (s m) ≡ true = parent_open p (s n) (s m) was (named_parent p (s n) (s m) (event_by s e) made named_s less) in
       let again : slice_get q (r (s n)) ≡ Some (event_by r (event_by s e)) = a.there.made (s n) (event_by s e) was made in
-      let same : e ≡ event_by r (event_by s e) =
-      same_Some e (event_by r (event_by s e)) (sym at_n ∙ ap (slice_get q) (sym (a.back.undone n o)) ∙ again) in
-      let number : m ≡ r (s m) =
-      same_Some m (r (s m)) (sym named ∙ ap parent_named same ∙ parent_named_by r (event_by s e) ∙ ap (option_map r) named_s) in
+      let same : e ≡ event_by r (event_by s e) = same_Some e (event_by r (event_by s e)) (sym at_n ∙ ap (slice_get q) (sym (a.back.undone n o)) ∙ again) in
+      let number : m ≡ r (s m) = same_Some m (r (s m)) (sym named ∙ ap parent_named same ∙ parent_named_by r (event_by s e) ∙ ap (option_map r) named_s) in
       let grows : r (s m) < r (s n) = a.there.order (s m) (s n) up was less in
-      let place : r (s n) ≡ n = a.back.undone n o in
-      omega arith
+      let place : r (s n) ≡ n = a.back.undone n o in omega arith
 
 -- a hub
 pub hub_made : (h : List Event) (g : ℕ) → at makes_hub h g ≡ true → (mode : Mode) × (slice_get h g ≡ Some (Hub mode))
 hub_made h g = by_event (slice_get h g) where
   by_event : (o : Option Event) → option_map_or makes_hub o false ≡ true → (mode : Mode) × (o ≡ Some (Hub mode))
-  by_event None hub = absurd (false≢true hub)
   by_event (Some (Hub mode)) hub = (mode, refl)
-  by_event (Some _) hub = absurd (false≢true hub)
+  by_event _ hub = absurd (false≢true hub)
 
 -- tests of one event --------------------------------------------------------------------------------------------------
 
@@ -157,8 +151,7 @@ module _ (r s : ℕ → ℕ) (p q : List Event) (a : AreTreesRead r s p q) where
         let less : m < n = a.below n m made.0 o made.1 named in
         let here : parent p n ≡ Some m = named_parent p n m made.0 made.1 named less in
         named_parent q (r n) (r m) (event_by r made.0) there (parent_named_by r made.0 ∙ ap (option_map r) named)
-        (a.there.order m n (parent_open p n m o here) o less) ∙
-        sym (ap (option_map r) here)
+        (a.there.order m n (parent_open p n m o here) o less) ∙ sym (ap (option_map r) here)
 
   pub parent_there : (n m : ℕ) → is_open p n ≡ true → parent p n ≡ Some m → parent q (r n) ≡ Some (r m)
   parent_there n m o below = parent_by n o ∙ ap (option_map r) below
@@ -181,18 +174,16 @@ module _ (r s : ℕ → ℕ) (p q : List Event) (a : AreTreesRead r s p q) where
           within_parent q (r n) (r m) (r k) (parent_there m k o below) (rest k (parent-lt p m k below) (parent_open p m k o below) above)
 
 -- the open nodes that pass a test, in order
-sorted_by : (r s : ℕ → ℕ) (p q : List Event) → AreTreesRead r s p q → (t u : ℕ → Bool) →
-    ((n : ℕ) → is_open p n ≡ true → t n ≡ true → u (r n) ≡ true) →
+sorted_by : (r s : ℕ → ℕ) (p q : List Event) → AreTreesRead r s p q → (t u : ℕ → Bool) → ((n : ℕ) → is_open p n ≡ true → t n ≡ true → u (r n) ≡ true) →
     ((n : ℕ) → is_open q n ≡ true → u n ≡ true → t (s n) ≡ true) →
     filter (λ n. u n && is_open q n) (places q) ≡ map r (filter (λ n. t n && is_open p n) (places p))
-sorted_by r s p q a t u there back =
-    same_list r s (λ n. t n && is_open p n) (λ n. u n && is_open q n) (length p) (length q) (record {
-      within = λ n holds. is_open_within p n (and_parts (t n) (is_open p n) holds).1;
-      within_there = λ n holds. is_open_within q n (and_parts (u n) (is_open q n) holds).1;
-      there = λ n holds. let w = and_parts (t n) (is_open p n) holds in and_from _ _ (there n w.1 w.0) (a.there.alive n w.1);
-      back = λ n holds. let w = and_parts (u n) (is_open q n) holds in (and_from _ _ (back n w.1 w.0) (a.back.alive n w.1), a.back.undone n w.1);
-      grows = λ m n one two l. a.there.order m n (and_parts (t m) (is_open p m) one).1 (and_parts (t n) (is_open p n) two).1 l;
-    })
+sorted_by r s p q a t u there back = same_list r s (λ n. t n && is_open p n) (λ n. u n && is_open q n) (length p) (length q) (record {
+  within = λ n holds. is_open_within p n (and_parts (t n) (is_open p n) holds).1;
+  within_there = λ n holds. is_open_within q n (and_parts (u n) (is_open q n) holds).1;
+  there = λ n holds. let w = and_parts (t n) (is_open p n) holds in and_from _ _ (there n w.1 w.0) (a.there.alive n w.1);
+  back = λ n holds. let w = and_parts (u n) (is_open q n) holds in (and_from _ _ (back n w.1 w.0) (a.back.alive n w.1), a.back.undone n w.1);
+  grows = λ m n one two l. a.there.order m n (and_parts (t m) (is_open p m) one).1 (and_parts (t n) (is_open p n) two).1 l;
+})
 
 module _ (r s : ℕ → ℕ) (p q : List Event) (a : AreTreesRead r s p q) where
   pub subscribers_by : (g : ℕ) → s (r g) ≡ g → open_subscribers q (r g) ≡ map r (open_subscribers p g)
@@ -210,8 +201,7 @@ module _ (r s : ℕ → ℕ) (p q : List Event) (a : AreTreesRead r s p q) where
 
   pub children_by : (n : ℕ) → is_open p n ≡ true → open_children q (r n) ≡ open_children p n
   unfolding open_children
-  children_by n o =
-      sym (length-filter (is_open_child_of q (r n)) (places q)) ∙
+  children_by n o = sym (length-filter (is_open_child_of q (r n)) (places q)) ∙
       ap length (same_list r s (is_open_child_of p n) (is_open_child_of q (r n)) (length p) (length q) (record {
         within = λ k child. is_open_within p k (and_parts (is_open p k) (is_child_of p n k) child).0;
         within_there = λ k child. is_open_within q k (and_parts (is_open q k) (is_child_of q (r n) k) child).0;
@@ -223,9 +213,7 @@ module _ (r s : ℕ → ℕ) (p q : List Event) (a : AreTreesRead r s p q) where
           a.back.undone k w.0,
         );
         grows = λ j k one two l. a.there.order j k (and_parts (is_open p j) (is_child_of p n j) one).0 (and_parts (is_open p k) (is_child_of p n k) two).0 l;
-      })) ∙
-      length-map (filter (is_open_child_of p n) (places p)) r ∙
-      length-filter (is_open_child_of p n) (places p)
+      })) ∙ length-map (filter (is_open_child_of p n) (places p)) r ∙ length-filter (is_open_child_of p n) (places p)
 
   -- where an item stops
   stop_read : (n : ℕ) → is_open p n ≡ true → stop_at q (r n) ≡ option_map (stop_by r) (stop_at p n)
@@ -236,56 +224,48 @@ module _ (r s : ℕ → ℕ) (p q : List Event) (a : AreTreesRead r s p q) where
 
     by_event : (x : Option Event) → slice_get p n ≡ x →
         option_and_then (stop_made q (r n)) (option_map (event_by r) x) ≡ option_map (stop_by r) (option_and_then (stop_made p n) x)
-    by_event None at_n = refl
     by_event (Some (Open (Source f) kind)) at_n =
         let up : is_open p f ≡ true =
         parent_open p n f o (named_parent p n f (Open (Source f) kind) at_n refl (a.below n f (Open (Source f) kind) o at_n refl)) in
         ap (λ b. cond {A = Option Stop} b (Some (Projection (r f))) None) (same_at r s p q a is_merging (merging_by r) f up) ∙
         if_merging (at is_merging p f) f
-    by_event (Some _) at_n = refl
+    by_event _ at_n = refl
 
   onward_read : (n : ℕ) → is_open p n ≡ true → onward q (r n) ≡ map r (onward p n)
-  onward_read n o = (λ i. onward_unless (stop_read n o i) (whole i)) ∙ by_stop (stop_at p n) where
-    by_stop : (x : Option Stop) → onward_unless (option_map (stop_by r) x) (map r (option_map_or (onward_from p n) (slice_get p n) [])) ≡
-        map r (onward_unless x (option_map_or (onward_from p n) (slice_get p n) []))
-    by_stop None = refl
-    by_stop (Some t) = refl
+  onward_read n o = (λ i. onward_unless (stop_read n o i) ((ap (λ (x : Option Event). option_map_or (onward_from q (r n)) x []) (slice_by r s p q a n o) ∙
+      by_event (slice_get p n) refl) i)) ∙ by_stop (stop_at p n) where
+        by_stop : (x : Option Stop) → onward_unless (option_map (stop_by r) x) (map r (option_map_or (onward_from p n) (slice_get p n) [])) ≡
+            map r (onward_unless x (option_map_or (onward_from p n) (slice_get p n) []))
+        by_stop None = refl
+        by_stop (Some t) = refl
 
-    to_list : (x : Option ℕ) → option_to_list (option_map r x) ≡ map r (option_to_list x)
-    to_list None = refl
-    to_list (Some m) = refl
+        to_list : (x : Option ℕ) → option_to_list (option_map r x) ≡ map r (option_to_list x)
+        to_list None = refl
+        to_list (Some m) = refl
 
-    parents : option_to_list (parent q (r n)) ≡ map r (option_to_list (parent p n))
-    parents = ap option_to_list (parent_by r s p q a n o) ∙ to_list (parent p n)
+        hub_back : (g : ℕ) → slice_get p n ≡ Some (Connect g) → s (r g) ≡ g
+        hub_back g at_n =
+            let again : slice_get p (s (r n)) ≡ Some (Connect (s (r g))) =
+            a.back.made (r n) (Connect (r g)) (a.there.alive n o) (a.there.made n (Connect g) o at_n) in
+            let same : Connect (s (r g)) ≡ Connect g = same_Some (Connect (s (r g))) (Connect g) (sym again ∙ ap (slice_get p) (a.there.undone n o) ∙ at_n) in
+            of_connect same
+          where
+            of_connect : {i j : ℕ} → Connect i ≡ Connect j → i ≡ j
+            of_connect same = cc
 
-    hub_back : (g : ℕ) → slice_get p n ≡ Some (Connect g) → s (r g) ≡ g
-    hub_back g at_n =
-        let again : slice_get p (s (r n)) ≡ Some (Connect (s (r g))) =
-        a.back.made (r n) (Connect (r g)) (a.there.alive n o) (a.there.made n (Connect g) o at_n) in
-        let same : Connect (s (r g)) ≡ Connect g =
-        same_Some (Connect (s (r g))) (Connect g) (sym again ∙ ap (slice_get p) (a.there.undone n o) ∙ at_n) in
-        of_connect same
-      where
-        of_connect : {i j : ℕ} → Connect i ≡ Connect j → i ≡ j
-        of_connect same = cc
-
-    by_event : (x : Option Event) → slice_get p n ≡ x →
-        option_map_or (onward_from q (r n)) (option_map (event_by r) x) [] ≡ map r (option_map_or (onward_from p n) x [])
-    by_event None at_n = refl
-    by_event (Some (Connect g)) at_n = subscribers_by g (hub_back g at_n)
-    by_event (Some _) at_n = parents
-
-    whole : option_map_or (onward_from q (r n)) (slice_get q (r n)) [] ≡ map r (option_map_or (onward_from p n) (slice_get p n) [])
-    whole = ap (λ (x : Option Event). option_map_or (onward_from q (r n)) x []) (slice_by r s p q a n o) ∙ by_event (slice_get p n) refl
+        by_event : (x : Option Event) → slice_get p n ≡ x →
+            option_map_or (onward_from q (r n)) (option_map (event_by r) x) [] ≡ map r (option_map_or (onward_from p n) x [])
+        by_event None at_n = refl
+        by_event (Some (Connect g)) at_n = subscribers_by g (hub_back g at_n)
+        by_event (Some _) at_n = (ap option_to_list (parent_by r s p q a n o) ∙ to_list (parent p n))
 
   visited_read : (left : ℕ) (todo : List ℕ) → Open_all p todo → visited left q (map r todo) ≡ map r (visited left p todo)
-  visited_read zero todo all = refl
-  visited_read (suc left) [] all = refl
   visited_read (suc left) (n ∷ todo) all =
       let next : onward q (r n) ++ map r todo ≡ map r (onward p n ++ todo) =
       ap (λ (xs : List ℕ). xs ++ map r todo) (onward_read n all.0) ∙ sym (map-append r (onward p n) todo) in
       ap (λ (xs : List ℕ). r n ∷ xs) (ap (visited left q) next ∙
       visited_read left (onward p n ++ todo) (AllByRecursion-both (λ m. is_open p m ≡ true) (onward p n) todo (onward_open p n all.0) all.1))
+  visited_read _ _ all = refl
 
   climb_by : (l : ℕ) → is_open p l ≡ true → climb q (r l) ≡ map r (climb p l)
   unfolding climb

@@ -1,12 +1,11 @@
 -- Which hubs wait for a connection after one more event, and that one step connects one hub at most.
 use Rattle.rx_event.proofs.Laws.Common.{◌≡◌, ℕ, ◌+◌, ◌<◌, ◌≤◌, Bool, true, false, List, [], ◌∷◌, ◌++◌, length, Option, Some, None, cond, refl, sym, ap, ◌∙◌}
 use Rattle.rx_event.proofs.Laws.Common.{arith, inl, inr, ◌⊎◌, ◌==◌, slice_get, length-append, ◌&&◌, not, option_map_or, cases_Bool, cases_order, both_ways}
-use Rattle.rx_event.proofs.Laws.Common.{false≢true, and_parts, and_from, eq-eqb, eqb-true, sum_by_push, slice_get_within, same_Some, none-some, Terminal}
-use Rattle.rx_event.proofs.Laws.Common.{Kept, Place, Leaf, Pass, Flat, Switch, Until, Sub, Event, Open, Connect, End, Close}
-use Rattle.rx_event.proofs.Laws.Common.{is_root, is_manual_hub, is_auto_hub, is_connect_of, is_subscriber_of, at, places, parent, ancestors}
-use Rattle.rx_event.proofs.Laws.Common.{is_open, shuts, open_subscribers, open_connections, open_count, mirrored, fired, failed, completed, cut, left}
-use Rattle.rx_event.proofs.Laws.Common.{connecting, due, IsDue, IsForced, IsConnectDue, IsConnected, IsSettled, SourceEnded, IsAllowed, stays, more, forced}
-use Rattle.rx_event.proofs.Laws.Common.{IsForcedOn, IsLawful, or_false, hub_subscribed}
+use Rattle.rx_event.proofs.Laws.Common.{false≢true, and_parts, and_from, eq-eqb, eqb-true, sum_by_push, slice_get_within, same_Some, none-some, Terminal, Kept}
+use Rattle.rx_event.proofs.Laws.Common.{Place, Leaf, Pass, Flat, Switch, Until, Sub, Event, Open, Connect, End, Close, is_root, is_manual_hub, is_auto_hub}
+use Rattle.rx_event.proofs.Laws.Common.{is_connect_of, is_subscriber_of, at, places, parent, ancestors, is_open, shuts, open_subscribers, open_connections}
+use Rattle.rx_event.proofs.Laws.Common.{open_count, mirrored, fired, failed, completed, cut, left, connecting, due, IsDue, IsForced, IsConnectDue, IsConnected}
+use Rattle.rx_event.proofs.Laws.Common.{IsSettled, SourceEnded, IsAllowed, stays, more, forced, IsForcedOn, IsLawful, or_false, hub_subscribed}
 use Rattle.rx_event.specs.Events.{is_connect}
 use Rattle.rx_event.specs.Totals.{connect_count}
 use Rattle.rx_event.specs.Forced.{none_waits, one_waits, MayWait}
@@ -65,8 +64,7 @@ data HowWaits (base : Kept) (h : List Event) (e : Event) (g : ℕ) : Type 0 wher
 
 subscribed_before : (h : List Event) (e : Event) (g : ℕ) → is_subscriber_of g e ≡ false → (d : IsConnectDue (h ++ e ∷ []) g) →
     (at (is_subscriber_of g) h d.subscriber ≡ true) × (is_open h d.subscriber ≡ true)
-subscribed_before h e g out d =
-    search (rules, at_before, is_open_cut, at_within, and_parts, not)
+subscribed_before h e g out d = search (rules, at_before, is_open_cut, at_within, and_parts, not)
 
 how_waits : (base : Kept) → (h : List Event) (e : Event) (g : ℕ) → is_subscriber_of g e ≡ false → at is_auto_hub h g ≡ true → IsConnectDue (h ++ e ∷ []) g →
     HowWaits base h e g
