@@ -23,23 +23,16 @@ projected_base =
       leases = [];
     }
 
-projected_kept : base_of nothing_kept projected ≡ projected_base
+projected_is : (base_of nothing_kept projected ≡ projected_base) × (shown projected_base ≡ Open Root Flat ∷ Close 1 ∷ Close 2 ∷ Close 3 ∷ [])
 unfolding base_of shown owed projections moments stops climb most_visits is_open is_shut ancestors parent source_completed is_held is_owned is_out leases_of
     is_waiting is_taken
-projected_kept = refl
-
-projected_shown : shown projected_base ≡ Open Root Flat ∷ Close 1 ∷ Close 2 ∷ Close 3 ∷ []
-unfolding shown
-projected_shown = refl
+projected_is = (refl, refl)
 
 -- its source's place stays taken, and an inner pays
-still_opened : source_opened projected_base (stored projected_base (Open (Inner 0) Leaf ∷ [])) 0 ≡ true
-unfolding shown
-still_opened = refl
-
-paid : owed projected_base (stored projected_base (Open (Inner 0) Leaf ∷ [])) 0 ≡ 0
-unfolding owed shown projections moments stops climb most_visits is_open is_shut ancestors parent
-paid = refl
+still_opened : (source_opened projected_base (stored projected_base (Open (Inner 0) Leaf ∷ [])) 0 ≡ true) ×
+    (owed projected_base (stored projected_base (Open (Inner 0) Leaf ∷ [])) 0 ≡ 0)
+unfolding shown owed projections moments stops climb most_visits is_open is_shut ancestors parent
+still_opened = (refl, refl)
 
 -- and the base of that, again
 abbrev paid_base : Kept
@@ -85,14 +78,7 @@ unfolding base_of shown owed projections moments stops climb most_visits is_open
 resourceful_kept = refl
 
 -- after it the first can be used, and the second waits
-used_on : uses resourceful_base (stored resourceful_base (Use 2 ∷ [])) 2 ≡ 2
-unfolding shown uses
-used_on = refl
-
-held_on : is_held (stored resourceful_base []) 2 ≡ true
-unfolding shown is_held is_owned is_out leases_of is_open is_shut ancestors parent
-held_on = refl
-
-waits_on : is_waiting (stored resourceful_base []) 4 ≡ true
-unfolding shown is_waiting is_held is_owned is_out leases_of is_taken is_open is_shut ancestors parent
-waits_on = refl
+used_on : (uses resourceful_base (stored resourceful_base (Use 2 ∷ [])) 2 ≡ 2) × (is_held (stored resourceful_base []) 2 ≡ true) ×
+    (is_waiting (stored resourceful_base []) 4 ≡ true)
+unfolding shown uses is_held is_owned is_out leases_of is_open is_shut ancestors parent is_waiting is_taken
+used_on = (refl, refl, refl)

@@ -21,31 +21,15 @@ lent = using ++ Lease 1 ∷ []
 abbrev disposed : List Event
 disposed = lent ++ Close 0 ∷ []
 
-may_lease_it : IsAllowed nothing_kept using (Lease 1)
-unfolding is_owned is_open is_shut ancestors parent
-may_lease_it = leased refl
-
-lent_out : leases_out lent ≡ 2 ∷ []
-unfolding is_out
-lent_out = refl
+may_lease_it : (IsAllowed nothing_kept using (Lease 1)) × (leases_out lent ≡ 2 ∷ [])
+unfolding is_owned is_open is_shut ancestors parent is_out
+may_lease_it = (leased refl, refl)
 
 -- nothing waits: the lease keeps it held
-disposed_waiting : waiting_resources disposed ≡ []
-unfolding is_waiting is_taken is_held is_owned is_out leases_of is_open is_shut ancestors parent
-disposed_waiting = refl
-
-disposed_held : held_resources disposed ≡ 1 ∷ []
-unfolding is_held is_owned is_out leases_of is_open is_shut ancestors parent
-disposed_held = refl
-
-disposed_leases : leases_of disposed 1 ≡ 1
-unfolding leases_of is_out
-disposed_leases = refl
-
-disposed_settled : IsSettled nothing_kept disposed
-unfolding first_forced source_end child_terminal source_completed open_children is_fired owed projections moments stops climb most_visits is_open is_shut
-    ancestors parent shown
-disposed_settled = settled_by_order nothing_kept disposed refl
+disposed_is : (waiting_resources disposed ≡ []) × (held_resources disposed ≡ 1 ∷ []) × (leases_of disposed 1 ≡ 1) × (IsSettled nothing_kept disposed)
+unfolding is_waiting is_taken is_held is_owned is_out leases_of is_open is_shut ancestors parent first_forced source_end child_terminal source_completed
+    open_children is_fired owed projections moments stops climb most_visits shown
+disposed_is = (refl, refl, refl, settled_by_order nothing_kept disposed refl)
 
 -- it may be used still, but neither leased nor removed
 may_use_it : IsAllowed nothing_kept disposed (Use 1)
@@ -55,73 +39,38 @@ may_use_it = used refl
 abbrev applied : List Event
 applied = disposed ++ Use 1 ∷ []
 
-applied_owned : is_owned applied 1 ≡ false
-unfolding is_owned is_open is_shut ancestors parent
-applied_owned = refl
-
-may_give_back : IsAllowed nothing_kept applied (Return 2)
-unfolding is_out
-may_give_back = returned refl
+applied_owned : (is_owned applied 1 ≡ false) × (IsAllowed nothing_kept applied (Return 2))
+unfolding is_owned is_open is_shut ancestors parent is_out
+applied_owned = (refl, returned refl)
 
 -- at its last return it waits, is taken with its uses, and the lease is out no more
 abbrev given_back : List Event
 given_back = applied ++ Return 2 ∷ []
 
-given_back_waiting : waiting_resources given_back ≡ 1 ∷ []
+given_back_waiting : (waiting_resources given_back ≡ 1 ∷ []) × (is_out given_back 2 ≡ false) × (IsAllowed nothing_kept given_back (Take 1))
 unfolding is_waiting is_taken is_held is_owned is_out leases_of is_open is_shut ancestors parent
-given_back_waiting = refl
-
-given_back_out : is_out given_back 2 ≡ false
-unfolding is_out
-given_back_out = refl
-
-may_take_it : IsAllowed nothing_kept given_back (Take 1)
-unfolding is_waiting is_taken is_held is_owned is_out leases_of is_open is_shut ancestors parent
-may_take_it = taken refl
+given_back_waiting = (refl, refl, taken refl)
 
 abbrev released : List Event
 released = given_back ++ Take 1 ∷ []
 
-released_uses : uses nothing_kept released 1 ≡ 1
-unfolding uses
-released_uses = refl
-
-released_held : is_held released 1 ≡ false
-unfolding is_held is_owned is_out leases_of is_open is_shut ancestors parent
-released_held = refl
+released_is : (uses nothing_kept released 1 ≡ 1) × (is_held released 1 ≡ false)
+unfolding uses is_held is_owned is_out leases_of is_open is_shut ancestors parent
+released_is = (refl, refl)
 
 -- what closing everything may still add, from call to call
-using_debt : debt nothing_kept using ≡ 3
+debts : (debt nothing_kept using ≡ 3) × (debt nothing_kept lent ≡ 4) × (debt nothing_kept disposed ≡ 2) × (debt nothing_kept given_back ≡ 1) ×
+    (debt nothing_kept released ≡ 0)
 unfolding debt owed projections moments stops climb most_visits is_held is_owned is_out leases_of is_taken is_waiting is_open is_shut ancestors parent shown
-using_debt = refl
-
-lent_debt : debt nothing_kept lent ≡ 4
-unfolding debt owed projections moments stops climb most_visits is_held is_owned is_out leases_of is_taken is_waiting is_open is_shut ancestors parent shown
-lent_debt = refl
-
-disposed_debt : debt nothing_kept disposed ≡ 2
-unfolding debt owed projections moments stops climb most_visits is_held is_owned is_out leases_of is_taken is_waiting is_open is_shut ancestors parent shown
-disposed_debt = refl
-
-given_back_debt : debt nothing_kept given_back ≡ 1
-unfolding debt owed projections moments stops climb most_visits is_held is_owned is_out leases_of is_taken is_waiting is_open is_shut ancestors parent shown
-given_back_debt = refl
-
-released_debt : debt nothing_kept released ≡ 0
-unfolding debt owed projections moments stops climb most_visits is_held is_owned is_out leases_of is_taken is_waiting is_open is_shut ancestors parent shown
-released_debt = refl
+debts = (refl, refl, refl, refl, refl)
 
 -- what is removed while a lease of it is out is held by that alone, and waits at its return
 abbrev removed_early : List Event
 removed_early = lent ++ Remove 1 ∷ []
 
-removed_early_held : held_resources removed_early ≡ 1 ∷ []
-unfolding is_held is_owned is_out leases_of is_open is_shut ancestors parent
-removed_early_held = refl
-
-removed_early_waiting : waiting_resources (removed_early ++ Return 2 ∷ []) ≡ 1 ∷ []
-unfolding is_waiting is_taken is_held is_owned is_out leases_of is_open is_shut ancestors parent
-removed_early_waiting = refl
+removed_early_is : (held_resources removed_early ≡ 1 ∷ []) × (waiting_resources (removed_early ++ Return 2 ∷ []) ≡ 1 ∷ [])
+unfolding is_held is_owned is_out leases_of is_open is_shut ancestors parent is_waiting is_taken
+removed_early_is = (refl, refl)
 
 -- the base of the disposed one keeps the lease, and the resource as held by leases alone
 abbrev disposed_base : Kept
@@ -137,23 +86,13 @@ disposed_base =
       leases = (record { number = 2; resource = 1 }) ∷ [];
     }
 
-disposed_kept : base_of nothing_kept disposed ≡ disposed_base
+disposed_kept : (base_of nothing_kept disposed ≡ disposed_base) × (shown disposed_base ≡ Close 0 ∷ Accept 1 7 ∷ Lease 1 ∷ Close 3 ∷ [])
 unfolding base_of shown owed projections moments stops climb most_visits is_open is_shut ancestors parent source_completed is_held is_owned is_out leases_of
     is_waiting is_taken uses
-disposed_kept = refl
-
-disposed_shown : shown disposed_base ≡ Close 0 ∷ Accept 1 7 ∷ Lease 1 ∷ Close 3 ∷ []
-unfolding shown
-disposed_shown = refl
+disposed_kept = (refl, refl)
 
 -- after it the resource is held, and waits at the return, at its own node and with its own tag
-kept_held : is_held (stored disposed_base []) 1 ≡ true
-unfolding shown is_held is_owned is_out leases_of is_open is_shut ancestors parent
-kept_held = refl
-
-kept_given_back : waiting_resources (stored disposed_base (Return 2 ∷ [])) ≡ 1 ∷ []
-unfolding shown is_waiting is_taken is_held is_owned is_out leases_of is_open is_shut ancestors parent
-kept_given_back = refl
-
-kept_accepted : accepted_by disposed_base (stored disposed_base (Return 2 ∷ [])) 1 ≡ Some (Accept 0 7)
-kept_accepted = refl
+kept_is : (is_held (stored disposed_base []) 1 ≡ true) × (waiting_resources (stored disposed_base (Return 2 ∷ [])) ≡ 1 ∷ []) ×
+    (accepted_by disposed_base (stored disposed_base (Return 2 ∷ [])) 1 ≡ Some (Accept 0 7))
+unfolding shown is_held is_owned is_out leases_of is_open is_shut ancestors parent is_waiting is_taken
+kept_is = (refl, refl, refl)

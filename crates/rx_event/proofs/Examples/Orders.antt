@@ -63,18 +63,9 @@ unfolding first_forced source_end child_terminal source_completed open_children 
 long_over = refl
 
 -- both are finished, and one is longer
-short_settled : IsSettled nothing_kept short
-short_settled = settled_by_order nothing_kept short short_over
-
-long_settled : IsSettled nothing_kept long
-long_settled = settled_by_order nothing_kept long long_over
-
-lengths : length long ≡ length short + 1
-lengths = refl
-
-nothing_open : open_nodes short ≡ open_nodes long
+short_settled : (IsSettled nothing_kept short) × (IsSettled nothing_kept long) × (length long ≡ length short + 1) × (open_nodes short ≡ open_nodes long)
 unfolding is_open is_shut ancestors parent
-nothing_open = refl
+short_settled = (settled_by_order nothing_kept short short_over, settled_by_order nothing_kept long long_over, refl, refl)
 
 -- the one order is the short one: a mirroring node before a subscriber
 until_first : first_forced nothing_kept halfway ≡ Some (End 1 Completed)

@@ -7,67 +7,40 @@ use Rattle.rx_event.proofs.Laws.Common.{is_taken, is_waiting, Delivery, most_vis
 abbrev nested : List Event
 nested = Hub Auto ∷ Hub Auto ∷ Open Root (Sub 1) ∷ Connect 1 ∷ Open (Source 3) (Sub 0) ∷ Connect 0 ∷ []
 
-nested_open : open_nodes nested ≡ 2 ∷ 3 ∷ 4 ∷ 5 ∷ []
+nested_open : (open_nodes nested ≡ 2 ∷ 3 ∷ 4 ∷ 5 ∷ []) × (IsDue nothing_kept (nested ++ Close 2 ∷ []) (Close 3)) ×
+    (IsDue nothing_kept (nested ++ Close 2 ∷ Close 3 ∷ []) (Close 5)) × (open_nodes (nested ++ Close 2 ∷ Close 3 ∷ Close 5 ∷ []) ≡ [])
 unfolding is_open is_shut ancestors parent shown
-nested_open = refl
-
-outer_left : IsDue nothing_kept (nested ++ Close 2 ∷ []) (Close 3)
-unfolding is_open is_shut ancestors parent shown
-outer_left = left {g = 1} refl refl refl refl
-
-inner_left : IsDue nothing_kept (nested ++ Close 2 ∷ Close 3 ∷ []) (Close 5)
-unfolding is_open is_shut ancestors parent shown
-inner_left = left {g = 0} refl refl refl refl
-
-nested_closed : open_nodes (nested ++ Close 2 ∷ Close 3 ∷ Close 5 ∷ []) ≡ []
-unfolding is_open is_shut ancestors parent shown
-nested_closed = refl
+nested_open = (refl, left {g = 1} refl refl refl refl, left {g = 0} refl refl refl refl, refl)
 
 -- a hub stays connected while it has a subscriber, ends with its source, and is connected anew
 abbrev counted : List Event
 counted = Hub Auto ∷ Open Root (Sub 0) ∷ Connect 0 ∷ Open Root (Sub 0) ∷ Open (Source 2) Leaf ∷ Close 1 ∷ []
 
-counted_open : open_nodes counted ≡ 2 ∷ 3 ∷ 4 ∷ []
+counted_open : (open_nodes counted ≡ 2 ∷ 3 ∷ 4 ∷ []) × (IsDue nothing_kept (counted ++ End 4 (Error 3) ∷ []) (End 2 (Error 3))) ×
+    (IsDue nothing_kept (counted ++ End 4 (Error 3) ∷ End 2 (Error 3) ∷ []) (End 3 (Error 3))) ×
+    (open_nodes (counted ++ End 4 (Error 3) ∷ End 2 (Error 3) ∷ End 3 (Error 3) ∷ Open Root (Sub 0) ∷ Connect 0 ∷ []) ≡ 9 ∷ 10 ∷ [])
 unfolding is_open is_shut ancestors parent shown
-counted_open = refl
-
-connection_ends : IsDue nothing_kept (counted ++ End 4 (Error 3) ∷ []) (End 2 (Error 3))
-unfolding is_open is_shut ancestors parent shown
-connection_ends = mirrored refl refl (record { child = 4; below = refl; ended = record { place = 6; found = refl } })
-
-subscriber_ends : IsDue nothing_kept (counted ++ End 4 (Error 3) ∷ End 2 (Error 3) ∷ []) (End 3 (Error 3))
-unfolding is_open is_shut ancestors parent shown
-subscriber_ends = cut refl (record { hub = 0; connection = 2; place = 7; subscribes = refl; connects = refl; later = omega arith; ended = refl })
-
-connected_anew : open_nodes (counted ++ End 4 (Error 3) ∷ End 2 (Error 3) ∷ End 3 (Error 3) ∷ Open Root (Sub 0) ∷ Connect 0 ∷ []) ≡ 9 ∷ 10 ∷ []
-unfolding is_open is_shut ancestors parent shown
-connected_anew = refl
+counted_open = (
+  refl,
+  mirrored refl refl (record { child = 4; below = refl; ended = record { place = 6; found = refl } }),
+  cut refl (record { hub = 0; connection = 2; place = 7; subscribes = refl; connects = refl; later = omega arith; ended = refl }),
+  refl,
+)
 
 -- a subscriber that comes after its hub's connection ended stays, and receives once the hub is connected again
 abbrev late : List Event
 late = Hub Manual ∷ Open Root (Sub 0) ∷ Connect 0 ∷ Open (Source 2) Leaf ∷ End 3 (Error 1) ∷ End 2 (Error 1) ∷ End 1 (Error 1) ∷ Open Root (Sub 0) ∷ Connect 0
     ∷ Open (Source 8) Leaf ∷ []
 
-late_open : open_nodes late ≡ 7 ∷ 8 ∷ 9 ∷ []
-unfolding is_open is_shut ancestors parent shown
-late_open = refl
-
-late_stops : stops late 9 ≡ Delivery 7 ∷ []
-unfolding stops climb most_visits is_open is_shut ancestors parent shown
-late_stops = refl
+late_is : (open_nodes late ≡ 7 ∷ 8 ∷ 9 ∷ []) × (stops late 9 ≡ Delivery 7 ∷ [])
+unfolding is_open is_shut ancestors parent shown stops climb most_visits
+late_is = (refl, refl)
 
 -- an opening that forces a connection: two events, and room for two closings, which is five in all. The disposal uses it up
 abbrev connected_by_opening : List Event
 connected_by_opening = Hub Auto ∷ Open Root (Sub 0) ∷ Connect 0 ∷ []
 
-opening_debt : debt nothing_kept connected_by_opening ≡ 2
+opening_debt : (debt nothing_kept connected_by_opening ≡ 2) × (debt nothing_kept (connected_by_opening ++ Close 1 ∷ Close 2 ∷ []) ≡ 0) ×
+    (IsDue nothing_kept (connected_by_opening ++ Close 1 ∷ []) (Close 2))
 unfolding debt owed projections moments stops climb most_visits is_held is_owned is_out leases_of is_taken is_waiting is_open is_shut ancestors parent shown
-opening_debt = refl
-
-disposal_debt : debt nothing_kept (connected_by_opening ++ Close 1 ∷ Close 2 ∷ []) ≡ 0
-unfolding debt owed projections moments stops climb most_visits is_held is_owned is_out leases_of is_taken is_waiting is_open is_shut ancestors parent shown
-disposal_debt = refl
-
-connection_left : IsDue nothing_kept (connected_by_opening ++ Close 1 ∷ []) (Close 2)
-unfolding is_open is_shut ancestors parent shown
-connection_left = left {g = 0} refl refl refl refl
+opening_debt = (refl, refl, left {g = 0} refl refl refl refl)

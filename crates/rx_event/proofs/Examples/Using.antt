@@ -9,39 +9,17 @@ use Rattle.rx_note.specs.declared.note.Note.TheVariants.{End as Ended}
 abbrev using : List Event
 using = Open Root Pass ∷ Accept 0 7 ∷ []
 
-using_held : held_resources using ≡ 1 ∷ []
-unfolding is_held is_owned is_out leases_of is_open is_shut ancestors parent shown
-using_held = refl
-
-using_debt : debt nothing_kept using ≡ 3
-unfolding debt owed projections moments stops climb most_visits is_held is_owned is_out leases_of is_taken is_waiting is_open is_shut ancestors parent shown
-using_debt = refl
-
-disposed_waiting : waiting_resources (using ++ Close 0 ∷ []) ≡ 1 ∷ []
-unfolding is_waiting is_taken is_held is_owned is_out leases_of is_open is_shut ancestors parent shown
-disposed_waiting = refl
-
-disposed_held : held_resources (using ++ Close 0 ∷ []) ≡ []
-unfolding is_held is_owned is_out leases_of is_open is_shut ancestors parent shown
-disposed_held = refl
-
-taken_waiting : waiting_resources (using ++ Close 0 ∷ Take 1 ∷ []) ≡ []
-unfolding is_waiting is_taken is_held is_owned is_out leases_of is_open is_shut ancestors parent shown
-taken_waiting = refl
+using_held : (held_resources using ≡ 1 ∷ []) × (debt nothing_kept using ≡ 3) × (waiting_resources (using ++ Close 0 ∷ []) ≡ 1 ∷ []) ×
+    (held_resources (using ++ Close 0 ∷ []) ≡ []) × (waiting_resources (using ++ Close 0 ∷ Take 1 ∷ []) ≡ [])
+unfolding is_held is_owned is_out leases_of is_open is_shut ancestors parent shown debt owed projections moments stops climb most_visits is_taken is_waiting
+using_held = (refl, refl, refl, refl, refl)
 
 -- the completion of a source goes through the mirroring node above it, whose resource then waits
 abbrev completed : List Event
 completed = Open Root Pass ∷ Open (Source 0) Leaf ∷ Accept 0 4 ∷ Item 1 (pos 5) ∷ End 1 Completed ∷ []
 
-completion_due : IsDue nothing_kept completed (End 0 Completed)
-unfolding is_open is_shut ancestors parent shown
-completion_due = mirrored refl refl (record { child = 1; below = refl; ended = record { place = 4; found = refl } })
-
-completion_notes : notes (completed ++ End 0 Completed ∷ []) ≡
-    (record { place = 3; to = 0; note = Next (pos 5) }) ∷ (record { place = 5; to = 0; note = Ended Completed }) ∷ []
-unfolding notes moments stops climb most_visits is_open is_shut ancestors parent shown
-completion_notes = refl
-
-completion_waiting : waiting_resources (completed ++ End 0 Completed ∷ []) ≡ 2 ∷ []
-unfolding is_waiting is_taken is_held is_owned is_out leases_of is_open is_shut ancestors parent shown
-completion_waiting = refl
+completion_is : (IsDue nothing_kept completed (End 0 Completed)) × (notes (completed ++ End 0 Completed ∷ []) ≡
+    (record { place = 3; to = 0; note = Next (pos 5) }) ∷ (record { place = 5; to = 0; note = Ended Completed }) ∷ []) ×
+    (waiting_resources (completed ++ End 0 Completed ∷ []) ≡ 2 ∷ [])
+unfolding is_open is_shut ancestors parent shown notes moments stops climb most_visits is_waiting is_taken is_held is_owned is_out leases_of
+completion_is = (mirrored refl refl (record { child = 1; below = refl; ended = record { place = 4; found = refl } }), refl, refl)

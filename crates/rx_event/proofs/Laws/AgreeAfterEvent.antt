@@ -1,7 +1,7 @@
 -- Two stored histories that agree, followed by one event that may follow, agree again.
 use Rattle.rx_event.proofs.Laws.Common.{◌≡◌, ℕ, ◌+◌, ◌<◌, Bool, true, false, List, [], ◌∷◌, ◌++◌, length, cond, Option, Some, None, refl, sym, ap, ◌∙◌, arith}
 use Rattle.rx_event.proofs.Laws.Common.{inl, inr, ◌⊎◌, slice_get, nat_lt, length-append, subst, ℤ, not, ◌&&◌, ◌||◌, option_and_then, option_map_or, cases_order}
-use Rattle.rx_event.proofs.Laws.Common.{both_ways, and_parts, Event, End, Item, is_return_of, is_take_of, is_use_of, is_open, is_owned, is_out, leases_of}
+use Rattle.rx_event.proofs.Laws.Common.{both_ways, and_parts, Event, End, Item, is_return_of, is_take_of, is_use_of, is_open, is_owned, is_out}
 use Rattle.rx_event.proofs.Laws.Common.{is_held, is_waiting, uses, accepted_by, Kept, resource_kept, Agree, AreRead, MayFollow, IsLawful, Terminal, is_untaken}
 use Rattle.rx_event.proofs.Laws.Places.{slice_get-append, slice_get_last}
 use Rattle.rx_event.proofs.Laws.Resources.{held_is, owned_held, is_owned_past, is_owned_new, held_old, is_held_past, is_waiting_past, is_waiting_new}
@@ -74,13 +74,9 @@ module _ (b : Kept) (h : List Event) (c : Kept) (k : List Event) (e : Event) (la
     by_place (inr (inr past)) = absurd (both_ways _ (is_out_past (h ++ e ∷ []) l (omega (arith, length-append h (e ∷ [])))) out)
 
   held_on : (r : ℕ) → is_held (h ++ e ∷ []) r ≡ is_held (k ++ e ∷ []) r
-  held_on r = held_is (h ++ e ∷ []) r ∙
-      (λ i. owned_on r i || (is_leased-counted b (h ++ e ∷ []) (IsLawful-push b h e law next) r ∙
+  held_on r = held_is (h ++ e ∷ []) r ∙ (λ i. owned_on r i || (is_leased-counted b (h ++ e ∷ []) (IsLawful-push b h e law next) r ∙
       ap (nat_lt 0) (leases_of_same (h ++ e ∷ []) (k ++ e ∷ []) pushed.same_length out_on leased_on r) ∙ sym
       (is_leased-counted c (k ++ e ∷ []) (IsLawful-push c k e law_k next_k) r)) i) ∙ sym (held_is (k ++ e ∷ []) r)
-
-  waiting_on : (r : ℕ) → is_waiting (h ++ e ∷ []) r ≡ is_waiting (k ++ e ∷ []) r
-  waiting_on r = search (rules, cases_order, length, is_waiting_new, long_k, is_waiting-unheld, not, held_on, in_k, is_waiting_past, length-append)
 
   untaken_old : (r : ℕ) → r < length h → is_untaken (h ++ e ∷ []) r ≡ true → is_untaken h r ≡ true
   untaken_old r l untaken = shape (is_held (h ++ e ∷ []) r) (is_waiting h r) (is_held h r) (is_take_of r e) (held_old b h e law next r l)
@@ -129,7 +125,7 @@ module _ (b : Kept) (h : List Event) (c : Kept) (k : List Event) (e : Event) (la
         back = reads.back;
         owned = owned_on;
         held = held_on;
-        waiting = waiting_on;
+        waiting = λ r. search (rules, cases_order, length, is_waiting_new, long_k, is_waiting-unheld, not, held_on, in_k, is_waiting_past, length-append);
         accepts = accepts_on;
         used = uses_on;
         out = out_on;

@@ -4,7 +4,7 @@ use Rattle.rx_event.proofs.Laws.Common.{subst, ◌∙◌, inl, inr, ◌⊎◌, �
 use Rattle.rx_event.proofs.Laws.Common.{list_any, count_by, option_and_then, option_map_or, both_ways, false≢true, eqb-true, false_from_ne_true}
 use Rattle.rx_event.proofs.Laws.Common.{slice_get_within, same_Some, none-some, Terminal, Kept, shown, resource_kept, Event, Connect, End, Close}
 use Rattle.rx_event.proofs.Laws.Common.{makes_node, makes_resource, node_of_accept, is_root, is_remove_of, is_use_of}
-use Rattle.rx_event.proofs.Laws.Common.{is_connect_of, is_subscriber_of, at, places, parent, ancestors, is_open, is_within, open_nodes, is_owned, is_out}
+use Rattle.rx_event.proofs.Laws.Common.{is_connect_of, is_subscriber_of, at, places, parent, ancestors, is_open, open_nodes, is_owned, is_out}
 use Rattle.rx_event.proofs.Laws.Common.{leases_of, is_held, is_taken, is_waiting, waiting_resources, uses, mail_of, IsDue, IsConnected, IsSettled, stays}
 use Rattle.rx_event.proofs.Laws.Common.{more, IsLawful, IsForcedOn, and_false, and_true, length-filter, is_lease_of, is_take, held_resources, notes_to}
 use Rattle.rx_note.specs.declared.note.Note.{Note}
@@ -142,10 +142,8 @@ module _ (base : Kept) (b k j : List Event) (law : IsLawful base b) (whole : IsC
 
   stands_both : (n : ℕ) (e : Event) → is_closing e ≡ false → slice_get k n ≡ Some e → slice_get j n ≡ Some e
   stands_both n e other at_n =
+      let sees : SeesNone plain = record { no_end = λ c t. refl; no_close = λ c. refl } in
       plain_back (slice_get j n) e (sym (seen_on base plain sees on_k n ∙ sym (seen_on base plain sees on_j n)) ∙ ap plain at_n ∙ rw other refl)
-    where
-      sees : SeesNone plain
-      sees = record { no_end = λ c t. refl; no_close = λ c. refl }
 
   owned_both : (r : ℕ) → is_owned k r ≡ is_owned j r
   unfolding is_owned

@@ -4,7 +4,7 @@ use Rattle.rx_event.proofs.Laws.Common.{ap, ◌∙◌, arith, inl, inr, ◌⊎�
 use Rattle.rx_event.proofs.Laws.Common.{cases_lt, both_ways, false≢true, and_parts, eqb-true, slice_get_past, slice_get_within, none-some, same_Some}
 use Rattle.rx_event.proofs.Laws.Common.{sum_by-cons, Terminal, Completed, Error, Place, Leaf, Sub, IsInOrderAt, Root, Source, Inner, Notifier, Event, Open, Hub}
 use Rattle.rx_event.proofs.Laws.Common.{Connect, Accept, Lease, Item, End, Close, has_source, is_merging, is_until, makes_node, makes_hub, makes_resource}
-use Rattle.rx_event.proofs.Laws.Common.{makes_lease, parent_named, node_of_accept, is_source_of, is_inner_of, is_switch, is_remove_of, is_return_of, is_take_of}
+use Rattle.rx_event.proofs.Laws.Common.{makes_lease, parent_named, node_of_accept, is_source_of, is_inner_of, is_switch, is_remove_of, is_take_of}
 use Rattle.rx_event.proofs.Laws.Common.{is_use_of, pays, at, is_open, is_owned, is_out, leases_of, is_held, is_taken, is_waiting, uses, accepted_by, Stop}
 use Rattle.rx_event.proofs.Laws.Common.{Moment, moments, moments_after, is_projection_to, stops_of, projections, is_fired, owed, completes_source}
 use Rattle.rx_event.proofs.Laws.Common.{source_completed, child_terminal, marks_of, mirrored, fired, failed, completed, cut, left, connecting, due, IsConnected}
@@ -17,7 +17,7 @@ use Rattle.rx_event.specs.Events.{is_item, is_making}
 use Rattle.rx_event.specs.Moments.{projected_by}
 use Rattle.rx_event.specs.Totals.{item_count}
 use Rattle.rx_event.specs.Kept.{lease_kept, resource_shown, lease_shown}
-use Rattle.rx_event.specs.Bases.{keep_hub, keep_resource, keep_lease, lease_resource, accept_node, accept_tag}
+use Rattle.rx_event.specs.Bases.{keep_hub, keep_resource, keep_lease, accept_node, accept_tag}
 use Rattle.rx_event.proofs.Laws.SoundForm.{StandsWell, SubscribesWell, TwoOpenInners, Sound}
 use Rattle.rx_event.proofs.Laws.Searches.{list_any_found, list_any_holds}
 use Rattle.rx_event.proofs.Laws.Places.{at_within}
@@ -149,23 +149,13 @@ module _ (b : Kept) (h : List Event) where
   untaken_made : (r : ℕ) → is_untaken h r ≡ true → at makes_resource h r ≡ true
   untaken_made r untaken = search (rules, held_resource, waiting_parts)
 
-  untaken_within : (r : ℕ) → is_untaken h r ≡ true → r < length h
-  untaken_within r untaken = at_within makes_resource h r (untaken_made r untaken)
-
   -- one that leases alone hold, or that waits
   pub s_unowned : (r : ℕ) → is_untaken h r ≡ true → is_owned h r ≡ false → slice_get (shown (base_of b h)) r ≡ Some (Accept r (keep_resource b h r).tag)
-  s_unowned r untaken free = search (rules, resource_closed, untaken_made, s_resource, untaken_within, option_map_or, cond, Accept)
+  s_unowned r untaken free = search (rules, resource_closed, untaken_made, s_resource, at_within, option_map_or, cond, Accept)
 
   -- else none
   pub s_no_resource : (r : ℕ) → is_untaken h r ≡ false → at makes_resource (shown (base_of b h)) r ≡ false
   s_no_resource r none = search (rules, cases_lt, length, option_map_or, s_hub, kept_open, slice_get, open_node, s_resource, cond, cases_Bool, slice_get_past, length_base)
-
-  -- the place of a lease that is out: itself
-  lease_apart : (l : ℕ) → at makes_lease h l ≡ true → (at makes_node h l ≡ false) × (at makes_hub h l ≡ false) × (at makes_resource h l ≡ false)
-  lease_apart l = search (rules, slice_get, option_map_or, false≢true)
-
-  lease_is : (o : Option Event) (l : ℕ) → option_map_or makes_lease o false ≡ true → o ≡ Some (Lease (lease_resource (option_map_or (λ e. e) o (Close l))))
-  lease_is o l is = grind arith
 
   -- a place that is neither a node nor a hub nor a resource
   s_other : (l : ℕ) → l < length h → is_open h l ≡ false → at makes_hub h l ≡ false → is_untaken h l ≡ false → slice_get (shown (base_of b h)) l ≡ Some
@@ -174,7 +164,7 @@ module _ (b : Kept) (h : List Event) where
 
   pub s_lease : (l : ℕ) → is_out h l ≡ true → slice_get (shown (base_of b h)) l ≡ slice_get h l
   s_lease l out =
-      search (rules, out_lease, lease_apart, s_other, is_out_within, never, both_ways, open_node, untaken_made, option_map_or, lease_of_base, cond, lease_is, slice_get)
+      search (rules, out_lease, false≢true, s_other, is_out_within, never, both_ways, open_node, untaken_made, option_map_or, lease_of_base, cond, slice_get)
 
   pub s_no_lease : (l : ℕ) → is_out h l ≡ false → at makes_lease (shown (base_of b h)) l ≡ false
   s_no_lease l back = search (rules, never, slice_get, false≢true, length, length_base, slice_get_within, option_map_or, kept_open, open_node, both_ways, same_Some, s_hub, s_resource, cond, s_other, lease_of_base, cases_Bool)
@@ -182,8 +172,7 @@ module _ (b : Kept) (h : List Event) where
   pub s_is_out : (l : ℕ) → is_out h l ≡ is_out (shown (base_of b h)) l
   unfolding is_out
   s_is_out l = by_test (is_out h l) refl ∙ sym (ap (λ c. at makes_lease (shown (base_of b h)) l && not c) (made_unreturned (shown
-      (base_of b h)) s_making l) ∙ and_true
-      (at makes_lease (shown (base_of b h)) l)) where
+      (base_of b h)) s_making l) ∙ and_true (at makes_lease (shown (base_of b h)) l)) where
         by_test : (x : Bool) → is_out h l ≡ x → x ≡ at makes_lease (shown (base_of b h)) l
         by_test true out = sym (ap (λ o. option_map_or makes_lease o false) (s_lease l out) ∙ out_lease h l out)
         by_test false back = sym (s_no_lease l back)
@@ -332,8 +321,7 @@ module _ (b : Kept) (h : List Event) where
     pub s_debts : (n : ℕ) → is_open h n ≡ true → owed b h n ≡ owed (base_of b h) (shown (base_of b h)) n
     s_debts n o =
         let owed_is : owed (base_of b h) (shown (base_of b h)) n ≡ projected_by (base_of b h) (shown (base_of b h)) n - count_by (pays n) (shown
-        (base_of b h)) =
-        owed_is_less (base_of b h) (shown (base_of b h)) n in
+        (base_of b h)) = owed_is_less (base_of b h) (shown (base_of b h)) n in
         let paid = count_by (pays n) (shown (base_of b h)) in
         let shows = projections (shown (base_of b h)) n in
         let none : shows ≡ 0 = (itemless_projections (shown (base_of b h)) s_itemless n) in

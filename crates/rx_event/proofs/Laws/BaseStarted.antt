@@ -2,9 +2,9 @@
 use Rattle.rx_event.proofs.Laws.Common.{◌≡◌, ℕ, ◌+◌, ◌<◌, ◌≤◌, Bool, true, false, List, ◌++◌, length, take, drop, cond, Option, Some, None, refl, sym, ap, ◌∙◌}
 use Rattle.rx_event.proofs.Laws.Common.{arith, inl, inr, ◌⊎◌, ◌==◌, slice_get, ◌||◌, list_any, option_map_or, cases_Bool, both_ways, false≢true, eqb-true}
 use Rattle.rx_event.proofs.Laws.Common.{length-take-le, slice_get_within, same_Some, none-some, Place, Root, Source, Inner, Notifier, Kind, Leaf, Sub, Event}
-use Rattle.rx_event.proofs.Laws.Common.{Open, Connect, Accept, Lease, Decline, Kept, node_kept, resource_kept, shown, makes_node, makes_hub, makes_resource}
+use Rattle.rx_event.proofs.Laws.Common.{Open, Connect, Accept, Lease, Decline, Kept, resource_kept, shown, makes_node, makes_hub, makes_resource}
 use Rattle.rx_event.proofs.Laws.Common.{makes_lease, has_source, is_merging, is_until, is_source_of, parent_named, node_of_accept, pays, at, is_open, is_within}
-use Rattle.rx_event.proofs.Laws.Common.{is_owned, is_out, is_waiting, uses, owed, IsSettled, IsInOrderAt, Started, IsLawful, base_of, Agree}
+use Rattle.rx_event.proofs.Laws.Common.{is_owned, is_out, is_waiting, uses, IsSettled, IsInOrderAt, Started, IsLawful, base_of}
 use Rattle.rx_event.proofs.Laws.Common.{false_from_ne_true as never, IsHubbed, IsInOrder, keep_node, is_untaken}
 use Rattle.std.proofs.Common.{count_by, rules}
 use Rattle.std.proofs.lemmas.List.{take-append-drop}
@@ -139,12 +139,6 @@ module _ (b : Kept) (h : List Event) (law : IsLawful b h) (settled : IsSettled b
     by_state false owned true untaken = at_itself (sym (node_is r (keep_resource b h r).tag (sym (s_unowned b h r untaken owned) ∙ at_r)))
     by_state false owned false none = absurd (both_ways _ (s_no_resource b h r none) (ap (λ o. option_map_or makes_resource o false) at_r))
 
-  accepts : (r n tag : ℕ) → slice_get s r ≡ Some (Accept n tag) → n ≤ r
-  accepts r n tag at_r = search (rules, accept_at)
-
-  holds : (r n tag : ℕ) → slice_get s r ≡ Some (Accept n tag) → n < r → is_open s n ≡ true
-  holds r n tag at_r less = search (rules, accept_at)
-
   -- a lease names a resource before it
   leases : (l r : ℕ) → slice_get s l ≡ Some (Lease r) → at makes_resource (take l s) r ≡ true
   leases l r at_l = by_state (is_out h l) refl where
@@ -157,9 +151,6 @@ module _ (b : Kept) (h : List Event) (law : IsLawful b h) (settled : IsSettled b
 
   past : (n : ℕ) → length s ≤ n → length h ≤ n
   past n l = rw (← length_base b h) l
-
-  unkept : (n : ℕ) → length s ≤ n → node_kept (base_of b h) n ≡ None
-  unkept n l = node_of_base b h n ∙ ap (λ c. cond c (Some (keep_node b h n)) None) (is_open_past h n (past n l))
 
   unnumbered : (r : ℕ) → length s ≤ r → resource_kept (base_of b h) r ≡ None
   unnumbered r l = search (rules, resource_of_base, cond, is_held_past, past, is_waiting_past)
@@ -181,19 +172,11 @@ module _ (b : Kept) (h : List Event) (law : IsLawful b h) (settled : IsSettled b
         let none : count_by (pays f) s ≡ 0 = count_none (pays f) s
         (λ i x at_i. never (pays f x) (λ p. both_ways _ closed (parent_there i f x at_i (pays_named x (s_making b h i x at_i) p)))) in omega arith
 
-  alive : (n : ℕ) (e : Event) → slice_get s n ≡ Some e → makes_node e ≡ true → is_open s n ≡ true
-  alive n e at_n made = sym (alike.same_open n) ∙ (made_there n e at_n made).0
-
   at_there : (q : Event → Bool) → ((e : Event) → q e ≡ true → makes_node e ≡ true) → (n : ℕ) → at q s n ≡ true → at q h n ≡ true
   at_there q makes n passes = search (rules, slice_get, option_map_or, false≢true, made_there)
 
   makes_source : (f : ℕ) (e : Event) → is_source_of f e ≡ true → makes_node e ≡ true
   makes_source f e source = grind arith
-
-  plain : (f : ℕ) → is_open s f ≡ true → at is_merging s f ≡ false → owed (base_of b h) s f ≡ 0
-  plain f o none =
-      let was : is_open h f ≡ true = alike.same_open f ∙ o in
-      sym (s_debts b h sound f was) ∙ owed_plain b h law f was (ap (λ x. option_map_or is_merging x false) (alike.same_made f was) ∙ none)
 
   pub base_started : Started (base_of b h)
   base_started =
@@ -202,8 +185,8 @@ module _ (b : Kept) (h : List Event) (law : IsLawful b h) (settled : IsSettled b
         placed = placed;
         hubbed = hubbed;
         connects = connects;
-        accepts = accepts;
-        holds = holds;
+        accepts = λ r n tag at_r. search (rules, accept_at);
+        holds = λ r n tag at_r less. search (rules, accept_at);
         one_source = λ f x y one other. one_source b h law f x y (at_there (is_source_of f) (makes_source f) x one)
             (at_there (is_source_of f) (makes_source f) y other);
         leases = leases;
@@ -213,11 +196,13 @@ module _ (b : Kept) (h : List Event) (law : IsLawful b h) (settled : IsSettled b
             (record { one = one; one_open = one_open; other = other; other_open = other_open });
         unused = unused;
         parts = agree_accepted b h (base_of b h) s (base_agrees b h law settled) (accepted_count-parts b h law);
-        unkept = unkept;
+        unkept = λ n l. node_of_base b h n ∙ ap (λ c. cond c (Some (keep_node b h n)) None) (is_open_past h n (past n l));
         paid = paid;
-        plain = plain;
+        plain = λ f o none.
+            let was : is_open h f ≡ true = alike.same_open f ∙ o in
+            sym (s_debts b h sound f was) ∙ owed_plain b h law f was (ap (λ x. option_map_or is_merging x false) (alike.same_made f was) ∙ none);
         settled = shown_settled b h law settled;
-        alive = alive;
+        alive = λ n e at_n made. sym (alike.same_open n) ∙ (made_there n e at_n made).0;
         making = s_making b h;
         unnumbered = unnumbered;
         reads_owned = sound_s.accepted;

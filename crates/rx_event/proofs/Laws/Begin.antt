@@ -1,7 +1,7 @@
 -- The empty base is one that a history may begin with.
 use Rattle.rx_event.proofs.Laws.Common.{◌≡◌, ℕ, true, List, [], refl, sym, subst, arith, AllByRecursion, both_ways, false≢true, none-some, Event, is_open}
 use Rattle.rx_event.proofs.Laws.Common.{source_completed, Moment, moments, projections, owed, is_fired, notes, uses}
-use Rattle.rx_event.proofs.Laws.Common.{IsDue, IsForced, nothing_kept, shown, MayFollow, Started, IsLawful}
+use Rattle.rx_event.proofs.Laws.Common.{nothing_kept, shown, MayFollow, Started, IsLawful}
 use Rattle.rx_event.specs.Claims.Checkpoints.{EmptyBase}
 use Rattle.rx_event.proofs.Laws.Openness.{is_open_past}
 use Rattle.std.proofs.Common.{rules}
@@ -9,15 +9,9 @@ use Rattle.std.proofs.Common.{rules}
 closed : (n : ℕ) → is_open [] n ≡ true → ⊥
 closed n o = both_ways _ (is_open_past [] n (omega arith)) o
 
-due_none : {e : Event} → IsDue nothing_kept [] e → ⊥
-due_none x0 = search (rules, closed)
-
-forced_none : (e : Event) → IsForced nothing_kept [] e → ⊥
-forced_none e x1 = search (rules, closed, due_none)
-
 pub started_empty : Started nothing_kept
 unfolding shown uses is_fired notes moments projections
-started_empty = search (rules, none-some, false≢true, closed, forced_none, due_none)
+started_empty = search (rules, none-some, false≢true, closed)
 
 pub shown_nothing : shown nothing_kept ≡ []
 unfolding shown

@@ -5,8 +5,8 @@ use Rattle.rx_event.proofs.Laws.Common.{inl, inr, ◌⊎◌, arith, length-appen
 use Rattle.rx_event.proofs.Laws.Common.{eq-eqb, same_Some, none-some, Terminal, Completed, Error, Kept, Place, Kind, Sub, Event, Open, Connect, Decline, End}
 use Rattle.rx_event.proofs.Laws.Common.{Close, is_auto_hub, is_manual_hub, is_subscriber_of, at, places, is_open, open_subscribers, open_connections}
 use Rattle.rx_event.proofs.Laws.Common.{is_firing_of, stops_of, marks_of, due_at, mirrored, fired, failed, completed, cut, left, connecting, due, SourceEnded}
-use Rattle.rx_event.proofs.Laws.Common.{IsDue, IsForced, IsConnectDue, IsConnected, IsSettled, IsAllowed, forced, stays, more, MayFollow, IsLawful}
-use Rattle.rx_event.proofs.Laws.Common.{IsForcedOn, option_map, hub_subscribed, terminal_due, connected}
+use Rattle.rx_event.proofs.Laws.Common.{IsDue, IsForced, IsConnectDue, IsConnected, IsSettled, forced, stays, more, MayFollow, IsLawful}
+use Rattle.rx_event.proofs.Laws.Common.{IsForcedOn, option_map, hub_subscribed, terminal_due}
 use Rattle.rx_event.specs.Claims.Stays.{ends_or_declines, FiresNone, ClosesNone, ConnectsAtMost, is_done, is_waiting_for}
 use Rattle.rx_event.proofs.Laws.Lists.{first_passes, filter_nonempty}
 use Rattle.rx_event.proofs.Laws.Places.{slice_get-append, slice_get_last, at-append, at_within}
@@ -147,12 +147,9 @@ settled_undue base h none_waits ends_none used = record { none = none } where
   none e (connecting {g = g} d) = none_waits g d
   none e (due n d) = undue d
 
-allowed_manual : (base : Kept) → {h : List Event} {g : ℕ} → IsAllowed base h (Connect g) → at is_manual_hub h g ≡ true
-allowed_manual base (connected manual unconnected few) = manual
-
 -- what is connected after a settled history is a hub that a caller connects
 connect_manual : (base : Kept) → {h : List Event} {g : ℕ} → IsSettled base h → MayFollow base h (Connect g) → at is_manual_hub h g ≡ true
-connect_manual base settled x3 = search (rules, allowed_manual)
+connect_manual base settled x3 = search (rules)
 
 -- what shuts nothing closes nothing
 pub closes_none_kept : (h : List Event) (e : Event) → shuts_none e ≡ true → ClosesNone h e

@@ -1,13 +1,12 @@
 -- Checkpoints: a stored history and its base agree, and go on by the same events.
 use Rattle.rx_event.proofs.Laws.Common.{◌≡◌, ℕ, ◌+◌, length, Bool, true, false, List, [], ◌∷◌, ◌++◌, map, cond, Option, Some, None, refl, sym, ap, subst, ◌∙◌}
 use Rattle.rx_event.proofs.Laws.Common.{slice_get, filter, append_assoc, append-nil, drop, AllByRecursion, range_with_len, filter_map, option_map_or}
-use Rattle.rx_event.proofs.Laws.Common.{false≢true, Event, Open, Hub, Item, End, Close, makes_hub, is_root, is_out, at, places, open_nodes, Moment}
-use Rattle.rx_event.proofs.Laws.Common.{moments_after, mail_of, IsSettled, MayFollow, IsLawful, Kept, shown, base_of, Agree, AreRead, keep_node, is_untaken}
-use Rattle.rx_event.proofs.Laws.Common.{debt}
+use Rattle.rx_event.proofs.Laws.Common.{false≢true, Event, Hub, Item, End, Close, makes_hub, is_root, is_out, at, places, Moment}
+use Rattle.rx_event.proofs.Laws.Common.{moments_after, mail_of, IsSettled, MayFollow, IsLawful, Kept, shown, base_of, Agree, AreRead, debt}
 use Rattle.std.proofs.Common.{sum_by, rules}
 use Rattle.rx_event.specs.Tree.{hubs}
 use Rattle.rx_event.specs.Notes.{told}
-use Rattle.rx_event.specs.Bases.{keep_hub, keep_resource, keep_lease, mode_of}
+use Rattle.rx_event.specs.Bases.{keep_hub, keep_lease, mode_of}
 use Rattle.rx_event.specs.Claims.Checkpoints.{EachRule, AgreeingGoOn, CheckpointsAgree}
 use Rattle.rx_event.proofs.Laws.Lawful.{IsLawful-push, IsLawful_empty, may_end}
 use Rattle.rx_event.proofs.Laws.Sums.{sum_by-same}
@@ -49,6 +48,7 @@ mail_alike b h c k a law _ f = refl
 
 agreeing : (b : Kept) (h : List Event) (c : Kept) (k : List Event) → IsLawful b h → IsLawful c k → Agree b h c k → (e : Event) → AgreeingGoOn b h c k e
 agreeing b h c k law law_c a e =
+    let back : Agree c k b h = agree_back b h c k a in
     record {
       forced = (forced_too b h c k a law law_c, forced_too c k b h back law_c law);
       allowed = (allowed_too b h c k a law law_c, allowed_too c k b h back law_c law);
@@ -57,9 +57,6 @@ agreeing b h c k law law_c a e =
       notes = λ next. mail_alike b h c k a law e next;
       agree = λ next. agree-push b h c k e law law_c next (follows_too b h c k a law law_c next) a;
     }
-  where
-    back : Agree c k b h
-    back = agree_back b h c k a
 
 -- bases of histories that agree -----------------------------------------------------------------------
 
@@ -70,9 +67,6 @@ map_filter_same {X = X} f g p same (n ∷ ns) = search (rules, map, filter, cond
 module _ (b : Kept) (h : List Event) (c : Kept) (k : List Event) (a : Agree b h c k) where
   alike : Alike h k
   alike = alike_of a
-
-  same_nodes : map (keep_node b h) (open_nodes h) ≡ map (keep_node c k) (open_nodes k)
-  same_nodes = search (rules, map_filter_same, map, open_nodes_alike, alike, option_map_or)
 
   same_hubs : map (keep_hub h) (hubs h) ≡ map (keep_hub k) (hubs k)
   same_hubs = map_filter_same (keep_hub h) (keep_hub k) (at makes_hub h) same (places h) ∙ ap (map (keep_hub k)) (hubs_alike h k alike) where
@@ -85,16 +79,13 @@ module _ (b : Kept) (h : List Event) (c : Kept) (k : List Event) (a : Agree b h 
     same : (n : ℕ) → at makes_hub h n ≡ true → keep_hub h n ≡ keep_hub k n
     same n makes = ap (λ o. record { number = n; mode = mode_of (option_map_or (λ e. e) o (Close n)) }) (by_event n (slice_get h n) refl makes)
 
-  same_resources : map (keep_resource b h) (filter (is_untaken h) (places h)) ≡ map (keep_resource c k) (filter (is_untaken k) (places k))
-  same_resources = search (rules, map_filter_same, map, filter, range_with_len, option_map_or, cond)
-
   same_leases : map (keep_lease h) (filter (is_out h) (places h)) ≡ map (keep_lease k) (filter (is_out k) (places k))
   same_leases = search (rules, map_filter_same, option_map_or, map, filter, range_with_len)
 
   -- are the same
   pub same_base : base_of b h ≡ base_of c k
   unfolding base_of
-  same_base = search (rules, same_hubs, same_nodes, same_resources, same_leases)
+  same_base = search (rules, same_hubs, map_filter_same, open_nodes_alike, alike, same_leases)
 
 pub same_debt : (b : Kept) (h : List Event) (c : Kept) (k : List Event) → Agree b h c k → debt b h ≡ debt c k
 unfolding debt
@@ -135,6 +126,10 @@ before_base b h es law settled longer =
 
 each_rule : (b : Kept) (h : List Event) (c : Kept) (k : List Event) → IsLawful b h → IsLawful c k → Agree b h c k → EachRule b h c k
 each_rule b h c k law law_k a =
+    let alike : Alike h k = alike_of a in
+    let other : Alike k h = alike_back h k alike in
+    let there : AreRead b c (λ n. n) (λ n. n) h k = reads_of a law law_k in
+    let back : AreRead c b (λ n. n) (λ n. n) k h = read_back there in
     record {
       mirrors = λ p t. (mirrors_too b c h k alike there p t, mirrors_too c b k h other back p t);
       fires = λ u. (fires_too b c h k alike there u, fires_too c b k h other back u);
@@ -144,18 +139,6 @@ each_rule b h c k law law_k a =
       leaves = λ n. (leaves_too b c h k alike there n, leaves_too c b k h other back n);
       connects = λ g. (connect_due_read there g, connect_due_read back g);
     }
-  where
-    alike : Alike h k
-    alike = alike_of a
-
-    other : Alike k h
-    other = alike_back h k alike
-
-    there : AreRead b c (λ n. n) (λ n. n) h k
-    there = reads_of a law law_k
-
-    back : AreRead c b (λ n. n) (λ n. n) k h
-    back = read_back there
 
 pub checkpoints_agree : CheckpointsAgree
 checkpoints_agree =

@@ -1,16 +1,16 @@
 -- Whatever one course of what is due closes, another closes too, once nothing is left to be done in it.
 use Rattle.rx_event.proofs.Laws.Common.{◌≡◌, ℕ, ◌<◌, Bool, true, false, List, [], ◌∷◌, ◌++◌, length, Some, slice_get, refl, sym, ap, ◌∙◌, inl, inr}
-use Rattle.rx_event.proofs.Laws.Common.{◌⊎◌, ◌==◌, arith, not, AllByRecursion, list_any, false≢true, both_ways, false_from_ne_true, or_cases, eqb-true}
-use Rattle.rx_event.proofs.Laws.Common.{and_from, same_Some, none-some, Terminal, Completed, Error, option_map_or, Kept, node_kept, Event, Connect, End}
+use Rattle.rx_event.proofs.Laws.Common.{◌==◌, arith, not, AllByRecursion, list_any, false≢true, both_ways, false_from_ne_true, or_cases, eqb-true}
+use Rattle.rx_event.proofs.Laws.Common.{and_from, same_Some, none-some, Terminal, Completed, Error, Kept, Event, Connect, End}
 use Rattle.rx_event.proofs.Laws.Common.{Close, is_mirroring, is_merging, is_until, is_source_of, is_subscriber_of, is_auto_hub, at, parent, ancestors}
 use Rattle.rx_event.proofs.Laws.Common.{is_open, is_within, open_subscribers, mirrored, fired, failed, completed, cut, left, due, SourceEnded, IsDue}
-use Rattle.rx_event.proofs.Laws.Common.{IsConnected, IsSettled, completes_source, source_completed, IsLawful, ChildEnded}
+use Rattle.rx_event.proofs.Laws.Common.{IsConnected, IsSettled, source_completed, IsLawful, ChildEnded}
 use Rattle.rx_event.specs.Forced.{Has}
 use Rattle.rx_event.proofs.Laws.Openness.{is_open_within, is_open_outside-end, is_open_outside-close, ancestors_open}
 use Rattle.rx_event.proofs.Laws.Stands.{connection_parent}
 use Rattle.rx_event.proofs.Laws.Calm.{subscriber_listed, none_subscribed}
 use Rattle.rx_event.proofs.Laws.MarksFound.{completed_by, completed_kept, source_completed_true, source_completed_has}
-use Rattle.rx_event.proofs.Laws.OneEnd.{source_parent}
+use Rattle.rx_event.proofs.Laws.MarksEnds.{source_parent}
 use Rattle.rx_event.proofs.Laws.Dues.{IsDueOn, none_more, one_more, Fails, at_on, parent_on, ancestors_on, kept_on, connect_on, was_open_on, owed_on}
 use Rattle.rx_event.proofs.Laws.Dues.{fired_on, connected_on, lawful_on, EndsSo, ends_one, EndStands, stood_before, came_after, end_stands, HowClosed}
 use Rattle.rx_event.proofs.Laws.Dues.{ended_so, left_alone, closed_with, how_closed, IsClosing, by_end, by_close, closing_of}

@@ -1,5 +1,5 @@
 -- Neither a closing nor what is forced opens a root or connects a hub that a caller connects, so what a caller holds open grows less.
-use Rattle.rx_event.proofs.Laws.Common.{◌≡◌, ℕ, ◌+◌, ◌<◌, ◌≤◌, Bool, true, false, List, [], ◌∷◌, ◌++◌, length, Option, Some, None, cond, refl, sym, ap, ◌∙◌}
+use Rattle.rx_event.proofs.Laws.Common.{◌≡◌, ℕ, ◌+◌, ◌<◌, ◌≤◌, Bool, true, false, List, [], ◌∷◌, ◌++◌, length, Option, Some, cond, refl, sym, ap, ◌∙◌}
 use Rattle.rx_event.proofs.Laws.Common.{arith, inl, inr, ◌⊎◌, slice_get, append_assoc, append-nil, not, count_by, option_map_or, both_ways, false≢true}
 use Rattle.rx_event.proofs.Laws.Common.{and_parts, and_from, eq-eqb, false_from_ne_true, slice_get_within, Kept, Manual, Event, Hub, Connect, Close, makes_node}
 use Rattle.rx_event.proofs.Laws.Common.{makes_hub, is_root, is_auto_hub, is_manual_hub, at, places, is_open, open_connections, connecting, due, IsDue, IsForced}
@@ -189,13 +189,9 @@ connections_kept_back = record {
 bit_le : (a b : Bool) → (b ≡ true → a ≡ true) → cond {A = ℕ} b 1 0 ≤ cond {A = ℕ} a 1 0
 bit_le a b same = grind arith
 
--- the new place counts for nothing
-last_uncounted : (t : List Event → ℕ → Bool) (h : List Event) (e : Event) → IsKeptBack t → OpensNone h e → t (h ++ e ∷ []) (length h) ≡ false
-last_uncounted t h e kept opens = search (rules, false_from_ne_true, length)
-
 count_after : (t : List Event → ℕ → Bool) (h : List Event) (e : Event) → IsKeptBack t → OpensNone h e →
     count_by (t (h ++ e ∷ [])) (places (h ++ e ∷ [])) ≡ count_by (t (h ++ e ∷ [])) (places h)
-count_after t h e kept opens = search (rules, sum_by-places-push, cond, length, last_uncounted)
+count_after t h e kept opens = search (rules, sum_by-places-push, cond, length, false_from_ne_true)
 
 count_no_more : (t : List Event → ℕ → Bool) → IsKeptBack t → {h k : List Event} → OpensNoneUpTo h k → count_by (t k) (places k) ≤ count_by (t h) (places h)
 count_no_more t kept stays_so = omega arith

@@ -1,6 +1,6 @@
 -- What one more event does to the debt.
 use Rattle.rx_event.proofs.Laws.Common.{◌≡◌, ℕ, ℤ, ◌+◌, ◌<◌, ◌≤◌, Bool, true, false, List, [], ◌∷◌, ◌++◌, length, Option, Some, None, cond, refl, ap, ◌∙◌}
-use Rattle.rx_event.proofs.Laws.Common.{arith, ◌==◌, not, ◌&&◌, ◌||◌, sum_by, count_by, option_map_or, eq-eqb, eqb-true, false≢true, Terminal}
+use Rattle.rx_event.proofs.Laws.Common.{arith, ◌==◌, not, ◌&&◌, ◌||◌, sum_by, count_by, option_map_or, eq-eqb, eqb-true, Terminal}
 use Rattle.rx_event.proofs.Laws.Common.{Kept, Root, Source, Inner, Notifier, Kind, Mode, Event, Open, Hub, Connect, Accept, Use, Remove, Lease, Return, Item}
 use Rattle.rx_event.proofs.Laws.Common.{Decline, End, Close, Take, makes_node, makes_resource, makes_lease, is_merging, is_switch, is_remove_of, pays, at}
 use Rattle.rx_event.proofs.Laws.Common.{places, is_open, is_owned, is_out, is_held, is_waiting, stops, owed, stops_of, open_count}
@@ -41,13 +41,9 @@ debt-counts base h =
 
 -- owed --------------------------------------------------------------------------------------------
 
--- a new node owes nothing
-owed_open_new : (base : Kept) → (h : List Event) → IsLawful base h → (e : Event) → owed_open base (h ++ e ∷ []) (length h) ≡ 0
-owed_open_new base h law e = search (rules, owed_new, zero_or_zero, length)
-
 owed_count_older : (base : Kept) → (h : List Event) → IsLawful base h → (e : Event) →
     owed_count base (h ++ e ∷ []) ≡ sum_by (owed_open base (h ++ e ∷ [])) (places h)
-owed_count_older base h law e = search (rules, sum_by-places-push, owed_open_new)
+owed_count_older base h law e = search (rules, sum_by-places-push, owed_new, zero_or_zero)
 
 -- how many open FlatMaps and Switches the event pays: one or none
 abbrev pub paid_count : List Event → Event → ℕ
@@ -94,8 +90,7 @@ owed_count_falls-inner base h f kind law next =
     ) (omega arith) in
     let older = owed_count_older base h law (Open (Inner f) kind) in
     let falls = sum_by_falls (owed_open base h) (owed_open base (h ++ Open (Inner f) kind ∷ [])) (length h) f l
-    (owed_open_no_rise base h (Open (Inner f) kind) law next refl) at_f in
-    omega arith
+    (owed_open_no_rise base h (Open (Inner f) kind) law next refl) at_f in omega arith
 
 paid_none : (h : List Event) (e : Event) → ((n : ℕ) → pays n e ≡ false) → paid_count h e ≡ 0
 paid_none h e never = sum_by_none _ (length h) (λ n l. rw (never n) (none_counted (is_open h n && at is_merging h n)))

@@ -4,11 +4,9 @@ use Rattle.rx_event.proofs.Laws.Common.{inr, ◌⊎◌, ◌==◌, take, drop, sl
 use Rattle.rx_event.proofs.Laws.Common.{eq-eqb, eqb-true, length-take-le, slice_get_within, same_Some, none-some, list_any, Kept, Place, Root, Source, Inner}
 use Rattle.rx_event.proofs.Laws.Common.{Notifier, Kind, Sub, Event, Open, Connect, Close, makes_hub, is_auto_hub, is_manual_hub, is_connect_of}
 use Rattle.rx_event.proofs.Laws.Common.{is_subscriber_of, at, places, parent, ancestors, is_within, is_open, open_subscribers, open_connections, cut, left}
-use Rattle.rx_event.proofs.Laws.Common.{connecting, due, IsDue, IsForced, IsConnectDue, IsSettled, IsAllowed, IsInOrderAt, MayFollow, IsLawful, ◌≢◌, connected}
-use Rattle.rx_event.proofs.Laws.Common.{IsHubbed, IsInOrder}
+use Rattle.rx_event.proofs.Laws.Common.{connecting, due, IsDue, IsConnectDue, IsSettled, IsInOrderAt, MayFollow, IsLawful, ◌≢◌, IsHubbed, IsInOrder}
 use Rattle.std.proofs.Common.{take-append-drop, rules}
 use Rattle.std.proofs.lemmas.List.{length-take}
-use Rattle.rx_event.specs.Allowed.{opened}
 use Rattle.rx_event.proofs.Laws.Lists.{first_passes, filter_nonempty, filter_few}
 use Rattle.rx_event.proofs.Laws.Places.{slice_get-append, slice_get_last, at-append, at_within}
 use Rattle.rx_event.proofs.Laws.Parents.{parent-lt, parent_name, ancestors-append, is_within-le, within_cases}
@@ -28,15 +26,9 @@ at_connect h g c connects = connect_found g (slice_get h c) connects
 due_connect : (base : Kept) → {h : List Event} {g : ℕ} → IsDue base h (Connect g) → ⊥
 due_connect base d = elim d [ ]
 
-forced_connect : (base : Kept) → {h : List Event} {g : ℕ} → IsForced base h (Connect g) → open_connections h g ≡ []
-forced_connect base x1 = search (rules, due_connect)
-
-allowed_connect : (base : Kept) → {h : List Event} {g : ℕ} → IsAllowed base h (Connect g) → open_connections h g ≡ []
-allowed_connect base (connected m unconnected few) = unconnected
-
 -- a hub is connected where no connection of it is open
 pub may_connect : (base : Kept) → {h : List Event} {g : ℕ} → MayFollow base h (Connect g) → open_connections h g ≡ []
-may_connect base x1 = search (rules, forced_connect, allowed_connect)
+may_connect base x1 = search (rules, due_connect)
 
 -- also by any event that connects it
 pub connect_free : (base : Kept) → (h : List Event) (e : Event) (g : ℕ) → MayFollow base h e → is_connect_of g e ≡ true → open_connections h g ≡ []
@@ -103,15 +95,9 @@ auto_made o auto = grind arith
 pub manual_made : (o : Option Event) → option_map_or is_manual_hub o false ≡ true → option_map_or makes_hub o false ≡ true
 manual_made o manual = grind arith
 
-forced_hub : (base : Kept) → {h : List Event} {g : ℕ} → IsForced base h (Connect g) → at makes_hub h g ≡ true
-forced_hub base x3 = search (rules, auto_made, slice_get, due_connect)
-
-allowed_hub : (base : Kept) → {h : List Event} {g : ℕ} → IsAllowed base h (Connect g) → at makes_hub h g ≡ true
-allowed_hub base {h = h} {g = g} (connected manual unconnected few) = manual_made (slice_get h g) manual
-
 -- what is connected is a hub
 pub may_connect_hub : (base : Kept) → {h : List Event} {g : ℕ} → MayFollow base h (Connect g) → at makes_hub h g ≡ true
-may_connect_hub base x1 = search (rules, forced_hub, allowed_hub)
+may_connect_hub base x1 = search (rules, auto_made, due_connect, manual_made)
 
 pub hub_before : (base : Kept) → (h : List Event) → IsLawful base h → (c g : ℕ) → slice_get h c ≡ Some (Connect g) → at makes_hub (take c h) g ≡ true
 hub_before base h law c g at_c = by_case (found_at base h law c (Connect g) at_c) where
@@ -179,12 +165,9 @@ one_where_subscribed base h g law settled auto subscribed = by_list (open_connec
 pub subscriber_found : (g : ℕ) (o : Option Event) → option_map_or (is_subscriber_of g) o false ≡ true → (place : Place) × (o ≡ Some (Open place (Sub g)))
 subscriber_found g x1 subscribes = search (rules, false≢true, eqb-true)
 
-allowed_hubbed : (base : Kept) → {h : List Event} {place : Place} {kind : Kind} → IsAllowed base h (Open place kind) → IsHubbed h place kind
-allowed_hubbed base (opened free hubbed few room) = hubbed
-
 -- the hub of what is opened is there, and in order
 pub may_subscribe : (base : Kept) → {h : List Event} {place : Place} {kind : Kind} → MayFollow base h (Open place kind) → IsHubbed h place kind
-may_subscribe base x1 = search (rules, false≢true, forced_kind, allowed_hubbed)
+may_subscribe base x1 = search (rules, false≢true, forced_kind)
 
 hubbed_before : (base : Kept) → (h : List Event) → IsLawful base h → (n : ℕ) (place : Place) (kind : Kind) → slice_get h n ≡ Some (Open place kind) →
     IsHubbed (take n h) place kind

@@ -31,9 +31,6 @@ if_some x0 o y same = search (rules, none-some)
 
 -- how a source ended ---------------------------------------------------------------------------------------------------
 
-and_then_some : {X Y : Type 0} (f : X → Option Y) (o : Option X) (y : Y) → option_and_then f o ≡ Some y → (x : X) × (o ≡ Some x) × (f x ≡ Some y)
-and_then_some f x1 y found = search (rules, none-some)
-
 connection_ends : (h : List Event) (g : ℕ) (e : Event) (t : Terminal) → ends_connection h g e ≡ Some t →
     (c : ℕ) × (e ≡ End c t) × (slice_get h c ≡ Some (Connect g))
 connection_ends h g x2 t found = search (rules, cond_some, at_connect, none-some)
@@ -58,7 +55,7 @@ source_found {g} {place} {c} {x} y t at_s subscribes later at_place ends connect
 
 pub source_end_some : (h : List Event) (s : ℕ) (t : Terminal) → source_end h s ≡ Some t → SourceEnded h s t
 unfolding source_end
-source_end_some h s t found = search (rules, and_then_some, option_and_then, slice_get, first_found, if_some, nat_lt, connection_ends, source_found, ltb-true)
+source_end_some h s t found = search (rules, none-some, option_and_then, slice_get, first_found, if_some, nat_lt, connection_ends, source_found, ltb-true)
 
 pub source_end_none : (h : List Event) (s : ℕ) (t : Terminal) → source_end h s ≡ None → ¬ SourceEnded h s t
 unfolding source_end
@@ -81,34 +78,28 @@ nil_none xs is = grind arith
 -- a hub that waits ---------------------------------------------------------------------------------------------------------
 
 connecting_due : (base : Kept) → (h : List Event) (n : ℕ) (e : Event) → gives base h Joining n ≡ Some e → IsForced base h e
-connecting_due base h n e found = subst (λ (x : Event). IsForced base h x) (same_Some (Connect n) e w.1) (connecting d) where
-  w : ((at is_auto_hub h n && list_any (waits_at h n) (places h) && is_nil (open_connections h n)) ≡ true) × (Some (Connect n) ≡ Some e)
-  w = if_some (at is_auto_hub h n && list_any (waits_at h n) (places h) && is_nil (open_connections h n)) (Some (Connect n)) e found
-
-  parts : ((at is_auto_hub h n && list_any (waits_at h n) (places h)) ≡ true) × (is_nil (open_connections h n) ≡ true)
-  parts = and_parts (at is_auto_hub h n && list_any (waits_at h n) (places h)) (is_nil (open_connections h n)) w.0
-
-  first : (at is_auto_hub h n ≡ true) × (list_any (waits_at h n) (places h) ≡ true)
-  first = and_parts (at is_auto_hub h n) (list_any (waits_at h n) (places h)) parts.0
-
-  waiting : (i : ℕ) × (s : ℕ) × (slice_get (places h) i ≡ Some s) × (waits_at h n s ≡ true)
-  waiting = list_any_found (waits_at h n) (places h) first.1
-
-  each : ((at (is_subscriber_of n) h waiting.1 && is_open h waiting.1) ≡ true) × (is_nothing (source_end h waiting.1) ≡ true)
-  each = and_parts (at (is_subscriber_of n) h waiting.1 && is_open h waiting.1) (is_nothing (source_end h waiting.1)) waiting.3
-
-  both : (at (is_subscriber_of n) h waiting.1 ≡ true) × (is_open h waiting.1 ≡ true)
-  both = and_parts (at (is_subscriber_of n) h waiting.1) (is_open h waiting.1) each.0
-
-  d : IsConnectDue h n
-  d = record {
-    auto = first.0;
-    subscriber = waiting.1;
-    subscribes = both.0;
-    subscribed = both.1;
-    waits = λ t. source_end_none h waiting.1 t (nothing_none (source_end h waiting.1) each.1);
-    unconnected = nil_none (open_connections h n) parts.1;
-  }
+connecting_due base h n e found =
+    let w : ((at is_auto_hub h n && list_any (waits_at h n) (places h) && is_nil (open_connections h n)) ≡ true) × (Some (Connect n) ≡ Some e) =
+    if_some (at is_auto_hub h n && list_any (waits_at h n) (places h) && is_nil (open_connections h n)) (Some (Connect n)) e found in
+    let parts : ((at is_auto_hub h n && list_any (waits_at h n) (places h)) ≡ true) × (is_nil (open_connections h n) ≡ true) =
+    and_parts (at is_auto_hub h n && list_any (waits_at h n) (places h)) (is_nil (open_connections h n)) w.0 in
+    let first : (at is_auto_hub h n ≡ true) × (list_any (waits_at h n) (places h) ≡ true) =
+    and_parts (at is_auto_hub h n) (list_any (waits_at h n) (places h)) parts.0 in
+    let waiting : (i : ℕ) × (s : ℕ) × (slice_get (places h) i ≡ Some s) × (waits_at h n s ≡ true) = list_any_found (waits_at h n) (places h) first.1 in
+    let each : ((at (is_subscriber_of n) h waiting.1 && is_open h waiting.1) ≡ true) × (is_nothing (source_end h waiting.1) ≡ true) =
+    and_parts (at (is_subscriber_of n) h waiting.1 && is_open h waiting.1) (is_nothing (source_end h waiting.1)) waiting.3 in
+    let both : (at (is_subscriber_of n) h waiting.1 ≡ true) × (is_open h waiting.1 ≡ true) =
+    and_parts (at (is_subscriber_of n) h waiting.1) (is_open h waiting.1) each.0 in
+    let d : IsConnectDue h n =
+    record {
+      auto = first.0;
+      subscriber = waiting.1;
+      subscribes = both.0;
+      subscribed = both.1;
+      waits = λ t. source_end_none h waiting.1 t (nothing_none (source_end h waiting.1) each.1);
+      unconnected = nil_none (open_connections h n) parts.1;
+    } in
+    subst (λ (x : Event). IsForced base h x) (same_Some (Connect n) e w.1) (connecting d)
 
 unended : (h : List Event) (s : ℕ) → ((t : Terminal) → ¬ SourceEnded h s t) → is_nothing (source_end h s) ≡ true
 unended h s none = by_end (source_end h s) refl where

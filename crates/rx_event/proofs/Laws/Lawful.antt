@@ -1,7 +1,7 @@
 -- Lawful histories, event by event.
 use Rattle.rx_event.proofs.Laws.Common.{◌≡◌, ℕ, zero, suc, ◌<◌, ◌≤◌, inl, inr, ◌⊎◌, length, true, List, [], ◌∷◌, ◌++◌, take, Some, refl, sym, ap, subst, ◌∙◌}
 use Rattle.rx_event.proofs.Laws.Common.{arith, slice_get, append_assoc, append-nil, length-append, AllByRecursion, slice_get_within, same_Some, none-some}
-use Rattle.rx_event.proofs.Laws.Common.{Terminal, Kept, shown, Event, End, is_open, Moment, moments, moments_after, due, IsDue, IsForced, IsAllowed, Started}
+use Rattle.rx_event.proofs.Laws.Common.{Terminal, Kept, shown, Event, End, is_open, Moment, moments, moments_after, due, IsDue, Started}
 use Rattle.rx_event.proofs.Laws.Common.{MayFollow, IsLawful, false≢true, common_steps}
 use Rattle.rx_event.proofs.Laws.Openness.{is_open_within}
 use Rattle.std.proofs.Common.{rules}
@@ -72,15 +72,9 @@ found_at base h law i e at_i = by_case (split_at (shown base) [] law.since (λ k
 pub due_open : (base : Kept) → {h : List Event} {c : ℕ} {t : Terminal} → IsDue base h (End c t) → is_open h c ≡ true
 due_open base given = grind arith
 
-forced_open : (base : Kept) → {h : List Event} {c : ℕ} {t : Terminal} → IsForced base h (End c t) → is_open h c ≡ true
-forced_open base (due n d) = due_open base d
-
-allowed_open : (base : Kept) → {h : List Event} {c : ℕ} {t : Terminal} → IsAllowed base h (End c t) → is_open h c ≡ true
-allowed_open base given = grind arith
-
 -- what is ended is open before
 pub may_end : (base : Kept) → {h : List Event} {c : ℕ} {t : Terminal} → MayFollow base h (End c t) → is_open h c ≡ true
-may_end base x1 = search (rules, forced_open, allowed_open)
+may_end base x1 = search (rules, due, due_open)
 
 -- an end stands after its node
 pub ended_after : (base : Kept) → (h : List Event) → IsLawful base h → (i c : ℕ) (t : Terminal) → slice_get h i ≡ Some (End c t) → c < i

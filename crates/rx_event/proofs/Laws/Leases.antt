@@ -2,7 +2,7 @@
 use Rattle.rx_event.proofs.Laws.Common.{◌≡◌, ℕ, ◌+◌, ◌<◌, ◌≤◌, Bool, true, false, List, [], ◌∷◌, ◌++◌, length, take, Some, cond, refl, sym, ap, subst, ◌∙◌}
 use Rattle.rx_event.proofs.Laws.Common.{arith, inl, inr, ◌⊎◌, ◌==◌, nat_lt, slice_get, length-append, not, ◌&&◌, list_any, sum_by, count_by, range_with_len}
 use Rattle.rx_event.proofs.Laws.Common.{option_and_then, option_map_or, cases_Bool, both_ways, false≢true, and_parts, ne_eqb, eqb-true, eq-eqb, lt-ltb}
-use Rattle.rx_event.proofs.Laws.Common.{false_from_ne_true, length-take-le, slice_get_past, slice_get_within, Kept, shown, Event, Open, Accept, Lease, Return}
+use Rattle.rx_event.proofs.Laws.Common.{false_from_ne_true, length-take-le, slice_get_past, slice_get_within, Kept, shown, Event, Accept, Lease, Return}
 use Rattle.rx_event.proofs.Laws.Common.{makes_resource, makes_lease, is_return_of, at, places, is_owned, is_out, leases_of, MayFollow, IsLawful, and_false}
 use Rattle.rx_event.proofs.Laws.Common.{and_true, and_not_or, none_counted, ltb-true, is_lease_of, is_return, is_leased}
 use Rattle.std.proofs.lemmas.Bool.{or_from}

@@ -39,14 +39,10 @@ merging_due base h n t o m found = by_child (child_terminal h n) refl found wher
       let parts = over_parts base h n w.0 in
       rw (← w.1) (completed o m (λ c. child_terminal_none h n (Error c) none refl) parts.0 (open_children_none h n parts.1) parts.2)
 
-until_due : (base : Kept) → (h : List Event) (n : ℕ) (t : Terminal) → is_open h n ≡ true → at is_mirroring h n ≡ true → at is_until h n ≡ true →
-    option_or (child_terminal h n) (completed_if (is_fired h n)) ≡ Some t → IsDue base h (End n t)
-until_due base h n t o m u found = search (rules, option_or, same_Some, mirrored, child_terminal_some, completed_if_some, fired)
-
 -- the terminal that the marks of an open node give is due
 pub terminal_due_due : (base : Kept) → (h : List Event) (n : ℕ) (made : Event) (t : Terminal) → is_open h n ≡ true → slice_get h n ≡ Some made →
     terminal_due made (marks_of base h n) ≡ Some t → IsDue base h (End n t)
-terminal_due_due base h n x3 t o at_n found = search (rules, mirrored, child_terminal_some, until_due, merging_due, none-some)
+terminal_due_due base h n x3 t o at_n found = search (rules, mirrored, child_terminal_some, same_Some, completed_if_some, fired, merging_due, none-some)
 
 -- so is the event
 pub due_at_due : (base : Kept) → (h : List Event) (n : ℕ) (made e : Event) → is_open h n ≡ true → slice_get h n ≡ Some made →

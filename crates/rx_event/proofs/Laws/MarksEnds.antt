@@ -3,8 +3,8 @@ use Rattle.rx_event.proofs.Laws.Common.{◌≡◌, ℕ, ◌-◌, Bool, true, fal
 use Rattle.rx_event.proofs.Laws.Common.{inr, ◌⊎◌, ◌==◌, slice_get, not, ◌&&◌, ◌||◌, count_by, option_map_or, option_or, cases_Bool, both_ways, false≢true}
 use Rattle.rx_event.proofs.Laws.Common.{and_parts, eq-eqb, eqb-true, same_Some, none-some, Terminal, Completed, Error, Kept, Source, Event, Open, Connect, End}
 use Rattle.rx_event.proofs.Laws.Common.{Close, is_merging, is_source_of, parent_named, at, parent, is_open, is_open_child_of, is_within, is_projection_to, left}
-use Rattle.rx_event.proofs.Laws.Common.{due, IsDue, IsForced, is_child_of, completes_source, passes_on, child_terminal, source_completed, open_children}
-use Rattle.rx_event.proofs.Laws.Common.{marks_of, IsAllowed, MayFollow, IsLawful, or_false, false_from_ne_true as never, if◌then◌else◌, ends_by, not-true}
+use Rattle.rx_event.proofs.Laws.Common.{due, IsDue, is_child_of, completes_source, passes_on, child_terminal, source_completed, open_children}
+use Rattle.rx_event.proofs.Laws.Common.{marks_of, MayFollow, IsLawful, or_false, false_from_ne_true as never, if◌then◌else◌, ends_by, not-true}
 use Rattle.rx_event.proofs.Laws.Parents.{ancestors_step, parent-lt, parent_within, parent_name, within_cases, is_within-le}
 use Rattle.rx_event.proofs.Laws.Openness.{is_open_within, is_open_outside-end, is_open_outside-close, is_cut, parent_open}
 use Rattle.rx_event.proofs.Laws.Lawful.{may_end}
@@ -73,6 +73,13 @@ marks-close base h c law next n o =
     marks-push base h (Close c) law next n (is_open_within h n parts.0) ∙
     same_marks base (or_false _) (or_false _) (or_false _) (or_false _) (or_nothing _) (omega arith) (omega arith)
 
+-- what is opened as a source stands below its node
+pub source_parent : (base : Kept) → (h : List Event) → IsLawful base h → (n s : ℕ) → at (is_source_of n) h s ≡ true → parent h s ≡ Some n
+source_parent base h law n s source = by_event (slice_get h s) refl source where
+  by_event : (x : Option Event) → slice_get h s ≡ x → option_map_or (is_source_of n) x false ≡ true → parent h s ≡ Some n
+  by_event (Some (Open (Source q) kind)) at_s source = parent-named base h law s n (Open (Source q) kind) at_s (ap Some (eqb-true q n source))
+  by_event _ at_s source = absurd (false≢true source)
+
 -- the marks of a node that is not above what ended stay, and of its parent alone do they change
 pub marks-end_other : {base : Kept} → (h : List Event) (c : ℕ) (t : Terminal) → IsLawful base h → MayFollow base h (End c t) → (n : ℕ) →
     is_open (h ++ End c t ∷ []) n ≡ true → is_child_of h n c ≡ false → marks_of base (h ++ End c t ∷ []) n ≡ marks_of base h n
@@ -82,13 +89,9 @@ marks-end_other {base} h c t law next n o other =
     same_marks base refl refl refl (ap (λ b. source_completed base h n || b) (no_source t) ∙ or_false (source_completed base h n))
     (ap (option_or (child_terminal h n)) (rw other refl) ∙ or_nothing (child_terminal h n)) refl (omega arith)
   where
-    source_named : (x : Option Event) → slice_get h c ≡ x → option_map_or (is_source_of n) x false ≡ true → parent h c ≡ Some n
-    source_named (Some (Open (Source q) kind)) at_c source = parent-named base h law c n (Open (Source q) kind) at_c (ap Some (eqb-true q n source))
-    source_named _ at_c source = absurd (false≢true source)
-
     by_test : (at (is_source_of n) h c ≡ true) ⊎ (at (is_source_of n) h c ≡ false) → at (is_source_of n) h c ≡ false
     by_test (inr out) = out
-    by_test (inl source) = absurd (both_ways (is_child_of h n c) other (parent_is_child h n c (source_named (slice_get h c) refl source)))
+    by_test (inl source) = absurd (both_ways (is_child_of h n c) other (parent_is_child h n c (source_parent base h law n c source)))
 
     no_source : (u : Terminal) → completes_source h n (End c u) ≡ false
     no_source Completed = by_test (cases_Bool (at (is_source_of n) h c))
@@ -111,17 +114,11 @@ marks-end_parent base h c p t law next below =
 
 -- a closing ---------------------------------------------------------------------------------------
 
-closed_names_none : (base : Kept) → {h : List Event} {c : ℕ} → IsAllowed base h (Close c) → (e : Event) → slice_get h c ≡ Some e → parent_named e ≡ None
-closed_names_none base x3 x4 at_c = search (rules, false≢true, made_passes, same_Some)
-
 due_names_none : (base : Kept) → {h : List Event} {c : ℕ} → IsDue base h (Close c) → (e : Event) → slice_get h c ≡ Some e → parent_named e ≡ None
 due_names_none base (left {g = g} o at_g a n) e at_c = rw (same_Some e (Connect g) (sym at_c ∙ at_g)) refl
 
-forced_names_none : (base : Kept) → {h : List Event} {c : ℕ} → IsForced base h (Close c) → (e : Event) → slice_get h c ≡ Some e → parent_named e ≡ None
-forced_names_none base (due n d) = due_names_none base d
-
 pub may_close_none : (base : Kept) → {h : List Event} {c : ℕ} → MayFollow base h (Close c) → (e : Event) → slice_get h c ≡ Some e → parent_named e ≡ None
-may_close_none base x1 = search (rules, forced_names_none, closed_names_none)
+may_close_none base x1 = search (rules, due, due_names_none, false≢true, made_passes, same_Some)
 
 -- what is closed has no parent, so no marks of what stays open change
 pub marks_closed : (base : Kept) → (h : List Event) (c : ℕ) → IsLawful base h → MayFollow base h (Close c) → (n : ℕ) → is_open (h ++ Close c ∷ []) n ≡ true →

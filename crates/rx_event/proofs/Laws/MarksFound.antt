@@ -3,7 +3,7 @@ use Rattle.rx_event.proofs.Laws.Common.{◌≡◌, ℕ, ◌≤◌, Bool, true, f
 use Rattle.rx_event.proofs.Laws.Common.{◌==◌, ◌||◌, count_by, list_any, option_map_or, cases_Bool, both_ways, false≢true, and_parts, and_from, eq-eqb}
 use Rattle.rx_event.proofs.Laws.Common.{eqb-true, or_cases, none-some, Terminal, Completed, Kept, node_kept, Event, End, is_merging, is_source_of, at, places}
 use Rattle.rx_event.proofs.Laws.Common.{parent, is_open, is_open_child_of, is_child_of, completes_source, passes_on, child_terminal, source_completed}
-use Rattle.rx_event.proofs.Laws.Common.{open_children, cond_some, ChildEnded, ends_by, or_right}
+use Rattle.rx_event.proofs.Laws.Common.{open_children, cond_some, ChildEnded, or_right}
 use Rattle.rx_event.specs.Forced.{Has}
 use Rattle.rx_event.proofs.Laws.Openness.{is_open_within}
 use Rattle.rx_event.proofs.Laws.Sums.{sum_by_none, sum_by_no_rise, count_by_one}
@@ -21,22 +21,15 @@ is_child_parent h p n child = child_named (parent h n) p child
 pub parent_is_child : (h : List Event) (p n : ℕ) → parent h n ≡ Some p → is_child_of h p n ≡ true
 parent_is_child h p n below = rw below (eq-eqb p p refl)
 
-ends_by_end : (h : List Event) (p : ℕ) (e : Event) (t : Terminal) → ends_by h p e ≡ Some t →
-    (c : ℕ) × (e ≡ End c t) × (parent h c ≡ Some p) × (passes_on (at is_merging h p) t ≡ true)
-ends_by_end h p x2 t found = search (rules, cond_some, and_parts, is_child_parent, none-some)
-
 -- the terminal is that of a child
 pub child_terminal_some : (h : List Event) (n : ℕ) (t : Terminal) → child_terminal h n ≡ Some t → ChildEnded h n t × (passes_on (at is_merging h n) t ≡ true)
 unfolding child_terminal
-child_terminal_some h n t found = search (rules, first_found, ends_by_end)
+child_terminal_some h n t found = search (rules, first_found, cond_some, and_parts, is_child_parent, none-some)
 
 -- where there is none, no child ended so that the node ends by it
 pub child_terminal_none : (h : List Event) (n : ℕ) (t : Terminal) → child_terminal h n ≡ None → passes_on (at is_merging h n) t ≡ true → ¬ ChildEnded h n t
 unfolding child_terminal
 child_terminal_none h n t none passes c = search (rules, first_none, parent_is_child, none-some)
-
-completes_end : (h : List Event) (p : ℕ) (e : Event) → completes_source h p e ≡ true → (s : ℕ) × (e ≡ End s Completed) × (at (is_source_of p) h s ≡ true)
-completes_end h p x2 found = search (rules, false≢true)
 
 -- the source completed before the base, or since
 pub completed_by : (base : Kept) → (h : List Event) (n : ℕ) → source_completed base h n ≡ true →
@@ -52,7 +45,7 @@ completed_kept base h n kept = ap (λ m. m || list_any (completes_source h n) h)
 pub source_completed_true : (base : Kept) → (h : List Event) (n : ℕ) → list_any (completes_source h n) h ≡ true →
     (s : ℕ) × (at (is_source_of n) h s ≡ true) × Has h (End s Completed)
 unfolding source_completed
-source_completed_true base h n found = search (rules, list_any_found, completes_end)
+source_completed_true base h n found = search (rules, list_any_found, false≢true)
 
 pub source_completed_has : (base : Kept) → (h : List Event) (n s : ℕ) → at (is_source_of n) h s ≡ true → Has h (End s Completed) →
     source_completed base h n ≡ true

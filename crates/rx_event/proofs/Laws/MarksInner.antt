@@ -1,7 +1,7 @@
 -- The marks of a FlatMap or Switch after the opening of an inner.
-use Rattle.rx_event.proofs.Laws.Common.{◌≡◌, ℕ, ◌+◌, ◌-◌, ◌<◌, Bool, true, false, List, [], ◌∷◌, ◌++◌, length, Option, Some, None, cond, refl, sym, ap, ◌∙◌}
-use Rattle.rx_event.proofs.Laws.Common.{arith, inl, inr, ◌⊎◌, ◌==◌, nat_lt, slice_get, not, ◌&&◌, ◌||◌, count_by, option_map_or, both_ways, false≢true}
-use Rattle.rx_event.proofs.Laws.Common.{and_parts, and_from, or_cases, eq-eqb, eqb-true, lt-ltb, same_Some, Kept, Root, Source, Inner, Notifier, Kind, Event}
+use Rattle.rx_event.proofs.Laws.Common.{◌≡◌, ℕ, ◌+◌, ◌-◌, ◌<◌, Bool, true, false, List, [], ◌∷◌, ◌++◌, length, Option, Some, cond, refl, sym, ap, ◌∙◌}
+use Rattle.rx_event.proofs.Laws.Common.{arith, inl, inr, ◌⊎◌, ◌==◌, nat_lt, slice_get, not, ◌&&◌, count_by, option_map_or, both_ways, false≢true}
+use Rattle.rx_event.proofs.Laws.Common.{and_parts, and_from, or_cases, eq-eqb, eqb-true, lt-ltb, same_Some, Kept, Inner, Kind, Event}
 use Rattle.rx_event.proofs.Laws.Common.{Open, is_inner_of, is_switch, at, parent, is_open, is_open_child_of, shuts, owed, is_child_of}
 use Rattle.rx_event.proofs.Laws.Common.{open_children, marks_of, MayFollow, IsLawful, or_false, is_switched_inner, not-true as not_false}
 use Rattle.rx_event.proofs.Laws.Parents.{ancestors_step, parent-lt}
@@ -16,6 +16,12 @@ use Rattle.std.proofs.Common.{rules}
 
 -- an inner ------------------------------------------------------------------------------------------
 
+pub switched_parent : (base : Kept) → (h : List Event) → IsLawful base h → (f k : ℕ) → at (is_inner_of f) h k ≡ true → parent h k ≡ Some f
+switched_parent base h law f k inner = by_event (slice_get h k) refl inner where
+  by_event : (x : Option Event) → slice_get h k ≡ x → option_map_or (is_inner_of f) x false ≡ true → parent h k ≡ Some f
+  by_event (Some (Open (Inner q) kind)) at_k inner = parent-named base h law k f (Open (Inner q) kind) at_k (ap Some (eqb-true q f inner))
+  by_event _ at_k inner = absurd (false≢true inner)
+
 -- the opening of an inner closes children of its own Switch alone
 inner_cut_none : (base : Kept) → (h : List Event) (f : ℕ) (kind : Kind) → IsLawful base h → (n : ℕ) → is_cut h (Open (Inner f) kind) n ≡ false →
     (f == n) ≡ false → cut_children h (Open (Inner f) kind) n ≡ 0
@@ -25,14 +31,10 @@ inner_cut_none base h f kind law n whole other = sum_by_none (λ k. cond (is_ope
     shut_named : (k : ℕ) → shuts h k (Open (Inner f) kind) ≡ true → at (is_inner_of f) h k ≡ true
     shut_named k shut = (and_parts (nat_lt f k && at is_switch h f) (at (is_inner_of f) h k) shut).1
 
-    inner_parent : (k : ℕ) (x : Option Event) → slice_get h k ≡ x → option_map_or (is_inner_of f) x false ≡ true → parent h k ≡ Some f
-    inner_parent k (Some (Open (Inner q) kind)) at_k inner = parent-named base h law k f (Open (Inner q) kind) at_k (ap Some (eqb-true q f inner))
-    inner_parent k _ at_k inner = absurd (false≢true inner)
-
     clash : (k : ℕ) → parent h k ≡ Some n → (shuts h k (Open (Inner f) kind) ≡ true) ⊎ (is_cut h (Open (Inner f) kind) n ≡ true) → ⊥
     clash k below (inr cut_above) = both_ways (is_cut h (Open (Inner f) kind) n) whole cut_above
     clash k below (inl shut) =
-        let same : f ≡ n = same_Some f n (sym (inner_parent k (slice_get h k) refl (shut_named k shut)) ∙ below) in both_ways (f == n) other (eq-eqb f n same)
+        let same : f ≡ n = same_Some f n (sym (switched_parent base h law f k (shut_named k shut)) ∙ below) in both_ways (f == n) other (eq-eqb f n same)
 
     by_test : (k : ℕ) → (b : Bool) → is_child_of h n k ≡ b → (w : Bool) → is_cut h (Open (Inner f) kind) k ≡ w → (p : Bool) →
         cond {A = ℕ} ((p && b) && w) 1 0 ≡ 0
@@ -71,12 +73,6 @@ marks-inner_flat base h f kind law next flat =
 -- what the opening of an inner of a Switch shuts among its children
 switch_cut : (h : List Event) (f : ℕ) (kind : Kind) (k : ℕ) → parent h k ≡ Some f → is_cut h (Open (Inner f) kind) k ≡ is_switched_inner h f k
 switch_cut h f kind k below = search (rules, ancestors_step, is_cut_inner, or_false)
-
-pub switched_parent : (base : Kept) → (h : List Event) → IsLawful base h → (f k : ℕ) → at (is_inner_of f) h k ≡ true → parent h k ≡ Some f
-switched_parent base h law f k inner = by_event (slice_get h k) refl inner where
-  by_event : (x : Option Event) → slice_get h k ≡ x → option_map_or (is_inner_of f) x false ≡ true → parent h k ≡ Some f
-  by_event (Some (Open (Inner q) kind)) at_k inner = parent-named base h law k f (Open (Inner q) kind) at_k (ap Some (eqb-true q f inner))
-  by_event _ at_k inner = absurd (false≢true inner)
 
 cut_child_is_inner : (h : List Event) (f : ℕ) (kind : Kind) (k : ℕ) → (is_open_child_of h f k && is_cut h (Open (Inner f) kind) k) ≡ true →
     (is_open h k ≡ true) × (at (is_inner_of f) h k ≡ true)

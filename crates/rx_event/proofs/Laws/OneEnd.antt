@@ -2,10 +2,10 @@
 use Rattle.rx_event.proofs.Laws.Common.{◌≡◌, ℕ, ◌<◌, ◌≤◌, Bool, true, false, List, [], ◌∷◌, ◌++◌, length, Option, Some, None, cond, refl, sym, ap, ◌∙◌, arith}
 use Rattle.rx_event.proofs.Laws.Common.{inl, inr, ◌⊎◌, slice_get, not, ◌&&◌, ◌||◌, list_any, option_map_or, cases_lt, both_ways, false≢true, and_parts}
 use Rattle.rx_event.proofs.Laws.Common.{or_cases, eq-eqb, eqb-true, slice_get_within, same_Some, none-some, Terminal, Completed, Error, Kept, node_kept}
-use Rattle.rx_event.proofs.Laws.Common.{completes_source, source_completed, due_at, marks_of, is_child_of, Root, Source, Inner, Notifier, Event, Open, Item}
-use Rattle.rx_event.proofs.Laws.Common.{Decline, End, Close, is_mirroring, is_merging, is_until, is_source_of, is_inner_of, is_subscriber_of, pays, at, parent}
+use Rattle.rx_event.proofs.Laws.Common.{completes_source, source_completed, due_at, marks_of, is_child_of, Inner, Event, Open, Item}
+use Rattle.rx_event.proofs.Laws.Common.{Decline, End, Close, is_mirroring, is_merging, is_until, is_inner_of, is_subscriber_of, pays, at, parent}
 use Rattle.rx_event.proofs.Laws.Common.{is_open, shuts, is_fired, is_firing_of, stops_of, mirrored, fired, failed, completed, cut, due, SourceEnded, IsDue}
-use Rattle.rx_event.proofs.Laws.Common.{IsForced, IsSettled, forced, allowed, opened_with, MayFollow, IsLawful, or_false, ChildEnded, not-true as not_false}
+use Rattle.rx_event.proofs.Laws.Common.{IsForced, forced, allowed, opened_with, MayFollow, IsLawful, or_false, ChildEnded, not-true as not_false}
 use Rattle.rx_event.proofs.Laws.MarksAfter.{source_completed-push, ended_older, child_new, adds_child, is_fired-push}
 use Rattle.rx_event.proofs.Laws.MarksNew.{source_completed_is, fired_past}
 use Rattle.rx_event.proofs.Laws.MarksFound.{source_completed_true, is_child_parent}
@@ -14,12 +14,12 @@ use Rattle.rx_event.specs.Bases.{Completes}
 use Rattle.rx_event.proofs.Laws.Places.{slice_get-append, slice_get_last, at-append, cases_push}
 use Rattle.rx_event.proofs.Laws.Parents.{parent-append, parent-lt, parent_within, parent_name, ancestors_step}
 use Rattle.rx_event.proofs.Laws.Openness.{open_old, is_open_cut, is_cut}
-use Rattle.rx_event.proofs.Laws.Steps.{by_events, parent-named, forced_kind}
+use Rattle.rx_event.proofs.Laws.Steps.{by_events, forced_kind}
 use Rattle.rx_event.proofs.Laws.Stands.{event_at}
 use Rattle.rx_event.proofs.Laws.Waits.{settled_connected}
 use Rattle.rx_event.proofs.Laws.Projections.{owed-push}
 use Rattle.rx_event.proofs.Laws.MarksDue.{due_by_marks, due_at_due}
-use Rattle.rx_event.proofs.Laws.MarksEnds.{may_close_none}
+use Rattle.rx_event.proofs.Laws.MarksEnds.{may_close_none, source_parent}
 use Rattle.rx_event.proofs.Laws.MarksInner.{switched_parent}
 use Rattle.std.proofs.Common.{rules}
 
@@ -107,19 +107,10 @@ child_shut {base} {h} {e = Close c} law next n k below shut silent opens =
 child_shut {base} {h} {e = Open (Inner f) kind} law next n k below shut silent opens =
     let inner : at (is_inner_of f) h k ≡ true = (and_parts _ _ shut).1 in
     let same : f ≡ n = same_Some f n (sym (switched_parent base h law f k inner) ∙ below) in absurd (opens (eq-eqb f n same))
-child_shut {e = Open Root kind} law next n k below shut silent opens = absurd (false≢true shut)
-child_shut {e = Open (Source f) kind} law next n k below shut silent opens = absurd (false≢true shut)
-child_shut {e = Open (Notifier f) kind} law next n k below shut silent opens = absurd (false≢true shut)
 child_shut law next n k below shut silent opens = absurd (false≢true shut)
 
 now_closed : (o c : Bool) → (o && not c) ≡ false → c ≡ false → o ≡ false
 now_closed o c gone whole = grind arith
-
-pub source_parent : (base : Kept) → (h : List Event) → IsLawful base h → (n s : ℕ) → at (is_source_of n) h s ≡ true → parent h s ≡ Some n
-source_parent base h law n s source = by_event (slice_get h s) refl source where
-  by_event : (x : Option Event) → slice_get h s ≡ x → option_map_or (is_source_of n) x false ≡ true → parent h s ≡ Some n
-  by_event (Some (Open (Source q) kind)) at_s source = parent-named base h law s n (Open (Source q) kind) at_s (ap Some (eqb-true q n source))
-  by_event _ at_s source = absurd (false≢true source)
 
 not_completing : (h : List Event) (n : ℕ) (e : Event) → completes e ≡ false → completes_source h n e ≡ false
 not_completing h n x2 silent = search (rules, false≢true)
@@ -217,13 +208,9 @@ due_before base h e law next n u (cut o s) = by_case (source_ended_before base h
   by_case (inr now) = inr (ends_so now)
   by_case (inl old) = inl (cut (open_old h e n old.1 o) old.0)
 
--- each reason ends as the event says
-reason_end : (h : List Event) (e : Event) (n : ℕ) (u : Terminal) → IsReason h e n u → end_by e ≡ Some u
-reason_end h e n u x4 = search (rules, ends_as, none-some, completes, false≢true, list_any)
-
 due_or_now : (base : Kept) → (h : List Event) (e : Event) (n : ℕ) (u : Terminal) → IsDue base h (End n u) ⊎ IsReason h e n u →
     IsDue base h (End n u) ⊎ (end_by e ≡ Some u)
-due_or_now base h e n u x5 = search (rules, reason_end)
+due_or_now base h e n u x5 = search (rules, ends_as, none-some, completes, false≢true)
 
 -- what an event makes due ends as what was due before it
 end_alike : {base : Kept} → {h : List Event} (e : Event) → MayFollow base h e →

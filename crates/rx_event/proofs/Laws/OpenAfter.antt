@@ -34,8 +34,7 @@ open_of-push base sort h e next makes =
     let older : filter passes (places h) ≡ filter (is_open (h ++ e ∷ [])) (open_of sort h) =
     filter_below passes (λ n. (at sort h n && is_open h n) && is_open (h ++ e ∷ []) n) 0 (length h) still ∙
     sym (filter_twice (is_open (h ++ e ∷ [])) (λ n. at sort h n && is_open h n) (places h)) in
-    let last : filter passes (length h ∷ []) ≡ cond (sort e) (length h ∷ []) [] =
-    ap (λ b. cond b (length h ∷ []) [])
+    let last : filter passes (length h ∷ []) ≡ cond (sort e) (length h ∷ []) [] = ap (λ b. cond b (length h ∷ []) [])
     ((λ i. option_map_or sort (slice_get_last h e i) false && is_open_new base h e next i) ∙ made (sort e) (makes_node e) makes) in
     ap (filter passes) (places-push h e) ∙ filter-append passes (places h) (length h ∷ []) ∙ (λ i. older i ++ last i) where
       passes : ℕ → Bool

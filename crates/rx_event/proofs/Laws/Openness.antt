@@ -19,14 +19,10 @@ pub list_any-same : {X : Type 0} (p q : X → Bool) → ((x : X) → p x ≡ q x
 list_any-same p q same [] = refl
 list_any-same p q same (x ∷ xs) = rw (same x, list_any-same p q same xs) refl
 
--- whether an event shuts an older node depends on the older events alone
-shuts-append : (h t : List Event) (n : ℕ) → n < length h → (e : Event) → shuts (h ++ t) n e ≡ shuts h n e
-shuts-append h t n l x4 = search (rules, cases_Bool, nat_lt, ltb-true, at-append)
-
 -- an older node is shut if it was, or if the new event shuts it
 pub is_shut-push : (h : List Event) (e : Event) (n : ℕ) → n < length h → is_shut (h ++ e ∷ []) n ≡ (is_shut h n || shuts h n e)
 unfolding is_shut
-is_shut-push h e n l = search (rules, drop-append-le, list_any-same, shuts-append, drop, list_any-append, list_any, or_false)
+is_shut-push h e n l = search (rules, drop-append-le, list_any-same, cases_Bool, ltb-true, at-append, drop, list_any-append, list_any, or_false)
 
 -- the new node is not shut
 pub is_shut_last : (h : List Event) (e : Event) → is_shut (h ++ e ∷ []) (length h) ≡ false

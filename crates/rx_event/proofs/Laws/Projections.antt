@@ -3,7 +3,7 @@ use Rattle.rx_event.proofs.Laws.Common.{take, ◌≡◌, ℕ, zero, suc, ◌+◌
 use Rattle.rx_event.proofs.Laws.Common.{refl, sym, ap, ◌∙◌, arith, ◌==◌, slice_get, length-append, ◌&&◌, AllByRecursion, sum_by, count_by, filter_map}
 use Rattle.rx_event.proofs.Laws.Common.{option_and_then, option_map_or, cases_Bool, both_ways, false≢true, and_parts, eqb-true, sum_by_push, sum_by-cons}
 use Rattle.rx_event.proofs.Laws.Common.{slice_get_past, slice_get_within, Kept, shown, Root, Source, Notifier, Kind, Event, Open, Connect, is_merging, is_until}
-use Rattle.rx_event.proofs.Laws.Common.{pays, at, places, parent, is_open, Stop, Delivery, Projection, Firing, climb, stops, most_visits, moments, projections}
+use Rattle.rx_event.proofs.Laws.Common.{pays, at, places, parent, is_open, Stop, Projection, climb, stops, most_visits, moments, projections}
 use Rattle.rx_event.proofs.Laws.Common.{owed, is_projection_to, stops_of, MayFollow, IsLawful, StopsAtOpen, zero_or_zero, option_to_list}
 use Rattle.rx_event.specs.declared.base.BaseNode.{BaseNode}
 use Rattle.rx_event.specs.Climb.{stop_made, stop_at, onward_from, onward, onward_unless, visited}
@@ -19,10 +19,6 @@ use Rattle.std.proofs.Common.{rules}
 
 -- who is projected to ------------------------------------------------------------------------------
 
--- the stop at a node is no projection to what is no FlatMap or Switch
-stop_not_to : (h : List Event) (f : ℕ) → at is_merging h f ≡ false → (n : ℕ) → option_map_or (is_projection_to f) (stop_at h n) false ≡ false
-stop_not_to h f plain n = search (rules, slice_get, option_map_or, cond, cases_Bool, both_ways, eqb-true, option_and_then)
-
 count_by-filter_map_none : {X Y : Type 0} (p : Y → Bool) (s : X → Option Y) → ((x : X) → option_map_or p (s x) false ≡ false) → (xs : List X) →
     count_by p (filter_map s xs) ≡ 0
 count_by-filter_map_none p s never [] = refl
@@ -31,7 +27,7 @@ count_by-filter_map_none {Y = Y} p s never (x ∷ xs) = search (rules, option_ma
 -- an event projects nothing to what is no FlatMap or Switch
 pub projects_none : (h : List Event) (e : Event) (f : ℕ) → at is_merging h f ≡ false → count_by (is_projection_to f) (stops_of h e) ≡ 0
 unfolding stops
-projects_none h x1 f plain = search (rules, count_by-filter_map_none, stop_not_to)
+projects_none h x1 f plain = search (rules, count_by-filter_map_none, cases_Bool, both_ways, eqb-true)
 
 -- nothing was projected beyond the end
 pub projections_past : (h : List Event) (f : ℕ) → length h ≤ f → projections h f ≡ 0

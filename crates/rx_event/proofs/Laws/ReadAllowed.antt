@@ -118,35 +118,18 @@ waits_by : {b d : Kept} {r s : ℕ → ℕ} {h c : List Event} → MayAlike b d 
     ((n : ℕ) (t : Terminal) → is_open h n ≡ true → SourceEnded h n t → SourceEnded c (r n) t) → (place : Place) (kind : Kind) → IsFree b h place →
     IsHubbed h place kind → (g : ℕ) → IsConnectDue (c ++ Open (place_by r place) (kind_by r kind) ∷ []) g →
     (k : ℕ) × IsConnectDue (h ++ Open place kind ∷ []) k
-waits_by {b} {d} {r} {s} {h} {c} m law other_law ended place kind free hubbed g due_there = (
-  S g,
-  connect_due_by S R (c ++ x ∷ []) (h ++ e ∷ []) (trees_back (trees_on m.trees goes back))
-      (ended_on law m.trees goes (λ n u is. absurd (cc)) ended) g due_there,
-)
-  where
-    e : Event
-    e = Open place kind
-
-    x : Event
-    x = Open (place_by r place) (kind_by r kind)
-
-    R : ℕ → ℕ
-    R = with_number (length h) (length c) r
-
-    S : ℕ → ℕ
-    S = with_number (length c) (length h) s
-
-    names : NamesOpen h (Open place kind)
-    names = names_open b h place kind free
-
-    names_there : NamesOpen c (Open (place_by r place) (kind_by r kind))
-    names_there = names_open d c (place_by r place) (kind_by r kind) (free_by b d r s h c m place free)
-
-    undone : event_by s (Open (place_by r place) (kind_by r kind)) ≡ Open place kind
-    undone = open_undone m.trees.there place kind names (hub_of_kind h place kind hubbed)
-
-    goes : GoesOn r s (with_number (length h) (length c) r) (with_number (length c) (length h) s) h c (Open place kind)
-    goes = record {
+waits_by {b} {d} {r} {s} {h} {c} m law other_law ended place kind free hubbed g due_there =
+    let e : Event = Open place kind in
+    let x : Event = Open (place_by r place) (kind_by r kind) in
+    let R : ℕ → ℕ = with_number (length h) (length c) r in
+    let S : ℕ → ℕ = with_number (length c) (length h) s in
+    let names : NamesOpen h (Open place kind) = names_open b h place kind free in
+    let names_there : NamesOpen c (Open (place_by r place) (kind_by r kind)) =
+    names_open d c (place_by r place) (kind_by r kind) (free_by b d r s h c m place free) in
+    let undone : event_by s (Open (place_by r place) (kind_by r kind)) ≡ Open place kind =
+    open_undone m.trees.there place kind names (hub_of_kind h place kind hubbed) in
+    let goes : GoesOn r s (with_number (length h) (length c) r) (with_number (length c) (length h) s) h c (Open place kind) =
+    record {
       same = undone;
       older = number_old (length h) (length c) r;
       older_back = number_old (length c) (length h) s;
@@ -156,10 +139,9 @@ waits_by {b} {d} {r} {s} {h} {c} m law other_law ended place kind free hubbed g 
       near = λ made. near_open r (with_number (length h) (length c) r) h place kind (number_old (length h) (length c) r) names (hub_of_kind h place kind
           hubbed);
       all_near = λ n y at_n made. names_below r (with_number (length h) (length c) r) n y law (number_old (length h) (length c) r) at_n made;
-    }
-
-    back : GoesOn s r (with_number (length c) (length h) s) (with_number (length h) (length c) r) c h (Open (place_by r place) (kind_by r kind))
-    back = record {
+    } in
+    let back : GoesOn s r (with_number (length c) (length h) s) (with_number (length h) (length c) r) c h (Open (place_by r place) (kind_by r kind)) =
+    record {
       same = ap (event_by r) undone;
       older = number_old (length c) (length h) s;
       older_back = number_old (length h) (length c) r;
@@ -169,7 +151,11 @@ waits_by {b} {d} {r} {s} {h} {c} m law other_law ended place kind free hubbed g 
       near = λ made. near_open s (with_number (length c) (length h) s) c (place_by r place) (kind_by r kind) (number_old (length c) (length h) s) names_there
           (hub_of_kind c (place_by r place) (kind_by r kind) (hubbed_by b d r s h c m place kind free hubbed));
       all_near = λ n y at_n made. names_below s (with_number (length c) (length h) s) n y other_law (number_old (length c) (length h) s) at_n made;
-    }
+    } in (
+      S g,
+      connect_due_by S R (c ++ x ∷ []) (h ++ e ∷ []) (trees_back (trees_on m.trees goes back))
+          (ended_on law m.trees goes (λ n u is. absurd (cc)) ended) g due_there,
+    )
 
 -- what is allowed there ---------------------------------------------------------------------------------------------------------------------
 

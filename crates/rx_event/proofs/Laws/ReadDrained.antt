@@ -262,8 +262,6 @@ but base shown = record {
 pub drained_same : {base : Kept} → {r s : ℕ → ℕ} {h : List Event} (c k j : List Event) → AreSameBy base r s h c → TakesOn base h k → waiting_resources k ≡ [] →
     TakesOn base c j → waiting_resources j ≡ [] → AreSameBy base r s k j
 drained_same {base} {r} {s} c k j a on_k none on_j none_there =
+    let b : SameBut base r s k j = swapped base (takes_left base on_j
+    (swapped base (takes_left base on_k (record { numbers = a.numbers; shown = but base a.shown; shown_back = but base a.shown_back })))) in
     record { numbers = b.numbers; shown = shown_again base r s k j b none none_there; shown_back = shown_again base s r j k (swapped base b) none_there none }
-  where
-    b : SameBut base r s k j
-    b = swapped base (takes_left base on_j
-        (swapped base (takes_left base on_k (record { numbers = a.numbers; shown = but base a.shown; shown_back = but base a.shown_back }))))

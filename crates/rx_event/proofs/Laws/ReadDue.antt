@@ -3,11 +3,11 @@ use Rattle.rx_event.proofs.Laws.Common.{arith, ◌≡◌, ℕ, Bool, true, false
 use Rattle.rx_event.proofs.Laws.Common.{false≢true, same_Some, none-some, Terminal, Completed, Error, Kept, Place, Sub, Auto, Event, Open, Hub, Connect, End}
 use Rattle.rx_event.proofs.Laws.Common.{is_mirroring, is_merging, is_until, is_auto_hub, is_subscriber_of, at, is_open, open_subscribers, open_connections}
 use Rattle.rx_event.proofs.Laws.Common.{mirrored, fired, failed, completed, cut, left, connecting, due, SourceEnded, IsDue, IsForced, IsConnectDue, IsConnected}
-use Rattle.rx_event.proofs.Laws.Common.{IsSettled, marks_of, event_by, AreRead, option_map, Marks, terminal_due, IsRead, AreRenumbered}
+use Rattle.rx_event.proofs.Laws.Common.{IsSettled, marks_of, event_by, AreRead, option_map, Marks, terminal_due, AreRenumbered}
 use Rattle.rx_event.proofs.Laws.Openness.{is_open_within}
 use Rattle.rx_event.proofs.Laws.Lawful.{due_open}
 use Rattle.rx_event.proofs.Laws.Steps.{named_below}
-use Rattle.rx_event.proofs.Laws.TreeRead.{IsTreeRead, AreTreesRead, subscribers_by, connections_by, subscriber_by, test_there}
+use Rattle.rx_event.proofs.Laws.TreeRead.{AreTreesRead, subscribers_by, connections_by, subscriber_by, test_there}
 use Rattle.rx_event.proofs.Laws.Stands.{event_at}
 use Rattle.rx_event.proofs.Laws.Hubs.{subscriber_found}
 use Rattle.rx_event.proofs.Laws.MarksDue.{terminal_due_due}
@@ -31,11 +31,8 @@ auto_hub h g = search (rules, slice_get, option_map_or, Auto)
 
 -- as trees ----------------------------------------------------------------------------------------------------
 
-tree_of : {b d : Kept} {r s : ℕ → ℕ} {h c : List Event} → IsRead b d r s h c → IsTreeRead r s h c
-tree_of there = search rules
-
 pub trees_of : {b d : Kept} {r s : ℕ → ℕ} {h c : List Event} → AreRead b d r s h c → AreTreesRead r s h c
-trees_of {b} {h = h} a = search (rules, tree_of, named_below)
+trees_of {b} {h = h} a = search (rules, named_below)
 
 pub read_back : {b d : Kept} {r s : ℕ → ℕ} {h c : List Event} → AreRead b d r s h c → AreRead d b s r c h
 read_back a = record { law = a.other_law; other_law = a.law; there = a.back; back = a.there }

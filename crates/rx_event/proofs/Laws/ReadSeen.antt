@@ -13,8 +13,7 @@ use Rattle.rx_event.proofs.Laws.Searches.{list_any_found, list_any_holds}
 use Rattle.rx_event.proofs.Laws.MarksFound.{is_child_parent, parent_is_child}
 use Rattle.rx_event.proofs.Laws.InOrder.{place_get}
 use Rattle.rx_event.proofs.Laws.ReadDue.{trees_of, renumbered_back}
-use Rattle.rx_event.proofs.Laws.TreeRead.{opens_by, AreTreesRead, same_at, merging_by, hub_made, parent_there, visits_by, subscribers_by, connections_by}
-use Rattle.rx_event.proofs.Laws.TreeRead.{node_named}
+use Rattle.rx_event.proofs.Laws.TreeRead.{opens_by, same_at, merging_by, hub_made, parent_there, visits_by, subscribers_by, connections_by, node_named}
 use Rattle.rx_event.proofs.Laws.ReadShown.{made_at, resource_made, root_by}
 use Rattle.rx_event.proofs.Laws.ReadAllowed.{leaf_by, sourced_by, abort_by, until_by, hubs_read, same_may, hub_there, in_order_by}
 

@@ -4,7 +4,7 @@ use Rattle.rx_event.proofs.Laws.Common.{slice_get, refl, sym, ap, ◌∙◌, inl
 use Rattle.rx_event.proofs.Laws.Common.{AllByRecursion, filter_map, count_by, sum_by_push, option_map_or, option_and_then, false≢true, both_ways, cases_order}
 use Rattle.rx_event.proofs.Laws.Common.{cases_Bool, eq-eqb, eqb-true, false_from_ne_true, slice_get_within, same_Some, Kept, shown, Event, Open, Hub, Connect}
 use Rattle.rx_event.proofs.Laws.Common.{Accept, Use, Remove, Lease, Return, Item, End, Take, makes_node, makes_resource, makes_lease, node_of_accept, is_root}
-use Rattle.rx_event.proofs.Laws.Common.{is_remove_of, is_return_of, is_take_of, is_use_of, at, is_open, is_owned, is_out, leases_of, is_held, is_taken, uses}
+use Rattle.rx_event.proofs.Laws.Common.{is_remove_of, is_return_of, is_take_of, is_use_of, at, is_open, is_owned, is_out, leases_of, is_taken, uses}
 use Rattle.rx_event.proofs.Laws.Common.{Stop, Delivery, Projection, Firing, stops, mail_of, MayFollow, IsLawful, StopsAtOpen, event_by, is_named, Next}
 use Rattle.rx_event.proofs.Laws.Common.{is_lease_of, is_return, is_take, notes_to, AreRenumbered}
 use Rattle.std.specs.Cmp.{both_ways as same_test}
@@ -331,13 +331,6 @@ module _ (base : Kept) (r s q t : ℕ → ℕ) (h c : List Event) (e : Event) (a
         ap (is_out C) (older l less) ∙ is_out-push c (event_by r e) (r l) (slice_get_within c (r l) _ there) ∙
         (λ i. sh.out l was i && not (returns_same l was i)) ∙ sym (is_out-push h e l less)
 
-  held_on : (p : ℕ) → at makes_resource H p ≡ true → is_held C (q p) ≡ is_held H p
-  held_on p made =
-      let w : (n : ℕ) × (tag : ℕ) × (slice_get H p ≡ Some (Accept n tag)) = resource_made H p made in
-      let there : at makes_resource C (q p) ≡ at makes_resource H p = ap (λ (x : Option Event). option_map_or makes_resource x false)
-      (kept_on p (Accept w.0 w.1) refl w.2) ∙ sym made in
-      held_is C (q p) ∙ (λ i. owned_on p made i || (there i && nat_lt 0 (leases_on p made i))) ∙ sym (held_is H p)
-
   taken_on : (p : ℕ) → at makes_resource H p ≡ true → is_taken C (q p) ≡ is_taken H p
   taken_on p made = by_where (where_stands makes_resource p made) where
     by_where : WhereStands makes_resource p → is_taken C (q p) ≡ is_taken H p
@@ -386,7 +379,11 @@ module _ (base : Kept) (r s q t : ℕ → ℕ) (h c : List Event) (e : Event) (a
     told = told_on;
     owned = owned_on;
     leases = leases_on;
-    held = held_on;
+    held = λ p made.
+        let w : (n : ℕ) × (tag : ℕ) × (slice_get H p ≡ Some (Accept n tag)) = resource_made H p made in
+        let there : at makes_resource C (q p) ≡ at makes_resource H p = ap (λ (x : Option Event). option_map_or makes_resource x false)
+        (kept_on p (Accept w.0 w.1) refl w.2) ∙ sym made in
+        held_is C (q p) ∙ (λ i. owned_on p made i || (there i && nat_lt 0 (leases_on p made i))) ∙ sym (held_is H p);
     out = out_on;
     taken = taken_on;
     used = used_on;

@@ -52,12 +52,10 @@ using base {r = r} {s = s} {h = h} {c = c} a place tag k j one other =
     (lawful_front base (c ++ Open (place_by r place) Pass ∷ []) (Accept (length c) tag) longer_there law_there)) in
     let same_place : length h + 0 ≡ length h = omega arith in
     let same_there : length c + 0 ≡ length c = omega arith in
-    let number : opened.since.reads (length h) ≡ length c =
-    ap opened.since.reads (sym same_place) ∙
+    let number : opened.since.reads (length h) ≡ length c = ap opened.since.reads (sym same_place) ∙
     opened.since.newest 0 (ap (λ (n : ℕ). option_map_or is_named (slice_get (h ++ Open place Pass ∷ []) n) false) same_place ∙
     ap (λ (x : Option Event). option_map_or is_named x false) (slice_get_last h (Open place Pass))) ∙ same_there in
-    courses_since k j
-    (subst (λ (m : ℕ). GoesAlike base r h c ((h ++ Open place Pass ∷ []) ++ Accept (length h) tag ∷ [])
+    courses_since k j (subst (λ (m : ℕ). GoesAlike base r h c ((h ++ Open place Pass ∷ []) ++ Accept (length h) tag ∷ [])
     ((c ++ Open (place_by r place) Pass ∷ []) ++ Accept m tag ∷ [])) number
     (goes_one_on base opened (Accept (length h) tag) (lawful_last base (h ++ Open place Pass ∷ []) (Accept (length h) tag) longer law)
     (subst (λ (m : ℕ). MayFollow base (c ++ Open (place_by r place) Pass ∷ []) (Accept m tag)) (sym number)

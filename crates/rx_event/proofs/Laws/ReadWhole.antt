@@ -48,19 +48,17 @@ module _ (base : Kept) (r s q t : ℕ → ℕ) (h c : List Event) (e : Event) (a
     (newest : is_named e ≡ true → (q (length h) ≡ length c) × (t (length c) ≡ length h))
     (newest_back : is_named (event_by r e) ≡ true → (t (length c) ≡ length h) × (q (length h) ≡ length c)) where
   same_on : AreSameBy base q t (h ++ e ∷ []) (c ++ event_by r e ∷ [])
-  same_on = record {
-    numbers = after;
-    shown = is_shown_on base r s q t h c e a.numbers after a.shown next other older older_back newest;
-    shown_back = subst (λ (x : Event). IsShown base t q (c ++ event_by r e ∷ []) (h ++ x ∷ [])) is
-        (is_shown_on base s r t q c h (event_by r e) (renumbered_back base a.numbers)
-        (subst (λ (x : Event). AreRenumbered base t q (c ++ event_by r e ∷ []) (h ++ x ∷ [])) (sym is) (renumbered_back base after)) a.shown_back other
-        (subst (λ (x : Event). MayFollow base h x) (sym is) next) older_back older newest_back);
-  } where
-    is : event_by s (event_by r e) ≡ e
-    is = undone base a e next
-
-    after : AreRenumbered base q t (h ++ e ∷ []) (c ++ event_by r e ∷ [])
-    after = renumbered_on a.numbers next other is older older_back newest newest_back
+  same_on =
+      let is : event_by s (event_by r e) ≡ e = undone base a e next in
+      let after : AreRenumbered base q t (h ++ e ∷ []) (c ++ event_by r e ∷ []) = renumbered_on a.numbers next other is older older_back newest newest_back in
+      record {
+        numbers = after;
+        shown = is_shown_on base r s q t h c e a.numbers after a.shown next other older older_back newest;
+        shown_back = subst (λ (x : Event). IsShown base t q (c ++ event_by r e ∷ []) (h ++ x ∷ [])) is
+            (is_shown_on base s r t q c h (event_by r e) (renumbered_back base a.numbers)
+            (subst (λ (x : Event). AreRenumbered base t q (c ++ event_by r e ∷ []) (h ++ x ∷ [])) (sym is) (renumbered_back base after)) a.shown_back other
+            (subst (λ (x : Event). MayFollow base h x) (sym is) next) older_back older newest_back);
+      }
 
 -- what is named in the longer history, no nearer than its beginning, is the last event
 named_last : (h : List Event) (e : Event) (i : ℕ) → at is_named (h ++ e ∷ []) (length h + i) ≡ true → (i ≡ 0) × (is_named e ≡ true)
@@ -277,36 +275,28 @@ shown_alike base {r = r} {s = s} shown alike = record {
 -- Two courses of what is forced, after two histories that are the same but for numbers, come to the same but for numbers
 pub courses_since : {base : Kept} → {r : ℕ → ℕ} {h c b d : List Event} (k j : List Event) → GoesAlike base r h c b d → IsForcedOn base b k → IsSettled base k →
     IsForcedOn base d j → IsSettled base j → IsLawful base j → AreSameSince base r h c k j
-courses_since {base} {r} {h} {c} {d} k j start on_k settled_k on_j settled_j law = record {
-  reads = since.reads;
-  reads_back = since.reads_back;
-  same = record {
-    numbers = record {
-      law = since.same.numbers.law;
-      other_law = law;
-      there = alike_read base since.same.numbers.there settled_k one;
-      back = read_alike base since.same.numbers.back settled_j other;
-    };
-    shown = alike_shown base since.same.shown one;
-    shown_back = shown_alike base since.same.shown_back other;
-  };
-  older = since.older;
-  newest = since.newest;
-} where
-  w : CourseRead base r h c k d
-  w = course_read base on_k r h c d start
-
-  since : AreSameSince base r h c k w.last
-  since = w.goes.since
-
-  settled_last : IsSettled base w.last
-  settled_last = settled_read since.same.numbers settled_k
-
-  one : AreAlike base w.last j
-  one = courses_alike start.since.same.numbers.other_law w.course settled_last on_j settled_j
-
-  other : AreAlike base j w.last
-  other = courses_alike start.since.same.numbers.other_law on_j settled_j w.course settled_last
+courses_since {base} {r} {h} {c} {d} k j start on_k settled_k on_j settled_j law =
+    let w : CourseRead base r h c k d = course_read base on_k r h c d start in
+    let since : AreSameSince base r h c k w.last = w.goes.since in
+    let settled_last : IsSettled base w.last = settled_read since.same.numbers settled_k in
+    let one : AreAlike base w.last j = courses_alike start.since.same.numbers.other_law w.course settled_last on_j settled_j in
+    let other : AreAlike base j w.last = courses_alike start.since.same.numbers.other_law on_j settled_j w.course settled_last in
+    record {
+      reads = since.reads;
+      reads_back = since.reads_back;
+      same = record {
+        numbers = record {
+          law = since.same.numbers.law;
+          other_law = law;
+          there = alike_read base since.same.numbers.there settled_k one;
+          back = read_alike base since.same.numbers.back settled_j other;
+        };
+        shown = alike_shown base since.same.shown one;
+        shown_back = shown_alike base since.same.shown_back other;
+      };
+      older = since.older;
+      newest = since.newest;
+    }
 
 pub courses_same : {base : Kept} {r s : ℕ → ℕ} {h c k j : List Event} → AreSameBy base r s h c → IsForcedOn base h k → IsSettled base k →
     IsForcedOn base c j → IsSettled base j → IsLawful base j → AreSameSince base r h c k j

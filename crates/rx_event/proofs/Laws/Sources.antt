@@ -1,5 +1,5 @@
 -- A node has one source at most.
-use Rattle.rx_event.proofs.Laws.Common.{◌≡◌, ℕ, zero, suc, ◌<◌, Bool, true, false, List, [], ◌∷◌, Option, Some, None, refl, sym, ap, ◌∙◌, arith, inl, inr}
+use Rattle.rx_event.proofs.Laws.Common.{◌≡◌, ℕ, zero, suc, ◌<◌, Bool, true, false, List, [], ◌∷◌, Option, Some, refl, sym, ap, ◌∙◌, arith, inl, inr}
 use Rattle.rx_event.proofs.Laws.Common.{◌⊎◌, slice_get, take, ◌||◌, list_any, option_map_or, cases_order, both_ways, false≢true, eqb-true, slice_get_within}
 use Rattle.rx_event.proofs.Laws.Common.{Source, Event, Open, Kept, shown, is_source_of, at, source_opened, IsLawful, or_parts, or_right}
 use Rattle.rx_event.proofs.Laws.Places.{at-take, at_within}

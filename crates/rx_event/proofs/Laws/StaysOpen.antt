@@ -131,8 +131,7 @@ cut_within : (steps : ℕ) (h : List Event) (e : Event) (c s : ℕ) → s < step
 cut_within zero h e c s l each found = absurd (omega arith)
 cut_within (suc steps) h e c s l each found =
     let above : List ℕ = option_map_or (ancestors h) (parent h s) [] in
-    by_first (search (rules, or_cases, list_any, above, ancestors_step))
-    (λ p m inside. cut_within steps h e c p (let b = l in omega arith) each inside) where
+    by_first (search (rules, or_cases, list_any, above, ancestors_step)) (λ p m inside. cut_within steps h e c p (let b = l in omega arith) each inside) where
       shut : ℕ → Bool
       shut a = shuts h a e
 

@@ -4,7 +4,7 @@ use Rattle.rx_event.proofs.Laws.Common.{append_assoc, append-nil, AllByRecursion
 use Rattle.rx_event.proofs.Laws.Common.{Place, Kind, Event, Open, Connect, Accept, Use, Remove, Lease, Return, Item, Decline, End, Close, Take, is_merging}
 use Rattle.rx_event.proofs.Laws.Common.{parent_named, at, parent, is_open, is_owned, is_out, is_held, is_waiting, Moment, moments_after, owed, left, due, IsDue}
 use Rattle.rx_event.proofs.Laws.Common.{IsForced, IsAllowed, Started, MayFollow, IsLawful, common_steps}
-use Rattle.rx_event.specs.Allowed.{opened, accepted, used, removed, leased, returned, emitted, declined, taken, IsFree}
+use Rattle.rx_event.specs.Allowed.{IsFree}
 use Rattle.rx_event.proofs.Laws.Openness.{is_open_within}
 use Rattle.rx_event.proofs.Laws.Lawful.{IsLawful-push, IsLawful_empty, in_base, since_base, FoundAt, found_at}
 use Rattle.std.proofs.Common.{rules}
@@ -36,89 +36,55 @@ may_be_forced (End n t) = true
 may_be_forced (Close n) = true
 may_be_forced _ = false
 
-due_kind : (base : Kept) → {h : List Event} {e : Event} → IsDue base h e → may_be_forced e ≡ true
-due_kind base x1 = search rules
-
 pub forced_kind : (base : Kept) → {h : List Event} {e : Event} → IsForced base h e → may_be_forced e ≡ true
-forced_kind base x1 = search (rules, due_kind)
-
-allowed_accept : (base : Kept) → {h : List Event} {n tag : ℕ} → IsAllowed base h (Accept n tag) → is_open h n ≡ true
-allowed_accept base (accepted o) = o
+forced_kind base x1 = search (rules)
 
 -- what is accepted is accepted at an open node
 pub may_accept : (base : Kept) → {h : List Event} {n tag : ℕ} → MayFollow base h (Accept n tag) → is_open h n ≡ true
-may_accept base x1 = search (rules, false≢true, forced_kind, allowed_accept)
-
-allowed_use : (base : Kept) → {h : List Event} {r : ℕ} → IsAllowed base h (Use r) → is_held h r ≡ true
-allowed_use base (used o) = o
+may_accept base x1 = search (rules, false≢true, forced_kind)
 
 -- what is used is held
 pub may_use : (base : Kept) → {h : List Event} {r : ℕ} → MayFollow base h (Use r) → is_held h r ≡ true
-may_use base x1 = search (rules, false≢true, forced_kind, allowed_use)
-
-allowed_remove : (base : Kept) → {h : List Event} {r : ℕ} → IsAllowed base h (Remove r) → is_owned h r ≡ true
-allowed_remove base (removed o) = o
+may_use base x1 = search (rules, false≢true, forced_kind)
 
 -- what is removed is owned
 pub may_remove : (base : Kept) → {h : List Event} {r : ℕ} → MayFollow base h (Remove r) → is_owned h r ≡ true
-may_remove base x1 = search (rules, false≢true, forced_kind, allowed_remove)
-
-allowed_lease : (base : Kept) → {h : List Event} {r : ℕ} → IsAllowed base h (Lease r) → is_owned h r ≡ true
-allowed_lease base (leased o) = o
+may_remove base x1 = search (rules, false≢true, forced_kind)
 
 -- what is leased is owned
 pub may_lease : (base : Kept) → {h : List Event} {r : ℕ} → MayFollow base h (Lease r) → is_owned h r ≡ true
-may_lease base x1 = search (rules, false≢true, forced_kind, allowed_lease)
-
-allowed_return : (base : Kept) → {h : List Event} {l : ℕ} → IsAllowed base h (Return l) → is_out h l ≡ true
-allowed_return base (returned o) = o
+may_lease base x1 = search (rules, false≢true, forced_kind)
 
 -- what is returned is out
 pub may_return : (base : Kept) → {h : List Event} {l : ℕ} → MayFollow base h (Return l) → is_out h l ≡ true
-may_return base x1 = search (rules, false≢true, forced_kind, allowed_return)
-
-allowed_take : (base : Kept) → {h : List Event} {r : ℕ} → IsAllowed base h (Take r) → is_waiting h r ≡ true
-allowed_take base (taken o) = o
+may_return base x1 = search (rules, false≢true, forced_kind)
 
 -- what is taken waits
 pub may_take : (base : Kept) → {h : List Event} {r : ℕ} → MayFollow base h (Take r) → is_waiting h r ≡ true
-may_take base x1 = search (rules, false≢true, forced_kind, allowed_take)
+may_take base x1 = search (rules, false≢true, forced_kind)
 
 due_close : (base : Kept) → {h : List Event} {c : ℕ} → IsDue base h (Close c) → is_open h c ≡ true
 due_close base (left o at_c a n) = o
-
-forced_close : (base : Kept) → {h : List Event} {c : ℕ} → IsForced base h (Close c) → is_open h c ≡ true
-forced_close base (due n d) = due_close base d
 
 allowed_close : (base : Kept) → {h : List Event} {c : ℕ} → IsAllowed base h (Close c) → is_open h c ≡ true
 allowed_close base given = grind arith
 
 -- what is closed is open before
 pub may_close : (base : Kept) → {h : List Event} {c : ℕ} → MayFollow base h (Close c) → is_open h c ≡ true
-may_close base x1 = search (rules, forced_close, allowed_close)
-
-allowed_open_place : (base : Kept) → {h : List Event} {place : Place} {kind : Kind} → IsAllowed base h (Open place kind) → IsFree base h place
-allowed_open_place base (opened free hub few room) = free
+may_close base x1 = search (rules, due, due_close, allowed_close)
 
 -- what is opened is opened at a free place
 pub may_open : (base : Kept) → {h : List Event} {place : Place} {kind : Kind} → MayFollow base h (Open place kind) → IsFree base h place
-may_open base x1 = search (rules, false≢true, forced_kind, allowed_open_place)
-
-allowed_item : (base : Kept) → {h : List Event} {l : ℕ} {value : ℤ} → IsAllowed base h (Item l value) → is_open h l ≡ true
-allowed_item base (emitted o k v) = o
+may_open base x1 = search (rules, false≢true, forced_kind)
 
 -- what emits is open
 pub may_emit : (base : Kept) → {h : List Event} {l : ℕ} {value : ℤ} → MayFollow base h (Item l value) → is_open h l ≡ true
-may_emit base x1 = search (rules, false≢true, forced_kind, allowed_item)
-
-allowed_decline : (base : Kept) → {h : List Event} {f : ℕ} → IsAllowed base h (Decline f) →
-    (is_open h f ≡ true) × (at is_merging h f ≡ true) × (0 < owed base h f)
-allowed_decline base (declined o m some) = (o, m, some)
+may_emit base x1 = search (rules, false≢true, forced_kind)
 
 -- what declines is an open FlatMap or Switch that owes
 pub may_decline : (base : Kept) → {h : List Event} {f : ℕ} → MayFollow base h (Decline f) →
     (is_open h f ≡ true) × (at is_merging h f ≡ true) × (0 < owed base h f)
-may_decline base x1 = search (rules, false≢true, forced_kind, allowed_decline)
+may_decline base x1 = search (rules, false≢true, forced_kind)
 
 -- a node that may be opened is named below an open node
 pub may_name : (base : Kept) → {h : List Event} {e : Event} {p : ℕ} → MayFollow base h e → parent_named e ≡ Some p → is_open h p ≡ true

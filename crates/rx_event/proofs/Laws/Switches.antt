@@ -1,5 +1,5 @@
 -- The inners of a Switch: at most one is open, and the opening of another closes it with all below it.
-use Rattle.rx_event.proofs.Laws.Common.{◌≡◌, ℕ, ◌+◌, ◌<◌, Bool, true, false, List, [], ◌∷◌, ◌++◌, length, Option, Some, None, refl, sym, ap, ◌∙◌, arith, inl}
+use Rattle.rx_event.proofs.Laws.Common.{◌≡◌, ℕ, ◌+◌, ◌<◌, Bool, true, false, List, [], ◌∷◌, ◌++◌, length, Option, Some, refl, sym, ap, ◌∙◌, arith, inl}
 use Rattle.rx_event.proofs.Laws.Common.{inr, ◌⊎◌, ◌==◌, slice_get, length-append, not, ◌&&◌, AllByRecursion, list_any, option_map_or, cases_Bool, cases_order}
 use Rattle.rx_event.proofs.Laws.Common.{both_ways, false≢true, and_parts, and_from, eq-eqb, eqb-true, lt-ltb, Kept, Root, Inner, Kind, Event, Open, is_switch}
 use Rattle.rx_event.proofs.Laws.Common.{is_inner_of, parent_named, at, ancestors, is_open, is_within, IsLawful, is_switched_inner}

@@ -2,13 +2,12 @@
 -- and where an item stops. Neither has to be lawful.
 use Rattle.rx_event.proofs.Laws.Common.{◌≡◌, ℕ, zero, suc, ◌<◌, Bool, true, false, List, [], ◌∷◌, ◌++◌, length, Option, Some, None, cond, slice_get, filter}
 use Rattle.rx_event.proofs.Laws.Common.{map, refl, sym, ap, ◌∙◌, inl, inr, ◌⊎◌, ◌==◌, arith, ◌&&◌, AllByRecursion, filter_map, option_map_or, option_and_then}
-use Rattle.rx_event.proofs.Laws.Common.{false≢true, and_parts, and_from, eq-eqb, eqb-true, lt-ltb, same_Some, Place, Source, Kind, Mode, Event}
+use Rattle.rx_event.proofs.Laws.Common.{false≢true, and_parts, and_from, eq-eqb, eqb-true, lt-ltb, same_Some, Source, Mode, Event}
 use Rattle.rx_event.proofs.Laws.Common.{Open, Hub, Connect, makes_node, makes_hub, parent_named, is_merging, is_switch, is_inner_of, is_subscriber_of}
 use Rattle.rx_event.proofs.Laws.Common.{is_connect_of, at, places, parent, is_open, is_within, open_nodes, open_subscribers, open_connections}
 use Rattle.rx_event.proofs.Laws.Common.{is_open_child_of, Stop, Delivery, Projection, Firing, most_visits, climb, stops, is_child_of, open_children, event_by}
-use Rattle.rx_event.proofs.Laws.Common.{is_named, option_map, cons_option, option_to_list, length-map, map-append, length-filter, visits, place_by}
+use Rattle.rx_event.proofs.Laws.Common.{is_named, option_map, cons_option, option_to_list, length-map, map-append, length-filter, visits}
 use Rattle.rx_event.specs.Climb.{stop_made, stop_at, onward_from, onward_unless, onward, visited}
-use Rattle.rx_event.specs.Renumbered.{kind_by}
 use Rattle.rx_event.proofs.Laws.Lists.{AllByRecursion-both}
 use Rattle.rx_event.proofs.Laws.Parents.{parent-lt, within_cases, within_parent}
 use Rattle.rx_event.proofs.Laws.Openness.{is_open_within, parent_open}
@@ -104,15 +103,9 @@ stop_by r (Firing u) = Firing (r u)
 abbrev Open_all : List Event → List ℕ → Type 0
 Open_all h ns = AllByRecursion (λ m. is_open h m ≡ true) ns
 
-place_by_itself : (p : Place) → place_by (λ n. n) p ≡ p
-place_by_itself p = grind arith
-
-kind_by_itself : (k : Kind) → kind_by (λ n. n) k ≡ k
-kind_by_itself k = grind arith
-
 -- with the same numbers
 pub event_by_itself : (e : Event) → event_by (λ n. n) e ≡ e
-event_by_itself x0 = search (rules, place_by_itself, kind_by_itself)
+event_by_itself x0 = search (rules)
 
 -- trees -----------------------------------------------------------------------------------------------------------------
 

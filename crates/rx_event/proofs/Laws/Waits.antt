@@ -2,7 +2,7 @@
 use Rattle.rx_event.proofs.Laws.Common.{◌≡◌, ℕ, ◌+◌, ◌<◌, ◌≤◌, Bool, true, false, List, [], ◌∷◌, ◌++◌, length, Option, Some, None, cond, refl, sym, ap, ◌∙◌}
 use Rattle.rx_event.proofs.Laws.Common.{arith, inl, inr, ◌⊎◌, ◌==◌, slice_get, length-append, ◌&&◌, not, option_map_or, cases_Bool, cases_order, both_ways}
 use Rattle.rx_event.proofs.Laws.Common.{false≢true, and_parts, and_from, eq-eqb, eqb-true, sum_by_push, slice_get_within, same_Some, none-some, Terminal, Kept}
-use Rattle.rx_event.proofs.Laws.Common.{Place, Leaf, Pass, Flat, Switch, Until, Sub, Event, Open, Connect, End, Close, is_root, is_manual_hub, is_auto_hub}
+use Rattle.rx_event.proofs.Laws.Common.{Place, Leaf, Pass, Flat, Switch, Until, Sub, Event, Open, Connect, End, Close, is_manual_hub, is_auto_hub}
 use Rattle.rx_event.proofs.Laws.Common.{is_connect_of, is_subscriber_of, at, places, parent, ancestors, is_open, shuts, open_subscribers, open_connections}
 use Rattle.rx_event.proofs.Laws.Common.{open_count, mirrored, fired, failed, completed, cut, left, connecting, due, IsDue, IsForced, IsConnectDue, IsConnected}
 use Rattle.rx_event.proofs.Laws.Common.{IsSettled, SourceEnded, IsAllowed, stays, more, forced, IsForcedOn, IsLawful, or_false, hub_subscribed}
@@ -154,12 +154,9 @@ kept_due base h e none (left {c = c} o at_c a n) = kept_close base h c none (lef
 pub is_both : (o : Option Event) → option_map_or is_manual_hub o false ≡ true → option_map_or is_auto_hub o false ≡ true → ⊥
 is_both x0 m a = search (rules, false≢true)
 
-root_connects : (g : ℕ) (o : Option Event) → option_map_or is_root o false ≡ true → o ≡ Some (Connect g) → ⊥
-root_connects g o root is = false≢true (sym (ap (λ (x : Option Event). option_map_or is_root x false) is) ∙ root)
-
 allowed_unsubscribed : (base : Kept) → {h : List Event} {c g : ℕ} → IsAllowed base h (Close c) → slice_get h c ≡ Some (Connect g) →
     at is_auto_hub h g ≡ true → ⊥
-allowed_unsubscribed base x4 connects auto = search (rules, root_connects, slice_get, is_both, same_hub, same_Some)
+allowed_unsubscribed base x4 connects auto = search (rules, false≢true, Option, Event, slice_get, is_both, same_hub, same_Some)
 
 -- a caller closes no connection of a RefCount hub
 pub waited_close_allowed : (base : Kept) → (h : List Event) (n g : ℕ) → IsAllowed base h (Close n) → IsConnectDue (h ++ Close n ∷ []) g → IsConnectDue h g
