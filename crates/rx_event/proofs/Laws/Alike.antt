@@ -59,9 +59,7 @@ tells_closing : (base : Kept) → {b k : List Event} → IsDueOn base b k → Is
     (n : ℕ) → Tells base b k n → Tells base b (k ++ e ∷ []) n
 tells_closing base {b = b} {k = k} on law whole d (by_close c g at_c none o) n before = tells_more base on d n refl still before where
   apart : at is_root k n ≡ true → (a : Bool) → (c == n) ≡ a → a ≡ false
-  apart root false other = refl
-  apart root true same =
-      absurd (false≢true (sym (ap (λ (x : Option Event). option_map_or is_root x false) (ap (slice_get k) (sym (eqb-true c n same)) ∙ at_c)) ∙ root))
+  apart root x1 x2 = search (rules, false≢true, eqb-true)
 
   still : at is_root b n ≡ true → is_open (k ++ Close c ∷ []) n ≡ is_open k n
   still root =
@@ -74,9 +72,7 @@ tells_closing base {b = b} {k = k} on law whole d (by_end c {t = t} x o) n befor
       is_open_outside-end k c t n ∙ rw (root_alone k n now, other) (and_true (is_open k n))
 
   silent : (r a : Bool) → at is_root k c ≡ r → (c == n) ≡ a → (r && a) ≡ false → notes_in n (mail_of k (End c t)) ≡ []
-  silent true true root same both = absurd (false≢true (sym both))
-  silent true false root other both = rw (root, noted_to n c (length k) (EndNote t) [], other) refl
-  silent false a root other both = rw root refl
+  silent x0 x1 root x3 both = search (rules, false≢true, noted_to)
 
   ended : at is_root k c ≡ true → (c == n) ≡ true → Tells base b k n → Tells base b (k ++ End c t ∷ []) n
   ended root same (tells_end told so is_root_n was gone) = absurd (both_ways (is_open k n) gone (ap (is_open k) (sym (eqb-true c n same)) ∙ o))

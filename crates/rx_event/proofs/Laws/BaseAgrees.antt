@@ -394,18 +394,10 @@ module _ (b : Kept) (h : List Event) where
         hub_there g hub = at_hub_alike h (shown (base_of b h)) base_is_alike makes_hub hub_is g hub
 
         inert_stands : (n : ℕ) (x : Event) → is_inert n x ≡ true → StandsWell (shown (base_of b h)) x
-        inert_stands n (Hub mode) i = tt
-        inert_stands n (Accept m tag) i = tt
-        inert_stands n (Lease r) i = tt
-        inert_stands n (Close c) i = tt
-        inert_stands n _ i = absurd (false≢true i)
+        inert_stands n x1 i = search (rules, false≢true)
 
         open_stands : (n : ℕ) (x : Event) → is_open h n ≡ true → slice_get h n ≡ Some x → StandsWell h x → StandsWell (shown (base_of b h)) x
-        open_stands n (Open (Source p) kind) o at_n well = at_there has_source p (above n p (Open (Source p) kind) o at_n refl) well
-        open_stands n (Open (Inner p) kind) o at_n well = at_there is_merging p (above n p (Open (Inner p) kind) o at_n refl) well
-        open_stands n (Open (Notifier p) kind) o at_n well = at_there is_until p (above n p (Open (Notifier p) kind) o at_n refl) well
-        open_stands n (Connect g) o at_n well = hub_there g well
-        open_stands n _ o at_n well = tt
+        open_stands n x1 o at_n well = search (rules, at_there, above, hub_there)
 
         stands_there : (n : ℕ) (x : Event) → slice_get (shown (base_of b h)) n ≡ Some x → KeptAt h n x → StandsWell (shown (base_of b h)) x
         stands_there n x at_n (inl there) = open_stands n x there.0 there.1 (sound.stands n x there.1)
@@ -425,11 +417,7 @@ module _ (b : Kept) (h : List Event) where
         open_subscribes n _ o at_n well = tt
 
         inert_subscribes : (n : ℕ) (x : Event) → is_inert n x ≡ true → SubscribesWell (shown (base_of b h)) x
-        inert_subscribes n (Hub mode) i = tt
-        inert_subscribes n (Accept m tag) i = tt
-        inert_subscribes n (Lease r) i = tt
-        inert_subscribes n (Close c) i = tt
-        inert_subscribes n _ i = absurd (false≢true i)
+        inert_subscribes n x1 i = search (rules, false≢true)
 
         subscribes_there : (n : ℕ) (x : Event) → KeptAt h n x → SubscribesWell (shown (base_of b h)) x
         subscribes_there n x (inl there) = open_subscribes n x there.0 there.1 (sound.subscribes n x there.1)

@@ -162,9 +162,7 @@ module _ (b : Kept) (h : List Event) (law : IsLawful b h) (settled : IsSettled b
   paid : (f : ℕ) → count_by (pays f) s ≤ projected_by (base_of b h) s f
   paid f = by_test (is_open h f) refl where
     pays_named : (x : Event) → is_making x ≡ true → pays f x ≡ true → parent_named x ≡ Some f
-    pays_named (Open (Inner g) kind) making p = ap Some (eqb-true g f p)
-    pays_named (Decline g) making p = absurd (false≢true making)
-    pays_named _ making p = absurd (false≢true p)
+    pays_named x0 making p = search (rules, eqb-true, false≢true)
 
     by_test : (o : Bool) → is_open h f ≡ o → count_by (pays f) s ≤ projected_by (base_of b h) s f
     by_test true o = s_paid b h sound f o

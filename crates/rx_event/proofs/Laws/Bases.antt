@@ -134,10 +134,7 @@ kept_open b h n o =
 pub closed_here : (b : Kept) (h : List Event) (n : ℕ) → is_open h n ≡ false → at makes_node (shown (base_of b h)) n ≡ false
 closed_here b h n closed = by_event (slice_get (shown (base_of b h)) n) refl where
   inert : (x : Event) → is_inert n x ≡ true → makes_node x ≡ false
-  inert (Open place kind) i = absurd (false≢true i)
-  inert (Connect g) i = absurd (false≢true i)
-  inert (Hub mode) i = refl
-  inert _ i = refl
+  inert x0 i = search (rules, false≢true)
 
   by_case : (x : Event) → KeptAt h n x → makes_node x ≡ false
   by_case x (inl there) = absurd (both_ways _ closed there.0)
@@ -275,16 +272,9 @@ base_alike b h law =
 
       past_node : is_open h n ≡ false → shown_at (base_of b h) n ≡ option_map_or (λ r. Hub r.mode) (hub_kept (base_of b h) n)
           (option_map_or (resource_shown n) (resource_kept (base_of b h) n) (lease_shown (base_of b h) n))
-      past_node closed = ap (λ k. option_map_or (λ r. r.made) k (option_map_or (λ r. Hub r.mode) (hub_kept (base_of b h) n)
-          (option_map_or (resource_shown n) (resource_kept (base_of b h) n) (lease_shown (base_of b h) n))))
-          (node_of_base b h n ∙ ap (λ c. cond c (Some (keep_node b h n)) None) closed)
+      past_node closed = search (rules, node_of_base)
 
       by_tests : (is_open h n ≡ true) ⊎ (is_open h n ≡ false) → (at makes_hub h n ≡ true) ⊎ (at makes_hub h n ≡ false) → slice_get h n ≡ Some (Hub mode)
       by_tests (inl o) hub = sym (kept_open b h n o) ∙ at_n
-      by_tests (inr closed) (inl hub) =
-          let shows : shown_at (base_of b h) n ≡ Hub (mode_of (event_or h n)) = past_node closed ∙ ap
-          (λ k. option_map_or (λ r. Hub r.mode) k (option_map_or (resource_shown n) (resource_kept (base_of b h) n) (lease_shown (base_of b h) n)))
-          (hub_of_base b h n ∙ ap (λ c. cond c (Some (keep_hub h n)) None) hub) in in_event (slice_get h n) hub ∙ ap Some (sym shows ∙ made)
-      by_tests (inr closed) (inr other) = absurd (no_hub (resource_kept (base_of b h) n) (sym (past_node closed ∙ ap (λ k. option_map_or (λ r. Hub r.mode) k
-          (option_map_or (resource_shown n) (resource_kept (base_of b h) n) (lease_shown (base_of b h) n)))
-          (hub_of_base b h n ∙ ap (λ c. cond c (Some (keep_hub h n)) None) other)) ∙ made))
+      by_tests (inr closed) (inl hub) = search (rules, past_node, hub_of_base, in_event, made)
+      by_tests (inr closed) (inr other) = search (rules, no_hub, past_node, hub_of_base, made)

@@ -35,9 +35,7 @@ due_calm {base} {h} {e} law next calm unfired {n} {t} d = by_reason (due_before 
   ends_calm _ still now = none-some t now
 
   completes_calm : (x : Event) → ends_or_declines x ≡ false → completes x ≡ true → ⊥
-  completes_calm (End c u) still now = false≢true (sym still)
-  completes_calm (Decline f) still now = false≢true (sym still)
-  completes_calm _ still now = false≢true now
+  completes_calm x0 still now = search (rules, false≢true)
 
   by_reason : IsDue base h (End n t) ⊎ IsReason h e n t → IsDue base h (End n t)
   by_reason (inl before) = before

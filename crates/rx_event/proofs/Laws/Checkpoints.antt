@@ -71,10 +71,7 @@ module _ (b : Kept) (h : List Event) (c : Kept) (k : List Event) (a : Agree b h 
   same_hubs : map (keep_hub h) (hubs h) ≡ map (keep_hub k) (hubs k)
   same_hubs = map_filter_same (keep_hub h) (keep_hub k) (at makes_hub h) same (places h) ∙ ap (map (keep_hub k)) (hubs_alike h k alike) where
     by_event : (n : ℕ) (o : Option Event) → slice_get h n ≡ o → option_map_or makes_hub o false ≡ true → slice_get h n ≡ slice_get k n
-    by_event n None at_n fails = absurd (false≢true fails)
-    by_event n (Some e) at_n passes =
-        let hub = hub_is e passes in
-        let here : slice_get h n ≡ Some (Hub hub.0) = at_n ∙ ap Some hub.1 in here ∙ sym (alike.same_hub n hub.0 here)
+    by_event n x1 at_n x3 = search (rules, false≢true, hub_is)
 
     same : (n : ℕ) → at makes_hub h n ≡ true → keep_hub h n ≡ keep_hub k n
     same n makes = ap (λ o. record { number = n; mode = mode_of (option_map_or (λ e. e) o (Close n)) }) (by_event n (slice_get h n) refl makes)

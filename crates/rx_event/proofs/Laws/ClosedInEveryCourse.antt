@@ -105,9 +105,7 @@ module _ {base : Kept} {b p k : List Event} (both : ArriveApart base b p k) wher
       later = (let l = old in omega arith);
       ended = found ∙ ap (λ v. Some (End x.connection v)) (ends_one base b law u t other so);
     }
-    by_way so (left_alone g at_c none) =
-        let same : g ≡ x.hub = cc (at_c, connects) in
-        absurd (subscriber_listed k x.hub s subscribes alive (sym (ap (open_subscribers k) same) ∙ none))
+    by_way so (left_alone g at_c none) = search (rules, connects, subscriber_listed, subscribes)
     by_way so (closed_with q above gone) = absurd (none-some q (sym (connection_parent k x.connection x.hub connects) ∙ above))
 
     by_place : EndStands base b p x.connection t x.place → SourceEnded k s t

@@ -143,9 +143,7 @@ manual_before {h = h} {k = k} on c found =
 -- the event at a place stays
 kept_at : {h k : List Event} → OpensNoneUpTo h k → (n : ℕ) (x : Event) → slice_get h n ≡ Some x → slice_get k n ≡ Some x
 kept_at stays_so n x at_n = at_n
-kept_at (one_further {k = k} {e = e} rest opens) n x at_n =
-    let before : slice_get k n ≡ Some x = kept_at rest n x at_n in
-    slice_get-append k (e ∷ []) n (slice_get_within k n x before) ∙ before
+kept_at (one_further {k = k} {e = e} rest opens) n x at_n = search (rules, slice_get-append, slice_get_within, kept_at rest n x at_n)
 
 -- so a hub that a caller connects, and that was not connected, is not connected
 pub stays_unconnected : {h k : List Event} → OpensNoneUpTo h k → (g : ℕ) → slice_get k g ≡ Some (Hub Manual) → open_connections h g ≡ [] →

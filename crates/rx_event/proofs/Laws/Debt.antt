@@ -100,10 +100,7 @@ paid_one h e f o m just = sum_by-same (λ n. cond (f == n) 1 0) (λ n. cond ((is
     (λ n l. rw (just n) (by_number n (f == n) refl)) ∙ count_by_one f (length h) (is_open_within h f o)
   where
     by_number : (n : ℕ) (b : Bool) → (f == n) ≡ b → cond {A = ℕ} ((is_open h n && at is_merging h n) && b) 1 0 ≡ cond b 1 0
-    by_number n true same =
-        let p : is_open h n ≡ true = rw (← eqb-true f n same) o in
-        let q : at is_merging h n ≡ true = rw (← eqb-true f n same) m in rw (p, q) refl
-    by_number n false apart = none_counted (is_open h n && at is_merging h n)
+    by_number n x1 x2 = search (rules, eqb-true, none_counted)
 
 projects_nothing : (h : List Event) → sum_by (projected_open h []) (places h) ≡ 0
 projects_nothing h = sum_by_none (projected_open h []) (length h) (λ n l. zero_or_zero (is_open h n && at is_merging h n))

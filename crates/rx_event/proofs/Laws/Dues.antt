@@ -97,9 +97,7 @@ ancestors_on base (one_more {k = k} {e = e} on d) n l =
 -- each event stays
 pub kept_on : (base : Kept) → {b k : List Event} → IsDueOn base b k → (n : ℕ) (x : Event) → slice_get b n ≡ Some x → slice_get k n ≡ Some x
 kept_on base none_more n x at_n = at_n
-kept_on base (one_more {k = k} {e = e} on d) n x at_n =
-    let before : slice_get k n ≡ Some x = kept_on base on n x at_n in
-    slice_get-append k (e ∷ []) n (slice_get_within k n x before) ∙ before
+kept_on base (one_more {k = k} {e = e} on d) n x at_n = search (rules, slice_get-append, slice_get_within, kept_on base on n x at_n)
 
 -- and a connection is no new one
 abbrev connect_of : Option Event → Option ℕ

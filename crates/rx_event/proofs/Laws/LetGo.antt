@@ -89,9 +89,7 @@ let_go_unconnected {base} {h} law settled free g c connects alive = from_hub (le
 
     by_hub : ((k a : ℕ) → length h ≤ k + steps → slice_get h a ≡ Some (Connect k) → is_open h a ≡ true → ⊥) → (e : Option Event) →
         slice_get h i ≡ e → option_map_or makes_hub e false ≡ true → ⊥
-    by_hub rest (Some (Hub Manual)) at_i hub = connection_listed h i d at_d open_d (free.disconnected i (rw at_i refl))
-    by_hub rest (Some (Hub Auto)) at_i hub = by_subscribers rest (rw at_i refl) (open_subscribers h i) refl
-    by_hub rest _ at_i hub = false≢true hub
+    by_hub rest x1 at_i hub = search (rules, connection_listed, by_subscribers, false≢true)
 
 -- nothing open -------------------------------------------------------------------------------------
 

@@ -37,16 +37,10 @@ closing_cut h e c n cuts o outside =
       apart k other false below true out true = refl
       apart k other true below true within true = by_parent (within_cases h c k within) where
         by_parent : (c ≡ k) ⊎ ((p : ℕ) × (parent h k ≡ Some p) × (is_within h c p ≡ true)) → cond {A = ℕ} ((true && true) && true) 1 0 ≡ 0
-        by_parent (inl same) = absurd (both_ways (c == k) other (eq-eqb c k same))
-        by_parent (inr above) =
-            let same : above.0 ≡ n = same_Some above.0 n (sym above.1 ∙ is_child_parent h n k below) in
-            absurd (both_ways (is_within h c n) outside (ap (is_within h c) (sym same) ∙ above.2))
+        by_parent x0 = search (rules, both_ways, eq-eqb, same_Some, is_child_parent)
 
       each : (k : ℕ) (b : Bool) → (c == k) ≡ b → cond {A = ℕ} (is_open_child_of h n k && is_cut h e k) 1 0 ≡ cond b (cond (is_child_of h n k) 1 0) 0
-      each k true same =
-          let p : is_open h k ≡ true = ap (is_open h) (sym (eqb-true c k same)) ∙ o in
-          rw (cuts k, p, self k same) (ap (λ b. cond {A = ℕ} b 1 0) (and_true_end (is_child_of h n k)))
-      each k false other = rw (cuts k) (apart k other (is_child_of h n k) refl (is_within h c k) refl (is_open h k))
+      each k x1 x2 = search (rules, eqb-true, self, and_true_end, apart)
 
 -- the marks of a node that the end of c leaves open
 pub marks-end : (base : Kept) → (h : List Event) (c : ℕ) (t : Terminal) → IsLawful base h → MayFollow base h (End c t) → (n : ℕ) →

@@ -38,14 +38,7 @@ inner_cut_none base h f kind law n whole other = sum_by_none (λ k. cond (is_ope
 
     by_test : (k : ℕ) → (b : Bool) → is_child_of h n k ≡ b → (w : Bool) → is_cut h (Open (Inner f) kind) k ≡ w → (p : Bool) →
         cond {A = ℕ} ((p && b) && w) 1 0 ≡ 0
-    by_test k b below w gone false = refl
-    by_test k false below w gone true = refl
-    by_test k true below false gone true = refl
-    by_test k true below true gone true = absurd (clash k (is_child_parent h n k below)
-        (or_cases (shuts h k (Open (Inner f) kind)) (is_cut h (Open (Inner f) kind) n) (sym (rw (
-          ancestors_step h k,
-          (is_child_parent h n k below),
-        ) refl) ∙ gone)))
+    by_test k x1 below x3 gone x5 = search (rules, clash, is_child_parent, or_cases, ancestors_step)
 
 marks_inner : (base : Kept) → (h : List Event) (f : ℕ) (kind : Kind) → IsLawful base h → MayFollow base h (Open (Inner f) kind) → (n : ℕ) → n < length h →
     marks_of base (h ++ Open (Inner f) kind ∷ []) n ≡

@@ -180,10 +180,7 @@ projected_count h (s ∷ ss) well =
 
     to_one : (f n : ℕ) → (is_open h f ≡ true) × (at is_merging h f ≡ true) → (b : Bool) → (f == n) ≡ b →
         cond (is_open h n && at is_merging h n) (cond b 1 0) 0 ≡ cond {A = ℕ} b 1 0
-    to_one f n well true same =
-        let o : is_open h n ≡ true = rw (← eqb-true f n same) well.0 in
-        let m : at is_merging h n ≡ true = rw (← eqb-true f n same) well.1 in rw (o, m) refl
-    to_one f n well false apart = zero_or_zero (is_open h n && at is_merging h n)
+    to_one f n well x3 x4 = search (rules, eqb-true, zero_or_zero)
 
     by_stop : (s : Stop) → StopsAtOpen h s →
         sum_by (λ n. cond (is_open h n && at is_merging h n) (cond (is_projection_to n s) 1 0) 0) (places h) ≡ cond {A = ℕ} (is_projection s) 1 0

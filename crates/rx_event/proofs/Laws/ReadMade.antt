@@ -43,10 +43,7 @@ pub open_undone : {r s : ℕ → ℕ} {h c : List Event} → IsTreeRead r s h c 
     ((g : ℕ) → kind ≡ Sub g → at makes_hub h g ≡ true) → event_by s (event_by r (Open place kind)) ≡ Open place kind
 open_undone {r} {s} {h} there place kind names hubs = λ i. Open (place_undone place names i) (kind_undone kind hubs i) where
   place_undone : (p : Place) → NamesOpen h (Open p kind) → place_by s (place_by r p) ≡ p
-  place_undone Root names = refl
-  place_undone (Source p) names = ap Source (there.undone p (names p refl))
-  place_undone (Inner p) names = ap Inner (there.undone p (names p refl))
-  place_undone (Notifier p) names = ap Notifier (there.undone p (names p refl))
+  place_undone x0 names = search rules
 
   kind_undone : (k : Kind) → ((g : ℕ) → k ≡ Sub g → at makes_hub h g ≡ true) → kind_by s (kind_by r k) ≡ k
   kind_undone (Sub g) hubs = let hub = hub_made h g (hubs g refl) in ap Sub (there.hub_undone g hub.0 hub.1)

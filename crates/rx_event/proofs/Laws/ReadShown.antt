@@ -60,9 +60,7 @@ resource_made h q = search (rules, slice_get, option_map_or, Accept, false≢tru
 accepted_node : (base : Kept) → (h : List Event) → IsLawful base h → (p n tag : ℕ) → slice_get h p ≡ Some (Accept n tag) → (n ≡ p) ⊎ (at makes_node h n ≡ true)
 accepted_node base h law p n tag at_p = by_case (found_at base h law p (Accept n tag) at_p) where
   in_front : is_open (shown base) n ≡ true → at makes_node h n ≡ true
-  in_front o =
-      let node = open_node (shown base) n o in
-      ap (λ k. at makes_node k n) law.reads ∙ at-append makes_node (shown base) law.since n (at_within makes_node (shown base) n node) ∙ node
+  in_front o = search (rules, open_node, at-append, at_within)
 
   by_place : slice_get (shown base) p ≡ Some (Accept n tag) → (n ≡ p) ⊎ ((n < p) ⊎ (p < n)) → (n ≡ p) ⊎ (at makes_node h n ≡ true)
   by_place found (inl same) = inl same

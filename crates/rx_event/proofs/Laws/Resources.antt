@@ -28,10 +28,7 @@ accepted_before : (base : Kept) → (h : List Event) → IsLawful base h → (r 
 accepted_before base h law r n (Accept m tag) at_r named = by_case (found_at base h law r (Accept m tag) at_r) where
   by_case : FoundAt base h r (Accept m tag) → n ≤ r
   by_case (in_base found at_same) = let l = law.started.accepts r m tag found in let same : m ≡ n = same_Some m n named in omega arith
-  by_case (since_base next) =
-      let o = is_open_within (take r h) m (may_accept base next) in
-      let l = slice_get_within h r (Accept m tag) at_r in
-      let same : m ≡ n = same_Some m n named in grind (arith, common_steps)
+  by_case (since_base next) = search (rules, is_open_within, may_accept, slice_get_within, same_Some)
 accepted_before base h law r n _ at_r named = absurd (none-some n named)
 
 -- a resource has a larger number than its node

@@ -26,13 +26,7 @@ parent_sort base h law d n below =
     let made : (e : Event) × (slice_get h d ≡ Some e) = event_at h d (parent_within h d n below) in
     by_event made.0 made.1 (parent_name h d n made.0 below made.1) where
       by_source : (o : Option Event) → slice_get h n ≡ o → option_map_or has_source o false ≡ true → IsParent h n
-      by_source None at_n stands = absurd (false≢true stands)
-      by_source (Some (Open place Pass)) at_n stands = mirrors (rw at_n refl)
-      by_source (Some (Open place Until)) at_n stands = mirrors (rw at_n refl)
-      by_source (Some (Open place Flat)) at_n stands = merges (rw at_n refl)
-      by_source (Some (Open place Switch)) at_n stands = merges (rw at_n refl)
-      by_source (Some (Connect g)) at_n stands = mirrors (rw at_n refl)
-      by_source (Some _) at_n stands = absurd (false≢true stands)
+      by_source x0 at_n stands = search (rules, false≢true, mirrors, merges)
 
       by_notifier : (o : Option Event) → slice_get h n ≡ o → option_map_or is_until o false ≡ true → IsParent h n
       by_notifier (Some (Open place Until)) at_n stands = mirrors (rw at_n refl)

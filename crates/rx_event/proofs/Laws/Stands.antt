@@ -76,7 +76,4 @@ connection_topmost h a b g n at_a above other = climb (suc n) n (omega arith) ab
       by_case : (a ≡ m) ⊎ ((p : ℕ) × (parent h m ≡ Some p) × (is_within h a p ≡ true)) →
           (b ≡ m) ⊎ ((p : ℕ) × (parent h m ≡ Some p) × (is_within h b p ≡ true)) →
           ((p : ℕ) → p < m → is_within h a p ≡ true → is_within h b p ≡ true → is_within h a b ≡ true) → is_within h a b ≡ true
-      by_case one (inl same) rest = ap (is_within h a) same ∙ above
-      by_case (inl same) (inr (p, below, within)) rest = absurd (none-some p (sym (connection_parent h m g (ap (slice_get h) (sym same) ∙ at_a)) ∙ below))
-      by_case (inr (p, below, within)) (inr (q, other_below, other_within)) rest =
-          rest p (parent-lt h m p below) within (ap (is_within h b) (same_Some p q (sym below ∙ other_below)) ∙ other_within)
+      by_case x0 x1 rest = search (rules, none-some, connection_parent, parent-lt, same_Some)

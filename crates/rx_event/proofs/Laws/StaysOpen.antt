@@ -163,9 +163,7 @@ module _ (base : Kept) (h : List Event) (place : Place) (kind : Kind) (law : IsL
     by_place : (c ≡ length h) ⊎ ((c < length h) ⊎ (length h < c)) → c < length h
     by_place (inr (inl l)) = l
     by_place (inr (inr past)) = absurd (let le = is_within-le opened_on c (length h) under.above in omega arith)
-    by_place (inl last) =
-        let here = ap (slice_get opened_on) (sym last) ∙ under.connection in
-        let both : Some (Open place kind) ≡ Some (Connect g) = sym (slice_get_last h (Open place kind)) ∙ here in absurd (cc)
+    by_place (inl last) = search (rules, slice_get_last)
 
   -- and all that the opening takes away stands below it
   cut_under : (c g s : ℕ) → IsUnder opened_on (length h) c g → is_cut h (Open place kind) s ≡ true → is_within h c s ≡ true

@@ -101,7 +101,4 @@ count_by-places p = by_pushes (λ h. count_by p h ≡ count_by (at p h) (places 
     sum_by_push (λ (x : Event). cond (p x) 1 0) h e ∙ (λ i. before i + cond (p e) 1 0) ∙ sym (longer h e))
   where
     longer : (h : List Event) (e : Event) → count_by (at p (h ++ e ∷ [])) (places (h ++ e ∷ [])) ≡ count_by (at p h) (places h) + cond (p e) 1 0
-    longer h e =
-        let rest : count_by (at p (h ++ e ∷ [])) (places h) ≡ count_by (at p h) (places h) =
-        sum_by-same (λ k. cond (at p h k) 1 0) (λ k. cond (at p (h ++ e ∷ []) k) 1 0) (length h) (λ k l. ap (λ b. cond b 1 0) (at-append p h (e ∷ []) k l)) in
-        sum_by-places-push (λ k. cond (at p (h ++ e ∷ []) k) 1 0) h e ∙ rw (rest, slice_get_last h e) refl
+    longer h e = search (rules, sum_by-same, at-append, sum_by-places-push, slice_get_last)

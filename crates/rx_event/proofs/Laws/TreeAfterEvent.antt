@@ -83,9 +83,7 @@ module _ (r s i j : ℕ → ℕ) (p q : List Event) (e : Event) (a : AreTreesRea
   pub where_open : (m : ℕ) → is_open (p ++ e ∷ []) m ≡ true → WhereOpen m
   where_open m o = by_place (cases_order m (length p)) where
     by_place : (m ≡ length p) ⊎ ((m < length p) ⊎ (length p < m)) → WhereOpen m
-    by_place (inl last) =
-        let node : makes_node e ≡ true = sym (is_open_named p e g.names) ∙ ap (is_open H) (sym last) ∙ o in
-        let new = g.newest (node_named e node) in is_new last node (ap i last ∙ new.0) new.1
+    by_place (inl last) = search (rules, is_open_named, node_named)
     by_place (inr (inl l)) = let was = open_old p e m l o in is_old l was (g.older m l) (is_open_within q (r m) (a.there.alive m was))
     by_place (inr (inr past)) = absurd (let w = is_open_within H m o in omega (arith, length-append p (e ∷ [])))
 
@@ -119,9 +117,7 @@ module _ (r s i j : ℕ → ℕ) (p q : List Event) (e : Event) (a : AreTreesRea
       slice_get (q ++ event_by r e ∷ []) (i m) ≡ Some (event_by i y)
   made_on m y o at_m = by_where (where_open m o) where
     by_where : WhereOpen m → slice_get C (i m) ≡ Some (event_by i y)
-    by_where (is_new last node new back) =
-        let is : e ≡ y = same_Some e y (sym (slice_get_last p e) ∙ ap (slice_get H) (sym last) ∙ at_m) in
-        ap (slice_get C) new ∙ slice_get_last q (event_by r e) ∙ ap (λ (z : Event). Some z) (sym (g.near node)) ∙ ap (λ (z : Event). Some (event_by i z)) is
+    by_where (is_new last node new back) = search (rules, same_Some, slice_get_last)
     by_where (is_old l was number near) =
         let old : slice_get p m ≡ Some y = sym (slice_get-append p (e ∷ []) m l) ∙ at_m in
         let node : makes_node y ≡ true = sym (ap (λ (x : Option Event). option_map_or makes_node x false) old) ∙ open_node p m was in
@@ -131,12 +127,7 @@ module _ (r s i j : ℕ → ℕ) (p q : List Event) (e : Event) (a : AreTreesRea
   hub_on : (k : ℕ) (mode : Mode) → slice_get (p ++ e ∷ []) k ≡ Some (Hub mode) → (slice_get (q ++ event_by r e ∷ []) (i k) ≡ Some (Hub mode)) × (j (i k) ≡ k)
   hub_on k mode at_k = by_place (cases_order k (length p)) where
     by_place : (k ≡ length p) ⊎ ((k < length p) ⊎ (length p < k)) → (slice_get C (i k) ≡ Some (Hub mode)) × (j (i k) ≡ k)
-    by_place (inl last) =
-        let is : e ≡ Hub mode = same_Some e (Hub mode) (sym (slice_get_last p e) ∙ ap (slice_get H) (sym last) ∙ at_k) in
-        let new = g.newest (ap is_named is) in (
-          ap (λ m. slice_get C (i m)) last ∙ ap (slice_get C) new.0 ∙ slice_get_last q (event_by r e) ∙ ap (λ (z : Event). Some (event_by r z)) is,
-          ap (λ m. j (i m)) last ∙ ap j new.0 ∙ new.1 ∙ sym last,
-        )
+    by_place (inl last) = search (rules, same_Some, slice_get_last)
     by_place (inr (inl l)) =
         let old : slice_get p k ≡ Some (Hub mode) = sym (slice_get-append p (e ∷ []) k l) ∙ at_k in
         let was : slice_get q (r k) ≡ Some (Hub mode) = a.there.hub k mode old in

@@ -248,9 +248,7 @@ module _ (r s : ℕ → ℕ) (p q : List Event) (a : AreTreesRead r s p q) where
 
         by_event : (x : Option Event) → slice_get p n ≡ x →
             option_map_or (onward_from q (r n)) (option_map (event_by r) x) [] ≡ map r (option_map_or (onward_from p n) x [])
-        by_event None at_n = refl
-        by_event (Some (Connect g)) at_n = subscribers_by g (hub_back g at_n)
-        by_event (Some _) at_n = (ap option_to_list (parent_by r s p q a n o) ∙ to_list (parent p n))
+        by_event x0 at_n = search (rules, subscribers_by, hub_back, parent_by, to_list)
 
   visited_read : (left : ℕ) (todo : List ℕ) → Open_all p todo → visited left q (map r todo) ≡ map r (visited left p todo)
   visited_read (suc left) (n ∷ todo) all =

@@ -23,9 +23,7 @@ use Rattle.std.proofs.Common.{rules}
 pub at_before : (q : Event → Bool) (h : List Event) (e : Event) (n : ℕ) → q e ≡ false → at q (h ++ e ∷ []) n ≡ true → at q h n ≡ true
 at_before q h e n out found = by_place (cases_order n (length h)) where
   by_place : (n ≡ length h) ⊎ ((n < length h) ⊎ (length h < n)) → at q h n ≡ true
-  by_place (inl last) =
-      let here : q e ≡ true = sym (ap (λ (o : Option Event). option_map_or q o false) (ap (slice_get (h ++ e ∷ [])) last ∙ slice_get_last h e)) ∙ found in
-      absurd (both_ways (q e) out here)
+  by_place (inl last) = search (rules, slice_get_last, both_ways)
   by_place (inr (inl l)) = sym (at-append q h (e ∷ []) n l) ∙ found
   by_place (inr (inr l)) = absurd (let w = at_within q (h ++ e ∷ []) n found in omega (arith, length-append h (e ∷ [])))
 
