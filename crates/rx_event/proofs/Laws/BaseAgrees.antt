@@ -3,7 +3,7 @@ use Rattle.rx_event.proofs.Laws.Common.{◌≡◌, ℕ, suc, ◌+◌, ◌-◌, �
 use Rattle.rx_event.proofs.Laws.Common.{ap, ◌∙◌, arith, inl, inr, ◌⊎◌, slice_get, nat_lt, not, ◌&&◌, ◌||◌, list_any, option_and_then, option_map_or, cases_Bool}
 use Rattle.rx_event.proofs.Laws.Common.{cases_lt, both_ways, false≢true, and_parts, eqb-true, slice_get_past, slice_get_within, none-some, same_Some}
 use Rattle.rx_event.proofs.Laws.Common.{sum_by-cons, Terminal, Completed, Error, Place, Leaf, Sub, IsInOrderAt, Root, Source, Inner, Notifier, Event, Open, Hub}
-use Rattle.rx_event.proofs.Laws.Common.{Connect, Accept, Lease, Item, End, Close, has_source, is_merging, is_until, makes_node, makes_hub, makes_resource}
+use Rattle.rx_event.proofs.Laws.Common.{Connect, Accept, Item, End, is_merging, makes_node, makes_hub, makes_resource}
 use Rattle.rx_event.proofs.Laws.Common.{makes_lease, parent_named, node_of_accept, is_source_of, is_inner_of, is_switch, is_remove_of, is_take_of}
 use Rattle.rx_event.proofs.Laws.Common.{is_use_of, pays, at, is_open, is_owned, is_out, leases_of, is_held, is_taken, is_waiting, uses, accepted_by, Stop}
 use Rattle.rx_event.proofs.Laws.Common.{Moment, moments, moments_after, is_projection_to, stops_of, projections, is_fired, owed, completes_source}

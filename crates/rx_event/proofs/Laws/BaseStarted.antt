@@ -2,7 +2,7 @@
 use Rattle.rx_event.proofs.Laws.Common.{◌≡◌, ℕ, ◌+◌, ◌<◌, ◌≤◌, Bool, true, false, List, ◌++◌, length, take, drop, cond, Option, Some, None, refl, sym, ap, ◌∙◌}
 use Rattle.rx_event.proofs.Laws.Common.{arith, inl, inr, ◌⊎◌, ◌==◌, slice_get, ◌||◌, list_any, option_map_or, cases_Bool, both_ways, false≢true, eqb-true}
 use Rattle.rx_event.proofs.Laws.Common.{length-take-le, slice_get_within, same_Some, none-some, Place, Root, Source, Inner, Notifier, Kind, Leaf, Sub, Event}
-use Rattle.rx_event.proofs.Laws.Common.{Open, Connect, Accept, Lease, Decline, Kept, resource_kept, shown, makes_node, makes_hub, makes_resource}
+use Rattle.rx_event.proofs.Laws.Common.{Open, Connect, Accept, Lease, Kept, resource_kept, shown, makes_node, makes_hub, makes_resource}
 use Rattle.rx_event.proofs.Laws.Common.{makes_lease, has_source, is_merging, is_until, is_source_of, parent_named, node_of_accept, pays, at, is_open, is_within}
 use Rattle.rx_event.proofs.Laws.Common.{is_owned, is_out, is_waiting, uses, IsSettled, IsInOrderAt, Started, IsLawful, base_of}
 use Rattle.rx_event.proofs.Laws.Common.{false_from_ne_true as never, IsHubbed, IsInOrder, keep_node, is_untaken}

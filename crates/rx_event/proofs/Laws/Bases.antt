@@ -2,7 +2,7 @@
 use Rattle.rx_event.proofs.Laws.Common.{◌≡◌, ℕ, zero, suc, ◌+◌, ◌<◌, ◌≤◌, Bool, true, false, List, [], ◌∷◌, length, drop, map, cond, Option, Some, None, refl}
 use Rattle.rx_event.proofs.Laws.Common.{sym, ap, subst, ◌∙◌, arith, inl, inr, ◌⊎◌, nat_lt, ◌==◌, slice_get, filter, not, ◌&&◌, list_any, range_with_len}
 use Rattle.rx_event.proofs.Laws.Common.{option_and_then, option_map_or, cases_Bool, cases_lt, cases_order, and_parts, both_ways, eqb-true, eq-eqb, false≢true}
-use Rattle.rx_event.proofs.Laws.Common.{slice_get_past, slice_get_within, same_Some, Kind, Mode, Inner, Event, Open, Hub, Connect}
+use Rattle.rx_event.proofs.Laws.Common.{slice_get_past, slice_get_within, same_Some, Kind, Mode, Inner, Event, Open, Hub}
 use Rattle.rx_event.proofs.Laws.Common.{Accept, Lease, End, Close, makes_node, makes_hub, parent_named, is_switch, is_inner_of, at, parent, if_less, shuts}
 use Rattle.rx_event.proofs.Laws.Common.{is_shut, is_open, Kept, node_kept, resource_kept, shown, base_of, is_switched_inner, keep_node}
 use Rattle.std.proofs.lemmas.Option.{slice_get-map}
@@ -11,7 +11,7 @@ use Rattle.rx_event.proofs.Laws.SoundForm.{TwoOpenInners}
 use Rattle.rx_event.specs.declared.base.BaseResource.{BaseResource}
 use Rattle.rx_event.specs.declared.base.BaseLease.{BaseLease}
 use Rattle.rx_event.specs.Kept.{find_by, hub_kept, lease_kept, resource_shown, lease_shown, shown_at}
-use Rattle.rx_event.specs.Bases.{event_or, keep_hub, mode_of}
+use Rattle.rx_event.specs.Bases.{keep_hub, mode_of}
 use Rattle.rx_event.proofs.Laws.SameTree.{Alike}
 use Rattle.rx_event.proofs.Laws.Places.{at_within}
 use Rattle.rx_event.proofs.Laws.Parents.{parent-lt}

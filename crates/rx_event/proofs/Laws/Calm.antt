@@ -2,7 +2,7 @@
 -- either, nothing is forced that was not, but the connection of a new subscriber's hub.
 use Rattle.rx_event.proofs.Laws.Common.{◌≡◌, ℕ, ◌<◌, Bool, true, false, List, [], ◌∷◌, ◌++◌, length, Option, Some, None, slice_get, refl, sym, ap, subst, ◌∙◌}
 use Rattle.rx_event.proofs.Laws.Common.{inl, inr, ◌⊎◌, arith, length-append, not, ◌&&◌, list_any, false≢true, cases_order, both_ways, and_parts, and_from}
-use Rattle.rx_event.proofs.Laws.Common.{eq-eqb, same_Some, none-some, Terminal, Completed, Error, Kept, Place, Kind, Sub, Event, Open, Connect, Decline, End}
+use Rattle.rx_event.proofs.Laws.Common.{eq-eqb, same_Some, none-some, Terminal, Completed, Error, Kept, Place, Kind, Sub, Event, Open, Connect, End}
 use Rattle.rx_event.proofs.Laws.Common.{Close, is_auto_hub, is_manual_hub, is_subscriber_of, at, places, is_open, open_subscribers, open_connections}
 use Rattle.rx_event.proofs.Laws.Common.{is_firing_of, stops_of, marks_of, due_at, mirrored, fired, failed, completed, cut, left, connecting, due, SourceEnded}
 use Rattle.rx_event.proofs.Laws.Common.{IsDue, IsForced, IsConnectDue, IsConnected, IsSettled, forced, stays, more, MayFollow, IsLawful}

@@ -3,7 +3,7 @@ use Rattle.rx_event.proofs.Laws.Common.{◌≡◌, ℕ, ◌<◌, Bool, true, fal
 use Rattle.rx_event.proofs.Laws.Common.{◌==◌, arith, not, AllByRecursion, list_any, false≢true, both_ways, false_from_ne_true, or_cases, eqb-true}
 use Rattle.rx_event.proofs.Laws.Common.{and_from, same_Some, none-some, Terminal, Completed, Error, Kept, Event, Connect, End}
 use Rattle.rx_event.proofs.Laws.Common.{Close, is_mirroring, is_merging, is_until, is_source_of, is_subscriber_of, is_auto_hub, at, parent, ancestors}
-use Rattle.rx_event.proofs.Laws.Common.{is_open, is_within, open_subscribers, mirrored, fired, failed, completed, cut, left, due, SourceEnded, IsDue}
+use Rattle.rx_event.proofs.Laws.Common.{is_open, is_within, mirrored, fired, failed, completed, cut, left, due, SourceEnded, IsDue}
 use Rattle.rx_event.proofs.Laws.Common.{IsConnected, IsSettled, source_completed, IsLawful, ChildEnded}
 use Rattle.rx_event.specs.Forced.{Has}
 use Rattle.rx_event.proofs.Laws.Openness.{is_open_within, is_open_outside-end, is_open_outside-close, ancestors_open}

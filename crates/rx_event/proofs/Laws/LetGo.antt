@@ -2,8 +2,8 @@
 -- connection of a later hub; so were one connected, hubs would be endless.
 use Rattle.rx_event.proofs.Laws.Common.{◌≡◌, ℕ, zero, suc, ◌+◌, ◌<◌, ◌≤◌, Bool, true, false, List, [], ◌∷◌, length, Option, Some, cond, refl, sym, ap}
 use Rattle.rx_event.proofs.Laws.Common.{◌∙◌, arith, inl, inr, ◌⊎◌, slice_get, ◌&&◌, count_by, range_with_len, option_map_or, cases_Bool, both_ways, false≢true}
-use Rattle.rx_event.proofs.Laws.Common.{and_parts, and_from, eq-eqb, false_from_ne_true, slice_get_within, Kept, Root, Source, Inner, Notifier, Auto, Manual}
-use Rattle.rx_event.proofs.Laws.Common.{Event, Open, Hub, Connect, makes_node, makes_hub, is_root, is_auto_hub, is_manual_hub, is_connect_of, is_subscriber_of}
+use Rattle.rx_event.proofs.Laws.Common.{and_parts, and_from, eq-eqb, false_from_ne_true, slice_get_within, Kept, Root, Source, Inner, Notifier}
+use Rattle.rx_event.proofs.Laws.Common.{Event, Open, Connect, makes_node, makes_hub, is_root, is_auto_hub, is_manual_hub, is_connect_of, is_subscriber_of}
 use Rattle.rx_event.proofs.Laws.Common.{at, places, parent, is_within, is_open, open_subscribers, open_connections, open_count, IsSettled, IsLawful}
 use Rattle.rx_event.proofs.Laws.Hubs.{hub_before, at_connect, connection_hub, unsubscribed_unconnected, hubs_in_order}
 use Rattle.rx_event.specs.Claims.Closing.{is_manual_connection, open_root_count, manual_connection_count, IsLetGo}

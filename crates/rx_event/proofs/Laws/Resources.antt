@@ -1,11 +1,11 @@
 -- Where each resource is after one more event.
-use Rattle.rx_event.proofs.Laws.Common.{◌≡◌, ℕ, ◌+◌, ◌<◌, ◌≤◌, Bool, true, false, List, [], ◌∷◌, ◌++◌, length, take, Option, Some, None, cond, refl, sym, ap}
+use Rattle.rx_event.proofs.Laws.Common.{◌≡◌, ℕ, ◌+◌, ◌<◌, ◌≤◌, Bool, true, false, List, [], ◌∷◌, ◌++◌, length, Option, Some, None, cond, refl, sym, ap}
 use Rattle.rx_event.proofs.Laws.Common.{◌∙◌, arith, inl, inr, ◌⊎◌, ◌==◌, nat_lt, slice_get, length-append, not, ◌&&◌, ◌||◌, list_any, option_and_then}
 use Rattle.rx_event.proofs.Laws.Common.{option_map_or, cases_order, cases_Bool, both_ways, and_parts, or_cases, ne_eqb, eqb-true, lt-ltb}
 use Rattle.rx_event.proofs.Laws.Common.{slice_get_past, slice_get_within, none-some, same_Some, Terminal, Kept, shown, Event}
 use Rattle.rx_event.proofs.Laws.Common.{Accept, Remove, Lease, Return, End, Close, Take, makes_resource, node_of_accept}
 use Rattle.rx_event.proofs.Laws.Common.{is_remove_of, is_take_of, at, is_open, is_within, is_owned, leases_of, is_held, is_taken, is_waiting, accepted_by}
-use Rattle.rx_event.proofs.Laws.Common.{MayFollow, IsLawful, and_true, and_not_false, or_false, and_assoc, and_false, common_steps, or_right, not-true}
+use Rattle.rx_event.proofs.Laws.Common.{MayFollow, IsLawful, and_true, and_not_false, or_false, and_assoc, and_false, or_right, not-true}
 use Rattle.rx_event.proofs.Laws.Common.{list_any-append, is_lease_of, is_return, is_leased}
 use Rattle.std.proofs.lemmas.Bool.{or_from, and_right}
 use Rattle.std.proofs.lemmas.Option.{option_and_then_some}

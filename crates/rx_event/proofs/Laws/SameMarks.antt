@@ -1,7 +1,7 @@
 -- Two courses of what is forced after one history leave the same marks at each node that they leave open.
 use Rattle.rx_event.proofs.Laws.Common.{◌≡◌, ℕ, Bool, true, false, List, length, Option, Some, None, slice_get, refl, sym, ap, ◌∙◌, ◌==◌, filter, ◌&&◌, ◌||◌}
-use Rattle.rx_event.proofs.Laws.Common.{list_any, option_map_or, false≢true, Terminal, Completed, Error, Kept, node_kept, Source, Inner, Notifier, Pass, Flat}
-use Rattle.rx_event.proofs.Laws.Common.{Switch, Until, Event, Open, Connect, has_source, is_mirroring, is_merging, is_until, is_source_of, parent_named, at}
+use Rattle.rx_event.proofs.Laws.Common.{list_any, option_map_or, false≢true, Terminal, Completed, Error, Kept, node_kept, Source, Inner, Notifier}
+use Rattle.rx_event.proofs.Laws.Common.{Until, Event, Open, has_source, is_mirroring, is_merging, is_until, is_source_of, parent_named, at}
 use Rattle.rx_event.proofs.Laws.Common.{places, parent, is_open, is_open_child_of, mirrored, failed, due, IsDue, IsConnected, IsSettled, passes_on}
 use Rattle.rx_event.proofs.Laws.Common.{child_terminal, source_completed, open_children, marks_of, IsLawful, length-filter, is_notifier_of, ChildEnded}
 use Rattle.std.specs.Cmp.{both_ways as same_test}

@@ -1,5 +1,5 @@
 -- Where nodes stand in a lawful history: below nodes, each place below what has such a place, connections topmost.
-use Rattle.rx_event.proofs.Laws.Common.{subst, ◌≡◌, ℕ, ◌<◌, Bool, true, List, [], ◌∷◌, length, Some, None, refl, sym, ap, ◌∙◌, arith, zero, suc, inl, inr}
+use Rattle.rx_event.proofs.Laws.Common.{subst, ◌≡◌, ℕ, ◌<◌, Bool, true, List, [], ◌∷◌, length, Some, None, refl, sym, arith, zero, suc}
 use Rattle.rx_event.proofs.Laws.Common.{◌⊎◌, take, slice_get, option_map_or, and_parts, length-take-le, slice_get_within, same_Some, none-some, IsLawful}
 use Rattle.rx_event.proofs.Laws.Common.{Root, Source, Inner, Notifier, Kept, Place, Kind, Event, Open, Connect, makes_node, has_source, is_merging, is_until}
 use Rattle.rx_event.proofs.Laws.Common.{at, parent, is_within, is_open}
