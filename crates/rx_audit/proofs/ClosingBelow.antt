@@ -1,11 +1,12 @@
 -- A pass that closes what stands below closed nodes.
 use Rattle.rx_audit.proofs.Common.{◌≡◌, ℕ, zero, suc, ◌+◌, ◌-◌, ◌<◌, ◌≤◌, Bool, true, false, List, [], ◌∷◌, ◌++◌, length, Option, Some, None, refl, sym, ap}
-use Rattle.rx_audit.proofs.Common.{◌∙◌, arith, cond, inl, inr, ◌⊎◌, get_or, set, get_or-set_other, get_or-set_same, ◌≢◌, length-append, drop, slice_get, ◌==◌}
+use Rattle.rx_audit.proofs.Common.{◌∙◌, arith, cond, inl, inr, ◌⊎◌, get_or, set, get_or-set_other, get_or-set_same, ◌≢◌, length-append, slice_get, ◌==◌}
 use Rattle.rx_audit.proofs.Common.{nat_lt, length-set, cases_Bool, cases_order, both_ways, false≢true, and_parts, and_from, eq-eqb, eqb-true, ltb-true, lt-ltb}
-use Rattle.rx_audit.proofs.Common.{Event, ◌&&◌, none-some, same_Some, list_any, option_and_then, option_map_or, Root, Source, Inner, Notifier, Open}
+use Rattle.rx_audit.proofs.Common.{Event, ◌&&◌, none-some, same_Some, option_and_then, option_map_or, Inner, Open}
 use Rattle.rx_audit.proofs.Common.{inner_named, is_switch, is_inner_of, makes_node, parent, is_open, is_switched_inner, at, shuts, parent-lt, parent_open}
 use Rattle.rx_audit.proofs.Common.{is_open_step, is_open_within, IsMarked, mark_count, stays_open, last_below, keyed, IsNoted, IsClosingBelow, AreClosed}
-use Rattle.rx_audit.proofs.Common.{inner_named_at, false_from_ne_true, or_true, cases_lt}
+use Rattle.rx_audit.proofs.Common.{inner_named_at, false_from_ne_true, cases_lt, ⊎_elim, cases_eq, option_and_then_some, Kind}
+use Rattle.rx_audit.proofs.TestsDecideRules.{any_after}
 use Rattle.std.proofs.Math.ListN.{get_or-append}
 use Rattle.std.proofs.lemmas.List.{get_or_push}
 use Rattle.std.proofs.lemmas.List.Sums.{sum_by-set}
@@ -37,8 +38,8 @@ cleared ms c n e = search (rules, cases_order, get_or, get_or-set_other, length,
 pub uncleared : (ms : List Bool) (c n : ℕ) → get_or (set ms c false) n false ≡ false → (n ≡ c) ⊎ (get_or ms n false ≡ false)
 uncleared ms c n e = search (rules, cases_order, get_or, get_or-set_other)
 
-gone_is : (ms : List Bool) (c : ℕ) → get_or ms c false ≡ true → get_or (set ms c false) c false ≡ false
-gone_is ms c y = get_or-set_same ms c false false (within_marks ms c y)
+pub mark_gone : (ms : List Bool) (c : ℕ) → get_or (set ms c false) c false ≡ false
+mark_gone ms c = false_from_ne_true _ (λ y. (cleared ms c c y).0 refl)
 
 pub stays_gone : (ms : List Bool) (c n : ℕ) → get_or ms n false ≡ false → get_or (set ms c false) n false ≡ false
 stays_gone ms c n e = search (rules, cases_Bool, get_or, set, both_ways, cleared)
@@ -68,7 +69,7 @@ closing_none h p bound ms todo all = record {
 pub closing_note : {h : List Event} {p bound : ℕ} (c : ℕ) {old : List Bool} (new : List Bool) (before after : List ℕ) →
     IsClosingBelow h p bound old new before after
     → c < length h → parent h c ≡ Some p → get_or new c false ≡ true → IsClosingBelow h p bound old (set new c false) before (after ++ c ∷ [])
-closing_note {h} {p} c {old} new before after w inside below y =
+closing_note {h} {p} c {old} new before after w inside child y =
     let more : length (after ++ c ∷ []) ≡ length after + 1 = length-append after (c ∷ []) in
     let long = w.longer in
     let count = count_cleared new c y in
@@ -76,44 +77,25 @@ closing_note {h} {p} c {old} new before after w inside below y =
     record {
       size = length-set new c false ∙ w.size;
       kept = λ n e. w.kept n (cleared new c n e).1;
-      below = λ n was gone. by_below n was (uncleared new c n gone);
-      noted = λ n was gone. by_noted n was (uncleared new c n gone);
+      below = λ n was gone. ⊎_elim (λ same. ap (parent h) same ∙ child) (λ z. w.below n was z) (uncleared new c n gone);
+      noted = λ n was gone. ⊎_elim (λ same. rw same (noted_last (length before) after c w.longer))
+          (λ z. noted_more (length before) after c n (w.noted n was z)) (uncleared new c n gone);
       same = λ k l. get_or-append after (c ∷ []) 0 k (omega arith) ∙ w.same k l;
       longer = omega arith;
-      closed = λ k l m. by_closed k l (cases_order k (length after)) m;
-      within = λ k l m. by_within k l (cases_order k (length after)) m;
+      closed = λ k l m. ⊎_elim (λ b. ap (λ n. get_or (set new c false) n false) (get_or-append after (c ∷ []) 0 k b)
+          ∙ stays_gone new c (get_or after k 0) (w.closed k l b)) (λ g. ap (λ n. get_or (set new c false) n false)
+          (get_or_push after c 0 k (omega arith)) ∙ mark_gone new c) (cases_lt k (length after));
+      within = λ k l m. ⊎_elim (λ b. rw (get_or-append after (c ∷ []) 0 k b) (w.within k l b))
+          (λ g. rw (get_or_push after c 0 k (omega arith)) inside) (cases_lt k (length after));
       balance = omega arith;
       gone = λ d under e. w.gone d under (cleared new c d e).1;
     }
-  where
-    by_below : (n : ℕ) → get_or old n false ≡ true → (n ≡ c) ⊎ (get_or new n false ≡ false) → parent h n ≡ Some p
-    by_below n was (inl same) = ap (parent h) same ∙ below
-    by_below n was (inr gone) = w.below n was gone
-
-    by_noted : (n : ℕ) → get_or old n false ≡ true → (n ≡ c) ⊎ (get_or new n false ≡ false) → IsNoted (length before) (after ++ c ∷ []) n
-    by_noted n was (inl same) = rw same (noted_last (length before) after c w.longer)
-    by_noted n was (inr gone) = noted_more (length before) after c n (w.noted n was gone)
-
-    old_entry : (k : ℕ) → k < length after → get_or (after ++ c ∷ []) k 0 ≡ get_or after k 0
-    old_entry k l = get_or-append after (c ∷ []) 0 k l
-
-    by_closed : (k : ℕ) → length before ≤ k → (k ≡ length after) ⊎ ((k < length after) ⊎ (length after < k)) → k < length (after ++ c ∷ [])
-        → get_or (set new c false) (get_or (after ++ c ∷ []) k 0) false ≡ false
-    by_closed k l (inl e) m = ap (λ n. get_or (set new c false) n false) (get_or_push after c 0 k (sym e)) ∙ gone_is new c y
-    by_closed k l (inr (inl b)) m = ap (λ n. get_or (set new c false) n false) (old_entry k b) ∙ stays_gone new c (get_or after k 0) (w.closed k l b)
-    by_closed k l (inr (inr g)) m = absurd (let s : length (after ++ c ∷ []) ≡ length after + 1 = length-append after (c ∷ []) in omega arith)
-
-    by_within : (k : ℕ) → length before ≤ k → (k ≡ length after) ⊎ ((k < length after) ⊎ (length after < k)) → k < length (after ++ c ∷ [])
-        → get_or (after ++ c ∷ []) k 0 < length h
-    by_within k l (inl e) m = rw (get_or_push after c 0 k (sym e)) inside
-    by_within k l (inr (inl b)) m = rw (old_entry k b) (w.within k l b)
-    by_within k l (inr (inr g)) m = absurd (let s : length (after ++ c ∷ []) ≡ length after + 1 = length-append after (c ∷ []) in omega arith)
 
 -- where child c is closed, the next older one is the bound
 pub closing_next : {h : List Event} {p : ℕ} (c v : ℕ) {old : List Bool} (new : List Bool) (before after : List ℕ) →
     IsClosingBelow h p (suc c) old new before after
     → get_or new c false ≡ false → v ≡ last_below (keyed (parent h) p) c → IsClosingBelow h p v old new before after
-closing_next {h} {p} c v new before after w closed is = record {
+closing_next {h} {p} c v new before after w shut is = record {
   size = w.size;
   kept = w.kept;
   below = w.below;
@@ -123,30 +105,16 @@ closing_next {h} {p} c v new before after w closed is = record {
   closed = w.closed;
   within = w.within;
   balance = w.balance;
-  gone = λ d under e. by_order d under e (cases_order d v) (cases_order d c);
-} where
-  by_order : (d : ℕ) → parent h d ≡ Some p → get_or new d false ≡ true → (d ≡ v) ⊎ ((d < v) ⊎ (v < d)) → (d ≡ c) ⊎ ((d < c) ⊎ (c < d)) → d < v
-  by_order d under e (inr (inl l)) q = l
-  by_order d under e o (inl same) = absurd (both_ways (get_or new d false) (ap (λ k. get_or new k false) same ∙ closed) e)
-  by_order d under e o (inr (inr g)) = absurd (let l = w.gone d under e in omega arith)
-  by_order d under e (inl s) (inr (inl l)) = absurd
-      (both_ways (keyed (parent h) p d) (last_none (keyed (parent h) p) c d (omega arith) l) (key_is (parent h d) p under))
-  by_order d under e (inr (inr g)) (inr (inl l)) = absurd
-      (both_ways (keyed (parent h) p d) (last_none (keyed (parent h) p) c d (omega arith) l) (key_is (parent h d) p under))
-
-pub gone_here : (ms : List Bool) (c : ℕ) → get_or ms c false ≡ true → get_or (set ms c false) c false ≡ false
-gone_here ms c y = gone_is ms c y
+  gone = λ d under e. let m = w.gone d under e in ⊎_elim (λ l. l) (λ l. absurd (⊎_elim
+      (λ same. both_ways (get_or new d false) (ap (λ k. get_or new k false) same ∙ shut) e)
+      (λ apart. both_ways (keyed (parent h) p d) (last_none (keyed (parent h) p) c d (omega arith) (omega arith)) (key_is (parent h d) p under))
+      (cases_eq d c))) (cases_lt d v);
+}
 
 -- where the table's word is v, each child before k is before v, and there is one at v - 1
 pub child_below : (h : List Event) (p k v : ℕ) → v ≡ last_below (keyed (parent h) p) k → (d : ℕ) → parent h d ≡ Some p → d < k → d < v
-child_below h p k v is d below l = by_order (cases_order d v) where
-  none : v ≤ d → d < v
-  none m = absurd (both_ways (keyed (parent h) p d) (last_none (keyed (parent h) p) k d (omega arith) l) (key_is (parent h d) p below))
-
-  by_order : (d ≡ v) ⊎ ((d < v) ⊎ (v < d)) → d < v
-  by_order (inl same) = none (omega arith)
-  by_order (inr (inl m)) = m
-  by_order (inr (inr g)) = none (omega arith)
+child_below h p k v is d below l = ⊎_elim (λ m. m) (λ m. absurd (both_ways (keyed (parent h) p d)
+    (last_none (keyed (parent h) p) k d (omega arith) l) (key_is (parent h d) p below))) (cases_lt d v)
 
 pub here_is : (h : List Event) (p k v : ℕ) → v ≡ last_below (keyed (parent h) p) k → 0 < v → parent h (v - 1) ≡ Some p
 here_is h p k v is some =
@@ -168,86 +136,36 @@ pub passing_starts : (h : List Event) (e : Event) (marks : List Bool) (top : ℕ
     → shuts h top e ≡ true → ((n : ℕ) → is_open h n ≡ true → shuts h n e ≡ true → n ≡ top) → IsPassing h e 0 (set marks top false) (top ∷ [])
 passing_starts h e marks top tied inside shut alone = record {
   kept = λ n y. sym (tied n) ∙ (cleared marks top n y).1;
-  sound = λ n z. by_gone n (uncleared marks top n z);
+  sound = λ n z. ⊎_elim (λ same. rw same (shut_closed h e top shut)) (λ y. stays_closed h e n (sym (tied n) ∙ y)) (uncleared marks top n z);
   unshut = λ n y. let w = cleared marks top n y in false_from_ne_true (shuts h n e) (λ s. w.0 (alone n (sym (tied n) ∙ w.1) s));
-  pending = λ c q below y. by_parent q (above c q below y);
-  closed = λ k l. by_first k l;
-  within = λ k l. in_first k l;
+  pending = λ c q under y. ⊎_elim (λ same. inr (rw same first)) (λ apart. inl (get_or-set_other marks top q false false apart
+      ∙ tied q ∙ parent_open h c q (sym (tied c) ∙ (cleared marks top c y).1) under)) (cases_eq q top);
+  closed = λ k l. let z : k ≡ 0 = omega arith in rw z (mark_gone marks top);
+  within = λ k l. let z : k ≡ 0 = omega arith in rw z inside;
 } where
-  by_gone : (n : ℕ) → (n ≡ top) ⊎ (get_or marks n false ≡ false) → stays_open h e n ≡ false
-  by_gone n (inl same) = rw same (shut_closed h e top shut)
-  by_gone n (inr z) = stays_closed h e n (sym (tied n) ∙ z)
-
-  -- the node above an open one is open
-  above : (c q : ℕ) → parent h c ≡ Some q → get_or (set marks top false) c false ≡ true → get_or marks q false ≡ true
-  above c q below y = tied q ∙ parent_open h c q (sym (tied c) ∙ (cleared marks top c y).1) below
-
-  other : (q : ℕ) → q ≢ top → get_or marks q false ≡ true → get_or (set marks top false) q false ≡ true
-  other q ne y = get_or-set_other marks top q false false ne ∙ y
-
   first : IsNoted 0 (top ∷ []) top
   first = record { at = 0; after = omega arith; within = omega arith; is = refl }
-
-  by_parent : (q : ℕ) → get_or marks q false ≡ true → (get_or (set marks top false) q false ≡ true) ⊎ IsNoted 0 (top ∷ []) q
-  by_parent q y = by_order (cases_order q top) where
-    by_order : (q ≡ top) ⊎ ((q < top) ⊎ (top < q)) → (get_or (set marks top false) q false ≡ true) ⊎ IsNoted 0 (top ∷ []) q
-    by_order (inl same) = inr (rw same first)
-    by_order (inr (inl l)) = inl (other q (omega arith) y)
-    by_order (inr (inr g)) = inl (other q (omega arith) y)
-
-  by_first : (k : ℕ) → k < length (top ∷ []) → get_or (set marks top false) (get_or (top ∷ []) k 0) false ≡ false
-  by_first zero l = false_from_ne_true (get_or (set marks top false) top false) (λ y. (cleared marks top top y).0 refl)
-  by_first (suc k) l = absurd (omega arith)
-
-  in_first : (k : ℕ) → k < length (top ∷ []) → get_or (top ∷ []) k 0 < length h
-  in_first zero l = inside
-  in_first (suc k) l = absurd (omega arith)
 
 pub passing_more : {h : List Event} {e : Event} {i p : ℕ} (old new : List Bool) (before after : List ℕ) → i < length before → p ≡ get_or before i 0
     → IsPassing h e i old before → IsClosingBelow h p 0 old new before after → IsPassing h e (i + 1) new after
 passing_more {h} {e} {i} {p} old new before after l is so_far w = record {
   kept = λ n y. so_far.kept n (w.kept n y);
-  sound = λ n z. by_old n z (cases_Bool (get_or old n false));
+  sound = λ n z. ⊎_elim (λ y. below_closed h e n p (w.below n y z) (so_far.sound p (ap (λ q. get_or old q false) is ∙ so_far.closed i l)))
+      (λ g. so_far.sound n g) (cases_Bool (get_or old n false));
   unshut = λ n y. so_far.unshut n (w.kept n y);
-  pending = λ c q below y. by_pending c q below y (so_far.pending c q below (w.kept c y));
-  closed = λ k m. by_closed k m (cases_lt k (length before));
-  within = λ k m. by_within k m (cases_lt k (length before));
+  pending = λ c q under y. by_pending c q under y (so_far.pending c q under (w.kept c y));
+  closed = λ k m. ⊎_elim (λ b. ap (λ n. get_or new n false) (w.same k b) ∙ false_from_ne_true (get_or new (get_or before k 0) false)
+      (λ y. both_ways (get_or old (get_or before k 0) false) (so_far.closed k b) (w.kept (get_or before k 0) y)))
+      (λ g. w.closed k g m) (cases_lt k (length before));
+  within = λ k m. ⊎_elim (λ b. rw (w.same k b) (so_far.within k b)) (λ g. w.within k g m) (cases_lt k (length before));
 } where
-  gone_p : get_or old p false ≡ false
-  gone_p = ap (λ q. get_or old q false) is ∙ so_far.closed i l
-
-  by_old : (n : ℕ) → get_or new n false ≡ false → (get_or old n false ≡ true) ⊎ (get_or old n false ≡ false) → stays_open h e n ≡ false
-  by_old n z (inl y) = below_closed h e n p (w.below n y z) (so_far.sound p gone_p)
-  by_old n z (inr g) = so_far.sound n g
-
-  long : length before ≤ length after
-  long = w.longer
-
   by_pending : (c q : ℕ) → parent h c ≡ Some q → get_or new c false ≡ true → (get_or old q false ≡ true) ⊎ IsNoted i before q
       → (get_or new q false ≡ true) ⊎ IsNoted (i + 1) after q
-  by_pending c q below y (inl was) = by_new (cases_Bool (get_or new q false)) where
-    by_new : (get_or new q false ≡ true) ⊎ (get_or new q false ≡ false) → (get_or new q false ≡ true) ⊎ IsNoted (i + 1) after q
-    by_new (inl stays) = inl stays
-    by_new (inr gone) = let n = w.noted q was gone in let a = n.after in inr (record { at = n.at; after = omega arith; within = n.within; is = n.is })
-  by_pending c q below y (inr n) = by_place (cases_order n.at i) where
-    later : i < n.at → (get_or new q false ≡ true) ⊎ IsNoted (i + 1) after q
-    later g = let m = n.within in inr (record { at = n.at; after = omega arith; within = omega arith; is = w.same n.at n.within ∙ n.is })
-
-    by_place : (n.at ≡ i) ⊎ ((n.at < i) ⊎ (i < n.at)) → (get_or new q false ≡ true) ⊎ IsNoted (i + 1) after q
-    by_place (inl same) =
-        let q_is_p : q ≡ p = sym n.is ∙ ap (λ k. get_or before k 0) same ∙ sym is in
-        absurd (let none = w.gone c (below ∙ ap Some q_is_p) y in omega arith)
-    by_place (inr (inl less)) = absurd (let a = n.after in omega arith)
-    by_place (inr (inr g)) = later g
-
-  by_closed : (k : ℕ) → k < length after → (k < length before) ⊎ (length before ≤ k) → get_or new (get_or after k 0) false ≡ false
-  by_closed k m (inl b) = ap (λ n. get_or new n false) (w.same k b) ∙ false_from_ne_true (get_or new (get_or before k 0) false)
-      (λ y. both_ways (get_or old (get_or before k 0) false) (so_far.closed k b) (w.kept (get_or before k 0) y))
-  by_closed k m (inr g) = w.closed k g m
-
-  by_within : (k : ℕ) → k < length after → (k < length before) ⊎ (length before ≤ k) → get_or after k 0 < length h
-  by_within k m (inl b) = rw (w.same k b) (so_far.within k b)
-  by_within k m (inr g) = w.within k g m
+  by_pending c q under y (inl was) = ⊎_elim (λ stays. inl stays) (λ gone. let n = w.noted q was gone in let a = n.after in
+      inr (record { at = n.at; after = omega arith; within = n.within; is = n.is })) (cases_Bool (get_or new q false))
+  by_pending c q under y (inr n) = let m = n.within in let a = n.after in let long = w.longer in ⊎_elim
+      (λ same. absurd (let none = w.gone c (under ∙ ap Some (sym n.is ∙ ap (λ k. get_or before k 0) same ∙ sym is)) y in omega arith))
+      (λ apart. inr (record { at = n.at; after = omega arith; within = omega arith; is = w.same n.at n.within ∙ n.is })) (cases_eq n.at i)
 
 -- a mark that is left, where the pass is over, is of a node that stays open
 stays_up : {h : List Event} {e : Event} {i : ℕ} (marks : List Bool) (todo : List ℕ) → length todo ≤ i → IsPassing h e i marks todo
@@ -256,12 +174,9 @@ stays_up marks todo over w zero n l y = absurd (omega arith)
 stays_up {h} {e} {i} marks todo over w (suc bound) n l y = by_parent (parent h n) refl (λ p m z. stays_up marks todo over w bound p m z) where
   by_parent : (o : Option ℕ) → parent h n ≡ o → ((p : ℕ) → p < bound → get_or marks p false ≡ true → stays_open h e p ≡ true) → stays_open h e n ≡ true
   by_parent None top before = top_open h e n top (w.unshut n y) ∙ w.kept n y
-  by_parent (Some p) below before = by_pending (w.pending n p below y) where
-    by_pending : (get_or marks p false ≡ true) ⊎ IsNoted i todo p → stays_open h e n ≡ true
-    by_pending (inl open_above) =
-        let m = parent-lt h n p below in
-        below_open h e n p below (before p (omega arith) open_above) (w.unshut n y) ∙ w.kept n y
-    by_pending (inr noted) = absurd (let a = noted.after in let b = noted.within in omega arith)
+  by_parent (Some p) below before = let m = parent-lt h n p below in ⊎_elim
+      (λ open_above. below_open h e n p below (before p (omega arith) open_above) (w.unshut n y) ∙ w.kept n y)
+      (λ noted. absurd (let a = noted.after in let b = noted.within in omega arith)) (w.pending n p below y)
 
 pub passing_ends : (h : List Event) (e : Event) (i : ℕ) (marks : List Bool) (todo : List ℕ) → length todo ≤ i → IsPassing h e i marks todo
     → IsMarked marks (stays_open h e)
@@ -269,37 +184,22 @@ passing_ends h e i marks todo over w n = search (rules, cases_Bool, get_or, stay
 
 -- what an event takes away itself -----------------------------------------------------------------
 
-any_at : (p : Event → Bool) (h : List Event) (i : ℕ) (e : Event) → slice_get h i ≡ Some e → p e ≡ true → list_any p h ≡ true
-any_at p [] i e at_i y = absurd (none-some e at_i)
-any_at p (x ∷ h) zero e at_i y = rw (same_Some x e at_i, y) refl
-any_at p (x ∷ h) (suc i) e at_i y = rw (any_at p h i e at_i y) (or_true (p x))
-
-at_drop : (h : List Event) (n i : ℕ) → slice_get (drop n h) i ≡ slice_get h (n + i)
-at_drop h zero i = let same : 0 + i ≡ i = omega arith in ap (slice_get h) (sym same)
-at_drop [] (suc n) i = refl
-at_drop (x ∷ h) (suc n) i = search (rules, slice_get, at_drop h n i)
-
 shut_after : (h : List Event) (n c : ℕ) (e : Event) → n < c → slice_get h c ≡ Some e → shuts h n e ≡ true → is_shut h n ≡ true
 unfolding is_shut
-shut_after h n c e l at_c y =
-    let place : suc n + (c - suc n) ≡ c = omega arith in
-    any_at (shuts h n) (drop (suc n) h) (c - suc n) e (at_drop h (suc n) (c - suc n) ∙ ap (slice_get h) place ∙ at_c) y
+shut_after h n c e l at_c y = any_after (shuts h n) (suc n) c h e (omega arith) at_c y
+
+inner_event : (e : Event) (f : ℕ) → inner_named e ≡ Some f → (kind : Kind) × (e ≡ Open (Inner f) kind)
+inner_event x0 f named = search (rules, none-some, same_Some)
+
+and_not : (a b : Bool) → ((a && false) && b) ≡ false
+and_not a b = grind arith
 
 -- an older inner of a Switch is closed
 pub older_closed : (h : List Event) (f n c : ℕ) → n < c → inner_named_at h c ≡ Some f → is_switched_inner h f n ≡ true → is_open h n ≡ false
-older_closed h f n c l inner shut = by_event (slice_get h c) refl inner where
-  by_event : (o : Option Event) → slice_get h c ≡ o → option_and_then inner_named o ≡ Some f → is_open h n ≡ false
-  by_event None at_c named = absurd (none-some f named)
-  by_event (Some (Open (Inner g) kind)) at_c named =
-      let gone = shut_after h n c (Open (Inner g) kind) l at_c (ap (λ k. is_switched_inner h k n) (same_Some g f named) ∙ shut) in
-      is_open_step h n ∙ rw gone (and_not (at makes_node h n))
-    where
-      and_not : (b : Bool) → ((b && false) && option_map_or (is_open h) (parent h n) true) ≡ false
-      and_not b = grind arith
-  by_event (Some (Open Root kind)) at_c named = absurd (none-some f named)
-  by_event (Some (Open (Source g) kind)) at_c named = absurd (none-some f named)
-  by_event (Some (Open (Notifier g) kind)) at_c named = absurd (none-some f named)
-  by_event (Some _) at_c named = absurd (none-some f named)
+older_closed h f n c l inner shut = option_and_then_some inner_named (slice_get h c) f inner (λ x at_c named.
+    let made = inner_event x f named in
+    let gone = shut_after h n c (Open (Inner f) made.0) l (at_c ∙ ap Some made.1) shut in
+    is_open_step h n ∙ rw gone (and_not (at makes_node h n) (option_map_or (is_open h) (parent h n) true)))
 
 inner_at : (h : List Event) (f n : ℕ) → at (is_inner_of f) h n ≡ true → inner_named_at h n ≡ Some f
 inner_at h f n y = search (rules, slice_get, option_map_or, option_and_then, false≢true, eqb-true)
@@ -310,27 +210,17 @@ inner_of_named h f n y = search (rules, slice_get, option_and_then, option_map_o
 -- no inner of it, or a youngest one that is closed or no younger than it
 pub inner_none : (h : List Event) (f v : ℕ) → v ≡ last_below (keyed (inner_named_at h) f) (length h)
     → (0 < v → f < v - 1 → is_open h (v - 1) ≡ false) → ShutsNone h (λ n. is_switched_inner h f n)
-inner_none h f v is shut n o = false_from_ne_true (is_switched_inner h f n) refute where
-  refute : is_switched_inner h f n ≡ true → ⊥
-  refute s =
-      let parts = and_parts (nat_lt f n && at is_switch h f) (at (is_inner_of f) h n) s in
-      let first = and_parts (nat_lt f n) (at is_switch h f) parts.0 in
-      let below : f < n = ltb-true f n first.0 in
-      let named : inner_named_at h n ≡ Some f = inner_at h f n parts.1 in
-      let inside : n < length h = is_open_within h n o in
-      by_order below inside named (cases_order n v) (cases_order n (v - 1))
-    where
-      by_order : f < n → n < length h → inner_named_at h n ≡ Some f → (n ≡ v) ⊎ ((n < v) ⊎ (v < n)) → (n ≡ v - 1) ⊎ ((n < v - 1) ⊎ (v - 1 < n)) → ⊥
-      by_order below inside named (inr (inr g)) q = both_ways (keyed (inner_named_at h) f n)
-          (last_none (keyed (inner_named_at h) f) (length h) n (omega arith) inside) (key_is (inner_named_at h n) f named)
-      by_order below inside named (inl e) q = both_ways (keyed (inner_named_at h) f n)
-          (last_none (keyed (inner_named_at h) f) (length h) n (omega arith) inside) (key_is (inner_named_at h n) f named)
-      by_order below inside named (inr (inl l)) (inl e) = both_ways (is_open h n) (ap (is_open h) e ∙ shut (omega arith) (omega arith)) o
-      by_order below inside named (inr (inl l)) (inr (inl m)) =
-          let last : last_below (keyed (inner_named_at h) f) (length h) ≡ suc (v - 1) = omega arith in
-          let named_last = is_key_of (inner_named_at h (v - 1)) f (last_holds (keyed (inner_named_at h) f) (length h) (v - 1) last) in
-          both_ways (is_open h n) (older_closed h f n (v - 1) m named_last s) o
-      by_order below inside named (inr (inl l)) (inr (inr g)) = absurd (omega arith)
+inner_none h f v is shut n o = false_from_ne_true (is_switched_inner h f n) (λ s.
+    let parts = and_parts (nat_lt f n && at is_switch h f) (at (is_inner_of f) h n) s in
+    let below : f < n = ltb-true f n (and_parts (nat_lt f n) (at is_switch h f) parts.0).0 in
+    let inside : n < length h = is_open_within h n o in
+    ⊎_elim
+    (λ l. let last : last_below (keyed (inner_named_at h) f) (length h) ≡ suc (v - 1) = omega arith in
+    ⊎_elim (λ e. both_ways (is_open h n) (ap (is_open h) e ∙ shut (omega arith) (omega arith)) o)
+    (λ apart. both_ways (is_open h n) (older_closed h f n (v - 1) (omega arith)
+    (is_key_of (inner_named_at h (v - 1)) f (last_holds (keyed (inner_named_at h) f) (length h) (v - 1) last)) s) o) (cases_eq n (v - 1)))
+    (λ l. both_ways (keyed (inner_named_at h) f n) (last_none (keyed (inner_named_at h) f) (length h) n (omega arith) inside)
+    (key_is (inner_named_at h n) f (inner_at h f n parts.1))) (cases_lt n v))
 
 -- or an open one, which is the only one
 pub inner_alone : (h : List Event) (f v : ℕ) → at is_switch h f ≡ true → v ≡ last_below (keyed (inner_named_at h) f) (length h)
@@ -343,18 +233,11 @@ inner_alone h f v switch is some below here =
       open_before = here;
       shut = and_from (nat_lt f (v - 1) && at is_switch h f) (at (is_inner_of f) h (v - 1))
           (and_from (nat_lt f (v - 1)) (at is_switch h f) (lt-ltb f (v - 1) below) switch) (inner_of_named h f (v - 1) named);
-      alone = λ n o s. by_order n o s named (cases_order n (v - 1));
+      alone = λ n o s. ⊎_elim (λ e. e) (⊎_elim (λ l. absurd (both_ways (is_open h n) (older_closed h f n (v - 1) l named s) o))
+          (λ g. absurd (both_ways (keyed (inner_named_at h) f n) (last_none (keyed (inner_named_at h) f) (length h) n (omega arith) (is_open_within h n o))
+          (key_is (inner_named_at h n) f (inner_at h f n (and_parts (nat_lt f n && at is_switch h f) (at (is_inner_of f) h n) s).1)))))
+          (cases_order n (v - 1));
     }
-  where
-    by_order : (n : ℕ) → is_open h n ≡ true → is_switched_inner h f n ≡ true → inner_named_at h (v - 1) ≡ Some f
-        → (n ≡ v - 1) ⊎ ((n < v - 1) ⊎ (v - 1 < n)) → n ≡ v - 1
-    by_order n o s named (inl e) = e
-    by_order n o s named (inr (inl l)) = absurd (both_ways (is_open h n) (older_closed h f n (v - 1) l named s) o)
-    by_order n o s named (inr (inr g)) =
-        let inner = inner_at h f n (and_parts (nat_lt f n && at is_switch h f) (at (is_inner_of f) h n) s).1 in
-        let inside : n < length h = is_open_within h n o in
-        absurd (both_ways (keyed (inner_named_at h) f n) (last_none (keyed (inner_named_at h) f) (length h) n (omega arith) inside)
-        (key_is (inner_named_at h n) f inner))
 
 -- where nothing open is shut, all stays as it was
 pub all_stays : (h : List Event) (e : Event) (marks : List Bool) → IsMarked marks (is_open h) → ShutsNone h (λ n. shuts h n e) → IsMarked marks (stays_open h e)

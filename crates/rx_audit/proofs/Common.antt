@@ -11,10 +11,10 @@ pub use Rattle.rx_event.proofs.Laws.Common.{is_inner_of, makes_node, is_switched
 pub use Rattle.rx_event.proofs.Laws.Common.{IsForced, Stop, is_firing_of, is_projection_to, filter, parent_named, if_less, is_merging, IsHubbed, list_all}
 pub use Rattle.rx_event.proofs.Laws.Common.{ancestors, and_true}
 unfoldable pub use Rattle.rx_event.proofs.Laws.Common.{parent, leases_of, open_children, climb, visits, most_visits}
-pub use Rattle.std.proofs.Common.{get_or, set, get_or-set_other, get_or-set_same, ◌↔◌, nat_le, replicate, add-zero, take-append-drop}
+pub use Rattle.std.proofs.Common.{get_or, set, get_or-set_other, get_or-set_same, ◌↔◌, nat_le, replicate, add-zero, take-append-drop, ⊎_elim}
 pub use Rattle.std.proofs.Math.ListN.{length-set}
 pub use Rattle.std.proofs.Math.Nat.{mul-le-mul_left}
-pub use Rattle.std.proofs.lemmas.Bool.{not_from_false, or_left, le-leb, leb-true}
+pub use Rattle.std.proofs.lemmas.Bool.{not_from_false, or_left, le-leb, leb-true, cases_eq}
 pub use Rattle.std.proofs.lemmas.List.{get_or_read, length-replicate}
 pub use Rattle.std.proofs.lemmas.List.FromFn.{length-range_with_len}
 pub use Rattle.std.proofs.lemmas.List.Sums.{sum_by_more, sum_by-append}

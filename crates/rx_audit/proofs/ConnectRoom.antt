@@ -1,11 +1,11 @@
 -- Which openings force a connection, for which there has to be room.
-use Rattle.rx_audit.proofs.Common.{◌≡◌, ℕ, ◌+◌, ◌<◌, ◌≤◌, true, false, List, [], ◌∷◌, ◌++◌, length, Some, refl, sym, ap, ◌∙◌, arith, inl, inr, ◌⊎◌, slice_get}
-use Rattle.rx_audit.proofs.Common.{nat_le, length-append, not, ◌&&◌, ◌||◌, list_any, option_map_or, cases_Bool, both_ways, false≢true, and_parts, and_from}
-use Rattle.rx_audit.proofs.Common.{eq-eqb, le-leb, leb-true, slice_get_within, nothing_kept, Place, Root, Source, Inner, Notifier, Kind, Leaf, Pass, Flat}
-use Rattle.rx_audit.proofs.Common.{Switch, Sub, Event, Open, Connect, is_auto_hub, is_connect_of, is_subscriber_of, at, places, is_open, open_nodes}
+use Rattle.rx_audit.proofs.Common.{◌≡◌, ℕ, ◌+◌, ◌<◌, ◌≤◌, true, false, List, [], ◌∷◌, ◌++◌, length, Some, refl, sym, ap, ◌∙◌, arith, ◌⊎◌, slice_get}
+use Rattle.rx_audit.proofs.Common.{nat_le, length-append, not, ◌&&◌, list_any, option_map_or, cases_Bool, both_ways, false≢true, and_parts, and_from}
+use Rattle.rx_audit.proofs.Common.{eq-eqb, le-leb, leb-true, slice_get_within, nothing_kept, Place, Root, Source, Inner, Notifier, Kind, Leaf}
+use Rattle.rx_audit.proofs.Common.{Sub, Event, Open, Connect, is_auto_hub, is_connect_of, is_subscriber_of, at, places, is_open, open_nodes}
 use Rattle.rx_audit.proofs.Common.{IsConnectDue, IsSettled, IsFree, IsLawful, slice_get_last, at-append, at_within, is_open_within, open_old, leaves_room}
 use Rattle.rx_audit.proofs.Common.{open_allowed, has_key, open_connected, or_left, or_right, or_cases, not-true, not_from_false, false_from_ne_true}
-use Rattle.rx_event.specs.declared.event.Kind.TheVariants.{Until}
+use Rattle.rx_audit.proofs.Common.{⊎_elim}
 use Rattle.rx_event.specs.Tree.{open_connections}
 use Rattle.rx_event.proofs.Laws.Lists.{filter_nonempty}
 use Rattle.rx_event.proofs.Laws.Openness.{is_open_cut, is_open_last, is_open_made, is_cut_none, is_cut_inner}
@@ -46,16 +46,8 @@ connect_needs h place (Sub k) law settled g d =
     let none : has_key (open_connected h) h k ≡ false =
     none_before h place (Sub k) k (ap (open_connections (h ++ Open place (Sub k) ∷ [])) (sym same) ∙ d.unconnected) in
     rw (auto, none) refl
-connect_needs h place Leaf law settled g d =
-    absurd (kept_unsubscribed nothing_kept h (Open place Leaf) law (settled_connected nothing_kept h settled) refl refl g d)
-connect_needs h place Pass law settled g d =
-    absurd (kept_unsubscribed nothing_kept h (Open place Pass) law (settled_connected nothing_kept h settled) refl refl g d)
-connect_needs h place Flat law settled g d =
-    absurd (kept_unsubscribed nothing_kept h (Open place Flat) law (settled_connected nothing_kept h settled) refl refl g d)
-connect_needs h place Switch law settled g d =
-    absurd (kept_unsubscribed nothing_kept h (Open place Switch) law (settled_connected nothing_kept h settled) refl refl g d)
-connect_needs h place Until law settled g d =
-    absurd (kept_unsubscribed nothing_kept h (Open place Until) law (settled_connected nothing_kept h settled) refl refl g d)
+connect_needs h place kind law settled g d =
+    absurd (kept_unsubscribed nothing_kept h (Open place kind) law (settled_connected nothing_kept h settled) refl refl g d)
 
 -- what is opened at a free place is open
 opened_at : (h : List Event) (place : Place) (kind : Kind) → IsFree nothing_kept h place → is_open (h ++ Open place kind ∷ []) (length h) ≡ true
@@ -104,19 +96,15 @@ needs_due h place _ free needs = absurd (false≢true needs)
 pub room_fits : (h : List Event) (place : Place) (kind : Kind) → IsLawful nothing_kept h → IsSettled nothing_kept h → leaves_room h (Open place kind) ≡ true
     → (g : ℕ) → IsConnectDue (h ++ Open place kind ∷ []) g → length (open_nodes h) + 2 ≤ 1048576
 unfolding leaves_room
-room_fits h place kind law settled y g d = by_case (or_cases (nat_le (length (open_nodes h)) 1048574) (not (needs_connection h (Open place kind))) y) where
-  by_case : (nat_le (length (open_nodes h)) 1048574 ≡ true) ⊎ (not (needs_connection h (Open place kind)) ≡ true) → length (open_nodes h) + 2 ≤ 1048576
-  by_case (inl few) = let l = leb-true (length (open_nodes h)) 1048574 few in omega arith
-  by_case (inr none) = absurd (both_ways _ (not-true (needs_connection h (Open place kind)) none) (connect_needs h place kind law settled g d))
+room_fits h place kind law settled y g d = ⊎_elim (λ few. let l = leb-true (length (open_nodes h)) 1048574 few in omega arith)
+    (λ none. absurd (both_ways _ (not-true (needs_connection h (Open place kind)) none) (connect_needs h place kind law settled g d)))
+    (or_cases (nat_le (length (open_nodes h)) 1048574) (not (needs_connection h (Open place kind))) y)
 
 pub fits_room : (h : List Event) (place : Place) (kind : Kind) → IsLawful nothing_kept h → IsSettled nothing_kept h → open_allowed h place kind ≡ true
     → ((g : ℕ) → IsConnectDue (h ++ Open place kind ∷ []) g → length (open_nodes h) + 2 ≤ 1048576) → leaves_room h (Open place kind) ≡ true
 unfolding leaves_room
-fits_room h place kind law settled may fits = by_need (cases_Bool (needs_connection h (Open place kind))) where
-  by_need : (needs_connection h (Open place kind) ≡ true) ⊎ (needs_connection h (Open place kind) ≡ false)
-      → (nat_le (length (open_nodes h)) 1048574 || not (needs_connection h (Open place kind))) ≡ true
-  by_need (inr none) = or_right (nat_le (length (open_nodes h)) 1048574) (not (needs_connection h (Open place kind))) (not_from_false _ none)
-  by_need (inl needs) =
-      let d = needs_due h place kind (open_free h place kind may) needs in
-      let l = fits d.0 d.1 in
-      or_left (nat_le (length (open_nodes h)) 1048574) (not (needs_connection h (Open place kind))) (le-leb (length (open_nodes h)) 1048574 (omega arith))
+fits_room h place kind law settled may fits = ⊎_elim
+    (λ needs. let d = needs_due h place kind (open_free h place kind may) needs in let l = fits d.0 d.1 in
+    or_left (nat_le (length (open_nodes h)) 1048574) (not (needs_connection h (Open place kind))) (le-leb (length (open_nodes h)) 1048574 (omega arith)))
+    (λ none. or_right (nat_le (length (open_nodes h)) 1048574) (not (needs_connection h (Open place kind))) (not_from_false _ none))
+    (cases_Bool (needs_connection h (Open place kind)))

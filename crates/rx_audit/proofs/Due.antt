@@ -14,8 +14,11 @@ use Rattle.std.proofs.Common.{rules}
 
 -- connections ------------------------------------------------------------------------------------------
 
-waiting_is : (h : List Event) (s g : ℕ) → open_waiting h s ≡ Some g → (is_cut h s ≡ false) × (is_open h s ≡ true) × (hub_subscribed_at h s ≡ Some g)
+pub waiting_is : (h : List Event) (s g : ℕ) → open_waiting h s ≡ Some g → (is_cut h s ≡ false) × (is_open h s ≡ true) × (hub_subscribed_at h s ≡ Some g)
 waiting_is h s g e = search (rules, cond, none-some)
+
+pub connected_is : (h : List Event) (k g : ℕ) → open_connected h k ≡ Some g → (is_open h k ≡ true) × (hub_connected_at h k ≡ Some g)
+connected_is h k g e = search (rules, cond, none-some)
 
 is_waiting : (h : List Event) (s g : ℕ) → is_cut h s ≡ false → is_open h s ≡ true → hub_subscribed_at h s ≡ Some g → open_waiting h s ≡ Some g
 is_waiting h s g c o e = rw (c, o) e
@@ -102,7 +105,5 @@ unfolding close_due
 close_due_of h c (left {g = g} o at_c a none) =
     search (rules, and_from, option_map_or, at_connection, is_left_of)
 
--- forced -------------------------------------------------------------------------------------------------
-
-unconnected : (h : List Event) → ((g : ℕ) → ¬ IsConnectDue h g) → not (any_connect_due h) ≡ true
+pub unconnected : (h : List Event) → ((g : ℕ) → ¬ IsConnectDue h g) → not (any_connect_due h) ≡ true
 unconnected h none = not_from_false (any_connect_due h) (false_from_ne_true (any_connect_due h) (λ e. let w = some_connect_due h e in none w.0 w.1))

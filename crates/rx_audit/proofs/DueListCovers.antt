@@ -1,11 +1,11 @@
 -- The list of the nodes that may have to end.
-use Rattle.rx_audit.proofs.Common.{◌≡◌, ℕ, ◌<◌, Bool, true, false, List, [], ◌∷◌, ◌++◌, length, take, Option, Some, None, refl, sym, ap, ◌∙◌, arith, inl, inr}
-use Rattle.rx_audit.proofs.Common.{◌⊎◌, slice_get, length-append, cond, nat_lt, ◌+◌, ◌||◌, cases_order, both_ways, false≢true, and_parts, lt-ltb, none-some}
-use Rattle.rx_audit.proofs.Common.{same_Some, list_any, count_by, option_map, option_map_or, is_some, nothing_kept, Terminal, Event, End, Marks, sum_by-cons}
+use Rattle.rx_audit.proofs.Common.{◌≡◌, ℕ, ◌<◌, true, false, List, [], ◌∷◌, ◌++◌, length, take, Option, Some, None, refl, sym, ap, ◌∙◌, arith}
+use Rattle.rx_audit.proofs.Common.{◌⊎◌, slice_get, length-append, nat_lt, ◌+◌, cases_order, both_ways, false≢true, and_parts, none-some}
+use Rattle.rx_audit.proofs.Common.{same_Some, option_map, option_map_or, is_some, nothing_kept, Terminal, Event, End, Marks}
 use Rattle.rx_audit.proofs.Common.{is_open, has_open_child, open_children, marks_of, terminal_due, due_at, IsLawful, MayFollow}
 use Rattle.rx_audit.proofs.Common.{is_open_within, open_old, slice_get-append, slice_get_last, event_at, IsNoted, IsUntouched, touched_by, due_made, node_due}
-use Rattle.rx_audit.proofs.Common.{IsCovered, and_false}
-use Rattle.std.proofs.Common.{zero-add}
+use Rattle.rx_audit.proofs.Common.{IsCovered, and_false, ⊎_elim, cases_eq}
+use Rattle.rx_audit.proofs.FoundAfterEvent.{any_counted}
 use Rattle.rx_event.proofs.Laws.MarksTouched.{quiet_new}
 use Rattle.rx_audit.proofs.ClosingBelow.{noted_more, noted_last}
 use Rattle.rx_audit.proofs.Marking.{marks_apart}
@@ -46,30 +46,19 @@ noted_none xs n k zero_of w = let l = w.within in let none : length (take k xs) 
 -- what is due after the event was due before, or is touched
 due_before : (h : List Event) (e : Event) → IsLawful nothing_kept h → MayFollow nothing_kept h e → IsUntouched h e → (n : ℕ) → (touched_by h e ≡ Some n → ⊥)
     → node_due (h ++ e ∷ []) n ≡ true → node_due h n ≡ true
-due_before h e law next no_item n differs y = by_place (cases_order n (length h)) where
-  parts : (is_open (h ++ e ∷ []) n ≡ true) × (option_map_or (due_made (h ++ e ∷ []) n) (slice_get (h ++ e ∷ []) n) false ≡ true)
-  parts = due_parts (h ++ e ∷ []) n y
-
-  at_last : n ≡ length h → node_due h n ≡ true
-  at_last same =
-      let here : is_open (h ++ e ∷ []) (length h) ≡ true = ap (is_open (h ++ e ∷ [])) (sym same) ∙ parts.0 in
-      let quiet = quiet_is e (marks_of nothing_kept (h ++ e ∷ []) (length h)) (length h) (quiet_new nothing_kept h e law next) in
-      let due : due_made (h ++ e ∷ []) (length h) e ≡ true =
-      sym (due_made_at (h ++ e ∷ []) (length h) e here (slice_get_last h e)) ∙ ap (node_due (h ++ e ∷ [])) (sym same) ∙ y in
-      absurd (both_ways _ quiet due)
-
-  before : n < length h → node_due h n ≡ true
-  before l =
-      let o : is_open h n ≡ true = open_old h e n l parts.0 in
-      let made = event_at h n l in
-      let same = marks_apart e law next no_item n l parts.0 differs in
-      due_made_at h n made.0 o made.1 ∙ ap (λ m. is_some (terminal_due made.0 m)) (sym same)
-      ∙ sym (due_made_at (h ++ e ∷ []) n made.0 parts.0 (slice_get-append h (e ∷ []) n l ∙ made.1)) ∙ y
-
-  by_place : (n ≡ length h) ⊎ ((n < length h) ⊎ (length h < n)) → node_due h n ≡ true
-  by_place (inl same) = at_last same
-  by_place (inr (inl l)) = before l
-  by_place (inr (inr g)) = absurd (let l = is_open_within (h ++ e ∷ []) n parts.0 in omega (arith, length-append h (e ∷ [])))
+due_before h e law next no_item n differs y =
+    let alive = (due_parts (h ++ e ∷ []) n y).0 in
+    let last = is_open_within (h ++ e ∷ []) n alive in
+    let longer = length-append h (e ∷ []) in ⊎_elim
+    (λ same. absurd (both_ways (due_made (h ++ e ∷ []) (length h) e)
+    (quiet_is e (marks_of nothing_kept (h ++ e ∷ []) (length h)) (length h) (quiet_new nothing_kept h e law next))
+    (sym (due_made_at (h ++ e ∷ []) (length h) e (ap (is_open (h ++ e ∷ [])) (sym same) ∙ alive) (slice_get_last h e))
+    ∙ ap (node_due (h ++ e ∷ [])) (sym same) ∙ y)))
+    (λ old. let l : n < length h = omega arith in
+    let made = event_at h n l in
+    due_made_at h n made.0 (open_old h e n l alive) made.1
+    ∙ ap (λ m. is_some (terminal_due made.0 m)) (sym (marks_apart e law next no_item n l alive differs))
+    ∙ sym (due_made_at (h ++ e ∷ []) n made.0 alive (slice_get-append h (e ∷ []) n l ∙ made.1)) ∙ y) (cases_eq n (length h))
 
 pub covered_more : {h : List Event} (e : Event) (due : List ℕ) (p : ℕ) → IsLawful nothing_kept h → MayFollow nothing_kept h e → IsUntouched h e
     → touched_by h e ≡ Some p
@@ -81,14 +70,6 @@ pub covered_same : (h : List Event) (e : Event) (due : List ℕ) → IsLawful no
 covered_same h e due law next no_item none covered n y = covered n (due_before h e law next no_item n (λ at_n. none-some n (sym none ∙ at_n)) y)
 
 -- an open child is counted by the mark ---------------------------------------------------------------
-
-any_counted : {X : Type 0} (p : X → Bool) (xs : List X) → list_any p xs ≡ nat_lt 0 (count_by p xs)
-any_counted p [] = refl
-any_counted {X = X} p (x ∷ xs) = by_test (any_counted p xs) (p x) refl where
-  by_test : list_any p xs ≡ nat_lt 0 (count_by p xs) → (b : Bool) → p x ≡ b → (b || list_any p xs) ≡ nat_lt 0 (count_by p (x ∷ xs))
-  by_test rest true e = sym (lt-ltb 0 (count_by p (x ∷ xs)) (rw (sum_by-cons (λ y. cond {A = ℕ} (p y) 1 0) x xs, e) (omega arith)))
-  by_test rest false e = rest ∙
-      ap (nat_lt 0) (sym (sum_by-cons (λ y. cond {A = ℕ} (p y) 1 0) x xs ∙ ap (λ b. cond {A = ℕ} b 1 0 + count_by p xs) e ∙ zero-add (count_by p xs)))
 
 pub child_marked : (h : List Event) (n : ℕ) (m : Marks) → m ≡ marks_of nothing_kept h n → has_open_child h n ≡ nat_lt 0 m.open_children
 unfolding open_children

@@ -1,13 +1,13 @@
 -- What has to end or to close after one more event is on the list.
-use Rattle.rx_audit.proofs.Common.{◌≡◌, ℕ, zero, suc, ◌+◌, ◌-◌, ◌<◌, ◌≤◌, Bool, true, false, List, [], ◌∷◌, ◌++◌, length, Some, None, refl, sym, ap, ◌∙◌, arith}
-use Rattle.rx_audit.proofs.Common.{inl, inr, ◌⊎◌, get_or, slice_get, ◌&&◌, ◌||◌, option_and_then, option_map_or, cases_order, both_ways, and_parts, eq-eqb}
-use Rattle.rx_audit.proofs.Common.{slice_get_within, same_Some, none-some, Terminal, nothing_kept, Event, Connect, End, Close, is_subscriber_of, is_connect_of}
-use Rattle.rx_audit.proofs.Common.{at, is_open, marks_of, connecting, cut, left, due, IsDue, IsSettled, SourceEnded, IsLawful, MayFollow, is_open_within}
+use Rattle.rx_audit.proofs.Common.{◌≡◌, ℕ, suc, ◌+◌, ◌-◌, ◌<◌, ◌≤◌, true, false, List, [], ◌∷◌, ◌++◌, length, Some, None, refl, sym, ap, ◌∙◌, arith}
+use Rattle.rx_audit.proofs.Common.{inl, inr, ◌⊎◌, get_or, slice_get, option_and_then, option_map_or, cases_order, both_ways, and_parts, eq-eqb}
+use Rattle.rx_audit.proofs.Common.{slice_get_within, same_Some, none-some, nothing_kept, Event, Connect, End, Close, is_subscriber_of, is_connect_of}
+use Rattle.rx_audit.proofs.Common.{at, is_open, marks_of, connecting, cut, left, due, IsDue, IsSettled, IsLawful, MayFollow, is_open_within}
 use Rattle.rx_audit.proofs.Common.{at_within, event_at, subscriber_hub, open_old, last_connection, Hubs, keyed, IsNoted, AreClosed, last_below, node_due}
 use Rattle.rx_audit.proofs.Common.{due_made, IsCovered, AreHubs, Subscribers, on_list, AreLinked, AreOpenListed, IsLostNoted, acts, Keeps, HasAll}
-use Rattle.rx_audit.proofs.Common.{hub_connected_at, is_cut, close_due, any_connect_due, hub_ended, false_from_ne_true}
+use Rattle.rx_audit.proofs.Common.{hub_connected_at, is_cut, close_due, any_connect_due, hub_ended, false_from_ne_true, ⊎_elim}
 use Rattle.rx_event.specs.Forced.{IsConnected}
-use Rattle.rx_event.specs.Claims.Connections.{EndsSource, HowLeft, left_before, subscriber_gone, connected_now}
+use Rattle.rx_event.specs.Claims.Connections.{HowLeft, left_before, subscriber_gone, connected_now}
 use Rattle.rx_event.proofs.Laws.MarksDue.{due_at_forced, settled_by_marks}
 use Rattle.rx_event.proofs.Laws.Connections.{source_ended_or_now, left_or_now}
 use Rattle.rx_audit.proofs.ClosingBelow.{noted_more, noted_last}
@@ -28,24 +28,11 @@ due_close_open (left o at_c a n) = o
 pub cut_after : {h : List Event} (e : Event) (before after : List ℕ)
     → IsLawful nothing_kept h → MayFollow nothing_kept h e → HasCut h before → Keeps before after
     → HasEnded h e after → HasCut (h ++ e ∷ []) after
-cut_after {h} e before after law next so_far keeps ended n alive is = by_reason found.0 (source_ended_or_now nothing_kept h e law next n found.0 found.1) where
-  found : (t : Terminal) × SourceEnded (h ++ e ∷ []) n t
-  found = cut_ended (h ++ e ∷ []) n is
-
-  was_open : (l : n < length h) → is_open h n ≡ true
-  was_open l = open_old h e n l alive
-
-  by_reason : (t : Terminal) → SourceEnded h n t ⊎ EndsSource h e n t → IsNoted 0 after n
-  by_reason t (inl x) =
-      let within = slice_get_within h x.place _ x.ended in
-      let after_it = x.later in
-      keeps n (so_far n (was_open (omega arith)) (is_cut_of h n t x))
-  by_reason t (inr x) =
-      let l : n < length h = subscribed_within x.hub x.subscribes in
-      ended x.hub n (rw x.ends (at_connection h x.connection x.hub x.connects)) x.subscribes (was_open l)
-    where
-      subscribed_within : (g : ℕ) → at (is_subscriber_of g) h n ≡ true → n < length h
-      subscribed_within g y = at_within (is_subscriber_of g) h n y
+cut_after {h} e before after law next so_far keeps ended n alive is = let found = cut_ended (h ++ e ∷ []) n is in ⊎_elim
+    (λ x. let within = slice_get_within h x.place _ x.ended in let after_it = x.later in
+    keeps n (so_far n (open_old h e n (omega arith) alive) (is_cut_of h n found.0 x)))
+    (λ x. ended x.hub n (rw x.ends (at_connection h x.connection x.hub x.connects)) x.subscribes
+    (open_old h e n (at_within (is_subscriber_of x.hub) h n x.subscribes) alive)) (source_ended_or_now nothing_kept h e law next n found.0 found.1)
 
 -- connections that nobody uses any more ---------------------------------------------------------------
 
@@ -122,26 +109,17 @@ acts_unsettled h n whole y settled = by_case (acts_parts h n y) where
   by_case (inr (inl c)) = let ended = cut_ended h n c.1 in settled.none (End n ended.0) (due whole (cut c.0 ended.1))
   by_case (inr (inr l)) = settled.none (Close n) (due whole (close_is_due h n l))
 
-yes_first : (a b c d : Bool) → a ≡ true → (a || (b && c) || d) ≡ true
-yes_first a b c d e = grind arith
-
-yes_second : (a b c d : Bool) → b ≡ true → c ≡ true → (a || (b && c) || d) ≡ true
-yes_second a b c d e e2 = grind arith
-
-yes_third : (a b c d : Bool) → d ≡ true → (a || (b && c) || d) ≡ true
-yes_third a b c d e = grind arith
-
 acts_by_marks : (h : List Event) (n : ℕ) → node_due h n ≡ true → acts h n ≡ true
 unfolding acts
-acts_by_marks h n y = yes_first (node_due h n) (is_open h n) (is_cut h n) (close_due h n) y
+acts_by_marks h n y = grind arith
 
 acts_by_cut : (h : List Event) (n : ℕ) → is_open h n ≡ true → is_cut h n ≡ true → acts h n ≡ true
 unfolding acts
-acts_by_cut h n o y = yes_second (node_due h n) (is_open h n) (is_cut h n) (close_due h n) o y
+acts_by_cut h n o y = grind arith
 
 acts_by_closing : (h : List Event) (n : ℕ) → close_due h n ≡ true → acts h n ≡ true
 unfolding acts
-acts_by_closing h n y = yes_third (node_due h n) (is_open h n) (is_cut h n) (close_due h n) y
+acts_by_closing h n y = grind arith
 
 -- where there is none, it is settled
 pub none_acts_settled : (h : List Event) → IsConnected h → ((n : ℕ) → acts h n ≡ true → ⊥) → IsSettled nothing_kept h
@@ -180,12 +158,6 @@ pub lost_none : (h : List Event) (s : ℕ) (connection list : List ℕ) → lost
 lost_none h s connection list none g c hub word =
     search (rules, none-some, option_and_then, get_or)
 
--- what stands at a place of a list is the same by any default
-pub any_default : (xs : List ℕ) (i d e : ℕ) → i < length xs → get_or xs i d ≡ get_or xs i e
-any_default [] i d e l = absurd (omega arith)
-any_default (x ∷ xs) zero d e l = refl
-any_default (x ∷ xs) (suc i) d e l = any_default xs i d e (omega arith)
-
 -- the list has the connection of the hub of each of the first i that were closed
 abbrev HasLostTo : List Event → List ℕ → List ℕ → ℕ → List ℕ → Type 0
 HasLostTo h closed connection i list = (k : ℕ) → k < i → IsLostNoted h (get_or closed k 0) connection list
@@ -211,22 +183,16 @@ module _ (h : List Event) (size : ℕ) (s : Subscribers) (g : ℕ) (w : AreLinke
       → ((k : ℕ) → next ≡ suc k → on_list h s.listed.items g k ≡ true) → word ≡ get_or s.before.items (next - 1) 0
       → ((k : ℕ) → on_list h s.listed.items g k ≡ true → next ≤ k → IsNoted 0 list k)
       → (k : ℕ) → on_list h s.listed.items g k ≡ true → word ≤ k → IsNoted 0 (list ++ (next - 1) ∷ []) k
-  noted_down {next} word {list} some here is so_far k y l = by_order (cases_order k (next - 1)) where
-    by_order : (k ≡ next - 1) ⊎ ((k < next - 1) ⊎ (next - 1 < k)) → IsNoted 0 (list ++ (next - 1) ∷ []) k
-    by_order (inl same) = rw same (noted_last 0 list (next - 1) (omega arith))
-    by_order (inr (inr above)) = noted_more 0 list (next - 1) k (so_far k y (omega arith))
-    by_order (inr (inl below)) =
-        let down : word ≡ last_below (on_list h s.listed.items g) (next - 1) = is ∙ (w.rows g).down (next - 1) (here (next - 1) (omega arith)) in
-        absurd (both_ways _ (last_none (on_list h s.listed.items g) (next - 1) k (omega arith) below) y)
+  noted_down {next} word {list} some here is so_far k y l = ⊎_elim (λ same. rw same (noted_last 0 list (next - 1) (omega arith))) (⊎_elim
+      (λ below. let down : word ≡ last_below (on_list h s.listed.items g) (next - 1) = is ∙ (w.rows g).down (next - 1) (here (next - 1) (omega arith)) in
+      absurd (both_ways _ (last_none (on_list h s.listed.items g) (next - 1) k (omega arith) below) y))
+      (λ above. noted_more 0 list (next - 1) k (so_far k y (omega arith)))) (cases_order k (next - 1))
 
 -- so each open one of the hub whose connection the event ends
-pub ended_all : (h : List Event) (e : Event) (s : Subscribers) (list : List ℕ) → AreOpenListed h s → ((g : ℕ) → hub_ended h e ≡ Some g
-    → (k : ℕ) → on_list h s.listed.items g k ≡ true → IsNoted 0 list k) → HasEnded h e list
-ended_all h e s list listed all g k hub subscribes alive = all g hub k (rw (subscribes, listed g k subscribes) alive)
 
 pub ended_one : (h : List Event) (e : Event) (s : Subscribers) (g : ℕ) (list : List ℕ) → AreOpenListed h s → hub_ended h e ≡ Some g
     → ((k : ℕ) → on_list h s.listed.items g k ≡ true → IsNoted 0 list k) → HasEnded h e list
-ended_one h e s g list listed hub all = ended_all h e s list listed (λ j named k on. all k (rw (same_Some g j (sym hub ∙ named)) on))
+ended_one h e s g list listed hub all j k named subscribes alive = all k (rw (same_Some g j (sym hub ∙ named), subscribes, listed j k subscribes) alive)
 
 pub ended_none : (h : List Event) (e : Event) (list : List ℕ) → hub_ended h e ≡ None → HasEnded h e list
 ended_none h e list none g s hub subscribes alive = absurd (none-some g (sym none ∙ hub))

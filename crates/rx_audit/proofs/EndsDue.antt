@@ -1,11 +1,11 @@
 -- What operators must do, by marks and by the words of hubs.
-use Rattle.rx_audit.proofs.Common.{◌≡◌, ◌↔◌, ℕ, suc, ◌-◌, ◌<◌, ◌≤◌, Bool, true, false, List, length, Option, Some, None, refl, sym, ap, ◌∙◌, arith, inl, inr}
-use Rattle.rx_audit.proofs.Common.{◌⊎◌, IsTrue, get_or, slice_get, not, ◌||◌, cases_Bool, cases_order, both_ways, false≢true, and_parts, ltb-true}
+use Rattle.rx_audit.proofs.Common.{◌≡◌, ◌↔◌, ℕ, suc, ◌-◌, ◌<◌, ◌≤◌, Bool, true, false, List, length, Option, Some, None, refl, sym, ap, ◌∙◌, arith}
+use Rattle.rx_audit.proofs.Common.{◌⊎◌, IsTrue, get_or, slice_get, not, cases_Bool, both_ways, false≢true, and_parts, ltb-true}
 use Rattle.rx_audit.proofs.Common.{none-some, same_Some, slice_get_within, option_and_then, option_map, option_map_or, nothing_kept, Terminal, Completed, Event}
 use Rattle.rx_audit.proofs.Common.{Connect, Decline, End, Close, Marks, is_open, marks_of, due_at, same_terminal, connecting, due, cut}
 use Rattle.rx_audit.proofs.Common.{IsDue, IsForced, IsConnectDue, SourceEnded, IsLawful, is_open_within, event_at, subscriber_hub, Hubs, last_below, keyed}
 use Rattle.rx_audit.proofs.Common.{IsUntouched, leaf_of, ends_so, AreHubs, hub_subscribed_at, hub_ended, hub_ended_at, is_cut, any_connect_due, close_due}
-use Rattle.rx_audit.proofs.Common.{connect_due, and_false, and_from, or_left, or_right, or_cases, not-true, not_from_false, false_from_ne_true}
+use Rattle.rx_audit.proofs.Common.{connect_due, and_false, and_from, or_left, or_right, or_cases, not-true, false_from_ne_true, ⊎_elim, cases_lt}
 use Rattle.rx_event.specs.Claims.Connections.{EndsConnection, EndsLast}
 use Rattle.rx_event.proofs.Laws.Lawful.{due_open}
 use Rattle.rx_event.proofs.Laws.Steps.{forced_kind}
@@ -15,9 +15,10 @@ use Rattle.rx_event.proofs.Laws.Connections.{cut_by_last}
 use Rattle.rx_audit.specs.Marking.{forced_end}
 use Rattle.rx_audit.specs.HubTables.{terminal_of_word, ends_last_so, cut_so, ends_now, forced_now}
 use Rattle.rx_audit.proofs.Latest.{last_holds, last_none, key_is, is_key_of}
-use Rattle.rx_audit.proofs.TestsDecideRules.{terminal_is, terminal_self, subscriber_at, connection_at, at_connection, is_cut_of}
-use Rattle.rx_audit.proofs.Due.{connect_is_due, connect_due_of, some_connect_due, any_connect_due_of, no_connect_due, close_is_due, close_due_of}
-use Rattle.rx_audit.proofs.HubWords.{cut_word, uncut}
+use Rattle.rx_audit.proofs.TestsDecideRules.{terminal_is, terminal_self, connection_at, at_connection, at_subscriber, cut_ended, is_cut_of}
+use Rattle.rx_audit.proofs.TestsDecideRules.{subscriber_at}
+use Rattle.rx_audit.proofs.Due.{connect_is_due, connect_due_of, some_connect_due, any_connect_due_of, no_connect_due, close_is_due, close_due_of, unconnected}
+use Rattle.rx_audit.proofs.HubWords.{cut_word}
 use Rattle.std.proofs.Common.{rules}
 
 pub other_untouched : (h : List Event) (e : Event) → leaf_of e ≡ None → IsUntouched h e
@@ -60,14 +61,9 @@ ended_last : (h : List Event) (g place : ℕ) → last_below (keyed (hub_ended_a
 ended_last h g place found =
     by_event (slice_get h place) refl (is_key_of (hub_ended_at h place) g (last_holds (keyed (hub_ended_at h) g) (length h) place found)) where
       last : (i : ℕ) (u : Terminal) → EndsConnection h g i u → i ≤ place
-      last i u x = by_order (cases_order i place) where
-        holds : keyed (hub_ended_at h) g i ≡ true
-        holds = key_is (hub_ended_at h i) g (ap (option_and_then (hub_ended h)) x.ended ∙ at_connection h x.connection g x.connects)
-
-        by_order : (i ≡ place) ⊎ ((i < place) ⊎ (place < i)) → i ≤ place
-        by_order (inl same) = omega arith
-        by_order (inr (inl l)) = omega arith
-        by_order (inr (inr l)) = absurd (both_ways _ (last_none (keyed (hub_ended_at h) g) (length h) i (omega arith) (slice_get_within h i _ x.ended)) holds)
+      last i u x = ⊎_elim (λ l. absurd (both_ways (keyed (hub_ended_at h) g i)
+          (last_none (keyed (hub_ended_at h) g) (length h) i (omega arith) (slice_get_within h i _ x.ended))
+          (key_is (hub_ended_at h i) g (ap (option_and_then (hub_ended h)) x.ended ∙ at_connection h x.connection g x.connects)))) (λ l. l) (cases_lt place i)
 
       by_event : (o : Option Event) → slice_get h place ≡ o → option_and_then (hub_ended h) o ≡ Some g
           → (t : Terminal) × EndsLast h g place t × (terminal_of_word h (suc place) ≡ Some t)
@@ -86,18 +82,15 @@ module _ (h : List Event) (law : IsLawful nothing_kept h) (size : ℕ) (known : 
 
   by_word : (s : ℕ) → is_cut h s ≡ true → (g : ℕ) × (place : ℕ) × (hub_subscribed_at h s ≡ Some g) × (get_or known.ended.items g 0 ≡ suc place) × (s < place)
       × (last_below (keyed (hub_ended_at h) g) (length h) ≡ suc place)
-  by_word s is = by_hub (hub_subscribed_at h s) refl where
-    by_hub : (o : Option ℕ) → hub_subscribed_at h s ≡ o → (g : ℕ) × (place : ℕ)
-        × (hub_subscribed_at h s ≡ Some g) × (get_or known.ended.items g 0 ≡ suc place) × (s < place)
-        × (last_below (keyed (hub_ended_at h) g) (length h) ≡ suc place)
-    by_hub None hub = absurd (both_ways (is_cut h s) (sym (uncut h s hub)) is)
-    by_hub (Some g) hub =
-        let inside : g < length h = subscriber_hub nothing_kept h law g s (subscriber_at h s g hub) in
-        let size_is = w.ended_size in
-        let word : get_or known.ended.items g 0 ≡ last_below (keyed (hub_ended_at h) g) (length h) = w.ended g (omega arith) in
-        let past = ltb-true (suc s) (get_or known.ended.items g 0) (cut_word h s g (get_or known.ended.items g 0) hub word ∙ is) in
-        let some : get_or known.ended.items g 0 ≡ suc (get_or known.ended.items g 0 - 1) = omega arith in
-        (g, get_or known.ended.items g 0 - 1, hub, some, omega arith, sym word ∙ some)
+  by_word s is =
+      let x = (cut_ended h s is).1 in
+      let hub = at_subscriber h s x.hub x.subscribes in
+      let inside : x.hub < length h = subscriber_hub nothing_kept h law x.hub s x.subscribes in
+      let size_is = w.ended_size in
+      let word : get_or known.ended.items x.hub 0 ≡ last_below (keyed (hub_ended_at h) x.hub) (length h) = w.ended x.hub (omega arith) in
+      let past = ltb-true (suc s) (get_or known.ended.items x.hub 0) (cut_word h s x.hub (get_or known.ended.items x.hub 0) hub word ∙ is) in
+      let some : get_or known.ended.items x.hub 0 ≡ suc (get_or known.ended.items x.hub 0 - 1) = omega arith in
+      (x.hub, get_or known.ended.items x.hub 0 - 1, hub, some, omega arith, sym word ∙ some)
 
   last_so : (s g place : ℕ) (t u : Terminal) → hub_subscribed_at h s ≡ Some g
       → get_or known.ended.items g 0 ≡ suc place → terminal_of_word h (suc place) ≡ Some u
@@ -138,17 +131,13 @@ module _ (h : List Event) (law : IsLawful nothing_kept h) (size : ℕ) (known : 
 
   pub ends_due_of : (n : ℕ) (t : Terminal) → IsDue nothing_kept h (End n t) → ends_now h known.ended.items n t ≡ true
   unfolding ends_now
-  ends_due_of n t d = by_cut (cases_Bool (cut_so h known.ended.items n t)) where
-    o : is_open h n ≡ true
-    o = due_open nothing_kept d
-
-    by_cut : (cut_so h known.ended.items n t ≡ true) ⊎ (cut_so h known.ended.items n t ≡ false) → (forced_end h n t || cut_so h known.ended.items n t) ≡ true
-    by_cut (inl c) = or_right (forced_end h n t) (cut_so h known.ended.items n t) c
-    by_cut (inr c) =
-        let made = event_at h n (is_open_within h n o) in
-        or_left (forced_end h n t) (cut_so h known.ended.items n t)
-        (forced_made h n t made.0 o made.1 ∙ ends_due made.0 (marks_of nothing_kept h n) n t
-        (due_by_marks_alone law o made.1 (λ x. both_ways _ c (cut_due_of n t o x)) d))
+  ends_due_of n t d =
+      let o = due_open nothing_kept d in
+      let made = event_at h n (is_open_within h n o) in ⊎_elim
+      (λ c. or_right (forced_end h n t) (cut_so h known.ended.items n t) c)
+      (λ c. or_left (forced_end h n t) (cut_so h known.ended.items n t)
+      (forced_made h n t made.0 o made.1 ∙ ends_due made.0 (marks_of nothing_kept h n) n t
+      (due_by_marks_alone law o made.1 (λ x. both_ways _ c (cut_due_of n t o x)) d))) (cases_Bool (cut_so h known.ended.items n t))
 
   -- as one test of the event
   pub forced_is : (e : Event) → forced_now h known.ended.items e ≡ true → IsForced nothing_kept h e
@@ -161,14 +150,11 @@ module _ (h : List Event) (law : IsLawful nothing_kept h) (size : ℕ) (known : 
       due (no_connect_due h (not-true (any_connect_due h) p.0)) (close_is_due h c p.1)
   forced_is _ y = absurd (false≢true y)
 
-  none_waits : ((g : ℕ) → ¬ IsConnectDue h g) → not (any_connect_due h) ≡ true
-  none_waits none = not_from_false (any_connect_due h) (false_from_ne_true (any_connect_due h) (λ y. let d = some_connect_due h y in none d.0 d.1))
-
   pub forced_of : (e : Event) → IsForced nothing_kept h e → forced_now h known.ended.items e ≡ true
   forced_of (Connect g) (connecting d) = connect_due_of h g d
   forced_of (Connect g) (due n d) = elim d [ ]
-  forced_of (End n t) (due none d) = and_from (not (any_connect_due h)) (ends_now h known.ended.items n t) (none_waits none) (ends_due_of n t d)
-  forced_of (Close c) (due none d) = and_from (not (any_connect_due h)) (close_due h c) (none_waits none) (close_due_of h c d)
+  forced_of (End n t) (due none d) = and_from (not (any_connect_due h)) (ends_now h known.ended.items n t) (unconnected h none) (ends_due_of n t d)
+  forced_of (Close c) (due none d) = and_from (not (any_connect_due h)) (close_due h c) (unconnected h none) (close_due_of h c d)
   forced_of (Decline f) q = absurd (false≢true (forced_kind nothing_kept q))
   forced_of _ f = absurd (false≢true (forced_kind nothing_kept f))
 

@@ -1,8 +1,9 @@
 -- What one event adds to what was found.
-use Rattle.rx_audit.proofs.Common.{◌≡◌, ℕ, zero, suc, ◌+◌, ◌*◌, nat_lt, ◌⊎◌, inl, inr, Bool, true, false, List, [], ◌∷◌, ◌++◌, length, Option, Some, None}
+use Rattle.rx_audit.proofs.Common.{◌≡◌, ℕ, zero, suc, ◌+◌, ◌*◌, nat_lt, ◌⊎◌, Bool, true, false, List, [], ◌∷◌, ◌++◌, length, Option, Some, None}
 use Rattle.rx_audit.proofs.Common.{refl, sym, ap, ◌∙◌, arith, get_or, cond, count_by, replicate, take, drop, ◌||◌, list_any, sum_by, option_and_then}
 use Rattle.rx_audit.proofs.Common.{sum_by-cons, Event, Stop, climb, is_firing_of, is_projection_to, is_open, leases_of, is_open_past, IsMarked, marks_with}
-use Rattle.rx_audit.proofs.Common.{mark_count, is_key, Visit, times, IsOften, IsReached, cases_Bool, lt-ltb, or_false}
+use Rattle.rx_audit.proofs.Common.{mark_count, is_key, Visit, times, IsReached, lt-ltb, or_false, ⊎_elim, cases_lt, ◌<◌, slice_get}
+use Rattle.std.proofs.Common.{zero-add, rules}
 use Rattle.std.proofs.Math.Seq.{take-append_seam}
 use Rattle.std.specs.List.{filter_map, cons_option}
 use Rattle.std.proofs.lemmas.List.Folds.{list_any-append}
@@ -10,7 +11,6 @@ use Rattle.rx_event.specs.Climb.{Delivery, Projection, Firing}
 use Rattle.rx_audit.specs.Tables.{IsTable}
 use Rattle.rx_audit.specs.Rules.{fired_by, projected_by}
 use Rattle.rx_audit.proofs.Keys.{length-marks_with, marks_with_at}
-use Rattle.std.proofs.Common.{rules}
 
 -- firings and projections --------------------------------------------------------------------------
 
@@ -37,38 +37,30 @@ projection_stops s f (n ∷ nodes) =
     search (rules, projection_cons, cond, option_and_then, sum_by-cons, projection_stops s f nodes)
 
 -- visits, counted and listed
-any_count : (q : ℕ → Bool) (xs : List ℕ) → list_any q xs ≡ nat_lt 0 (sum_by (λ n. cond (q n) 1 0) xs)
-any_count q [] = refl
-any_count q (x ∷ xs) = by_first (any_count q xs) (cases_Bool (q x)) where
-  by_first : list_any q xs ≡ nat_lt 0 (sum_by (λ n. cond (q n) 1 0) xs) → (q x ≡ true)
-      ⊎ (q x ≡ false) → (q x || list_any q xs) ≡ nat_lt 0 (sum_by (λ n. cond (q n) 1 0) (x ∷ xs))
-  by_first rest (inl y) = let s : sum_by (λ n. cond (q n) 1 0) (x ∷ xs) ≡ 1 + sum_by (λ n. cond (q n) 1 0) xs =
-      sum_by-cons (λ n. cond (q n) 1 0) x xs ∙ ap (λ b. cond b 1 0 + sum_by (λ n. cond (q n) 1 0) xs) y in
-      ap (λ b. b || list_any q xs) y ∙ sym (ap (nat_lt 0) s ∙ lt-ltb 0 (1 + sum_by (λ n. cond (q n) 1 0) xs) (omega arith))
-  by_first rest (inr z) = let s : sum_by (λ n. cond (q n) 1 0) (x ∷ xs) ≡ 0 + sum_by (λ n. cond (q n) 1 0) xs =
-      sum_by-cons (λ n. cond (q n) 1 0) x xs ∙ ap (λ b. cond b 1 0 + sum_by (λ n. cond (q n) 1 0) xs) z in
-      let t : 0 + sum_by (λ n. cond (q n) 1 0) xs ≡ sum_by (λ n. cond (q n) 1 0) xs = omega arith in
-      ap (λ b. b || list_any q xs) z ∙ rest ∙ sym (ap (nat_lt 0) (s ∙ t))
+positive : (a b : ℕ) → (nat_lt 0 a || nat_lt 0 b) ≡ nat_lt 0 (a + b)
+positive a b = ⊎_elim (λ l. rw (lt-ltb 0 a l, lt-ltb 0 (a + b) (omega arith)) refl)
+    (λ l. let z : a ≡ 0 = omega arith in rw z (ap (nat_lt 0) (sym (zero-add b)))) (cases_lt 0 a)
 
-any_log : (q : ℕ → Bool) (log : List Visit) → IsOften log → list_any (λ v. q v.node) log ≡ nat_lt 0 (sum_by (times (λ n. cond (q n) 1 0)) log)
-any_log q [] often = refl
-any_log q (v ∷ log) often = by_first (any_log q log (λ i u e. often (suc i) u e)) (cases_Bool (q v.node)) where
-  here : sum_by (times (λ n. cond (q n) 1 0)) (v ∷ log) ≡ v.count * cond (q v.node) 1 0 + sum_by (times (λ n. cond (q n) 1 0)) log
-  here = sum_by-cons (times (λ n. cond (q n) 1 0)) v log
+-- a test that is a positive number, of some entry
+any_sum : {X : Type 0} (q : X → Bool) (f : X → ℕ) (xs : List X) → ((i : ℕ) (x : X) → slice_get xs i ≡ Some x → q x ≡ nat_lt 0 (f x))
+    → list_any q xs ≡ nat_lt 0 (sum_by f xs)
+any_sum q f [] same = refl
+any_sum q f (x ∷ xs) same = rw (same 0 x refl, any_sum q f xs (λ i y e. same (suc i) y e), sum_by-cons f x xs) (positive (f x) (sum_by f xs))
 
-  by_first : list_any (λ v. q v.node) log ≡ nat_lt 0 (sum_by (times (λ n. cond (q n) 1 0)) log) → (q v.node ≡ true)
-      ⊎ (q v.node ≡ false) → (q v.node || list_any (λ v. q v.node) log) ≡ nat_lt 0 (sum_by (times (λ n. cond (q n) 1 0)) (v ∷ log))
-  by_first rest (inl y) = let p = often 0 v refl in
-      let s : sum_by (times (λ n. cond (q n) 1 0)) (v ∷ log) ≡ v.count * 1 + sum_by (times (λ n. cond (q n) 1 0)) log =
-      here ∙ ap (λ b. v.count * cond b 1 0 + sum_by (times (λ n. cond (q n) 1 0)) log) y in
-      ap (λ b. b || list_any (λ v. q v.node) log) y ∙ sym (ap (nat_lt 0) s ∙ lt-ltb 0 (v.count * 1 + sum_by (times (λ n. cond (q n) 1 0)) log) (omega arith))
-  by_first rest (inr z) = let s : sum_by (times (λ n. cond (q n) 1 0)) (v ∷ log) ≡ v.count * 0 + sum_by (times (λ n. cond (q n) 1 0)) log =
-      here ∙ ap (λ b. v.count * cond b 1 0 + sum_by (times (λ n. cond (q n) 1 0)) log) z in
-      let t : v.count * 0 + sum_by (times (λ n. cond (q n) 1 0)) log ≡ sum_by (times (λ n. cond (q n) 1 0)) log = omega arith in
-      ap (λ b. b || list_any (λ v. q v.node) log) z ∙ rest ∙ sym (ap (nat_lt 0) (s ∙ t))
+one_test : (b : Bool) → b ≡ nat_lt 0 (cond {A = ℕ} b 1 0)
+one_test x0 = search rules
+
+often_test : (b : Bool) (c : ℕ) → 0 < c → b ≡ nat_lt 0 (c * cond {A = ℕ} b 1 0)
+often_test true c l = sym (lt-ltb 0 (c * 1) (omega arith))
+often_test false c l = let z : c * 0 ≡ 0 = omega arith in rw z refl
+
+pub any_counted : {X : Type 0} (q : X → Bool) (xs : List X) → list_any q xs ≡ nat_lt 0 (count_by q xs)
+any_counted q xs = any_sum q (λ x. cond {A = ℕ} (q x) 1 0) xs (λ i x e. one_test (q x))
 
 pub same_any : (h : List Event) (leaf : ℕ) (log : List Visit) (q : ℕ → Bool) → IsReached h leaf log → list_any (λ v. q v.node) log ≡ list_any q (climb h leaf)
-same_any h leaf log q r = search (rules, any_log, nat_lt, cond, any_count)
+same_any h leaf log q r =
+    any_sum (λ v. q v.node) (times (λ n. cond {A = ℕ} (q n) 1 0)) log (λ i v e. often_test (q v.node) v.count (r.often i v e))
+    ∙ ap (nat_lt 0) (r.sums (λ n. cond {A = ℕ} (q n) 1 0)) ∙ sym (any_counted q (climb h leaf))
 
 cond_times : (b : Bool) (c : ℕ) → cond b c 0 ≡ c * cond b 1 0
 cond_times x0 c = search rules

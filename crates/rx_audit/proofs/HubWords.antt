@@ -1,11 +1,13 @@
 -- What the words of a hub tell: whether it has a connection, subscribers, one that waits, and who of them is cut.
-use Rattle.rx_audit.proofs.Common.{◌≡◌, ℕ, zero, suc, ◌-◌, ◌<◌, ◌≤◌, Bool, true, false, List, [], ◌∷◌, length, Option, Some, None, cond, refl, sym, ap, ◌∙◌}
-use Rattle.rx_audit.proofs.Common.{arith, inl, inr, ◌⊎◌, get_or, slice_get, drop, nat_lt, not, ◌&&◌, ◌||◌, list_any, range_with_len, option_map_or}
-use Rattle.rx_audit.proofs.Common.{option_and_then, cases_Bool, cases_order, both_ways, false≢true, and_parts, lt-ltb, ltb-true, eq-eqb, none-some}
+use Rattle.rx_audit.proofs.Common.{◌≡◌, ℕ, zero, suc, ◌-◌, ◌<◌, ◌≤◌, Bool, true, false, List, length, Some, None, refl, sym, ap, ◌∙◌}
+use Rattle.rx_audit.proofs.Common.{arith, inl, inr, ◌⊎◌, get_or, slice_get, drop, nat_lt, not, ◌&&◌, list_any, range_with_len, option_map_or}
+use Rattle.rx_audit.proofs.Common.{option_and_then, cases_Bool, cases_order, both_ways, false≢true, and_parts, lt-ltb, ltb-true, eq-eqb}
 use Rattle.rx_audit.proofs.Common.{slice_get_within, nothing_kept, Event, is_subscriber_of, is_connect_of, at, is_open, IsLawful, is_open_within}
 use Rattle.rx_audit.proofs.Common.{last_connection, Subscribers, IsMarked, last_below, keyed, on_list, AreLinked, AreOpenListed, is_key, joins}
 use Rattle.rx_audit.proofs.Common.{hub_connected_at, hub_subscribed_at, hub_ended, hub_ended_at, open_connected, open_subscribed, open_waiting, has_key}
-use Rattle.rx_audit.proofs.Common.{ends_source, is_cut, and_false, false_from_ne_true}
+use Rattle.rx_audit.proofs.Common.{ends_source, is_cut, and_false, false_from_ne_true, ⊎_elim, cases_lt, option_and_then_some, list_any-same}
+use Rattle.rx_audit.proofs.SubscriberRows.{on_open}
+use Rattle.rx_audit.proofs.Due.{waiting_is, connected_is}
 use Rattle.rx_audit.proofs.Latest.{last_le, last_holds, last_none, key_is, is_key_of}
 use Rattle.rx_audit.proofs.KeysInRange.{any_found}
 use Rattle.rx_audit.proofs.TestsDecideRules.{find_after, find_number, any_after, subscribed_key, subscriber_at, at_subscriber, connection_at}
@@ -20,23 +22,13 @@ any_last p k = by_word (last_below p k) refl where
 
 -- subscribers ---------------------------------------------------------------------------------------
 
-on_open : (h : List Event) (s : Subscribers) (g k : ℕ) → AreOpenListed h s → on_list h s.listed.items g k ≡ (at (is_subscriber_of g) h k && is_open h k)
-on_open h s g k listed = by_test (at (is_subscriber_of g) h k) refl where
-  by_test : (b : Bool) → at (is_subscriber_of g) h k ≡ b → (b && get_or s.listed.items k false) ≡ (b && is_open h k)
-  by_test true y = listed g k y
-  by_test false z = refl
-
 -- the hub has an open subscriber where its word leads to one
 pub subscribed_word : (h : List Event) (size : ℕ) (s : Subscribers) (g word : ℕ) → AreLinked h size s → AreOpenListed h s → word ≡ get_or s.last.items g 0
     → nat_lt 0 word ≡ has_key (open_subscribed h) h g
 subscribed_word h size s g word w listed is =
     ap (nat_lt 0) (is ∙ (w.rows g).top) ∙ sym (any_last (on_list h s.listed.items g) (length h))
-    ∙ any_same (on_list h s.listed.items g) (λ n. at (is_subscriber_of g) h n && is_open h n) (λ k. on_open h s g k listed) (range_with_len 0 (length h))
+    ∙ list_any-same (on_list h s.listed.items g) (λ n. at (is_subscriber_of g) h n && is_open h n) (λ k. on_open h s g k listed) (range_with_len 0 (length h))
     ∙ sym (subscribed_key h g)
-  where
-    any_same : (p q : ℕ → Bool) → ((k : ℕ) → p k ≡ q k) → (ks : List ℕ) → list_any p ks ≡ list_any q ks
-    any_same p q same [] = refl
-    any_same p q same (k ∷ ks) = (λ i. same k i || any_same p q same ks i)
 
 -- ends of connections -------------------------------------------------------------------------------
 
@@ -44,32 +36,21 @@ subscribed_word h size s g word w listed is =
 pub cut_word : (h : List Event) (s g word : ℕ) → hub_subscribed_at h s ≡ Some g → word ≡ last_below (keyed (hub_ended_at h) g) (length h)
     → nat_lt (suc s) word ≡ is_cut h s
 unfolding is_cut
-cut_word h s g word hub is = by_order (cases_order (suc s) word) where
+cut_word h s g word hub is = by_order (cases_lt (suc s) word) where
   ended_key : (k : ℕ) (e : Event) → slice_get h k ≡ Some e → keyed (hub_ended_at h) g k ≡ ends_source h s e
   ended_key k e at_k = ap (λ o. is_key (option_and_then (hub_ended h) o) g) at_k ∙ sym (ap (λ o. joins o (hub_ended h e)) hub)
 
-  none : word ≤ suc s → nat_lt (suc s) word ≡ list_any (ends_source h s) (drop (suc s) h)
-  none l = false_from_ne_true (nat_lt (suc s) word) (λ y. let m = ltb-true (suc s) word y in omega arith) ∙ sym (false_from_ne_true _ (λ y.
+  by_order : (suc s < word) ⊎ (word ≤ suc s) → nat_lt (suc s) word ≡ list_any (ends_source h s) (drop (suc s) h)
+  by_order (inr l) = false_from_ne_true (nat_lt (suc s) word) (λ y. let m = ltb-true (suc s) word y in omega arith) ∙ sym (false_from_ne_true _ (λ y.
       let f = find_after (ends_source h s) (suc s) h y in
       let after = f.after in
       let within = slice_get_within h f.place f.event f.found in
       both_ways _ (last_none (keyed (hub_ended_at h) g) (length h) f.place (omega arith) within) (ended_key f.place f.event f.found ∙ f.holds)))
-
-  by_order : (suc s ≡ word) ⊎ ((suc s < word) ⊎ (word < suc s)) → nat_lt (suc s) word ≡ list_any (ends_source h s) (drop (suc s) h)
-  by_order (inl same) = none (omega arith)
-  by_order (inr (inr l)) = none (omega arith)
-  by_order (inr (inl l)) =
+  by_order (inl l) =
       let found : last_below (keyed (hub_ended_at h) g) (length h) ≡ suc (word - 1) = omega arith in
       let holds = last_holds (keyed (hub_ended_at h) g) (length h) (word - 1) found in
-      let event = ended_event (word - 1) (is_key_of (hub_ended_at h (word - 1)) g holds) in
-      lt-ltb (suc s) word l ∙ sym (any_after (ends_source h s) (suc s) (word - 1) h event.0
-      (omega arith) event.1 (sym (ended_key (word - 1) event.0 event.1) ∙ holds))
-    where
-      ended_event : (k : ℕ) → hub_ended_at h k ≡ Some g → (e : Event) × (slice_get h k ≡ Some e)
-      ended_event k e = by_event (slice_get h k) refl e where
-        by_event : (o : Option Event) → slice_get h k ≡ o → option_and_then (hub_ended h) o ≡ Some g → (x : Event) × (slice_get h k ≡ Some x)
-        by_event None at_k named = absurd (none-some g named)
-        by_event (Some x) at_k named = (x, at_k)
+      option_and_then_some (hub_ended h) (slice_get h (word - 1)) g (is_key_of (hub_ended_at h (word - 1)) g holds) (λ x at_k b. lt-ltb (suc s) word l
+      ∙ sym (any_after (ends_source h s) (suc s) (word - 1) h x (omega arith) at_k (sym (ended_key (word - 1) x at_k) ∙ holds)))
 
 pub past_word : (s word : ℕ) → (nat_lt 0 word && nat_lt s (word - 1)) ≡ nat_lt (suc s) word
 past_word s word = search (rules, cases_order, nat_lt, lt-ltb, false_from_ne_true, and_parts, ltb-true)
@@ -91,19 +72,8 @@ waited_word {h} s g last ended w listed is_last is_ended = by_word last refl whe
 
   -- what waits is on the list
   waits : (k : ℕ) → is_key (open_waiting h k) g ≡ true → (is_cut h k ≡ false) × (on_list h s.listed.items g k ≡ true) × (hub_subscribed_at h k ≡ Some g)
-  waits k y = by_cut (cases_Bool (is_cut h k)) where
-    by_cut : (is_cut h k ≡ true) ⊎ (is_cut h k ≡ false) → (is_cut h k ≡ false) × (on_list h s.listed.items g k ≡ true) × (hub_subscribed_at h k ≡ Some g)
-    by_cut (inl c) = absurd (false≢true (sym (ap (λ b. is_key (cond b None (open_subscribed h k)) g) c) ∙ y))
-    by_cut (inr c) = by_open (cases_Bool (is_open h k)) where
-      key : is_key (open_subscribed h k) g ≡ true
-      key = sym (ap (λ b. is_key (cond b None (open_subscribed h k)) g) c) ∙ y
-
-      by_open : (is_open h k ≡ true) ⊎ (is_open h k ≡ false) → (is_cut h k ≡ false) × (on_list h s.listed.items g k ≡ true) × (hub_subscribed_at h k ≡ Some g)
-      by_open (inr o) = absurd (false≢true (sym (ap (λ b. is_key (cond b (hub_subscribed_at h k) None) g) o) ∙ key))
-      by_open (inl o) =
-          let hub : hub_subscribed_at h k ≡ Some g =
-          is_key_of (hub_subscribed_at h k) g (sym (ap (λ b. is_key (cond b (hub_subscribed_at h k) None) g) o) ∙ key) in
-          (c, on_open h s g k listed ∙ rw (subscriber_at h k g hub, o) refl, hub)
+  waits k y = let f = waiting_is h k g (is_key_of (open_waiting h k) g y) in
+      (f.0, on_open h s g k listed ∙ rw (subscriber_at h k g f.2, f.1) refl, f.2)
 
   none : (nat_lt 0 last && not (nat_lt last ended)) ≡ false → ((k : ℕ) → is_key (open_waiting h k) g ≡ true → ⊥)
       → (nat_lt 0 last && not (nat_lt last ended)) ≡ has_key (open_waiting h) h g
@@ -116,7 +86,7 @@ waited_word {h} s g last ended w listed is_last is_ended = by_word last refl whe
       let z : last_below (on_list h s.listed.items g) (length h) ≡ 0 = sym top ∙ e in
       let within = is_open_within h k ((and_parts (at (is_subscriber_of g) h k) (is_open h k) (sym (on_open h s g k listed) ∙ m.1)).1) in
       both_ways _ (last_none (on_list h s.listed.items g) (length h) k (omega arith) within) m.1)
-  by_word (suc j) e = by_order (cases_order last ended) where
+  by_word (suc j) e = by_order (cases_lt last ended) where
     here : on_list h s.listed.items g j ≡ true
     here = last_holds (on_list h s.listed.items g) (length h) j (sym top ∙ e)
 
@@ -134,24 +104,15 @@ waited_word {h} s g last ended w listed is_last is_ended = by_word last refl whe
         let key : is_key (open_waiting h j) g ≡ true = rw (whole, parts.1, hub) (eq-eqb g g refl) in
         rw (some, past) (sym (any_found (λ k. is_key (open_waiting h k) g) (length h) j (is_open_within h j parts.1) key))
 
-    by_order : (last ≡ ended) ⊎ ((last < ended) ⊎ (ended < last)) → (nat_lt 0 last && not (nat_lt last ended)) ≡ has_key (open_waiting h) h g
-    by_order (inl same) = over (omega arith)
-    by_order (inr (inr l)) = over (omega arith)
-    by_order (inr (inl l)) = none (rw (lt-ltb last ended l) (and_false (nat_lt 0 last))) (λ k y.
+    by_order : (last < ended) ⊎ (ended ≤ last) → (nat_lt 0 last && not (nat_lt last ended)) ≡ has_key (open_waiting h) h g
+    by_order (inr l) = over l
+    by_order (inl l) = none (rw (lt-ltb last ended l) (and_false (nat_lt 0 last))) (λ k y.
         let m = waits k y in
+        let t = top in
         let within = is_open_within h k ((and_parts (at (is_subscriber_of g) h k) (is_open h k) (sym (on_open h s g k listed) ∙ m.1)).1) in
-        let below : k < last = below_top k within m.1 in
+        let below : k < last = ⊎_elim (λ b. b)
+        (λ o. absurd (both_ways _ (last_none (on_list h s.listed.items g) (length h) k (omega arith) within) m.1)) (cases_lt k last) in
         both_ways (is_cut h k) m.0 (sym (cut_word h k g ended m.2 is_ended) ∙ lt-ltb (suc k) ended (omega arith)))
-      where
-        below_top : (k : ℕ) → k < length h → on_list h s.listed.items g k ≡ true → k < last
-        below_top k within on = by_place (cases_order k last) where
-          none_here : last ≤ k → k < last
-          none_here m = let t = top in absurd (both_ways _ (last_none (on_list h s.listed.items g) (length h) k (omega arith) within) on)
-
-          by_place : (k ≡ last) ⊎ ((k < last) ⊎ (last < k)) → k < last
-          by_place (inl same) = none_here (omega arith)
-          by_place (inr (inl b)) = b
-          by_place (inr (inr b)) = none_here (omega arith)
 
 -- connections -----------------------------------------------------------------------------------------
 
@@ -164,10 +125,7 @@ connected_word h live g word law tied is = by_word word refl where
 
   -- an open connection
   open_one : (k : ℕ) → is_key (open_connected h k) g ≡ true → (is_open h k ≡ true) × (hub_connected_at h k ≡ Some g)
-  open_one k y = by_open (cases_Bool (is_open h k)) where
-    by_open : (is_open h k ≡ true) ⊎ (is_open h k ≡ false) → (is_open h k ≡ true) × (hub_connected_at h k ≡ Some g)
-    by_open (inr o) = absurd (false≢true (sym (ap (λ b. is_key (cond b (hub_connected_at h k) None) g) o) ∙ y))
-    by_open (inl o) = (o, is_key_of (hub_connected_at h k) g (sym (ap (λ b. is_key (cond b (hub_connected_at h k) None) g) o) ∙ y))
+  open_one k y = connected_is h k g (is_key_of (open_connected h k) g y)
 
   none : ((k : ℕ) → is_key (open_connected h k) g ≡ true → ⊥) → has_key (open_connected h) h g ≡ false
   none refute = false_from_ne_true (has_key (open_connected h) h g)
@@ -191,12 +149,6 @@ connected_word h live g word law tied is = by_word word refl where
       by_open (inr o) = o ∙ sym (none (λ k y.
           let m = open_one k y in
           let le = last_connection h law g k j (connects k m.1) m.0 (connects j holds) in
-          both_ways (is_open h k) (same_closed k le m.0 m.1) m.0))
-        where
-          same_closed : (k : ℕ) → j ≤ k → is_open h k ≡ true → hub_connected_at h k ≡ Some g → is_open h k ≡ false
-          same_closed k le alive named = by_place (cases_order j k) where
-            by_place : (j ≡ k) ⊎ ((j < k) ⊎ (k < j)) → is_open h k ≡ false
-            by_place (inl same) = ap (is_open h) (sym same) ∙ o
-            by_place (inr (inr l)) = absurd (omega arith)
-            by_place (inr (inl l)) = absurd (both_ways _ (last_none (keyed (hub_connected_at h) g) (length h) k (omega arith) (is_open_within h k alive))
-                (key_is (hub_connected_at h k) g named))
+          ⊎_elim (λ l. both_ways _ (last_none (keyed (hub_connected_at h) g) (length h) k (omega arith) (is_open_within h k m.0))
+          (key_is (hub_connected_at h k) g m.1)) (λ l. both_ways (is_open h k) (let same : j ≡ k = omega arith in ap (is_open h) (sym same) ∙ o) m.0)
+          (cases_lt j k)))

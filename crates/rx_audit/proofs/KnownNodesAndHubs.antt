@@ -1,8 +1,10 @@
 -- What is kept of the nodes and the hubs: of no events, and with another list of what may be due.
-use Rattle.rx_audit.proofs.Common.{Hubs, HasAll, hub_connected_at, hub_ended_at, nothing_kept, IsLawful, Event, ◌≡◌, ℕ, zero, suc, ◌<◌, ◌≤◌, Bool}
-use Rattle.rx_audit.proofs.Common.{List, [], ◌∷◌, length, Option, Some, refl, sym, ◌∙◌, arith, inl, inr, ◌⊎◌, get_or, slice_get, option_and_then}
+use Rattle.rx_audit.proofs.Common.{Hubs, HasAll, hub_connected_at, hub_ended_at, nothing_kept, IsLawful, Event, ◌≡◌, ℕ, ◌<◌, ◌≤◌, Bool}
+use Rattle.rx_audit.proofs.Common.{List, [], length, Option, Some, sym, ◌∙◌, arith, ◌⊎◌, get_or, slice_get, option_and_then}
 use Rattle.rx_audit.proofs.Common.{both_ways, false≢true, cases_lt, none-some, is_open, is_open_past, Nodes, AreChildren, last_below, keyed, AreLinked}
-use Rattle.rx_audit.proofs.Common.{AreHubs, IsFollowed, IsKnown, false_from_ne_true}
+use Rattle.rx_audit.proofs.Common.{AreHubs, IsFollowed, IsKnown, false_from_ne_true, ⊎_elim}
+use Rattle.std.proofs.lemmas.List.{get_or_past}
+use Rattle.rx_audit.specs.Latest.{IsLatest}
 use Rattle.rx_audit.proofs.KeysInRange.{connected_below}
 use Rattle.rx_audit.proofs.Neighbours.{last_unique}
 use Rattle.rx_audit.proofs.Latest.{is_key_of}
@@ -42,31 +44,21 @@ known_due old new k children subscribers hubs marks covered =
     }
 
 -- the words of the hubs, also of numbers past the lists
-past_list : (xs : List ℕ) (n : ℕ) → length xs ≤ n → ◌≡◌ {A = ℕ} (get_or xs n 0) 0
-past_list [] n l = refl
-past_list (x ∷ xs) zero l = absurd (omega arith)
-past_list (x ∷ xs) (suc n) l = past_list xs n (omega arith)
-
-none_keyed : (h : List Event) (key : ℕ → Option ℕ) (g : ℕ) → ((k : ℕ) → key k ≡ Some g → ⊥) → last_below (keyed key g) (length h) ≡ 0
-none_keyed h key g none = last_unique (keyed key g) (length h) 0 (omega arith)
-    (λ j l m. false_from_ne_true _ (λ y. none j (is_key_of (key j) g y))) (λ j e. absurd (omega arith))
+any_word : (table : List ℕ) (key : ℕ → Option ℕ) (bound g word : ℕ) → IsLatest table key bound → ((k : ℕ) → key k ≡ Some g → g < length table)
+    → word ≡ get_or table g 0 → word ≡ last_below (keyed key g) bound
+any_word table key bound g word tied inside is = is ∙ ⊎_elim (λ l. tied g l)
+    (λ l. get_or_past table g 0 l ∙ sym (last_unique (keyed key g) bound 0 (omega arith)
+    (λ j m n. false_from_ne_true (keyed key g j) (λ y. let i = inside j (is_key_of (key j) g y) in omega arith)) (λ j e. absurd (omega arith))))
+    (cases_lt g (length table))
 
 ended_below : (h : List Event) → IsLawful nothing_kept h → (k g : ℕ) → hub_ended_at h k ≡ Some g → g < length h
 ended_below h law k g named = search (rules, slice_get, option_and_then, length, none-some, connected_below)
 
 module _ (h : List Event) (law : IsLawful nothing_kept h) (size : ℕ) (known : Hubs) (w : AreHubs h size known) (room : length h ≤ size) where
   pub connection_word : (g word : ℕ) → word ≡ get_or known.connection.items g 0 → word ≡ last_below (keyed (hub_connected_at h) g) (length h)
-  connection_word g word is = is ∙ by_place (cases_lt g size) where
-    by_place : (g < size) ⊎ (size ≤ g) → get_or known.connection.items g 0 ≡ last_below (keyed (hub_connected_at h) g) (length h)
-    by_place (inl l) = let s = w.connection_size in w.connection g (omega arith)
-    by_place (inr l) =
-        let s = w.connection_size in
-        past_list known.connection.items g (omega arith) ∙ sym (none_keyed h (hub_connected_at h) g (λ k e. let b = connected_below h law k g e in omega arith))
+  connection_word g word is = any_word known.connection.items (hub_connected_at h) (length h) g word w.connection
+      (λ k e. let s = w.connection_size in let b = connected_below h law k g e in omega arith) is
 
   pub ended_word : (g word : ℕ) → word ≡ get_or known.ended.items g 0 → word ≡ last_below (keyed (hub_ended_at h) g) (length h)
-  ended_word g word is = is ∙ by_place (cases_lt g size) where
-    by_place : (g < size) ⊎ (size ≤ g) → get_or known.ended.items g 0 ≡ last_below (keyed (hub_ended_at h) g) (length h)
-    by_place (inl l) = let s = w.ended_size in w.ended g (omega arith)
-    by_place (inr l) =
-        let s = w.ended_size in
-        past_list known.ended.items g (omega arith) ∙ sym (none_keyed h (hub_ended_at h) g (λ k e. let b = ended_below h law k g e in omega arith))
+  ended_word g word is = any_word known.ended.items (hub_ended_at h) (length h) g word w.ended
+      (λ k e. let s = w.ended_size in let b = ended_below h law k g e in omega arith) is

@@ -1,9 +1,9 @@
 -- The last number with a key.
-use Rattle.rx_audit.proofs.Common.{◌≡◌, ℕ, zero, suc, ◌<◌, ◌≤◌, Bool, true, false, List, Option, Some, None, refl, sym, ap, ◌∙◌, arith, cond, inl, inr, ◌⊎◌}
+use Rattle.rx_audit.proofs.Common.{◌≡◌, ℕ, zero, suc, ◌<◌, ◌≤◌, Bool, true, false, List, Option, Some, None, refl, sym, ap, ◌∙◌, arith, cond, ◌⊎◌}
 use Rattle.rx_audit.proofs.Common.{[], ◌∷◌, ◌++◌, length, get_or, set, get_or-set_other, get_or-set_same, ◌≢◌, length-append, nat_lt, cases_Bool}
 use Rattle.rx_audit.proofs.Common.{cases_order, false≢true, eq-eqb, eqb-true, ne_eqb, ltb-true, none-some, same_Some, is_key, length-set, option_and_then}
 use Rattle.rx_audit.proofs.Common.{Event, parent_named, inner_named, parent, if_less, slice_get-append, slice_get_last, last_below, keyed, inner_named_at}
-use Rattle.rx_audit.proofs.Common.{table_with, link_with, AreChildren, Children}
+use Rattle.rx_audit.proofs.Common.{table_with, link_with, AreChildren, Children, ⊎_elim, cases_eq}
 use Rattle.rx_event.proofs.Laws.Parents.{parent-append}
 use Rattle.rx_audit.specs.Latest.{IsLatest, IsLinked}
 use Rattle.std.proofs.lemmas.List.{set_past}
@@ -15,29 +15,16 @@ last_le p (suc k) = search (rules, cases_Bool, cond, last_le p k)
 
 pub last_holds : (p : ℕ → Bool) (k v : ℕ) → last_below p k ≡ suc v → p v ≡ true
 last_holds p zero v e = absurd (omega arith)
-last_holds p (suc k) v e = by_test (λ f. last_holds p k v f) (cases_Bool (p k)) where
-  by_test : (last_below p k ≡ suc v → p v ≡ true) → (p k ≡ true) ⊎ (p k ≡ false) → p v ≡ true
-  by_test before (inl y) =
-      let s : suc k ≡ suc v = ap (λ b. cond b (suc k) (last_below p k)) (sym y) ∙ e in
-      let same : v ≡ k = omega arith in
-      rw same y
-  by_test before (inr n) = before (ap (λ b. cond b (suc k) (last_below p k)) (sym n) ∙ e)
+last_holds p (suc k) v e = ⊎_elim
+    (λ y. let s : suc k ≡ suc v = ap (λ b. cond b (suc k) (last_below p k)) (sym y) ∙ e in let same : v ≡ k = omega arith in rw same y)
+    (λ n. last_holds p k v (ap (λ b. cond b (suc k) (last_below p k)) (sym n) ∙ e)) (cases_Bool (p k))
 
 pub last_none : (p : ℕ → Bool) (k j : ℕ) → last_below p k ≤ j → j < k → p j ≡ false
 last_none p zero j l m = absurd (omega arith)
-last_none p (suc k) j l m = by_test (λ a b. last_none p k j a b) (cases_Bool (p k)) where
-  by_test : (last_below p k ≤ j → j < k → p j ≡ false) → (p k ≡ true) ⊎ (p k ≡ false) → p j ≡ false
-  by_test before (inl y) =
-      let s : last_below p (suc k) ≡ suc k = ap (λ b. cond b (suc k) (last_below p k)) y in
-      absurd (omega arith)
-  by_test before (inr n) = by_place (cases_order j k) where
-    less : last_below p k ≤ j
-    less = let s : last_below p (suc k) ≡ last_below p k = ap (λ b. cond b (suc k) (last_below p k)) n in omega arith
-
-    by_place : (j ≡ k) ⊎ ((j < k) ⊎ (k < j)) → p j ≡ false
-    by_place (inl e) = rw e n
-    by_place (inr (inl b)) = before less b
-    by_place (inr (inr g)) = absurd (omega arith)
+last_none p (suc k) j l m = ⊎_elim
+    (λ y. let s : last_below p (suc k) ≡ suc k = ap (λ b. cond b (suc k) (last_below p k)) y in absurd (omega arith))
+    (λ n. let s : last_below p (suc k) ≡ last_below p k = ap (λ b. cond b (suc k) (last_below p k)) n in
+    ⊎_elim (λ e. rw e n) (λ apart. last_none p k j (omega arith) (omega arith)) (cases_eq j k)) (cases_Bool (p k))
 
 pub last_same : (p q : ℕ → Bool) (k : ℕ) → ((j : ℕ) → j < k → p j ≡ q j) → last_below p k ≡ last_below q k
 last_same p q zero same = refl
@@ -67,28 +54,20 @@ latest_some table {key} more bound p tied same is inside n l = search (rules, ca
 
 pub linked_none : (next : List ℕ) (key more : ℕ → Option ℕ) (bound : ℕ) → IsLinked next key bound → ((k : ℕ) → k < bound → more k ≡ key k)
     → more bound ≡ None → IsLinked next more (suc bound)
-linked_none next key more bound tied same none k n l is = by_order (cases_order k bound) where
-  by_order : (k ≡ bound) ⊎ ((k < bound) ⊎ (bound < k)) → get_or next k 0 ≡ last_below (keyed more n) k
-  by_order (inl e) = absurd (none-some n (sym none ∙ sym (ap more e) ∙ is))
-  by_order (inr (inl m)) = tied k n m (sym (same k m) ∙ is)
-      ∙ sym (last_same (keyed more n) (keyed key n) k (λ j i. ap (λ o. is_key o n) (same j (omega arith))))
-  by_order (inr (inr m)) = absurd (omega arith)
+linked_none next key more bound tied same none k n l is = ⊎_elim (λ e. absurd (none-some n (sym none ∙ sym (ap more e) ∙ is)))
+    (λ apart. tied k n (omega arith) (sym (same k (omega arith)) ∙ is)
+    ∙ sym (last_same (keyed more n) (keyed key n) k (λ j i. ap (λ o. is_key o n) (same j (omega arith))))) (cases_eq k bound)
 
 pub linked_some : (next : List ℕ) {key more : ℕ → Option ℕ} {bound : ℕ} (p v : ℕ) → IsLinked next key bound → ((k : ℕ) → k < bound → more k ≡ key k)
     → more bound ≡ Some p → bound < length next → v ≡ last_below (keyed key p) bound → IsLinked (set next bound v) more (suc bound)
-linked_some next {key} {more} {bound} p v tied same has inside value k n l is = by_order (cases_order k bound) where
-  before : (j : ℕ) → j ≤ bound → last_below (keyed more n) j ≡ last_below (keyed key n) j
-  before j m = last_same (keyed more n) (keyed key n) j (λ i q. ap (λ o. is_key o n) (same i (omega arith)))
-
-  by_order : (k ≡ bound) ⊎ ((k < bound) ⊎ (bound < k)) → get_or (set next bound v) k 0 ≡ last_below (keyed more n) k
-  by_order (inl e) =
-      let p_is : p ≡ n = same_Some p n (sym has ∙ sym (ap more e) ∙ is) in
-      ap (λ j. get_or (set next bound v) j 0) e ∙ get_or-set_same next bound v 0 inside ∙ value ∙ ap (λ q. last_below (keyed key q) bound) p_is
-      ∙ sym (ap (last_below (keyed more n)) e ∙ before bound (omega arith))
-  by_order (inr (inl m)) =
-      let ne : k ≢ bound = omega arith in
-      get_or-set_other next bound k v 0 ne ∙ tied k n m (sym (same k m) ∙ is) ∙ sym (before k (omega arith))
-  by_order (inr (inr m)) = absurd (omega arith)
+linked_some next {key} {more} {bound} p v tied same has inside value k n l is = ⊎_elim
+    (λ e. let p_is : p ≡ n = same_Some p n (sym has ∙ sym (ap more e) ∙ is) in
+    ap (λ j. get_or (set next bound v) j 0) e ∙ get_or-set_same next bound v 0 inside ∙ value ∙ ap (λ q. last_below (keyed key q) bound) p_is
+    ∙ sym (ap (last_below (keyed more n)) e ∙ before bound (omega arith)))
+    (λ apart. get_or-set_other next bound k v 0 apart ∙ tied k n (omega arith) (sym (same k (omega arith)) ∙ is) ∙ sym (before k (omega arith)))
+    (cases_eq k bound) where
+      before : (j : ℕ) → j ≤ bound → last_below (keyed more n) j ≡ last_below (keyed key n) j
+      before j m = last_same (keyed more n) (keyed key n) j (λ i q. ap (λ o. is_key o n) (same i (omega arith)))
 
 -- what stands at the last place
 pub parent_last : (h : List Event) (e : Event) → parent (h ++ e ∷ []) (length h) ≡ option_and_then (if_less (length h)) (parent_named e)

@@ -5,7 +5,7 @@ use Rattle.rx_audit.proofs.Common.{cases_order, both_ways, eqb-true, and_parts, 
 use Rattle.rx_audit.proofs.Common.{Terminal, Source, Inner, Notifier, Kind, Event, Open, Decline, End, Close, Marks, is_merging, is_switch, is_source_of}
 use Rattle.rx_audit.proofs.Common.{is_inner_of, at, parent, is_open, is_switched_inner, is_some, length-range_with_len, open_old}
 use Rattle.rx_audit.proofs.Common.{marks_of, blank_marks, after_source, after_notifier, after_inner, after_decline, after_child, open_children, owed, MayFollow}
-use Rattle.rx_audit.proofs.Common.{IsLawful, parent_open, is_open_within, may_end, event_at, touched_by, IsKept, IsUntouched}
+use Rattle.rx_audit.proofs.Common.{IsLawful, parent_open, is_open_within, may_end, event_at, touched_by, IsKept, IsUntouched, ⊎_elim, cases_eq}
 use Rattle.std.proofs.lemmas.List.Sums.{count_by-le-length}
 use Rattle.rx_event.specs.Marks.{touches}
 use Rattle.rx_event.proofs.Laws.Steps.{may_name, may_decline, may_open}
@@ -45,42 +45,19 @@ marks_apart {h} e law next no_item n l o differs = search (rules, cases_Bool, ma
 pub kept_more : {h : List Event} {e : Event} (ms : List Marks) {p : ℕ} {m : Marks} → IsLawful nothing_kept h → MayFollow nothing_kept h e
     → IsUntouched h e → IsKept h ms → length h < length ms
     → touched_by h e ≡ Some p → m ≡ marks_of nothing_kept (h ++ e ∷ []) p → IsKept (h ++ e ∷ []) (set (set ms p m) (length h) blank_marks)
-kept_more {h} {e} ms {p} {m} law next no_item kept room named is n o = by_order (cases_order n (length h)) (cases_order n p) where
-  within : p < length h
-  within = is_open_within h p (touched_open h e p next named)
-
-  last : is_open (h ++ e ∷ []) n ≡ true → n < length h + 1
-  last y = let l = is_open_within (h ++ e ∷ []) n y in omega (arith, length-append h (e ∷ []))
-
-  long : length (set ms p m) ≡ length ms
-  long = length-set ms p m
-
-  by_order : (n ≡ length h) ⊎ ((n < length h) ⊎ (length h < n)) → (n ≡ p) ⊎ ((n < p) ⊎ (p < n))
-      → get_or (set (set ms p m) (length h) blank_marks) n blank_marks ≡ marks_of nothing_kept (h ++ e ∷ []) n
-  by_order (inl same) q =
-      let size = long in
-      ap (λ k. get_or (set (set ms p m) (length h) blank_marks) k blank_marks) same
-      ∙ get_or-set_same (set ms p m) (length h) blank_marks blank_marks (omega arith)
-      ∙ sym (ap (marks_of nothing_kept (h ++ e ∷ [])) same ∙ marks-new nothing_kept h e law next)
-  by_order (inr (inr g)) q = absurd (let l = last o in omega arith)
-  by_order (inr (inl l)) (inl same) =
-      let ne : n ≢ length h = omega arith in
-      let inside = within in
-      get_or-set_other (set ms p m) (length h) n blank_marks blank_marks ne ∙ ap (λ k. get_or (set ms p m) k blank_marks) same
-      ∙ get_or-set_same ms p m blank_marks (omega arith)
-      ∙ is ∙ sym (ap (marks_of nothing_kept (h ++ e ∷ [])) same)
-  by_order (inr (inl l)) (inr differs) =
-      let ne : n ≢ length h = omega arith in
-      let other : n ≢ p = λ same. by_ne differs same in
-      get_or-set_other (set ms p m) (length h) n blank_marks blank_marks ne ∙ get_or-set_other ms p n m blank_marks other
-      ∙ kept n (before l) ∙ sym (marks_apart e law next no_item n l o (λ at_n. other (same_Some n p (sym at_n ∙ named))))
-    where
-      by_ne : (n < p) ⊎ (p < n) → n ≡ p → ⊥
-      by_ne (inl a) same = omega arith
-      by_ne (inr b) same = omega arith
-
-      before : n < length h → is_open h n ≡ true
-      before l = open_old h e n l o
+kept_more {h} {e} ms {p} {m} law next no_item kept room named is n o =
+    let within = is_open_within h p (touched_open h e p next named) in
+    let last = is_open_within (h ++ e ∷ []) n o in
+    let longer = length-append h (e ∷ []) in
+    let size = length-set ms p m in ⊎_elim
+    (λ same. ap (λ k. get_or (set (set ms p m) (length h) blank_marks) k blank_marks) same
+    ∙ get_or-set_same (set ms p m) (length h) blank_marks blank_marks (omega arith)
+    ∙ sym (ap (marks_of nothing_kept (h ++ e ∷ [])) same ∙ marks-new nothing_kept h e law next))
+    (λ old. let l : n < length h = omega arith in get_or-set_other (set ms p m) (length h) n blank_marks blank_marks old ∙ ⊎_elim
+    (λ same. ap (λ k. get_or (set ms p m) k blank_marks) same ∙ get_or-set_same ms p m blank_marks (omega arith)
+    ∙ is ∙ sym (ap (marks_of nothing_kept (h ++ e ∷ [])) same))
+    (λ other. get_or-set_other ms p n m blank_marks other ∙ kept n (open_old h e n l o)
+    ∙ sym (marks_apart e law next no_item n l o (λ at_n. other (same_Some n p (sym at_n ∙ named))))) (cases_eq n p)) (cases_eq n (length h))
 
 pub kept_same : {h : List Event} (e : Event) (ms : List Marks) → IsLawful nothing_kept h → MayFollow nothing_kept h e → IsUntouched h e → IsKept h ms
     → length h < length ms

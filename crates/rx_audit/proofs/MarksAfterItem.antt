@@ -1,10 +1,10 @@
 -- An item in a history without hubs: what it does to marks, and what is due after it.
-use Rattle.rx_audit.proofs.Common.{◌≡◌, ℕ, ℤ, ◌+◌, ◌<◌, Bool, true, false, List, [], ◌∷◌, ◌++◌, length, Option, Some, refl, sym, ap, ◌∙◌, arith, inl, inr}
+use Rattle.rx_audit.proofs.Common.{◌≡◌, ℕ, ℤ, ◌+◌, ◌<◌, Bool, true, List, [], ◌∷◌, ◌++◌, length, Option, Some, refl, sym, ap, ◌∙◌, arith}
 use Rattle.rx_audit.proofs.Common.{◌⊎◌, ◌==◌, cond, ◌||◌, ◌&&◌, cases_Bool, false≢true, eq-eqb, eqb-true, none-some, same_Some, list_any, sum_by, count_by}
 use Rattle.rx_audit.proofs.Common.{option_or, is_some, nothing_kept, Terminal, Event, Item, Marks, is_open, stop_at, climb, owed}
 use Rattle.rx_audit.proofs.Common.{is_firing_of, is_projection_to, marks_of, terminal_due, IsLawful, MayFollow, is_open_within, slice_get-append, event_at}
-use Rattle.rx_audit.proofs.Common.{Visit, IsReached, is_key, IsNoted, leaf_of, IsKept, IsCovered, IsVisited, visited_marks, fired_key, projected_key, due_made}
-use Rattle.rx_audit.proofs.Common.{or_false}
+use Rattle.rx_audit.proofs.Common.{Visit, IsReached, is_key, leaf_of, IsKept, IsCovered, IsVisited, visited_marks, fired_key, projected_key, due_made}
+use Rattle.rx_audit.proofs.Common.{or_false, ⊎_elim}
 use Rattle.rx_event.specs.Climb.{stops}
 use Rattle.rx_event.specs.Moments.{is_fired}
 use Rattle.rx_event.specs.Marks.{completed_if}
@@ -59,21 +59,18 @@ still_due x0 m k y = search (rules, merging_still, with_two, over_still, none_ow
 covered_visit : {h : List Event} {leaf : ℕ} (v : ℤ) {log : List Visit} {old new : List Marks} (before after : List ℕ) → IsLawful nothing_kept h
     → MayFollow nothing_kept h (Item leaf v)
     → IsReached h leaf log → IsCovered h before → IsVisited h log old new before after → IsCovered (h ++ Item leaf v ∷ []) after
-covered_visit {h} {leaf} v {log} before after law next r covered w n y = by_fired (cases_Bool (list_any (is_firing_of n) (stops h leaf))) where
-  by_fired : (list_any (is_firing_of n) (stops h leaf) ≡ true) ⊎ (list_any (is_firing_of n) (stops h leaf) ≡ false) → IsNoted 0 after n
-  by_fired (inl now) = w.noted n (fires_same h leaf n log r ∙ now)
-  by_fired (inr quiet) =
-      let parts = due_parts (h ++ Item leaf v ∷ []) n y in
-      let here : is_open h n ≡ true = open_before h (Item leaf v) n refl parts.0 in
-      let l : n < length h = is_open_within h n here in
-      let made = event_at h n l in
-      let now : due_made (h ++ Item leaf v ∷ []) n made.0 ≡ true =
-      sym (due_made_at (h ++ Item leaf v ∷ []) n made.0 parts.0 (slice_get-append h (Item leaf v ∷ []) n l ∙ made.1)) ∙ y in
-      let same = marks-item nothing_kept h leaf v law next n l
-      ∙ same_two (marks_of nothing_kept h n) _ _ _ _ (ap (λ b. is_fired h n || b) quiet ∙ or_false (is_fired h n)) refl in
-      let was = still_due made.0 (marks_of nothing_kept h n) (count_by (is_projection_to n) (stops h leaf))
-      (ap (λ m. is_some (terminal_due made.0 m)) (sym same) ∙ now) in
-      w.kept n (covered n (due_made_at h n made.0 here made.1 ∙ was))
+covered_visit {h} {leaf} v {log} before after law next r covered w n y = ⊎_elim (λ now. w.noted n (fires_same h leaf n log r ∙ now)) (λ quiet.
+    let parts = due_parts (h ++ Item leaf v ∷ []) n y in
+    let here : is_open h n ≡ true = open_before h (Item leaf v) n refl parts.0 in
+    let l : n < length h = is_open_within h n here in
+    let made = event_at h n l in
+    let now : due_made (h ++ Item leaf v ∷ []) n made.0 ≡ true =
+    sym (due_made_at (h ++ Item leaf v ∷ []) n made.0 parts.0 (slice_get-append h (Item leaf v ∷ []) n l ∙ made.1)) ∙ y in
+    let same = marks-item nothing_kept h leaf v law next n l
+    ∙ same_two (marks_of nothing_kept h n) _ _ _ _ (ap (λ b. is_fired h n || b) quiet ∙ or_false (is_fired h n)) refl in
+    let was = still_due made.0 (marks_of nothing_kept h n) (count_by (is_projection_to n) (stops h leaf))
+    (ap (λ m. is_some (terminal_due made.0 m)) (sym same) ∙ now) in
+    w.kept n (covered n (due_made_at h n made.0 here made.1 ∙ was))) (cases_Bool (list_any (is_firing_of n) (stops h leaf)))
 
 pub item_kept : {h : List Event} {e : Event} {leaf : ℕ} {log : List Visit} {old new : List Marks} {before : List ℕ} (after : List ℕ) → IsLawful nothing_kept h
     → MayFollow nothing_kept h e → leaf_of e ≡ Some leaf

@@ -1,8 +1,8 @@
 -- Which subscribers are on the lists of their hubs after one more event.
-use Rattle.rx_audit.proofs.Common.{◌≡◌, ℕ, ◌<◌, Bool, true, false, List, [], ◌∷◌, ◌++◌, length, refl, sym, ap, ◌∙◌, arith, inl, inr, ◌⊎◌, get_or}
-use Rattle.rx_audit.proofs.Common.{option_map_or, cases_Bool, cases_order, both_ways, false≢true, nothing_kept, Event, is_subscriber_of}
+use Rattle.rx_audit.proofs.Common.{◌≡◌, ℕ, ◌<◌, Bool, true, false, List, [], ◌∷◌, ◌++◌, length, sym, ap, ◌∙◌, arith, inl, inr, ◌⊎◌, get_or}
+use Rattle.rx_audit.proofs.Common.{option_map_or, cases_Bool, both_ways, false≢true, nothing_kept, Event, is_subscriber_of}
 use Rattle.rx_audit.proofs.Common.{at, is_open, same_Some, MayFollow, at-append, at_within, slice_get_last, Subscribers, AreClosed, AreOpenListed}
-use Rattle.rx_audit.proofs.Common.{AreLetGo, stays_open}
+use Rattle.rx_audit.proofs.Common.{AreLetGo, stays_open, ⊎_elim, cases_eq}
 use Rattle.rx_event.proofs.Laws.Hubs.{may_subscribe, subscriber_found}
 use Rattle.rx_event.proofs.Laws.Totals.{is_open_new}
 use Rattle.rx_audit.proofs.StaysOpen.{is_open_older, stays_closed}
@@ -22,34 +22,18 @@ pub open_listed_after : {h : List Event} {e : Event} (old new : Subscribers) {ma
     → AreOpenListed h old → AreClosed h e closed → AreLetGo old.listed.items marks closed (length closed)
     → ((k : ℕ) → k < length h → get_or new.listed.items k false ≡ get_or marks k false)
     → ((g : ℕ) → is_subscriber_of g e ≡ true → get_or new.listed.items (length h) false ≡ true) → AreOpenListed (h ++ e ∷ []) new
-open_listed_after {h} {e} old new {marks} next listed closing let_go others last g k subscribes = by_place (cases_order k (length h)) where
-  older : k < length h → get_or new.listed.items k false ≡ is_open (h ++ e ∷ []) k
-  older l = others k l ∙ by_open (cases_Bool (is_open h k)) ∙ sym (is_open_older h e k l) where
-    was : get_or old.listed.items k false ≡ is_open h k
-    was = listed g k (sym (at-append (is_subscriber_of g) h (e ∷ []) k l) ∙ subscribes)
+open_listed_after {h} {e} old new {marks} next listed closing let_go others last g k subscribes = by_place (cases_eq k (length h)) where
+  older : k < length h → get_or marks k false ≡ stays_open h e k
+  older l = let was : get_or old.listed.items k false ≡ is_open h k = listed g k (sym (at-append (is_subscriber_of g) h (e ∷ []) k l) ∙ subscribes) in ⊎_elim
+      (λ y. ⊎_elim (λ s. y ∙ sym s) (λ s. let m = closing.noted k (sym was ∙ let_go.kept k y) s in
+      absurd (both_ways (get_or marks k false) (ap (λ n. get_or marks n false) (sym m.is) ∙ let_go.gone m.at m.within) y)) (cases_Bool (stays_open h e k)))
+      (λ z. ⊎_elim (λ o. let m = let_go.noted k (was ∙ o) z in z ∙ sym (ap (stays_open h e) (sym m.is) ∙ closing.gone m.at m.within))
+      (λ o. z ∙ sym (stays_closed h e k o)) (cases_Bool (is_open h k))) (cases_Bool (get_or marks k false))
 
-    by_mark : is_open h k ≡ true → (b : Bool) → get_or marks k false ≡ b → b ≡ stays_open h e k
-    by_mark o true y = by_stay (cases_Bool (stays_open h e k)) where
-      by_stay : (stays_open h e k ≡ true) ⊎ (stays_open h e k ≡ false) → true ≡ stays_open h e k
-      by_stay (inl s) = sym s
-      by_stay (inr s) =
-          let m = closing.noted k o s in
-          absurd (both_ways (get_or marks k false) (ap (λ n. get_or marks n false) (sym m.is) ∙ let_go.gone m.at m.within) y)
-    by_mark o false z =
-        let m = let_go.noted k (was ∙ o) z in
-        sym (ap (stays_open h e) (sym m.is) ∙ closing.gone m.at m.within)
-
-    by_open : (is_open h k ≡ true) ⊎ (is_open h k ≡ false) → get_or marks k false ≡ stays_open h e k
-    by_open (inl o) = by_mark o (get_or marks k false) refl
-    by_open (inr o) = by_gone (cases_Bool (get_or marks k false)) ∙ sym (stays_closed h e k o) where
-      by_gone : (get_or marks k false ≡ true) ⊎ (get_or marks k false ≡ false) → get_or marks k false ≡ false
-      by_gone (inl y) = absurd (both_ways (is_open h k) o (sym was ∙ let_go.kept k y))
-      by_gone (inr z) = z
-
-  by_place : (k ≡ length h) ⊎ ((k < length h) ⊎ (length h < k)) → get_or new.listed.items k false ≡ is_open (h ++ e ∷ []) k
-  by_place (inr (inl l)) = older l
+  by_place : (k ≡ length h) ⊎ (k ≡ length h → ⊥) → get_or new.listed.items k false ≡ is_open (h ++ e ∷ []) k
   by_place (inl same) =
       let new_one : is_subscriber_of g e ≡ true = sym (ap (λ o. option_map_or (is_subscriber_of g) o false) (slice_get_last h e))
       ∙ sym (ap (at (is_subscriber_of g) (h ++ e ∷ [])) same) ∙ subscribes in
       ap (λ n. get_or new.listed.items n false) same ∙ last g new_one ∙ sym (ap (is_open (h ++ e ∷ [])) same ∙ subscriber_opens g e new_one h next)
-  by_place (inr (inr l)) = absurd (let m = at_within (is_subscriber_of g) (h ++ e ∷ []) k subscribes in let n = one_longer h e in omega arith)
+  by_place (inr apart) = let m = at_within (is_subscriber_of g) (h ++ e ∷ []) k subscribes in let n = one_longer h e in
+      let l : k < length h = omega arith in others k l ∙ older l ∙ sym (is_open_older h e k l)

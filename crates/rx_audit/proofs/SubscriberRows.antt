@@ -1,23 +1,19 @@
 -- The lists of the subscribers of each hub: one taken off, and a new one.
 use Rattle.rx_audit.proofs.Common.{◌≡◌, ◌≢◌, ℕ, zero, suc, ◌+◌, ◌-◌, ◌<◌, ◌≤◌, Bool, true, false, List, [], ◌∷◌, ◌++◌, length, replicate, Some, None, cond}
-use Rattle.rx_audit.proofs.Common.{refl, sym, ap, ◌∙◌, arith, inl, inr, ◌⊎◌, get_or, set, get_or-set_other, get_or-set_same, length-set, length-replicate, ◌&&◌}
+use Rattle.rx_audit.proofs.Common.{refl, sym, ap, ◌∙◌, arith, ◌⊎◌, get_or, set, get_or-set_other, get_or-set_same, length-set, length-replicate, ◌&&◌}
 use Rattle.rx_audit.proofs.Common.{sum_by, sum_by-cons, option_map_or, cases_Bool, cases_order, both_ways, false≢true, and_parts, ne_eqb, none-some, Event}
 use Rattle.rx_audit.proofs.Common.{is_subscriber_of, hub_subscribed, at, is_open, open_subscribers, falling, at-append, at_within, slice_get_last, Subscribers}
 use Rattle.rx_audit.proofs.Common.{last_below, table_with, on_list, IsRow, number_of, AreLinked, AreOpenListed, hub_subscribed_at, and_false}
-use Rattle.rx_audit.proofs.Common.{false_from_ne_true, subscribed_event}
+use Rattle.rx_audit.proofs.Common.{false_from_ne_true, subscribed_event, ⊎_elim, cases_eq}
 use Rattle.std.proofs.lemmas.List.Sums.{sum_by_push}
 use Rattle.std.proofs.lemmas.Option.{slice_get_past}
 use Rattle.rx_event.proofs.Laws.Connections.{one_hub, sum_by-falling}
 use Rattle.rx_audit.specs.Listed.{hub_if_last, listed_hub}
 use Rattle.rx_audit.proofs.Latest.{last_le, last_holds, one_longer, length-table_with}
-use Rattle.rx_audit.proofs.ClosingBelow.{within_marks, cleared}
+use Rattle.rx_audit.proofs.ClosingBelow.{within_marks, mark_gone}
 use Rattle.rx_audit.proofs.TestsDecideRules.{same_subscribed, subscriber_at, at_subscriber}
 use Rattle.rx_audit.proofs.Neighbours.{row_less, row_more, row_apart}
 use Rattle.std.proofs.Common.{rules}
-
--- a mark that was taken away is gone
-pub mark_gone : (ms : List Bool) (c : ℕ) → get_or (set ms c false) c false ≡ false
-mark_gone ms c = false_from_ne_true _ (λ y. (cleared ms c c y).0 refl)
 
 at_past : (q : Event → Bool) (h : List Event) (n : ℕ) → length h ≤ n → at q h n ≡ false
 at_past q h n l = ap (λ o. option_map_or q o false) (slice_get_past h n l)
@@ -28,6 +24,11 @@ on_within h ms g k y = at_within (is_subscriber_of g) h k (and_parts _ _ y).0
 
 on_marked : (h : List Event) (ms : List Bool) (g k : ℕ) → on_list h ms g k ≡ true → k < length ms
 on_marked h ms g k y = within_marks ms k (and_parts (at (is_subscriber_of g) h k) (get_or ms k false) y).1
+
+-- what a word does not lead to stays
+with_other : (table : List ℕ) (word k value : ℕ) → ((m : ℕ) → word ≡ suc m → k ≢ m) → get_or (table_with table (number_of word) value) k 0 ≡ get_or table k 0
+with_other table zero k value apart = refl
+with_other table (suc m) k value apart = get_or-set_other table m k value 0 (apart m refl)
 
 -- on the list of one hub alone
 on_one : (h : List Event) (ms : List Bool) {g : ℕ} (j k n : ℕ) → on_list h ms g k ≡ true → on_list h ms j n ≡ true → k ≡ n → g ≡ j
@@ -68,11 +69,8 @@ module _ (h : List Event) (size : ℕ) (old new : Subscribers) (w : AreLinked h 
   size_same = ap length is_listed ∙ length-set old.listed.items s false ∙ w.listed_size
 
   on_same : (g : ℕ) → on_list h old.listed.items g s ≡ false → (k : ℕ) → on_list h new.listed.items g k ≡ on_list h old.listed.items g k
-  on_same g out k = by_order (cases_order k s) where
-    by_order : (k ≡ s) ⊎ ((k < s) ⊎ (s < k)) → on_list h new.listed.items g k ≡ on_list h old.listed.items g k
-    by_order (inl same) = ap (on_list h new.listed.items g) same ∙ on_gone g ∙ sym (ap (on_list h old.listed.items g) same ∙ out)
-    by_order (inr (inl l)) = on_other g k (omega arith)
-    by_order (inr (inr l)) = on_other g k (omega arith)
+  on_same g out k = ⊎_elim (λ same. ap (on_list h new.listed.items g) same ∙ on_gone g ∙ sym (ap (on_list h old.listed.items g) same ∙ out))
+      (λ apart. on_other g k apart) (cases_eq k s)
 
 -- which was on none
 pub rows_still : {h : List Event} {size : ℕ} {old : Subscribers} (new : Subscribers) (s : ℕ) → AreLinked h size old → listed_hub h old.listed.items s ≡ None
@@ -101,7 +99,7 @@ pub rows_less : {h : List Event} {size : ℕ} {old new : Subscribers} (g s : ℕ
     → new.before.items ≡ table_with old.before.items (number_of (get_or old.after.items s 0)) (get_or old.before.items s 0)
     → new.after.items ≡ table_with old.after.items (number_of (get_or old.before.items s 0)) (get_or old.after.items s 0) → AreLinked h size new
 rows_less {h} {size} {old} {new} g s w hub listed last before after = record {
-  rows = λ j. by_hub j (cases_order j g);
+  rows = λ j. ⊎_elim (λ same. rw same own) (λ apart. other j apart) (cases_eq j g);
   hubbed = λ j k y. w.hubbed j k (on_was h size old new w s listed j k y);
   listed_size = size_same h size old new w s listed;
   last_size = ap length last ∙ length-table_with old.last.items _ _ ∙ w.last_size;
@@ -109,10 +107,8 @@ rows_less {h} {size} {old} {new} g s w hub listed last before after = record {
   after_size = ap length after ∙ length-table_with old.after.items _ _ ∙ w.after_size;
 } where
   here : on_list h old.listed.items g s ≡ true
-  here = by_mark (cases_Bool (get_or old.listed.items s false)) where
-    by_mark : (get_or old.listed.items s false ≡ true) ⊎ (get_or old.listed.items s false ≡ false) → on_list h old.listed.items g s ≡ true
-    by_mark (inl y) = rw (subscriber_at h s g (sym (ap (λ b. cond b (hub_subscribed_at h s) None) y) ∙ hub)) y
-    by_mark (inr z) = absurd (none-some g (sym (ap (λ b. cond b (hub_subscribed_at h s) None) z) ∙ hub))
+  here = ⊎_elim (λ (y : get_or old.listed.items s false ≡ true). rw (subscriber_at h s g (sym (ap (λ b. cond b (hub_subscribed_at h s) None) y) ∙ hub)) y)
+      (λ z. absurd (none-some g (sym (ap (λ b. cond b (hub_subscribed_at h s) None) z) ∙ hub))) (cases_Bool (get_or old.listed.items s false))
 
   row : IsRow (on_list h old.listed.items g) (length h) (get_or old.last.items g 0) old.before.items old.after.items
   row = w.rows g
@@ -148,20 +144,12 @@ rows_less {h} {size} {old} {new} g s w hub listed last before after = record {
     by_word (suc m) = refl
 
   before_apart : (j k : ℕ) → j ≢ g → on_list h old.listed.items j k ≡ true → get_or new.before.items k 0 ≡ get_or old.before.items k 0
-  before_apart j k apart y = ap (λ (ls : List ℕ). get_or ls k 0) before ∙ by_word (get_or old.after.items s 0) refl where
-    by_word : (a : ℕ) → get_or old.after.items s 0 ≡ a
-        → get_or (table_with old.before.items (number_of a) (get_or old.before.items s 0)) k 0 ≡ get_or old.before.items k 0
-    by_word zero e = refl
-    by_word (suc m) e = get_or-set_other old.before.items m k (get_or old.before.items s 0) 0
-        (λ same. apart (on_one h old.listed.items g k m y ((row.up s here).some m e).0 same))
+  before_apart j k apart y = ap (λ (ls : List ℕ). get_or ls k 0) before ∙ with_other old.before.items (get_or old.after.items s 0) k _
+      (λ m e same. apart (on_one h old.listed.items g k m y ((row.up s here).some m e).0 same))
 
   after_apart : (j k : ℕ) → j ≢ g → on_list h old.listed.items j k ≡ true → get_or new.after.items k 0 ≡ get_or old.after.items k 0
-  after_apart j k apart y = ap (λ (ls : List ℕ). get_or ls k 0) after ∙ by_word (get_or old.before.items s 0) refl where
-    by_word : (b : ℕ) → get_or old.before.items s 0 ≡ b
-        → get_or (table_with old.after.items (number_of b) (get_or old.after.items s 0)) k 0 ≡ get_or old.after.items k 0
-    by_word zero e = refl
-    by_word (suc m) e = get_or-set_other old.after.items m k (get_or old.after.items s 0) 0
-        (λ same. apart (on_one h old.listed.items g k m y (last_holds (on_list h old.listed.items g) s m (sym (row.down s here) ∙ e)) same))
+  after_apart j k apart y = ap (λ (ls : List ℕ). get_or ls k 0) after ∙ with_other old.after.items (get_or old.before.items s 0) k _
+      (λ m e same. apart (on_one h old.listed.items g k m y (last_holds (on_list h old.listed.items g) s m (sym (row.down s here) ∙ e)) same))
 
   other : (j : ℕ) → j ≢ g → IsRow (on_list h new.listed.items j) (length h) (get_or new.last.items j 0) new.before.items new.after.items
   other j apart = rw (last_apart j apart)
@@ -169,30 +157,18 @@ rows_less {h} {size} {old} {new} g s w hub listed last before after = record {
       (on_same h size old new w s listed j (false_from_ne_true _ (λ y. apart (on_one h old.listed.items g s s y here refl)))) (omega arith)
       (on_within h old.listed.items j) (λ k y. before_apart j k apart y) (λ k y. after_apart j k apart y) (w.rows j))
 
-  by_hub : (j : ℕ) → (j ≡ g) ⊎ ((j < g) ⊎ (g < j))
-      → IsRow (on_list h new.listed.items j) (length h) (get_or new.last.items j 0) new.before.items new.after.items
-  by_hub j (inl same) = rw same own
-  by_hub j (inr (inl l)) = other j (omega arith)
-  by_hub j (inr (inr l)) = other j (omega arith)
-
 -- a new one -----------------------------------------------------------------------------------------
 
 -- what is on the list of a hub that the event does not subscribe to
 on_longer : (h : List Event) (e : Event) (old new : List Bool) (j : ℕ) → is_subscriber_of j e ≡ false
     → ((k : ℕ) → k < length h → get_or new k false ≡ get_or old k false) → (k : ℕ) → on_list (h ++ e ∷ []) new j k ≡ on_list h old j k
-on_longer h e old new j out same k = by_order (cases_order k (length h)) where
-  by_order : (k ≡ length h) ⊎ ((k < length h) ⊎ (length h < k)) → on_list (h ++ e ∷ []) new j k ≡ on_list h old j k
-  by_order (inl is) =
-      let last : at (is_subscriber_of j) (h ++ e ∷ []) k ≡ false =
-      ap (at (is_subscriber_of j) (h ++ e ∷ [])) is ∙ ap (λ o. option_map_or (is_subscriber_of j) o false) (slice_get_last h e) ∙ out in
-      let past : at (is_subscriber_of j) h k ≡ false = at_past (is_subscriber_of j) h k (omega arith) in
-      rw (last, past) refl
-  by_order (inr (inl l)) = rw (at-append (is_subscriber_of j) h (e ∷ []) k l, same k l) refl
-  by_order (inr (inr l)) =
-      let longer = one_longer h e in
-      let last : at (is_subscriber_of j) (h ++ e ∷ []) k ≡ false = at_past (is_subscriber_of j) (h ++ e ∷ []) k (omega arith) in
-      let past : at (is_subscriber_of j) h k ≡ false = at_past (is_subscriber_of j) h k (omega arith) in
-      rw (last, past) refl
+on_longer h e old new j out same k = ⊎_elim
+    (λ (is : k ≡ length h). rw (
+      ap (at (is_subscriber_of j) (h ++ e ∷ [])) is ∙ ap (λ o. option_map_or (is_subscriber_of j) o false) (slice_get_last h e) ∙ out,
+      at_past (is_subscriber_of j) h k (omega arith),
+    ) refl)
+    (⊎_elim (λ (l : k < length h). rw (at-append (is_subscriber_of j) h (e ∷ []) k l, same k l) refl) (λ (l : length h < k). let longer = one_longer h e in
+    rw (at_past (is_subscriber_of j) (h ++ e ∷ []) k (omega arith), at_past (is_subscriber_of j) h k (omega arith)) refl)) (cases_order k (length h))
 
 pub subscribes_none : (e : Event) (g : ℕ) → hub_subscribed e ≡ None → is_subscriber_of g e ≡ false
 subscribes_none e g hub = sym (same_subscribed e g) ∙ rw hub refl
@@ -222,8 +198,8 @@ pub record IsPutLast (g n : ℕ) (old new : Subscribers) : Type 0 where
 pub rows_more : {h : List Event} (e : Event) {size g : ℕ} {old new : Subscribers} → AreLinked h size old → length h < size → g < size
     → hub_subscribed e ≡ Some g → IsPutLast g (length h) old new → AreLinked (h ++ e ∷ []) size new
 rows_more {h} e {size} {g} {old} {new} w room inside hub put = record {
-  rows = λ j. by_hub j (cases_order j g);
-  hubbed = λ j k y. by_hubbed j k y (cases_order j g);
+  rows = λ j. ⊎_elim (λ same. rw same own) (λ apart. other j apart) (cases_eq j g);
+  hubbed = λ j k y. ⊎_elim (λ same. omega arith) (λ apart. w.hubbed j k (sym (on_apart j apart k) ∙ y)) (cases_eq j g);
   listed_size = ap length put.listed ∙ length-set old.listed.items (length h) true ∙ w.listed_size;
   last_size = ap length put.last ∙ length-set old.last.items g (suc (length h)) ∙ w.last_size;
   before_size = ap length put.before ∙ length-set old.before.items (length h) (get_or old.last.items g 0) ∙ w.before_size;
@@ -277,31 +253,14 @@ rows_more {h} e {size} {g} {old} {new} w room inside hub put = record {
       ap (λ (ls : List ℕ). get_or ls k 0) put.before ∙ get_or-set_other old.before.items (length h) k (get_or old.last.items g 0) 0 (omega arith)
 
   after_apart : (j k : ℕ) → j ≢ g → on_list h old.listed.items j k ≡ true → get_or new.after.items k 0 ≡ get_or old.after.items k 0
-  after_apart j k apart y = ap (λ (ls : List ℕ). get_or ls k 0) put.after ∙ by_word (get_or old.last.items g 0) refl where
-    first : get_or (set old.after.items (length h) 0) k 0 ≡ get_or old.after.items k 0
-    first = let l = on_within h old.listed.items j k y in get_or-set_other old.after.items (length h) k 0 0 (omega arith)
-
-    by_word : (b : ℕ) → get_or old.last.items g 0 ≡ b
-        → get_or (table_with (set old.after.items (length h) 0) (number_of b) (suc (length h))) k 0 ≡ get_or old.after.items k 0
-    by_word zero is = first
-    by_word (suc m) is = get_or-set_other (set old.after.items (length h) 0) m k (suc (length h)) 0
-        (λ same. apart (on_one h old.listed.items g k m y (last_holds (on_list h old.listed.items g) (length h) m (sym row.top ∙ is)) same)) ∙ first
+  after_apart j k apart y = let l = on_within h old.listed.items j k y in ap (λ (ls : List ℕ). get_or ls k 0) put.after
+      ∙ with_other (set old.after.items (length h) 0) (get_or old.last.items g 0) k _ (λ m is same. apart (on_one h old.listed.items g k m y
+      (last_holds (on_list h old.listed.items g) (length h) m (sym row.top ∙ is)) same)) ∙ get_or-set_other old.after.items (length h) k 0 0 (omega arith)
 
   other : (j : ℕ) → j ≢ g → IsRow (on_list (h ++ e ∷ []) new.listed.items j) (length (h ++ e ∷ [])) (get_or new.last.items j 0) new.before.items new.after.items
   other j apart = rw (last_apart j apart)
       (row_apart new.before.items new.after.items (on_apart j apart) (let l = one_longer h e in omega arith)
       (on_within h old.listed.items j) (before_apart j) (λ k y. after_apart j k apart y) (w.rows j))
-
-  by_hub : (j : ℕ) → (j ≡ g) ⊎ ((j < g) ⊎ (g < j))
-      → IsRow (on_list (h ++ e ∷ []) new.listed.items j) (length (h ++ e ∷ [])) (get_or new.last.items j 0) new.before.items new.after.items
-  by_hub j (inl same) = rw same own
-  by_hub j (inr (inl l)) = other j (omega arith)
-  by_hub j (inr (inr l)) = other j (omega arith)
-
-  by_hubbed : (j k : ℕ) → on_list (h ++ e ∷ []) new.listed.items j k ≡ true → (j ≡ g) ⊎ ((j < g) ⊎ (g < j)) → j < size
-  by_hubbed j k y (inl same) = omega arith
-  by_hubbed j k y (inr (inl l)) = w.hubbed j k (sym (on_apart j (omega arith) k) ∙ y)
-  by_hubbed j k y (inr (inr l)) = w.hubbed j k (sym (on_apart j (omega arith) k) ∙ y)
 
 -- from the last to the first --------------------------------------------------------------------------
 
@@ -313,18 +272,18 @@ falling_same : (p q : ℕ → Bool) → ((k : ℕ) → p k ≡ q k) → (k : ℕ
 falling_same p q same zero = refl
 falling_same p q same (suc k) = search (rules, cond, falling_same p q same k)
 
+pub on_open : (h : List Event) (s : Subscribers) (g k : ℕ) → AreOpenListed h s → on_list h s.listed.items g k ≡ (at (is_subscriber_of g) h k && is_open h k)
+on_open h s g k listed = by_test (at (is_subscriber_of g) h k) refl where
+  by_test : (b : Bool) → at (is_subscriber_of g) h k ≡ b → (b && get_or s.listed.items k false) ≡ (b && is_open h k)
+  by_test true y = listed g k y
+  by_test false z = refl
+
 -- so from the word of the hub on, in any sum
 pub falling_open : (h : List Event) (s : Subscribers) (g : ℕ) → AreOpenListed h s → (number : ℕ → ℕ)
     → sum_by number (falling (on_list h s.listed.items g) (length h)) ≡ sum_by number (open_subscribers h g)
 falling_open h s g listed number =
-    ap (sum_by number) (falling_same (on_list h s.listed.items g) (λ n. at (is_subscriber_of g) h n && is_open h n) same (length h))
+    ap (sum_by number) (falling_same (on_list h s.listed.items g) (λ n. at (is_subscriber_of g) h n && is_open h n) (λ k. on_open h s g k listed) (length h))
     ∙ sum_by-falling (λ n. at (is_subscriber_of g) h n && is_open h n) number (length h)
-  where
-    same : (k : ℕ) → on_list h s.listed.items g k ≡ (at (is_subscriber_of g) h k && is_open h k)
-    same k = by_test (at (is_subscriber_of g) h k) refl where
-      by_test : (b : Bool) → at (is_subscriber_of g) h k ≡ b → (b && get_or s.listed.items k false) ≡ (b && is_open h k)
-      by_test true y = listed g k y
-      by_test false z = refl
 
 -- the walk of subscribers_of: what was found, and what is left from the word on
 module _ (h : List Event) (size : ℕ) (s : Subscribers) (g : ℕ) (w : AreLinked h size s) where

@@ -1,12 +1,13 @@
 -- The tests that compute decide which events callers may add.
 use Rattle.rx_audit.proofs.Common.{◌≡◌, ℕ, ℤ, zero, suc, cond, count_by, get_or, ◌+◌, ◌<◌, ◌≤◌, Bool, true, false, List, [], ◌∷◌, ◌++◌, length, Option, Some}
-use Rattle.rx_audit.proofs.Common.{None, refl, sym, ap, ◌∙◌, arith, ◌==◌, slice_get, inl, inr, ◌⊎◌, nat_lt, nat_le, IsTrue, MatchBool, not, ◌&&◌, ◌||◌}
+use Rattle.rx_audit.proofs.Common.{None, refl, sym, ap, ◌∙◌, arith, ◌==◌, slice_get, ◌⊎◌, nat_lt, nat_le, IsTrue, MatchBool, not, ◌&&◌, ◌||◌}
 use Rattle.rx_audit.proofs.Common.{list_any, list_all, range_with_len, sum_by-cons, option_map_or, and_parts, false≢true, ltb-true, lt-ltb, eqb-true, eq-eqb}
 use Rattle.rx_audit.proofs.Common.{leb-true, le-leb, nothing_kept, Terminal, Completed, Error, Place, Kind, Event}
 use Rattle.rx_audit.proofs.Common.{Open, Connect, Accept, Lease, Return, Item, Decline, End, Close, is_merging, is_connect_of, at}
 use Rattle.rx_audit.proofs.Common.{places, hubs, is_open, open_nodes, has_open_child, is_open_past, visits, most_visits, owed, IsConnectDue, IsFree}
 use Rattle.rx_audit.proofs.Common.{IsHubbed, IsAllowed, accepted, IsMarked, mark_count, hub_connected_at, has_key, open_connected, is_owing}
-use Rattle.rx_audit.proofs.Common.{is_in_order_at, allowed_simply, item_allowed, open_allowed, and_from, or_left, or_right, or_cases, not-true, not_from_false}
+use Rattle.rx_audit.proofs.Common.{is_in_order_at, allowed_simply, item_allowed, open_allowed, and_from, or_left, or_right, or_cases, not-true}
+use Rattle.rx_audit.proofs.Common.{not_from_false, ⊎_elim}
 use Rattle.std.proofs.lemmas.List.Sums.{length-filter}
 use Rattle.std.proofs.lemmas.Bool.{lt-leb}
 use Rattle.rx_event.specs.declared.event.Mode.{Mode}
@@ -66,22 +67,16 @@ abort_at h n = search (rules, slice_get, option_map_or, same_abort)
 
 end_may : (h : List Event) (n : ℕ) (t : Terminal) → end_allowed h n t ≡ true → IsAllowed nothing_kept h (End n t)
 unfolding end_allowed
-end_may h n t e = by_kind (or_cases (at is_leaf h n) (failing_allowed h n t) w.1) where
+end_may h n t e = ⊎_elim (λ m. leaf_ended w.0 m) (λ m. by_terminal t m) (or_cases (at is_leaf h n) (failing_allowed h n t) w.1) where
   w : (is_open h n ≡ true) × ((at is_leaf h n || failing_allowed h n t) ≡ true)
   w = and_parts (is_open h n) (at is_leaf h n || failing_allowed h n t) e
 
-  by_cause : (c : ℕ) → ((at has_source h n && not (has_open_child h n)) ≡ true) ⊎ ((at is_merging h n && is_owing h n) ≡ true)
-      → IsAllowed nothing_kept h (End n (Error c))
-  by_cause c (inl m) = let v = and_parts (at has_source h n) (not (has_open_child h n)) m in aborted w.0 (sym (abort_at h n) ∙ v.0) (child_closed h n v.1)
-  by_cause c (inr m) = let v = and_parts (at is_merging h n) (is_owing h n) m in projection_failed w.0 v.0 (owes h n v.1)
-
   by_terminal : (t : Terminal) → failing_allowed h n t ≡ true → IsAllowed nothing_kept h (End n t)
   by_terminal Completed m = absurd (false≢true m)
-  by_terminal (Error c) m = by_cause c (or_cases (at has_source h n && not (has_open_child h n)) (at is_merging h n && is_owing h n) m)
-
-  by_kind : (at is_leaf h n ≡ true) ⊎ (failing_allowed h n t ≡ true) → IsAllowed nothing_kept h (End n t)
-  by_kind (inl m) = leaf_ended w.0 m
-  by_kind (inr m) = by_terminal t m
+  by_terminal (Error c) m = ⊎_elim
+      (λ a. let v = and_parts (at has_source h n) (not (has_open_child h n)) a in aborted w.0 (sym (abort_at h n) ∙ v.0) (child_closed h n v.1))
+      (λ a. let v = and_parts (at is_merging h n) (is_owing h n) a in projection_failed w.0 v.0 (owes h n v.1))
+      (or_cases (at has_source h n && not (has_open_child h n)) (at is_merging h n && is_owing h n) m)
 
 failing : (h : List Event) (n c : ℕ) → is_open h n ≡ true → failure_allowed h n ≡ true → end_allowed h n (Error c) ≡ true
 unfolding end_allowed
@@ -99,17 +94,14 @@ end_may_of h n (Error c) (projection_failed o m w) =
 
 close_may : (h : List Event) (n : ℕ) → close_allowed h n ≡ true → IsAllowed nothing_kept h (Close n)
 unfolding close_allowed
-close_may h n e = by_kind (or_cases (at is_root h n) (option_map_or (at is_manual_hub h) (hub_connected_at h n) false) w.1) where
-  w : (is_open h n ≡ true) × ((at is_root h n || option_map_or (at is_manual_hub h) (hub_connected_at h n) false) ≡ true)
-  w = and_parts (is_open h n) (at is_root h n || option_map_or (at is_manual_hub h) (hub_connected_at h n) false) e
+close_may h n e = ⊎_elim (λ m. root_closed w.0 m) (λ m. by_hub (hub_connected_at h n) refl m)
+    (or_cases (at is_root h n) (option_map_or (at is_manual_hub h) (hub_connected_at h n) false) w.1) where
+      w : (is_open h n ≡ true) × ((at is_root h n || option_map_or (at is_manual_hub h) (hub_connected_at h n) false) ≡ true)
+      w = and_parts (is_open h n) (at is_root h n || option_map_or (at is_manual_hub h) (hub_connected_at h n) false) e
 
-  by_hub : (o : Option ℕ) → hub_connected_at h n ≡ o → option_map_or (at is_manual_hub h) o false ≡ true → IsAllowed nothing_kept h (Close n)
-  by_hub None is m = absurd (false≢true m)
-  by_hub (Some g) is m = disconnected w.0 (connection_at h n g is) m
-
-  by_kind : (at is_root h n ≡ true) ⊎ (option_map_or (at is_manual_hub h) (hub_connected_at h n) false ≡ true) → IsAllowed nothing_kept h (Close n)
-  by_kind (inl m) = root_closed w.0 m
-  by_kind (inr m) = by_hub (hub_connected_at h n) refl m
+      by_hub : (o : Option ℕ) → hub_connected_at h n ≡ o → option_map_or (at is_manual_hub h) o false ≡ true → IsAllowed nothing_kept h (Close n)
+      by_hub None is m = absurd (false≢true m)
+      by_hub (Some g) is m = disconnected w.0 (connection_at h n g is) m
 
 close_may_of : (h : List Event) (n : ℕ) → IsAllowed nothing_kept h (Close n) → close_allowed h n ≡ true
 unfolding close_allowed
@@ -167,13 +159,8 @@ simply_may_of h x1 no_open no_item a = search (rules, hub_may_of, connect_may_of
 
 all_at : (q : ℕ → Bool) (xs : List ℕ) (a : ℕ) → list_all q xs ≡ true → list_any (λ x. a == x) xs ≡ true → q a ≡ true
 all_at q [] a all any = absurd (false≢true any)
-all_at q (x ∷ xs) a all any = by_first (all_at q xs a w.1) (or_cases (a == x) (list_any (λ x. a == x) xs) any) where
-  w : (q x ≡ true) × (list_all q xs ≡ true)
-  w = and_parts (q x) (list_all q xs) all
-
-  by_first : (list_any (λ x. a == x) xs ≡ true → q a ≡ true) → ((a == x) ≡ true) ⊎ (list_any (λ x. a == x) xs ≡ true) → q a ≡ true
-  by_first rest (inl m) = rw (eqb-true a x m) w.0
-  by_first rest (inr m) = rest m
+all_at q (x ∷ xs) a all any = let w = and_parts (q x) (list_all q xs) all in
+    ⊎_elim (λ m. rw (eqb-true a x m) w.0) (λ m. all_at q xs a w.1 m) (or_cases (a == x) (list_any (λ x. a == x) xs) any)
 
 all_of : (q : ℕ → Bool) (xs : List ℕ) → ((a : ℕ) → list_any (λ x. a == x) xs ≡ true → q a ≡ true) → list_all q xs ≡ true
 all_of q [] each = refl

@@ -1,10 +1,10 @@
 -- The tests that compute decide the rules: ends, sources and connections.
 use Rattle.rx_audit.proofs.Common.{◌≡◌, ℕ, zero, suc, ◌+◌, ◌<◌, ◌≤◌, Bool, true, false, List, [], ◌∷◌, Option, Some, None, refl, ap, arith, cond}
-use Rattle.rx_audit.proofs.Common.{drop, slice_get, inl, inr, ◌⊎◌, ◌&&◌, list_any, range_with_len, filter, option_map_or, option_and_then, cases_Bool}
-use Rattle.rx_audit.proofs.Common.{eqb-true, eq-eqb, false≢true, none-some, option_and_then_some, Terminal, Event, Open, Connect, End}
+use Rattle.rx_audit.proofs.Common.{drop, slice_get, ◌⊎◌, ◌&&◌, list_any, range_with_len, filter, option_map_or, option_and_then, cases_Bool}
+use Rattle.rx_audit.proofs.Common.{eqb-true, eq-eqb, false≢true, none-some, option_and_then_some, Terminal, Event, Connect, End}
 use Rattle.rx_audit.proofs.Common.{is_subscriber_of, is_connect_of, hub_subscribed, hub_connected, at, places, is_open, SourceEnded, same_terminal, is_key}
 use Rattle.rx_audit.proofs.Common.{hub_subscribed_at, hub_connected_at, joins, ends_source, is_cut, open_subscribed, open_connected, has_key, subscribed_event}
-use Rattle.rx_audit.proofs.Common.{connected_event, list_any-same, and_true, and_false}
+use Rattle.rx_audit.proofs.Common.{connected_event, list_any-same, and_true, and_false, hub_ended, ⊎_elim, ◌∙◌}
 use Rattle.std.proofs.lemmas.Bool.{or_parts}
 use Rattle.std.proofs.lemmas.Map.Keys.{any_passes_from_place}
 use Rattle.rx_audit.proofs.Latest.{is_key_of}
@@ -30,10 +30,9 @@ pub record Found (q : Event → Bool) (k : ℕ) (h : List Event) : Type 0 where
 
 find_first : (q : Event → Bool) (h : List Event) → list_any q h ≡ true → Found q 0 h
 find_first q [] e = absurd (false≢true e)
-find_first q (x ∷ h) e = by_first (find_first q h) (cases_Bool (q x)) where
-  by_first : (list_any q h ≡ true → Found q 0 h) → (q x ≡ true) ⊎ (q x ≡ false) → Found q 0 (x ∷ h)
-  by_first later (inl y) = record { place = 0; event = x; after = omega arith; found = refl; holds = y }
-  by_first later (inr n) = let f = later (rw n at e) in record { place = suc f.place; event = f.event; after = omega arith; found = f.found; holds = f.holds }
+find_first q (x ∷ h) e = ⊎_elim (λ y. record { place = 0; event = x; after = omega arith; found = refl; holds = y })
+    (λ n. let f = find_first q h (rw n at e) in record { place = suc f.place; event = f.event; after = omega arith; found = f.found; holds = f.holds })
+    (cases_Bool (q x))
 
 pub find_after : (q : Event → Bool) (k : ℕ) (h : List Event) → list_any q (drop k h) ≡ true → Found q k h
 find_after q zero h e = find_first q h e
@@ -55,10 +54,9 @@ pub record FoundNumber (q : ℕ → Bool) (n : ℕ) : Type 0 where
 
 find_from : (q : ℕ → Bool) (a n : ℕ) → list_any q (range_with_len a n) ≡ true → FoundNumber q (a + n)
 find_from q a zero e = absurd (false≢true e)
-find_from q a (suc n) e = by_first (find_from q (a + 1) n) (cases_Bool (q a)) where
-  by_first : (list_any q (range_with_len (a + 1) n) ≡ true → FoundNumber q ((a + 1) + n)) → (q a ≡ true) ⊎ (q a ≡ false) → FoundNumber q (a + suc n)
-  by_first later (inl y) = record { number = a; within = omega arith; holds = y }
-  by_first later (inr other) = let f = later (rw other at e) in record { number = f.number; within = (let w = f.within in omega arith); holds = f.holds }
+find_from q a (suc n) e = ⊎_elim (λ y. record { number = a; within = omega arith; holds = y })
+    (λ other. let f = find_from q (a + 1) n (rw other at e) in record { number = f.number; within = (let w = f.within in omega arith); holds = f.holds })
+    (cases_Bool (q a))
 
 pub find_number : (q : ℕ → Bool) (n : ℕ) → list_any q (range_with_len 0 n) ≡ true → FoundNumber q n
 find_number q n e = let f = find_from q 0 n e in record { number = f.number; within = (let w = f.within in omega arith); holds = f.holds }
@@ -95,25 +93,24 @@ joined x0 p e = search (rules, false≢true, is_key_of)
 joins_of : (o p : Option ℕ) (g : ℕ) → o ≡ Some g → p ≡ Some g → joins o p ≡ true
 joins_of o p g e f = rw (e, f) (eq-eqb g g refl)
 
-no_join : {C : Type 0} (o : Option ℕ) → joins o None ≡ true → C
-no_join x0 e = search (rules, false≢true)
+ended_event : (h : List Event) (e : Event) (g : ℕ) → hub_ended h e ≡ Some g → (c : ℕ) × (t : Terminal) × (e ≡ End c t) × (hub_connected_at h c ≡ Some g)
+ended_event h x1 g named = search (rules, none-some)
 
 cut_at : (h : List Event) (s i : ℕ) (e : Event) → s < i → slice_get h i ≡ Some e → ends_source h s e ≡ true → (t : Terminal) × SourceEnded h s t
-cut_at h s i (End c u) l at_i holds =
-    let j = joined (hub_subscribed_at h s) (hub_connected_at h c) holds in (
-      u,
+cut_at h s i e l at_i holds =
+    let j = joined (hub_subscribed_at h s) (hub_ended h e) holds in
+    let f = ended_event h e j.0 j.1.1 in (
+      f.1,
       record {
         hub = j.0;
-        connection = c;
+        connection = f.0;
         place = i;
         subscribes = subscriber_at h s j.0 j.1.0;
-        connects = connection_at h c j.0 j.1.1;
+        connects = connection_at h f.0 j.0 f.3;
         later = l;
-        ended = at_i;
+        ended = at_i ∙ ap Some f.2;
       },
     )
-cut_at h s i (Open place kind) l at_i holds = no_join (hub_subscribed_at h s) holds
-cut_at h s i _ l at_i holds = no_join (hub_subscribed_at h s) holds
 
 pub cut_ended : (h : List Event) (s : ℕ) → is_cut h s ≡ true → (t : Terminal) × SourceEnded h s t
 unfolding is_cut

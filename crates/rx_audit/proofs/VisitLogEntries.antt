@@ -1,8 +1,7 @@
 -- The log of visits, entry by entry.
 use Rattle.rx_audit.proofs.Common.{◌≡◌, ℕ, zero, suc, ◌+◌, ◌*◌, ◌<◌, ◌≤◌, List, [], ◌∷◌, ◌++◌, length, take, drop, set, get_or, Some, slice_get, refl, sym, ap}
 use Rattle.rx_audit.proofs.Common.{arith, sum_by, mul-le-mul_left, same_Some, none-some, sum_by-cons, sum_by_more, Visit, times, IsOften}
-use Rattle.std.proofs.Common.{length-take-le}
-use Rattle.std.proofs.Common.{rules}
+use Rattle.std.proofs.Common.{length-take-le, rules}
 
 -- an entry with so many more
 pub entry_more : (log : List Visit) (k at more : ℕ) (v : Visit) → k ≤ at → slice_get log at ≡ Some v → (number : ℕ → ℕ)

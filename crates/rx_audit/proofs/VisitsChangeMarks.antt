@@ -1,8 +1,8 @@
 -- What the visits of an item do to the marks of nodes.
 use Rattle.rx_audit.proofs.Common.{◌≡◌, ℕ, ◌+◌, ◌<◌, Bool, true, List, [], length, take, Option, sym, ap, ◌∙◌, arith}
-use Rattle.rx_audit.proofs.Common.{inl, inr, ◌⊎◌, ◌≢◌, get_or, get_or-set_other, get_or-set_same, cond, add-zero, ◌||◌, length-set, cases_order}
+use Rattle.rx_audit.proofs.Common.{◌⊎◌, ◌≢◌, get_or, get_or-set_other, get_or-set_same, cond, add-zero, ◌||◌, length-set, cases_order}
 use Rattle.rx_audit.proofs.Common.{false≢true, eq-eqb, eqb-true, ne_eqb, or_cases, list_any, sum_by, sum_by_more, Event, Marks, blank_marks, Visit, is_key}
-use Rattle.rx_audit.proofs.Common.{IsNoted, fired_key, projected_key, visited_marks, IsVisited, or_false, or_true}
+use Rattle.rx_audit.proofs.Common.{IsNoted, fired_key, projected_key, visited_marks, IsVisited, or_false, or_true, ⊎_elim}
 use Rattle.std.proofs.lemmas.List.Folds.{list_any_more}
 use Rattle.rx_audit.specs.Marking.{fired_marks, owed_marks, noted_with}
 use Rattle.rx_audit.proofs.ClosingBelow.{noted_more, noted_last}
@@ -55,7 +55,8 @@ pub visited_more : {h : List Event} (log : List Visit) (i : ℕ) (v : Visit) {ol
 visited_more {h} log i v {old} {ms} before todo l e w = record {
   size = length-owed (fired_marks ms fkey) pkey v.count ∙ length-fired ms fkey ∙ w.size;
   marks = λ n m. marked n m;
-  noted = λ n y. by_new n (or_cases (list_any (fires_at h n) (take i log)) (is_key fkey n) (sym (any_more n) ∙ y));
+  noted = λ n y. ⊎_elim (λ was. noted_kept todo fkey n (w.noted n was)) (λ now. noted_new todo fkey n now)
+      (or_cases (list_any (fires_at h n) (take i log)) (is_key fkey n) (sym (any_more n) ∙ y));
   kept = λ n k. noted_kept todo fkey n (w.kept n k);
 } where
   fkey : Option ℕ
@@ -69,10 +70,6 @@ visited_more {h} log i v {old} {ms} before todo l e w = record {
 
   sum_more : (n : ℕ) → sum_by (owes_at h n) (take (i + 1) log) ≡ sum_by (owes_at h n) (take i log) + cond (is_key (projected_key h v.node) n) v.count 0
   sum_more n = sum_by_more (owes_at h n) log i v l ∙ ap (λ (k : ℕ). sum_by (owes_at h n) (take i log) + k) (ap (owes_at h n) (sym e))
-
-  by_new : (n : ℕ) → (list_any (fires_at h n) (take i log) ≡ true) ⊎ (is_key (fired_key h v.node) n ≡ true) → IsNoted 0 (noted_with todo (fired_key h v.node)) n
-  by_new n (inl was) = noted_kept todo (fired_key h v.node) n (w.noted n was)
-  by_new n (inr now) = noted_new todo (fired_key h v.node) n now
 
   marked : (n : ℕ) → n < length old → get_or (owed_marks (fired_marks ms (fired_key h v.node)) (projected_key h v.node) v.count) n blank_marks
       ≡ visited_marks h (take (i + 1) log) n (get_or old n blank_marks)

@@ -1,6 +1,6 @@
 use Rattle.rx_audit.proofs.Common.{◌≡◌, suc, ◌-◌, false, Some, length, ◌∙◌, arith, set, get_or_read, parent, parent_within, last_below, keyed, IsClosingBelow}
 use Rattle.rx_audit.proofs.Latest.{last_le}
-use Rattle.rx_audit.proofs.ClosingBelow.{closing_none, closing_note, closing_next, gone_here, child_below, here_is}
+use Rattle.rx_audit.proofs.ClosingBelow.{closing_none, closing_note, closing_next, mark_gone, child_below, here_is}
 use Rattle.rx_audit.proofs.closing.close_children.Goals.{then-marks-c+in_ok-push, else-marks-c}
 use Rattle.rx_audit.proofs.closing.close_children.Goals as goal
 use Rattle.std.proofs.Common.{rules}
@@ -37,7 +37,7 @@ loop-next-preserved c =
             (closing_next k v (set c.loop-next.marks k false) c.args.todo.now.items _
             (closing_note k c.loop-next.marks c.args.todo.now.items c.loop-next.todo.items so_far (omega arith) below
             w.if-marks-c.true)
-            (gone_here c.loop-next.marks k w.if-marks-c.true) is)
+            (mark_gone c.loop-next.marks k) is)
         | else-marks-c w ↦
             rw (w.marks-is, w.todo-is) (closing_next k v c.loop-next.marks c.args.todo.now.items c.loop-next.todo.items so_far
             w.if-marks-c.false is)

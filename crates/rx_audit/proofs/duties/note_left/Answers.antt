@@ -1,6 +1,7 @@
 use Rattle.rx_audit.proofs.Common.{length, arith}
 use Rattle.rx_audit.proofs.ClosingBelow.{noted_last}
-use Rattle.rx_audit.proofs.DueLists.{keeps_more, keeps_on, any_default, lost_more, lost_all}
+use Rattle.std.proofs.lemmas.List.{get_or_default}
+use Rattle.rx_audit.proofs.DueLists.{keeps_more, keeps_on, lost_more, lost_all}
 use Rattle.rx_audit.proofs.duties.note_left.Goals as goal
 use Rattle.std.proofs.Common.{rules}
 
@@ -12,7 +13,7 @@ loop-s-preserved c = record {
   keeps = keeps_on c.args.due.now.items c.loop-s.due.items c.note_connection.new.due.items c.loop-s.invariant.keeps c.in_ok-note_connection.ensures.keeps;
   lost = lost_more c.args.past.now c.args.closed.now c.args.hubs.now.connection.items c.loop-s.s-index c.loop-s.invariant.lost
       c.in_ok-note_connection.ensures.keeps
-      (rw (any_default c.args.closed.now c.loop-s.s-index _ 0 (omega arith)) at c.in_ok-note_connection.ensures.lost);
+      (rw (get_or_default c.args.closed.now c.loop-s.s-index _ 0 (omega arith)) at c.in_ok-note_connection.ensures.lost);
 }
 
 pub returns-clause-keeps : goal.returns-clause-keeps
