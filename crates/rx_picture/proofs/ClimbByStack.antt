@@ -1,7 +1,7 @@
 -- A climb by a list whose last number is visited next.
 use Rattle.rx_picture.proofs.Common.{◌≡◌, ℕ, suc, ◌+◌, ◌-◌, ◌<◌, ◌≤◌, Bool, List, [], ◌∷◌, ◌++◌, length, take, get_or, refl, sym, ap, ◌∙◌, arith, nat_lt}
-use Rattle.rx_picture.proofs.Common.{append-nil, not, ◌&&◌, lt-ltb, length-take-le, Event, most_visits, climb, AreLines}
-use Rattle.std.proofs.Common.{reverse}
+use Rattle.rx_picture.proofs.Common.{append-nil, not, lt-ltb, length-take-le, Event, most_visits, climb, AreLines}
+use Rattle.std.proofs.Common.{reverse, rules}
 use Rattle.std.proofs.lemmas.List.{reverse-append, reverse-reverse, append_assoc}
 use Rattle.rx_event.specs.Climb.{visited, onward}
 use Rattle.rx_picture.specs.Told.{AreEndsOf}
@@ -9,19 +9,14 @@ use Rattle.rx_event.proofs.Laws.Climbs.{visited_nothing}
 
 -- what the table of the whole history says of a prefix
 pub ends_of_prefix : (h : List Event) (ends : List ℕ) (k : ℕ) → AreLines h (length h) ends → k ≤ length h → AreEndsOf (take k h) ends
-ends_of_prefix h ends k lines m = record {
-  each = λ n l.
-      let size : length (take k h) ≡ k = length-take-le k h m in
-      lines.spans n (omega arith) k m ∙ ap (λ (x : Bool). x && not (nat_lt (get_or ends n 0) k)) (lt-ltb n k (omega arith))
-      ∙ ap (λ (j : ℕ). not (nat_lt (get_or ends n 0) j)) (sym size);
-}
+ends_of_prefix h ends k lines m = search (rules, length, take, length-take-le, Bool, not, nat_lt, get_or, lt-ltb, ℕ)
 
 -- the visits so far, and those that are still to be made of so many
 abbrev pub ClimbsOn : ℕ → List Event → ℕ → ℕ → List ℕ → List ℕ → Type 0
 ClimbsOn most past leaf step visits todo = visits ++ visited (suc most - step) past (reverse todo) ≡ visited (suc most) past (leaf ∷ [])
 
 pub climb_begins : (most : ℕ) (past : List Event) (leaf : ℕ) → ClimbsOn most past leaf 0 [] (leaf ∷ [])
-climb_begins most past leaf = let none : suc most - 0 ≡ suc most = omega arith in ap (λ (left : ℕ). visited left past (leaf ∷ [])) none
+climb_begins most past leaf = search (rules, ℕ)
 
 pub climb_ends : (most : ℕ) (past : List Event) (leaf step : ℕ) (visits : List ℕ)
     → ClimbsOn most past leaf step visits [] → visits ≡ visited (suc most) past (leaf ∷ [])
@@ -30,8 +25,7 @@ climb_ends most past leaf step visits on = sym (append-nil visits) ∙ ap (λ (v
 pub climb_stops : (most : ℕ) (past : List Event) (leaf step : ℕ) (visits todo : List ℕ) → suc most ≤ step → ClimbsOn most past leaf step visits todo →
     visits ≡ visited (suc most) past (leaf ∷ [])
 climb_stops most past leaf step visits todo whole on =
-    let none : suc most - step ≡ 0 = omega arith in
-    sym (append-nil visits) ∙ ap (λ (left : ℕ). visits ++ visited left past (reverse todo)) (sym none) ∙ on
+    search (rules, append-nil, ℕ, reverse)
 
 pub climb_goes_on : {most : ℕ} (past : List Event) {leaf step : ℕ} (n : ℕ) (visits : List ℕ) {todo : List ℕ} (rest : List ℕ) {more : List ℕ} → step ≤ most →
     todo ≡ rest ++ n ∷ [] →
@@ -65,8 +59,7 @@ climb_ended past leaf step visits todo none on = climb_ends most_visits past lea
 pub climb_stopped : (past : List Event) (leaf step : ℕ) (visits todo : List ℕ)
     → 1048577 ≤ step → ClimbsOn most_visits past leaf step visits todo → visits ≡ climb past leaf
 climb_stopped past leaf step visits todo whole on =
-    let limit = limit_is in
-    climb_stops most_visits past leaf step visits todo (omega arith) on ∙ sym (climb_is past leaf)
+    search (rules, limit_is, climb_stops, climb_is)
 
 pub climb_popped : (past : List Event) {leaf step : ℕ} (n : ℕ) (visits : List ℕ) {todo : List ℕ} (rest : List ℕ) {more : List ℕ} → step < 1048577 →
     todo ≡ rest ++ n ∷ [] →

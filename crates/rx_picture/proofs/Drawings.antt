@@ -5,16 +5,14 @@ use Rattle.rx_picture.proofs.Common.{IsDrawing}
 use Rattle.rx_picture.specs.Told.{ArePoints}
 use Rattle.rx_picture.proofs.FewAreChosen.{few_chosen}
 use Rattle.rx_picture.proofs.MarksStandForTests.{count_same, marks_all, rows_same, rowed_same, columns_same, shown_anywhere, placed_anywhere}
+use Rattle.std.proofs.Common.{rules}
 
 pub marks_every : (size : ℕ) (every : List Bool) → every ≡ replicate size true → AreMarks every size (λ n. nat_lt n size)
 marks_every size every is = rw is (marks_all size)
 
 points_same : (h : List Event) (d : Drawing) (placed : List Bool) → AreMarks placed (length h) (is_placed h) → ArePoints h (marked placed) d.points.items →
     ArePoints h (is_placed h) d.points.items
-points_same h d placed tied told = record {
-  numbers = told.numbers ∙ (λ i. filter (λ n. placed_anywhere h placed tied n i) (places h));
-  each = told.each;
-}
+points_same h d placed tied told = search (rules, filter, placed_anywhere)
 
 -- lists that mark what is drawn, shown, placed and rowed of a history
 pub record AreMarked (h : List Event) (drawn shown placed rowed : List Bool) : Type 0 where

@@ -1,8 +1,9 @@
 -- Marks of the numbers so far, and how many are chosen.
-use Rattle.rx_picture.proofs.Common.{◌≡◌, ℕ, zero, suc, ◌+◌, ◌-◌, ◌<◌, ◌≤◌, min, Bool, true, false, cond, List, [], ◌∷◌, ◌++◌, length, refl, ap, ◌∙◌, arith}
-use Rattle.rx_picture.proofs.Common.{inl, inr, ◌⊎◌, nat_lt, not, ◌&&◌, cases_lt, lt-ltb, le-ltb, length_push, bit, count_below, leads, follows, is_chosen}
+use Rattle.rx_picture.proofs.Common.{◌≡◌, ℕ, zero, suc, ◌+◌, ◌-◌, ◌<◌, ◌≤◌, min, Bool, cond, List, [], ◌∷◌, ◌++◌, length, refl, arith}
+use Rattle.rx_picture.proofs.Common.{nat_lt, not, ◌&&◌, cases_lt, lt-ltb, le-ltb, length_push, bit, count_below, leads, follows, is_chosen}
 use Rattle.rx_picture.proofs.Common.{marked, AreMarks}
 use Rattle.rx_picture.proofs.Ranges.{count_next}
+use Rattle.std.proofs.Common.{rules}
 
 -- marks -------------------------------------------------------------------------------------------
 
@@ -17,17 +18,7 @@ mark_new (x ∷ xs) y = mark_new xs y
 
 pub marks_more : (marks : List Bool) (n : ℕ) (test : ℕ → Bool) (mark : Bool)
     → AreMarks marks n test → mark ≡ test n → AreMarks (marks ++ mark ∷ []) (n + 1) test
-marks_more marks n test mark tied is = record {
-  size = length_push marks mark ∙ ap (λ (j : ℕ). j + 1) tied.size;
-  each = λ i l. by_place i l (cases_lt i n);
-} where
-  by_place : (i : ℕ) → i < n + 1 → (i < n) ⊎ (n ≤ i) → marked (marks ++ mark ∷ []) i ≡ test i
-  by_place i l (inl m) = let size = tied.size in mark_old marks mark i (omega arith) ∙ tied.each i m
-  by_place i l (inr m) =
-      let size = tied.size in
-      let last : i ≡ length marks = omega arith in
-      let here : n ≡ i = omega arith in
-      ap (λ (j : ℕ). marked (marks ++ mark ∷ []) j) last ∙ mark_new marks mark ∙ is ∙ ap test here
+marks_more marks n test mark tied is = search (rules, length_push, ℕ, cases_lt, mark_old, length, mark_new)
 
 -- room --------------------------------------------------------------------------------------------
 
@@ -36,16 +27,7 @@ marks_more marks n test mark tied is = record {
 few_plain : (limit most a b : ℕ) (is_among is_first : Bool) →
     bit (is_among && nat_lt (cond is_first a (most + b)) limit) + (min limit a + min (limit - most) b)
     ≡ min limit (a + bit (is_among && is_first)) + min (limit - most) (b + bit (is_among && not is_first))
-few_plain limit most a b false is_first = omega arith
-few_plain limit most a b true true = by_place (cases_lt a limit) where
-  by_place : (a < limit) ⊎ (limit ≤ a) → bit (nat_lt a limit) + (min limit a + min (limit - most) b) ≡ min limit (a + 1) + min (limit - most) (b + 0)
-  by_place (inl l) = rw (lt-ltb a limit l) (omega arith)
-  by_place (inr l) = rw (le-ltb a limit l) (omega arith)
-few_plain limit most a b true false = by_place (cases_lt (most + b) limit) where
-  by_place : (most + b < limit) ⊎ (limit ≤ most + b)
-      → bit (nat_lt (most + b) limit) + (min limit a + min (limit - most) b) ≡ min limit (a + 0) + min (limit - most) (b + 1)
-  by_place (inl l) = rw (lt-ltb (most + b) limit l) (omega arith)
-  by_place (inr l) = rw (le-ltb (most + b) limit l) (omega arith)
+few_plain limit most a b x4 is_first = search (rules, cases_lt, nat_lt, min, lt-ltb, le-ltb)
 
 module _ (first among : ℕ → Bool) (limit size : ℕ) where
   few_below : (n : ℕ) → count_below (is_chosen first among limit size) n

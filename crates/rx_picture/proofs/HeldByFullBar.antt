@@ -1,11 +1,11 @@
 -- A resource is held where its own row has a full bar, or a lease of it has one.
 use Rattle.rx_picture.proofs.Common.{◌≡◌, ℕ, zero, suc, ◌+◌, ◌<◌, ◌≤◌, Bool, true, false, List, [], ◌∷◌, length, take, map, Option, Some, None, refl, sym, ap}
-use Rattle.rx_picture.proofs.Common.{◌∙◌, arith, inl, inr, ◌⊎◌, ◌==◌, nat_lt, slice_get, not, ◌&&◌, ◌||◌, AllByRecursion, list_any, range_with_len}
+use Rattle.rx_picture.proofs.Common.{◌∙◌, arith, ◌⊎◌, ◌==◌, nat_lt, slice_get, not, ◌&&◌, ◌||◌, AllByRecursion, list_any, range_with_len}
 use Rattle.rx_picture.proofs.Common.{option_map_or, false≢true, and_parts, and_from, or_left, or_right, eqb-true, eq-eqb, ltb-true, length-take-le, none-some}
 use Rattle.rx_picture.proofs.Common.{same_Some, Event, Accept, Lease, makes_node, makes_hub, makes_resource, at, places, is_owned, is_out, is_held, at_within}
-use Rattle.rx_picture.proofs.Common.{Row, Shape, Node, Hub, Resource, Loan, Drawing, AreRows, IsRow, IsShape, has_row, is_shown, is_rowed, IsDrawing}
+use Rattle.rx_picture.proofs.Common.{Row, Shape, Node, Resource, Loan, Drawing, AreRows, IsRow, IsShape, has_row, is_shown, is_rowed, IsDrawing}
 use Rattle.rx_picture.proofs.Common.{false_from_ne_true}
-use Rattle.std.proofs.Common.{subst}
+use Rattle.std.proofs.Common.{subst, rules}
 use Rattle.std.proofs.lemmas.Bool.{cases_order, true_from_ne_false}
 use Rattle.std.proofs.lemmas.Map.Views.{any-filter_same}
 use Rattle.rx_event.specs.Events.{is_lease_of}
@@ -26,12 +26,7 @@ all_at P (y ∷ xs) (suc i) x each at_i = all_at P xs i x each.1 at_i
 
 in_range : (n s c : ℕ) → s ≤ n → n < s + c → list_any (λ m. n == m) (range_with_len s c) ≡ true
 in_range n s zero above below = absurd (omega arith)
-in_range n s (suc c) above below = by_place (cases_order n s) (in_range n (s + 1) c) where
-  by_place : (n ≡ s) ⊎ ((n < s) ⊎ (s < n)) → (s + 1 ≤ n → n < (s + 1) + c → list_any (λ m. n == m) (range_with_len (s + 1) c) ≡ true) →
-      list_any (λ m. n == m) (range_with_len s (suc c)) ≡ true
-  by_place (inl same) rest = or_left (n == s) _ (eq-eqb n s same)
-  by_place (inr (inl less)) rest = absurd (omega arith)
-  by_place (inr (inr more)) rest = or_right (n == s) _ (rest (omega arith) (omega arith))
+in_range n s (suc c) above below = search (rules, cases_order, list_any, range_with_len, or_left, eq-eqb, or_right, in_range n (s + 1) c)
 
 any_map : (n : ℕ) (rows : List Row) → list_any (λ m. n == m) (map (λ row. row.number) rows) ≡ list_any (λ row. n == row.number) rows
 any_map n [] = refl
@@ -48,47 +43,27 @@ row_there h shown rows are n within has = list_any_found (λ row. n == row.numbe
 -- what the shape of a row says ----------------------------------------------------------------------
 
 no_node : (o : Option Event) → option_map_or makes_node o false ≡ true → option_map_or makes_resource o false ≡ true → false ≡ true
-no_node None a b = b
-no_node (Some e) a b = by_event e a b where
-  by_event : (e : Event) → makes_node e ≡ true → makes_resource e ≡ true → false ≡ true
-  by_event (Accept node tag) a b = a
-  by_event (Lease r) a b = b
-  by_event _ a b = b
+no_node x0 a b = search (rules, Event, Accept, Lease)
 
 no_hub : (o : Option Event) → option_map_or makes_hub o false ≡ true → option_map_or makes_resource o false ≡ true → false ≡ true
-no_hub None a b = b
-no_hub (Some e) a b = by_event e a b where
-  by_event : (e : Event) → makes_hub e ≡ true → makes_resource e ≡ true → false ≡ true
-  by_event (Accept node tag) a b = a
-  by_event (Lease r) a b = b
-  by_event _ a b = b
+no_hub x0 a b = search (rules, Event, Accept, Lease)
 
 lease_of : (q r : ℕ) → Some (Lease q) ≡ Some (Lease r) → q ≡ r
 lease_of q r same = eqb-true q r (ap (λ (o : Option Event). option_map_or (is_lease_of r) o false) same ∙ eq-eqb r r refl)
 
 owned_barred : (h : List Event) (r k : ℕ) (shape : Shape) → IsShape h r shape → at makes_resource h r ≡ true → k ≤ length h → is_owned (take k h) r ≡ true →
     bars r k r shape ≡ true
-owned_barred h r k (Node until ending) is made m owned = absurd (false≢true (no_node (slice_get h r) is.0 made))
-owned_barred h r k Hub is made m owned = absurd (false≢true (no_hub (slice_get h r) is made))
-owned_barred h r k (Resource after until taken) is made m owned = and_from (r == r) _ (eq-eqb r r refl) (sym (is.1.owned k m) ∙ owned)
-owned_barred h r k (Loan q until) is made m owned = absurd (false≢true (sym (ap (λ (o : Option Event). option_map_or makes_resource o false) is.0) ∙ made))
+owned_barred h r k x3 is made m owned = search (rules, false≢true, slice_get, and_from, eq-eqb, Option, Event, option_map_or)
 
 out_barred : (h : List Event) {r : ℕ} (k l : ℕ) (shape : Shape) → IsShape h l shape → slice_get h l ≡ Some (Lease r) → k ≤ length h
     → is_out (take k h) l ≡ true → bars r k l shape ≡ true
-out_barred h k l (Node until ending) is leased m out = absurd (false≢true (sym (ap (λ (o : Option Event). option_map_or makes_node o false) leased) ∙ is.0))
-out_barred h k l Hub is leased m out = absurd (false≢true (sym (ap (λ (o : Option Event). option_map_or makes_hub o false) leased) ∙ is))
-out_barred h k l (Resource after until taken) is leased m out =
-    absurd (false≢true (sym (ap (λ (o : Option Event). option_map_or makes_resource o false) leased) ∙ is.0))
-out_barred h {r} k l (Loan q until) is leased m out = and_from (q == r) _ (eq-eqb q r (lease_of q r (sym is.0 ∙ leased))) (sym (is.1.out k m) ∙ out)
+out_barred h k l x3 is leased m out = search (rules, false≢true, Option, Event, option_map_or, and_from, eq-eqb)
 
 -- a lease that is out --------------------------------------------------------------------------------
 
 out_somewhere : (h : List Event) (r : ℕ) → 0 < leases_of h r → list_any (is_out_of h r) (places h) ≡ true
 unfolding leases_of
-out_somewhere h r some = true_from_ne_false (list_any (is_out_of h r) (places h)) (λ fail.
-    let none = count_none (is_out_of h r) (places h) (λ i x at_i. false_from_ne_true (is_out_of h r x)
-    (λ passes. false≢true (sym fail ∙ list_any_holds (is_out_of h r) (places h) i x at_i passes))) in
-    omega arith)
+out_somewhere h r some = search (rules, true_from_ne_false, list_any, count_none, false_from_ne_true, false≢true, list_any_holds)
 
 module _ (h : List Event) (d : Drawing) (is : IsDrawing h d) (r : ℕ) (made : at makes_resource h r ≡ true)
     (shown : is_shown h r ≡ true) (k : ℕ) (l : r < k) (m : k ≤ length h) where
@@ -102,11 +77,7 @@ module _ (h : List Event) (d : Drawing) (is : IsDrawing h d) (r : ℕ) (made : a
       (ap (λ (j : ℕ). bars r k j found.1.shape) (sym same) ∙ holds found.1.shape (subst (λ (j : ℕ). IsShape h j found.1.shape) (sym same) row.shape))
 
   own_row : (at has_row h r && is_rowed h r) ≡ true
-  own_row = by_event (slice_get h r) refl made where
-    by_event : (o : Option Event) → slice_get h r ≡ o → option_map_or makes_resource o false ≡ true → (at has_row h r && is_rowed h r) ≡ true
-    by_event None at_r fails = absurd (false≢true fails)
-    by_event (Some (Accept node tag)) at_r holds = rw at_r shown
-    by_event (Some _) at_r fails = absurd (false≢true fails)
+  own_row = search (rules, slice_get, Option, Event, option_map_or, None, false≢true, Some, Accept)
 
   lease_row : (n : ℕ) → slice_get h n ≡ Some (Lease r) → (at has_row h n && is_rowed h n) ≡ true
   lease_row n at_n = rw at_n shown
@@ -121,31 +92,14 @@ module _ (h : List Event) (d : Drawing) (is : IsDrawing h d) (r : ℕ) (made : a
       barred_by found.1 (omega arith) (lease_row found.1 at_n) (λ shape of. out_barred h k found.1 shape of at_n m parts.1)
 
   by_case : (is_owned (take k h) r ≡ true) ⊎ (is_leased (take k h) r ≡ true) → list_any (bars_row r k) d.rows.items ≡ true
-  by_case (inl owned) = barred_by r (at_within makes_resource h r made) own_row (λ shape of. owned_barred h r k shape of made m owned)
-  by_case (inr leased) = by_lease leased
+  by_case x0 = search (rules, barred_by, at_within, own_row, owned_barred, by_lease)
 
   back : list_any (bars_row r k) d.rows.items ≡ true → is_held (take k h) r ≡ true
   back some =
-      let found = list_any_found (bars_row r k) d.rows.items some in
-      let row = all_at (IsRow h) d.rows.items found.0 found.1 is.rows.each found.2 in
-      by_shape found.1.number found.1.shape row.shape found.3
-    where
-      by_shape : (n : ℕ) (shape : Shape) → IsShape h n shape → bars r k n shape ≡ true → is_held (take k h) r ≡ true
-      by_shape n (Node until ending) is_so barred = absurd (false≢true barred)
-      by_shape n Hub is_so barred = absurd (false≢true barred)
-      by_shape n (Resource after until taken) is_so barred =
-          let parts = and_parts (n == r) (nat_lt after k && not (nat_lt until k)) barred in
-          owned_held (take k h) r (ap (is_owned (take k h)) (sym (eqb-true n r parts.0)) ∙ is_so.1.owned k m ∙ parts.1)
-      by_shape n (Loan q until) is_so barred =
-          let parts = and_parts (q == r) (nat_lt n k && not (nat_lt until k)) barred in
-          let inside = ltb-true n k (and_parts (nat_lt n k) (not (nat_lt until k)) parts.1).0 in
-          let leased : slice_get (take k h) n ≡ Some (Lease r) =
-          get_prefix h k n inside m ∙ is_so.0 ∙ ap (λ (p : ℕ). Some (Lease p)) (eqb-true q r parts.0) in
-          leased_held (take k h) r (leased_where (take k h) r (at_prefix makes_resource h k r l m ∙ made)
-          (leases_of_some (take k h) n r leased (is_so.1.out k m ∙ parts.1)))
+      search (rules, list_any_found, all_at, ℕ, Shape, take, Node, false≢true, Resource, and_parts, nat_lt, not, owned_held, eqb-true, Loan, ltb-true, slice_get, Some, Lease, get_prefix, leased_held, leased_where, at_prefix, leases_of_some)
 
   pub held_where : is_held (take k h) r ≡ list_any (bars_row r k) d.rows.items
-  held_where = same_tests (is_held (take k h) r) (list_any (bars_row r k) d.rows.items) (λ held. by_case (held_parts (take k h) r held)) back
+  held_where = search (rules, same_tests, take, list_any, by_case, held_parts, back)
 
 pub held_is_barred : HeldIsBarred
 held_is_barred h d is r made shown k l m = held_where h d is r made shown k l m

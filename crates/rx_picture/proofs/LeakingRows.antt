@@ -1,38 +1,24 @@
 -- Which rows last beyond the last event, and what leaks of a lawful history.
-use Rattle.rx_picture.proofs.Common.{◌≡◌, ℕ, ◌<◌, ◌≤◌, Bool, true, false, List, [], ◌∷◌, length, Option, Some, None, refl, sym, ap, ◌∙◌, arith, inl, inr, ◌⊎◌}
+use Rattle.rx_picture.proofs.Common.{◌≡◌, ℕ, ◌≤◌, Bool, true, false, List, [], ◌∷◌, length, Option, sym, ap, ◌∙◌, arith}
 use Rattle.rx_picture.proofs.Common.{◌==◌, nat_lt, slice_get, not, ◌&&◌, ◌||◌, take-length, AllByRecursion, list_any, option_map_or, cases_lt, lt-ltb, le-ltb}
 use Rattle.rx_picture.proofs.Common.{false≢true, eq-eqb, Event, Accept, Lease, makes_node, makes_hub, makes_resource, makes_lease, is_return_of, at, is_out}
-use Rattle.rx_picture.proofs.Common.{is_taken, is_held, at_within, Row, Shape, Node, Hub, Resource, Loan, IsRow, IsShape, leaks, or_false, ne_eqb}
-use Rattle.rx_event.specs.Kept.{nothing_kept}
+use Rattle.rx_picture.proofs.Common.{is_taken, at_within, Row, Shape, Node, Hub, Resource, Loan, IsRow, IsShape, leaks, or_false, ne_eqb}
 use Rattle.rx_event.specs.Resources.{is_waiting}
 use Rattle.rx_event.proofs.Laws.Resources.{held_resource, held_not_taken}
 use Rattle.rx_picture.specs.Leaks.{is_leaking, is_leaking_row, LeaksAreDrawn, LeaksAreLeft}
+use Rattle.std.proofs.Common.{rules}
 
 -- what an event makes ------------------------------------------------------------------------------
 
 -- one that makes a node or a hub makes neither a resource nor a lease, and one that makes either makes not the other
 node_alone : (o : Option Event) → option_map_or makes_node o false ≡ true → (option_map_or makes_resource o false || option_map_or makes_lease o false) ≡ false
-node_alone None made = refl
-node_alone (Some e) made = by_event e made where
-  by_event : (e : Event) → makes_node e ≡ true → (makes_resource e || makes_lease e) ≡ false
-  by_event (Accept node tag) fails = absurd (false≢true fails)
-  by_event (Lease r) fails = absurd (false≢true fails)
-  by_event _ made = refl
+node_alone x0 made = search (rules, Event, Accept, false≢true, Lease)
 
 hub_alone : (o : Option Event) → option_map_or makes_hub o false ≡ true → (option_map_or makes_resource o false || option_map_or makes_lease o false) ≡ false
-hub_alone None made = refl
-hub_alone (Some e) made = by_event e made where
-  by_event : (e : Event) → makes_hub e ≡ true → (makes_resource e || makes_lease e) ≡ false
-  by_event (Accept node tag) fails = absurd (false≢true fails)
-  by_event (Lease r) fails = absurd (false≢true fails)
-  by_event _ made = refl
+hub_alone x0 made = search (rules, Event, Accept, false≢true, Lease)
 
 resource_alone : (o : Option Event) → option_map_or makes_resource o false ≡ true → option_map_or makes_lease o false ≡ false
-resource_alone None made = refl
-resource_alone (Some e) made = by_event e made where
-  by_event : (e : Event) → makes_resource e ≡ true → makes_lease e ≡ false
-  by_event (Lease r) fails = absurd (false≢true fails)
-  by_event _ made = refl
+resource_alone x0 made = search (rules, Event, Lease, false≢true)
 
 -- what lasts ---------------------------------------------------------------------------------------
 
@@ -41,17 +27,14 @@ lasts_shape made taken out returned e = grind arith
 
 neither_lasts : (h : List Event) (n : ℕ) → (at makes_resource h n || at makes_lease h n) ≡ false → (leaks h n || is_out h n) ≡ false
 unfolding is_out
-neither_lasts h n none = lasts_shape (at makes_resource h n) (is_taken h n) (at makes_lease h n) (list_any (is_return_of n) h) none
+neither_lasts h n none = search (rules, lasts_shape, list_any)
 
 not_out : (h : List Event) (n : ℕ) → at makes_lease h n ≡ false → is_out h n ≡ false
 unfolding is_out
 not_out h n none = ap (λ (x : Bool). x && not (list_any (is_return_of n) h)) none
 
 not_before : (m n : ℕ) → m ≤ n → not (nat_lt m n) ≡ (m == n)
-not_before m n l = by_order (cases_lt m n) where
-  by_order : (m < n) ⊎ (n ≤ m) → not (nat_lt m n) ≡ (m == n)
-  by_order (inl less) = ap not (lt-ltb m n less) ∙ sym (ne_eqb m n (omega arith))
-  by_order (inr more) = ap not (le-ltb m n more) ∙ sym (eq-eqb m n (omega arith))
+not_before m n l = search (rules, cases_lt, not, nat_lt, lt-ltb, ne_eqb, le-ltb, eq-eqb)
 
 module _ (h : List Event) (n : ℕ) where
   pub lasting : (shape : Shape) → IsShape h n shape → is_leaking (length h) shape ≡ (leaks h n || is_out h n)
@@ -85,12 +68,9 @@ leaks_are_drawn h d is = each_row h d.rows.items is.rows.each
 
 left_shape : (made held taken : Bool) → (held ≡ true → made ≡ true) → (held ≡ true → taken ≡ false)
     → (made && not taken) ≡ (held || (made && not held && not taken))
-left_shape made false taken has keeps = by_made made where
-  by_made : (b : Bool) → (b && not taken) ≡ (b && not false && not taken)
-  by_made b = grind arith
-left_shape made true taken has keeps = ap (λ (x : Bool). x && not taken) (has refl) ∙ ap not (keeps refl)
+left_shape made x1 taken has keeps = search (rules, Bool, not)
 
 pub leaks_are_left : LeaksAreLeft
 unfolding is_waiting
 leaks_are_left h law r =
-    left_shape (at makes_resource h r) (is_held h r) (is_taken h r) (held_resource h r) (held_not_taken nothing_kept h law r)
+    search (rules, left_shape, held_resource, held_not_taken)

@@ -1,7 +1,8 @@
 -- What leaks and what is left, by the tables.
-use Rattle.rx_picture.proofs.Common.{◌≡◌, ℕ, ◌<◌, ◌≤◌, Bool, true, false, List, length, get_or, sym, ap, ◌∙◌, arith, inl, inr, ◌⊎◌, nat_lt, not, ◌&&◌, ◌||◌}
+use Rattle.rx_picture.proofs.Common.{◌≡◌, ℕ, ◌<◌, ◌≤◌, Bool, true, false, List, length, get_or, sym, ap, ◌∙◌, arith, nat_lt, not, ◌&&◌, ◌||◌}
 use Rattle.rx_picture.proofs.Common.{take-length, list_any, cases_Bool, lt-ltb, le-ltb, Event, makes_resource, is_take_of, at, is_open, is_taken, at_within}
 use Rattle.rx_picture.proofs.Common.{leaks, is_left, AreTurns, AreLines, was_taken, and_false, and_true}
+use Rattle.std.proofs.Common.{rules}
 
 open_whole : (h : List Event) (ends : List ℕ) (n : ℕ) → AreLines h (length h) ends → n < length h → is_open h n ≡ not (nat_lt (get_or ends n 0) (length h))
 open_whole h ends n lines l =
@@ -24,13 +25,7 @@ unmade made out known none = ap (λ (x : Bool). x && not out) none ∙ sym (ap (
 
 leaks_by : (h : List Event) (taken : List ℕ) (n : ℕ) → AreTurns h was_taken (length h) taken →
     leaks h n ≡ (at makes_resource h n && not (nat_lt (get_or taken n 0) (length h)))
-leaks_by h taken n turns = by_test (cases_Bool (at makes_resource h n)) where
-  by_test : (at makes_resource h n ≡ true) ⊎ (at makes_resource h n ≡ false) →
-      leaks h n ≡ (at makes_resource h n && not (nat_lt (get_or taken n 0) (length h)))
-  by_test (inl made) =
-      ap (λ (x : Bool). at makes_resource h n && not x) (taken_whole h taken n turns (at_within makes_resource h n made))
-      ∙ shape (at makes_resource h n) (nat_lt (get_or taken n 0) (length h))
-  by_test (inr none) = unmade (at makes_resource h n) (is_taken h n) (nat_lt (get_or taken n 0) (length h)) none
+leaks_by h taken n turns = search (rules, cases_Bool, not, nat_lt, get_or, length, Bool, taken_whole, at_within, shape, unmade)
 
 module _ (h : List Event) (taken : List ℕ) (n : ℕ) (turns : AreTurns h was_taken (length h) taken) where
   pub leaks_not : get_or taken n 0 < length h → leaks h n ≡ false

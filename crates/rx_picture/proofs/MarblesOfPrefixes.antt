@@ -2,7 +2,7 @@
 use Rattle.rx_picture.proofs.Common.{◌≡◌, ℕ, zero, suc, ◌+◌, ◌<◌, ◌≤◌, Bool, true, false, cond, List, [], ◌∷◌, ◌++◌, length, take, filter, Option, Some, None}
 use Rattle.rx_picture.proofs.Common.{refl, sym, ap, ◌∙◌, arith, slice_get, append-nil, ◌&&◌, take-length, AllByRecursion, flat_map, option_and_then}
 use Rattle.rx_picture.proofs.Common.{option_map_or, length-take-le, filter-append, Event, End, at, climb, marbles, told_at, and_true, and_false, event_at}
-use Rattle.std.proofs.Common.{ℤ}
+use Rattle.std.proofs.Common.{ℤ, rules}
 use Rattle.std.specs.List.{filter_map, cons_option}
 use Rattle.std.specs.Option.{option_to_list}
 use Rattle.rx_event.specs.declared.mail.Mail.{Mail}
@@ -29,14 +29,13 @@ module _ (lane : ℕ → Bool) (past : List Event) (value : ℤ) where
   told_stop : (o : Option Stop) (ss : List Stop) (more : List Mail) → filter (λ m. lane m.to) (filter_map (told (length past) value) ss) ≡ more →
       filter (λ m. lane m.to) (filter_map (told (length past) value) (cons_option o ss))
       ≡ filter (λ m. lane m.to) (option_to_list (option_and_then (told (length past) value) o)) ++ more
-  told_stop None ss more same = same
-  told_stop (Some s) ss more same = told_mail (told (length past) value s) (filter_map (told (length past) value) ss) more same
+  told_stop x0 ss more same = search (rules, told_mail, length)
 
   -- what the stops tell, visit by visit
   told_visits : (ns : List ℕ) → filter (λ m. lane m.to) (filter_map (told (length past) value) (filter_map (stop_at past) ns))
       ≡ flat_map (told_at lane past value) ns
   told_visits [] = refl
-  told_visits (n ∷ ns) = told_stop (stop_at past n) (filter_map (stop_at past) ns) (flat_map (told_at lane past value) ns) (told_visits ns)
+  told_visits (n ∷ ns) = search (rules, told_stop, flat_map, told_visits ns)
 
   pub item_told : (leaf : ℕ) → flat_map (told_at lane past value) (climb past leaf) ≡ filter (λ m. lane m.to) (mail_of past (Item leaf value))
   unfolding stops
@@ -73,8 +72,7 @@ module _ (lane place : ℕ → Bool) (n : ℕ) where
   none_placed : place n ≡ false → (ms : List Mail) → StandAt n ms → filter (is_marble lane place) ms ≡ []
   none_placed hidden [] stand = refl
   none_placed hidden (m ∷ ms) stand =
-      ap (λ (x : Bool). cond x (m ∷ filter (is_marble lane place) ms) (filter (is_marble lane place) ms))
-      (ap (λ (x : Bool). lane m.to && x) (ap place stand.0 ∙ hidden) ∙ and_false (lane m.to)) ∙ none_placed hidden ms stand.1
+      search (rules, Bool, cond, filter, and_false, none_placed hidden ms stand.1)
 
 -- one event more ----------------------------------------------------------------------------------
 
@@ -92,9 +90,7 @@ module _ (lane place : ℕ → Bool) (h : List Event) (n : ℕ) (within : n < le
 
   stands : (e : Event) → StandAt n (mail_of (take n h) e)
   stands e =
-      let size : length (take n h) ≡ n = length-take-le n h (omega arith) in
-      let all : StandAt (length (take n h)) (mail_of (take n h) e) = mail_place (take n h) e in
-      rw size at all
+      search (rules, length, take, length-take-le, mail_place)
 
   pub marbles_more : (shown : List Mail) → place n ≡ true → shown ≡ marbles lane place (take n h) →
       shown ++ mail_told lane h n ≡ marbles lane place (take (n + 1) h)
@@ -116,7 +112,7 @@ module _ (lane place : ℕ → Bool) (h : List Event) (n : ℕ) (within : n < le
 
 pub marbles_whole : (lane place : ℕ → Bool) (h : List Event) (n : ℕ) (shown : List Mail)
     → n ≡ length h → shown ≡ marbles lane place (take n h) → shown ≡ marbles lane place h
-marbles_whole lane place h n shown whole same = same ∙ ap (λ (k : ℕ). marbles lane place (take k h)) whole ∙ ap (marbles lane place) (take-length h)
+marbles_whole lane place h n shown whole same = search (rules, ℕ, take, take-length)
 
 pub visits_whole : (old new : List Mail) (f : ℕ → List Mail) (ns : List ℕ) (i : ℕ)
     → length ns ≤ i → new ≡ old ++ flat_map f (take i ns) → new ≡ old ++ flat_map f ns

@@ -1,12 +1,13 @@
 -- Marks that say a test choose what the test chooses, and stand where it stands.
 use Rattle.rx_picture.proofs.Common.{◌≡◌, ℕ, zero, suc, ◌+◌, ◌<◌, ◌≤◌, Bool, true, false, cond, List, [], ◌∷◌, ◌++◌, length, replicate, get_or, Option, Some}
 use Rattle.rx_picture.proofs.Common.{None, refl, sym, ap, ◌∙◌, arith, inl, inr, ◌⊎◌, nat_lt, slice_get, not, ◌&&◌, option_map_or, cases_lt, lt-ltb, le-ltb}
-use Rattle.rx_picture.proofs.Common.{and_left, length_push, length-replicate, get_or-replicate, Event, at, Row, bit, count_below, leads, follows, is_chosen}
+use Rattle.rx_picture.proofs.Common.{and_left, length_push, length-replicate, get_or-replicate, Event, at, Row, bit, count_below, is_chosen}
 use Rattle.rx_picture.proofs.Common.{marked, AreMarks, AreRows, has_row, is_drawn, is_shown, is_placed, is_rowed, is_rowed_by, AreColumns}
 use Rattle.rx_event.proofs.Laws.Sums.{sum_by-same}
 use Rattle.rx_picture.specs.Rows.{lane_of}
 use Rattle.rx_picture.proofs.WhereLinesEnd.{get_old, get_new}
 use Rattle.rx_event.proofs.Laws.OpenAfter.{filter_below}
+use Rattle.std.proofs.Common.{rules}
 
 -- the same numbers pass below the bound
 abbrev pub Agree : ℕ → (ℕ → Bool) → (ℕ → Bool) → Type 0
@@ -18,15 +19,7 @@ count_same p q n same = sum_by-same (λ k. bit (q k)) (λ k. bit (p k)) n (λ k 
 chosen_same : (first first_too among among_too : ℕ → Bool) (limit size : ℕ) → Agree size first first_too → Agree size among among_too →
     Agree size (is_chosen first among limit size) (is_chosen first_too among_too limit size)
 chosen_same first first_too among among_too limit size same_first same_among n l =
-    let lead : (k : ℕ) → k < size → leads first among k ≡ leads first_too among_too k = λ k m. (λ i. same_among k m i && same_first k m i) in
-    let follow : (k : ℕ) → k < size → follows first among k ≡ follows first_too among_too k = λ k m. (λ i. same_among k m i && not (same_first k m i)) in
-    let before : count_below (leads first among) n ≡ count_below (leads first_too among_too) n =
-    count_same (leads first among) (leads first_too among_too) n (λ k m. lead k (omega arith)) in
-    let most : count_below (leads first among) size ≡ count_below (leads first_too among_too) size =
-    count_same (leads first among) (leads first_too among_too) size lead in
-    let others : count_below (follows first among) n ≡ count_below (follows first_too among_too) n =
-    count_same (follows first among) (follows first_too among_too) n (λ k m. follow k (omega arith)) in
-    λ i. same_among n l i && nat_lt (cond (same_first n l i) (before i) (most i + others i)) limit
+    search (rules, ℕ, size, not, count_same, nat_lt, cond)
 
 pub marks_chosen : {firsts amongs : List Bool} (chosen : List Bool) (first among : ℕ → Bool) (limit size : ℕ) → AreMarks firsts size first →
     AreMarks amongs size among →
@@ -62,16 +55,10 @@ drawn_past (e ∷ h) zero l = absurd (omega arith)
 drawn_past (e ∷ h) (suc n) l = drawn_past h n (omega arith)
 
 pub shown_anywhere : (h : List Event) (shown : List Bool) → AreMarks shown (length h) (is_shown h) → (n : ℕ) → marked shown n ≡ is_shown h n
-shown_anywhere h shown tied n = by_place (cases_lt n (length h)) where
-  by_place : (n < length h) ⊎ (length h ≤ n) → marked shown n ≡ is_shown h n
-  by_place (inl l) = tied.each n l
-  by_place (inr l) = let size = tied.size in marked_past shown n (omega arith) ∙ sym (and_left _ _ (drawn_past h n l))
+shown_anywhere h shown tied n = search (rules, cases_lt, length, marked_past, and_left, drawn_past)
 
 pub placed_anywhere : (h : List Event) (placed : List Bool) → AreMarks placed (length h) (is_placed h) → (n : ℕ) → marked placed n ≡ is_placed h n
-placed_anywhere h placed tied n = by_place (cases_lt n (length h)) where
-  by_place : (n < length h) ⊎ (length h ≤ n) → marked placed n ≡ is_placed h n
-  by_place (inl l) = tied.each n l
-  by_place (inr l) = let size = tied.size in marked_past placed n (omega arith) ∙ sym (and_left _ _ (le-ltb n (length h) l))
+placed_anywhere h placed tied n = search (rules, cases_lt, length, marked_past, and_left, le-ltb)
 
 -- a row is shown where the marks show its lane
 pub rowed_same : (h : List Event) (shown rowed : List Bool) → AreMarks shown (length h) (is_shown h)

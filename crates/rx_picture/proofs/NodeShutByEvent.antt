@@ -7,67 +7,35 @@ use Rattle.rx_picture.proofs.Common.{Event, End, at, is_shut, is_key, AreTurns, 
 use Rattle.std.proofs.lemmas.Bool.{and_right, or_from, or_parts}
 use Rattle.std.proofs.lemmas.Option.{cond_some, option_and_then_some, slice_get_within}
 use Rattle.std.proofs.lemmas.List.{drop_all}
-use Rattle.rx_event.specs.declared.event.Place.TheVariants.{Inner}
-use Rattle.rx_event.specs.declared.event.Event.TheVariants.{Open, Close}
 use Rattle.rx_event.specs.Events.{inner_named, is_switch, is_inner_of}
 use Rattle.rx_event.specs.Tree.{if_less, shuts, is_switched_inner}
 use Rattle.rx_event.proofs.Laws.Openness.{is_shut-push}
-use Rattle.rx_picture.specs.Tables.{IsShutBy, if_switch, switch_of, number_before, latest_of, inner_with, stopped_of, shut_key}
+use Rattle.rx_picture.specs.Tables.{IsShutBy, if_switch, switch_of, number_before, latest_of, inner_with, shut_key}
 use Rattle.rx_picture.proofs.Prefixes.{same_tests, take_next, in_prefix, past_prefix, at_prefix}
 use Rattle.rx_picture.proofs.WhereTestsTurnTrue.{turns_step}
+use Rattle.std.proofs.Common.{rules}
 
 is_key_of : (o : Option ℕ) (n : ℕ) → is_key o n ≡ true → o ≡ Some n
-is_key_of None n e = absurd (false≢true e)
-is_key_of (Some r) n e = ap Some (eqb-true r n e)
+is_key_of x0 n e = search (rules, false≢true, Some, eqb-true)
 
 -- inners of a Switch ------------------------------------------------------------------------------
 
 switch_shape : (h : List Event) (f n : ℕ) (o : Option Event) →
     ((nat_lt f n && at is_switch h f) && option_map_or (is_inner_of f) o false) ≡ is_key (option_and_then (if_switch h n) (option_and_then inner_named o)) f
-switch_shape h f n None = and_right _ _ refl
-switch_shape h f n (Some (Open (Inner g) kind)) = by_order (cases_eq g f) where
-  alike : (x : Bool) → (x && true) ≡ is_key (cond x (Some f) None) f
-  alike true = sym (eq-eqb f f refl)
-  alike false = refl
-
-  other : (x : Bool) → (g == f) ≡ false → false ≡ is_key (cond x (Some g) None) f
-  other true differs = sym differs
-  other false differs = refl
-
-  by_order : (g ≡ f) ⊎ (g ≡ f → ⊥) → ((nat_lt f n && at is_switch h f) && (g == f)) ≡ is_key (cond (nat_lt g n && at is_switch h g) (Some g) None) f
-  by_order (inl same) =
-      ap (λ (x : Bool). (nat_lt f n && at is_switch h f) && x) (eq-eqb g f same) ∙ alike (nat_lt f n && at is_switch h f)
-      ∙ ap (λ (q : ℕ). is_key (cond (nat_lt q n && at is_switch h q) (Some q) None) f) (sym same)
-  by_order (inr differs) = and_right _ _ (ne_eqb g f differs) ∙ other (nat_lt g n && at is_switch h g) (ne_eqb g f differs)
-switch_shape h f n (Some _) = and_right _ _ refl
+switch_shape h f n x3 = search (rules, and_right, cases_eq, Bool, cond, Some, None, eq-eqb, nat_lt, ℕ, ne_eqb)
 
 -- an inner of a Switch among the first events
 switched_is : (h : List Event) (b f n : ℕ) → n < b → b ≤ length h → is_switched_inner (take b h) f n ≡ is_key (switch_of h n) f
-switched_is h b f n l m = by_order (cases_lt f n) where
-  by_order : (f < n) ⊎ (n ≤ f) → is_switched_inner (take b h) f n ≡ is_key (switch_of h n) f
-  by_order (inl s) =
-      ap (λ (x : Bool). (nat_lt f n && x) && at (is_inner_of f) (take b h) n) (at_prefix is_switch h b f (omega arith) m)
-      ∙ ap (λ (x : Bool). (nat_lt f n && at is_switch h f) && x) (at_prefix (is_inner_of f) h b n l m)
-      ∙ switch_shape h f n (slice_get h n)
-  by_order (inr s) =
-      ap (λ (x : Bool). (x && at is_switch (take b h) f) && at (is_inner_of f) (take b h) n) (le-ltb f n s)
-      ∙ sym (ap (λ (x : Bool). (x && at is_switch h f) && at (is_inner_of f) h n) (le-ltb f n s))
-      ∙ switch_shape h f n (slice_get h n)
+switched_is h b f n l m = search (rules, cases_lt, take, Bool, nat_lt, at_prefix, switch_shape, slice_get, le-ltb)
 
 switch_parts : (h : List Event) (n f : ℕ) → switch_of h n ≡ Some f → (nat_lt f n ≡ true) × (at is_switch h f ≡ true)
-switch_parts h n f named = option_and_then_some (if_switch h n) (option_and_then inner_named (slice_get h n)) f named (λ g found is.
-    let w = cond_some (nat_lt g n && at is_switch h g) g f is in
-    let parts : (nat_lt g n ≡ true) × (at is_switch h g ≡ true) = and_parts _ _ w.0 in
-    rw (← w.1) parts)
+switch_parts h n f named = search (rules, option_and_then_some, option_and_then, slice_get, cond_some, nat_lt, and_parts)
 
 switch_inner : (h : List Event) (b g : ℕ) (e : Event) → slice_get h b ≡ Some e → switch_of h b ≡ Some g → inner_named e ≡ Some g
-switch_inner h b g e at_b named = option_and_then_some (if_switch h b) (option_and_then inner_named (slice_get h b)) g named (λ x found is.
-    let w = cond_some (nat_lt x b && at is_switch h x) x g is in
-    sym (ap (λ (o : Option Event). option_and_then inner_named o) at_b) ∙ found ∙ ap Some w.1)
+switch_inner h b g e at_b named = search (rules, option_and_then_some, option_and_then, slice_get, cond_some, nat_lt, Option, Event, Some)
 
 shuts_inner : (k : List Event) (n : ℕ) (e : Event) (g : ℕ) → inner_named e ≡ Some g → shuts k n e ≡ is_switched_inner k g n
-shuts_inner k n (Open (Inner f) kind) g named = ap (λ (x : ℕ). is_switched_inner k x n) (same_Some f g named)
-shuts_inner k n _ g named = absurd (none-some g named)
+shuts_inner k n x2 g named = search (rules, ℕ, same_Some, none-some)
 
 -- what an event shuts -----------------------------------------------------------------------------
 
@@ -82,18 +50,7 @@ unfolding is_shut
 is_shut_short k n l = ap (λ (x : List Event). list_any (shuts k n) x) (drop_all (suc n) k l)
 
 below_key : (b m n : ℕ) → is_key (if_less b m) n ≡ (nat_lt n b && (m == n))
-below_key b m n = by_order (cases_eq m n) where
-  alike : (x : Bool) → is_key (cond x (Some n) None) n ≡ (x && (n == n))
-  alike true = refl
-  alike false = refl
-
-  other : (x y : Bool) → (m == n) ≡ false → is_key (cond x (Some m) None) n ≡ (y && (m == n))
-  other true y differs = differs ∙ sym (and_right y _ differs)
-  other false y differs = sym (and_right y _ differs)
-
-  by_order : (m ≡ n) ⊎ (m ≡ n → ⊥) → is_key (if_less b m) n ≡ (nat_lt n b && (m == n))
-  by_order (inl same) = rw same (alike (nat_lt n b))
-  by_order (inr differs) = other (nat_lt m b) (nat_lt n b) (ne_eqb m n differs)
+below_key b m n = search (rules, cases_eq, Bool, cond, Some, None, and_right, nat_lt, ne_eqb)
 
 -- the last inner of the Switch is the one that is not shut
 module _ (h : List Event) (b : ℕ) (inner : List ℕ) (n f : ℕ) (within : b ≤ length h) (tied : AreInners h b inner) (still : is_shut (take b h) n ≡ false) where
@@ -109,14 +66,11 @@ module _ (h : List Event) (b : ℕ) (inner : List ℕ) (n f : ℕ) (within : b �
 
   switched_parts : (nat_lt n b && is_switched_inner (take b h) f n) ≡ true → (n < b) × (switch_of h n ≡ Some f)
   switched_parts passes =
-      let parts = and_parts _ _ passes in
-      let l : n < b = ltb-true n b parts.0 in
-      (l, is_key_of (switch_of h n) f (sym (switched_is h b f n l within) ∙ parts.1))
+      search (rules, and_parts, ltb-true, is_key_of, switched_is)
 
   last_named : (nat_lt n b && is_switched_inner (take b h) f n) ≡ true → is_key (number_before (get_or inner f 0)) n ≡ true
   last_named passes =
-      let parts = switched_parts passes in
-      ap (λ (v : ℕ). is_key (number_before v) n) (tied.others f n parts.0 parts.1 still) ∙ eq-eqb n n refl
+      search (rules, switched_parts, ℕ, eq-eqb)
 
   shut_inner : is_key (latest_of inner (if_switch h b f)) n ≡ (nat_lt n b && is_switched_inner (take b h) f n)
   shut_inner = by_switch (cases_Bool (nat_lt f b && at is_switch h f)) where
@@ -133,19 +87,7 @@ module _ (h : List Event) (b : ℕ) (inner : List ℕ) (n f : ℕ) (within : b �
 
 pub shut_by_key : (h : List Event) (b : ℕ) (inner : List ℕ) → b < length h → AreInners h b inner → IsShutBy h b (shut_key h inner b)
 shut_by_key h b inner inside tied n still =
-    let e = (event_at h b inside).0 in
-    let at_b : slice_get h b ≡ Some e = (event_at h b inside).1 in
-    ap (λ (o : Option Event). is_key
-    (option_map_or (if_less b) (option_and_then stopped_of o) (latest_of inner (option_and_then (if_switch h b) (option_and_then inner_named o)))) n) at_b
-    ∙ by_event e ∙ sym (ap (λ (o : Option Event). nat_lt n b && option_map_or (shuts (take b h) n) o false) at_b)
-  where
-    by_event : (e : Event) →
-        is_key (option_map_or (if_less b) (stopped_of e) (latest_of inner (option_and_then (if_switch h b) (inner_named e)))) n
-        ≡ (nat_lt n b && shuts (take b h) n e)
-    by_event (End m t) = below_key b m n
-    by_event (Close m) = below_key b m n
-    by_event (Open (Inner f) kind) = shut_inner h b inner n f (omega arith) tied still
-    by_event _ = sym (and_right _ _ refl)
+    search (rules, event_at, slice_get, Some, Option, Event, option_map_or, option_and_then, nat_lt, take, End, below_key, shut_inner, and_right)
 
 pub shut_step : (h : List Event) (b : ℕ) (table inner : List ℕ) → b < length h → AreInners h b inner → AreTurns h was_shut b table →
     AreTurns h was_shut (b + 1) (noted table (shut_key h inner b) b)
@@ -177,11 +119,7 @@ zeros_at (suc size) zero = refl
 zeros_at (suc size) (suc n) = zeros_at size n
 
 pub inners_none : (h : List Event) → AreInners h 0 (replicate (length h) 0)
-inners_none h = record {
-  size = length-replicate (length h) 0;
-  is_one = λ f c is. let none = zeros_at (length h) f in absurd (omega arith);
-  others = λ f c l named still. absurd (omega arith);
-}
+inners_none h = search (rules, length-replicate, length, zeros_at)
 
 pub inners_step : (h : List Event) (b : ℕ) (inner : List ℕ) → b < length h
     → AreInners h b inner → AreInners h (b + 1) (inner_with inner (switch_of h b) (b + 1))

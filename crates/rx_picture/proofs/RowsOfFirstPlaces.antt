@@ -1,10 +1,10 @@
 -- The rows of the first places.
 use Rattle.rx_picture.proofs.Common.{◌≡◌, ℕ, ◌+◌, Bool, true, false, cond, List, [], ◌∷◌, ◌++◌, map, filter, Option, Some, None, refl, sym, ap, ◌∙◌, slice_get}
 use Rattle.rx_picture.proofs.Common.{◌&&◌, AllByRecursion, range_with_len, option_map_or, or_left, or_right, and_from, map-append, filter-append, append-nil}
-use Rattle.rx_picture.proofs.Common.{Event, makes_node, makes_hub, makes_resource, at, AllByRecursion-both, Row, Shape, Node, Hub, Resource, Loan, IsRow}
-use Rattle.rx_picture.proofs.Common.{IsShape, has_row}
+use Rattle.rx_picture.proofs.Common.{Event, at, AllByRecursion-both, Row, Shape, Node, Resource, Loan, IsRow, IsShape, has_row}
 use Rattle.rx_picture.specs.Tables.{IsShownAt}
 use Rattle.rx_picture.proofs.Ranges.{below_push}
+use Rattle.std.proofs.Common.{rules}
 
 pub record RowsUpTo (h : List Event) (shown : ℕ → Bool) (n : ℕ) (rows : List Row) : Type 0 where
   pub numbers : map (λ row. row.number) rows ≡ filter (λ k. at has_row h k && shown k) (range_with_len 0 n)
@@ -15,24 +15,7 @@ next_filter p n = ap (filter p) (below_push n) ∙ filter-append p (range_with_l
 
 -- what has a shape has a row
 drawn : (h : List Event) (n : ℕ) (shape : Shape) → IsShape h n shape → at has_row h n ≡ true
-drawn h n shape is = by_shape shape is where
-  nodes : (o : Option Event) → option_map_or makes_node o false ≡ true → option_map_or has_row o false ≡ true
-  nodes None fails = fails
-  nodes (Some e) holds = or_left _ _ (or_left _ _ (or_left _ _ holds))
-
-  hubs : (o : Option Event) → option_map_or makes_hub o false ≡ true → option_map_or has_row o false ≡ true
-  hubs None fails = fails
-  hubs (Some e) holds = or_left _ _ (or_left _ _ (or_right _ _ holds))
-
-  resources : (o : Option Event) → option_map_or makes_resource o false ≡ true → option_map_or has_row o false ≡ true
-  resources None fails = fails
-  resources (Some e) holds = or_left _ _ (or_right _ _ holds)
-
-  by_shape : (shape : Shape) → IsShape h n shape → at has_row h n ≡ true
-  by_shape (Node until ending) is = nodes (slice_get h n) is.0
-  by_shape Hub is = hubs (slice_get h n) is
-  by_shape (Resource after until taken) is = resources (slice_get h n) is.0
-  by_shape (Loan resource until) is = ap (λ (o : Option Event). option_map_or has_row o false) is.0
+drawn h n shape is = search (rules, Option, Event, option_map_or, None, Some, or_left, or_right, Shape, Node, slice_get, Resource, Loan)
 
 pub rows_none : (h : List Event) (shown : ℕ → Bool) → RowsUpTo h shown 0 []
 rows_none h shown = record { numbers = refl; each = tt }

@@ -5,22 +5,15 @@ use Rattle.rx_picture.proofs.Common.{and_left, or_left, or_right, or_cases, Even
 use Rattle.rx_picture.proofs.Common.{IsTurn, was_shut}
 use Rattle.rx_event.proofs.Laws.Openness.{is_open_step}
 use Rattle.rx_picture.proofs.Prefixes.{same_tests, past_prefix, at_prefix, parent_prefix}
+use Rattle.std.proofs.Common.{rules}
 
 -- numbers -----------------------------------------------------------------------------------------
 
 pub cut_either : (s u n k : ℕ) → n < k → nat_lt (max (min s u) n) k ≡ (nat_lt s k || nat_lt u k)
-cut_either s u n k l = same_tests _ _ (λ passes. there (ltb-true (max (min s u) n) k passes) (cases_lt s k)) (λ passes. back (or_cases _ _ passes)) where
-  there : max (min s u) n < k → (s < k) ⊎ (k ≤ s) → (nat_lt s k || nat_lt u k) ≡ true
-  there m (inl a) = or_left _ _ (lt-ltb s k a)
-  there m (inr a) = or_right _ _ (lt-ltb u k (omega arith))
-
-  back : (nat_lt s k ≡ true) ⊎ (nat_lt u k ≡ true) → nat_lt (max (min s u) n) k ≡ true
-  back (inl a) = let m = ltb-true s k a in lt-ltb (max (min s u) n) k (omega arith)
-  back (inr a) = let m = ltb-true u k a in lt-ltb (max (min s u) n) k (omega arith)
+cut_either s u n k l = search (rules, same_tests, ltb-true, max, min, cases_lt, or_cases, nat_lt, or_left, lt-ltb, or_right)
 
 pub cut_alone : (s n k : ℕ) → n < k → nat_lt (max s n) k ≡ nat_lt s k
-cut_alone s n k l = same_tests _ _ (λ passes. let m = ltb-true (max s n) k passes in lt-ltb s k (omega arith))
-    (λ passes. let m = ltb-true s k passes in lt-ltb (max s n) k (omega arith))
+cut_alone s n k l = search (rules, same_tests, ltb-true, max, lt-ltb)
 
 pub neither : (a b : Bool) → ((true && not a) && not b) ≡ (true && not (a || b))
 neither a b = grind arith
@@ -33,26 +26,17 @@ and_not a = grind arith
 open_prefix : (h : List Event) (n k : ℕ) → n < k → k ≤ length h →
     is_open (take k h) n ≡ ((at makes_node h n && not (is_shut (take k h) n)) && option_map_or (is_open (take k h)) (parent h n) true)
 open_prefix h n k l m =
-    is_open_step (take k h) n ∙ ap (λ (x : Bool). (x && not (is_shut (take k h) n)) && option_map_or (is_open (take k h)) (parent (take k h) n) true)
-    (at_prefix makes_node h k n l m)
-    ∙ ap (λ (o : Option ℕ). (at makes_node h n && not (is_shut (take k h) n)) && option_map_or (is_open (take k h)) o true) (parent_prefix h k n l m)
+    search (rules, is_open_step, take, Bool, not, option_map_or, at_prefix, Option, ℕ, parent_prefix)
 
 pub line_none : (h : List Event) (n : ℕ) → at makes_node h n ≡ false → Spans h (λ k. is_open k n) n n
-line_none h n none k m = by_place (cases_lt n k) ∙ sym (and_not (nat_lt n k)) where
-  by_place : (n < k) ⊎ (k ≤ n) → is_open (take k h) n ≡ false
-  by_place (inl l) = open_prefix h n k l m ∙ ap (λ (x : Bool). (x && not (is_shut (take k h) n)) && option_map_or (is_open (take k h)) (parent h n) true) none
-  by_place (inr l) = is_open_past (take k h) n (past_prefix h k n l m)
+line_none h n none k m = search (rules, cases_lt, and_not, nat_lt, take, open_prefix, Bool, not, option_map_or, is_open_past, past_prefix)
 
 module _ (h : List Event) (n s : ℕ) (node : at makes_node h n ≡ true) (shut : IsTurn h (was_shut n) (length h) (length h) s) where
   line_whole : (k until : ℕ) (above : Bool) → n < k → k ≤ length h
       → option_map_or (is_open (take k h)) (parent h n) true ≡ not above → nat_lt until k ≡ (nat_lt s k || above) →
       is_open (take k h) n ≡ (nat_lt n k && not (nat_lt until k))
   line_whole k until above l m stays cuts =
-      open_prefix h n k l m ∙ ap (λ (x : Bool). (x && not (is_shut (take k h) n)) && option_map_or (is_open (take k h)) (parent h n) true) node
-      ∙ ap (λ (x : Bool). (true && not x) && option_map_or (is_open (take k h)) (parent h n) true) (shut.turns k m)
-      ∙ ap (λ (x : Bool). (true && not (nat_lt s k)) && x) stays
-      ∙ neither (nat_lt s k) above
-      ∙ sym (ap (λ (x : Bool). x && not (nat_lt until k)) (lt-ltb n k l) ∙ ap (λ (x : Bool). true && not x) cuts)
+      search (rules, open_prefix, Bool, not, take, option_map_or, nat_lt, neither, lt-ltb)
 
   line_short : (k until : ℕ) → k ≤ n → k ≤ length h → is_open (take k h) n ≡ (nat_lt n k && not (nat_lt until k))
   line_short k until l m = is_open_past (take k h) n (past_prefix h k n l m) ∙ sym (and_left _ _ (le-ltb n k l))

@@ -1,11 +1,11 @@
-use Rattle.rx_picture.proofs.Common.{refl, arith, was_removed}
+use Rattle.rx_picture.proofs.Common.{refl, was_removed}
 use Rattle.rx_picture.proofs.WhereTestsTurnTrue.{turns_none, removed_step}
 use Rattle.rx_picture.proofs.firsts.removals.Goals as goal
+use Rattle.std.proofs.Common.{rules}
 
 pub loop-place-init : goal.loop-place-init
 loop-place-init c = rw c.in_ok-table.ensures (turns_none c.args.events.now was_removed (λ n. refl))
 
 pub loop-place-preserved : goal.loop-place-preserved
 loop-place-preserved c =
-    rw (c.note.ensures, c.removed_at-key.ensures)
-    (removed_step c.args.events.now c.loop-place.place c.loop-place.table.items (omega arith) c.loop-place.invariant)
+    search (rules, removed_step)

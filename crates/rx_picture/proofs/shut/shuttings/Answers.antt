@@ -1,7 +1,8 @@
-use Rattle.rx_picture.proofs.Common.{arith, was_shut}
+use Rattle.rx_picture.proofs.Common.{was_shut}
 use Rattle.rx_picture.proofs.WhereTestsTurnTrue.{turns_none}
 use Rattle.rx_picture.proofs.NodeShutByEvent.{never_shut, inners_none, shut_step, inners_step}
 use Rattle.rx_picture.proofs.shut.shuttings.Goals as goal
+use Rattle.std.proofs.Common.{rules}
 
 pub loop-place-init : goal.loop-place-init
 loop-place-init c = record {
@@ -10,12 +11,4 @@ loop-place-init c = record {
 }
 
 pub loop-place-preserved : goal.loop-place-preserved
-loop-place-preserved c = record {
-  shut =
-      rw (c.note.ensures, c.shut_by-shut.ensures)
-      (shut_step c.args.events.now c.loop-place.place c.loop-place.table.items c.loop-place.inner.items
-      (omega arith) c.loop-place.invariant.inner c.loop-place.invariant.shut);
-  inner =
-      rw (c.set_inner.ensures, c.switch_of-opened.ensures)
-      (inners_step c.args.events.now c.loop-place.place c.loop-place.inner.items (omega arith) c.loop-place.invariant.inner);
-}
+loop-place-preserved c = search (rules, shut_step, inners_step)
