@@ -2,7 +2,7 @@
 use Rattle.rx_picture.proofs.Common.{◌≡◌, ℕ, zero, suc, ◌+◌, ◌<◌, ◌≤◌, Bool, true, false, cond, List, [], ◌∷◌, ◌++◌, length, take, filter, Option, Some, None}
 use Rattle.rx_picture.proofs.Common.{refl, sym, ap, ◌∙◌, arith, slice_get, append-nil, ◌&&◌, take-length, AllByRecursion, flat_map, option_and_then}
 use Rattle.rx_picture.proofs.Common.{option_map_or, length-take-le, filter-append, Event, End, at, climb, marbles, told_at, and_true, and_false, event_at}
-use Rattle.std.proofs.Common.{ℤ, rules}
+use Rattle.std.proofs.Common.{ℤ, rules, take_all}
 use Rattle.std.specs.List.{filter_map, cons_option}
 use Rattle.std.specs.Option.{option_to_list}
 use Rattle.rx_event.specs.declared.mail.Mail.{Mail}
@@ -116,9 +116,4 @@ marbles_whole lane place h n shown whole same = search (rules, ℕ, take, take-l
 
 pub visits_whole : (old new : List Mail) (f : ℕ → List Mail) (ns : List ℕ) (i : ℕ)
     → length ns ≤ i → new ≡ old ++ flat_map f (take i ns) → new ≡ old ++ flat_map f ns
-visits_whole old new f ns i whole is = is ∙ ap (λ (ks : List ℕ). old ++ flat_map f ks) (take_all ns i whole) where
-  take_all : (ns : List ℕ) (i : ℕ) → length ns ≤ i → take i ns ≡ ns
-  take_all [] zero l = refl
-  take_all [] (suc i) l = refl
-  take_all (n ∷ ns) zero l = absurd (omega arith)
-  take_all (n ∷ ns) (suc i) l = ap (λ (ks : List ℕ). n ∷ ks) (take_all ns i (omega arith))
+visits_whole old new f ns i whole is = is ∙ ap (λ (ks : List ℕ). old ++ flat_map f ks) (take_all i ns whole)

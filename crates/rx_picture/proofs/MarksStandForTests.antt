@@ -7,7 +7,9 @@ use Rattle.rx_event.proofs.Laws.Sums.{sum_by-same}
 use Rattle.rx_picture.specs.Rows.{lane_of}
 use Rattle.rx_picture.proofs.WhereLinesEnd.{get_old, get_new}
 use Rattle.rx_event.proofs.Laws.OpenAfter.{filter_below}
-use Rattle.std.proofs.Common.{rules}
+use Rattle.std.proofs.lemmas.List.{get_or_past}
+use Rattle.std.proofs.lemmas.Option.{slice_get_past}
+use Rattle.std.proofs.Common.{rules, ⊎_elim}
 
 -- the same numbers pass below the bound
 abbrev pub Agree : ℕ → (ℕ → Bool) → (ℕ → Bool) → Type 0
@@ -45,14 +47,10 @@ rows_same h shown test rows tied told = record {
 
 -- the marks of lanes, past their end too
 marked_past : (marks : List Bool) (n : ℕ) → length marks ≤ n → marked marks n ≡ false
-marked_past [] n l = refl
-marked_past (m ∷ marks) zero l = absurd (omega arith)
-marked_past (m ∷ marks) (suc n) l = marked_past marks n (omega arith)
+marked_past marks n l = get_or_past marks n false l
 
 drawn_past : (h : List Event) (n : ℕ) → length h ≤ n → at is_drawn h n ≡ false
-drawn_past [] n l = refl
-drawn_past (e ∷ h) zero l = absurd (omega arith)
-drawn_past (e ∷ h) (suc n) l = drawn_past h n (omega arith)
+drawn_past h n l = ap (λ (o : Option Event). option_map_or is_drawn o false) (slice_get_past h n l)
 
 pub shown_anywhere : (h : List Event) (shown : List Bool) → AreMarks shown (length h) (is_shown h) → (n : ℕ) → marked shown n ≡ is_shown h n
 shown_anywhere h shown tied n = search (rules, cases_lt, length, marked_past, and_left, drawn_past)
@@ -91,12 +89,7 @@ pub columns_more : (test : ℕ → Bool) (n : ℕ) (columns : List ℕ) (before 
     → before ≡ count_below test n → ColumnsUpTo test (n + 1) (columns ++ before ∷ [])
 columns_more test n columns before tied is = record {
   size = length_push columns before ∙ ap (λ (j : ℕ). j + 1) tied.size;
-  each = λ k l. by_place k l (cases_lt k n);
-} where
-  by_place : (k : ℕ) → k < n + 1 → (k < n) ⊎ (n ≤ k) → get_or (columns ++ before ∷ []) k 0 ≡ count_below test k
-  by_place k l (inl m) = let size = tied.size in get_old columns before k (omega arith) ∙ tied.each k m
-  by_place k l (inr m) =
-      let size = tied.size in
-      let last : k ≡ length columns = omega arith in
-      let here : n ≡ k = omega arith in
-      ap (λ (j : ℕ). get_or (columns ++ before ∷ []) j 0) last ∙ get_new columns before ∙ is ∙ ap (count_below test) here
+  each = λ k l. let size = tied.size in ⊎_elim (λ m. get_old columns before k (omega arith) ∙ tied.each k m)
+      (λ m. let last : k ≡ length columns = omega arith in let here : n ≡ k = omega arith in
+      ap (λ (j : ℕ). get_or (columns ++ before ∷ []) j 0) last ∙ get_new columns before ∙ is ∙ ap (count_below test) here) (cases_lt k n);
+}

@@ -13,7 +13,7 @@ use Rattle.rx_event.proofs.Laws.Openness.{is_shut-push}
 use Rattle.rx_picture.specs.Tables.{IsShutBy, if_switch, switch_of, number_before, latest_of, inner_with, shut_key}
 use Rattle.rx_picture.proofs.Prefixes.{same_tests, take_next, in_prefix, past_prefix, at_prefix}
 use Rattle.rx_picture.proofs.WhereTestsTurnTrue.{turns_step}
-use Rattle.std.proofs.Common.{rules}
+use Rattle.std.proofs.Common.{rules, ⊎_elim}
 
 is_key_of : (o : Option ℕ) (n : ℕ) → is_key o n ≡ true → o ≡ Some n
 is_key_of x0 n e = search (rules, false≢true, Some, eqb-true)
@@ -73,17 +73,15 @@ module _ (h : List Event) (b : ℕ) (inner : List ℕ) (n f : ℕ) (within : b �
       search (rules, switched_parts, ℕ, eq-eqb)
 
   shut_inner : is_key (latest_of inner (if_switch h b f)) n ≡ (nat_lt n b && is_switched_inner (take b h) f n)
-  shut_inner = by_switch (cases_Bool (nat_lt f b && at is_switch h f)) where
-    by_switch : ((nat_lt f b && at is_switch h f) ≡ true) ⊎ ((nat_lt f b && at is_switch h f) ≡ false) →
-        is_key (latest_of inner (if_switch h b f)) n ≡ (nat_lt n b && is_switched_inner (take b h) f n)
-    by_switch (inl here) =
-        ap (λ (x : Bool). is_key (latest_of inner (cond x (Some f) None)) n) here ∙ same_tests _ _ (named_last (get_or inner f 0) refl) last_named
-    by_switch (inr none) = ap (λ (x : Bool). is_key (latest_of inner (cond x (Some f) None)) n) none ∙ sym (false_from_ne_true _ (λ passes.
-        let parts = switched_parts passes in
-        let of_switch = switch_parts h n f parts.1 in
-        let l : f < n = ltb-true f n of_switch.0 in
-        let m : n < b = parts.0 in
-        both_ways _ none (and_from _ _ (lt-ltb f b (omega arith)) of_switch.1)))
+  shut_inner = ⊎_elim (λ (here : (nat_lt f b && at is_switch h f) ≡ true). ap (λ (x : Bool). is_key (latest_of inner (cond x (Some f) None)) n) here
+      ∙ same_tests _ _ (named_last (get_or inner f 0) refl) last_named)
+      (λ (none : (nat_lt f b && at is_switch h f) ≡ false). ap (λ (x : Bool). is_key (latest_of inner (cond x (Some f) None)) n) none
+      ∙ sym (false_from_ne_true _ (λ passes.
+      let parts = switched_parts passes in
+      let of_switch = switch_parts h n f parts.1 in
+      let l : f < n = ltb-true f n of_switch.0 in
+      let m : n < b = parts.0 in
+      both_ways _ none (and_from _ _ (lt-ltb f b (omega arith)) of_switch.1)))) (cases_Bool (nat_lt f b && at is_switch h f))
 
 pub shut_by_key : (h : List Event) (b : ℕ) (inner : List ℕ) → b < length h → AreInners h b inner → IsShutBy h b (shut_key h inner b)
 shut_by_key h b inner inside tied n still =
@@ -93,20 +91,12 @@ pub shut_step : (h : List Event) (b : ℕ) (table inner : List ℕ) → b < leng
     AreTurns h was_shut (b + 1) (noted table (shut_key h inner b) b)
 shut_step h b table inner inside inners tied =
     turns_step b table (shut_key h inner b) (λ n. nat_lt n b && option_map_or (shuts (take b h) n) (slice_get h b) false) inside
-    (λ n. next n (cases_lt n b))
+    (λ n. ⊎_elim (λ (l : n < b). let found = event_at h b inside in is_shut_next h b found.0 n found.1 l ∙ sym
+    (ap (λ (x : Bool). is_shut (take b h) n || (x && option_map_or (shuts (take b h) n) (slice_get h b) false)) (lt-ltb n b l)
+    ∙ ap (λ (o : Option Event). is_shut (take b h) n || option_map_or (shuts (take b h) n) o false) found.1))
+    (λ (l : b ≤ n). is_shut_short (take (suc b) h) n (past_prefix h (suc b) (suc n) (omega arith) (omega arith))
+    ∙ sym (or_from _ _ (is_shut_short (take b h) n (past_prefix h b (suc n) (omega arith) (omega arith))) (and_left _ _ (le-ltb n b l)))) (cases_lt n b))
     (shut_by_key h b inner inside inners) tied
-  where
-    next : (n : ℕ) → (n < b) ⊎ (b ≤ n) → is_shut (take (suc b) h) n
-        ≡ (is_shut (take b h) n || (nat_lt n b && option_map_or (shuts (take b h) n) (slice_get h b) false))
-    next n (inl l) =
-        let e = (event_at h b inside).0 in
-        let at_b : slice_get h b ≡ Some e = (event_at h b inside).1 in
-        is_shut_next h b e n at_b l ∙ sym
-        (ap (λ (x : Bool). is_shut (take b h) n || (x && option_map_or (shuts (take b h) n) (slice_get h b) false)) (lt-ltb n b l)
-        ∙ ap (λ (o : Option Event). is_shut (take b h) n || option_map_or (shuts (take b h) n) o false) at_b)
-    next n (inr l) =
-        is_shut_short (take (suc b) h) n (past_prefix h (suc b) (suc n) (omega arith) (omega arith))
-        ∙ sym (or_from _ _ (is_shut_short (take b h) n (past_prefix h b (suc n) (omega arith) (omega arith))) (and_left _ _ (le-ltb n b l)))
 
 pub never_shut : (n : ℕ) → was_shut n [] ≡ false
 never_shut n = is_shut_short [] n (omega arith)
@@ -140,37 +130,25 @@ inners_step h b inner inside tied = by_key (switch_of h b) refl where
   by_key None none = record {
     size = tied.size;
     is_one = λ f c is. let one = tied.is_one f c is in let l : c < b = one.0 in (omega arith, one.1);
-    others = λ f c l named still. by_place f c l named still (cases_lt c b);
-  } where
-    by_place : (f c : ℕ) → c < b + 1 → switch_of h c ≡ Some f → is_shut (take (b + 1) h) c ≡ false → (c < b) ⊎ (b ≤ c) → get_or inner f 0 ≡ suc c
-    by_place f c l named still (inl m) = tied.others f c m named (before c m still).0
-    by_place f c l named still (inr m) = let same : b ≡ c = omega arith in absurd (none-some f (sym none ∙ ap (switch_of h) same ∙ named))
+    others = λ f c l named still. ⊎_elim (λ m. tied.others f c m named (before c m still).0)
+        (λ m. let same : b ≡ c = omega arith in absurd (none-some f (sym none ∙ ap (switch_of h) same ∙ named))) (cases_lt c b);
+  }
   by_key (Some g) some = record {
     size = length-set inner g (b + 1) ∙ tied.size;
-    is_one = λ f c is. by_order f c is (cases_eq f g);
-    others = λ f c l named still. by_place f c l named still (cases_lt c b);
+    is_one = λ f c is. ⊎_elim
+        (λ same. let value : b + 1 ≡ suc c = sym (get_or-set_same inner g (b + 1) 0 room) ∙ ap (λ (j : ℕ). get_or (set inner g (b + 1)) j 0) (sym same) ∙ is in
+        let here : c ≡ b = omega arith in
+        (omega arith, ap (switch_of h) here ∙ some ∙ ap Some (sym same)))
+        (λ differs. let one = tied.is_one f c (sym (get_or-set_other inner g f (b + 1) 0 differs) ∙ is) in
+        let l : c < b = one.0 in (omega arith, one.1)) (cases_eq f g);
+    others = λ f c l named still. ⊎_elim
+        (λ m. ⊎_elim (λ same. absurd (both_ways _ (before c m still).1 (shuts_inner (take b h) c e g (switch_inner h b g e at_b some)
+        ∙ switched_is h b g c m (omega arith) ∙ ap (λ (o : Option ℕ). is_key o g) named ∙ eq-eqb f g same)))
+        (λ differs. get_or-set_other inner g f (b + 1) 0 differs ∙ tied.others f c m named (before c m still).0) (cases_eq f g))
+        (λ m. let here : b ≡ c = omega arith in
+        ap (λ (j : ℕ). get_or (set inner g (b + 1)) j 0) (sym (same_Some g f (sym some ∙ ap (switch_of h) here ∙ named)))
+        ∙ get_or-set_same inner g (b + 1) 0 room ∙ (omega arith)) (cases_lt c b);
   } where
     room : g < length inner
     room = let l : g < b = ltb-true g b (switch_parts h b g some).0 in let size = tied.size in omega arith
 
-    by_order : (f c : ℕ) → get_or (set inner g (b + 1)) f 0 ≡ suc c → (f ≡ g) ⊎ (f ≡ g → ⊥) → (c < b + 1) × (switch_of h c ≡ Some f)
-    by_order f c is (inl same) =
-        let value : b + 1 ≡ suc c = sym (get_or-set_same inner g (b + 1) 0 room) ∙ ap (λ (j : ℕ). get_or (set inner g (b + 1)) j 0) (sym same) ∙ is in
-        let here : c ≡ b = omega arith in
-        (omega arith, ap (switch_of h) here ∙ some ∙ ap Some (sym same))
-    by_order f c is (inr differs) =
-        let one = tied.is_one f c (sym (get_or-set_other inner g f (b + 1) 0 differs) ∙ is) in
-        let l : c < b = one.0 in
-        (omega arith, one.1)
-
-    by_place : (f c : ℕ) → c < b + 1 → switch_of h c ≡ Some f → is_shut (take (b + 1) h) c ≡ false
-        → (c < b) ⊎ (b ≤ c) → get_or (set inner g (b + 1)) f 0 ≡ suc c
-    by_place f c l named still (inl m) = by_same (cases_eq f g) where
-      by_same : (f ≡ g) ⊎ (f ≡ g → ⊥) → get_or (set inner g (b + 1)) f 0 ≡ suc c
-      by_same (inl same) = absurd (both_ways _ (before c m still).1 (shuts_inner (take b h) c e g (switch_inner h b g e at_b some)
-          ∙ switched_is h b g c m (omega arith) ∙ ap (λ (o : Option ℕ). is_key o g) named ∙ eq-eqb f g same))
-      by_same (inr differs) = get_or-set_other inner g f (b + 1) 0 differs ∙ tied.others f c m named (before c m still).0
-    by_place f c l named still (inr m) =
-        let here : b ≡ c = omega arith in
-        let same : g ≡ f = same_Some g f (sym some ∙ ap (switch_of h) here ∙ named) in
-        ap (λ (j : ℕ). get_or (set inner g (b + 1)) j 0) (sym same) ∙ get_or-set_same inner g (b + 1) 0 room ∙ (omega arith)

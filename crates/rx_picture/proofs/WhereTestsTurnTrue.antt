@@ -7,7 +7,7 @@ use Rattle.rx_picture.proofs.Common.{is_take_of, is_key, IsTurn, AreTurns, noted
 use Rattle.std.proofs.lemmas.List.Folds.{list_any-append}
 use Rattle.rx_event.specs.Events.{removed_of, returned_of, taken_of}
 use Rattle.rx_picture.proofs.Prefixes.{take_next}
-use Rattle.std.proofs.Common.{rules}
+use Rattle.std.proofs.Common.{rules, ⊎_elim}
 
 -- one test ----------------------------------------------------------------------------------------
 
@@ -24,16 +24,11 @@ module _ (h : List Event) (test : List Event → Bool) (b at : ℕ) (s : Bool) (
     (tied : IsTurn h test b (length h) at) where
   -- it was true before
   turned : test (take b h) ≡ true → IsTurn h test (suc b) (length h) at
-  turned was = record { turns = λ k m. by_place k m (cases_lt b k); told = let l = below in or_left _ _ (lt-ltb at (suc b) (omega arith)) } where
-    below : at < b
-    below = ltb-true at b (sym (tied.turns b (omega arith)) ∙ was)
-
-    by_place : (k : ℕ) → k ≤ suc b → (b < k) ⊎ (k ≤ b) → test (take k h) ≡ nat_lt at k
-    by_place k m (inl l) =
-        let less = below in
-        let same : k ≡ suc b = omega arith in
-        ap (λ (j : ℕ). test (take j h)) same ∙ next ∙ or_left _ _ was ∙ sym (lt-ltb at k (omega arith))
-    by_place k m (inr l) = tied.turns k l
+  turned was = let below : at < b = ltb-true at b (sym (tied.turns b (omega arith)) ∙ was) in record {
+    turns = λ k m. ⊎_elim (λ l. let same : k ≡ suc b = omega arith in ap (λ (j : ℕ). test (take j h)) same ∙ next ∙ or_left _ _ was
+        ∙ sym (lt-ltb at k (omega arith))) (λ l. tied.turns k l) (cases_lt b k);
+    told = or_left _ _ (lt-ltb at (suc b) (omega arith));
+  }
 
   unturned : test (take b h) ≡ false → at ≡ length h
   unturned was = search (rules, or_cases, nat_lt, length, both_ways, eqb-true)
@@ -44,16 +39,11 @@ module _ (h : List Event) (test : List Event → Bool) (b at : ℕ) (s : Bool) (
 
   -- it stays false
   turns_later : test (take b h) ≡ false → s ≡ false → IsTurn h test (suc b) (length h) at
-  turns_later was never = record { turns = λ k m. by_place k m (cases_lt b k); told = or_right _ _ (eq-eqb at (length h) (unturned was)) } where
-    last : at ≡ length h
-    last = unturned was
-
-    by_place : (k : ℕ) → k ≤ suc b → (b < k) ⊎ (k ≤ b) → test (take k h) ≡ nat_lt at k
-    by_place k m (inl l) =
-        let e = last in
-        let same : k ≡ suc b = omega arith in
-        ap (λ (j : ℕ). test (take j h)) same ∙ next ∙ ap (λ x. x || s) was ∙ never ∙ sym (le-ltb at k (omega arith))
-    by_place k m (inr l) = tied.turns k l
+  turns_later was never = let last = unturned was in record {
+    turns = λ k m. ⊎_elim (λ l. let same : k ≡ suc b = omega arith in ap (λ (j : ℕ). test (take j h)) same ∙ next ∙ ap (λ x. x || s) was ∙ never
+        ∙ sym (le-ltb at k (omega arith))) (λ l. tied.turns k l) (cases_lt b k);
+    told = or_right _ _ (eq-eqb at (length h) last);
+  }
 
   pub turn_step : (now : Bool) → (test (take b h) ≡ false → now ≡ s) → IsTurn h test (suc b) (length h) (cond now (cond (at == length h) b at) at)
   turn_step now same = search (rules, cases_Bool, take, length, cond, ltb-true, kept_value, ne_eqb, turned, eq-eqb, unturned, turns_now, turns_later)
