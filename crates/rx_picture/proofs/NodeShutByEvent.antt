@@ -151,4 +151,3 @@ inners_step h b inner inside tied = by_key (switch_of h b) refl where
   } where
     room : g < length inner
     room = let l : g < b = ltb-true g b (switch_parts h b g some).0 in let size = tied.size in omega arith
-

@@ -66,17 +66,13 @@ fn mail_of(past: &[Event], n: u64, event: Event, item: Emitted) -> Option<Mail>
 pub fn mail_at(past: &[Event], n: u64, item: Emitted) -> Option<Mail>
     ensures { result ≡ option_and_then (told (length past.now) item.value) (stop_at past.now n) }
 {
-    match past.get(n as usize).copied() {
-        Some(event) => mail_of(past, n, event, item),
-        None => None,
-    }
+    mail_of(past, n, *past.get(n as usize)?, item)
 }
 
 /// Whether an item goes no further than node `n`, which the event made.
 fn is_stop(past: &[Event], n: u64, event: Event) -> bool
     ensures { result ≡ is_some (stop_made past.now n event) }
 {
-    let _ = n;
     match event {
         Event::Open { place, .. } => match place {
             Place::Root | Place::Notifier(_) => true,

@@ -12,6 +12,7 @@ ghost use Rattle.rx_picture.specs.Told.{AreEndsOf, mail_told, marbles, told_at};
 
 use crate::choice::is_marked;
 use crate::climb::{Emitted, climb, mail_at};
+use crate::event_tests::at;
 use rx_event::{Event, Mail, Terminal};
 use rx_note::Note;
 use std::alloc::{AllocError, Global};
@@ -52,10 +53,7 @@ fn push_visits(
 fn is_root_at(past: &[Event], n: u64) -> bool
     ensures { result ≡ at is_root past.now n }
 {
-    match past.get(n as usize).copied() {
-        Some(event) => event.is_root(),
-        None => false,
-    }
+    at(Event::is_root, past, n)
 }
 
 /// Puts what an item tells behind the marbles.

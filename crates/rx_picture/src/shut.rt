@@ -7,6 +7,7 @@ ghost use Rattle.rx_event.specs.Tree.{at, if_less};
 ghost use Rattle.rx_event.specs.Events.{is_switch, inner_named};
 ghost use Rattle.rx_picture.specs.Tables.{AreTurns, was_shut, switch_of, if_switch, stopped_of, shut_key, number_before, latest_of, inner_with};
 
+use crate::event_tests::at;
 use crate::firsts::{filled, note, value_at};
 use rx_event::Event;
 use std::alloc::{AllocError, Global};
@@ -15,10 +16,7 @@ use std::alloc::{AllocError, Global};
 fn is_switch_at(events: &[Event], f: u64) -> bool
     ensures { result ≡ at is_switch events.now f }
 {
-    match events.get(f as usize).copied() {
-        Some(event) => event.is_switch(),
-        None => false,
-    }
+    at(Event::is_switch, events, f)
 }
 
 /// The number, if it is below the place and that of a Switch.

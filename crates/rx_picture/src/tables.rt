@@ -6,6 +6,7 @@ ghost use Rattle.rx_picture.specs.Rows.{is_drawn, is_left};
 ghost use Rattle.rx_picture.specs.Choice.{AreMarks};
 ghost use Rattle.rx_picture.specs.Tables.{AreTables, AreTurns, AreLines, was_taken};
 
+use crate::event_tests::at;
 use crate::firsts::{removals, returns, takings, value_at};
 use crate::leaks::is_leak;
 use crate::lines::line_ends;
@@ -54,10 +55,7 @@ fn is_drawn(event: Event) -> bool
 fn is_drawn_at(events: &[Event], n: usize) -> bool
     ensures { result ≡ at is_drawn events.now n }
 {
-    match events.get(n).copied() {
-        Some(event) => is_drawn(event),
-        None => false,
-    }
+    at(is_drawn, events, n as u64)
 }
 
 /// Whether number `n` is left: an open node, or a resource that was never handed out.
