@@ -41,10 +41,7 @@ fn inner_at(events: &[Event], place: usize) -> Option<u64>
 fn switch_of(events: &[Event], place: usize) -> Option<u64>
     ensures { result ≡ switch_of events.now place }
 {
-    match inner_at(events, place) {
-        Some(f) => if_switch(events, place, f),
-        None => None,
-    }
+    if_switch(events, place, inner_at(events, place)?)
 }
 
 /// The number, if it is below the place.
@@ -69,10 +66,7 @@ fn number_before(value: usize) -> Option<u64>
 fn latest_of(inner: &Vec<usize>, key: Option<u64>) -> Option<u64>
     ensures { result ≡ latest_of inner.now.items key }
 {
-    match key {
-        Some(f) => number_before(value_at(inner, f)),
-        None => None,
-    }
+    number_before(value_at(inner, key?))
 }
 
 /// The node that the event ends or closes.
