@@ -1,7 +1,9 @@
 -- The tests that compute decide what callers may do.
 use Rattle.rx_audit.proofs.Common.{◌≡◌, ℕ, Bool, true, false, nat_lt, List, Some, None, refl, sym, ap, ◌∙◌, slice_get, not, ◌&&◌, ◌||◌}
 use Rattle.rx_audit.proofs.Common.{option_and_then, Event, makes_resource, makes_lease, removed_of, returned_of, taken_of, at, is_open, parent, leases_of}
-use Rattle.rx_audit.proofs.Common.{ancestors_step, is_key, connects_later, is_in_order_at, list_any-same}
+use Rattle.rx_audit.proofs.Common.{ancestors_step, is_key, connects_later, is_in_order_at, list_any-same, ◌<◌, length, get_or, arith}
+use Rattle.rx_audit.specs.declared.found.Found.{Found}
+use Rattle.rx_audit.specs.Known.{IsFoundHere}
 use Rattle.rx_event.specs.Events.{node_of_accept, is_remove_of, is_return_of, is_take_of}
 use Rattle.rx_event.specs.Resources.{is_owned, is_out, is_leased, is_held, is_taken, is_waiting}
 use Rattle.rx_event.proofs.Laws.Resources.{held_is}
@@ -18,6 +20,18 @@ taken_key : (r : ℕ) (e : Event) → is_key (taken_of e) r ≡ is_take_of r e
 taken_key r x1 = search rules
 
 -- resources --------------------------------------------------------------------------------------------
+
+pub removed_here : {h : List Event} {found : Found} → IsFoundHere h found → (r : ℕ) → r < length h → get_or found.removed.items r false ≡ was_removed h r
+removed_here w r l = let a = w.room in let b = w.is.removed_size in w.is.removed r (omega arith)
+
+pub returned_here : {h : List Event} {found : Found} → IsFoundHere h found → (l : ℕ) → l < length h → get_or found.returned.items l false ≡ was_returned h l
+returned_here w l m = let a = w.room in let b = w.is.returned_size in w.is.returned l (omega arith)
+
+pub taken_here : {h : List Event} {found : Found} → IsFoundHere h found → (r : ℕ) → r < length h → get_or found.taken.items r false ≡ was_taken h r
+taken_here w r l = let a = w.room in let b = w.is.taken_size in w.is.taken r (omega arith)
+
+pub leases_here : {h : List Event} {found : Found} → IsFoundHere h found → (r : ℕ) → r < length h → get_or found.leases.items r 0 ≡ leases_of h r
+leases_here w r l = let a = w.room in let b = w.is.leases_size in w.is.leases r (omega arith)
 
 pub owned_at : (h : List Event) (r n : ℕ) → option_and_then node_of_accept (slice_get h r) ≡ Some n → (is_open h n && not (was_removed h r)) ≡ is_owned h r
 unfolding is_owned

@@ -26,10 +26,6 @@ other_untouched h x1 other n item = search (rules, none-some, false≢true)
 
 -- by marks ---------------------------------------------------------------------------------------------
 
-abbrev terminal_of : Event → Terminal
-terminal_of (End n t) = t
-terminal_of _ = Completed
-
 due_ends : (made : Event) (m : Marks) (n : ℕ) (t : Terminal) → ends_so made m t ≡ true → due_at made m n ≡ Some (End n t)
 due_ends made m n t = search (rules, option_map_or, option_map, false≢true, terminal_is)
 

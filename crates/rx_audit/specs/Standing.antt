@@ -1,5 +1,5 @@
 -- What is found of a history, and what is kept of its nodes and hubs. No public clause cites this module.
-use Rattle.std.specs.Prelude.{◌≡◌, ℕ, ◌≤◌, Bool, List, length}
+use Rattle.std.specs.Prelude.{◌≡◌, ℕ, ◌≤◌, Bool, List, [], ◌∷◌, ◌++◌, length}
 use Rattle.rx_event.specs.Kept.{nothing_kept}
 use Rattle.rx_event.specs.declared.event.Event.{Event}
 use Rattle.rx_event.specs.Tree.{is_open}
@@ -11,8 +11,8 @@ use Rattle.rx_audit.specs.Tables.{IsMarked}
 use Rattle.rx_audit.specs.Latest.{AreChildren}
 use Rattle.rx_audit.specs.Listed.{AreLinked, AreOpenListed}
 use Rattle.rx_audit.specs.HubTables.{AreHubs}
-use Rattle.rx_audit.specs.Marking.{IsKept}
-use Rattle.rx_audit.specs.DueList.{HasAll}
+use Rattle.rx_audit.specs.Marking.{IsKept, IsCovered}
+use Rattle.rx_audit.specs.DueList.{Keeps, HasAll}
 
 -- the children, the hubs and their subscribers, and the marks of open nodes are those of the history, and the list has each node
 -- that has to end or to close
@@ -24,6 +24,16 @@ pub record IsFollowed (h : List Event) (size : ℕ) (nodes : Nodes) : Type 0 whe
   pub marks_size : length nodes.marks.items ≡ size
   pub kept : IsKept h nodes.marks.items
   pub covered : HasAll h nodes.due.items
+
+-- what nodes remember is that of one event more, and the list has whom the event may force by that; all else is as it was
+pub record IsRemarked (h : List Event) (e : Event) (old new : Nodes) : Type 0 where
+  pub kept : IsKept (h ++ e ∷ []) new.marks.items
+  pub covered : IsCovered (h ++ e ∷ []) new.due.items
+  pub keeps : Keeps old.due.items new.due.items
+  pub marks_size : length new.marks.items ≡ length old.marks.items
+  pub children : new.children ≡ old.children
+  pub subscribers : new.subscribers ≡ old.subscribers
+  pub hubs : new.hubs ≡ old.hubs
 
 -- the same of a lawful history, with the marks of what is open and room for each event
 pub record IsKnown (h : List Event) (live : List Bool) (nodes : Nodes) : Type 0 where

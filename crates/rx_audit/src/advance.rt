@@ -8,11 +8,10 @@ ghost use Rattle.rx_audit.specs.Tables.{IsMarked, mark_count};
 ghost use Rattle.rx_audit.specs.Latest.{AreChildren, AreClosed};
 ghost use Rattle.rx_audit.specs.Flow.{IsReached};
 ghost use Rattle.rx_audit.specs.Found.{IsClimbed};
-ghost use Rattle.rx_audit.specs.Marking.{IsKept, IsCovered, leaf_of};
-ghost use Rattle.rx_audit.specs.DueList.{Keeps};
+ghost use Rattle.rx_audit.specs.Marking.{leaf_of};
 ghost use Rattle.rx_audit.specs.HubTables.{AreHubs};
 ghost use Rattle.rx_audit.specs.Listed.{AreLinked, AreOpenListed};
-ghost use Rattle.rx_audit.specs.Standing.{IsFollowed};
+ghost use Rattle.rx_audit.specs.Standing.{IsFollowed, IsRemarked};
 
 use crate::children::{Children, link_child, no_children};
 use crate::closing::{mark_open, shut_top};
@@ -80,18 +79,10 @@ fn keep_item(
     requires reached { IsReached past.now leaf log.now }
     requires room { length past.now < length live.now }
     requires followed { IsFollowed past.now (length live.now) nodes.old }
-    ensures kept { OnOk result (IsKept (past.now ++ event ∷ []) nodes.new.marks.items) }
-    ensures covered { OnOk result (IsCovered (past.now ++ event ∷ []) nodes.new.due.items) }
-    ensures keeps { OnOk result (Keeps nodes.old.due.items nodes.new.due.items) }
-    ensures marks_len { OnOk result (length nodes.new.marks.items ≡ length nodes.old.marks.items) }
-    ensures children { nodes.new.children ≡ nodes.old.children }
-    ensures subscribers { nodes.new.subscribers ≡ nodes.old.subscribers }
-    ensures hubs { nodes.new.hubs ≡ nodes.old.hubs }
+    ensures { OnOk result (IsRemarked past.now event nodes.old nodes.new) }
 {
-    let _ = event;
-    let _ = live;
-    let _ = leaf;
-    remark_visits(past, log, &mut nodes.marks, &mut nodes.due)
+    remark_visits(past, log, &mut nodes.marks, &mut nodes.due)?;
+    Ok(())
 }
 
 /// Keeps what an event changes that is no item.
@@ -107,17 +98,12 @@ fn keep_other(
     requires live { IsMarked live.now (is_open past.now) }
     requires room { length past.now < length live.now }
     requires followed { IsFollowed past.now (length live.now) nodes.old }
-    ensures kept { OnOk result (IsKept (past.now ++ event ∷ []) nodes.new.marks.items) }
-    ensures covered { OnOk result (IsCovered (past.now ++ event ∷ []) nodes.new.due.items) }
-    ensures keeps { OnOk result (Keeps nodes.old.due.items nodes.new.due.items) }
-    ensures marks_len { OnOk result (length nodes.new.marks.items ≡ length nodes.old.marks.items) }
-    ensures children { nodes.new.children ≡ nodes.old.children }
-    ensures subscribers { nodes.new.subscribers ≡ nodes.old.subscribers }
-    ensures hubs { nodes.new.hubs ≡ nodes.old.hubs }
+    ensures { OnOk result (IsRemarked past.now event nodes.old nodes.new) }
 {
     let top = shut_top(past, event, &nodes.children, live);
     remark(past, event, top, &mut nodes.marks);
-    note_touched(past, event, &mut nodes.due)
+    note_touched(past, event, &mut nodes.due)?;
+    Ok(())
 }
 
 /// Keeps what the event changes in what nodes remember.
@@ -134,13 +120,7 @@ fn keep(
     requires live { IsMarked live.now (is_open past.now) }
     requires room { length past.now < length live.now }
     requires followed { IsFollowed past.now (length live.now) nodes.old }
-    ensures kept { OnOk result (IsKept (past.now ++ event ∷ []) nodes.new.marks.items) }
-    ensures covered { OnOk result (IsCovered (past.now ++ event ∷ []) nodes.new.due.items) }
-    ensures keeps { OnOk result (Keeps nodes.old.due.items nodes.new.due.items) }
-    ensures marks_len { OnOk result (length nodes.new.marks.items ≡ length nodes.old.marks.items) }
-    ensures children { nodes.new.children ≡ nodes.old.children }
-    ensures subscribers { nodes.new.subscribers ≡ nodes.old.subscribers }
-    ensures hubs { nodes.new.hubs ≡ nodes.old.hubs }
+    ensures { OnOk result (IsRemarked past.now event nodes.old nodes.new) }
 {
     match leaf_of(event) {
         Some(leaf) => keep_item(past, event, log, live, leaf, nodes),

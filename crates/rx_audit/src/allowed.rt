@@ -5,7 +5,9 @@ ghost use Rattle.std.specs.Option.{option_and_then};
 ghost use Rattle.std.proofs.Math.Bool.{not};
 ghost use Rattle.std.specs.List.{list_any};
 ghost use Rattle.rx_event.specs.Events.{has_source, is_leaf, is_merging, is_notifier_of, is_source_of, is_until, makes_lease, makes_resource, node_of_accept};
-ghost use Rattle.rx_event.specs.Tree.{at, is_open, open_nodes, has_open_child};
+ghost use Rattle.rx_event.specs.Kept.{nothing_kept};
+ghost use Rattle.rx_event.specs.Marks.{marks_of};
+ghost use Rattle.rx_event.specs.Tree.{at, is_open, open_nodes};
 ghost use Rattle.rx_event.specs.Resources.{is_owned, is_out, is_leased, is_held, is_waiting};
 ghost use Rattle.rx_audit.specs.Known.{IsFoundHere};
 ghost use Rattle.rx_audit.specs.Standing.{IsKnown};
@@ -20,8 +22,8 @@ ghost use Rattle.rx_audit.specs.Allowing.{decline_allowed, allowed_simply, item_
 use crate::advance::Nodes;
 use crate::event_tests::at;
 use crate::forced::is_connected;
-use crate::found::{self, Found};
-use crate::marks::is_marked;
+use crate::found::Found;
+use crate::marks::{count_of, is_marked};
 use crate::nodes::marks_at;
 use crate::openness::parent_of;
 use crate::reach::{Climb, reached};
@@ -34,7 +36,6 @@ pub fn open_count(past: &[Event], found: &Found) -> usize
     requires { IsFoundHere past.now found.now }
     ensures { result ≡ length (open_nodes past.now) }
 {
-    let _ = past;
     found.live_count
 }
 
@@ -98,38 +99,16 @@ fn is_open_node(past: &[Event], found: &Found, n: u64) -> bool
     requires { IsFoundHere past.now found.now }
     ensures { result ≡ is_open past.now n }
 {
-    let _ = past;
     is_marked(found.live.as_slice(), n)
 }
 
-/// Whether a source was ever opened below node `p`, which is open.
-fn was_sourced(past: &[Event], marks: &Vec<Marks>, p: u64) -> bool
+/// What node `n` remembers, which is open.
+fn open_marks(past: &[Event], marks: &Vec<Marks>, n: u64) -> Marks
     requires kept { IsKept past.now marks.now.items }
-    requires here { is_open past.now p ≡ true }
-    ensures { result ≡ list_any (is_source_of p) past.now }
+    requires here { is_open past.now n ≡ true }
+    ensures { result ≡ marks_of nothing_kept past.now n }
 {
-    let _ = past;
-    marks_at(marks, p).source_opened
-}
-
-/// Whether a notifier was ever opened below node `p`, which is open.
-fn was_notified(past: &[Event], marks: &Vec<Marks>, p: u64) -> bool
-    requires kept { IsKept past.now marks.now.items }
-    requires here { is_open past.now p ≡ true }
-    ensures { result ≡ list_any (is_notifier_of p) past.now }
-{
-    let _ = past;
-    marks_at(marks, p).notifier_opened
-}
-
-/// Whether something is owed at node `f`, which is open.
-fn is_owing(past: &[Event], marks: &Vec<Marks>, f: u64) -> bool
-    requires kept { IsKept past.now marks.now.items }
-    requires here { is_open past.now f ≡ true }
-    ensures { result ≡ is_owing past.now f }
-{
-    let _ = past;
-    marks_at(marks, f).owed > 0
+    marks_at(marks, n)
 }
 
 /// Whether a source may be opened below node `p`.
@@ -141,7 +120,7 @@ fn is_source_free(past: &[Event], found: &Found, marks: &Vec<Marks>, p: u64) -> 
     if !is_open_node(past, found, p) {
         return false;
     }
-    at(Event::has_source, past, p) && !was_sourced(past, marks, p)
+    at(Event::has_source, past, p) && !open_marks(past, marks, p).source_opened
 }
 
 /// Whether a notifier may be opened below node `p`.
@@ -153,10 +132,11 @@ fn is_notifier_free(past: &[Event], found: &Found, marks: &Vec<Marks>, p: u64) -
     if !is_open_node(past, found, p) {
         return false;
     }
-    at(Event::is_until, past, p) && !was_notified(past, marks, p)
+    at(Event::is_until, past, p) && !open_marks(past, marks, p).notifier_opened
 }
 
 /// Whether node `f` is an open FlatMap or Switch that owes something.
+#[tactic(auto, unfolding(crate::specs::Rules::is_owing))]
 fn owes_inner(past: &[Event], found: &Found, marks: &Vec<Marks>, f: u64) -> bool
     requires found { IsFoundHere past.now found.now }
     requires kept { IsKept past.now marks.now.items }
@@ -165,7 +145,7 @@ fn owes_inner(past: &[Event], found: &Found, marks: &Vec<Marks>, f: u64) -> bool
     if !is_open_node(past, found, f) {
         return false;
     }
-    at(Event::is_merging, past, f) && is_owing(past, marks, f)
+    at(Event::is_merging, past, f) && open_marks(past, marks, f).owed > 0
 }
 
 /// Whether a node may be opened at the place.
@@ -195,7 +175,7 @@ fn stays_owned(past: &[Event], found: &Found, n: u64, r: u64) -> bool
     requires within { r < length past.now }
     ensures { result ≡ (is_open past.now n && not (was_removed past.now r)) }
 {
-    is_marked(found.live.as_slice(), n) && !found::was_removed(past, found, r)
+    is_marked(found.live.as_slice(), n) && !is_marked(found.removed.as_slice(), r)
 }
 
 /// Whether resource `r` is owned by its node.
@@ -224,7 +204,7 @@ fn is_leased(past: &[Event], found: &Found, r: u64) -> bool
     if !is_resource(past, r) {
         return false;
     }
-    found::has_leases(past, found, r)
+    count_of(found.leases.as_slice(), r) > 0
 }
 
 /// Whether resource `r` is held.
@@ -253,7 +233,7 @@ fn is_out(past: &[Event], found: &Found, l: u64) -> bool
     if !is_lease(past, l) {
         return false;
     }
-    !found::was_returned(past, found, l)
+    !is_marked(found.returned.as_slice(), l)
 }
 
 /// Whether resource `r`, which is in the history, is neither held nor handed out.
@@ -262,7 +242,7 @@ fn is_left_over(past: &[Event], found: &Found, r: u64) -> bool
     requires within { r < length past.now }
     ensures { result ≡ (not (is_held past.now r) && not (was_taken past.now r)) }
 {
-    !is_held(past, found, r) && !found::was_taken(past, found, r)
+    !is_held(past, found, r) && !is_marked(found.taken.as_slice(), r)
 }
 
 /// Whether resource `r` waits to be handed out.
@@ -311,24 +291,16 @@ pub fn is_allowed_simply(past: &[Event], found: &Found, nodes: &Nodes, event: Ev
     }
 }
 
-/// Whether node `n`, which is open, has an open child, by what it remembers.
-fn has_child(past: &[Event], marks: &Vec<Marks>, n: u64) -> bool
-    requires kept { IsKept past.now marks.now.items }
-    requires here { is_open past.now n ≡ true }
-    ensures { result ≡ has_open_child past.now n }
-{
-    let _ = past;
-    marks_at(marks, n).open_children > 0
-}
-
 /// Whether a caller may end node `n`, which is open, with an error, though it is no leaf.
+#[tactic(auto, unfolding(crate::specs::Rules::is_owing), using(crate::proofs::DueListCovers::child_marked))]
 fn failure_allowed(past: &[Event], marks: &Vec<Marks>, n: u64) -> bool
     requires kept { IsKept past.now marks.now.items }
     requires here { is_open past.now n ≡ true }
     ensures { result ≡ failure_allowed past.now n }
 {
-    at(Event::has_source, past, n) && !has_child(past, marks, n)
-        || at(Event::is_merging, past, n) && is_owing(past, marks, n)
+    let kept = open_marks(past, marks, n);
+    at(Event::has_source, past, n) && !(kept.open_children > 0)
+        || at(Event::is_merging, past, n) && kept.owed > 0
 }
 
 /// Whether a caller may end node `n` so.

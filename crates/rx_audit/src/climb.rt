@@ -17,20 +17,11 @@ use std::alloc::AllocError;
 pub fn projected_at(past: &[Event], n: u64) -> Option<u64>
     ensures { result ≡ option_and_then projected_by (stop_at past.now n) }
 {
-    match past.get(n as usize).copied() {
-        Some(
-            Event::Open {
-                place: Place::Source(f),
-                ..
-            },
-        ) => {
-            if at(Event::is_merging, past, f) {
-                Some(f)
-            } else {
-                None
-            }
-        }
-        _ => None,
+    let f = past.get(n as usize)?.source_of()?;
+    if at(Event::is_merging, past, f) {
+        Some(f)
+    } else {
+        None
     }
 }
 
@@ -38,22 +29,13 @@ pub fn projected_at(past: &[Event], n: u64) -> Option<u64>
 pub fn fired_at(past: &[Event], n: u64) -> Option<u64>
     ensures { result ≡ option_and_then fired_by (stop_at past.now n) }
 {
-    match past.get(n as usize).copied() {
-        Some(
-            Event::Open {
-                place: Place::Notifier(u),
-                ..
-            },
-        ) => Some(u),
-        _ => None,
-    }
+    past.get(n as usize)?.notifier_of()
 }
 
 /// Whether an item goes no further than node `n`, which the event made.
 fn is_stop(past: &[Event], n: u64, event: Event) -> bool
     ensures { result ≡ is_some (stop_made past.now n event) }
 {
-    let _ = n;
     match event {
         Event::Open { place, .. } => match place {
             Place::Root | Place::Notifier(_) => true,

@@ -63,7 +63,6 @@ fn close_from(
     ensures count { IfOk result (λ closed. mark_count marks.new + closed ≡ mark_count marks.old) }
     ensures len { length marks.new ≡ length marks.old }
 {
-    let _ = event;
     marks[top] = false;
     todo.clear();
     todo.push(top)?;
@@ -112,7 +111,6 @@ fn open_number(past: &[Event], marks: &[bool], n: u64) -> Option<usize>
     requires tied { IsMarked marks.now (is_open past.now) }
     ensures { MatchOption result (ShutsNone past.now (λ k. n == k)) (IsShutAlone past.now (λ k. n == k)) }
 {
-    let _ = past;
     if is_marked(marks, n) {
         Some(n as usize)
     } else {

@@ -115,7 +115,6 @@ fn note_subscribers(
     ensures keeps { OnOk result (Keeps due.old.items due.new.items) }
     ensures all { OnOk result ((s : ℕ) → on_list past.now subs.now.listed.items g s ≡ true → IsNoted 0 due.new.items s) }
 {
-    let _ = past;
     let mut next = value_at(&subs.last, g);
     while next > 0 {
         let s = next - 1;
@@ -150,10 +149,7 @@ pub fn note_cut(
 fn lost_connection(past: &[Event], hubs: &Hubs, s: u64) -> Option<u64>
     ensures { result ≡ lost_connection past.now hubs.now.connection.items s }
 {
-    match hub_subscribed_at(past, s) {
-        Some(g) => number_of(value_at(&hubs.connection, g)),
-        None => None,
-    }
+    number_of(value_at(&hubs.connection, hub_subscribed_at(past, s)?))
 }
 
 /// Notes it.

@@ -37,8 +37,6 @@ fn is_subscribed(past: &[Event], live: &[bool], nodes: &Nodes, g: u64) -> bool
     requires { IsKnown past.now live.now nodes.now }
     ensures { result ≡ has_key (open_subscribed past.now) past.now g }
 {
-    let _ = past;
-    let _ = live;
     value_at(&nodes.subscribers.last, g) > 0
 }
 
@@ -71,7 +69,6 @@ pub fn is_connected(past: &[Event], live: &[bool], nodes: &Nodes, g: u64) -> boo
     requires { IsKnown past.now live.now nodes.now }
     ensures { result ≡ has_key (open_connected past.now) past.now g }
 {
-    let _ = past;
     leads_to_marked(live, value_at(&nodes.hubs.connection, g))
 }
 
@@ -80,8 +77,6 @@ fn is_waited_for(past: &[Event], live: &[bool], nodes: &Nodes, g: u64) -> bool
     requires { IsKnown past.now live.now nodes.now }
     ensures { result ≡ has_key (open_waiting past.now) past.now g }
 {
-    let _ = past;
-    let _ = live;
     let last = value_at(&nodes.subscribers.last, g);
     let ended = value_at(&nodes.hubs.ended, g);
     leads_no_less(last, ended)
@@ -92,7 +87,6 @@ pub fn is_cut(past: &[Event], live: &[bool], nodes: &Nodes, s: u64) -> bool
     requires { IsKnown past.now live.now nodes.now }
     ensures { result ≡ is_cut past.now s }
 {
-    let _ = live;
     match hub_subscribed_at(past, s) {
         Some(g) => leads_past(value_at(&nodes.hubs.ended, g), s),
         None => false,

@@ -1,19 +1,19 @@
 //! What was found of the events so far.
 
 ghost use Rattle.rx_event.specs.Kept.{nothing_kept};
-ghost use Rattle.std.specs.Prelude.{◌≡◌, ℕ, ◌+◌, ◌<◌, ◌≤◌, false, [], ◌∷◌, ◌++◌, IfOk, OnOk, length, nat_lt, replicate, slice_index_or};
+ghost use Rattle.std.specs.Prelude.{◌≡◌, ℕ, ◌+◌, ◌<◌, ◌≤◌, false, [], ◌∷◌, ◌++◌, IfOk, OnOk, length, replicate, slice_index_or};
 ghost use Rattle.std.specs.Option.{option_and_then};
 ghost use Rattle.rx_event.specs.Events.{returned_of};
 ghost use Rattle.rx_event.specs.Resources.{leases_of};
 ghost use Rattle.rx_event.specs.Lawful.{IsLawful, MayFollow};
 ghost use Rattle.rx_audit.specs.Found.{IsFound, IsClimbed};
-ghost use Rattle.rx_audit.specs.Rules.{resource_of, was_removed, was_returned, was_taken};
+ghost use Rattle.rx_audit.specs.Rules.{resource_of};
 ghost use Rattle.rx_audit.specs.Standing.{IsFollowed};
 ghost use Rattle.rx_audit.specs.Tables.{IsTally};
 
 use crate::advance::{Nodes, advance};
 use crate::children::zeros;
-use crate::marks::{count, count_less, count_of, is_marked, mark};
+use crate::marks::{count, count_less, mark};
 use crate::reach::Visit;
 use rx_event::Event;
 use std::alloc::{AllocError, Global};
@@ -112,44 +112,4 @@ pub fn follow(
     find_leases(past, event, found.leases.as_mut_slice());
     mark(found.taken.as_mut_slice(), event.taken());
     Ok(())
-}
-
-/// Whether resource `r` was removed.
-pub fn was_removed(past: &[Event], found: &Found, r: u64) -> bool
-    requires found { IsFound past.now (length found.now.live.items) found.now }
-    requires within { r < length found.now.live.items }
-    ensures { result ≡ was_removed past.now r }
-{
-    let _ = past;
-    is_marked(found.removed.as_slice(), r)
-}
-
-/// Whether lease `l` was given back.
-pub fn was_returned(past: &[Event], found: &Found, l: u64) -> bool
-    requires found { IsFound past.now (length found.now.live.items) found.now }
-    requires within { l < length found.now.live.items }
-    ensures { result ≡ was_returned past.now l }
-{
-    let _ = past;
-    is_marked(found.returned.as_slice(), l)
-}
-
-/// Whether a lease of resource `r` is out.
-pub fn has_leases(past: &[Event], found: &Found, r: u64) -> bool
-    requires found { IsFound past.now (length found.now.live.items) found.now }
-    requires within { r < length found.now.live.items }
-    ensures { result ≡ nat_lt 0 (leases_of past.now r) }
-{
-    let _ = past;
-    count_of(found.leases.as_slice(), r) > 0
-}
-
-/// Whether resource `r` was handed out.
-pub fn was_taken(past: &[Event], found: &Found, r: u64) -> bool
-    requires found { IsFound past.now (length found.now.live.items) found.now }
-    requires within { r < length found.now.live.items }
-    ensures { result ≡ was_taken past.now r }
-{
-    let _ = past;
-    is_marked(found.taken.as_slice(), r)
 }

@@ -179,7 +179,6 @@ pub fn subscribers_of(
     requires empty { found.old.items ≡ [] }
     ensures { OnOk result ((number : ℕ → ℕ) → sum_by number found.new.items ≡ sum_by number (open_subscribers past.now g)) }
 {
-    let _ = past;
     let mut next = value_at(&subs.last, g);
     while next > 0 {
         let s = (next - 1) as u64;

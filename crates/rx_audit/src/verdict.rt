@@ -97,24 +97,6 @@ fn opening_fits(
         && leaves_room(past, event, found, nodes)
 }
 
-/// Whether a caller may open a node there.
-fn is_opening_allowed(
-    past: &[Event],
-    event: Event,
-    place: Place,
-    kind: Kind,
-    found: &Found,
-    nodes: &Nodes,
-) -> bool
-    requires event { event ≡ Event.Open place kind }
-    requires settled { IsSettled nothing_kept past.now }
-    requires found { IsFoundHere past.now found.now }
-    requires known { IsKnown past.now found.now.live.items nodes.now }
-    ensures { IsTrue result ↔ IsAllowed nothing_kept past.now event }
-{
-    opening_fits(past, event, place, kind, found, nodes)
-}
-
 /// Whether a caller's event may come next, where operators have nothing left to do. Where an item may, the
 /// climb has the nodes that it visits.
 fn is_allowed(
@@ -131,9 +113,7 @@ fn is_allowed(
     ensures climbed { IfOk result (λ b. IsTrue b → IsClimbed past.now event climb.new.log.items) }
 {
     match event {
-        Event::Open { place, kind } => {
-            Ok(is_opening_allowed(past, event, place, kind, found, nodes))
-        }
+        Event::Open { place, kind } => { Ok(opening_fits(past, event, place, kind, found, nodes)) }
         Event::Item(leaf, _) => is_item_allowed(past, found, &nodes.subscribers, climb, leaf),
         _ => Ok(is_allowed_simply(past, found, nodes, event)),
     }

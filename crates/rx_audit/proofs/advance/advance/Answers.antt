@@ -18,7 +18,7 @@ returns-clause-followed c =
       linked = subst (λ (n : ℕ). AreLinked (h ++ e ∷ []) n c.relink.new.subs) size c.relink.ensures.linked;
       listed = c.relink.ensures.listed;
       hubs = subst (λ (n : ℕ). AreHubs (h ++ e ∷ []) n c.relink.new.hubs) size c.relink.ensures.hubs;
-      marks_size = c.in_ok-keep.ensures.marks_len ∙ w.marks_size;
+      marks_size = c.in_ok-keep.ensures.marks_size ∙ w.marks_size;
       kept = c.in_ok-keep.ensures.kept;
       covered = all_after {marked = c.keep.new.nodes.due.items} {cut = c.note_cut.new.due.items} one w.covered (record {
         marks_keep = c.in_ok-keep.ensures.keeps;

@@ -1,7 +1,11 @@
 use Rattle.rx_audit.proofs.Common.{refl}
-use Rattle.rx_audit.proofs.TestsToVerdict.{item_answer, simple_answer, item_climbs, no_item_climbs}
+use Rattle.rx_audit.proofs.TestsToVerdict.{open_test, item_answer, simple_answer, item_climbs, no_item_climbs}
 use Rattle.rx_audit.proofs.verdict.is_allowed.Goals as goal
 use Rattle.std.proofs.Common.{rules}
+
+pub returns-in-Open-clause-allows : goal.returns-in-Open-clause-allows
+returns-in-Open-clause-allows c =
+    search (rules, open_test)
 
 pub returns-in-Item-clause-allows : goal.returns-in-Item-clause-allows
 returns-in-Item-clause-allows c =

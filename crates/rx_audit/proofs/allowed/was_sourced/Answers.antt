@@ -1,5 +1,0 @@
-use Rattle.rx_audit.proofs.Common.{ap, ◌∙◌, Marks}
-use Rattle.rx_audit.proofs.allowed.was_sourced.Goals as goal
-
-pub returns : goal.returns
-returns c = ap (λ (m : Marks). m.source_opened) (c.marks_at.ensures ∙ c.requires.kept c.args.p c.requires.here)
