@@ -1,11 +1,10 @@
 -- The document of a drawing is well formed, whatever the drawing and the verdict are.
 use Rattle.rx_svg.proofs.Common.{◌≡◌, ℕ, true, Option, List, [], ◌∷◌, ◌++◌, map, codes, flat_map, length, take, refl, sym, ap, subst, ◌∙◌, append_assoc}
-use Rattle.rx_svg.proofs.Common.{append-nil, ◌==◌, and_from, Verdict, Point, Drawing, Part, words, number, text_of, named_text, x_of, row_text, tick_text}
-use Rattle.rx_svg.proofs.Common.{told_text, point_text, listed_text, entry_text, svg_text, is_plain, IsContent, nothing, IsWellFormed}
-use Rattle.std.proofs.Common.{◌+◌, ◌-◌, drop}
-use Rattle.rx_audit.specs.declared.verdict.Verdict.TheVariants.{Lawful, Unlawful, Unsettled}
-use Rattle.rx_svg.specs.Page.{lanes_shown, places_shown, height_of, style_text, head_text, below_text, list_text, untaken_text, lawful_text, unlawful_text}
-use Rattle.rx_svg.specs.Page.{unsettled_text, verdict_text, leak_words, count_text, leaking_text, leaks_text, leaks_class, break_text, shares_text}
+use Rattle.rx_svg.proofs.Common.{append-nil, ◌==◌, and_from, Verdict, Point, Drawing, Part, words, number, text_of, x_of}
+use Rattle.rx_svg.proofs.Common.{point_text, listed_text, entry_text, svg_text, is_plain, IsContent, nothing, IsWellFormed}
+use Rattle.std.proofs.Common.{◌+◌, ◌-◌, drop, rules}
+use Rattle.rx_svg.specs.Page.{style_text, head_text, below_text, list_text, untaken_text, lawful_text, unlawful_text}
+use Rattle.rx_svg.specs.Page.{unsettled_text, verdict_text, count_text, leaking_text, leaks_text, break_text, shares_text}
 use Rattle.rx_svg.specs.Page.{verdict_line, leaks_line, shares_line, under_text, lanes_text}
 use Rattle.rx_svg.proofs.Characters.{both_are_plain, plain_append, plain_flat_map}
 use Rattle.rx_svg.proofs.ShownNames.{named_is_content}
@@ -28,36 +27,29 @@ list_is_plain name numbers p = plain_append name (flat_map listed_text numbers) 
 untaken_is_plain : (held waiting : List ℕ) → is_plain (untaken_text held waiting) ≡ true
 unfolding untaken_text
 untaken_is_plain held waiting =
-    plain_append (list_text (codes "; held:") held) (list_text (codes "; waiting:") waiting)
-    (list_is_plain (codes "; held:") held refl) (list_is_plain (codes "; waiting:") waiting refl)
+    search (rules, plain_append, codes, list_is_plain)
 
 lawful_is_plain : (live held waiting : List ℕ) → is_plain (lawful_text live held waiting) ≡ true
 unfolding lawful_text
 lawful_is_plain live held waiting =
-    plain_append (codes "lawful" ++ list_text (codes "; open:") live) (untaken_text held waiting)
-    (plain_append (codes "lawful") (list_text (codes "; open:") live) refl (list_is_plain (codes "; open:") live refl))
-    (untaken_is_plain held waiting)
+    search (rules, plain_append, codes, list_is_plain, untaken_is_plain)
 
 unlawful_is_plain : (place : ℕ) → is_plain (unlawful_text place) ≡ true
 unfolding unlawful_text text_of
 unlawful_is_plain place =
-    parts_are_plain (words (codes "unlawful: event ") ∷ number place ∷ words (codes " may not follow those before it") ∷ []) refl
+    search (rules, parts_are_plain, words, codes, number)
 
 unsettled_is_plain : is_plain unsettled_text ≡ true
 unfolding unsettled_text
 unsettled_is_plain = refl
 
 verdict_is_plain : (verdict : Verdict) → is_plain (verdict_text verdict) ≡ true
-verdict_is_plain (Lawful live held waiting) = lawful_is_plain live.items held.items waiting.items
-verdict_is_plain (Unlawful place) = unlawful_is_plain place
-verdict_is_plain Unsettled = unsettled_is_plain
+verdict_is_plain x0 = search (rules, lawful_is_plain, unlawful_is_plain, unsettled_is_plain)
 
 shares_is_plain : (d : Drawing) (end : ℕ) → is_plain (shares_text d end) ≡ true
 unfolding shares_text text_of
 shares_is_plain d end =
-    parts_are_plain
-    (number (lanes_shown d end) ∷ words (codes " of ") ∷ number d.all ∷ words (codes " lanes and ") ∷ number (places_shown d end)
-    ∷ words (codes " of ") ∷ number end ∷ words (codes " places are drawn") ∷ []) refl
+    search (rules, parts_are_plain, number, words, codes)
 
 count_is_plain : (n : ℕ) (ending : List ℕ) → is_plain ending ≡ true → is_plain (count_text n ending) ≡ true
 unfolding count_text text_of
@@ -66,15 +58,12 @@ count_is_plain n ending plain = parts_are_plain (number n ∷ words ending ∷ [
 entry_is_content : (names : ℕ → Option (List ℕ)) (n : ℕ) → IsContent (entry_text names n)
 unfolding entry_text
 entry_is_content names n =
-    content_append (listed_text n) (named_text (names n)) (plain_content (listed_text n) (listed_is_plain n)) (named_is_content (names n))
+    search (rules, content_append, plain_content, listed_is_plain, named_is_content)
 
 leaking_is_content : (names : ℕ → Option (List ℕ)) (leaks : List ℕ) → IsContent (leaking_text names leaks)
 unfolding leaking_text
 leaking_is_content names leaks =
-    content_append (count_text (length leaks) (leak_words (length leaks))) (flat_map (entry_text names) leaks)
-    (plain_content (count_text (length leaks) (leak_words (length leaks)))
-    (count_is_plain (length leaks) (leak_words (length leaks)) (both_are_plain (length leaks == 1) _ _ refl refl)))
-    (contents (entry_text names) (entry_is_content names) leaks)
+    search (rules, content_append, length, flat_map, plain_content, count_is_plain, both_are_plain, contents, entry_is_content)
 
 leaks_read : (names : ℕ → Option (List ℕ)) (leaks : List ℕ) → IsContent (leaks_text names leaks)
 leaks_read names leaks = content_if (length leaks == 0) _ _ (plain_content (codes "no resource leaks") refl) (leaking_is_content names leaks)
@@ -92,29 +81,22 @@ below_is_content class y text of_class content =
 
 verdict_is_content : (height : ℕ) (verdict : Verdict) → IsContent (verdict_line height verdict)
 unfolding verdict_line
-verdict_is_content height verdict = below_is_content (codes "under") (height + 48) (verdict_text verdict) refl
-    (plain_content (verdict_text verdict) (verdict_is_plain verdict))
+verdict_is_content height verdict = search (rules, below_is_content, codes, plain_content, verdict_is_plain)
 
 leaks_are_content : (names : ℕ → Option (List ℕ)) (height : ℕ) (leaks : List ℕ) → IsContent (leaks_line names height leaks)
 unfolding leaks_line
 leaks_are_content names height leaks =
-    below_is_content (leaks_class leaks) (height + 72) (leaks_text names leaks) (both_are_plain (length leaks == 0) _ _ refl refl)
-    (leaks_read names leaks)
+    search (rules, below_is_content, both_are_plain, length, leaks_read)
 
 shares_are_content : (d : Drawing) (end height : ℕ) → IsContent (shares_line d end height)
 unfolding shares_line
-shares_are_content d end height = below_is_content (codes "under") (height + 96) (shares_text d end) refl
-    (plain_content (shares_text d end) (shares_is_plain d end))
+shares_are_content d end height = search (rules, below_is_content, codes, plain_content, shares_is_plain)
 
 under_is_content : (d : Drawing) (names : ℕ → Option (List ℕ)) (end height : ℕ) (verdict : Verdict)
     → IsContent (under_text d names end height verdict)
 unfolding under_text
 under_is_content d names end height verdict =
-    let leaks = d.leaks.items in
-    content_append (verdict_line height verdict ++ leaks_line names height leaks) (shares_line d end height)
-    (content_append (verdict_line height verdict) (leaks_line names height leaks) (verdict_is_content height verdict)
-    (leaks_are_content names height leaks))
-    (shares_are_content d end height)
+    search (rules, content_append, verdict_is_content, leaks_are_content, shares_are_content)
 
 -- the lanes ---------------------------------------------------------------------------------------
 
@@ -123,26 +105,13 @@ unfolding point_text
 point_is_content d height point = column_is_content (x_of d point.place) height point.place point.event
 
 break_is_content : (d : Drawing) (height : ℕ) (verdict : Verdict) → IsContent (break_text d height verdict)
-break_is_content d height (Lawful live held waiting) = nothing
-break_is_content d height (Unlawful place) = broken_is_content (x_of d place) height place
-break_is_content d height Unsettled = nothing
+break_is_content d height x2 = search (rules, nothing, broken_is_content)
 
 lanes_are_content : (d : Drawing) (names : ℕ → Option (List ℕ)) (end height : ℕ) (verdict : Verdict)
     → IsContent (lanes_text d names end height verdict)
 unfolding lanes_text
 lanes_are_content d names end height verdict =
-    let points = flat_map (point_text d height) d.points.items in
-    let rows = flat_map (row_text d names end) d.rows.items in
-    let ticks = flat_map (tick_text d) d.points.items in
-    let marbles = flat_map (told_text d) d.marbles.items in
-    let points_are = contents (point_text d height) (point_is_content d height) d.points.items in
-    let rows_are = contents (row_text d names end) (row_is_content d names end) d.rows.items in
-    let ticks_are = contents (tick_text d) (tick_is_content d) d.points.items in
-    let marbles_are = contents (told_text d) (told_is_content d) d.marbles.items in
-    let with_rows = content_append points rows points_are rows_are in
-    let with_ticks = content_append (points ++ rows) ticks with_rows ticks_are in
-    let with_marbles = content_append (points ++ rows ++ ticks) marbles with_ticks marbles_are in
-    content_append (points ++ rows ++ ticks ++ marbles) (break_text d height verdict) with_marbles (break_is_content d height verdict)
+    search (rules, flat_map, contents, point_is_content, row_is_content, tick_is_content, told_is_content, content_append, break_is_content)
 
 -- the whole ---------------------------------------------------------------------------------------
 
@@ -167,9 +136,7 @@ svg_inside lanes under = words (codes "\n") ∷ words style_text ∷ words lanes
 
 inside_is_content : (lanes under : List ℕ) → IsContent lanes → IsContent under → IsContent (text_from (svg_inside lanes under))
 inside_is_content lanes under p q =
-    words_then (codes "\n") (words style_text ∷ words lanes ∷ words under ∷ []) refl
-    (content_then style_text (words lanes ∷ words under ∷ []) style_is_content
-    (content_then lanes (words under ∷ []) p (content_then under [] q nothing)))
+    search (rules, words_then, codes, words, content_then, style_is_content, nothing)
 
 four : (a b c d : List ℕ) → a ++ (b ++ (c ++ (d ++ []))) ≡ a ++ b ++ c ++ d
 four a b c d = simp (append_assoc, append-nil)
@@ -204,6 +171,4 @@ document_is_well_formed width height lanes under p q =
 pub svg_is_well_formed : (d : Drawing) (names : ℕ → Option (List ℕ)) (end : ℕ) (verdict : Verdict) → IsWellFormed (svg_text d names end verdict)
 unfolding svg_text
 svg_is_well_formed d names end verdict =
-    let height = height_of d end in
-    document_is_well_formed (x_of d end + 130) (height + 108) (lanes_text d names end height verdict) (under_text d names end height verdict)
-    (lanes_are_content d names end height verdict) (under_is_content d names end height verdict)
+    search (rules, document_is_well_formed, lanes_are_content, under_is_content)

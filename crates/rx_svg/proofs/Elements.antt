@@ -1,6 +1,6 @@
 -- The elements of a picture are content, whatever the numbers in them are.
-use Rattle.rx_svg.proofs.Common.{◌≡◌, ℕ, true, List, [], ◌∷◌, ◌++◌, map, ℤ, codes, refl, sym, subst, ◌∙◌, append_assoc, ◌==◌, list_all, and_from, and_parts}
-use Rattle.rx_svg.proofs.Common.{Note, Next, Project, EndNote as End, Event, Part, words, number, signed, text_of, event_text, note_text, Look, line_text}
+use Rattle.rx_svg.proofs.Common.{◌≡◌, ℕ, true, List, [], ◌∷◌, ◌++◌, map, ℤ, codes, refl, subst, append_assoc, ◌==◌, list_all, and_from, and_parts}
+use Rattle.rx_svg.proofs.Common.{Note, Event, Part, words, number, signed, text_of, event_text, note_text, Look, line_text}
 use Rattle.rx_svg.proofs.Common.{bar_text, mark_text, code_text, leak_text, is_plain, are_distinct, IsContent, nothing}
 use Rattle.rx_svg.specs.Stroke.{Stretch, until_text, stretch_end, line_front, bar_front, arrow_text, unreleased_text, marble_shape, above_text, value_text}
 use Rattle.rx_svg.specs.Stroke.{marble_front, by_text, marble_text, column_front, axis_text, column_text, broken_text}
@@ -8,6 +8,7 @@ use Rattle.rx_svg.proofs.Characters.{both_are_plain, event_is_plain, note_is_pla
 use Rattle.rx_svg.proofs.Contents.{content_append}
 use Rattle.rx_svg.proofs.Markup.{Valued, text_from, text_from-append, are_plain, attribute_of, is_valued, element_parts, tag_of, element_then, words_then}
 use Rattle.rx_svg.proofs.Markup.{parts_are_plain, plain_parts, newline}
+use Rattle.std.proofs.Common.{rules}
 
 abbrev pub valued : List ℕ → List Part → Valued
 valued name value = record { name = name; value = value }
@@ -136,20 +137,16 @@ above_is_content x y value =
     text_content attributes (signed value ∷ []) refl refl refl
 
 value_is_content : (x y : ℕ) (note : Note) → IsContent (value_text x y note)
-value_is_content x y (Next value) = above_is_content x y value
-value_is_content x y (Project value) = above_is_content x y value
-value_is_content x y (End t) = nothing
+value_is_content x y x2 = search (rules, above_is_content, nothing)
 
 -- marbles and places ------------------------------------------------------------------------------
 
 shape_is_plain : (note : Note) → is_plain (marble_shape note) ≡ true
-shape_is_plain (Next value) = refl
-shape_is_plain (Project value) = refl
-shape_is_plain (End t) = refl
+shape_is_plain x0 = search rules
 
 -- a front, something plain, and an end
 pub between : (front ending : List Part) (text : List ℕ) → text_from (front ++ words text ∷ ending) ≡ text_from front ++ text ++ text_from ending
-between front ending text = text_from-append front (words text ∷ ending) ∙ sym (append_assoc (text_from front) text (text_from ending))
+between front ending text = search (rules, text_from-append, words, append_assoc, text_from)
 
 pub marble_is_content : (x y at to : ℕ) (note : Note) → IsContent (marble_text x y at to note)
 unfolding marble_text marble_front by_text text_of

@@ -2,7 +2,7 @@
 use Rattle.rx_svg.proofs.Common.{◌≡◌, ℕ, Bool, true, ◌&&◌, List, [], ◌∷◌, ◌++◌, map, flat_map, codes, refl, sym, ap, subst, ◌∙◌, append_assoc, append-nil}
 use Rattle.rx_svg.proofs.Common.{list_all, and_from, and_parts, Part, words, number, signed, Attribute, IsTag, IsContent, nothing, text_first, element_first}
 use Rattle.rx_svg.proofs.Common.{is_plain, is_name, is_attribute, are_distinct, attribute_text, element_text}
-use Rattle.std.proofs.Common.{ap₂}
+use Rattle.std.proofs.Common.{ap₂, rules}
 use Rattle.std.proofs.lemmas.List.Concat.{flat_map-append}
 use Rattle.rx_svg.specs.Parts.{part_text}
 use Rattle.rx_svg.proofs.Characters.{plain_append, decimal_is_plain, signed_is_plain}
@@ -25,9 +25,7 @@ abbrev pub are_plain : List Part → Bool
 are_plain parts = list_all is_plain_part parts
 
 part_is_plain : (part : Part) → is_plain_part part ≡ true → is_plain (part_text part) ≡ true
-part_is_plain (words w) p = p
-part_is_plain (number n) p = decimal_is_plain n
-part_is_plain (signed n) p = signed_is_plain n
+part_is_plain x0 p = search (rules, decimal_is_plain, signed_is_plain)
 
 pub parts_are_plain : (parts : List Part) → are_plain parts ≡ true → is_plain (text_from parts) ≡ true
 parts_are_plain [] p = refl
@@ -52,8 +50,7 @@ each_is_attribute : (attributes : List Valued) → list_all is_valued attributes
 each_is_attribute [] p = refl
 each_is_attribute (a ∷ attributes) p =
     let both = and_parts (is_valued a) (list_all is_valued attributes) p in
-    let first = and_parts (is_name a.name) (are_plain a.value) both.0 in
-    and_from _ _ (and_from _ _ first.0 (parts_are_plain a.value first.1)) (each_is_attribute attributes both.1)
+    search (rules, and_parts, and_from, parts_are_plain, each_is_attribute attributes both.1)
 
 abbrev pub attribute_parts : Valued → List Part
 attribute_parts a = words (codes " ") ∷ words a.name ∷ words (codes "=\"") ∷ (a.value ++ words (codes "\"") ∷ [])

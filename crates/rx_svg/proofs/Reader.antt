@@ -1,9 +1,9 @@
 -- A reader that goes over a text once, from left to right. Every well-formed text passes: so what it refuses is not well formed.
 use Rattle.rx_svg.proofs.Common.{◌≡◌, ℕ, Bool, true, false, ◌&&◌, not, nat_lt, List, [], ◌∷◌, ◌++◌, map, flat_map, length, codes, refl, sym, ap, ◌∙◌}
-use Rattle.rx_svg.proofs.Common.{append_assoc, append-nil, inl, inr, ◌⊎◌, ◌==◌, if◌then◌else◌, list_all, list_any, and_parts, and_from, false≢true, cond-true}
+use Rattle.rx_svg.proofs.Common.{append_assoc, append-nil, ◌==◌, if◌then◌else◌, list_all, list_any, and_parts, and_from, false≢true, cond-true}
 use Rattle.rx_svg.proofs.Common.{or_cases, Attribute, IsTag, IsContent, nothing, text_first, reference_first, element_first, IsWellFormed, is_plain_character}
 use Rattle.rx_svg.proofs.Common.{is_plain, is_name, is_attribute, are_distinct, is_predefined, reference_text, attribute_text, element_text}
-use Rattle.std.proofs.Common.{fold, bytes_eq}
+use Rattle.std.proofs.Common.{fold, bytes_eq, rules}
 use Rattle.std.proofs.lemmas.Bool.{or_parts, or_from, not-true, not_from_false, both_ways, false_from_ne_true}
 use Rattle.std.proofs.lemmas.List.Sums.{fold-append}
 use Rattle.std.proofs.lemmas.Slice.Eq.{bytes_eq-Decides}
@@ -91,20 +91,13 @@ letters_read : (s : List ℕ → Standing) → ((name : List ℕ) (c : ℕ) → 
 letters_read s takes name [] p = sym (ap s (append-nil name))
 letters_read s takes name (c ∷ rest) p =
     let both = and_parts (is_letter c) (list_all is_letter rest) p in
-    ap (λ (r : Standing). fold step r rest) (takes name c both.0) ∙ letters_read s takes (name ++ c ∷ []) rest both.1
-    ∙ ap s (append_assoc name (c ∷ []) rest)
+    search (rules, fold, name, append_assoc, letters_read s takes (name ++ c ∷ []) rest both.1)
 
 -- a name that is one of some names of letters has letters only
 letters_of : (name : List ℕ) (names : List (List ℕ)) → list_any (bytes_eq name) names ≡ true → list_all (list_all is_letter) names ≡ true
     → list_all is_letter name ≡ true
 letters_of name [] found all = absurd (false≢true found)
-letters_of name (m ∷ names) found all = by_first (or_cases (bytes_eq name m) (list_any (bytes_eq name) names) found) (letters_of name names) where
-  by_first : (bytes_eq name m ≡ true) ⊎ (list_any (bytes_eq name) names ≡ true)
-      → (list_any (bytes_eq name) names ≡ true → list_all (list_all is_letter) names ≡ true → list_all is_letter name ≡ true)
-      → list_all is_letter name ≡ true
-  by_first (inl same) rest =
-      ap (list_all is_letter) ((bytes_eq-Decides name m).0 same) ∙ (and_parts (list_all is_letter m) (list_all (list_all is_letter) names) all).0
-  by_first (inr later) rest = rest later (and_parts (list_all is_letter m) (list_all (list_all is_letter) names) all).1
+letters_of name (m ∷ names) found all = search (rules, or_cases, bytes_eq, name, list_any, list_all, bytes_eq-Decides, and_parts, letters_of name names)
 
 name_read : (around : List (List ℕ)) (name : List ℕ) → is_name name ≡ true → fold step (bracket around) name ≡ in_name around name
 name_read around [] p = absurd (false≢true p)
@@ -118,7 +111,7 @@ name_read around (c ∷ rest) p =
 
 apart : (m n : List ℕ) → bytes_eq m n ≡ false → bytes_eq n m ≡ false
 apart m n p =
-    false_from_ne_true (bytes_eq n m) (λ same. both_ways (bytes_eq m n) p ((bytes_eq-Decides m n).1 (sym ((bytes_eq-Decides n m).0 same))))
+    search (rules, false_from_ne_true, bytes_eq, both_ways, bytes_eq-Decides)
 
 still_new : (seen : List (List ℕ)) (name : List ℕ) (names : List (List ℕ)) → list_all (is_new seen) names ≡ true
     → not (list_any (bytes_eq name) names) ≡ true → list_all (is_new (name ∷ seen)) names ≡ true
@@ -189,58 +182,28 @@ rest_read : (around : List (List ℕ)) (name : List ℕ) (attributes : List Attr
     → fold step (bracket around) (name ++ ((flat_map attribute_text attributes ++ codes ">") ++ (inside ++ (codes "</" ++ (name ++ codes ">")))))
     ≡ left_in around
 rest_read around name attributes inside tag within =
-    let ending = codes "</" ++ (name ++ codes ">") in
-    let tags = flat_map attribute_text attributes ++ codes ">" in
-    fold-append step (bracket around) name (tags ++ (inside ++ ending))
-    ∙ ap (λ (r : Standing). fold step r (tags ++ (inside ++ ending))) (name_read around name tag.named)
-    ∙ fold-append step (in_name around name) tags (inside ++ ending)
-    ∙ ap (λ (r : Standing). fold step r (inside ++ ending))
-    (as_after_value around name attributes
-    ∙ attributes_read (bare around name) attributes tag.each (none_seen (map (λ a. a.name) attributes)) tag.once)
-    ∙ fold-append step (content (name ∷ around)) inside ending
-    ∙ ap (λ (r : Standing). fold step r ending) within
-    ∙ end_read around name tag.named
+    search (rules, codes, name, flat_map, fold-append, bracket, around, fold, name_read, in_name, as_after_value, attributes_read, none_seen, map, content, end_read)
 
 element_shape : (name : List ℕ) (attributes : List Attribute) (inside : List ℕ) → element_text name attributes inside
     ≡ codes "<" ++ (name ++ ((flat_map attribute_text attributes ++ codes ">") ++ (inside ++ (codes "</" ++ (name ++ codes ">")))))
 element_shape name attributes inside =
-    bracketed_element (codes "<") name (flat_map attribute_text attributes) (codes ">") inside (codes "</") name (codes ">")
+    search (rules, bracketed_element, codes, name, flat_map)
 
 reference_read : (around : List (List ℕ)) (name : List ℕ) → is_predefined name ≡ true
     → fold step (content around) (reference_text name) ≡ content around
 reference_read around name known =
-    fold-append step (content around) (codes "&" ++ name) (codes ";")
-    ∙ ap (λ (r : Standing). fold step r (codes ";"))
-    (fold-append step (content around) (codes "&") name
-    ∙ letters_read (in_reference around) (λ so_far c letter. cond-true _ _ _ letter) [] name
-    (letters_of name (codes "lt" ∷ codes "gt" ∷ codes "amp" ∷ codes "apos" ∷ codes "quot" ∷ []) known refl))
-    ∙ cond-true _ (content around) refused (and_from _ _ refl known)
+    search (rules, fold-append, content, around, codes, name, fold, letters_read, in_reference, cond-true, letters_of, refused, and_from)
 
 content_read : (text : List ℕ) → IsContent text → (top : List ℕ) (around : List (List ℕ))
     → fold step (content (top ∷ around)) text ≡ content (top ∷ around)
 content_read text nothing = λ top around. refl
 content_read text (text_first plain rest p more) = λ top around.
-    fold-append step (content (top ∷ around)) plain rest
-    ∙ ap (λ (r : Standing). fold step r rest) (kept is_plain_character (content (top ∷ around)) (λ c one. cond-true _ _ _ one) plain p)
-    ∙ content_read rest more top around
+    search (rules, fold-append, content, around, fold, kept, cond-true, content_read rest more top around)
 content_read text (reference_first name rest known more) = λ top around.
-    fold-append step (content (top ∷ around)) (reference_text name) rest
-    ∙ ap (λ (r : Standing). fold step r rest) (reference_read (top ∷ around) name known)
-    ∙ content_read rest more top around
+    search (rules, fold-append, content, around, name, fold, reference_read, content_read rest more top around)
 content_read text (element_first name attributes inside rest tag within more) = λ top around.
-    fold-append step (content (top ∷ around)) (element_text name attributes inside) rest
-    ∙ ap (λ (r : Standing). fold step r rest)
-    (ap (λ e. fold step (content (top ∷ around)) e) (element_shape name attributes inside)
-    ∙ rest_read (top ∷ around) name attributes inside tag (content_read inside within name (top ∷ around)))
-    ∙ content_read rest more top around
+    search (rules, fold-append, content, around, name, fold, element_shape, rest_read, content_read inside within name (top ∷ around), content_read rest more top around)
 
 pub well_formed_passes : (text : List ℕ) → IsWellFormed text → passes text ≡ true
 well_formed_passes text w =
-    let element = element_text w.name w.attributes w.inside in
-    ap passes w.reads
-    ∙ ap is_after
-    (fold-append step before element w.space
-    ∙ ap (λ (r : Standing). fold step r w.space)
-    (ap (λ e. fold step before e) (element_shape w.name w.attributes w.inside)
-    ∙ rest_read [] w.name w.attributes w.inside w.tag (content_read w.inside w.content w.name []))
-    ∙ kept is_space after (λ c one. cond-true _ _ _ one) w.space w.white)
+    search (rules, fold-append, before, fold, element_shape, rest_read, content_read, kept, cond-true)

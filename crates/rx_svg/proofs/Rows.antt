@@ -1,18 +1,13 @@
 -- What stands in the lanes of a picture is content, whatever the drawing is.
-use Rattle.rx_svg.proofs.Common.{◌≡◌, ℕ, Bool, true, false, Option, List, [], ◌∷◌, ◌++◌, codes, nat_lt, decimal, refl, sym, ap, subst, ◌∙◌, append_assoc}
-use Rattle.rx_svg.proofs.Common.{Completed, Error, Event, Lease, Use, Point, Drawing, Part, words, number, text_of, event_text, named_text, Look, mark_text}
-use Rattle.rx_svg.proofs.Common.{code_text, line_text, leak_text, bar_text, x_of, row_text, tick_text, told_text, IsContent, nothing}
-use Rattle.std.proofs.Common.{◌*◌}
+use Rattle.rx_svg.proofs.Common.{◌≡◌, ℕ, Bool, true, Option, List, [], ◌∷◌, ◌++◌, codes, nat_lt, decimal, refl, sym, ap, subst, ◌∙◌, append_assoc}
+use Rattle.rx_svg.proofs.Common.{Event, Point, Drawing, Part, words, number, text_of, event_text, named_text, Look}
+use Rattle.rx_svg.proofs.Common.{x_of, row_text, tick_text, told_text, IsContent, nothing}
 use Rattle.rx_event.specs.declared.mail.Mail.{Mail}
 use Rattle.rx_picture.specs.declared.row.Ending.{Ending}
-use Rattle.rx_picture.specs.declared.row.Ending.TheVariants.{Lasting, Ended, Disposed}
 use Rattle.rx_picture.specs.declared.row.Shape.{Shape}
 use Rattle.rx_picture.specs.declared.row.Shape.TheVariants.{Node, Hub, Resource, Loan}
 use Rattle.rx_picture.specs.declared.row.Row.{Row}
-use Rattle.rx_picture.specs.Rows.{lane_of}
-use Rattle.rx_picture.specs.Leaks.{is_leaking_row}
-use Rattle.rx_svg.specs.Stroke.{bar_shape, cross_shape, ring_shape, diamond_shape, tick_shape}
-use Rattle.rx_svg.specs.Lane.{y_of, stretch_of, has_lane, steps_of, label_front, label_text, ending_text, life_text, stretch_text, owned_look, loan_look}
+use Rattle.rx_svg.specs.Lane.{y_of, stretch_of, label_front, label_text, ending_text, life_text, stretch_text, owned_look, loan_look}
 use Rattle.rx_svg.specs.Lane.{wait_look, owned_text, loan_text, wait_text, release_text, shape_text, name_text, use_text}
 use Rattle.rx_svg.proofs.Characters.{decimal_is_plain, event_is_plain}
 use Rattle.rx_svg.proofs.ShownNames.{named_is_content}
@@ -20,6 +15,7 @@ use Rattle.rx_svg.proofs.Markup.{are_plain, text_from, words_then, content_then}
 use Rattle.rx_svg.proofs.Contents.{plain_content, content_append, content_if}
 use Rattle.rx_svg.proofs.Elements.{valued, text_around, between, words_of, line_is_content, bar_is_content, mark_is_content, code_is_content, leak_is_content}
 use Rattle.rx_svg.proofs.Elements.{marble_is_content}
+use Rattle.std.proofs.Common.{rules}
 
 label_is_content : (x y n : ℕ) (name : Option (List ℕ)) (made : Event) → IsContent (label_text x y n name made)
 unfolding label_text label_front text_of
@@ -38,41 +34,28 @@ label_is_content x y n name made =
     (words_then (decimal n) (words told ∷ []) (decimal_is_plain n) (content_then told [] content nothing)))
 
 name_is_content : (d : Drawing) (n : ℕ) (name : Option (List ℕ)) (made : Event) → IsContent (name_text d n name made)
-name_is_content d n name (Lease r) = nothing
-name_is_content d n name made = label_is_content (10 * steps_of d n made) (y_of d n) n name made
+name_is_content d n name x3 = search (rules, nothing, label_is_content)
 
 ending_is_content : (x y at : ℕ) (ending : Ending) → IsContent (ending_text x y at ending)
-ending_is_content x y at Lasting = nothing
-ending_is_content x y at (Ended Completed) = mark_is_content (codes "mark") bar_shape (codes "completed") x y at refl
-ending_is_content x y at (Ended (Error code)) =
-    content_append (mark_text (codes "mark") cross_shape (codes "ended with an error") x y at) (code_text x y code)
-    (mark_is_content (codes "mark") cross_shape (codes "ended with an error") x y at refl) (code_is_content x y code)
-ending_is_content x y at Disposed = mark_is_content (codes "ring") ring_shape (codes "closed") x y at refl
+ending_is_content x y at x3 = search (rules, nothing, mark_is_content, codes, content_append, code_is_content)
 
 life_is_content : (d : Drawing) (y n until end : ℕ) (ending : Ending) → IsContent (life_text d y n until end ending)
 life_is_content d y n until end ending =
-    let line = line_text (codes "life") (codes "open") (stretch_of d y n until end) in
-    content_if (nat_lt n until) (line ++ ending_text (x_of d until) y until ending) []
-    (content_append line (ending_text (x_of d until) y until ending)
-    (line_is_content (codes "life") (codes "open") (stretch_of d y n until end) refl)
-    (ending_is_content (x_of d until) y until ending)) nothing
+    search (rules, codes, content_if, nat_lt, content_append, line_is_content, ending_is_content, nothing)
 
 stretch_is_content : (d : Drawing) (look : Look) (y after until end : ℕ) → are_plain (words_of look) ≡ true
     → IsContent (stretch_text d look y after until end)
 stretch_is_content d look y after until end plain =
-    content_if (nat_lt after until) (bar_text look (stretch_of d y after until end)) [] (bar_is_content look (stretch_of d y after until end) plain) nothing
+    search (rules, content_if, nat_lt, bar_is_content, nothing)
 
 owned_is_plain : (leaking : Bool) → are_plain (words_of (owned_look leaking)) ≡ true
-owned_is_plain true = refl
-owned_is_plain false = refl
+owned_is_plain x0 = search rules
 
 loan_is_plain : (leaking : Bool) → are_plain (words_of (loan_look leaking)) ≡ true
-loan_is_plain true = refl
-loan_is_plain false = refl
+loan_is_plain x0 = search rules
 
 wait_is_plain : (leaking : Bool) → are_plain (words_of (wait_look leaking)) ≡ true
-wait_is_plain true = refl
-wait_is_plain false = refl
+wait_is_plain x0 = search rules
 
 owned_is_content : (d : Drawing) (leaking : Bool) (y after until end : ℕ) → IsContent (owned_text d leaking y after until end)
 owned_is_content d leaking y after until end = stretch_is_content d (owned_look leaking) y after until end (owned_is_plain leaking)
@@ -85,8 +68,7 @@ wait_is_content d leaking y after until end = stretch_is_content d (wait_look le
 
 release_is_content : (d : Drawing) (leaking : Bool) (y taken : ℕ) → IsContent (release_text d leaking y taken)
 release_is_content d leaking y taken =
-    content_if leaking (leak_text (x_of d taken) y) (mark_text (codes "mark") diamond_shape (codes "released") (x_of d taken) y taken)
-    (leak_is_content (x_of d taken) y) (mark_is_content (codes "mark") diamond_shape (codes "released") (x_of d taken) y taken refl)
+    search (rules, content_if, codes, leak_is_content, mark_is_content)
 
 shape_is_content : (d : Drawing) (leaking : Bool) (y n end : ℕ) (shape : Shape) → IsContent (shape_text d leaking y n end shape)
 shape_is_content d leaking y n end (Node until ending) = life_is_content d y n until end ending
@@ -104,17 +86,10 @@ shape_is_content d leaking y n end (Loan resource until) = loan_is_content d lea
 pub row_is_content : (d : Drawing) (names : ℕ → Option (List ℕ)) (end : ℕ) (row : Row) → IsContent (row_text d names end row)
 unfolding row_text
 row_is_content d names end row =
-    let y = y_of d (lane_of row.number row.made) in
-    let leaking = is_leaking_row end row in
-    let name = names row.number in
-    content_append (name_text d row.number name row.made) (shape_text d leaking y row.number end row.shape)
-    (name_is_content d row.number name row.made) (shape_is_content d leaking y row.number end row.shape)
+    search (rules, content_append, name_is_content, shape_is_content)
 
 use_is_content : (d : Drawing) (place : ℕ) (event : Event) → IsContent (use_text d place event)
-use_is_content d place (Use r) =
-    content_if (has_lane d r) (mark_text (codes "tick") tick_shape (codes "used") (x_of d place) (y_of d r) place) []
-    (mark_is_content (codes "tick") tick_shape (codes "used") (x_of d place) (y_of d r) place refl) nothing
-use_is_content d place event = nothing
+use_is_content d place x2 = search (rules, content_if, codes, mark_is_content, nothing)
 
 pub tick_is_content : (d : Drawing) (point : Point) → IsContent (tick_text d point)
 unfolding tick_text
