@@ -3,7 +3,7 @@ use Rattle.rx_audit.proofs.Common.{◌≡◌, ℕ, Bool, true, false, nat_lt, Li
 use Rattle.rx_audit.proofs.Common.{option_and_then, Event, makes_resource, makes_lease, removed_of, returned_of, taken_of, at, is_open, parent, leases_of}
 use Rattle.rx_audit.proofs.Common.{ancestors_step, is_key, connects_later, is_in_order_at, list_any-same, ◌<◌, length, get_or, arith}
 use Rattle.rx_audit.specs.declared.found.Found.{Found}
-use Rattle.rx_audit.specs.Known.{IsFoundHere}
+use Rattle.rx_audit.specs.Found.{IsFoundHere}
 use Rattle.rx_event.specs.Events.{node_of_accept, is_remove_of, is_return_of, is_take_of}
 use Rattle.rx_event.specs.Resources.{is_owned, is_out, is_leased, is_held, is_taken, is_waiting}
 use Rattle.rx_event.proofs.Laws.Resources.{held_is}

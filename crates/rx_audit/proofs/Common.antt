@@ -28,9 +28,8 @@ pub use Rattle.rx_audit.specs.DueList.{Keeps, IsLostNoted, HasAll}
 unfoldable pub use Rattle.rx_audit.specs.DueList.{acts}
 pub use Rattle.rx_audit.specs.Flow.{IsReached, times, IsOften, flow}
 pub use Rattle.rx_audit.specs.Found.{IsFound, IsClimbed}
-pub use Rattle.rx_audit.specs.HubTables.{AreHubs}
+pub use Rattle.rx_audit.specs.HubTables.{AreHubs, AreLinked, on_list, AreOpenListed, number_of, IsRow, AreLetGo}
 pub use Rattle.rx_audit.specs.Latest.{last_below, keyed, IsNoted, table_with, IsClosingBelow, AreClosed, inner_named_at, AreChildren, link_with}
-pub use Rattle.rx_audit.specs.Listed.{AreLinked, on_list, AreOpenListed, number_of, IsRow, AreLetGo}
 pub use Rattle.rx_audit.specs.Marking.{IsVisited, IsUntouched, due_made, IsCovered, leaf_of, touched_by, ends_so, IsKept, visited_marks, fired_key}
 pub use Rattle.rx_audit.specs.Marking.{projected_key}
 unfoldable pub use Rattle.rx_audit.specs.Marking.{node_due}

@@ -2,7 +2,7 @@
 use Rattle.rx_audit.proofs.Common.{◌≡◌, ◌≢◌, ℕ, zero, suc, ◌-◌, ◌<◌, ◌≤◌, Bool, true, false, List, length, refl, sym, ap, ◌∙◌, arith, inl, inr, ◌⊎◌, get_or}
 use Rattle.rx_audit.proofs.Common.{set, get_or-set_other, get_or-set_same, length-set, cases_order, both_ways, last_below, table_with, IsRow}
 use Rattle.rx_audit.proofs.Common.{number_of, cases_lt, subst, false_from_ne_true, ⊎_elim, cases_eq}
-use Rattle.rx_audit.specs.Listed.{IsNext}
+use Rattle.rx_audit.specs.HubTables.{IsNext}
 use Rattle.rx_audit.proofs.Latest.{last_le, last_holds, last_none, last_same}
 use Rattle.std.proofs.Common.{rules}
 

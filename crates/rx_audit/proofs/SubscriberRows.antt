@@ -8,7 +8,7 @@ use Rattle.rx_audit.proofs.Common.{false_from_ne_true, subscribed_event, ⊎_eli
 use Rattle.std.proofs.lemmas.List.Sums.{sum_by_push}
 use Rattle.std.proofs.lemmas.Option.{slice_get_past}
 use Rattle.rx_event.proofs.Laws.Connections.{one_hub, sum_by-falling}
-use Rattle.rx_audit.specs.Listed.{hub_if_last, listed_hub}
+use Rattle.rx_audit.specs.HubTables.{hub_if_last, listed_hub}
 use Rattle.rx_audit.proofs.Latest.{last_le, last_holds, one_longer, length-table_with}
 use Rattle.rx_audit.proofs.ClosingBelow.{within_marks, mark_gone}
 use Rattle.rx_audit.proofs.TestsDecideRules.{same_subscribed, subscriber_at, at_subscriber}

@@ -5,7 +5,7 @@ use Rattle.rx_event.specs.declared.event.Event.{Event}
 use Rattle.rx_event.specs.Events.{is_subscriber_of}
 use Rattle.rx_event.specs.Tree.{at, is_open}
 use Rattle.rx_audit.specs.Latest.{IsNoted}
-use Rattle.rx_audit.specs.Listed.{number_of}
+use Rattle.rx_audit.specs.HubTables.{number_of}
 use Rattle.rx_audit.specs.Marking.{node_due}
 use Rattle.rx_audit.specs.Rules.{hub_ended, hub_subscribed_at, is_cut, close_due}
 

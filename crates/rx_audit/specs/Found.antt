@@ -25,6 +25,11 @@ pub record IsFound (h : List Event) (size : ℕ) (found : Found) : Type 0 where
   pub taken : IsTable found.taken.items (was_taken h)
   pub taken_size : length found.taken.items ≡ size
 
+-- the same, with room for each event
+pub record IsFoundHere (h : List Event) (found : Found) : Type 0 where
+  pub room : length h ≤ length found.live.items
+  pub is : IsFound h (length found.live.items) found
+
 -- if the event is an item, the log has the nodes that it visits
 abbrev pub IsClimbed : List Event → Event → List Visit → Type 0
 IsClimbed h e log = (leaf : ℕ) (value : ℤ) → e ≡ Item leaf value → IsReached h leaf log

@@ -1,11 +1,9 @@
 pub mod Tables
 pub mod Rules
 pub mod Found
-pub mod Known
 pub mod Allowing
 pub mod Verdict
 pub mod Flow
-pub mod Listed
 pub mod HubTables
 pub mod Latest
 pub mod Marking

@@ -6,11 +6,10 @@ use Rattle.rx_event.specs.Tree.{is_open}
 use Rattle.rx_event.specs.Lawful.{IsLawful}
 use Rattle.rx_audit.specs.declared.advance.Nodes.{Nodes}
 use Rattle.rx_audit.specs.declared.found.Found.{Found}
-use Rattle.rx_audit.specs.Known.{IsFoundHere}
+use Rattle.rx_audit.specs.Found.{IsFoundHere}
 use Rattle.rx_audit.specs.Tables.{IsMarked}
 use Rattle.rx_audit.specs.Latest.{AreChildren}
-use Rattle.rx_audit.specs.Listed.{AreLinked, AreOpenListed}
-use Rattle.rx_audit.specs.HubTables.{AreHubs}
+use Rattle.rx_audit.specs.HubTables.{AreLinked, AreOpenListed, AreHubs}
 use Rattle.rx_audit.specs.Marking.{IsKept, IsCovered}
 use Rattle.rx_audit.specs.DueList.{Keeps, HasAll}
 

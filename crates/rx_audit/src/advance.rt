@@ -9,8 +9,7 @@ ghost use Rattle.rx_audit.specs.Latest.{AreChildren, AreClosed};
 ghost use Rattle.rx_audit.specs.Flow.{IsReached};
 ghost use Rattle.rx_audit.specs.Found.{IsClimbed};
 ghost use Rattle.rx_audit.specs.Marking.{leaf_of};
-ghost use Rattle.rx_audit.specs.HubTables.{AreHubs};
-ghost use Rattle.rx_audit.specs.Listed.{AreLinked, AreOpenListed};
+ghost use Rattle.rx_audit.specs.HubTables.{AreHubs, AreLinked, AreOpenListed};
 ghost use Rattle.rx_audit.specs.Standing.{IsFollowed, IsRemarked};
 
 use crate::children::{Children, link_child, no_children};

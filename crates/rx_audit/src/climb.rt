@@ -4,7 +4,7 @@ ghost use Rattle.std.specs.Prelude.{◌≡◌, ℕ, ◌-◌, ◌<◌, false, tru
 ghost use Rattle.std.specs.Option.{option_and_then, option_to_list};
 ghost use Rattle.rx_event.specs.Tree.{at, parent};
 ghost use Rattle.rx_event.specs.Climb.{stop_made, stop_at, onward_from, onward};
-ghost use Rattle.rx_audit.specs.Listed.{AreLinked, AreOpenListed};
+ghost use Rattle.rx_audit.specs.HubTables.{AreLinked, AreOpenListed};
 ghost use Rattle.rx_audit.specs.Rules.{fired_by, projected_by};
 
 use crate::event_tests::{at, event_at};

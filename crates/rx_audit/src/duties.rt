@@ -10,7 +10,7 @@ ghost use Rattle.rx_audit.specs.Latest.{IsNoted};
 ghost use Rattle.rx_audit.specs.Tables.{IsMarked};
 ghost use Rattle.rx_audit.specs.Marking.{IsKept, IsCovered, IsUntouched, node_due};
 ghost use Rattle.rx_audit.specs.DueList.{acts, Keeps, HasEnded, HasLost, IsLostNoted, lost_connection};
-ghost use Rattle.rx_audit.specs.Listed.{AreLinked, AreOpenListed, on_list};
+ghost use Rattle.rx_audit.specs.HubTables.{AreLinked, AreOpenListed, on_list};
 ghost use Rattle.rx_audit.specs.Rules.{is_cut};
 ghost use Rattle.rx_audit.specs.Standing.{IsKnown};
 

@@ -6,7 +6,7 @@
 ghost use Rattle.std.specs.Prelude.{◌≡◌, ℕ, ◌+◌, ◌*◌, ◌^◌, ◌<◌, ◌≤◌, IfOk, OnOk, length, take, drop, sum_by};
 ghost use Rattle.std.specs.Bool.{MatchBool};
 ghost use Rattle.rx_event.specs.Climb.{onward, visits};
-ghost use Rattle.rx_audit.specs.Listed.{AreLinked, AreOpenListed};
+ghost use Rattle.rx_audit.specs.HubTables.{AreLinked, AreOpenListed};
 ghost use Rattle.rx_audit.specs.Flow.{times, IsOften, IsReached};
 
 use crate::climb::onward;

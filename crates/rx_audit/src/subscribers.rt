@@ -5,7 +5,7 @@ ghost use Rattle.rx_event.specs.Events.{is_subscriber_of};
 ghost use Rattle.rx_event.specs.Tree.{open_subscribers};
 ghost use Rattle.rx_audit.specs.Latest.{table_with};
 ghost use Rattle.rx_audit.specs.Rules.{hub_subscribed_at, hub_connected_at};
-ghost use Rattle.rx_audit.specs.Listed.{number_of, hub_if_last, listed_hub, AreLinked, AreOpenListed, AreLetGo};
+ghost use Rattle.rx_audit.specs.HubTables.{number_of, hub_if_last, listed_hub, AreLinked, AreOpenListed, AreLetGo};
 
 use crate::children::{one_more, put, value_at, word_at, zeros};
 use crate::found::unmarked;

@@ -9,9 +9,8 @@ ghost use Rattle.rx_event.specs.Allowed.{IsAllowed};
 ghost use Rattle.rx_event.specs.Forced.{IsSettled};
 ghost use Rattle.rx_event.specs.Lawful.{MayFollow};
 ghost use Rattle.rx_audit.specs.Allowing.{needs_connection, leaves_room, open_allowed, opens_pass, opened_with};
-ghost use Rattle.rx_audit.specs.Known.{IsFoundHere};
 ghost use Rattle.rx_audit.specs.Standing.{IsFollowed, IsKnown, IsAllFound};
-ghost use Rattle.rx_audit.specs.Found.{IsFound, IsClimbed};
+ghost use Rattle.rx_audit.specs.Found.{IsFound, IsFoundHere, IsClimbed};
 ghost use Rattle.rx_audit.specs.Verdict.{IsVerdict, IsFoundUnlawful, most_judged};
 
 use crate::advance::{Nodes, no_nodes};
