@@ -6,7 +6,7 @@ ghost use Rattle.rx_event.specs.Events.{makes_node, node_of_accept};
 ghost use Rattle.rx_event.specs.Tree.{at};
 ghost use Rattle.rx_picture.specs.Rows.{AreRows, IsShape, ending_by, has_row};
 ghost use Rattle.rx_picture.specs.Choice.{marked};
-ghost use Rattle.rx_picture.specs.Tables.{AreTurns, AreLines, AreTables, IsShownAt, owned_end, owned_start, was_removed, was_returned, was_taken};
+ghost use Rattle.rx_picture.specs.Tables.{AreTurns, AreLines, AreTables, IsShownAt, owned_end, owned_start, was_returned};
 ghost use Rattle.rx_event.specs.declared.event.Event.TheVariants.{Lease};
 
 use crate::choice::is_marked;
@@ -80,27 +80,18 @@ fn owned_end(ends: &[usize], node: u64, removed: usize) -> usize
 }
 
 /// What is drawn of resource `r`, which was accepted at the node.
-fn bar_of(
-    events: &[Event],
-    removed: &[usize],
-    taken: &[usize],
-    ends: &[usize],
-    r: usize,
-    node: u64,
-) -> Shape
+fn bar_of(events: &[Event], tables: &Tables, r: usize, node: u64) -> Shape
     requires within { r < length events.now }
-    requires removed { AreTurns events.now was_removed (length events.now) removed.now }
-    requires taken { AreTurns events.now was_taken (length events.now) taken.now }
-    requires ends { AreLines events.now (length events.now) ends.now }
+    requires tables { AreTables events.now tables.now }
     requires accepted { option_and_then node_of_accept (slice_get events.now r) ≡ Some node }
     ensures { IsShape events.now r result }
 {
-    let after = owned_start(ends, node, r as u64);
-    let gone = value_at(removed, r as u64);
-    let out = value_at(taken, r as u64);
+    let after = owned_start(&tables.ends, node, r as u64);
+    let gone = value_at(&tables.removed, r as u64);
+    let out = value_at(&tables.taken, r as u64);
     Shape::Resource {
         owned_after: after,
-        owned_until: (owned_end(ends, node, gone) as u64).max(after),
+        owned_until: (owned_end(&tables.ends, node, gone) as u64).max(after),
         taken: out.max(r) as u64,
     }
 }
@@ -132,14 +123,7 @@ fn shape_of(events: &[Event], tables: &Tables, n: usize, made: Event) -> Option<
         return Some(Shape::Hub);
     }
     match made {
-        Event::Accept(node, _) => Some(bar_of(
-            events,
-            &tables.removed,
-            &tables.taken,
-            &tables.ends,
-            n,
-            node,
-        )),
+        Event::Accept(node, _) => Some(bar_of(events, tables, n, node)),
         Event::Lease(resource) => Some(loan_of(events, &tables.returned, n, resource)),
         _ => None,
     }
