@@ -244,15 +244,8 @@ fn push_release(
     if leaking {
         return push_leak(text, x, y);
     }
-    push_mark(
-        text,
-        "mark",
-        "m-7 0l7 -7l7 7l-7 7z",
-        "released",
-        x,
-        y,
-        taken,
-    )
+    let diamond = "m-7 0l7 -7l7 7l-7 7z";
+    push_mark(text, "mark", diamond, "released", x, y, taken)
 }
 
 /// Whether what is drawn is a resource that none of so many events hands out, or a lease that none
@@ -362,15 +355,8 @@ fn push_use(
         Event::Use(r) => {
             if has_lane(drawing, r) {
                 let x = x_of(drawing, place);
-                push_mark(
-                    text,
-                    "tick",
-                    "m0 -10v20",
-                    "used",
-                    x,
-                    y_of(drawing, r),
-                    place,
-                )
+                let y = y_of(drawing, r);
+                push_mark(text, "tick", "m0 -10v20", "used", x, y, place)
             } else {
                 Ok(())
             }

@@ -103,8 +103,7 @@ fn push_if_named(text: &mut String, name: Option<&str>) -> Result<(), AllocError
 
 /// The text that an object has at a member.
 fn text_at<'a>(object: &'a Value, member: &str) -> Option<&'a str>
-    ensures { option_map (λ s. s.now) result
-        ≡ option_and_then as_str (get member.now (view object.now)) }
+    ensures { option_map (λ s. s.now) result ≡ option_and_then as_str (get member.now (view object.now)) }
 {
     object.get(member).and_then(Value::as_str)
 }

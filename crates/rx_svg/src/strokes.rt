@@ -14,8 +14,7 @@ use std::alloc::AllocError;
 /// Up to where a stretch goes, of a history with so many events.
 #[tactic(auto, unfolding(crate::specs::Stroke::until_text, crate::specs::Parts::text_of))]
 fn push_until(text: &mut String, until: u64, end: u64) -> Result<(), AllocError>
-    ensures { OnOk result (string_bytes text.new ≡ string_bytes text.old
-        ++ until_text until end) }
+    ensures { OnOk result (string_bytes text.new ≡ string_bytes text.old ++ until_text until end) }
 {
     if until == end {
         return text.push_str(" on");
@@ -186,8 +185,7 @@ pub fn push_mark(
 /// The code of an error, beside its cross.
 #[tactic(auto, unfolding(crate::specs::Stroke::code_text, crate::specs::Parts::text_of))]
 pub fn push_code(text: &mut String, x: u64, y: u64, code: u64) -> Result<(), AllocError>
-    ensures { OnOk result (string_bytes text.new ≡ string_bytes text.old
-        ++ code_text x y code) }
+    ensures { OnOk result (string_bytes text.new ≡ string_bytes text.old ++ code_text x y code) }
 {
     push_pieces(
         text,
@@ -240,8 +238,7 @@ fn push_unreleased(text: &mut String, x: u64, y: u64) -> Result<(), AllocError>
 /// The arrow of a resource that was never released, and its words.
 #[tactic(auto, unfolding(crate::specs::Stroke::leak_text))]
 pub fn push_leak(text: &mut String, x: u64, y: u64) -> Result<(), AllocError>
-    ensures { OnOk result (string_bytes text.new ≡ string_bytes text.old
-        ++ leak_text x y) }
+    ensures { OnOk result (string_bytes text.new ≡ string_bytes text.old ++ leak_text x y) }
 {
     push_arrow(text, x, y)?;
     push_unreleased(text, x, y)
@@ -339,8 +336,7 @@ pub fn push_marble(
     to: u64,
     note: Note,
 ) -> Result<(), AllocError>
-    ensures { OnOk result (string_bytes text.new ≡ string_bytes text.old
-        ++ marble_text x y at to note) }
+    ensures { OnOk result (string_bytes text.new ≡ string_bytes text.old ++ marble_text x y at to note) }
 {
     let shape = marble_shape(note);
     push_marble_front(text, x, y, to, shape)?;
@@ -394,8 +390,7 @@ pub fn push_column(
     place: u64,
     event: Event,
 ) -> Result<(), AllocError>
-    ensures { OnOk result (string_bytes text.new ≡ string_bytes text.old
-        ++ column_text x height place event) }
+    ensures { OnOk result (string_bytes text.new ≡ string_bytes text.old ++ column_text x height place event) }
 {
     push_column_front(text, x, height, place)?;
     push_event(text, event)?;
@@ -405,8 +400,7 @@ pub fn push_column(
 /// The line through all lanes at the place whose event may not stand there.
 #[tactic(auto, unfolding(crate::specs::Stroke::broken_text, crate::specs::Parts::text_of))]
 pub fn push_broken(text: &mut String, x: u64, height: u64, place: u64) -> Result<(), AllocError>
-    ensures { OnOk result (string_bytes text.new ≡ string_bytes text.old
-        ++ broken_text x height place) }
+    ensures { OnOk result (string_bytes text.new ≡ string_bytes text.old ++ broken_text x height place) }
 {
     push_pieces(
         text,

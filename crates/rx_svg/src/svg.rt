@@ -6,7 +6,7 @@ ghost use Rattle.serde_json.specs.View.{view};
 ghost use Rattle.rx_svg.specs.Name.{name_of};
 ghost use Rattle.rx_svg.specs.Lane.{row_text, tick_text, told_text};
 ghost use Rattle.rx_svg.specs.Page.{lanes_shown, places_shown, head_text, point_text, below_text, listed_text, list_text, untaken_text, lawful_text};
-ghost use Rattle.rx_svg.specs.Page.{unlawful_text, unsettled_text, verdict_text, leak_words, count_text, entry_text, leaking_text, leaks_text, leaks_class};
+ghost use Rattle.rx_svg.specs.Page.{unlawful_text, verdict_text, leak_words, count_text, entry_text, leaking_text, leaks_text, leaks_class};
 ghost use Rattle.rx_svg.specs.Page.{break_text, shares_text, verdict_line, leaks_line, shares_line, under_text, lanes_text, svg_text, IsPicture};
 
 use crate::lanes::{push_row, push_tick, push_told, value_at, x_of};
@@ -217,15 +217,8 @@ fn push_unlawful(text: &mut String, place: u64) -> Result<(), AllocError>
     )
 }
 
-/// That an event is due.
-#[tactic(auto, unfolding(crate::specs::Page::unsettled_text))]
-fn push_unsettled(text: &mut String) -> Result<(), AllocError>
-    ensures { OnOk result (string_bytes text.new ≡ string_bytes text.old ++ unsettled_text) }
-{
-    text.push_str("unsettled: an operator has something left to do")
-}
-
 /// The verdict.
+#[tactic(auto, unfolding(crate::specs::Page::unsettled_text))]
 fn push_verdict(text: &mut String, verdict: &Verdict) -> Result<(), AllocError>
     ensures { OnOk result (string_bytes text.new ≡ string_bytes text.old ++ verdict_text verdict.now) }
 {
@@ -236,7 +229,7 @@ fn push_verdict(text: &mut String, verdict: &Verdict) -> Result<(), AllocError>
             waiting,
         } => push_lawful(text, live.as_slice(), held.as_slice(), waiting.as_slice()),
         Verdict::Unlawful { place } => push_unlawful(text, *place),
-        Verdict::Unsettled => push_unsettled(text),
+        Verdict::Unsettled => text.push_str("unsettled: an operator has something left to do"),
     }
 }
 
