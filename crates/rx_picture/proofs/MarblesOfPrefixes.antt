@@ -1,5 +1,5 @@
 -- The notes of a prefix, so far as they are shown, and what one more event tells.
-use Rattle.rx_picture.proofs.Common.{◌≡◌, ℕ, zero, suc, ◌+◌, ◌<◌, ◌≤◌, Bool, true, false, cond, List, [], ◌∷◌, ◌++◌, length, take, filter, Option, Some, None}
+use Rattle.rx_picture.proofs.Common.{◌≡◌, ℕ, suc, ◌+◌, ◌<◌, ◌≤◌, Bool, true, false, cond, List, [], ◌∷◌, ◌++◌, length, take, filter, Option, Some, None}
 use Rattle.rx_picture.proofs.Common.{refl, sym, ap, ◌∙◌, arith, slice_get, append-nil, ◌&&◌, take-length, AllByRecursion, flat_map, option_and_then}
 use Rattle.rx_picture.proofs.Common.{option_map_or, length-take-le, filter-append, Event, End, at, climb, marbles, told_at, and_true, and_false, event_at}
 use Rattle.std.proofs.Common.{ℤ, rules, take_all}

@@ -1,6 +1,6 @@
 -- Marks that say a test choose what the test chooses, and stand where it stands.
-use Rattle.rx_picture.proofs.Common.{◌≡◌, ℕ, zero, suc, ◌+◌, ◌<◌, ◌≤◌, Bool, true, false, cond, List, [], ◌∷◌, ◌++◌, length, replicate, get_or, Option, Some}
-use Rattle.rx_picture.proofs.Common.{None, refl, sym, ap, ◌∙◌, arith, inl, inr, ◌⊎◌, nat_lt, slice_get, not, ◌&&◌, option_map_or, cases_lt, lt-ltb, le-ltb}
+use Rattle.rx_picture.proofs.Common.{◌≡◌, ℕ, ◌+◌, ◌<◌, ◌≤◌, Bool, true, false, cond, List, [], ◌∷◌, ◌++◌, length, replicate, get_or, Option, Some}
+use Rattle.rx_picture.proofs.Common.{None, refl, sym, ap, ◌∙◌, arith, nat_lt, slice_get, not, ◌&&◌, option_map_or, cases_lt, lt-ltb, le-ltb}
 use Rattle.rx_picture.proofs.Common.{and_left, length_push, length-replicate, get_or-replicate, Event, at, Row, bit, count_below, is_chosen}
 use Rattle.rx_picture.proofs.Common.{marked, AreMarks, AreRows, has_row, is_drawn, is_shown, is_placed, is_rowed, is_rowed_by, AreColumns}
 use Rattle.rx_event.proofs.Laws.Sums.{sum_by-same}

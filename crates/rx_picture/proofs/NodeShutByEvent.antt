@@ -1,6 +1,6 @@
 -- Which node an event itself takes away: what it stops, or the last inner of its Switch.
 use Rattle.rx_picture.proofs.Common.{◌≡◌, ℕ, zero, suc, ◌+◌, ◌<◌, ◌≤◌, Bool, true, false, cond, List, [], length, take, replicate, get_or, set, Option, Some}
-use Rattle.rx_picture.proofs.Common.{None, refl, sym, ap, ◌∙◌, arith, inl, inr, ◌⊎◌, ◌==◌, nat_lt, slice_get, ◌&&◌, ◌||◌, list_any, option_and_then}
+use Rattle.rx_picture.proofs.Common.{None, refl, sym, ap, ◌∙◌, arith, ◌==◌, nat_lt, slice_get, ◌&&◌, ◌||◌, list_any, option_and_then}
 use Rattle.rx_picture.proofs.Common.{option_map_or, cases_Bool, cases_lt, cases_eq, lt-ltb, le-ltb, ltb-true, eq-eqb, ne_eqb, eqb-true, and_left, and_from}
 use Rattle.rx_picture.proofs.Common.{and_parts, both_ways, false≢true, none-some, same_Some, get_or-set_same, get_or-set_other, length-set, length-replicate}
 use Rattle.rx_picture.proofs.Common.{Event, End, at, is_shut, is_key, AreTurns, AreInners, noted, was_shut, event_at, false_from_ne_true}

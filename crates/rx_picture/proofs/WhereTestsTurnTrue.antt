@@ -1,6 +1,6 @@
 -- The place at which a test of the prefixes turns true, in a table by number.
 use Rattle.rx_picture.proofs.Common.{◌≡◌, ℕ, suc, ◌+◌, ◌<◌, ◌≤◌, Bool, true, false, cond, List, [], ◌∷◌, length, take, replicate, get_or, set, Option, Some}
-use Rattle.rx_picture.proofs.Common.{sym, ap, ◌∙◌, arith, inl, inr, ◌⊎◌, ◌==◌, nat_lt, slice_get, ◌||◌, list_any, option_and_then, cases_Bool}
+use Rattle.rx_picture.proofs.Common.{sym, ap, ◌∙◌, arith, ◌==◌, nat_lt, slice_get, ◌||◌, list_any, option_and_then, cases_Bool}
 use Rattle.rx_picture.proofs.Common.{cases_lt, cases_eq, lt-ltb, le-ltb, ltb-true, eq-eqb, ne_eqb, eqb-true, or_left, or_right, or_cases, both_ways}
 use Rattle.rx_picture.proofs.Common.{get_or-set_same, get_or-set_other, length-set, get_or-replicate, length-replicate, Event, is_remove_of, is_return_of}
 use Rattle.rx_picture.proofs.Common.{is_take_of, is_key, IsTurn, AreTurns, noted, was_removed, was_returned, was_taken, or_false, event_at}
