@@ -1,5 +1,5 @@
 -- Which openings force a connection, for which there has to be room.
-use Rattle.rx_audit.proofs.Common.{◌≡◌, ℕ, ◌+◌, ◌<◌, ◌≤◌, true, false, List, [], ◌∷◌, ◌++◌, length, Some, refl, sym, ap, ◌∙◌, arith, ◌⊎◌, slice_get}
+use Rattle.rx_audit.proofs.Common.{◌≡◌, ℕ, ◌+◌, ◌<◌, ◌≤◌, true, false, List, [], ◌∷◌, ◌++◌, length, Some, refl, sym, ap, ◌∙◌, arith, slice_get}
 use Rattle.rx_audit.proofs.Common.{nat_le, length-append, not, ◌&&◌, list_any, option_map_or, cases_Bool, both_ways, false≢true, and_parts, and_from}
 use Rattle.rx_audit.proofs.Common.{eq-eqb, le-leb, leb-true, slice_get_within, nothing_kept, Place, Root, Source, Inner, Notifier, Kind, Leaf}
 use Rattle.rx_audit.proofs.Common.{Sub, Event, Open, Connect, is_auto_hub, is_connect_of, is_subscriber_of, at, places, is_open, open_nodes}

@@ -1,6 +1,6 @@
 -- The list of the nodes that may have to end.
 use Rattle.rx_audit.proofs.Common.{◌≡◌, ℕ, ◌<◌, true, false, List, [], ◌∷◌, ◌++◌, length, take, Option, Some, None, refl, sym, ap, ◌∙◌, arith}
-use Rattle.rx_audit.proofs.Common.{◌⊎◌, slice_get, length-append, nat_lt, ◌+◌, cases_order, both_ways, false≢true, and_parts, none-some}
+use Rattle.rx_audit.proofs.Common.{slice_get, length-append, nat_lt, cases_order, both_ways, false≢true, and_parts, none-some}
 use Rattle.rx_audit.proofs.Common.{same_Some, option_map, option_map_or, is_some, nothing_kept, Terminal, Event, End, Marks}
 use Rattle.rx_audit.proofs.Common.{is_open, has_open_child, open_children, marks_of, terminal_due, due_at, IsLawful, MayFollow}
 use Rattle.rx_audit.proofs.Common.{is_open_within, open_old, slice_get-append, slice_get_last, event_at, IsNoted, IsUntouched, touched_by, due_made, node_due}

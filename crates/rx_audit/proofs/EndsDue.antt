@@ -1,7 +1,7 @@
 -- What operators must do, by marks and by the words of hubs.
 use Rattle.rx_audit.proofs.Common.{◌≡◌, ◌↔◌, ℕ, suc, ◌-◌, ◌<◌, ◌≤◌, Bool, true, false, List, length, Option, Some, None, refl, sym, ap, ◌∙◌, arith}
-use Rattle.rx_audit.proofs.Common.{◌⊎◌, IsTrue, get_or, slice_get, not, cases_Bool, both_ways, false≢true, and_parts, ltb-true}
-use Rattle.rx_audit.proofs.Common.{none-some, same_Some, slice_get_within, option_and_then, option_map, option_map_or, nothing_kept, Terminal, Completed, Event}
+use Rattle.rx_audit.proofs.Common.{IsTrue, get_or, slice_get, not, cases_Bool, both_ways, false≢true, and_parts, ltb-true}
+use Rattle.rx_audit.proofs.Common.{none-some, same_Some, slice_get_within, option_and_then, option_map, option_map_or, nothing_kept, Terminal, Event}
 use Rattle.rx_audit.proofs.Common.{Connect, Decline, End, Close, Marks, is_open, marks_of, due_at, same_terminal, connecting, due, cut}
 use Rattle.rx_audit.proofs.Common.{IsDue, IsForced, IsConnectDue, SourceEnded, IsLawful, is_open_within, event_at, subscriber_hub, Hubs, last_below, keyed}
 use Rattle.rx_audit.proofs.Common.{IsUntouched, leaf_of, ends_so, AreHubs, hub_subscribed_at, hub_ended, hub_ended_at, is_cut, any_connect_due, close_due}

@@ -1,5 +1,5 @@
 -- What one event adds to what was found.
-use Rattle.rx_audit.proofs.Common.{◌≡◌, ℕ, zero, suc, ◌+◌, ◌*◌, nat_lt, ◌⊎◌, Bool, true, false, List, [], ◌∷◌, ◌++◌, length, Option, Some, None}
+use Rattle.rx_audit.proofs.Common.{◌≡◌, ℕ, zero, suc, ◌+◌, ◌*◌, nat_lt, Bool, true, false, List, [], ◌∷◌, ◌++◌, length, Option, Some, None}
 use Rattle.rx_audit.proofs.Common.{refl, sym, ap, ◌∙◌, arith, get_or, cond, count_by, replicate, take, drop, ◌||◌, list_any, sum_by, option_and_then}
 use Rattle.rx_audit.proofs.Common.{sum_by-cons, Event, Stop, climb, is_firing_of, is_projection_to, is_open, leases_of, is_open_past, IsMarked, marks_with}
 use Rattle.rx_audit.proofs.Common.{mark_count, is_key, Visit, times, IsReached, lt-ltb, or_false, ⊎_elim, cases_lt, ◌<◌, slice_get}

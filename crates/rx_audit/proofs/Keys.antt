@@ -1,6 +1,6 @@
 -- Marks and counts by a key.
 use Rattle.rx_audit.proofs.Common.{◌≡◌, ℕ, zero, suc, ◌+◌, ◌-◌, ◌<◌, ◌≤◌, Bool, false, List, [], ◌∷◌, length, Option, Some, None, arith}
-use Rattle.rx_audit.proofs.Common.{◌≢◌, get_or, set, get_or-set_other, get_or-set_same, ◌⊎◌, cond, add-zero, ◌||◌, length-set, cases_order, eq-eqb}
+use Rattle.rx_audit.proofs.Common.{◌≢◌, get_or, set, get_or-set_other, get_or-set_same, cond, add-zero, ◌||◌, length-set, cases_order, eq-eqb}
 use Rattle.rx_audit.proofs.Common.{ne_eqb, marks_with, counts_with, counts_less, is_key, or_false, or_true, ⊎_elim, cases_eq}
 use Rattle.std.proofs.Common.{rules}
 

@@ -1,6 +1,6 @@
 -- The last number with a key.
-use Rattle.rx_audit.proofs.Common.{◌≡◌, ℕ, zero, suc, ◌<◌, ◌≤◌, Bool, true, false, List, Option, Some, None, refl, sym, ap, ◌∙◌, arith, cond, ◌⊎◌}
-use Rattle.rx_audit.proofs.Common.{[], ◌∷◌, ◌++◌, length, get_or, set, get_or-set_other, get_or-set_same, ◌≢◌, length-append, nat_lt, cases_Bool}
+use Rattle.rx_audit.proofs.Common.{◌≡◌, ℕ, zero, suc, ◌<◌, ◌≤◌, Bool, true, false, List, Option, Some, None, refl, sym, ap, ◌∙◌, arith, cond}
+use Rattle.rx_audit.proofs.Common.{[], ◌∷◌, ◌++◌, length, get_or, set, get_or-set_other, get_or-set_same, length-append, nat_lt, cases_Bool}
 use Rattle.rx_audit.proofs.Common.{cases_order, false≢true, eq-eqb, eqb-true, ne_eqb, ltb-true, none-some, same_Some, is_key, length-set, option_and_then}
 use Rattle.rx_audit.proofs.Common.{Event, parent_named, inner_named, parent, if_less, slice_get-append, slice_get_last, last_below, keyed, inner_named_at}
 use Rattle.rx_audit.proofs.Common.{table_with, link_with, AreChildren, Children, ⊎_elim, cases_eq}

@@ -1,6 +1,6 @@
 -- The marks of the open nodes, one event after the other.
-use Rattle.rx_audit.proofs.Common.{◌≡◌, ℕ, ◌+◌, ◌<◌, ◌≤◌, Bool, true, false, List, [], ◌∷◌, ◌++◌, length, Option, Some, None, sym, ap, ◌∙◌, arith, inl}
-use Rattle.rx_audit.proofs.Common.{inr, ◌⊎◌, ◌==◌, ◌≢◌, get_or, set, get_or-set_other, get_or-set_same, slice_get, length-append, false≢true, cases_Bool}
+use Rattle.rx_audit.proofs.Common.{◌≡◌, ℕ, ◌<◌, ◌≤◌, Bool, true, false, List, [], ◌∷◌, ◌++◌, length, Option, Some, None, sym, ap, ◌∙◌, arith, inl}
+use Rattle.rx_audit.proofs.Common.{inr, ◌⊎◌, ◌==◌, get_or, set, get_or-set_other, get_or-set_same, slice_get, length-append, false≢true, cases_Bool}
 use Rattle.rx_audit.proofs.Common.{cases_order, both_ways, eqb-true, and_parts, lt-ltb, and_from, none-some, same_Some, length-set, option_map_or, nothing_kept}
 use Rattle.rx_audit.proofs.Common.{Terminal, Source, Inner, Notifier, Kind, Event, Open, Decline, End, Close, Marks, is_merging, is_switch, is_source_of}
 use Rattle.rx_audit.proofs.Common.{is_inner_of, at, parent, is_open, is_switched_inner, is_some, length-range_with_len, open_old}

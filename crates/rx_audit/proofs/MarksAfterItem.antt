@@ -1,6 +1,6 @@
 -- An item in a history without hubs: what it does to marks, and what is due after it.
 use Rattle.rx_audit.proofs.Common.{◌≡◌, ℕ, ℤ, ◌+◌, ◌<◌, Bool, true, List, [], ◌∷◌, ◌++◌, length, Option, Some, refl, sym, ap, ◌∙◌, arith}
-use Rattle.rx_audit.proofs.Common.{◌⊎◌, ◌==◌, cond, ◌||◌, ◌&&◌, cases_Bool, false≢true, eq-eqb, eqb-true, none-some, same_Some, list_any, sum_by, count_by}
+use Rattle.rx_audit.proofs.Common.{◌==◌, cond, ◌||◌, ◌&&◌, cases_Bool, false≢true, eq-eqb, eqb-true, none-some, same_Some, list_any, sum_by, count_by}
 use Rattle.rx_audit.proofs.Common.{option_or, is_some, nothing_kept, Terminal, Event, Item, Marks, is_open, stop_at, climb, owed}
 use Rattle.rx_audit.proofs.Common.{is_firing_of, is_projection_to, marks_of, terminal_due, IsLawful, MayFollow, is_open_within, slice_get-append, event_at}
 use Rattle.rx_audit.proofs.Common.{Visit, IsReached, is_key, leaf_of, IsKept, IsCovered, IsVisited, visited_marks, fired_key, projected_key, due_made}

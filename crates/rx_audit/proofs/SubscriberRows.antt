@@ -1,6 +1,6 @@
 -- The lists of the subscribers of each hub: one taken off, and a new one.
 use Rattle.rx_audit.proofs.Common.{◌≡◌, ◌≢◌, ℕ, zero, suc, ◌+◌, ◌-◌, ◌<◌, ◌≤◌, Bool, true, false, List, [], ◌∷◌, ◌++◌, length, replicate, Some, None, cond}
-use Rattle.rx_audit.proofs.Common.{refl, sym, ap, ◌∙◌, arith, ◌⊎◌, get_or, set, get_or-set_other, get_or-set_same, length-set, length-replicate, ◌&&◌}
+use Rattle.rx_audit.proofs.Common.{refl, sym, ap, ◌∙◌, arith, get_or, set, get_or-set_other, get_or-set_same, length-set, length-replicate, ◌&&◌}
 use Rattle.rx_audit.proofs.Common.{sum_by, sum_by-cons, option_map_or, cases_Bool, cases_order, both_ways, false≢true, and_parts, ne_eqb, none-some, Event}
 use Rattle.rx_audit.proofs.Common.{is_subscriber_of, hub_subscribed, at, is_open, open_subscribers, falling, at-append, at_within, slice_get_last, Subscribers}
 use Rattle.rx_audit.proofs.Common.{last_below, table_with, on_list, IsRow, number_of, AreLinked, AreOpenListed, hub_subscribed_at, and_false}

@@ -1,6 +1,6 @@
 -- The tests that compute decide which events callers may add.
 use Rattle.rx_audit.proofs.Common.{◌≡◌, ℕ, ℤ, zero, suc, cond, count_by, get_or, ◌+◌, ◌<◌, ◌≤◌, Bool, true, false, List, [], ◌∷◌, ◌++◌, length, Option, Some}
-use Rattle.rx_audit.proofs.Common.{None, refl, sym, ap, ◌∙◌, arith, ◌==◌, slice_get, ◌⊎◌, nat_lt, nat_le, IsTrue, MatchBool, not, ◌&&◌, ◌||◌}
+use Rattle.rx_audit.proofs.Common.{None, refl, sym, ap, ◌∙◌, arith, ◌==◌, slice_get, nat_lt, nat_le, IsTrue, MatchBool, not, ◌&&◌, ◌||◌}
 use Rattle.rx_audit.proofs.Common.{list_any, list_all, range_with_len, sum_by-cons, option_map_or, and_parts, false≢true, ltb-true, lt-ltb, eqb-true, eq-eqb}
 use Rattle.rx_audit.proofs.Common.{leb-true, le-leb, nothing_kept, Terminal, Completed, Error, Place, Kind, Event}
 use Rattle.rx_audit.proofs.Common.{Open, Connect, Accept, Lease, Return, Item, Decline, End, Close, is_merging, is_connect_of, at}

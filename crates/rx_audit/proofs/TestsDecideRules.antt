@@ -1,6 +1,6 @@
 -- The tests that compute decide the rules: ends, sources and connections.
 use Rattle.rx_audit.proofs.Common.{◌≡◌, ℕ, zero, suc, ◌+◌, ◌<◌, ◌≤◌, Bool, true, false, List, [], ◌∷◌, Option, Some, None, refl, ap, arith, cond}
-use Rattle.rx_audit.proofs.Common.{drop, slice_get, ◌⊎◌, ◌&&◌, list_any, range_with_len, filter, option_map_or, option_and_then, cases_Bool}
+use Rattle.rx_audit.proofs.Common.{drop, slice_get, ◌&&◌, list_any, range_with_len, filter, option_map_or, option_and_then, cases_Bool}
 use Rattle.rx_audit.proofs.Common.{eqb-true, eq-eqb, false≢true, none-some, option_and_then_some, Terminal, Event, Connect, End}
 use Rattle.rx_audit.proofs.Common.{is_subscriber_of, is_connect_of, hub_subscribed, hub_connected, at, places, is_open, SourceEnded, same_terminal, is_key}
 use Rattle.rx_audit.proofs.Common.{hub_subscribed_at, hub_connected_at, joins, ends_source, is_cut, open_subscribed, open_connected, has_key, subscribed_event}

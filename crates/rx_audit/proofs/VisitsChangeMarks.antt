@@ -1,6 +1,6 @@
 -- What the visits of an item do to the marks of nodes.
 use Rattle.rx_audit.proofs.Common.{◌≡◌, ℕ, ◌+◌, ◌<◌, Bool, true, List, [], length, take, Option, sym, ap, ◌∙◌, arith}
-use Rattle.rx_audit.proofs.Common.{◌⊎◌, ◌≢◌, get_or, get_or-set_other, get_or-set_same, cond, add-zero, ◌||◌, length-set, cases_order}
+use Rattle.rx_audit.proofs.Common.{get_or, get_or-set_other, get_or-set_same, cond, add-zero, ◌||◌, length-set, cases_order}
 use Rattle.rx_audit.proofs.Common.{false≢true, eq-eqb, eqb-true, ne_eqb, or_cases, list_any, sum_by, sum_by_more, Event, Marks, blank_marks, Visit, is_key}
 use Rattle.rx_audit.proofs.Common.{IsNoted, fired_key, projected_key, visited_marks, IsVisited, or_false, or_true, ⊎_elim}
 use Rattle.std.proofs.lemmas.List.Folds.{list_any_more}
