@@ -22,13 +22,11 @@ within_marks (m ∷ ms) zero e = omega arith
 within_marks (m ∷ ms) (suc n) e = let r = within_marks ms n e in omega arith
 
 pub count_cleared : (ms : List Bool) (c : ℕ) → get_or ms c false ≡ true → mark_count (set ms c false) + 1 ≡ mark_count ms
-count_cleared ms c y =
-    search (rules, sum_by-set, cond, within_marks, get_or)
+count_cleared ms c y = search (rules, sum_by-set, cond, within_marks, get_or)
 
 -- a place that had no mark
 pub count_set : (ms : List Bool) (n : ℕ) (b : Bool) → n < length ms → get_or ms n false ≡ false → mark_count (set ms n b) ≡ mark_count ms + cond {A = ℕ} b 1 0
-count_set ms n b l unmarked =
-    search (rules, sum_by-set, cond, get_or)
+count_set ms n b l unmarked = search (rules, sum_by-set, cond, get_or)
 
 -- a mark that was taken away, and the others
 pub cleared : (ms : List Bool) (c n : ℕ) → get_or (set ms c false) n false ≡ true → (n ≢ c) × (get_or ms n false ≡ true)
@@ -214,8 +212,7 @@ inner_none h f v is shut n o = false_from_ne_true (is_switched_inner h f n) (λ 
     let parts = and_parts (nat_lt f n && at is_switch h f) (at (is_inner_of f) h n) s in
     let below : f < n = ltb-true f n (and_parts (nat_lt f n) (at is_switch h f) parts.0).0 in
     let inside : n < length h = is_open_within h n o in
-    ⊎_elim
-    (λ l. let last : last_below (keyed (inner_named_at h) f) (length h) ≡ suc (v - 1) = omega arith in
+    ⊎_elim (λ l. let last : last_below (keyed (inner_named_at h) f) (length h) ≡ suc (v - 1) = omega arith in
     ⊎_elim (λ e. both_ways (is_open h n) (ap (is_open h) e ∙ shut (omega arith) (omega arith)) o)
     (λ apart. both_ways (is_open h n) (older_closed h f n (v - 1) (omega arith)
     (is_key_of (inner_named_at h (v - 1)) f (last_holds (keyed (inner_named_at h) f) (length h) (v - 1) last)) s) o) (cases_eq n (v - 1)))
@@ -259,8 +256,7 @@ none_number h n closed k o = search (rules, false_from_ne_true, both_ways, eqb-t
 -- what is listed in the end ---------------------------------------------------------------------------
 
 pub noted_first : (h : List Event) (ms : List Bool) (top : ℕ) → IsMarked ms (is_open h)
-    → (n : ℕ) → is_open h n ≡ true → get_or (set ms top false) n false ≡ false
-    → IsNoted 0 (top ∷ []) n
+    → (n : ℕ) → is_open h n ≡ true → get_or (set ms top false) n false ≡ false → IsNoted 0 (top ∷ []) n
 noted_first h ms top tied n o gone = search (rules, uncleared, get_or, both_ways)
 
 pub noted_on : {h : List Event} {p : ℕ} {old : List Bool} (new : List Bool) (before after : List ℕ)

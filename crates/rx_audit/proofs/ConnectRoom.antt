@@ -1,11 +1,10 @@
 -- Which openings force a connection, for which there has to be room.
-use Rattle.rx_audit.proofs.Common.{◌≡◌, ℕ, ◌+◌, ◌<◌, ◌≤◌, true, false, List, [], ◌∷◌, ◌++◌, length, Some, refl, sym, ap, ◌∙◌, arith, slice_get}
-use Rattle.rx_audit.proofs.Common.{nat_le, length-append, not, ◌&&◌, list_any, option_map_or, cases_Bool, both_ways, false≢true, and_parts, and_from}
-use Rattle.rx_audit.proofs.Common.{eq-eqb, le-leb, leb-true, slice_get_within, nothing_kept, Place, Root, Source, Inner, Notifier, Kind, Leaf}
-use Rattle.rx_audit.proofs.Common.{Sub, Event, Open, Connect, is_auto_hub, is_connect_of, is_subscriber_of, at, places, is_open, open_nodes}
-use Rattle.rx_audit.proofs.Common.{IsConnectDue, IsSettled, IsFree, IsLawful, slice_get_last, at-append, at_within, is_open_within, open_old, leaves_room}
-use Rattle.rx_audit.proofs.Common.{open_allowed, has_key, open_connected, or_left, or_right, or_cases, not-true, not_from_false, false_from_ne_true}
-use Rattle.rx_audit.proofs.Common.{⊎_elim}
+use Rattle.rx_audit.proofs.Common.{◌≡◌, ℕ, ◌+◌, ◌<◌, ◌≤◌, true, false, List, [], ◌∷◌, ◌++◌, length, Some, refl, sym, ap, ◌∙◌, arith, slice_get, nat_le}
+use Rattle.rx_audit.proofs.Common.{length-append, not, ◌&&◌, list_any, option_map_or, cases_Bool, both_ways, false≢true, and_parts, and_from, eq-eqb, le-leb}
+use Rattle.rx_audit.proofs.Common.{leb-true, slice_get_within, nothing_kept, Place, Root, Source, Inner, Notifier, Kind, Leaf, Sub, Event, Open, Connect}
+use Rattle.rx_audit.proofs.Common.{is_auto_hub, is_connect_of, is_subscriber_of, at, places, is_open, open_nodes, IsConnectDue, IsSettled, IsFree, IsLawful}
+use Rattle.rx_audit.proofs.Common.{slice_get_last, at-append, at_within, is_open_within, open_old, leaves_room, open_allowed, has_key, open_connected, or_left}
+use Rattle.rx_audit.proofs.Common.{or_right, or_cases, not-true, not_from_false, false_from_ne_true, ⊎_elim}
 use Rattle.rx_event.specs.Tree.{open_connections}
 use Rattle.rx_event.proofs.Laws.Lists.{filter_nonempty}
 use Rattle.rx_event.proofs.Laws.Openness.{is_open_cut, is_open_last, is_open_made, is_cut_none, is_cut_inner}
@@ -20,8 +19,7 @@ use Rattle.std.proofs.Common.{rules}
 -- an opening takes no connection away
 connection_stays : (h : List Event) (place : Place) (kind : Kind) (c g : ℕ) → slice_get h c ≡ Some (Connect g) → is_open h c ≡ true
     → is_open (h ++ Open place kind ∷ []) c ≡ true
-connection_stays h place kind c g made alive =
-    search (rules, false_from_ne_true, spares, cut_alone, is_open_cut, is_open_within)
+connection_stays h place kind c g made alive = search (rules, false_from_ne_true, spares, cut_alone, is_open_cut, is_open_within)
 
 -- where none is open after it, none was
 none_before : (h : List Event) (place : Place) (kind : Kind) (g : ℕ)
@@ -32,20 +30,17 @@ none_before h place kind g none = false_from_ne_true (has_key (open_connected h)
     let l = f.within in
     let still = connection_stays h place kind f.number g (at_connect h g f.number p.0) p.1 in
     filter_nonempty (λ n. at (is_connect_of g) (h ++ Open place kind ∷ []) n && is_open (h ++ Open place kind ∷ []) n) 0
-    (length (h ++ Open place kind ∷ [])) f.number
-    (omega arith) (omega (arith, length-append h (Open place kind ∷ [])))
+    (length (h ++ Open place kind ∷ [])) f.number (omega arith) (omega (arith, length-append h (Open place kind ∷ [])))
     (and_from _ _ (at-append (is_connect_of g) h (Open place kind ∷ []) f.number l ∙ p.0) still) none)
 
 -- a hub that waits after it needs a connection
 connect_needs : (h : List Event) (place : Place) (kind : Kind) → IsLawful nothing_kept h
-    → IsSettled nothing_kept h → (g : ℕ) → IsConnectDue (h ++ Open place kind ∷ []) g
-    → needs_connection h (Open place kind) ≡ true
+    → IsSettled nothing_kept h → (g : ℕ) → IsConnectDue (h ++ Open place kind ∷ []) g → needs_connection h (Open place kind) ≡ true
 connect_needs h place (Sub k) law settled g d =
     let same : g ≡ k = kept_subscribed nothing_kept h place k law (settled_connected nothing_kept h settled) g d in
     let auto : at is_auto_hub h k ≡ true = ap (at is_auto_hub h) (sym same) ∙ at_before is_auto_hub h (Open place (Sub k)) g refl d.auto in
     let none : has_key (open_connected h) h k ≡ false =
-    none_before h place (Sub k) k (ap (open_connections (h ++ Open place (Sub k) ∷ [])) (sym same) ∙ d.unconnected) in
-    rw (auto, none) refl
+    none_before h place (Sub k) k (ap (open_connections (h ++ Open place (Sub k) ∷ [])) (sym same) ∙ d.unconnected) in rw (auto, none) refl
 connect_needs h place kind law settled g d =
     absurd (kept_unsubscribed nothing_kept h (Open place kind) law (settled_connected nothing_kept h settled) refl refl g d)
 
@@ -103,8 +98,7 @@ room_fits h place kind law settled y g d = ⊎_elim (λ few. let l = leb-true (l
 pub fits_room : (h : List Event) (place : Place) (kind : Kind) → IsLawful nothing_kept h → IsSettled nothing_kept h → open_allowed h place kind ≡ true
     → ((g : ℕ) → IsConnectDue (h ++ Open place kind ∷ []) g → length (open_nodes h) + 2 ≤ 1048576) → leaves_room h (Open place kind) ≡ true
 unfolding leaves_room
-fits_room h place kind law settled may fits = ⊎_elim
-    (λ needs. let d = needs_due h place kind (open_free h place kind may) needs in let l = fits d.0 d.1 in
+fits_room h place kind law settled may fits = ⊎_elim (λ needs. let d = needs_due h place kind (open_free h place kind may) needs in let l = fits d.0 d.1 in
     or_left (nat_le (length (open_nodes h)) 1048574) (not (needs_connection h (Open place kind))) (le-leb (length (open_nodes h)) 1048574 (omega arith)))
     (λ none. or_right (nat_le (length (open_nodes h)) 1048574) (not (needs_connection h (Open place kind))) (not_from_false _ none))
     (cases_Bool (needs_connection h (Open place kind)))

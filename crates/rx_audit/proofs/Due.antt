@@ -67,8 +67,7 @@ no_connect_due h none g d = both_ways (any_connect_due h) none (any_connect_due_
 
 -- some child is open
 pub child_closed : (h : List Event) (f : ℕ) → not (has_open_child h f) ≡ true → (c : ℕ) → parent h c ≡ Some f → is_open h c ≡ false
-child_closed h f e c below =
-    false_from_ne_true (is_open h c) (λ o. both_ways (has_open_child h f) (not-true (has_open_child h f) e)
+child_closed h f e c below = false_from_ne_true (is_open h c) (λ o. both_ways (has_open_child h f) (not-true (has_open_child h f) e)
     (any_found (is_open_child_of h f) (length h) c (parent_within h c f below)
     (and_from (is_open h c) (option_map_or (λ q. q == f) (parent h c) false) o (rw below (number_itself f)))))
 
@@ -84,8 +83,7 @@ no_child_open h f closed = not_from_false _ (false_from_ne_true (has_open_child 
       both_ways (is_open h s.number) (closed s.number (below (parent h s.number) w.1)) w.0
 
 is_left_of : (h : List Event) (g : ℕ) → at is_auto_hub h g ≡ true → open_subscribers h g ≡ [] → is_left h g ≡ true
-is_left_of h g a none =
-    search (rules, and_from, not, not_from_false, subscribed_key, none_filtered)
+is_left_of h g a none = search (rules, and_from, not, not_from_false, subscribed_key, none_filtered)
 
 leaves : (h : List Event) (c g : ℕ) → is_open h c ≡ true → slice_get h c ≡ Some (Connect g) → is_left h g ≡ true → IsDue nothing_kept h (Close c)
 leaves h c g o at_c l =
@@ -102,8 +100,7 @@ close_is_due h c e = search (rules, and_parts, option_map_or, leaves_at)
 
 pub close_due_of : (h : List Event) (c : ℕ) → IsDue nothing_kept h (Close c) → close_due h c ≡ true
 unfolding close_due
-close_due_of h c (left {g = g} o at_c a none) =
-    search (rules, and_from, option_map_or, at_connection, is_left_of)
+close_due_of h c (left {g = g} o at_c a none) = search (rules, and_from, option_map_or, at_connection, is_left_of)
 
 pub unconnected : (h : List Event) → ((g : ℕ) → ¬ IsConnectDue h g) → not (any_connect_due h) ≡ true
 unconnected h none = not_from_false (any_connect_due h) (false_from_ne_true (any_connect_due h) (λ e. let w = some_connect_due h e in none w.0 w.1))

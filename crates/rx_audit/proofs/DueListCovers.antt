@@ -1,10 +1,9 @@
 -- The list of the nodes that may have to end.
-use Rattle.rx_audit.proofs.Common.{◌≡◌, ℕ, ◌<◌, true, false, List, [], ◌∷◌, ◌++◌, length, take, Option, Some, None, refl, sym, ap, ◌∙◌, arith}
-use Rattle.rx_audit.proofs.Common.{slice_get, length-append, nat_lt, cases_order, both_ways, false≢true, and_parts, none-some}
-use Rattle.rx_audit.proofs.Common.{same_Some, option_map, option_map_or, is_some, nothing_kept, Terminal, Event, End, Marks}
-use Rattle.rx_audit.proofs.Common.{is_open, has_open_child, open_children, marks_of, terminal_due, due_at, IsLawful, MayFollow}
-use Rattle.rx_audit.proofs.Common.{is_open_within, open_old, slice_get-append, slice_get_last, event_at, IsNoted, IsUntouched, touched_by, due_made, node_due}
-use Rattle.rx_audit.proofs.Common.{IsCovered, and_false, ⊎_elim, cases_eq}
+use Rattle.rx_audit.proofs.Common.{◌≡◌, ℕ, ◌<◌, true, false, List, [], ◌∷◌, ◌++◌, length, take, Option, Some, None, refl, sym, ap, ◌∙◌, arith, slice_get}
+use Rattle.rx_audit.proofs.Common.{length-append, nat_lt, cases_order, both_ways, false≢true, and_parts, none-some, same_Some, option_map, option_map_or}
+use Rattle.rx_audit.proofs.Common.{is_some, nothing_kept, Terminal, Event, End, Marks, is_open, has_open_child, open_children, marks_of, terminal_due, due_at}
+use Rattle.rx_audit.proofs.Common.{IsLawful, MayFollow, is_open_within, open_old, slice_get-append, slice_get_last, event_at, IsNoted, IsUntouched, touched_by}
+use Rattle.rx_audit.proofs.Common.{due_made, node_due, IsCovered, and_false, ⊎_elim, cases_eq}
 use Rattle.rx_audit.proofs.FoundAfterEvent.{any_counted}
 use Rattle.rx_event.proofs.Laws.MarksTouched.{quiet_new}
 use Rattle.rx_audit.proofs.ClosingBelow.{noted_more, noted_last}
@@ -49,20 +48,17 @@ due_before : (h : List Event) (e : Event) → IsLawful nothing_kept h → MayFol
 due_before h e law next no_item n differs y =
     let alive = (due_parts (h ++ e ∷ []) n y).0 in
     let last = is_open_within (h ++ e ∷ []) n alive in
-    let longer = length-append h (e ∷ []) in ⊎_elim
-    (λ same. absurd (both_ways (due_made (h ++ e ∷ []) (length h) e)
+    let longer = length-append h (e ∷ []) in ⊎_elim (λ same. absurd (both_ways (due_made (h ++ e ∷ []) (length h) e)
     (quiet_is e (marks_of nothing_kept (h ++ e ∷ []) (length h)) (length h) (quiet_new nothing_kept h e law next))
     (sym (due_made_at (h ++ e ∷ []) (length h) e (ap (is_open (h ++ e ∷ [])) (sym same) ∙ alive) (slice_get_last h e))
-    ∙ ap (node_due (h ++ e ∷ [])) (sym same) ∙ y)))
-    (λ old. let l : n < length h = omega arith in
+    ∙ ap (node_due (h ++ e ∷ [])) (sym same) ∙ y))) (λ old. let l : n < length h = omega arith in
     let made = event_at h n l in
     due_made_at h n made.0 (open_old h e n l alive) made.1
     ∙ ap (λ m. is_some (terminal_due made.0 m)) (sym (marks_apart e law next no_item n l alive differs))
     ∙ sym (due_made_at (h ++ e ∷ []) n made.0 alive (slice_get-append h (e ∷ []) n l ∙ made.1)) ∙ y) (cases_eq n (length h))
 
 pub covered_more : {h : List Event} (e : Event) (due : List ℕ) (p : ℕ) → IsLawful nothing_kept h → MayFollow nothing_kept h e → IsUntouched h e
-    → touched_by h e ≡ Some p
-    → IsCovered h due → IsCovered (h ++ e ∷ []) (due ++ p ∷ [])
+    → touched_by h e ≡ Some p → IsCovered h due → IsCovered (h ++ e ∷ []) (due ++ p ∷ [])
 covered_more {h} e due p law next no_item named covered n y = search (rules, cases_order, noted_more, due_before, same_Some, noted_last)
 
 pub covered_same : (h : List Event) (e : Event) (due : List ℕ) → IsLawful nothing_kept h → MayFollow nothing_kept h e → IsUntouched h e → touched_by h e ≡ None

@@ -26,8 +26,7 @@ due_close_open (left o at_c a n) = o
 -- subscribers that the event cuts off -----------------------------------------------------------------
 
 pub cut_after : {h : List Event} (e : Event) (before after : List ℕ)
-    → IsLawful nothing_kept h → MayFollow nothing_kept h e → HasCut h before → Keeps before after
-    → HasEnded h e after → HasCut (h ++ e ∷ []) after
+    → IsLawful nothing_kept h → MayFollow nothing_kept h e → HasCut h before → Keeps before after → HasEnded h e after → HasCut (h ++ e ∷ []) after
 cut_after {h} e before after law next so_far keeps ended n alive is = let found = cut_ended (h ++ e ∷ []) n is in ⊎_elim
     (λ x. let within = slice_get_within h x.place _ x.ended in let after_it = x.later in
     keeps n (so_far n (open_old h e n (omega arith) alive) (is_cut_of h n found.0 x)))
@@ -38,8 +37,7 @@ cut_after {h} e before after law next so_far keeps ended n alive is = let found 
 
 -- the word of the hub leads to its open connection
 open_word : {h : List Event} → IsLawful nothing_kept h → {size : ℕ} (g c : ℕ) (known : Hubs)
-    → AreHubs h size known → g < size → slice_get h c ≡ Some (Connect g) → is_open h c ≡ true
-    → get_or known.connection.items g 0 ≡ suc c
+    → AreHubs h size known → g < size → slice_get h c ≡ Some (Connect g) → is_open h c ≡ true → get_or known.connection.items g 0 ≡ suc c
 open_word {h} law g c known w inside made alive =
     let room = w.connection_size in
     w.connection g (omega arith) ∙ last_unique (keyed (hub_connected_at h) g) (length h) (suc c) (is_open_within h c alive) later here
@@ -123,10 +121,8 @@ acts_by_closing h n y = grind arith
 
 -- where there is none, it is settled
 pub none_acts_settled : (h : List Event) → IsConnected h → ((n : ℕ) → acts h n ≡ true → ⊥) → IsSettled nothing_kept h
-none_acts_settled h whole none = settled_by_marks nothing_kept h whole
-    (λ n t o ended. none n (acts_by_cut h n o (is_cut_of h n t ended)))
-    (λ c d. none c (acts_by_closing h c (close_due_of h c d)))
-    (λ n made o is. none_is_due made (marks_of nothing_kept h n) n
+none_acts_settled h whole none = settled_by_marks nothing_kept h whole (λ n t o ended. none n (acts_by_cut h n o (is_cut_of h n t ended)))
+    (λ c d. none c (acts_by_closing h c (close_due_of h c d))) (λ n made o is. none_is_due made (marks_of nothing_kept h n) n
     (false_from_ne_true (due_made h n made) (λ y. none n (acts_by_marks h n (due_made_at h n made o is ∙ y)))))
 
 -- the list has all, so it has each part
@@ -151,12 +147,10 @@ pub lost_keeps : (h : List Event) (s : ℕ) (connection before after : List ℕ)
 lost_keeps h s connection before after so_far keeps g c hub word = keeps c (so_far g c hub word)
 
 pub lost_one : (h : List Event) (s p : ℕ) (connection list : List ℕ) → lost_connection h connection s ≡ Some p → IsLostNoted h s connection (list ++ p ∷ [])
-lost_one h s p connection list found g c hub word =
-    search (rules, same_Some, option_and_then, get_or, noted_last)
+lost_one h s p connection list found g c hub word = search (rules, same_Some, option_and_then, get_or, noted_last)
 
 pub lost_none : (h : List Event) (s : ℕ) (connection list : List ℕ) → lost_connection h connection s ≡ None → IsLostNoted h s connection list
-lost_none h s connection list none g c hub word =
-    search (rules, none-some, option_and_then, get_or)
+lost_none h s connection list none g c hub word = search (rules, none-some, option_and_then, get_or)
 
 -- the list has the connection of the hub of each of the first i that were closed
 abbrev HasLostTo : List Event → List ℕ → List ℕ → ℕ → List ℕ → Type 0
@@ -168,8 +162,7 @@ lost_more h closed connection {before} {after} i so_far keeps last k l = search 
 
 pub lost_all : (h : List Event) (closed connection list : List ℕ) (i : ℕ) → length closed ≤ i → HasLostTo h closed connection i list
     → HasLost h closed connection list
-lost_all h closed connection list i over each s g c noted hub word =
-    search rules
+lost_all h closed connection list i over each s g c noted hub word = search rules
 
 -- the subscribers of a hub, from the last down
 module _ (h : List Event) (size : ℕ) (s : Subscribers) (g : ℕ) (w : AreLinked h size s) where

@@ -1,11 +1,11 @@
 -- What operators must do, by marks and by the words of hubs.
-use Rattle.rx_audit.proofs.Common.{◌≡◌, ◌↔◌, ℕ, suc, ◌-◌, ◌<◌, ◌≤◌, Bool, true, false, List, length, Option, Some, None, refl, sym, ap, ◌∙◌, arith}
-use Rattle.rx_audit.proofs.Common.{IsTrue, get_or, slice_get, not, cases_Bool, both_ways, false≢true, and_parts, ltb-true}
-use Rattle.rx_audit.proofs.Common.{none-some, same_Some, slice_get_within, option_and_then, option_map, option_map_or, nothing_kept, Terminal, Event}
-use Rattle.rx_audit.proofs.Common.{Connect, Decline, End, Close, Marks, is_open, marks_of, due_at, same_terminal, connecting, due, cut}
-use Rattle.rx_audit.proofs.Common.{IsDue, IsForced, IsConnectDue, SourceEnded, IsLawful, is_open_within, event_at, subscriber_hub, Hubs, last_below, keyed}
-use Rattle.rx_audit.proofs.Common.{IsUntouched, leaf_of, ends_so, AreHubs, hub_subscribed_at, hub_ended, hub_ended_at, is_cut, any_connect_due, close_due}
-use Rattle.rx_audit.proofs.Common.{connect_due, and_false, and_from, or_left, or_right, or_cases, not-true, false_from_ne_true, ⊎_elim, cases_lt}
+use Rattle.rx_audit.proofs.Common.{◌≡◌, ◌↔◌, ℕ, suc, ◌-◌, ◌<◌, ◌≤◌, Bool, true, false, List, length, Option, Some, None, refl, sym, ap, ◌∙◌, arith, IsTrue}
+use Rattle.rx_audit.proofs.Common.{get_or, slice_get, not, cases_Bool, both_ways, false≢true, and_parts, ltb-true, none-some, same_Some, slice_get_within}
+use Rattle.rx_audit.proofs.Common.{option_and_then, option_map, option_map_or, nothing_kept, Terminal, Event, Connect, Decline, End, Close, Marks, is_open}
+use Rattle.rx_audit.proofs.Common.{marks_of, due_at, same_terminal, connecting, due, cut, IsDue, IsForced, IsConnectDue, SourceEnded, IsLawful, is_open_within}
+use Rattle.rx_audit.proofs.Common.{event_at, subscriber_hub, Hubs, last_below, keyed, IsUntouched, leaf_of, ends_so, AreHubs, hub_subscribed_at, hub_ended}
+use Rattle.rx_audit.proofs.Common.{hub_ended_at, is_cut, any_connect_due, close_due, connect_due, and_false, and_from, or_left, or_right, or_cases, not-true}
+use Rattle.rx_audit.proofs.Common.{false_from_ne_true, ⊎_elim, cases_lt}
 use Rattle.rx_event.specs.Claims.Connections.{EndsConnection, EndsLast}
 use Rattle.rx_event.proofs.Laws.Lawful.{due_open}
 use Rattle.rx_event.proofs.Laws.Steps.{forced_kind}
@@ -15,8 +15,7 @@ use Rattle.rx_event.proofs.Laws.Connections.{cut_by_last}
 use Rattle.rx_audit.specs.Marking.{forced_end}
 use Rattle.rx_audit.specs.HubTables.{terminal_of_word, ends_last_so, cut_so, ends_now, forced_now}
 use Rattle.rx_audit.proofs.Latest.{last_holds, last_none, key_is, is_key_of}
-use Rattle.rx_audit.proofs.TestsDecideRules.{terminal_is, terminal_self, connection_at, at_connection, at_subscriber, cut_ended, is_cut_of}
-use Rattle.rx_audit.proofs.TestsDecideRules.{subscriber_at}
+use Rattle.rx_audit.proofs.TestsDecideRules.{terminal_is, terminal_self, connection_at, at_connection, at_subscriber, cut_ended, is_cut_of, subscriber_at}
 use Rattle.rx_audit.proofs.Due.{connect_is_due, connect_due_of, some_connect_due, any_connect_due_of, no_connect_due, close_is_due, close_due_of, unconnected}
 use Rattle.rx_audit.proofs.HubWords.{cut_word}
 use Rattle.std.proofs.Common.{rules}
@@ -73,8 +72,7 @@ module _ (h : List Event) (law : IsLawful nothing_kept h) (size : ℕ) (known : 
   cut_parts : (s : ℕ) (t : Terminal) → cut_so h known.ended.items s t ≡ true
       → (is_open h s ≡ true) × (is_cut h s ≡ true) × (ends_last_so h known.ended.items s t ≡ true)
   unfolding cut_so
-  cut_parts s t y =
-      search (rules, and_parts)
+  cut_parts s t y = search (rules, and_parts)
 
   by_word : (s : ℕ) → is_cut h s ≡ true → (g : ℕ) × (place : ℕ) × (hub_subscribed_at h s ≡ Some g) × (get_or known.ended.items g 0 ≡ suc place) × (s < place)
       × (last_below (keyed (hub_ended_at h) g) (length h) ≡ suc place)
@@ -89,10 +87,8 @@ module _ (h : List Event) (law : IsLawful nothing_kept h) (size : ℕ) (known : 
       (x.hub, get_or known.ended.items x.hub 0 - 1, hub, some, omega arith, sym word ∙ some)
 
   last_so : (s g place : ℕ) (t u : Terminal) → hub_subscribed_at h s ≡ Some g
-      → get_or known.ended.items g 0 ≡ suc place → terminal_of_word h (suc place) ≡ Some u
-      → ends_last_so h known.ended.items s t ≡ same_terminal u t
-  last_so s g place t u hub word ends =
-      search (rules, option_map_or, get_or)
+      → get_or known.ended.items g 0 ≡ suc place → terminal_of_word h (suc place) ≡ Some u → ends_last_so h known.ended.items s t ≡ same_terminal u t
+  last_so s g place t u hub word ends = search (rules, option_map_or, get_or)
 
   pub cut_due : (s : ℕ) (t : Terminal) → cut_so h known.ended.items s t ≡ true → IsDue nothing_kept h (End s t)
   cut_due s t y =
@@ -129,10 +125,8 @@ module _ (h : List Event) (law : IsLawful nothing_kept h) (size : ℕ) (known : 
   unfolding ends_now
   ends_due_of n t d =
       let o = due_open nothing_kept d in
-      let made = event_at h n (is_open_within h n o) in ⊎_elim
-      (λ c. or_right (forced_end h n t) (cut_so h known.ended.items n t) c)
-      (λ c. or_left (forced_end h n t) (cut_so h known.ended.items n t)
-      (forced_made h n t made.0 o made.1 ∙ ends_due made.0 (marks_of nothing_kept h n) n t
+      let made = event_at h n (is_open_within h n o) in ⊎_elim (λ c. or_right (forced_end h n t) (cut_so h known.ended.items n t) c)
+      (λ c. or_left (forced_end h n t) (cut_so h known.ended.items n t) (forced_made h n t made.0 o made.1 ∙ ends_due made.0 (marks_of nothing_kept h n) n t
       (due_by_marks_alone law o made.1 (λ x. both_ways _ c (cut_due_of n t o x)) d))) (cases_Bool (cut_so h known.ended.items n t))
 
   -- as one test of the event

@@ -43,8 +43,7 @@ whole-step {h} n todo steps number amount w d l =
     let e = sum_by-cons (flow (suc d) h number) n todo in
     let f = sum_by-cons (flow (suc (suc d)) h number) n todo in
     let m = flow-sum-more (suc d) h number todo in
-    let o = flow-sum-more d h number (onward h n) in
-    omega arith
+    let o = flow-sum-more d h number (onward h n) in omega arith
 
 pub visits_whole : (k : ℕ) (h : List Event) (todo : List ℕ) (steps : ℕ) (amount : (ℕ → ℕ) → ℕ)
     → ((number : ℕ → ℕ) → IsWhole h todo steps number (amount number)) → amount (λ n. 1) ≤ k

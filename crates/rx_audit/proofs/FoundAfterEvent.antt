@@ -33,8 +33,7 @@ projection_cons f (Some (Firing v)) rest = sum_by-cons (λ x. cond (is_projectio
 pub projection_stops : (s : ℕ → Option Stop) (f : ℕ) (nodes : List ℕ)
     → count_by (is_projection_to f) (filter_map s nodes) ≡ count_by (λ n. is_key (option_and_then projected_by (s n)) f) nodes
 projection_stops s f [] = refl
-projection_stops s f (n ∷ nodes) =
-    search (rules, projection_cons, cond, option_and_then, sum_by-cons, projection_stops s f nodes)
+projection_stops s f (n ∷ nodes) = search (rules, projection_cons, cond, option_and_then, sum_by-cons, projection_stops s f nodes)
 
 -- visits, counted and listed
 positive : (a b : ℕ) → (nat_lt 0 a || nat_lt 0 b) ≡ nat_lt 0 (a + b)
@@ -58,8 +57,7 @@ pub any_counted : {X : Type 0} (q : X → Bool) (xs : List X) → list_any q xs 
 any_counted q xs = any_sum q (λ x. cond {A = ℕ} (q x) 1 0) xs (λ i x e. one_test (q x))
 
 pub same_any : (h : List Event) (leaf : ℕ) (log : List Visit) (q : ℕ → Bool) → IsReached h leaf log → list_any (λ v. q v.node) log ≡ list_any q (climb h leaf)
-same_any h leaf log q r =
-    any_sum (λ v. q v.node) (times (λ n. cond {A = ℕ} (q n) 1 0)) log (λ i v e. often_test (q v.node) v.count (r.often i v e))
+same_any h leaf log q r = any_sum (λ v. q v.node) (times (λ n. cond {A = ℕ} (q n) 1 0)) log (λ i v e. often_test (q v.node) v.count (r.often i v e))
     ∙ ap (nat_lt 0) (r.sums (λ n. cond {A = ℕ} (q n) 1 0)) ∙ sym (any_counted q (climb h leaf))
 
 cond_times : (b : Bool) (c : ℕ) → cond b c 0 ≡ c * cond b 1 0
@@ -67,13 +65,11 @@ cond_times x0 c = search rules
 
 pub times_cond : (q : ℕ → Bool) (log : List Visit) → sum_by (λ v. cond (q v.node) v.count 0) log ≡ sum_by (times (λ n. cond (q n) 1 0)) log
 times_cond q [] = refl
-times_cond q (v ∷ log) =
-    search (rules, sum_by-cons, cond, sum_by, cond_times, times_cond q log)
+times_cond q (v ∷ log) = search (rules, sum_by-cons, cond, sum_by, cond_times, times_cond q log)
 
 pub table_more : (key : Event → Option ℕ) (ms : List Bool) (h : List Event) (e : Event) → IsTable ms (λ n. list_any (λ x. is_key (key x) n) h)
     → IsTable (marks_with ms (key e)) (λ n. list_any (λ x. is_key (key x) n) (h ++ e ∷ []))
-table_more key ms h e tied n l =
-    search (rules, length, length-marks_with, marks_with_at, list_any-append, list_any, or_false)
+table_more key ms h e tied n l = search (rules, length, length-marks_with, marks_with_at, list_any-append, list_any, or_false)
 
 -- the list of a vector, after a slice of the same length was written back
 pub back : {X : Type 0} (len : ℕ) (new old : List X) → len ≡ length old → length new ≡ length old → take len (new ++ drop (length new) old) ≡ new
@@ -84,8 +80,7 @@ pub table_field : (key : Event → Option ℕ) (h : List Event) (e : Event) {len
     → len ≡ length old → length old ≡ size → new ≡ marks_with old (key e) → IsTable old (λ n. list_any (λ x. is_key (key x) n) h)
     → IsTable (take len (new ++ drop (length new) old)) (λ n. list_any (λ x. is_key (key x) n) (h ++ e ∷ []))
     × (length (take len (new ++ drop (length new) old)) ≡ size)
-table_field key h e {len} old {new} is_len is_size is tied =
-    search (rules, length, length-marks_with, back, table_more)
+table_field key h e {len} old {new} is_len is_size is tied = search (rules, length, length-marks_with, back, table_more)
 
 pub no_table : (size : ℕ) (f : ℕ → Bool) → ((n : ℕ) → f n ≡ false) → IsMarked (replicate size false) f
 no_table zero f none n = sym (none n)
@@ -94,8 +89,7 @@ no_table (suc size) f none (suc n) = no_table size (λ k. f (suc k)) (λ k. none
 
 pub none_marked : (size : ℕ) → 0 ≡ mark_count (replicate size false)
 none_marked zero = refl
-none_marked (suc size) =
-    search (rules, sum_by-cons, cond, replicate, none_marked size)
+none_marked (suc size) = search (rules, sum_by-cons, cond, replicate, none_marked size)
 
 pub nothing_live : (n : ℕ) → is_open [] n ≡ false
 nothing_live n = is_open_past [] n (omega arith)

@@ -25,8 +25,7 @@ any_last p k = by_word (last_below p k) refl where
 -- the hub has an open subscriber where its word leads to one
 pub subscribed_word : (h : List Event) (size : ℕ) (s : Subscribers) (g word : ℕ) → AreLinked h size s → AreOpenListed h s → word ≡ get_or s.last.items g 0
     → nat_lt 0 word ≡ has_key (open_subscribed h) h g
-subscribed_word h size s g word w listed is =
-    ap (nat_lt 0) (is ∙ (w.rows g).top) ∙ sym (any_last (on_list h s.listed.items g) (length h))
+subscribed_word h size s g word w listed is = ap (nat_lt 0) (is ∙ (w.rows g).top) ∙ sym (any_last (on_list h s.listed.items g) (length h))
     ∙ list_any-same (on_list h s.listed.items g) (λ n. at (is_subscriber_of g) h n && is_open h n) (λ k. on_open h s g k listed) (range_with_len 0 (length h))
     ∙ sym (subscribed_key h g)
 
@@ -72,8 +71,7 @@ waited_word {h} s g last ended w listed is_last is_ended = by_word last refl whe
 
   -- what waits is on the list
   waits : (k : ℕ) → is_key (open_waiting h k) g ≡ true → (is_cut h k ≡ false) × (on_list h s.listed.items g k ≡ true) × (hub_subscribed_at h k ≡ Some g)
-  waits k y = let f = waiting_is h k g (is_key_of (open_waiting h k) g y) in
-      (f.0, on_open h s g k listed ∙ rw (subscriber_at h k g f.2, f.1) refl, f.2)
+  waits k y = let f = waiting_is h k g (is_key_of (open_waiting h k) g y) in (f.0, on_open h s g k listed ∙ rw (subscriber_at h k g f.2, f.1) refl, f.2)
 
   none : (nat_lt 0 last && not (nat_lt last ended)) ≡ false → ((k : ℕ) → is_key (open_waiting h k) g ≡ true → ⊥)
       → (nat_lt 0 last && not (nat_lt last ended)) ≡ has_key (open_waiting h) h g
@@ -135,20 +133,17 @@ connected_word h live g word law tied is = by_word word refl where
   by_word zero e = rw e (sym (none (λ k y.
       let m = open_one k y in
       both_ways _ (last_none (keyed (hub_connected_at h) g) (length h) k (omega arith) (is_open_within h k m.0)) (key_is (hub_connected_at h k) g m.1))))
-  by_word (suc j) e =
-      let place : word - 1 ≡ j = omega arith in
-      rw (lt-ltb 0 word (omega arith), place, tied j) (by_open (cases_Bool (is_open h j)))
-    where
-      holds : hub_connected_at h j ≡ Some g
-      holds = is_key_of (hub_connected_at h j) g (last_holds (keyed (hub_connected_at h) g) (length h) j (sym is ∙ e))
+  by_word (suc j) e = let place : word - 1 ≡ j = omega arith in rw (lt-ltb 0 word (omega arith), place, tied j) (by_open (cases_Bool (is_open h j))) where
+    holds : hub_connected_at h j ≡ Some g
+    holds = is_key_of (hub_connected_at h j) g (last_holds (keyed (hub_connected_at h) g) (length h) j (sym is ∙ e))
 
-      by_open : (is_open h j ≡ true) ⊎ (is_open h j ≡ false) → is_open h j ≡ has_key (open_connected h) h g
-      by_open (inl o) =
-          let key : is_key (open_connected h j) g ≡ true = rw (o, holds) (eq-eqb g g refl) in
-          o ∙ sym (any_found (λ k. is_key (open_connected h k) g) (length h) j (is_open_within h j o) key)
-      by_open (inr o) = o ∙ sym (none (λ k y.
-          let m = open_one k y in
-          let le = last_connection h law g k j (connects k m.1) m.0 (connects j holds) in
-          ⊎_elim (λ l. both_ways _ (last_none (keyed (hub_connected_at h) g) (length h) k (omega arith) (is_open_within h k m.0))
-          (key_is (hub_connected_at h k) g m.1)) (λ l. both_ways (is_open h k) (let same : j ≡ k = omega arith in ap (is_open h) (sym same) ∙ o) m.0)
-          (cases_lt j k)))
+    by_open : (is_open h j ≡ true) ⊎ (is_open h j ≡ false) → is_open h j ≡ has_key (open_connected h) h g
+    by_open (inl o) =
+        let key : is_key (open_connected h j) g ≡ true = rw (o, holds) (eq-eqb g g refl) in
+        o ∙ sym (any_found (λ k. is_key (open_connected h k) g) (length h) j (is_open_within h j o) key)
+    by_open (inr o) = o ∙ sym (none (λ k y.
+        let m = open_one k y in
+        let le = last_connection h law g k j (connects k m.1) m.0 (connects j holds) in
+        ⊎_elim (λ l. both_ways _ (last_none (keyed (hub_connected_at h) g) (length h) k (omega arith) (is_open_within h k m.0))
+        (key_is (hub_connected_at h k) g m.1)) (λ l. both_ways (is_open h k) (let same : j ≡ k = omega arith in ap (is_open h) (sym same) ∙ o) m.0)
+        (cases_lt j k)))

@@ -48,8 +48,7 @@ pub hubs_more : {h : List Event} {e : Event} {size : ℕ} {old : Hubs} (new : Hu
     → new.ended.items ≡ table_with old.ended.items (hub_ended h e) (suc (length h))
     → new.waiting ≡ option_or (hub_subscribed e) old.waiting → new.count ≡ old.count + cond (makes_hub e) 1 0 → AreHubs (h ++ e ∷ []) size new
 hubs_more {h} {e} {old} new law next w connection ended waiting count = record {
-  connection = rw (connection, one_longer h e)
-      (latest_with old.connection.items (hub_connected_at h) (hub_connected_at (h ++ e ∷ []))
+  connection = rw (connection, one_longer h e) (latest_with old.connection.items (hub_connected_at h) (hub_connected_at (h ++ e ∷ []))
       (length h) (hub_connected e) w.connection (connected_same h e) (connected_last h e));
   connection_size = ap length connection ∙ length-table_with old.connection.items (hub_connected e) (suc (length h)) ∙ w.connection_size;
   ended = rw (ended, one_longer h e)

@@ -1,8 +1,7 @@
 -- What is kept of the nodes and the hubs: of no events, and with another list of what may be due.
-use Rattle.rx_audit.proofs.Common.{Hubs, HasAll, hub_connected_at, hub_ended_at, nothing_kept, IsLawful, Event, ◌≡◌, ℕ, ◌<◌, ◌≤◌, Bool}
-use Rattle.rx_audit.proofs.Common.{List, [], length, Option, Some, sym, ◌∙◌, arith, get_or, slice_get, option_and_then}
-use Rattle.rx_audit.proofs.Common.{both_ways, false≢true, cases_lt, none-some, is_open, is_open_past, Nodes, AreChildren, last_below, keyed, AreLinked}
-use Rattle.rx_audit.proofs.Common.{AreHubs, IsFollowed, IsKnown, false_from_ne_true, ⊎_elim}
+use Rattle.rx_audit.proofs.Common.{Hubs, HasAll, hub_connected_at, hub_ended_at, nothing_kept, IsLawful, Event, ◌≡◌, ℕ, ◌<◌, ◌≤◌, Bool, List, [], length}
+use Rattle.rx_audit.proofs.Common.{Option, Some, sym, ◌∙◌, arith, get_or, slice_get, option_and_then, both_ways, false≢true, cases_lt, none-some, is_open}
+use Rattle.rx_audit.proofs.Common.{is_open_past, Nodes, AreChildren, last_below, keyed, AreLinked, AreHubs, IsFollowed, IsKnown, false_from_ne_true, ⊎_elim}
 use Rattle.std.proofs.lemmas.List.{get_or_past}
 use Rattle.rx_audit.specs.Latest.{IsLatest}
 use Rattle.rx_audit.proofs.KeysInRange.{connected_below}

@@ -21,8 +21,7 @@ last_holds p (suc k) v e = ⊎_elim
 
 pub last_none : (p : ℕ → Bool) (k j : ℕ) → last_below p k ≤ j → j < k → p j ≡ false
 last_none p zero j l m = absurd (omega arith)
-last_none p (suc k) j l m = ⊎_elim
-    (λ y. let s : last_below p (suc k) ≡ suc k = ap (λ b. cond b (suc k) (last_below p k)) y in absurd (omega arith))
+last_none p (suc k) j l m = ⊎_elim (λ y. let s : last_below p (suc k) ≡ suc k = ap (λ b. cond b (suc k) (last_below p k)) y in absurd (omega arith))
     (λ n. let s : last_below p (suc k) ≡ last_below p k = ap (λ b. cond b (suc k) (last_below p k)) n in
     ⊎_elim (λ e. rw e n) (λ apart. last_none p k j (omega arith) (omega arith)) (cases_eq j k)) (cases_Bool (p k))
 
@@ -44,8 +43,7 @@ is_key_of x0 n e = search (rules, false≢true, eqb-true)
 -- which has no key
 pub latest_none : (table : List ℕ) (key more : ℕ → Option ℕ) (bound : ℕ) → IsLatest table key bound → ((k : ℕ) → k < bound → more k ≡ key k)
     → more bound ≡ None → IsLatest table more (suc bound)
-latest_none table key more bound tied same none n l =
-    search (rules, cond, last_same)
+latest_none table key more bound tied same none n l = search (rules, cond, last_same)
 
 -- or this key
 pub latest_some : (table : List ℕ) {key : ℕ → Option ℕ} (more : ℕ → Option ℕ) (bound p : ℕ) → IsLatest table key bound → ((k : ℕ) → k < bound → more k ≡ key k)
@@ -91,8 +89,7 @@ pub linked_with : (next last : List ℕ) {key more : ℕ → Option ℕ} {bound 
     → ((k : ℕ) → k < bound → more k ≡ key k) → more bound ≡ o → bound < length next → ((p : ℕ) → o ≡ Some p → p < length last)
     → IsLinked (link_with next last o bound) more (suc bound)
 linked_with next last {key} {more} {bound} {o = None} tied from same is inside within = linked_none next key more bound tied same is
-linked_with next last {o = Some p} tied from same is inside within =
-    linked_some next p (get_or last p 0) tied same is inside (from p (within p refl))
+linked_with next last {o = Some p} tied from same is inside within = linked_some next p (get_or last p 0) tied same is inside (from p (within p refl))
 
 pub length-table_with : (table : List ℕ) (o : Option ℕ) (value : ℕ) → length (table_with table o value) ≡ length table
 length-table_with table x1 value = search (rules, length-set)
@@ -116,8 +113,7 @@ children_more {h} e old new w room older youngest inner =
       youngest = rw (youngest, one_longer h e)
           (latest_with old.youngest.items (parent h) (parent (h ++ e ∷ [])) (length h) above w.youngest same (parent_last h e));
       youngest_size = ap length youngest ∙ length-table_with old.youngest.items above (suc (length h)) ∙ w.youngest_size;
-      older = rw (older, one_longer h e)
-          (linked_with old.older.items old.youngest.items w.older w.youngest same
+      older = rw (older, one_longer h e) (linked_with old.older.items old.youngest.items w.older w.youngest same
           (parent_last h e) (omega arith) (λ p is. let l = less_than (length h) (parent_named e) p is in omega arith));
       older_size = ap length older ∙ length-link_with old.older.items old.youngest.items above (length h) ∙ w.older_size;
       inner = rw (inner, one_longer h e)

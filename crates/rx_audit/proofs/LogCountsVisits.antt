@@ -14,8 +14,7 @@ times-mono f g le (v ∷ log) =
     let a = mul-le-mul_left v.count (le v.node) in
     let b = times-mono f g le log in
     let c = sum_by-cons (times f) v log in
-    let d = sum_by-cons (times g) v log in
-    omega arith
+    let d = sum_by-cons (times g) v log in omega arith
 
 -- the first i entries of the log were followed
 pub record IsFlowing (h : List Event) (leaf i : ℕ) (log : List Visit) (so_many : ℕ) : Type 0 where
@@ -29,9 +28,7 @@ pub record IsFlowing (h : List Event) (leaf i : ℕ) (log : List Visit) (so_many
 -- the entry that is followed next, apart from those behind it
 next_entry : (f : ℕ → ℕ) (log : List Visit) (i : ℕ) (v : Visit) → i < length log → v ≡ get_or log i v
     → sum_by (times f) (drop i log) ≡ v.count * f v.node + sum_by (times f) (drop (i + 1) log)
-next_entry f log i v l is =
-    let one : i + 1 ≡ suc i = omega arith in
-    rw (one, drop-cons log i v l, ← is) (sum_by-cons (times f) v (drop (suc i) log))
+next_entry f log i v l is = let one : i + 1 ≡ suc i = omega arith in rw (one, drop-cons log i v l, ← is) (sum_by-cons (times f) v (drop (suc i) log))
 
 followed_entry : (f : ℕ → ℕ) (log : List Visit) (i : ℕ) (v : Visit) → i < length log → v ≡ get_or log i v
     → sum_by (times f) (take (i + 1) log) ≡ sum_by (times f) (take i log) + v.count * f v.node
@@ -109,8 +106,7 @@ flow_step {h} {leaf} {i} {log} {new} {total} {v} {next} entry spread few s = rec
         let b = mul-le-mul_left v.count (flow-more d h number v.node) in
         let c = grown d number in
         let e = spread.more (flow d h number) in
-        let f = followed number in
-        omega arith
+        let f = followed number in omega arith
 
     lower : (number : ℕ → ℕ) (e k : ℕ) → k ≡ e + (i + 1)
         → sum_by (times number) (take (i + 1) new) + sum_by (times (flow e h number)) (drop (i + 1) new) ≤ flow k h number leaf
@@ -120,8 +116,7 @@ flow_step {h} {leaf} {i} {log} {new} {total} {v} {next} entry spread few s = rec
         let b = times-mono (flow e h number) (flow (suc e) h number) (flow-more e h number) (drop (i + 1) log) in
         let c = grown e number in
         let d = spread.more (flow e h number) in
-        let f = followed number in
-        omega arith
+        let f = followed number in omega arith
 
     sums : total + v.count * length next ≡ sum_by (times (λ n. 1)) new
     sums =
@@ -130,8 +125,7 @@ flow_step {h} {leaf} {i} {log} {new} {total} {v} {next} entry spread few s = rec
         let b = whole_sum (λ n. 1) new (i + 1) in
         let c = ap (sum_by (times (λ n. 1))) spread.kept in
         let d = spread.more (λ n. 1) in
-        let e = ap (λ (k : ℕ). v.count * k) (count_all next) in
-        omega arith
+        let e = ap (λ (k : ℕ). v.count * k) (count_all next) in omega arith
 
 -- too many visits
 pub flow_over : {h : List Event} {leaf i : ℕ} {log : List Visit} {total : ℕ} {v : Visit} {next : List ℕ} → IsEntry h log i v next
@@ -157,16 +151,14 @@ flow_over {h} {leaf} {i} {log} {v} {next} entry many s = rw (visits_many 1048577
       let g : length next ≡ length (onward h v.node) = sym (count_all next) ∙ entry.goes_on (λ n. 1) ∙ count_all (onward h v.node) in
       let two : 1 + length next ≤ flow 2 h (λ n. 1) v.node = omega arith in
       let m = mul-le-mul_left v.count two in
-      let z = sum_by-cons (flow (2 + i) h (λ n. 1)) leaf [] in
-      omega arith
+      let z = sum_by-cons (flow (2 + i) h (λ n. 1)) leaf [] in omega arith
 
 pub length_few : (log : List Visit) → IsOften log → length log ≤ sum_by (times (λ n. 1)) log
 length_few [] often = omega arith
 length_few (v ∷ log) often =
     let a = often 0 v refl in
     let b = length_few log (λ i u e. often (suc i) u e) in
-    let c = sum_by-cons (times (λ n. 1)) v log in
-    omega arith
+    let c = sum_by-cons (times (λ n. 1)) v log in omega arith
 
 -- what is left is no more than may be
 pub few_left : (h : List Event) (leaf i : ℕ) (log : List Visit) (total : ℕ)

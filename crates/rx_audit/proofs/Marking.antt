@@ -37,8 +37,7 @@ untouched h x1 n no_item no_close differs = search (rules, apart, child_apart)
 
 -- the marks of an older node that is not touched
 pub marks_apart : {h : List Event} (e : Event) → IsLawful nothing_kept h → MayFollow nothing_kept h e → IsUntouched h e → (n : ℕ) → n < length h
-    → is_open (h ++ e ∷ []) n ≡ true
-    → (touched_by h e ≡ Some n → ⊥) → marks_of nothing_kept (h ++ e ∷ []) n ≡ marks_of nothing_kept h n
+    → is_open (h ++ e ∷ []) n ≡ true → (touched_by h e ≡ Some n → ⊥) → marks_of nothing_kept (h ++ e ∷ []) n ≡ marks_of nothing_kept h n
 marks_apart {h} e law next no_item n l o differs = search (rules, cases_Bool, marks_closed, false≢true, marks_untouched, untouched, both_ways)
 
 -- the list after the event: at the node that it touches, and at the new place
@@ -49,31 +48,26 @@ kept_more {h} {e} ms {p} {m} law next no_item kept room named is n o =
     let within = is_open_within h p (touched_open h e p next named) in
     let last = is_open_within (h ++ e ∷ []) n o in
     let longer = length-append h (e ∷ []) in
-    let size = length-set ms p m in ⊎_elim
-    (λ same. ap (λ k. get_or (set (set ms p m) (length h) blank_marks) k blank_marks) same
+    let size = length-set ms p m in ⊎_elim (λ same. ap (λ k. get_or (set (set ms p m) (length h) blank_marks) k blank_marks) same
     ∙ get_or-set_same (set ms p m) (length h) blank_marks blank_marks (omega arith)
     ∙ sym (ap (marks_of nothing_kept (h ++ e ∷ [])) same ∙ marks-new nothing_kept h e law next))
     (λ old. let l : n < length h = omega arith in get_or-set_other (set ms p m) (length h) n blank_marks blank_marks old ∙ ⊎_elim
     (λ same. ap (λ k. get_or (set ms p m) k blank_marks) same ∙ get_or-set_same ms p m blank_marks (omega arith)
-    ∙ is ∙ sym (ap (marks_of nothing_kept (h ++ e ∷ [])) same))
-    (λ other. get_or-set_other ms p n m blank_marks other ∙ kept n (open_old h e n l o)
+    ∙ is ∙ sym (ap (marks_of nothing_kept (h ++ e ∷ [])) same)) (λ other. get_or-set_other ms p n m blank_marks other ∙ kept n (open_old h e n l o)
     ∙ sym (marks_apart e law next no_item n l o (λ at_n. other (same_Some n p (sym at_n ∙ named))))) (cases_eq n p)) (cases_eq n (length h))
 
 pub kept_same : {h : List Event} (e : Event) (ms : List Marks) → IsLawful nothing_kept h → MayFollow nothing_kept h e → IsUntouched h e → IsKept h ms
-    → length h < length ms
-    → touched_by h e ≡ None → IsKept (h ++ e ∷ []) (set ms (length h) blank_marks)
+    → length h < length ms → touched_by h e ≡ None → IsKept (h ++ e ∷ []) (set ms (length h) blank_marks)
 kept_same {h} e ms law next no_item kept room none n o = search (rules, cases_order, length, get_or, set, get_or-set_same, marks-new, get_or-set_other, open_old, marks_apart, none-some, is_open_within, length-append)
 
 -- each event's change ------------------------------------------------------------------------------
 
 pub source_changes : {h : List Event} (e : Event) (f p : ℕ) (kind : Kind) → e ≡ Open (Source f) kind → IsLawful nothing_kept h
-    → MayFollow nothing_kept h e → touched_by h e ≡ Some p
-    → marks_of nothing_kept (h ++ e ∷ []) p ≡ after_source (marks_of nothing_kept h p)
+    → MayFollow nothing_kept h e → touched_by h e ≡ Some p → marks_of nothing_kept (h ++ e ∷ []) p ≡ after_source (marks_of nothing_kept h p)
 source_changes {h} e f p kind same = search (rules, same_Some, marks-source_at)
 
 pub notifier_changes : {h : List Event} (e : Event) (f p : ℕ) (kind : Kind) → e ≡ Open (Notifier f) kind → IsLawful nothing_kept h
-    → MayFollow nothing_kept h e → touched_by h e ≡ Some p
-    → marks_of nothing_kept (h ++ e ∷ []) p ≡ after_notifier (marks_of nothing_kept h p)
+    → MayFollow nothing_kept h e → touched_by h e ≡ Some p → marks_of nothing_kept (h ++ e ∷ []) p ≡ after_notifier (marks_of nothing_kept h p)
 notifier_changes {h} e f p kind same = search (rules, same_Some, marks-notifier_at)
 
 pub decline_changes : (h : List Event) (e : Event) (f p : ℕ) → e ≡ Decline f → IsLawful nothing_kept h → MayFollow nothing_kept h e → touched_by h e ≡ Some p

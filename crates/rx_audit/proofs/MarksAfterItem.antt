@@ -1,10 +1,9 @@
 -- An item in a history without hubs: what it does to marks, and what is due after it.
-use Rattle.rx_audit.proofs.Common.{◌≡◌, ℕ, ℤ, ◌+◌, ◌<◌, Bool, true, List, [], ◌∷◌, ◌++◌, length, Option, Some, refl, sym, ap, ◌∙◌, arith}
-use Rattle.rx_audit.proofs.Common.{◌==◌, cond, ◌||◌, ◌&&◌, cases_Bool, false≢true, eq-eqb, eqb-true, none-some, same_Some, list_any, sum_by, count_by}
-use Rattle.rx_audit.proofs.Common.{option_or, is_some, nothing_kept, Terminal, Event, Item, Marks, is_open, stop_at, climb, owed}
-use Rattle.rx_audit.proofs.Common.{is_firing_of, is_projection_to, marks_of, terminal_due, IsLawful, MayFollow, is_open_within, slice_get-append, event_at}
-use Rattle.rx_audit.proofs.Common.{Visit, IsReached, is_key, leaf_of, IsKept, IsCovered, IsVisited, visited_marks, fired_key, projected_key, due_made}
-use Rattle.rx_audit.proofs.Common.{or_false, ⊎_elim}
+use Rattle.rx_audit.proofs.Common.{◌≡◌, ℕ, ℤ, ◌+◌, ◌<◌, Bool, true, List, [], ◌∷◌, ◌++◌, length, Option, Some, refl, sym, ap, ◌∙◌, arith, ◌==◌, cond, ◌||◌}
+use Rattle.rx_audit.proofs.Common.{◌&&◌, cases_Bool, false≢true, eq-eqb, eqb-true, none-some, same_Some, list_any, sum_by, count_by, option_or, is_some}
+use Rattle.rx_audit.proofs.Common.{nothing_kept, Terminal, Event, Item, Marks, is_open, stop_at, climb, owed, is_firing_of, is_projection_to, marks_of}
+use Rattle.rx_audit.proofs.Common.{terminal_due, IsLawful, MayFollow, is_open_within, slice_get-append, event_at, Visit, IsReached, is_key, leaf_of, IsKept}
+use Rattle.rx_audit.proofs.Common.{IsCovered, IsVisited, visited_marks, fired_key, projected_key, due_made, or_false, ⊎_elim}
 use Rattle.rx_event.specs.Climb.{stops}
 use Rattle.rx_event.specs.Moments.{is_fired}
 use Rattle.rx_event.specs.Marks.{completed_if}
@@ -26,8 +25,7 @@ fires_same h leaf n log r = search (rules, same_any, firing_stops)
 owes_same : (h : List Event) (leaf n : ℕ) (log : List Visit) → IsReached h leaf log
     → sum_by (λ v. cond (is_key (projected_key h v.node) n) v.count 0) log ≡ count_by (is_projection_to n) (stops h leaf)
 unfolding stops
-owes_same h leaf n log r =
-    times_cond (λ m. is_key (projected_key h m) n) log ∙ r.sums (λ m. cond (is_key (projected_key h m) n) 1 0)
+owes_same h leaf n log r = times_cond (λ m. is_key (projected_key h m) n) log ∙ r.sums (λ m. cond (is_key (projected_key h m) n) 1 0)
     ∙ sym (projection_stops (stop_at h) n (climb h leaf))
 
 kept_visit : {h : List Event} {leaf : ℕ} (v : ℤ) {log : List Visit} {old new : List Marks} {before : List ℕ} (after : List ℕ) → IsLawful nothing_kept h
@@ -36,11 +34,9 @@ kept_visit : {h : List Event} {leaf : ℕ} (v : ℤ) {log : List Visit} {old new
 kept_visit {h} {leaf} v {log} after law next r kept room w n o =
     let here : is_open h n ≡ true = open_before h (Item leaf v) n refl o in
     let l : n < length h = is_open_within h n here in
-    w.marks n (omega arith)
-    ∙ ap (visited_marks h log n) (kept n here)
+    w.marks n (omega arith) ∙ ap (visited_marks h log n) (kept n here)
     ∙ same_two (marks_of nothing_kept h n) _ _ _ _ (ap (λ b. is_fired h n || b) (fires_same h leaf n log r))
-    (ap (λ (k : ℕ). owed nothing_kept h n + k) (owes_same h leaf n log r))
-    ∙ sym (marks-item nothing_kept h leaf v law next n l)
+    (ap (λ (k : ℕ). owed nothing_kept h n + k) (owes_same h leaf n log r)) ∙ sym (marks-item nothing_kept h leaf v law next n l)
 
 -- what more is owed makes nothing due
 over_still : (s o z more : Bool) → (more ≡ true → z ≡ true) → is_some (completed_if ((s && o) && more)) ≡ true → is_some (completed_if ((s && o) && z)) ≡ true
@@ -77,8 +73,7 @@ pub item_kept : {h : List Event} {e : Event} {leaf : ℕ} {log : List Visit} {ol
     → IsReached h leaf log → IsKept h old → length h < length old → IsVisited h log old new before after → IsKept (h ++ e ∷ []) new
 item_kept {h} {e} {leaf} after law next is r kept room w =
     let found = item_of e leaf is in
-    let now : MayFollow nothing_kept h (Item leaf found.0) = rw (← found.1) next in
-    rw found.1 (kept_visit found.0 after law now r kept room w)
+    let now : MayFollow nothing_kept h (Item leaf found.0) = rw (← found.1) next in rw found.1 (kept_visit found.0 after law now r kept room w)
 
 pub item_covered : {h : List Event} {e : Event} {leaf : ℕ} {log : List Visit} {old new : List Marks} (before after : List ℕ) → IsLawful nothing_kept h
     → MayFollow nothing_kept h e → leaf_of e ≡ Some leaf

@@ -63,8 +63,7 @@ row_less {p} {q} {s} {bound} {now} {before} {after} less room row ends goes = re
 
   -- nothing follows s
   ends_here : get_or after s 0 ≡ 0 → last_below p bound ≡ suc s
-  ends_here none = last_unique p bound (suc s) (room.below s less.here)
-      (λ j l m. false_from_ne_true (p j) (λ y. let n = next.none none j y in omega arith))
+  ends_here none = last_unique p bound (suc s) (room.below s less.here) (λ j l m. false_from_ne_true (p j) (λ y. let n = next.none none j y in omega arith))
       (λ j e. let is : j ≡ s = omega arith in ap p is ∙ less.here)
 
   -- m follows s
@@ -79,8 +78,7 @@ row_less {p} {q} {s} {bound} {now} {before} {after} less room row ends goes = re
   -- nothing else than m has s before it
   alone : (m k : ℕ) → get_or after s 0 ≡ suc m → p k ≡ true → k ≢ m → last_below p k ≢ suc s
   alone m k e y apart is = let b = below_is m e in let t = last_le p k in let u = last_le p m in ⊎_elim apart (⊎_elim
-      (λ l. both_ways (p k) (last_none p m k (omega arith) l) y)
-      (λ l. both_ways (p m) (last_none p k m (omega arith) l) (next.some m e).0)) (cases_order k m)
+      (λ l. both_ways (p k) (last_none p m k (omega arith) l) y) (λ l. both_ways (p m) (last_none p k m (omega arith) l) (next.some m e).0)) (cases_order k m)
 
   before_is : (a : ℕ) → get_or after s 0 ≡ a → (k : ℕ) → q k ≡ true → get_or (table_with before (number_of a) (get_or before s 0)) k 0 ≡ last_below q k
   before_is zero e k y = row.down k (was less k y) ∙ sym (last_still less k (λ is. let l = last_le p k in
@@ -112,8 +110,7 @@ row_less {p} {q} {s} {bound} {now} {before} {after} less room row ends goes = re
 
   after_is : (b : ℕ) → get_or before s 0 ≡ b → (k : ℕ) → q k ≡ true → IsNext q k (get_or (table_with after (number_of b) (get_or after s 0)) k 0)
   after_is zero e k y = stays k y (λ is. absurd (let t : 0 ≡ suc k = sym e ∙ prior ∙ is in omega arith))
-  after_is (suc m) e k y = ⊎_elim
-      (λ is. subst (IsNext q k) (sym (ap (λ j. get_or (set after j (get_or after s 0)) k 0) (sym is)
+  after_is (suc m) e k y = ⊎_elim (λ is. subst (IsNext q k) (sym (ap (λ j. get_or (set after j (get_or after s 0)) k 0) (sym is)
       ∙ get_or-set_same after k (get_or after s 0) 0 (room.in_after k (was less k y)))) (joins k y (sym prior ∙ e ∙ ap suc (sym is))))
       (λ apart. subst (IsNext q k) (sym (get_or-set_other after m k (get_or after s 0) 0 apart))
       (stays k y (λ is. apart (let t : suc k ≡ suc m = sym is ∙ sym prior ∙ e in omega arith)))) (cases_eq k m)
@@ -151,8 +148,7 @@ row_more {p} q {n} {word} {before} {after} same new most within before_room afte
 
   up_old : (k : ℕ) → k < n → q k ≡ true → word ≢ suc k → IsNext q k (get_or after k 0)
   up_old k l y apart = let w : IsNext p k (get_or after k 0) = row.up k (sym (same k l) ∙ y) in record {
-    none = λ e m z. absurd (apart (row.top ∙ last_unique p n (suc k) l
-        (λ j a b. false_from_ne_true (p j) (λ t. let u = w.none e j t in omega arith))
+    none = λ e m z. absurd (apart (row.top ∙ last_unique p n (suc k) l (λ j a b. false_from_ne_true (p j) (λ t. let u = w.none e j t in omega arith))
         (λ j is. let at_k : j ≡ k = omega arith in ap p at_k ∙ sym (same k l) ∙ y)));
     some = λ m e. let found = w.some m e in let b = within m found.0 in (same m b ∙ found.0, early m (omega arith) ∙ found.1);
   }
@@ -164,8 +160,7 @@ row_more {p} q {n} {word} {before} {after} same new most within before_room afte
   up_is (suc m) e k y (inl is) =
       let l = word_below m e in
       rw (
-        get_or-set_other (set after n 0) m k (suc n) 0 (omega arith)
-            ∙ ap (λ j. get_or (set after n 0) j 0) is ∙ get_or-set_same after n 0 0 after_room,
+        get_or-set_other (set after n 0) m k (suc n) 0 (omega arith) ∙ ap (λ j. get_or (set after n 0) j 0) is ∙ get_or-set_same after n 0 0 after_room,
         is,
       ) up_last
   up_is (suc m) e k y (inr (inl l)) = let long = length-set after n 0 in ⊎_elim

@@ -1,8 +1,7 @@
 -- Which subscribers are on the lists of their hubs after one more event.
-use Rattle.rx_audit.proofs.Common.{◌≡◌, ℕ, ◌<◌, Bool, true, false, List, [], ◌∷◌, ◌++◌, length, sym, ap, ◌∙◌, arith, inl, inr, ◌⊎◌, get_or}
-use Rattle.rx_audit.proofs.Common.{option_map_or, cases_Bool, both_ways, false≢true, nothing_kept, Event, is_subscriber_of}
-use Rattle.rx_audit.proofs.Common.{at, is_open, same_Some, MayFollow, at-append, at_within, slice_get_last, Subscribers, AreClosed, AreOpenListed}
-use Rattle.rx_audit.proofs.Common.{AreLetGo, stays_open, ⊎_elim, cases_eq}
+use Rattle.rx_audit.proofs.Common.{◌≡◌, ℕ, ◌<◌, Bool, true, false, List, [], ◌∷◌, ◌++◌, length, sym, ap, ◌∙◌, arith, inl, inr, ◌⊎◌, get_or, option_map_or}
+use Rattle.rx_audit.proofs.Common.{cases_Bool, both_ways, false≢true, nothing_kept, Event, is_subscriber_of, at, is_open, same_Some, MayFollow, at-append}
+use Rattle.rx_audit.proofs.Common.{at_within, slice_get_last, Subscribers, AreClosed, AreOpenListed, AreLetGo, stays_open, ⊎_elim, cases_eq}
 use Rattle.rx_event.proofs.Laws.Hubs.{may_subscribe, subscriber_found}
 use Rattle.rx_event.proofs.Laws.Totals.{is_open_new}
 use Rattle.rx_audit.proofs.StaysOpen.{is_open_older, stays_closed}
@@ -14,8 +13,7 @@ subscriber_opens g x1 is h next = search (rules, is_open_new, false≢true)
 
 -- the hub of a new subscriber is older
 pub hub_older : (h : List Event) (e : Event) (g : ℕ) → MayFollow nothing_kept h e → is_subscriber_of g e ≡ true → g < length h
-hub_older h e g next is =
-    search (rules, subscriber_found, same_Some, may_subscribe, at_within)
+hub_older h e g next is = search (rules, subscriber_found, same_Some, may_subscribe, at_within)
 
 -- where the marks of the closed nodes are taken away first, and a new subscriber gets one then
 pub open_listed_after : {h : List Event} {e : Event} (old new : Subscribers) {marks : List Bool} {closed : List ℕ} → MayFollow nothing_kept h e

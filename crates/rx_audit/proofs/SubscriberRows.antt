@@ -77,8 +77,7 @@ pub rows_still : {h : List Event} {size : ℕ} {old : Subscribers} (new : Subscr
     → new.listed.items ≡ set old.listed.items s false → new.last.items ≡ old.last.items → new.before.items ≡ old.before.items
     → new.after.items ≡ old.after.items → AreLinked h size new
 rows_still {h} {size} {old} new s w none listed last before after = record {
-  rows = λ g. rw (last, before, after)
-      (row_apart old.before.items old.after.items (on_same h size old new w s listed g (out g)) (omega arith)
+  rows = λ g. rw (last, before, after) (row_apart old.before.items old.after.items (on_same h size old new w s listed g (out g)) (omega arith)
       (on_within h old.listed.items g) (λ k y. refl) (λ k y. refl) (w.rows g));
   hubbed = λ g k y. w.hubbed g k (on_was h size old new w s listed g k y);
   listed_size = size_same h size old new w s listed;
@@ -132,8 +131,7 @@ rows_less {h} {size} {old} {new} g s w hub listed last before after = record {
       ap (λ (ls : List ℕ). get_or ls g 0) (last ∙ ap (λ a. table_with old.last.items (hub_if_last a g) (get_or old.before.items s 0)) is)
 
   own : IsRow (on_list h new.listed.items g) (length h) (get_or new.last.items g 0) new.before.items new.after.items
-  own = rw (before, after)
-      (row_less (record { same = on_other h size old new w s listed g; gone = on_gone h size old new w s listed g; here = here })
+  own = rw (before, after) (row_less (record { same = on_other h size old new w s listed g; gone = on_gone h size old new w s listed g; here = here })
       (record { below = on_within h old.listed.items g; in_before = in_before g; in_after = in_after g }) row ends goes)
 
   -- the list of another hub
@@ -152,8 +150,7 @@ rows_less {h} {size} {old} {new} g s w hub listed last before after = record {
       (λ m e same. apart (on_one h old.listed.items g k m y (last_holds (on_list h old.listed.items g) s m (sym (row.down s here) ∙ e)) same))
 
   other : (j : ℕ) → j ≢ g → IsRow (on_list h new.listed.items j) (length h) (get_or new.last.items j 0) new.before.items new.after.items
-  other j apart = rw (last_apart j apart)
-      (row_apart new.before.items new.after.items
+  other j apart = rw (last_apart j apart) (row_apart new.before.items new.after.items
       (on_same h size old new w s listed j (false_from_ne_true _ (λ y. apart (on_one h old.listed.items g s s y here refl)))) (omega arith)
       (on_within h old.listed.items j) (λ k y. before_apart j k apart y) (λ k y. after_apart j k apart y) (w.rows j))
 
@@ -162,11 +159,10 @@ rows_less {h} {size} {old} {new} g s w hub listed last before after = record {
 -- what is on the list of a hub that the event does not subscribe to
 on_longer : (h : List Event) (e : Event) (old new : List Bool) (j : ℕ) → is_subscriber_of j e ≡ false
     → ((k : ℕ) → k < length h → get_or new k false ≡ get_or old k false) → (k : ℕ) → on_list (h ++ e ∷ []) new j k ≡ on_list h old j k
-on_longer h e old new j out same k = ⊎_elim
-    (λ (is : k ≡ length h). rw (
-      ap (at (is_subscriber_of j) (h ++ e ∷ [])) is ∙ ap (λ o. option_map_or (is_subscriber_of j) o false) (slice_get_last h e) ∙ out,
-      at_past (is_subscriber_of j) h k (omega arith),
-    ) refl)
+on_longer h e old new j out same k = ⊎_elim (λ (is : k ≡ length h). rw (
+  ap (at (is_subscriber_of j) (h ++ e ∷ [])) is ∙ ap (λ o. option_map_or (is_subscriber_of j) o false) (slice_get_last h e) ∙ out,
+  at_past (is_subscriber_of j) h k (omega arith),
+) refl)
     (⊎_elim (λ (l : k < length h). rw (at-append (is_subscriber_of j) h (e ∷ []) k l, same k l) refl) (λ (l : length h < k). let longer = one_longer h e in
     rw (at_past (is_subscriber_of j) (h ++ e ∷ []) k (omega arith), at_past (is_subscriber_of j) h k (omega arith)) refl)) (cases_order k (length h))
 
@@ -220,8 +216,7 @@ rows_more {h} e {size} {g} {old} {new} w room inside hub put = record {
       let last_is : at (is_subscriber_of g) (h ++ e ∷ []) (length h) ≡ true =
       ap (λ o. option_map_or (is_subscriber_of g) o false) (slice_get_last h e) ∙ subscribes in
       let mark : get_or new.listed.items (length h) false ≡ true = ap (λ (ms : List Bool). get_or ms (length h) false) put.listed
-      ∙ get_or-set_same old.listed.items (length h) true false (omega arith) in
-      rw (last_is, mark) refl
+      ∙ get_or-set_same old.listed.items (length h) true false (omega arith) in rw (last_is, mark) refl
 
   most : (j k : ℕ) → on_list (h ++ e ∷ []) new.listed.items j k ≡ true → k ≤ length h
   most j k y = let l = on_within (h ++ e ∷ []) new.listed.items j k y in let m = one_longer h e in omega arith
@@ -235,8 +230,7 @@ rows_more {h} e {size} {g} {old} {new} w room inside hub put = record {
       let before_size = w.before_size in
       let after_size = w.after_size in
       rw (one_longer h e, put.last, put.before, put.after, get_or-set_same old.last.items g (suc (length h)) 0 (omega arith))
-      (row_more (on_list (h ++ e ∷ []) new.listed.items g)
-      (on_before g) on_new (most g) (on_within h old.listed.items g) (omega arith) (omega arith) row)
+      (row_more (on_list (h ++ e ∷ []) new.listed.items g) (on_before g) on_new (most g) (on_within h old.listed.items g) (omega arith) (omega arith) row)
 
   not_hub : (j : ℕ) → j ≢ g → is_subscriber_of j e ≡ false
   not_hub j apart = sym (same_subscribed e j) ∙ rw hub (ne_eqb g j (λ is. apart (sym is)))
@@ -258,8 +252,7 @@ rows_more {h} e {size} {g} {old} {new} w room inside hub put = record {
       (last_holds (on_list h old.listed.items g) (length h) m (sym row.top ∙ is)) same)) ∙ get_or-set_other old.after.items (length h) k 0 0 (omega arith)
 
   other : (j : ℕ) → j ≢ g → IsRow (on_list (h ++ e ∷ []) new.listed.items j) (length (h ++ e ∷ [])) (get_or new.last.items j 0) new.before.items new.after.items
-  other j apart = rw (last_apart j apart)
-      (row_apart new.before.items new.after.items (on_apart j apart) (let l = one_longer h e in omega arith)
+  other j apart = rw (last_apart j apart) (row_apart new.before.items new.after.items (on_apart j apart) (let l = one_longer h e in omega arith)
       (on_within h old.listed.items j) (before_apart j) (λ k y. after_apart j k apart y) (w.rows j))
 
 -- from the last to the first --------------------------------------------------------------------------
@@ -293,8 +286,7 @@ module _ (h : List Event) (size : ℕ) (s : Subscribers) (g : ℕ) (w : AreLinke
       let all : sum_by number (falling (on_list h s.listed.items g) next) ≡ sum_by number (open_subscribers h g) =
       ap (λ k. sum_by number (falling (on_list h s.listed.items g) k)) (is ∙ (w.rows g).top)
       ∙ sym (ap (sum_by number) (falling_last (on_list h s.listed.items g) (length h))) ∙ falling_open h s g listed number in
-      let nothing : sum_by number found ≡ 0 = ap (sum_by number) none in
-      omega arith
+      let nothing : sum_by number found ≡ 0 = ap (sum_by number) none in omega arith
 
   pub walk_first : (next : ℕ) → next ≡ get_or s.last.items g 0 → (k : ℕ) → next ≡ suc k → on_list h s.listed.items g k ≡ true
   walk_first next is k e = last_holds (on_list h s.listed.items g) (length h) k (sym (is ∙ (w.rows g).top) ∙ e)

@@ -1,12 +1,11 @@
 -- The tests that compute decide which events callers may add.
 use Rattle.rx_audit.proofs.Common.{◌≡◌, ℕ, ℤ, zero, suc, cond, count_by, get_or, ◌+◌, ◌<◌, ◌≤◌, Bool, true, false, List, [], ◌∷◌, ◌++◌, length, Option, Some}
-use Rattle.rx_audit.proofs.Common.{None, refl, sym, ap, ◌∙◌, arith, ◌==◌, slice_get, nat_lt, nat_le, IsTrue, MatchBool, not, ◌&&◌, ◌||◌}
-use Rattle.rx_audit.proofs.Common.{list_any, list_all, range_with_len, sum_by-cons, option_map_or, and_parts, false≢true, ltb-true, lt-ltb, eqb-true, eq-eqb}
-use Rattle.rx_audit.proofs.Common.{leb-true, le-leb, nothing_kept, Terminal, Completed, Error, Place, Kind, Event}
-use Rattle.rx_audit.proofs.Common.{Open, Connect, Accept, Lease, Return, Item, Decline, End, Close, is_merging, is_connect_of, at}
-use Rattle.rx_audit.proofs.Common.{places, hubs, is_open, open_nodes, has_open_child, is_open_past, visits, most_visits, owed, IsConnectDue, IsFree}
-use Rattle.rx_audit.proofs.Common.{IsHubbed, IsAllowed, accepted, IsMarked, mark_count, hub_connected_at, has_key, open_connected, is_owing}
-use Rattle.rx_audit.proofs.Common.{is_in_order_at, allowed_simply, item_allowed, open_allowed, and_from, or_left, or_right, or_cases, not-true}
+use Rattle.rx_audit.proofs.Common.{None, refl, sym, ap, ◌∙◌, arith, ◌==◌, slice_get, nat_lt, nat_le, IsTrue, MatchBool, not, ◌&&◌, ◌||◌, list_any, list_all}
+use Rattle.rx_audit.proofs.Common.{range_with_len, sum_by-cons, option_map_or, and_parts, false≢true, ltb-true, lt-ltb, eqb-true, eq-eqb, leb-true, le-leb}
+use Rattle.rx_audit.proofs.Common.{nothing_kept, Terminal, Completed, Error, Place, Kind, Event, Open, Connect, Accept, Lease, Return, Item, Decline, End}
+use Rattle.rx_audit.proofs.Common.{Close, is_merging, is_connect_of, at, places, hubs, is_open, open_nodes, has_open_child, is_open_past, visits, most_visits}
+use Rattle.rx_audit.proofs.Common.{owed, IsConnectDue, IsFree, IsHubbed, IsAllowed, accepted, IsMarked, mark_count, hub_connected_at, has_key, open_connected}
+use Rattle.rx_audit.proofs.Common.{is_owing, is_in_order_at, allowed_simply, item_allowed, open_allowed, and_from, or_left, or_right, or_cases, not-true}
 use Rattle.rx_audit.proofs.Common.{not_from_false, ⊎_elim}
 use Rattle.std.proofs.lemmas.List.Sums.{length-filter}
 use Rattle.std.proofs.lemmas.Bool.{lt-leb}
@@ -39,13 +38,11 @@ pub item_may : (h : List Event) (l : ℕ) (v : ℤ) → item_allowed h l ≡ tru
 unfolding item_allowed most_visits
 item_may h l v e =
     let a = and_parts (is_open h l && at is_leaf h l) (nat_le (visits h l) 1048576) e in
-    let b = and_parts (is_open h l) (at is_leaf h l) a.0 in
-    emitted b.0 b.1 (leb-true (visits h l) 1048576 a.1)
+    let b = and_parts (is_open h l) (at is_leaf h l) a.0 in emitted b.0 b.1 (leb-true (visits h l) 1048576 a.1)
 
 pub item_may_of : (h : List Event) (l : ℕ) (v : ℤ) → IsAllowed nothing_kept h (Item l v) → item_allowed h l ≡ true
 unfolding item_allowed most_visits
-item_may_of h l v (emitted o m few) =
-    search (rules, and_from, nat_le, le-leb)
+item_may_of h l v (emitted o m few) = search (rules, and_from, nat_le, le-leb)
 
 -- what is owed -----------------------------------------------------------------------------------------
 
@@ -85,11 +82,9 @@ failing h n c o e = search (rules, and_from, or_right)
 end_may_of : (h : List Event) (n : ℕ) (t : Terminal) → IsAllowed nothing_kept h (End n t) → end_allowed h n t ≡ true
 unfolding end_allowed
 end_may_of h n t (leaf_ended o m) = and_from (is_open h n) (at is_leaf h n || failing_allowed h n t) o (or_left (at is_leaf h n) (failing_allowed h n t) m)
-end_may_of h n (Error c) (aborted o m closed) =
-    failing h n c o (or_left (at has_source h n && not (has_open_child h n)) (at is_merging h n && is_owing h n)
+end_may_of h n (Error c) (aborted o m closed) = failing h n c o (or_left (at has_source h n && not (has_open_child h n)) (at is_merging h n && is_owing h n)
     (and_from (at has_source h n) (not (has_open_child h n)) (abort_at h n ∙ m) (no_child_open h n closed)))
-end_may_of h n (Error c) (projection_failed o m w) =
-    failing h n c o (or_right (at has_source h n && not (has_open_child h n))
+end_may_of h n (Error c) (projection_failed o m w) = failing h n c o (or_right (at has_source h n && not (has_open_child h n))
     (at is_merging h n && is_owing h n) (and_from (at is_merging h n) (is_owing h n) m (is_owed h n w)))
 
 close_may : (h : List Event) (n : ℕ) → close_allowed h n ≡ true → IsAllowed nothing_kept h (Close n)
@@ -117,8 +112,7 @@ connect_may h g e =
 
 connect_may_of : (h : List Event) (g : ℕ) → IsAllowed nothing_kept h (Connect g) → connect_allowed h g ≡ true
 unfolding connect_allowed most_nodes
-connect_may_of h g (connected m none few) =
-    search (rules, and_from, not, nat_lt, length, not_from_false, connected_key, none_filtered, lt-ltb)
+connect_may_of h g (connected m none few) = search (rules, and_from, not, nat_lt, length, not_from_false, connected_key, none_filtered, lt-ltb)
 
 decline_may : (h : List Event) (f : ℕ) → decline_allowed h f ≡ true → IsAllowed nothing_kept h (Decline f)
 unfolding decline_allowed
@@ -164,14 +158,12 @@ all_at q (x ∷ xs) a all any = let w = and_parts (q x) (list_all q xs) all in
 
 all_of : (q : ℕ → Bool) (xs : List ℕ) → ((a : ℕ) → list_any (λ x. a == x) xs ≡ true → q a ≡ true) → list_all q xs ≡ true
 all_of q [] each = refl
-all_of q (x ∷ xs) each =
-    and_from (q x) (list_all q xs) (each x (or_left (x == x) (list_any (λ y. x == y) xs) (eq-eqb x x refl)))
+all_of q (x ∷ xs) each = and_from (q x) (list_all q xs) (each x (or_left (x == x) (list_any (λ y. x == y) xs) (eq-eqb x x refl)))
     (all_of q xs (λ a m. each a (or_right (a == x) (list_any (λ y. a == y) xs) m)))
 
 in_order_at : (h : List Event) (g p : ℕ) → is_in_order_at h g p ≡ true → IsInOrderAt h g p
 unfolding is_in_order_at
-in_order_at h g p e a k within at_a =
-    search (rules, ltb-true, option_map_or, nat_lt, at_connection, all_at)
+in_order_at h g p e a k within at_a = search (rules, ltb-true, option_map_or, nat_lt, at_connection, all_at)
 
 in_order_at_of : (h : List Event) (g p : ℕ) → IsInOrderAt h g p → is_in_order_at h g p ≡ true
 unfolding is_in_order_at
@@ -206,8 +198,7 @@ open_may h place kind e fits =
 
 pub open_may_of : (h : List Event) (place : Place) (kind : Kind) → IsAllowed nothing_kept h (Open place kind) → open_allowed h place kind ≡ true
 unfolding open_allowed most_nodes
-open_may_of h place kind (opened f o few fits) =
-    search (rules, and_from, nat_lt, length, free_of, hubbed_of, lt-ltb)
+open_may_of h place kind (opened f o few fits) = search (rules, and_from, nat_lt, length, free_of, hubbed_of, lt-ltb)
 
 pub open_fits : (h : List Event) (place : Place) (kind : Kind) → IsAllowed nothing_kept h (Open place kind)
     → (g : ℕ) → IsConnectDue (h ++ Open place kind ∷ []) g → length (open_nodes h) + 2 ≤ 1048576
@@ -216,8 +207,7 @@ open_fits h place kind (opened f o few fits) = fits
 
 pub open_free : (h : List Event) (place : Place) (kind : Kind) → open_allowed h place kind ≡ true → IsFree nothing_kept h place
 unfolding open_allowed
-open_free h place kind e =
-    search (rules, and_parts, nat_lt, length, free)
+open_free h place kind e = search (rules, and_parts, nat_lt, length, free)
 
 -- as many nodes are open as are marked
 marks_counted : (f : ℕ → Bool) (ms : List Bool) (m from : ℕ) → m ≤ length ms → ((n k : ℕ) → k ≡ from + n → get_or ms n false ≡ f k)
@@ -233,9 +223,7 @@ marks_counted f (x ∷ ms) (suc m) from l same none =
     let first : cond {A = ℕ} x 1 0 ≡ cond {A = ℕ} (f from) 1 0 = ap (λ b. cond {A = ℕ} b 1 0) (same zero from (omega arith)) in
     let s = sum_by-cons (λ (b : Bool). cond {A = ℕ} b 1 0) x ms in
     let t : count_by f (range_with_len from (suc m)) ≡ cond {A = ℕ} (f from) 1 0 + count_by f (range_with_len (from + 1) m) =
-    sum_by-cons (λ (k : ℕ). cond {A = ℕ} (f k) 1 0) from (range_with_len (from + 1) m) in
-    omega arith
+    sum_by-cons (λ (k : ℕ). cond {A = ℕ} (f k) 1 0) from (range_with_len (from + 1) m) in omega arith
 
 pub open_counted : (h : List Event) (ms : List Bool) → IsMarked ms (is_open h) → length h ≤ length ms → mark_count ms ≡ length (open_nodes h)
-open_counted h ms tied room =
-    search (rules, marks_counted, length, is_open_past, length-filter)
+open_counted h ms tied room = search (rules, marks_counted, length, is_open_past, length-filter)

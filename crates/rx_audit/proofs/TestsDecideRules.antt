@@ -73,8 +73,7 @@ pub same_subscribed : (e : Event) (g : ℕ) → is_key (hub_subscribed e) g ≡ 
 same_subscribed x0 g = search rules
 
 pub subscriber_at : (h : List Event) (s g : ℕ) → hub_subscribed_at h s ≡ Some g → at (is_subscriber_of g) h s ≡ true
-subscriber_at h s g e =
-    search (rules, option_and_then_some, slice_get, option_map_or, subscribed_event)
+subscriber_at h s g e = search (rules, option_and_then_some, slice_get, option_map_or, subscribed_event)
 
 pub at_subscriber : (h : List Event) (s g : ℕ) → at (is_subscriber_of g) h s ≡ true → hub_subscribed_at h s ≡ Some g
 at_subscriber h s g e = search (rules, slice_get, option_map_or, option_and_then, false≢true, is_subscribed)

@@ -61,8 +61,7 @@ opened_first h _ e = absurd (false≢true e)
 
 first_opened : (h : List Event) (n : ℕ) (place : Place) → slice_get h n ≡ Some (Open place Pass)
     → length h ≡ n + 1 → is_open h n ≡ true → (at opens_pass h n && (length h == n + 1) && is_open h n) ≡ true
-first_opened h n place at_n len o =
-    search (rules, and_from, length, option_map_or, eq-eqb)
+first_opened h n place at_n len o = search (rules, and_from, length, option_map_or, eq-eqb)
 
 -- where they have nothing left to do, just what callers may do may follow
 pub settled_answer : (h : List Event) (e : Event) (b : Bool) → IsSettled nothing_kept h → (IsTrue b) ↔ IsAllowed nothing_kept h e
@@ -127,5 +126,4 @@ length-take-most i h = let s = length-append (take i h) (drop i h) in let t = ap
 -- what is known of the events so far
 pub known_from : (h : List Event) (i : ℕ) (found : Found) (nodes : Nodes) → IsLawful nothing_kept (take i h) → IsFound (take i h) (length h) found
     → IsFollowed (take i h) (length h) nodes → IsKnown (take i h) found.live.items nodes
-known_from h i found nodes law f w =
-    search (rules, length-take-most)
+known_from h i found nodes law f w = search (rules, length-take-most)

@@ -11,10 +11,8 @@ entry_more (x ∷ log) zero zero more v l is number =
     let same = same_Some x v is in
     let a = sum_by-cons (times number) (record v { count = v.count + more }) log in
     let b = sum_by-cons (times number) x log in
-    let e = ap (times number) same in
-    omega arith
-entry_more (x ∷ log) zero (suc at) more v l is number =
-    search (rules, sum_by-cons, set, entry_more log zero at more v (omega arith) is number)
+    let e = ap (times number) same in omega arith
+entry_more (x ∷ log) zero (suc at) more v l is number = search (rules, sum_by-cons, set, entry_more log zero at more v (omega arith) is number)
 entry_more (x ∷ log) (suc k) zero more v l is number = absurd (omega arith)
 entry_more (x ∷ log) (suc k) (suc at) more v l is number = entry_more log k at more v (omega arith) is number
 
@@ -54,5 +52,4 @@ count_all [] = refl
 count_all (x ∷ xs) = let s = sum_by-cons (λ n. 1) x xs in let r = count_all xs in omega arith
 
 pub taken_few : (count : ℕ) (nodes : List ℕ) (i : ℕ) → i < length nodes → count * sum_by (λ n. 1) (take i nodes) + count ≤ count * length nodes
-taken_few count nodes i l =
-    search (rules, count_all, take, length-take-le, length, mul-le-mul_left)
+taken_few count nodes i l = search (rules, count_all, take, length-take-le, length, mul-le-mul_left)

@@ -81,8 +81,7 @@ visited_more {h} log i v {old} {ms} before todo l e w = record {
       let one = owed_at_key (fired_marks ms (fired_key h v.node)) (projected_key h v.node) v.count n (omega arith) in
       let two = fired_at_key ms (fired_key h v.node) n within in
       let three = w.marks n m in
-      one
-      ∙ ap (λ (x : Marks). with_two x x.fired (x.owed + cond (is_key (projected_key h v.node) n) v.count 0)) two
+      one ∙ ap (λ (x : Marks). with_two x x.fired (x.owed + cond (is_key (projected_key h v.node) n) v.count 0)) two
       ∙ ap (λ (x : Marks). with_two x (x.fired || is_key (fired_key h v.node) n) (x.owed + cond (is_key (projected_key h v.node) n) v.count 0)) three
       ∙ same_two o _ _ _ _
       (sym (or_assoc o.fired (list_any (fires_at h n) (take i log)) (is_key (fired_key h v.node) n)) ∙ ap (λ b. o.fired || b) (sym (any_more n)))

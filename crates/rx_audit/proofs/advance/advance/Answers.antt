@@ -32,19 +32,16 @@ returns-clause-followed c =
     }
 
 pub note_cut-requires-clause-linked : goal.note_cut-requires-clause-linked
-note_cut-requires-clause-linked c =
-    search rules
+note_cut-requires-clause-linked c = search rules
 
 pub note_cut-requires-clause-listed : goal.note_cut-requires-clause-listed
 note_cut-requires-clause-listed c = rw c.in_ok-keep.ensures.subscribers c.requires.followed.listed
 
 pub relink-requires-clause-linked : goal.relink-requires-clause-linked
-relink-requires-clause-linked c =
-    search rules
+relink-requires-clause-linked c = search rules
 
 pub relink-requires-clause-listed : goal.relink-requires-clause-listed
 relink-requires-clause-listed c = rw c.in_ok-keep.ensures.subscribers c.requires.followed.listed
 
 pub relink-requires-clause-hubs : goal.relink-requires-clause-hubs
-relink-requires-clause-hubs c =
-    search rules
+relink-requires-clause-hubs c = search rules

@@ -10,8 +10,7 @@ pub list_new-requires-clause-linked : goal.list_new-requires-clause-linked
 list_new-requires-clause-linked c = rw c.let_go.ensures.linked.listed_size c.let_go.ensures.linked
 
 pub list_new-requires-clause-room : goal.list_new-requires-clause-room
-list_new-requires-clause-room c =
-    search rules
+list_new-requires-clause-room c = search rules
 
 pub list_new-requires-clause-hubbed : goal.list_new-requires-clause-hubbed
 list_new-requires-clause-hubbed c = search (rules, hub_older)
@@ -23,13 +22,10 @@ pub note_hubs-requires-clause-room : goal.note_hubs-requires-clause-room
 note_hubs-requires-clause-room c = let s = c.requires.hubs.connection_size in let r = c.requires.room in omega arith
 
 pub returns-clause-linked : goal.returns-clause-linked
-returns-clause-linked c =
-    search rules
+returns-clause-linked c = search rules
 
 pub returns-clause-listed : goal.returns-clause-listed
-returns-clause-listed c =
-    search (rules, open_listed_after)
+returns-clause-listed c = search (rules, open_listed_after)
 
 pub returns-clause-hubs : goal.returns-clause-hubs
-returns-clause-hubs c =
-    search rules
+returns-clause-hubs c = search rules

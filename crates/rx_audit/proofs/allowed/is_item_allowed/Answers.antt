@@ -7,9 +7,7 @@ pub returns-then-not-is_open_leaf-clause-value : goal.returns-then-not-is_open_l
 returns-then-not-is_open_leaf-clause-value c = no_item c.args.past.now c.args.l (sym c.if-not-is_open_leaf.ensures)
 
 pub returns-clause-value : goal.returns-clause-value
-returns-clause-value c =
-    search (rules, item_test)
+returns-clause-value c = search (rules, item_test)
 
 pub returns-clause-climbed : goal.returns-clause-climbed
-returns-clause-climbed c =
-    search (rules, climb_test)
+returns-clause-climbed c = search (rules, climb_test)

@@ -6,8 +6,7 @@ use Rattle.rx_audit.proofs.closing.close_children.Goals as goal
 use Rattle.std.proofs.Common.{rules}
 
 pub loop-next-init : goal.loop-next-init
-loop-next-init c =
-    search (rules, length, get_or_read, closing_none, child_below, parent_within, here_is, last_le)
+loop-next-init c = search (rules, length, get_or_read, closing_none, child_below, parent_within, here_is, last_le)
 
 pub loop-next-smaller : goal.loop-next-smaller
 loop-next-smaller c = let h = c.args.past.now in let p = c.args.p in let k = c.loop-next.next - 1 in let v = c.index-in-loop-next.result.now in let r
@@ -32,14 +31,11 @@ loop-next-preserved c =
     c.loop-next.invariant.closing in
     record {
       closing = elim c.if-marks-c.branch [
-        | then-marks-c+in_ok-push w ↦
-            rw (w.marks-is, w.todo-is, w.in_ok-push.ensures.items)
+        | then-marks-c+in_ok-push w ↦ rw (w.marks-is, w.todo-is, w.in_ok-push.ensures.items)
             (closing_next k v (set c.loop-next.marks k false) c.args.todo.now.items _
-            (closing_note k c.loop-next.marks c.args.todo.now.items c.loop-next.todo.items so_far (omega arith) below
-            w.if-marks-c.true)
+            (closing_note k c.loop-next.marks c.args.todo.now.items c.loop-next.todo.items so_far (omega arith) below w.if-marks-c.true)
             (mark_gone c.loop-next.marks k) is)
-        | else-marks-c w ↦
-            rw (w.marks-is, w.todo-is) (closing_next k v c.loop-next.marks c.args.todo.now.items c.loop-next.todo.items so_far
+        | else-marks-c w ↦ rw (w.marks-is, w.todo-is) (closing_next k v c.loop-next.marks c.args.todo.now.items c.loop-next.todo.items so_far
             w.if-marks-c.false is)
       ];
       here = here_is h p k v is;

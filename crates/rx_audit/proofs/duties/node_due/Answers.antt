@@ -7,8 +7,7 @@ pub returns-then-not-is_marked : goal.returns-then-not-is_marked
 returns-then-not-is_marked c = search (rules, due_closed)
 
 pub returns-in-Some : goal.returns-in-Some
-returns-in-Some c =
-    search (rules, is_some, due_made_at)
+returns-in-Some c = search (rules, is_some, due_made_at)
 
 pub returns-in-None : goal.returns-in-None
 returns-in-None c = sym (due_nowhere c.args.past.now c.args.n (sym c.event_at.ensures ∙ c.in-None.is))

@@ -9,5 +9,4 @@ pub returns-in_ok-push-clause-lost : goal.returns-in_ok-push-clause-lost
 returns-in_ok-push-clause-lost c = search (rules, lost_one)
 
 pub returns-in_default-clause-lost : goal.returns-in_default-clause-lost
-returns-in_default-clause-lost c =
-    search (rules, lost_none)
+returns-in_default-clause-lost c = search (rules, lost_none)

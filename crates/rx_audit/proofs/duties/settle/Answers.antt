@@ -24,9 +24,7 @@ returns-clause-answer c = (
 )
 
 pub returns-then-acts-clause-known : goal.returns-then-acts-clause-known
-returns-then-acts-clause-known c =
-    search (rules, known_due)
+returns-then-acts-clause-known c = search (rules, known_due)
 
 pub returns-clause-known : goal.returns-clause-known
-returns-clause-known c =
-    search (rules, known_due, noted_none)
+returns-clause-known c = search (rules, known_due, noted_none)

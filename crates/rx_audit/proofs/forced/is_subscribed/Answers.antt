@@ -4,5 +4,4 @@ use Rattle.rx_audit.proofs.forced.is_subscribed.Goals as goal
 use Rattle.std.proofs.Common.{rules}
 
 pub returns : goal.returns
-returns c =
-    search (rules, subscribed_word, length)
+returns c = search (rules, subscribed_word, length)

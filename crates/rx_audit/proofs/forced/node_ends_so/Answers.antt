@@ -6,8 +6,7 @@ pub returns-then-not-is_marked : goal.returns-then-not-is_marked
 returns-then-not-is_marked c = search (rules, forced_closed)
 
 pub returns-in-Some : goal.returns-in-Some
-returns-in-Some c =
-    search (rules, forced_made)
+returns-in-Some c = search (rules, forced_made)
 
 pub returns-in-None : goal.returns-in-None
 returns-in-None c = search (rules, forced_nowhere)

@@ -8,8 +8,7 @@ returns-clause-leases c = rw (c.count_less.ensures, c.count.ensures, c.leased.en
     c.requires.leases _ c.requires.next)
 
 pub returns-clause-len : goal.returns-clause-len
-returns-clause-len c =
-    search (rules, leases_long)
+returns-clause-len c = search (rules, leases_long)
 
 pub returns-clause-few : goal.returns-clause-few
 returns-clause-few c = rw (c.count_less.ensures, c.count.ensures) (leases_few _ _ _ (length _) c.requires.few)

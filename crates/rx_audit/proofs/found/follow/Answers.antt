@@ -13,17 +13,14 @@ returns-clause-found c = let h = c.args.past.now in let e = c.args.event in let 
     ap length c.as_mut_slice.ensures.value in record {
       live = rw (back f.live.len _ f.live.items f.live.ok.0 live_same) c.in_ok-advance.ensures.live;
       live_size = rw (back f.live.len _ f.live.items f.live.ok.0 live_same) (live_same ∙ r.live_size);
-      live_count = rw (back f.live.len _ f.live.items
-          f.live.ok.0 live_same) c.in_ok-advance.ensures.live_count;
+      live_count = rw (back f.live.len _ f.live.items f.live.ok.0 live_same) c.in_ok-advance.ensures.live_count;
       removed = removed.0;
       removed_size = removed.1;
       returned = returned.0;
-      returned_size =
-          returned.1;
+      returned_size = returned.1;
       leases = rw leases_back c.find_leases.ensures.leases;
       leases_size = rw leases_back (leases_same ∙ r.leases_size);
-      leases_few = rw
-          leases_back (λ n. let few = c.find_leases.ensures.few n in omega (arith, length-append {A = Event}));
+      leases_few = rw leases_back (λ n. let few = c.find_leases.ensures.few n in omega (arith, length-append {A = Event}));
       taken = taken.0;
       taken_size = taken.1;
     }

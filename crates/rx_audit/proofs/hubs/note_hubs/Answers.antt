@@ -4,8 +4,7 @@ use Rattle.rx_audit.proofs.hubs.note_hubs.Goals as goal
 use Rattle.std.proofs.Common.{rules}
 
 pub overflow_add-known : goal.overflow_add-known
-overflow_add-known c =
-    search (rules, hub_count_few, one_at_most)
+overflow_add-known c = search (rules, hub_count_few, one_at_most)
 
 pub returns : goal.returns
 returns c =

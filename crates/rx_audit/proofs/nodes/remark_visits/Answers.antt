@@ -16,5 +16,4 @@ loop-visit-preserved c = let h = c.args.past.now in let log = c.args.log.now in 
   c.in_ok-fire.ensures.due,
   c.fired_at.ensures,
   c.projected_at.ensures,
-) (visited_more log i v _ _ l (get_or_default log i d v l)
-    c.loop-visit.invariant)
+) (visited_more log i v _ _ l (get_or_default log i d v l) c.loop-visit.invariant)

@@ -28,8 +28,7 @@ spread-requires-clause-few c = let next = c.onward.new.next in let v = c.index-v
     (c.from.ensures, len) refl in let left = few_left _ _ _ _ _ c.loop-i.invariant in rw c.as_slice.ensures.value (omega arith)
 
 pub spread-requires-clause-some : goal.spread-requires-clause-some
-spread-requires-clause-some c =
-    search (rules, read_at)
+spread-requires-clause-some c = search (rules, read_at)
 
 pub loop-i-preserved : goal.loop-i-preserved
 loop-i-preserved c = let next = c.onward.new.next in let v = c.index-visit.result.now in let log = c.loop-i.climb.log.items in let i = c.loop-i.i in
@@ -40,10 +39,8 @@ loop-i-preserved c = let next = c.onward.new.next in let v = c.index-visit.resul
       is = c.index-visit.ensures;
       goes_on = c.in_ok-onward.ensures;
     } in let spread : HasSpread i log _ v next.items = record {
-      kept =
-          c.in_ok-spread.ensures.kept;
+      kept = c.in_ok-spread.ensures.kept;
       more = rw c.as_slice.ensures.value at c.in_ok-spread.ensures.more;
       often = c.in_ok-spread.ensures.often;
-      grows =
-          c.in_ok-spread.ensures.grows;
+      grows = c.in_ok-spread.ensures.grows;
     } in rw product (flow_step entry spread few inv)

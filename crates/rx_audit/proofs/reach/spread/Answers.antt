@@ -4,8 +4,7 @@ use Rattle.rx_audit.proofs.reach.spread.Goals as goal
 use Rattle.std.proofs.Common.{rules}
 
 pub reach-requires-clause-few : goal.reach-requires-clause-few
-reach-requires-clause-few c =
-    search (rules, taken_few)
+reach-requires-clause-few c = search (rules, taken_few)
 
 pub loop-m-preserved : goal.loop-m-preserved
 loop-m-preserved c = record {

@@ -8,8 +8,7 @@ returns-in-Some-clause-linked c = let h = c.args.past.now in let old = c.args.su
       listed = c.put_last.ensures.listed;
       last = c.put_last.ensures.last ∙ ap (set old.last.items _) next;
       before = c.put_last.ensures.before;
-      after =
-          c.put_last.ensures.after ∙ ap (table_with (set old.after.items (length h) 0) (number_of _)) next;
+      after = c.put_last.ensures.after ∙ ap (table_with (set old.after.items (length h) 0) (number_of _)) next;
     })
 
 pub returns-in_default-clause-linked : goal.returns-in_default-clause-linked

@@ -4,8 +4,7 @@ use Rattle.rx_audit.proofs.subscribers.subscribers_of.Goals as goal
 use Rattle.std.proofs.Common.{rules}
 
 pub loop-next-init : goal.loop-next-init
-loop-next-init c =
-    search (rules, walk_starts, length, walk_first)
+loop-next-init c = search (rules, walk_starts, length, walk_first)
 
 pub loop-next-smaller : goal.loop-next-smaller
 loop-next-smaller c = let subs = c.args.subs.now in walk_less _ (length subs.listed.items) subs _ c.requires.linked _ _ c.loop-next-test.true

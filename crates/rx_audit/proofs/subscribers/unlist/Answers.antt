@@ -9,8 +9,7 @@ returns-clause-linked c =
     let old = c.args.subs.now in
     let size = length old.listed.items in
     elim c.match-listed_hub.branch [
-      | in-Some w ↦ rows_less w.in-Some.g c.args.s c.requires (sym w.in-Some.ensures)
-          (c.put_mark.ensures ∙ ap (λ (ms : List Bool). set ms c.args.s false)
+      | in-Some w ↦ rows_less w.in-Some.g c.args.s c.requires (sym w.in-Some.ensures) (c.put_mark.ensures ∙ ap (λ (ms : List Bool). set ms c.args.s false)
           (ap (λ (x : Subscribers). x.listed.items) w.subs-is ∙ w.join_neighbours.ensures.listed))
           (ap (λ (x : Subscribers). x.last.items) w.subs-is ∙ w.join_neighbours.ensures.last)
           (ap (λ (x : Subscribers). x.before.items) w.subs-is ∙ w.join_neighbours.ensures.before)

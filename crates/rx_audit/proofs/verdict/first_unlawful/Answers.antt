@@ -27,10 +27,8 @@ unfolding any_event
 loop-i-preserved c = record {
   lawful = lawful_more _ _ any_event c.in_ok-may_follow.field-0 (omega arith) c.loop-i.invariant.lawful
       c.if-not-branch.false c.in_ok-may_follow.ensures.follows;
-  found = found_more _ _ any_event (length _) _ (omega arith)
-      c.loop-i.invariant.found.live_size c.in_ok-follow.ensures.found;
-  followed = followed_more _ _ any_event (length _) _ (omega arith)
-      c.loop-i.invariant.found.live_size c.in_ok-follow.ensures.followed;
+  found = found_more _ _ any_event (length _) _ (omega arith) c.loop-i.invariant.found.live_size c.in_ok-follow.ensures.found;
+  followed = followed_more _ _ any_event (length _) _ (omega arith) c.loop-i.invariant.found.live_size c.in_ok-follow.ensures.followed;
 }
 
 pub follow-requires-clause-climbed : goal.follow-requires-clause-climbed

@@ -7,5 +7,4 @@ pub returns-then-is_forced : goal.returns-then-is_forced
 returns-then-is_forced c = forced_follows c.args.past.now c.args.event (c.is_forced.ensures.0 c.if-is_forced.true)
 
 pub returns : goal.returns
-returns c =
-    search (rules, unforced_follows, both_ways)
+returns c = search (rules, unforced_follows, both_ways)
