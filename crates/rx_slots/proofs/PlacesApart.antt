@@ -1,5 +1,5 @@
 -- The places of rings are told apart.
-use Rattle.rx_slots.proofs.Common.{◌≡◌, ℕ, ◌==◌, cond, refl, Place, End, Member, number_of, is_end, places}
+use Rattle.rx_slots.proofs.Common.{◌≡◌, ℕ, ◌==◌, cond, Place, End, Member, number_of, is_end, places}
 use Rattle.rx_slots.specs.Places.{tag_of}
 use Rattle.rx_slots.proofs.Laws.Places.{Tells, told_by}
 use Rattle.std.proofs.Common.{rules}

@@ -1,6 +1,5 @@
 -- What ties between places change.
-use Rattle.rx_slots.proofs.Common.{◌≡◌, Bool, true, false, cond, refl, ap, ◌∙◌, Link, Place, Links, set_step, is_place, places, within}
-use Rattle.rx_slots.proofs.PlacesApart.{tells}
+use Rattle.rx_slots.proofs.Common.{◌≡◌, true, cond, ◌∙◌, Link, Place, Links, set_step, is_place, places, within}
 use Rattle.rx_slots.specs.Links.{is_there, Relinks}
 use Rattle.std.proofs.Common.{rules}
 

@@ -39,8 +39,8 @@
 //!
 //! # What is not promised
 //!
-//! Not promised: that numbers differ, which is the caller's part, and that there is memory. A store
-//! is `Drop` only where its values are: one of other values can be emptied, but not let go.
+//! The caller sees to it that numbers differ, and memory may be refused. A store is `Drop` only where
+//! its values are: one of other values can be emptied, but not let go.
 #![tactic(auto)]
 
 ghost use Rattle.std.specs.Prelude.{◌≡◌, ◌↔◌, IsTrue, ℕ, ◌+◌, ◌<◌, ◌≤◌, ◌^◌, max, IsOk, IsSome, IfOk, IfErr, IfNone, IfSome, OnOk, OnErr, OnSome, option_copied, ◌==◌, is_some, count_by, [], slice_set};

@@ -1,6 +1,6 @@
 -- What a number finds in an entry, and a key in its slot.
-use Rattle.rx_slots.proofs.Common.{◌≡◌, ◌≢◌, ℕ, Option, Some, None, is_some, IsSome, option_map, set, refl, sym, ap, ◌∙◌, inl, inr, rules, true≢false, Entry}
-use Rattle.rx_slots.proofs.Common.{cases_eq, Key, Slots, entry_of, entry_at, number_at, value_at, with_number, find, with_value, with_value_at}
+use Rattle.rx_slots.proofs.Common.{◌≡◌, ◌≢◌, ℕ, Option, Some, None, is_some, IsSome, option_map, set, refl, sym, ap, inl, inr, rules, true≢false}
+use Rattle.rx_slots.proofs.Common.{Entry, cases_eq, Key, Slots, entry_of, entry_at, value_at, with_number, find, with_value, with_value_at}
 
 module _ {T : Type 0} where
   -- the number of an entry finds its value

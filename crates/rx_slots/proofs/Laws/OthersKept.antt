@@ -1,6 +1,5 @@
 -- Where one slot changes, each other key finds what it found.
-use Rattle.rx_slots.proofs.Common.{◌≡◌, ◌≢◌, ℕ, Some, None, IsSome, sym, ap, ◌∙◌, inl, inr, cases_eq, Key, Slots, entry_at, with_number, find, Changes}
-use Rattle.rx_slots.proofs.Common.{KeepsOthers}
+use Rattle.rx_slots.proofs.Common.{◌≡◌, ◌≢◌, ℕ, Some, None, IsSome, cases_eq, Key, Slots, entry_at, with_number, find, Changes, KeepsOthers}
 use Rattle.rx_slots.proofs.Laws.EntryByNumber.{with_number-other, found_entry}
 use Rattle.std.proofs.Common.{rules}
 

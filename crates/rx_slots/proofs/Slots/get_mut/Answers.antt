@@ -1,4 +1,4 @@
-use Rattle.rx_slots.proofs.Common.{sym, ◌∙◌, with_value, with_value_at}
+use Rattle.rx_slots.proofs.Common.{with_value, with_value_at}
 use Rattle.rx_slots.proofs.Laws.EntryByNumber.{found_there, find-value_at, with_value_at-found}
 use Rattle.rx_slots.proofs.KeptLemmas.{same_loan}
 use Rattle.rx_slots.proofs.Slots.get_mut.Goals as goal

@@ -1,5 +1,4 @@
-use Rattle.rx_slots.proofs.Common.{sym, ap, ◌∙◌, with_number}
-use Rattle.rx_slots.proofs.Laws.OthersKept.{KeepsOthers-take}
+use Rattle.rx_slots.proofs.Common.{ap, with_number}
 use Rattle.rx_slots.proofs.Laws.EntryByNumber.{found_there, find-value_at}
 use Rattle.rx_slots.proofs.Slots.take.Goals as goal
 use Rattle.std.proofs.Common.{rules}

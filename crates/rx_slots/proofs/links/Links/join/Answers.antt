@@ -1,4 +1,3 @@
-use Rattle.rx_slots.proofs.Common.{ap, next_of, previous_of, places}
 use Rattle.rx_slots.proofs.Laws.JoinsLeavesMerges.{joins_of}
 use Rattle.rx_slots.proofs.TieLemmas.{relinks_both}
 use Rattle.rx_slots.proofs.links.Links.join.Goals as goal

@@ -1,4 +1,4 @@
-use Rattle.rx_slots.proofs.Common.{ap, ◌∙◌, set_step, next_of, previous_of, places}
+use Rattle.rx_slots.proofs.Common.{set_step}
 use Rattle.rx_slots.proofs.Laws.JoinsLeavesMerges.{leaves_of}
 use Rattle.rx_slots.proofs.TieLemmas.{relinks_both}
 use Rattle.rx_slots.proofs.links.Links.leave.Goals as goal

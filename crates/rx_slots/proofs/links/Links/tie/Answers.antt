@@ -1,4 +1,3 @@
-use Rattle.rx_slots.proofs.Common.{refl, ap, link_at}
 use Rattle.rx_slots.proofs.TieLemmas.{tied_next, tied_previous, relinks_both}
 use Rattle.rx_slots.proofs.links.Links.tie.Goals as goal
 use Rattle.std.proofs.Common.{rules}

@@ -1,11 +1,11 @@
-use Rattle.rx_slots.proofs.Common.{◌≡◌, [], ◌∷◌, ◌++◌, None, length, refl, sym, ap, ◌∙◌, arith, get_or_past, Entry, Key, shown, Slots, with_number, placed}
-use Rattle.rx_slots.proofs.Common.{entry_at}
+use Rattle.rx_slots.proofs.Common.{◌≡◌, None, length, sym, ◌∙◌, arith, get_or_past, Entry, Key, shown, Slots, with_number, placed, entry_at}
 use Rattle.rx_slots.proofs.SlotsLemmas.{length-placed, Changes-placed}
 use Rattle.rx_slots.proofs.Laws.OthersKept.{KeepsOthers-insert}
 use Rattle.rx_slots.proofs.Laws.EntryByNumber.{with_number-same}
 use Rattle.rx_slots.proofs.KeptLemmas.{placed_next, placed_within, reused_below, reused_next, kept_reused}
 use Rattle.rx_slots.proofs.records.Records.place.Goals as goal
 use Rattle.std.proofs.Common.{rules}
+use Rattle.std.proofs.lemmas.Grind.{common_steps}
 
 pub returns-in_default-clause-placed : goal.returns-in_default-clause-placed
 returns-in_default-clause-placed g c =
@@ -66,3 +66,18 @@ returns-clause-found g c =
 pub returns-clause-slot_count : goal.returns-clause-slot_count
 returns-clause-slot_count g c =
     search (rules, length, returns-clause-placed, length-placed)
+
+pub returns-in_default-clause-slot_count : goal.returns-in_default-clause-slot_count
+returns-in_default-clause-slot_count g c = grind (arith, common_steps)
+
+pub returns-in_default-clause-count : goal.returns-in_default-clause-count
+returns-in_default-clause-count g c = grind (arith, common_steps)
+
+pub returns-in_default-clause-had_room : goal.returns-in_default-clause-had_room
+returns-in_default-clause-had_room g c = grind (arith, common_steps)
+
+pub returns-clause-count : goal.returns-clause-count
+returns-clause-count g c = grind (arith, common_steps)
+
+pub returns-clause-had_room : goal.returns-clause-had_room
+returns-clause-had_room g c = grind (arith, common_steps)

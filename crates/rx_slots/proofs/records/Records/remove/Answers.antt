@@ -1,7 +1,8 @@
-use Rattle.rx_slots.proofs.Common.{IsSome, entry_at}
+use Rattle.rx_slots.proofs.Common.{IsSome, entry_at, arith}
 use Rattle.rx_slots.proofs.KeptLemmas.{kept_taken, last_or-push}
 use Rattle.rx_slots.proofs.Laws.EntryByNumber.{found_there}
 use Rattle.rx_slots.proofs.records.Records.remove.Goals as goal
+use Rattle.std.proofs.lemmas.Grind.{common_steps}
 
 pub invariant_of-self : goal.invariant_of-self
 invariant_of-self g c =
@@ -11,3 +12,12 @@ invariant_of-self g c =
 
 pub returns-clause-next_slot : goal.returns-clause-next_slot
 returns-clause-next_slot g c = rw c.push_reserved.ensures.items (last_or-push _ c.self.inside.free.items c.args.key.slot)
+
+pub returns-clause-slot_count : goal.returns-clause-slot_count
+returns-clause-slot_count g c = grind (arith, common_steps)
+
+pub returns-clause-count : goal.returns-clause-count
+returns-clause-count g c = grind (arith, common_steps)
+
+pub returns-clause-room : goal.returns-clause-room
+returns-clause-room g c = grind (arith, common_steps)

@@ -1,4 +1,4 @@
-use Rattle.rx_slots.proofs.Common.{◌==◌, true≢false, sym, ap, ◌∙◌, Member, false_from_ne_true, is_end}
+use Rattle.rx_slots.proofs.Common.{true≢false, sym, ap, ◌∙◌, Member, false_from_ne_true, is_end}
 use Rattle.rx_slots.proofs.RingsShowLists.{not_itself, eq_is, member_is, stands_on, eq_refl}
 use Rattle.rx_slots.proofs.rings.Rings.is_free.Goals as goal
 use Rattle.std.proofs.Common.{rules}
