@@ -90,17 +90,23 @@ static ELEMENTS: [(&str, Wanted, Option<Wanted>); 11] = [
     ("take", NUMBER, None),
 ];
 
-// What is wrong with an event of this word that is neither an opening nor an end.
-fn other_fault(alloc: Global, event: &Value, word: &str) -> Walk {
+// What is expected behind this word, if the events that begin with it have the same elements in each.
+fn elements_of(word: &str) -> Option<(Wanted, Option<Wanted>)> {
     for &(known, first, second) in &ELEMENTS {
         if known == word {
-            return match second {
-                Some(second) => elements_fault(alloc, event, &[EVENT, first, second]),
-                None => elements_fault(alloc, event, &[EVENT, first]),
-            };
+            return Some((first, second));
         }
     }
-    elements_fault(alloc, event, &[EVENT])
+    None
+}
+
+// What is wrong with an event of this word that is neither an opening nor an end.
+fn other_fault(alloc: Global, event: &Value, word: &str) -> Walk {
+    match elements_of(word) {
+        Some((first, Some(second))) => elements_fault(alloc, event, &[EVENT, first, second]),
+        Some((first, None)) => elements_fault(alloc, event, &[EVENT, first]),
+        None => elements_fault(alloc, event, &[EVENT]),
+    }
 }
 
 // What is wrong with an event.

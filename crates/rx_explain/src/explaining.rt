@@ -1,7 +1,8 @@
 //! What is wrong with an input, or nothing.
 
-ghost use Rattle.std.specs.Prelude.{◌≡◌, is_some, is_none, IfOk};
+ghost use Rattle.std.specs.Prelude.{◌≡◌, is_some, is_none, IfOk, OnOk};
 ghost use Rattle.serde_json.specs.Data.{Data};
+ghost use Rattle.serde_json.specs.Errors.{IsMemory};
 ghost use Rattle.serde_json.specs.View.{view};
 ghost use Rattle.rx_device.specs.Input.{IsJsonOf};
 ghost use Rattle.rx_scenario.specs.Reading.{scenario_of};
@@ -41,6 +42,16 @@ fn no_json(alloc: Global, error: &Error) -> Result<String, AllocError> {
         return format!(in alloc; "line {line}, column {column}: the JSON text ends too early");
     }
     format!(in alloc; "line {line}, column {column}: not a JSON text; look here and just before")
+}
+
+// The same of a reading that failed, if it was not for memory.
+fn no_value(alloc: Global, error: &Error) -> Result<String, AllocError>
+    ensures { OnOk result (¬ IsMemory error.now) }
+{
+    if error.is_memory() {
+        return Err(AllocError);
+    }
+    no_json(alloc, error)
 }
 
 // An event as it stands in a dump.
@@ -93,18 +104,28 @@ fn reason(
     }
 }
 
+// Which rule an event breaks that may not follow this history.
+fn why(alloc: Global, front: &[Event], event: Event) -> Result<String, AllocError> {
+    match audit(alloc, front) {
+        Ok(verdict) => reason(alloc, front, &verdict, event),
+        Err(_) => Err(AllocError),
+    }
+}
+
+// An event at its place, and what is said of it.
+fn placed(alloc: Global, place: u64, event: Event, told: &str) -> Result<String, AllocError> {
+    let shown = event_text(alloc, event)?;
+    format!(in alloc; "event {place}, {shown}: {told}")
+}
+
 // What is said of a history whose event at this place is out of order.
 fn unlawful(alloc: Global, history: &[Event], place: u64) -> Result<String, AllocError> {
     let at = place as usize;
     let (Some(front), Some(event)) = (history.get(..at), history.get(at)) else {
         return format!(in alloc; "event {place}: it may not follow the events before it");
     };
-    let Ok(verdict) = audit(alloc, front) else {
-        return Err(AllocError);
-    };
-    let shown = event_text(alloc, *event)?;
-    let reason = reason(alloc, front, &verdict, *event)?;
-    format!(in alloc; "event {place}, {shown}: {reason}")
+    let told = why(alloc, front, *event)?;
+    placed(alloc, place, *event, told.as_str())
 }
 
 // What the verdict on a history leaves to say.
@@ -118,6 +139,11 @@ fn verdict_told(alloc: Global, history: &[Event], verdict: &Verdict) -> Told
     }
 }
 
+// What is wrong with a value that is no dump.
+fn no_dump(alloc: Global, value: &Value) -> Result<String, AllocError> {
+    or_else(alloc, dump_fault(alloc, value), "the input is not a dump")
+}
+
 // What is wrong with a value that is to be a dump.
 fn explain_dump(alloc: Global, value: &Value) -> Told
     ensures { IfOk result (SaysNothingWhere (IsLawfulDump (view value.now))) }
@@ -125,10 +151,7 @@ fn explain_dump(alloc: Global, value: &Value) -> Told
     let history = match history_of(alloc, value) {
         Ok(history) => history,
         Err(ShapeError::Memory) => return Err(AllocError),
-        Err(ShapeError::Shape) => {
-            let walk = dump_fault(alloc, value);
-            return Ok(Some(or_else(alloc, walk, "the input is not a dump")?));
-        }
+        Err(ShapeError::Shape) => return Ok(Some(no_dump(alloc, value)?)),
     };
     match audit(alloc, history.as_slice()) {
         Ok(verdict) => verdict_told(alloc, history.as_slice(), &verdict),
@@ -153,6 +176,15 @@ fn is_scenario(alloc: Global, input: &[u8]) -> Result<bool, AllocError>
     }
 }
 
+// What is wrong with a value that is no scenario.
+fn no_scenario(alloc: Global, value: &Value) -> Result<String, AllocError> {
+    or_else(
+        alloc,
+        scenario_fault(alloc, value),
+        "the input is not a scenario",
+    )
+}
+
 // What is wrong with the value of a JSON text that is to be a scenario.
 fn explain_scenario(alloc: Global, input: &[u8], value: &Value) -> Told
     requires json { IsJsonOf input.now (view value.now) }
@@ -161,8 +193,7 @@ fn explain_scenario(alloc: Global, input: &[u8], value: &Value) -> Told
     if is_scenario(alloc, input)? {
         return Ok(None);
     }
-    let walk = scenario_fault(alloc, value);
-    Ok(Some(or_else(alloc, walk, "the input is not a scenario")?))
+    Ok(Some(no_scenario(alloc, value)?))
 }
 
 // What is wrong with the value of a JSON text.
@@ -195,7 +226,6 @@ pub fn explain(alloc: Global, input: &[u8]) -> Told
     }
     match Value::from_slice(alloc, input) {
         Ok(value) => explain_value(alloc, input, &value),
-        Err(error) if error.is_memory() => Err(AllocError),
-        Err(error) => Ok(Some(no_json(alloc, &error)?)),
+        Err(error) => Ok(Some(no_value(alloc, &error)?)),
     }
 }
