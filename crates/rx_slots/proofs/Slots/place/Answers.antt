@@ -91,3 +91,15 @@ returns-clause-count g c = grind (arith, common_steps)
 
 pub returns-clause-had_room : goal.returns-clause-had_room
 returns-clause-had_room g c = grind (arith, common_steps)
+
+pub overflow_cast-slot : goal.overflow_cast-slot
+overflow_cast-slot g c = grind (arith, common_steps)
+
+pub push_reserved-requires : goal.push_reserved-requires
+push_reserved-requires g c = grind (arith, common_steps)
+
+pub invariant_of-self : goal.invariant_of-self
+invariant_of-self g c = grind (arith, common_steps)
+
+pub returns-in_default-clause-below : goal.returns-in_default-clause-below
+returns-in_default-clause-below g c = grind (arith, common_steps)

@@ -21,3 +21,15 @@ returns-clause-count g c = grind (arith, common_steps)
 
 pub returns-clause-room : goal.returns-clause-room
 returns-clause-room g c = grind (arith, common_steps)
+
+pub overflow_cast-key : goal.overflow_cast-key
+overflow_cast-key g c = grind (arith, common_steps)
+
+pub push_reserved-requires : goal.push_reserved-requires
+push_reserved-requires g c = grind (arith, common_steps)
+
+pub index_mut-requires : goal.index_mut-requires
+index_mut-requires g c = grind (arith, common_steps)
+
+pub returns-clause-changes : goal.returns-clause-changes
+returns-clause-changes g c = grind (arith, common_steps)
