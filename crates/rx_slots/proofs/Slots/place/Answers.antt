@@ -103,3 +103,15 @@ invariant_of-self g c = grind (arith, common_steps)
 
 pub returns-in_default-clause-below : goal.returns-in_default-clause-below
 returns-in_default-clause-below g c = grind (arith, common_steps)
+
+pub returns-in_default-clause-was_free : goal.returns-in_default-clause-was_free
+returns-in_default-clause-was_free g c = grind (arith, common_steps)
+
+pub returns-in_default-clause-changes : goal.returns-in_default-clause-changes
+returns-in_default-clause-changes g c = grind (arith, common_steps)
+
+pub returns-in_default-clause-found : goal.returns-in_default-clause-found
+returns-in_default-clause-found g c = grind (arith, common_steps)
+
+pub returns-in_default-clause-slot : goal.returns-in_default-clause-slot
+returns-in_default-clause-slot g c = grind (arith, common_steps)
