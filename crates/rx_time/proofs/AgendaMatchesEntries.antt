@@ -1,6 +1,6 @@
 -- What keeps the entries of a priority queue and its agenda the same.
 use Rattle.std.proofs.Common.{◌≡◌, ℕ, ◌<◌, Bool, ◌&&◌, true, false, cond, nat_eq, List}
-use Rattle.std.proofs.Common.{[], ◌∷◌, ◌++◌, length, Option, Some, None, IsSomeAnd, All, refl, sym, ◌∙◌, inl, inr, arith}
+use Rattle.std.proofs.Common.{[], ◌∷◌, ◌++◌, length, Option, Some, None, IsSomeAnd, All, refl, sym, ◌∙◌, arith, rules}
 use Rattle.std.proofs.lemmas.Bool.{cases_eq, eqb-true, false≢true, eq-eqb, ne_eqb}
 use Rattle.std.proofs.lemmas.Bool.Decides.{nat_tests}
 use Rattle.std.proofs.lemmas.List.Elements.{All-head, All-weaker}
@@ -20,20 +20,16 @@ is_eq-place_cmp a t due ticket = grind (arith, nat_tests)
 
 -- the agenda at the place that went in, came out, or did both; and at any other place
 now_here : (here : Bool) → cond (here && true) true false ≡ here
-now_here true = refl
-now_here false = refl
+now_here x0 = search rules
 
 gone_here : (here : Bool) → cond (here && true) false here ≡ false
-gone_here true = refl
-gone_here false = refl
+gone_here x0 = search rules
 
 never_here : (here : Bool) → cond (here && true) false (cond (here && true) true false) ≡ false
-never_here true = refl
-never_here false = refl
+never_here x0 = search rules
 
 elsewhere : (here now before : Bool) → cond (here && false) now before ≡ before
-elsewhere true now before = refl
-elsewhere false now before = refl
+elsewhere x0 now before = search rules
 
 -- an empty agenda has no place
 no_place : (agenda : BTreeSet (ℕ × ℕ)) (place : ℕ × ℕ) → btree_set_len agenda ≡ 0 → contains place_cmp agenda place ≡ true → ⊥
@@ -46,29 +42,17 @@ module _ {T : Type 0} where
   same-push : (w : Work T) (t due ticket : ℕ) (o : Option (Work T)) (before : Bool) → before ≡ is_due_at due o → (ticket ≡ t → o ≡ None)
       → cond (is_eq (place_cmp (w.due, t) (due, ticket))) true before ≡ is_due_at due (cond (nat_eq ticket t) (Some w) o)
   same-push w t due ticket o before agreed fresh =
-      elim (cases_eq ticket t) [
-        | inl same ↦ rw (is_eq-place_cmp w.due t due ticket, eq-eqb t ticket (sym same), eq-eqb ticket t same, agreed, fresh same) (now_here (nat_eq w.due due))
-        | inr apart ↦ rw (is_eq-place_cmp w.due t due ticket, ne_eqb t ticket (λ e. apart (sym e)), ne_eqb ticket t apart, agreed)
-            (elsewhere (nat_eq w.due due) true (is_due_at due o))
-      ]
+      search (rules, cases_eq, is_eq-place_cmp, eq-eqb, now_here, nat_eq, ne_eqb, elsewhere)
 
   same-without : (w : Work T) (t due ticket : ℕ) (o : Option (Work T)) (before : Bool) → before ≡ is_due_at due o → (ticket ≡ t → o ≡ Some w)
       → cond (is_eq (place_cmp (w.due, t) (due, ticket))) false before ≡ is_due_at due (cond (nat_eq t ticket) None o)
   same-without w t due ticket o before agreed found =
-      elim (cases_eq ticket t) [
-        | inl same ↦ rw (is_eq-place_cmp w.due t due ticket, eq-eqb t ticket (sym same), agreed, found same) (gone_here (nat_eq w.due due))
-        | inr apart ↦ rw (is_eq-place_cmp w.due t due ticket, ne_eqb t ticket (λ e. apart (sym e)), agreed)
-            (elsewhere (nat_eq w.due due) false (is_due_at due o))
-      ]
+      search (rules, cases_eq, is_eq-place_cmp, eq-eqb, gone_here, nat_eq, ne_eqb, elsewhere)
 
   same-undone : (due t time ticket : ℕ) (o : Option (Work T)) (before : Bool) → before ≡ is_due_at time o → (ticket ≡ t → o ≡ None)
       → cond (is_eq (place_cmp (due, t) (time, ticket))) false (cond (is_eq (place_cmp (due, t) (time, ticket))) true before) ≡ is_due_at time o
   same-undone due t time ticket o before agreed fresh =
-      elim (cases_eq ticket t) [
-        | inl same ↦ rw (is_eq-place_cmp due t time ticket, eq-eqb t ticket (sym same), agreed, fresh same) (never_here (nat_eq due time))
-        | inr apart ↦ rw (is_eq-place_cmp due t time ticket, ne_eqb t ticket (λ e. apart (sym e)), agreed)
-            (elsewhere (nat_eq due time) false _ ∙ elsewhere (nat_eq due time) true (is_due_at time o))
-      ]
+      search (rules, cases_eq, is_eq-place_cmp, eq-eqb, never_here, nat_eq, ne_eqb, elsewhere)
 
   -- a new entry, also in the agenda
   pub IsKept-push : (es : List (ℕ × Work T)) (t : ℕ) (w : Work T) (old new : BTreeSet (ℕ × ℕ)) → IsKept es old → All (λ e. e.0 < t) es
@@ -83,11 +67,7 @@ module _ {T : Type 0} where
   -- an entry is gone, also from the agenda
   pub IsKept-without : (es : List (ℕ × Work T)) (t : ℕ) (w : Work T) (old new : BTreeSet (ℕ × ℕ)) → IsKept es old
       → lookup (nat_eq t) es ≡ Some w → Updates place_cmp old new (w.due, t) false → IsKept (remove_entry (nat_eq t) es) new
-  IsKept-without es t w old new kept found gone = record {
-    ascending = sorted-remove_entry (nat_eq t) es kept.ascending;
-    same = λ due ticket. rw (gone.0 (due, ticket), lookup-without t ticket es kept.ascending)
-        (same-without w t due ticket (lookup (nat_eq ticket) es) (contains place_cmp old (due, ticket)) (kept.same due ticket) (λ e. rw e found));
-  }
+  IsKept-without es t w old new kept found gone = search (rules, sorted-remove_entry, nat_eq, lookup-without, same-without)
 
   -- what went into the agenda came out of it again
   pub IsKept-undone : (es : List (ℕ × Work T)) (due t : ℕ) (old with_place new : BTreeSet (ℕ × ℕ)) → IsKept es old → All (λ e. e.0 < t) es

@@ -1,6 +1,6 @@
 -- Lists of entries under numbers that rise.
 use Rattle.std.proofs.Common.{◌≡◌, ℕ, ◌+◌, ◌<◌, Bool, true, false, cond, nat_eq, get_or, List, [], ◌∷◌, ◌++◌, length}
-use Rattle.std.proofs.Common.{Some, None, All, refl, sym, ap, arith}
+use Rattle.std.proofs.Common.{Some, None, All, refl, sym, ap, arith, rules}
 use Rattle.std.proofs.lemmas.Bool.{cond_both}
 use Rattle.std.proofs.lemmas.Bool.Decides.{nat_tests}
 use Rattle.std.proofs.lemmas.Cmp.{nat_cmp_total, eq_by_cmp_equiv}
@@ -60,8 +60,7 @@ module _ {X : Type 0} where
   All-remove_entry P test [] all = all
   All-remove_entry P test (e ∷ es) all =
       let rest : All P es = All-tail P e es all in
-      cond_both (test e.0) es (e ∷ remove_entry test es) (All P) (λ _. rest)
-      (λ _. All-cons P e (remove_entry test es) (All-head P e es all) (All-remove_entry P test es rest))
+      search (rules, cond_both, All, All-cons, All-head, All-remove_entry P test es rest)
 
   -- what the others find where one entry is gone
   pub lookup-without : (t q : ℕ) (es : List (ℕ × X)) → IsStrictlySortedBy nat_cmp (keys_of es)
@@ -92,8 +91,7 @@ module _ {X : Type 0} where
   pub lookup-append : (test : ℕ → Bool) (es fs : List (ℕ × X)) → lookup test (es ++ fs) ≡ option_or (lookup test es) (lookup test fs)
   lookup-append test [] fs = refl
   lookup-append test (e ∷ es) fs =
-      elim (test e.0) as (λ b. cond b (Some e.1) (lookup test (es ++ fs)) ≡ option_or (cond b (Some e.1) (lookup test es)) (lookup test fs))
-      [ true ↦ refl | false ↦ lookup-append test es fs ]
+      search (rules, cond, Some, lookup-append test es fs)
 
   pub remove_entry-front : (test : ℕ → Bool) (es fs : List (ℕ × X)) (v : X) → lookup test es ≡ Some v
       → remove_entry test (es ++ fs) ≡ remove_entry test es ++ fs
@@ -129,8 +127,7 @@ module _ {X : Type 0} where
       → AllByRecursion (λ k. nat_cmp n k ≡ Less) (keys_of (remove_entry test es))
   below-remove_entry n test [] below = below
   below-remove_entry n test (e ∷ es) below =
-      cond_both (test e.0) es (e ∷ remove_entry test es) (λ l. AllByRecursion (λ k. nat_cmp n k ≡ Less) (keys_of l)) (λ _. below.1)
-      (λ _. (below.0, below-remove_entry n test es below.1))
+      search (rules, cond_both, below-remove_entry n test es below.1)
 
   pub sorted-remove_entry : (test : ℕ → Bool) (es : List (ℕ × X)) → IsStrictlySortedBy nat_cmp (keys_of es)
       → IsStrictlySortedBy nat_cmp (keys_of (remove_entry test es))

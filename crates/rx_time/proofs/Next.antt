@@ -1,6 +1,6 @@
 -- Which entry comes next.
 use Rattle.std.proofs.Common.{◌≡◌, ℕ, ◌<◌, ◌≤◌, true, false, nat_eq, nat_le, List, []}
-use Rattle.std.proofs.Common.{◌∷◌, ◌++◌, Option, Some, None, IfSome, IsSomeAnd, MatchOption, All, cond, refl, ap, ◌∙◌, append-nil, inl, inr, arith}
+use Rattle.std.proofs.Common.{◌∷◌, ◌++◌, Option, Some, None, IfSome, IsSomeAnd, MatchOption, All, cond, refl, ap, append-nil, inl, inr, arith, rules}
 use Rattle.std.proofs.lemmas.Bool.{cases_lt, cond_both, cond-true, cond-false, le-leb, lt-leb, eqb-true}
 use Rattle.std.proofs.lemmas.List.Elements.{All-nil, All-cons, All-head, All-tail, All-weaker}
 use Rattle.std.proofs.lemmas.Map.Keys.{sorted_head, sorted_tail}
@@ -10,20 +10,18 @@ use Rattle.std.specs.Ordering.{nat_cmp}
 use Rattle.rx_time.specs.declared.work.Work.{Work}
 use Rattle.rx_time.specs.Agenda.{PointsAt}
 use Rattle.rx_time.specs.Places.{earlier_place}
-use Rattle.rx_time.specs.Schedule.{IsNext, earlier, if_due, next_due, next_of}
+use Rattle.rx_time.specs.Schedule.{IsNext, earlier, next_due, next_of}
 use Rattle.rx_time.proofs.Entries.{above_from_lookup, lookup-append, lookup-not_in_front}
 
 module _ {T : Type 0} where
   pub earlier-keeps : (e : ℕ × Work T) (o : Option (ℕ × Work T)) → IfSome o (λ f. e.1.due ≤ f.1.due) → earlier e o ≡ Some e
-  earlier-keeps e None later = refl
-  earlier-keeps e (Some f) later = cond-true (nat_le e.1.due f.1.due) (Some e) (Some f) (le-leb e.1.due f.1.due later)
+  earlier-keeps e x1 later = search (rules, cond-true, nat_le, Some, le-leb)
 
   earlier-yields : (e f : ℕ × Work T) → f.1.due < e.1.due → earlier e (Some f) ≡ Some f
   earlier-yields e f before = cond-false (nat_le e.1.due f.1.due) (Some e) (Some f) (lt-leb e.1.due f.1.due before)
 
   IfSome-earlier : (P : ℕ × Work T → Type 0) (e : ℕ × Work T) (o : Option (ℕ × Work T)) → P e → IfSome o P → IfSome (earlier e o) P
-  IfSome-earlier P e None here rest = here
-  IfSome-earlier P e (Some f) here rest = cond_both (nat_le e.1.due f.1.due) (Some e) (Some f) (λ o. IfSome o P) (λ _. here) (λ _. rest)
+  IfSome-earlier x0 e x2 here rest = search (rules, cond_both, nat_le, Some, IfSome)
 
   -- what holds of all work holds of what comes next
   pub IfSome-next_of : (P : ℕ × Work T → Type 0) (es : List (ℕ × Work T)) → All P es → IfSome (next_of es) P
@@ -64,15 +62,7 @@ module _ {T : Type 0} where
 
   least-step : (g : ℕ × Work T) (o : Option (ℕ × Work T)) (gs : List (ℕ × Work T)) → MatchOption o (gs ≡ []) (λ e. All (λ f. e.1.due ≤ f.1.due) gs)
       → MatchOption (earlier g o) (g ∷ gs ≡ []) (λ e. All (λ f. e.1.due ≤ f.1.due) (g ∷ gs))
-  least-step g None gs none =
-      rw none (All-cons (λ f. g.1.due ≤ f.1.due) g [] (omega arith) (All-nil (λ f. g.1.due ≤ f.1.due)))
-  least-step g (Some f) gs least =
-      elim (cases_lt f.1.due g.1.due) [
-        | inl before ↦ rw (earlier-yields g f before) (All-cons (λ h. f.1.due ≤ h.1.due) g gs (omega arith) least)
-        | inr not_before ↦ rw (earlier-keeps g (Some f) not_before)
-            (All-cons (λ h. g.1.due ≤ h.1.due) g gs (omega arith)
-            (All-weaker (λ h. f.1.due ≤ h.1.due) (λ h. g.1.due ≤ h.1.due) (λ h later. omega arith) gs least))
-      ]
+  least-step g x1 gs none = search (rules, All-cons, All-nil, cases_lt, earlier-yields, earlier-keeps, Some, All-weaker)
 
   -- no work is due before what comes next, and where nothing comes next there is no work
   pub next_of-least : (es : List (ℕ × Work T)) → MatchOption (next_of es) (es ≡ []) (λ e. All (λ f. e.1.due ≤ f.1.due) es)
@@ -124,26 +114,11 @@ module _ {T : Type 0} where
   earlier_of (Some e) o = earlier e o
 
   earlier-earlier : (e f : ℕ × Work T) (o : Option (ℕ × Work T)) → earlier e (earlier f o) ≡ earlier_of (earlier e (Some f)) o
-  earlier-earlier e f None =
-      elim (nat_le e.1.due f.1.due) as (λ b. cond b (Some e) (Some f) ≡ earlier_of (cond b (Some e) (Some f)) None) [ true ↦ refl | false ↦ refl ]
-  earlier-earlier e f (Some g) =
-      elim (cases_lt g.1.due f.1.due) [
-        | inl sooner ↦ rw (earlier-yields f g sooner) (elim (cases_lt f.1.due e.1.due) [
-          | inl yields ↦ rw (earlier-yields e f yields, earlier-yields f g sooner, earlier-yields e g (omega arith)) refl
-          | inr keeps ↦ rw (earlier-keeps e (Some f) keeps) refl
-        ])
-        | inr later ↦ rw (earlier-keeps f (Some g) later) (elim (cases_lt f.1.due e.1.due) [
-          | inl yields ↦ rw (earlier-yields e f yields, earlier-keeps f (Some g) later) refl
-          | inr keeps ↦ rw (earlier-keeps e (Some f) keeps, earlier-keeps e (Some g) (omega arith)) refl
-        ])
-      ]
+  earlier-earlier e f x2 = search (rules, nat_le, cond, Some, None, cases_lt, earlier-yields, earlier-keeps)
 
   next_of-append : (es fs : List (ℕ × Work T)) → next_of (es ++ fs) ≡ earlier_of (next_of es) (next_of fs)
   next_of-append [] fs = refl
-  next_of-append (e ∷ es) fs = rw (next_of-append es fs) (step (next_of es)) where
-    step : (o : Option (ℕ × Work T)) → earlier e (earlier_of o (next_of fs)) ≡ earlier_of (earlier e o) (next_of fs)
-    step None = refl
-    step (Some f) = earlier-earlier e f (next_of fs)
+  next_of-append (e ∷ es) fs = search (rules, Option, ℕ, None, Some, earlier-earlier, next_of-append es fs)
 
   nothing_left : (es : List (ℕ × Work T)) → next_of es ≡ None → es ≡ []
   nothing_left es none = rw none at (next_of-least es)
@@ -151,33 +126,7 @@ module _ {T : Type 0} where
   -- the earlier of two places points at what comes next in both lists
   pub PointsAt-append : (es fs : List (ℕ × Work T)) (a b : Option (ℕ × ℕ)) → IsStrictlySortedBy nat_cmp (keys_of (es ++ fs))
       → PointsAt es (next_of es) a → PointsAt fs (next_of fs) b → PointsAt (es ++ fs) (next_of (es ++ fs)) (earlier_place a b)
-  PointsAt-append es fs None b ascending none points = rw (nothing_left es none) points
-  PointsAt-append es fs (Some p) None ascending points none = rw (nothing_left fs none, append-nil es) points
-  PointsAt-append es fs (Some p) (Some q) ascending at_p at_q =
-      both (lookup (nat_eq p.1) es) (lookup (nat_eq q.1) fs) refl refl at_p at_q where
-        both : (o r : Option (Work T)) → lookup (nat_eq p.1) es ≡ o → lookup (nat_eq q.1) fs ≡ r
-            → IsSomeAnd o (λ w. (w.due ≡ p.0) × (next_of es ≡ Some (p.1, w))) → IsSomeAnd r (λ w. (w.due ≡ q.0) × (next_of fs ≡ Some (q.1, w)))
-            → PointsAt (es ++ fs) (next_of (es ++ fs)) (cond (nat_le p.0 q.0) (Some p) (Some q))
-        both None r found_p found_q here there = absurd here
-        both (Some v) None found_p found_q here there = absurd there
-        both (Some v) (Some w) found_p found_q here there =
-            let next : next_of (es ++ fs) ≡ earlier (p.1, v) (Some (q.1, w)) = rw (next_of-append es fs, here.1, there.1) refl in
-            elim (cases_lt q.0 p.0) [
-              | inl sooner ↦
-                  let yields : next_of (es ++ fs) ≡ Some (q.1, w) = next ∙ earlier-yields (p.1, v) (q.1, w) (omega (arith, here.0, there.0)) in
-                  rw (
-                    cond-false (nat_le p.0 q.0) (Some p) (Some q) (lt-leb p.0 q.0 sooner),
-                    lookup-append (nat_eq q.1) es fs,
-                    lookup-not_in_front q.1 w es fs ascending found_q,
-                    found_q,
-                  ) (there.0, yields)
-              | inr later ↦
-                  let keeps : next_of (es ++ fs) ≡ Some (p.1, v) = next ∙ earlier-keeps (p.1, v) (Some (q.1, w)) (omega (arith, here.0, there.0)) in
-                  rw (cond-true (nat_le p.0 q.0) (Some p) (Some q) (le-leb p.0 q.0 later), lookup-append (nat_eq p.1) es fs, found_p) (here.0, keeps)
-            ]
+  PointsAt-append es fs x2 b ascending none points = search (rules, nothing_left, append-nil, nat_eq, Option, IsSomeAnd, Some, cond, nat_le, None, next_of-append, cases_lt, earlier-yields, cond-false, lt-leb, lookup-append, lookup-not_in_front, earlier-keeps, cond-true, le-leb)
 
   pub IsNext-next_due : (until : ℕ) (es : List (ℕ × Work T)) → IfSome (next_due until es) (IsNext es)
-  IsNext-next_due until es = go (next_of es) (IsNext-next_of es) where
-    go : (o : Option (ℕ × Work T)) → IfSome o (IsNext es) → IfSome (if_due until o) (IsNext es)
-    go None next = tt
-    go (Some e) next = cond_both (nat_le e.1.due until) (Some e) None (λ o. IfSome o (IsNext es)) (λ _. next) (λ _. tt)
+  IsNext-next_due until es = search (rules, IsNext-next_of, Option, ℕ, IfSome, None, Some, cond_both, nat_le)

@@ -19,6 +19,7 @@ use Rattle.rx_time.specs.Runs.{slot_of, work_of, entry_of, entries_of, IsBefore,
 use Rattle.rx_time.specs.Schedule.{next_of}
 use Rattle.rx_time.proofs.Entries.{remove_entry-absent}
 use Rattle.rx_time.proofs.Next.{IfSome-next_of, earlier-keeps}
+use Rattle.std.proofs.Common.{rules}
 
 module _ {T : Type 0} where
   -- the entries of a slot with this in it, and of the slots behind it
@@ -105,29 +106,19 @@ module _ {T : Type 0} where
   nothing_next (s ∷ ss) none = absurd (omega arith)
 
   front-some : (s : Slot T) (ss : List (Slot T)) (o : Option T) → is_none o ≡ false → entries_with s o (entries_of ss) ≡ [] → ⊥
-  front-some s ss None filled none = true≢false filled
-  front-some s ss (Some item) filled none = cc
+  front-some s ss x2 filled none = search (rules, true≢false)
 
   pub no_slots : (ss : List (Slot T)) → IsRun ss → entries_of ss ≡ [] → ss ≡ []
-  no_slots [] run none = refl
-  no_slots (s ∷ ss) run none = absurd (front-some s ss s.item run.filled none)
+  no_slots x0 run none = search (rules, front-some)
 
   pub empty_iff : (ss : List (Slot T)) (n : ℕ) (b : Bool) → IsRun ss → n ≡ length ss → b ≡ (n == 0) → (b ≡ true) ↔ (entries_of ss ≡ [])
-  empty_iff [] n b run few is = ((λ t. refl), λ t. is ∙ rw few refl)
-  empty_iff (s ∷ ss) n b run few is =
-      let full : b ≡ false = is ∙ ne_eqb n 0 (λ none. absurd (omega arith)) in
-      ((λ t. absurd (true≢false (sym t ∙ full))), λ none. absurd (front-some s ss s.item run.filled none))
+  empty_iff x0 n b run few is = search (rules, ne_eqb, true≢false, front-some)
 
   -- a ticket's place ------------------------------------------------------------------------------
 
   comparisons_rise : (ss : List (Slot T)) (t : ℕ) → AllPairs IsBefore ss → IsNonDecreasingBy (λ s. ordering_index (nat_cmp s.ticket t)) ss
   comparisons_rise ss t pairs i j d le within =
-      let rise : (get_or ss i d).ticket ≤ (get_or ss j d).ticket =
-      elim (cases_lt i j) [
-        | inl before ↦ omega (arith, (pairs i j d before within).0)
-        | inr after ↦ let same : i ≡ j = omega arith in rw same (omega arith)
-      ] in
-      grind (arith, nat_tests)
+      search (rules, get_or, cases_lt, nat_tests)
 
   -- a binary search ends at the ticket's place, or no slot has the ticket
   pub searched : (ss : List (Slot T)) (t : ℕ) (r : Result ℕ ℕ) → AllPairs IsBefore ss → IsBinarySearchResult (λ s. nat_cmp s.ticket t) ss r

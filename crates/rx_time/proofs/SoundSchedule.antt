@@ -1,5 +1,5 @@
 -- What holds of every timeline, kept with one entry more and one less.
-use Rattle.std.proofs.Common.{ℕ, ◌+◌, ◌<◌, ◌≤◌, ◌++◌, ◌∷◌, [], nat_eq, arith}
+use Rattle.std.proofs.Common.{ℕ, ◌+◌, ◌<◌, ◌≤◌, ◌++◌, ◌∷◌, [], nat_eq, arith, rules}
 use Rattle.std.proofs.lemmas.List.Elements.{All-push, All-weaker}
 use Rattle.std.specs.Map.{remove_entry}
 use Rattle.rx_time.specs.declared.work.Work.{Work}
@@ -17,8 +17,4 @@ module _ {T : Type 0} where
   }
 
   pub IsSound-without : (s : Schedule T) (t : ℕ) → IsSound s → IsSound (schedule s.clock s.tickets (remove_entry (nat_eq t) s.work))
-  IsSound-without s t sound = record {
-    ascending = sorted-remove_entry (nat_eq t) s.work sound.ascending;
-    given = All-remove_entry (λ e. e.0 < s.tickets) (nat_eq t) s.work sound.given;
-    ahead = All-remove_entry (λ e. s.clock ≤ e.1.due) (nat_eq t) s.work sound.ahead;
-  }
+  IsSound-without s t sound = search (rules, sorted-remove_entry, nat_eq, All-remove_entry)

@@ -1,6 +1,6 @@
 -- Entries that are kept in two lists, the one behind the other.
-use Rattle.std.proofs.Common.{◌≡◌, ℕ, ◌+◌, ◌≤◌, ◌↔◌, Bool, true, nat_eq, List, [], ◌∷◌, ◌++◌, length, Option, Some, None, Result, Ok, Err}
-use Rattle.std.proofs.Common.{All, IfSome, IfNone, IsSomeAnd, refl, sym, ap, append_assoc, append-nil}
+use Rattle.std.proofs.Common.{◌≡◌, ℕ, ◌+◌, ◌≤◌, ◌↔◌, Bool, true, nat_eq, List, [], ◌∷◌, ◌++◌, length, Option, Some, None, Result}
+use Rattle.std.proofs.Common.{All, IfSome, IfNone, IsSomeAnd, refl, sym, append_assoc, append-nil, rules}
 use Rattle.std.specs.Prelude.{OnOk, OnErr, OnSome}
 use Rattle.std.specs.List.Sorted.{IsPermutation}
 use Rattle.std.specs.Map.{lookup}
@@ -30,12 +30,10 @@ module _ {X : Type 0} where
   -- what goes behind the second list goes behind both
   pub put_behind : {A E : Type 0} (r : Result A E) (es rs fs gs : List X) (e : X) → rs ≡ es → OnOk r (gs ≡ fs ++ e ∷ [])
       → OnOk r (rs ++ gs ≡ (es ++ fs) ++ e ∷ [])
-  put_behind (Ok a) es rs fs gs e same put = rw (same, put) (sym (append_assoc es fs (e ∷ [])))
-  put_behind (Err x) es rs fs gs e same put = tt
+  put_behind x0 es rs fs gs e same put = search (rules, append_assoc)
 
   pub put_refused : {A E : Type 0} (r : Result A E) (es rs fs gs : List X) → rs ≡ es → OnErr r (gs ≡ fs) → OnErr r (rs ++ gs ≡ es ++ fs)
-  put_refused (Ok a) es rs fs gs same kept = tt
-  put_refused (Err x) es rs fs gs same kept = rw (same, kept) refl
+  put_refused x0 es rs fs gs same kept = search rules
 
   -- what goes behind the first list goes behind both where there is no second
   pub put_between : (es rs fs : List X) (e : X) → fs ≡ [] → rs ≡ es ++ e ∷ [] → rs ++ fs ≡ (es ++ fs) ++ e ∷ []
@@ -57,22 +55,19 @@ module _ {T : Type 0} where
   pub others_back : (t : ℕ) (es rs fs gs : List (ℕ × Work T)) → None ≡ lookup (nat_eq t) es → rs ≡ without t es → gs ≡ without t fs
       → rs ++ gs ≡ without t (es ++ fs)
   others_back t es rs fs gs absent kept gone =
-      rw (kept, remove_entry-absent (nat_eq t) es (sym absent), gone) (sym (remove_entry-back (nat_eq t) es fs (sym absent)))
+      search (rules, remove_entry-absent, nat_eq, remove_entry-back)
 
   -- what is taken out, and what is left
   pub once_taken : (t : ℕ) (es : List (ℕ × Work T)) (r : Option (Work T)) → r ≡ lookup (nat_eq t) es
       → IfSome r (λ w. IsPermutation (items_of es) (w.item ∷ items_of (without t es)))
-  once_taken t es None found = tt
-  once_taken t es (Some w) found = items_of-without t w es (sym found)
+  once_taken t es x2 found = search (rules, items_of-without)
 
   pub fewer_taken : (t : ℕ) (es : List (ℕ × Work T)) (r : Option (Work T)) → r ≡ lookup (nat_eq t) es → OnSome r (length (without t es) + 1 ≡ length es)
-  fewer_taken t es None found = tt
-  fewer_taken t es (Some w) found = length-remove_entry (nat_eq t) es w (sym found)
+  fewer_taken t es x2 found = search (rules, length-remove_entry, nat_eq)
 
   pub kept_taken : {S : Type 0} (whole : List (ℕ × Work T) → S) (t : ℕ) (es : List (ℕ × Work T)) (r : Option (Work T)) → r ≡ lookup (nat_eq t) es
       → IfNone r (whole (without t es) ≡ whole es)
-  kept_taken whole t es None found = ap whole (remove_entry-absent (nat_eq t) es (sym found))
-  kept_taken whole t es (Some w) found = tt
+  kept_taken whole t es x3 found = search (rules, remove_entry-absent, nat_eq)
 
   -- what comes next is due no earlier than all are
   pub ahead_at : (n : ℕ) (es : List (ℕ × Work T)) (r : Option (ℕ × ℕ)) → All (λ e. n ≤ e.1.due) es → PointsAt es (next_of es) r → IfSome r (λ p. n ≤ p.0)

@@ -1,10 +1,10 @@
-use Rattle.std.proofs.Common.{◌∙◌}
 use Rattle.rx_time.proofs.SlotsInOrder.{first_work, first_left, pairs_behind}
 use Rattle.rx_time.proofs.run.pop_first.Goals as goal
+use Rattle.std.proofs.Common.{rules}
 
 pub returns-in-Some-clause-value : goal.returns-in-Some-clause-value
 returns-in-Some-clause-value g c =
-    λ d. c.into_taken.ensures ∙ first_work c.args.slots.now.items c.pop_front.new.self.items c.in-Some.slot c.in-Some.ensures.items d
+    search (rules, first_work)
 
 pub returns-in-Some-clause-others : goal.returns-in-Some-clause-others
 returns-in-Some-clause-others g c = first_left c.args.slots.now.items c.pop_front.new.self.items c.in-Some.slot c.in-Some.ensures.items

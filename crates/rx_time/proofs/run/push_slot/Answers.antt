@@ -1,8 +1,9 @@
 use Rattle.rx_time.proofs.SlotsInOrder.{IsRun-push, entries-push}
 use Rattle.rx_time.proofs.run.push_slot.Goals as goal
+use Rattle.std.proofs.Common.{rules}
 
 pub returns-in-Ok-clause-ok : goal.returns-in-Ok-clause-ok
-returns-in-Ok-clause-ok g c = rw (c.in-Ok.ensures.items, c.new.ensures) (entries-push c.args.slots.now.items c.args.ticket c.args.work)
+returns-in-Ok-clause-ok g c = search (rules, entries-push)
 
 pub returns-in-Ok-clause-run : goal.returns-in-Ok-clause-run
 returns-in-Ok-clause-run g c =

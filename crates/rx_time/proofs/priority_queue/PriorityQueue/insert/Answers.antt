@@ -1,4 +1,4 @@
-use Rattle.std.proofs.Common.{◌<◌, All, ◌∙◌}
+use Rattle.std.proofs.Common.{◌<◌, All, ◌∙◌, rules}
 use Rattle.rx_time.proofs.Entries.{insert_entry-last, lookup-nat_cmp, lookup-past}
 use Rattle.rx_time.proofs.AgendaMatchesEntries.{IsKept-push, IsKept-undone}
 use Rattle.rx_time.proofs.priority_queue.PriorityQueue.insert.Goals as goal
@@ -28,6 +28,4 @@ invariant_of-self-in-Err g c =
 
 pub returns-in-Ok-None-clause-ok : goal.returns-in-Ok-None-clause-ok
 returns-in-Ok-None-clause-ok g c =
-    let es = c.self.inside.entries.entries in
-    let above : All (λ e. e.0 < c.args.ticket) es = rw (← c.self.view_is) at c.requires in
-    rw (← c.self.view_is) (c.in-Ok-None.ensures.entries ∙ insert_entry-last es c.args.ticket c.args.work above)
+    search (rules, All, insert_entry-last)

@@ -1,7 +1,7 @@
-use Rattle.std.proofs.Common.{sym}
 use Rattle.rx_time.proofs.Entries.{remove_entry-absent}
 use Rattle.rx_time.proofs.SlotsInOrder.{lookup-absent, lookup_held, removed_held}
 use Rattle.rx_time.proofs.run.Run.remove.Goals as goal
+use Rattle.std.proofs.Common.{rules}
 
 pub returns-in-Some-clause-value : goal.returns-in-Some-clause-value
 returns-in-Some-clause-value g c =
@@ -15,8 +15,8 @@ returns-in-Some-clause-others g c =
 
 pub returns-in-None-clause-value : goal.returns-in-None-clause-value
 returns-in-None-clause-value g c =
-    rw (← c.self.view_is) (sym (lookup-absent c.self.inside.slots.items c.args.ticket c.in-None.ensures.absent))
+    search (rules, lookup-absent)
 
 pub returns-in-None-clause-others : goal.returns-in-None-clause-others
 returns-in-None-clause-others g c =
-    rw (← c.self.view_is) (sym (remove_entry-absent _ _ (lookup-absent c.self.inside.slots.items c.args.ticket c.in-None.ensures.absent)))
+    search (rules, remove_entry-absent, lookup-absent)

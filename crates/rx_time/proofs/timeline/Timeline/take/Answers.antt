@@ -1,4 +1,4 @@
-use Rattle.std.proofs.Common.{◌++◌, refl}
+use Rattle.std.proofs.Common.{◌++◌, refl, rules}
 use Rattle.rx_time.specs.Schedule.{schedule}
 use Rattle.rx_time.proofs.SoundSchedule.{IsSound-without}
 use Rattle.rx_time.proofs.TwoLists.{fewer_taken, kept_taken, once_taken}
@@ -17,13 +17,11 @@ returns-clause-others g c = rw (← c.self.view_is, c.take_from.ensures.others) 
 
 pub returns-clause-once : goal.returns-clause-once
 returns-clause-once g c =
-    rw (← c.self.view_is, c.take_from.ensures.others)
-    (once_taken c.args.number (c.self.inside.in_order ++ c.self.inside.others) c.take_from.result c.take_from.ensures.value)
+    search (rules, once_taken)
 
 pub returns-clause-fewer : goal.returns-clause-fewer
 returns-clause-fewer g c =
-    rw (← c.self.view_is, c.take_from.ensures.others)
-    (fewer_taken c.args.number (c.self.inside.in_order ++ c.self.inside.others) c.take_from.result c.take_from.ensures.value)
+    search (rules, fewer_taken)
 
 pub returns-clause-kept : goal.returns-clause-kept
 returns-clause-kept g c =
