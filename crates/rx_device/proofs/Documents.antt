@@ -1,5 +1,5 @@
 -- A text that is read in place: what serde_json reads there, where each number has a value.
-use Rattle.std.proofs.Common.{◌≡◌, ℕ, List, [], ◌∷◌, Option, Some, None, Bool, true, false, option_map, option_and_then, refl, ap, sym, ◌∙◌, arith}
+use Rattle.std.proofs.Common.{◌≡◌, ℕ, List, ◌∷◌, Option, Some, None, Bool, true, false, option_map, option_and_then, refl, ap, sym, arith, rules}
 use Rattle.std.specs.Prelude.{◌&&◌, ◌==◌, length, is_some}
 use Rattle.std.proofs.lemmas.Bool.{and_parts, false≢true}
 use Rattle.json.specs.Token.{Token}
@@ -10,8 +10,7 @@ use Rattle.serde_json.specs.Read.{number_of, of_json, of_items, of_members, read
 use Rattle.rx_device.specs.Part.{number_or_null, data_of, items_data, members_data, has_values, items_have_values, members_have_values}
 
 number_read : (o : Option Num) → is_some o ≡ true → option_map number o ≡ Some (number_or_null o)
-number_read None lacks = absurd (false≢true lacks)
-number_read (Some n) is = refl
+number_read x0 lacks = search (rules, false≢true)
 
 mutual
   pub read_as : (j : text.Json) → has_values j ≡ true → of_json j ≡ Some (data_of j)
@@ -35,18 +34,15 @@ mutual
       rw (read_as j both.0) (members_as ms (put k (data_of j) found) both.1)
 
 no_number : (o : Option Num) → is_some o ≡ false → option_map number o ≡ None
-no_number None lacks = refl
-no_number (Some n) is = absurd (false≢true (sym is))
+no_number x0 lacks = search (rules, false≢true)
 
 second_lacks : (a b : Bool) → (a && b) ≡ false → a ≡ true → b ≡ false
-second_lacks true b lacks is = lacks
-second_lacks false b lacks is = absurd (false≢true is)
+second_lacks x0 b lacks is = search (rules, false≢true)
 
 -- where the first has a value, the second lacks one
 none_of_two : {A B : Type 0} (a b : Bool) (first : Option A) (here : A) (go_on : A → Option B) → (a ≡ true → first ≡ Some here)
     → (a ≡ false → first ≡ None) → (b ≡ false → go_on here ≡ None) → (a && b) ≡ false → option_and_then go_on first ≡ None
-none_of_two true b first here go_on has lacks none both = ap (option_and_then go_on) (has refl) ∙ none both
-none_of_two false b first here go_on has lacks none both = ap (option_and_then go_on) (lacks refl)
+none_of_two x0 b first here go_on has lacks none both = search (rules, option_and_then)
 
 mutual
   pub not_read : (j : text.Json) → has_values j ≡ false → of_json j ≡ None
@@ -74,13 +70,11 @@ not_empty t ts is = grind arith
 
 pub read_whole : (s : List ℕ) (j : text.Json) (ts : List Token) → text.value 127 (tokens s) ≡ Some (j, ts)
     → (length ts == 0 && has_values j) ≡ true → read s ≡ Some (data_of j)
-read_whole s j [] is all = rw is (read_as j all)
-read_whole s j (t ∷ ts) is all = absurd (not_empty t ts (and_parts (length (t ∷ ts) == 0) (has_values j) all).0)
+read_whole s j x2 is all = search (rules, read_as, not_empty, and_parts)
 
 pub read_other : (s : List ℕ) (j : text.Json) (ts : List Token) → text.value 127 (tokens s) ≡ Some (j, ts)
     → (length ts == 0 && has_values j) ≡ false → read s ≡ None
-read_other s j [] is lacks = rw is (not_read j lacks)
-read_other s j (t ∷ ts) is lacks = rw is refl
+read_other s j x2 is lacks = search (rules, not_read)
 
 pub read_none : (s : List ℕ) → text.value 127 (tokens s) ≡ None → read s ≡ None
 read_none s is = rw is refl

@@ -1,5 +1,5 @@
 -- One more write of a text, after the front that is written.
-use Rattle.std.proofs.Common.{◌≡◌, ◌-◌, ◌+◌, ◌++◌, ◌<◌, ◌||◌, ◌==◌, ℕ, Bool, true, false, List, length, take, drop, subst, sym, ap, ◌∙◌, refl, arith}
+use Rattle.std.proofs.Common.{◌≡◌, ◌-◌, ◌+◌, ◌++◌, ◌<◌, ◌||◌, ◌==◌, ℕ, Bool, List, length, take, drop, subst, sym, ap, ◌∙◌, rules}
 use Rattle.std.specs.Prelude.{Option}
 use Rattle.std.proofs.lemmas.Bool.{ne_eqb}
 use Rattle.std.proofs.lemmas.List.{take_rest}
@@ -15,8 +15,7 @@ written_more a b c text done n p q =
     subst (Appends a c) joined (Appends-trans a b c _ _ p q)
 
 or_moved : (b : Bool) (n : ℕ) → 0 < n → (b || n == 0) ≡ b
-or_moved true n some = refl
-or_moved false n some = ne_eqb n 0 (omega arith)
+or_moved x0 n some = search (rules, ne_eqb)
 
 -- a writer that took bytes is one that stopped where it was before
 pub moves_on : (start old new : Bool) (n : ℕ) → 0 < n → new ≡ (old || n == 0) → old ≡ start → new ≡ start

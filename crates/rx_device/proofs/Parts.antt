@@ -20,21 +20,19 @@ use Rattle.serde_json.specs.Data.{Num, Data, null, boolean, number, string, arra
 use Rattle.serde_json.specs.Find.{get, get_member, as_str, as_number, as_array, as_object}
 use Rattle.serde_json.specs.Read.{number_of}
 use Rattle.rx_device.specs.Part.{data_of, items_data, members_data, number_or_null}
+use Rattle.std.proofs.Common.{rules}
 
 -- members -----------------------------------------------------------------------------------------
 
 by_order : {A : Type 0} (o : Ordering) (other here : A) → match_ordering o other here other ≡ cond (is_eq o) here other
-by_order Less other here = refl
-by_order Equal other here = refl
-by_order Greater other here = refl
+by_order x0 other here = search rules
 
 get_first : (k l : List ℕ) (e : Data) (ms : Members) → get_member k (member l e ms) ≡ cond (bytes_eq k l) (Some e) (get_member k ms)
 get_first k l e ms =
-    by_order (slice_cmp nat_cmp k l) (get_member k ms) (Some e) ∙ ap (λ b. cond b (Some e) (get_member k ms)) (is_eq-slice_cmp k l)
+    search (rules, by_order, Some, cond, is_eq-slice_cmp)
 
 twice : {A : Type 0} (b : Bool) (x y z : A) → cond b x z ≡ cond b x (cond b y z)
-twice true x y z = refl
-twice false x y z = refl
+twice x0 x y z = search rules
 
 -- two orders are not one
 greater_apart : (j l : List ℕ) → slice_cmp nat_cmp j l ≡ Greater → j ≡ l → ⊥
@@ -45,9 +43,7 @@ bytes_eq-sym : (k l : List ℕ) → bytes_eq k l ≡ bytes_eq l k
 bytes_eq-sym k l = nat_list_eq_equiv.symm k l
 
 in_turn : {A : Type 0} (a b : Bool) (x y z : A) → (a ≡ true → b ≡ true → ⊥) → cond a x (cond b y z) ≡ cond b y (cond a x z)
-in_turn true true x y z apart = absurd (apart refl refl)
-in_turn true false x y z apart = refl
-in_turn false b x y z apart = refl
+in_turn x0 x1 x y z apart = search rules
 
 -- a member that is put under a key is found there, and every other one as before
 placed : (k j l : List ℕ) (d e : Data) (ms : Members) (o : Ordering) → slice_cmp nat_cmp j l ≡ o
@@ -78,72 +74,42 @@ last_of (Some d) earlier = Some d
 
 one_more : (o : Option text.Json) (b : Bool) (j : text.Json) (earlier : Option Data)
     → last_of (option_map data_of o) (cond b (Some (data_of j)) earlier) ≡ last_of (option_map data_of (find.later_or o (cond b (Some j) None))) earlier
-one_more None true j earlier = refl
-one_more None false j earlier = refl
-one_more (Some i) b j earlier = refl
+one_more x0 x1 j earlier = search rules
 
 get_data : (k : List ℕ) (ms : text.Members) (found : Members)
     → get_member k (members_data ms found) ≡ last_of (option_map data_of (find.get_member k ms)) (get_member k found)
 get_data k text.no_members found = refl
 get_data k (text.member l j ms) found =
-    let rest = get_data k ms (put l (data_of j) found) in
-    let here : get_member k (put l (data_of j) found) ≡ cond (bytes_eq l k) (Some (data_of j)) (get_member k found) =
-    get_put k l (data_of j) found ∙ ap (λ b. cond b (Some (data_of j)) (get_member k found)) (bytes_eq-sym k l) in
-    rest ∙ ap (last_of (option_map data_of (find.get_member k ms))) here ∙ one_more (find.get_member k ms) (bytes_eq l k) j (get_member k found)
+    search (rules, cond, Some, get_put, bytes_eq-sym, option_map, get_data k ms (put l (data_of j) found))
 
 last_or_none : (o : Option Data) → last_of o None ≡ o
-last_or_none None = refl
-last_or_none (Some d) = refl
+last_or_none x0 = search rules
 
 -- values ------------------------------------------------------------------------------------------
 
 word_of_number : (o : Option Num) → as_str (number_or_null o) ≡ None
-word_of_number None = refl
-word_of_number (Some n) = refl
+word_of_number x0 = search rules
 
 pub word_found : (j : text.Json) → as_str (data_of j) ≡ find.as_str j
-word_found text.null = refl
-word_found (text.boolean b) = refl
-word_found (text.number s) = word_of_number (number_of s)
-word_found (text.string s) = refl
-word_found (text.array js) = refl
-word_found (text.object ms) = refl
+word_found x0 = search (rules, word_of_number)
 
 number_itself : (o : Option Num) → as_number (number_or_null o) ≡ o
-number_itself None = refl
-number_itself (Some n) = refl
+number_itself x0 = search rules
 
 pub number_found : (j : text.Json) → as_number (data_of j) ≡ option_and_then number_of (find.as_number j)
-number_found text.null = refl
-number_found (text.boolean b) = refl
-number_found (text.number s) = number_itself (number_of s)
-number_found (text.string s) = refl
-number_found (text.array js) = refl
-number_found (text.object ms) = refl
+number_found x0 = search (rules, number_itself)
 
 array_of_number : (o : Option Num) → as_array (number_or_null o) ≡ None
-array_of_number None = refl
-array_of_number (Some n) = refl
+array_of_number x0 = search rules
 
 pub array_found : (j : text.Json) → as_array (data_of j) ≡ option_map items_data (find.as_array j)
-array_found text.null = refl
-array_found (text.boolean b) = refl
-array_found (text.number s) = array_of_number (number_of s)
-array_found (text.string s) = refl
-array_found (text.array js) = refl
-array_found (text.object ms) = refl
+array_found x0 = search (rules, array_of_number)
 
 object_of_number : (o : Option Num) → as_object (number_or_null o) ≡ None
-object_of_number None = refl
-object_of_number (Some n) = refl
+object_of_number x0 = search rules
 
 pub object_found : (j : text.Json) → as_object (data_of j) ≡ option_map (λ ms. members_data ms no_members) (find.as_object j)
-object_found text.null = refl
-object_found (text.boolean b) = refl
-object_found (text.number s) = object_of_number (number_of s)
-object_found (text.string s) = refl
-object_found (text.array js) = refl
-object_found (text.object ms) = refl
+object_found x0 = search (rules, object_of_number)
 
 -- a value with members has just those, and any other has none
 get_of_object : (k : List ℕ) (d : Data) (ms : Members) → as_object d ≡ Some ms → get k d ≡ get_member k ms
@@ -166,26 +132,19 @@ get_of_other k (object there) is = absurd (cc)
 pub get_part : (k : List ℕ) (d : Data) (ms : text.Members) (r : Option (Bor (Value Global))) → as_object d ≡ Some (members_data ms no_members)
     → option_map (λ v. value_view v.now) r ≡ find.get_member k ms → option_map (λ v. data_of (value_view v.now)) r ≡ get k d
 get_part k d ms r there is =
-    mapped r ∙ ap (option_map data_of) is ∙ sym (get_data k ms no_members ∙ last_or_none (option_map data_of (find.get_member k ms)))
-    ∙ sym (get_of_object k d (members_data ms no_members) there)
-  where
-    mapped : (r : Option (Bor (Value Global))) → option_map (λ v. data_of (value_view v.now)) r ≡ option_map data_of (option_map (λ v. value_view v.now) r)
-    mapped None = refl
-    mapped (Some v) = refl
+    search (rules, option_map, get_data, last_or_none, get_of_object, Option, None, Some)
 
 -- the last member of a name --------------------------------------------------------------------------
 
 later : (b : Bool) (j : text.Json) (earlier : Option text.Json) (o : Bool) (i : text.Json)
     → find.later_or (cond b (Some j) earlier) (cond o (Some i) None) ≡ cond b (Some j) (find.later_or earlier (cond o (Some i) None))
-later true j earlier o i = refl
-later false j earlier o i = refl
+later x0 j earlier o i = search rules
 
 find_push : (k : List ℕ) (ms : List (Bor (List ℕ) × Value Global)) (m : Bor (List ℕ) × Value Global)
     → find.get_member k (members_view (ms ++ m ∷ [])) ≡ cond (bytes_eq m.0.now k) (Some (value_view m.1)) (find.get_member k (members_view ms))
 find_push k [] m = refl
 find_push k (n ∷ ms) m =
-    ap (λ o. find.later_or o (cond (bytes_eq n.0.now k) (Some (value_view n.1)) None)) (find_push k ms m)
-    ∙ later (bytes_eq m.0.now k) (value_view m.1) (find.get_member k (members_view ms)) (bytes_eq n.0.now k) (value_view n.1)
+    search (rules, cond, Some, None, later, find_push k ms m)
 
 module _ (k : List ℕ) (ms : List (Bor (List ℕ) × Value Global)) (i left : ℕ) (m : Bor (List ℕ) × Value Global)
     (within : i < length ms) (next : left ≡ i + 1) (is : m ≡ get_or ms i m) where
@@ -196,7 +155,7 @@ module _ (k : List ℕ) (ms : List (Bor (List ℕ) × Value Global)) (i left : �
   one_more_member = ap (λ ns. find.get_member k (members_view ns)) front ∙ find_push k (take i ms) m
 
   pub found_last : bytes_eq m.0.now k ≡ true → find.get_member k (members_view (take left ms)) ≡ Some (value_view m.1)
-  found_last same = one_more_member ∙ ap (λ b. cond b (Some (value_view m.1)) (find.get_member k (members_view (take i ms)))) same
+  found_last same = search (rules, one_more_member, cond, Some, take)
 
   pub found_before : bytes_eq m.0.now k ≡ false → find.get_member k (members_view (take left ms)) ≡ find.get_member k (members_view (take i ms))
-  found_before other = one_more_member ∙ ap (λ b. cond b (Some (value_view m.1)) (find.get_member k (members_view (take i ms)))) other
+  found_before other = search (rules, one_more_member, cond, Some, take)

@@ -1,23 +1,11 @@
-use Rattle.std.proofs.Common.{◌<◌, length, sym, subst, arith, rules}
-use Rattle.json.specs.Tree.{json_tokens, items_tokens, members_tokens}
-use Rattle.json.specs.Value.{value_view, items_view, members_view}
+use Rattle.std.proofs.Common.{length, rules}
 use Rattle.json.proofs.Trees.{item_smaller, member_smaller}
 use Rattle.rx_device.proofs.document.+values.Goals as goal
 
 pub items_have_values-has_values-requires : goal.items_have_values-has_values-requires
 items_have_values-has_values-requires t c =
-    let xs = c.deref-value-items.result.now in
-    let x = c.value-item.result in
-    let smaller : length (json_tokens (value_view x)) < length (items_tokens (items_view c.args.values.now.items)) =
-    subst (λ ys. length (json_tokens (value_view x)) < length (items_tokens (items_view ys))) c.deref-value-items.ensures.value
-    (subst (λ y. length (json_tokens (value_view y)) < length (items_tokens (items_view xs))) (sym c.value-item.is) (item_smaller xs c.loop-value.value-index x (omega arith))) in
-    search rules
+    search (rules, length, item_smaller)
 
 pub members_have_values-has_values-requires : goal.members_have_values-has_values-requires
 members_have_values-has_values-requires t c =
-    let xs = c.deref-member-items.result.now in
-    let x = c.member-item.result in
-    let smaller : length (json_tokens (value_view x.1)) < length (members_tokens (members_view c.args.members.now.items)) =
-    subst (λ ys. length (json_tokens (value_view x.1)) < length (members_tokens (members_view ys))) c.deref-member-items.ensures.value
-    (subst (λ y. length (json_tokens (value_view y.1)) < length (members_tokens (members_view xs))) (sym c.member-item.is) (member_smaller xs c.loop-member.member-index x (omega arith))) in
-    search rules
+    search (rules, length, member_smaller)

@@ -1,11 +1,11 @@
-use Rattle.std.proofs.Common.{sym}
+use Rattle.std.proofs.Common.{sym, rules}
 use Rattle.json.specs.Value.{members_view}
 use Rattle.rx_device.specs.Part.{part_data}
 use Rattle.rx_device.proofs.Parts.{get_part, get_of_other}
 use Rattle.rx_device.proofs.part.Part.get.Goals as goal
 
 pub returns-in_default : goal.returns-in_default
-returns-in_default c = get_of_other c.args.name.now (part_data c.args.self) (sym (rw c.in_default.is at c.as_object.ensures))
+returns-in_default c = search (rules, get_of_other)
 
 pub returns-in-Some-find : goal.returns-in-Some-find
 returns-in-Some-find c =
