@@ -6,5 +6,4 @@ pub returns-in-Ok-clause-ok : goal.returns-in-Ok-clause-ok
 returns-in-Ok-clause-ok g c = search (rules, entries-push)
 
 pub returns-in-Ok-clause-run : goal.returns-in-Ok-clause-run
-returns-in-Ok-clause-run g c =
-    rw (c.in-Ok.ensures.items, c.new.ensures) (IsRun-push c.args.slots.now.items c.args.ticket c.args.work c.requires.run c.requires.last)
+returns-in-Ok-clause-run g c = rw (c.in-Ok.ensures.items, c.new.ensures) (IsRun-push _ _ _ c.requires.run c.requires.last)

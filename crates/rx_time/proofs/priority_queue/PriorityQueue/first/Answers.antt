@@ -5,9 +5,7 @@ use Rattle.rx_time.proofs.AgendaMatchesEntries.{PointsAt-first, work-none}
 use Rattle.rx_time.proofs.priority_queue.PriorityQueue.first.Goals as goal
 
 pub returns-in-Some : goal.returns-in-Some
-returns-in-Some g c =
-    rw (← c.self.view_is) (PointsAt-first c.self.inside.entries.entries c.self.inside.agenda c.in-Some.place.now
-    c.self.invariant c.in-Some.ensures.member c.in-Some.ensures.least)
+returns-in-Some g c = rw (← c.self.view_is) (PointsAt-first _ _ _ c.self.invariant c.in-Some.ensures.member c.in-Some.ensures.least)
 
 pub returns-in-None : goal.returns-in-None
 returns-in-None g c =

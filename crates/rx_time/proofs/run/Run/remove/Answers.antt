@@ -4,9 +4,8 @@ use Rattle.rx_time.proofs.run.Run.remove.Goals as goal
 use Rattle.std.proofs.Common.{rules}
 
 pub returns-in-Some-clause-value : goal.returns-in-Some-clause-value
-returns-in-Some-clause-value g c =
-    rw (← c.self.view_is) (lookup_held c.self.inside.slots.items c.args.ticket c.in-Some.place c.take_at-taken.result
-    c.self.invariant.in_order c.in-Some.ensures.found c.in-Some.ensures.has_ticket c.take_at-taken.ensures.value)
+returns-in-Some-clause-value g c = rw (← c.self.view_is) (lookup_held _ _ _ _ c.self.invariant.in_order c.in-Some.ensures.found
+    c.in-Some.ensures.has_ticket c.take_at-taken.ensures.value)
 
 pub returns-in-Some-clause-others : goal.returns-in-Some-clause-others
 returns-in-Some-clause-others g c =

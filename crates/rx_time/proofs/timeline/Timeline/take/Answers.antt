@@ -5,9 +5,8 @@ use Rattle.rx_time.proofs.TwoLists.{fewer_taken, kept_taken, once_taken}
 use Rattle.rx_time.proofs.timeline.Timeline.take.Goals as goal
 
 pub invariant_of-self : goal.invariant_of-self
-invariant_of-self g c =
-    let s = schedule c.self.inside.clock c.self.inside.tickets (c.self.inside.in_order ++ c.self.inside.others) in
-    rw c.take_from.ensures.others (IsSound-without s c.args.number c.self.invariant)
+invariant_of-self g c = let s = schedule _ _ (c.self.inside.in_order ++ c.self.inside.others) in rw c.take_from.ensures.others (IsSound-without s _
+    c.self.invariant)
 
 pub returns-clause-value : goal.returns-clause-value
 returns-clause-value g c = rw (← c.self.view_is) c.take_from.ensures.value
@@ -24,7 +23,5 @@ returns-clause-fewer g c =
     search (rules, fewer_taken)
 
 pub returns-clause-kept : goal.returns-clause-kept
-returns-clause-kept g c =
-    rw (← c.self.view_is, c.take_from.ensures.others)
-    (kept_taken (schedule c.self.inside.clock c.self.inside.tickets) c.args.number (c.self.inside.in_order ++ c.self.inside.others)
-    c.take_from.result c.take_from.ensures.value)
+returns-clause-kept g c = rw (← c.self.view_is, c.take_from.ensures.others) (kept_taken (schedule _ _) _ (c.self.inside.in_order ++
+    c.self.inside.others) _ c.take_from.ensures.value)
