@@ -1,5 +1,5 @@
 pub mod OutcomeIsAnswer
-pub mod StockGrowsInOrder
+pub mod StockIsFresh
 mod HeldToTheEnd
 pub mod NoOutput
 mod WhatWaits

@@ -39,8 +39,8 @@
 //! - Each answer of an audit or a run is one line of `Answers` (`specs/`): the text is the verdict on the
 //!   history of which the input is a dump, or what `rx_script` says of a scenario, and a status comes only for
 //!   its cause.
-//! - Which resources of the stock answer their release with a fault is proved of the stock; that a report
-//!   counts them is tested.
+//! - The stock is the program's, of `rx_script`, which proves what resources of it answer their release with a
+//!   fault; that a report counts them is tested.
 //! - Each call on a live book is one line of `Calls` (`specs/`): what the handle keeps before and after it, as
 //!   `rx_live` promises of its book, and the answer, where it stands or waits.
 //! - Of all calls on one handle, from a new book to its end: the texts that were handed out are the answers to
@@ -67,7 +67,6 @@ mod live;
 mod loose;
 mod running;
 mod status;
-mod stock;
 #[cfg(test)]
 mod tests;
 

@@ -1,16 +1,26 @@
 //! The run of a scenario.
 
-ghost use Rattle.std.specs.Prelude.{◌≡◌, [], IfOk, IsErrOf};
+ghost use Rattle.std.specs.Prelude.{◌≡◌, [], IfOk, IsErrOf, map};
 ghost use Rattle.rx_device.specs.declared.fault.ScriptError.{ScriptError};
 ghost use Rattle.rx_script.specs.declared.Form.{Form};
+ghost use Rattle.rx_script.specs.Stage.{ware_of};
 ghost use Rattle.rx_c.specs.Answers.{Answers};
-ghost use Rattle.rx_c.specs.Ran.{TellsRun, HasNoOutput, IsUnwritten};
+ghost use Rattle.rx_c.specs.Ran.{TellsRun, HasNoOutput, IsUnwritten, stock};
 
 use crate::handing::hand_out;
-use crate::stock::stock;
 use rx_device::{ScriptError, Watched};
-use rx_script::{Form, run};
-use std::alloc::Global;
+use rx_resource::Resource;
+use rx_script::{Form, Stocked, run, stock};
+use std::alloc::{AllocError, Global};
+
+// The stock of the program, as a book takes it.
+#[tactic(auto, using(crate::proofs::StockIsFresh::wares))]
+fn fresh_stock(alloc: Global) -> Result<Vec<Stocked>, AllocError>
+    ensures { IfOk result (λ v. map (ware_of ⟦<Stocked as Resource>⟧) v.items ≡ stock) }
+{
+    let made = stock(alloc)?;
+    Ok(made)
+}
 
 // Runs a scenario, writes what the form says, and answers the status of a run that is done.
 fn carry_out(
@@ -24,7 +34,7 @@ fn carry_out(
     ensures syntax { IsErrOf result ScriptError.Syntax → HasNoOutput form scenario.now }
     ensures shape { IsErrOf result ScriptError.Shape → IsUnwritten form scenario.now }
 {
-    let Ok(stock) = stock(alloc) else {
+    let Ok(stock) = fresh_stock(alloc) else {
         return Err(ScriptError::Memory);
     };
     let mut left = scenario;
