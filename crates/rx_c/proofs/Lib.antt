@@ -1,3 +1,4 @@
+pub mod Common
 pub mod OutcomeIsAnswer
 pub mod StockIsFresh
 mod HeldToTheEnd

@@ -4,34 +4,31 @@
 --     handle_out, handle_in    a `Handle` by value is [what it owns]
 --     book_out, book_in        a `BookHandle` by value is [what it owns]
 --     either                   what a handle owns: nothing at null, or a block whose pointer may be compared with null
-use Rattle.std.proofs.Common.{◌≡◌, ℕ, List, [], ◌∷◌, ◌++◌, Option, None, Some, refl, subst, lit<}
+use Rattle.rx_c.proofs.Common.{◌≡◌, List, [], ◌∷◌, ◌++◌, Option, None, Some, refl, subst, lit<, dnil, Val, vptr, vstruct, vcons, vnil, of_list, fsep, ent}
+use Rattle.rx_c.proofs.Common.{never, fst∗, sem, ‵, ◌$◌, move, drop, use1, fsplit, fjoin, fpick, fpack, feq_i, feq_l, RattleType, RawPtr, Ptr, block_ptr}
+use Rattle.rx_c.proofs.Common.{null_ptr, ptr_val, in_a_block, nothing, layout, handle_tells, Good, box_owns, and_tt}
+use Rattle.std.proofs.Common.{ℕ}
 use mathlib.Core.Bool.{true, ◌&&◌}
 use lib.Dec.{T}
 use seplogic.Ra.Ura.{Ura}
-use mir.Syntax.{Sym, Lifetime, impl, tnil, dnil, ty_ptr}
+use mir.Syntax.{Sym, Lifetime, impl, tnil, ty_ptr}
 use mir.Raw.{raw as bare}
-use mir.Val.{Val, vptr, vstruct, vcons, vnil, of_list, has_ty, WT}
-use base.Fml.{Fml, fsep}
+use mir.Val.{has_ty, WT}
+use base.Fml.{Fml}
 use base.Fraction.{full_share}
-use base.Logic.{ent, guard, guard_i, via, never, fst∗, snd∗}
+use base.Logic.{guard, guard_i, via, snd∗}
 use contract.Monad.{fact_use}
-use types.Logic.{Logic, sem}
-use types.Kit.{Item, Goal, Seq, Step, step, ‵, given, ◌$◌, move, drop, use1, learn, fsplit, fjoin, fpick, fpack}
-use types.Kit.{feq_i, feq_l}
-use denote.RattleType.{RattleType, Valss}
-use denote.Builtin.{RawPtr}
+use types.Logic.{Logic}
+use types.Kit.{Item, Goal, Seq, Step, step, given, learn}
+use denote.RattleType.{Valss}
 use denote.Memory.{lone}
-use denote.RawPtr.{Ptr, block_ptr, null_ptr, ptr_val, lies_at, in_a_block, Testable}
-use denote.Steps.{nothing}
-use denote.Param.{layout}
+use denote.RawPtr.{lies_at, Testable}
 use denote.Param.Laws.{Laws}
 use denote.Struct.Struct.{Shape, Struct, within}
 use denote.Struct.Owning.{shape}
 use Rattle.std.specs.declared.alloc.Allocator.{Ghosts}
-use Rattle.std.proofs.alloc.Calls.{Al, handle_tells}
-use Rattle.std.proofs.cell.Inside.{Good, one}
-use Rattle.std.specs.Box.Ownership.{box_owns}
-use Rattle.std.proofs.ResultValues.{and_tt}
+use Rattle.std.proofs.alloc.Calls.{Al}
+use Rattle.std.proofs.cell.Inside.{one}
 use Rattle.std.specs.declared.alloc.Global.{Global}
 use Rattle.std.proofs.GlobalToken.{dealloc_token-Testable}
 use Rattle.rx_c.specs.Ownership.{heap_token, handle_owns}

@@ -1,21 +1,7 @@
 -- `empty` holds null, which owns nothing.
-use Rattle.std.proofs.Common.{◌≡◌, [], ◌∷◌, Option, None, refl}
-use mir.Val.{Val, vnull}
-use base.Logic.{SProp, emp}
-use base.Fml.{ftrue}
-use types.Kit.{‵, raw, ◌⊛◌, ◌$◌, ◌∵◌, !, qed, by, keep, split, fpack, use0}
-use types.Run.{lit, no_more, and_then, returns, enter}
-use types.ByLocal.{alloc_all, pass_all, free_all, look_at, sets}
-use types.Part.{agg}
-use contract.Monad.{fact, fact_i}
-use contract.Running.{tables}
-use denote.RattleType.{owns}
-use denote.RawPtr.{null_ptr}
-use denote.Signature.{types_at}
-use denote.Steps.{nothing}
-use denote.Triple.Entry.{alive}
-use denote.Triple.Walked.{walk_of}
-use Rattle.std.proofs.raw_atomic.Walks.{proved_at, leaves}
+use Rattle.rx_c.proofs.Common.{◌≡◌, [], ◌∷◌, Option, None, refl, Val, vnull, SProp, emp, ftrue, ‵, raw, ◌⊛◌, ◌$◌, ◌∵◌, !, qed, by, keep, split, fpack, use0}
+use Rattle.rx_c.proofs.Common.{lit, no_more, and_then, returns, enter, alloc_all, pass_all, free_all, look_at, sets, agg, fact, fact_i, tables, owns}
+use Rattle.rx_c.proofs.Common.{null_ptr, types_at, nothing, alive, walk_of, proved_at, leaves}
 use Rattle.rx_c.proofs.Values.{alone, alone_good, book_in}
 use Rattle.rx_typed.specs.contracts.typed.Typed as kept
 use Rattle.rx_c.specs.contracts.book.handle.BookHandle.empty.{ended, clauses}

@@ -1,33 +1,13 @@
 -- `into_loose` tests the pointer: null owns nothing, and else the block goes on to the `Loose`. Two cases, by what
 -- the handle owns (`either`). Each runs the code to its end, and leaves by tokens, parameters, answer and promise.
-use Rattle.std.proofs.Common.{◌≡◌, List, [], ◌∷◌, ◌++◌, None, Some, refl, sym, ap, ◌∙◌, subst, lit<}
-use mir.Val.{Val, vptr, vnull, vcons, vnil}
-use base.Logic.{SProp, ent, emp, id⊢}
-use prog.Wp.{WpFn}
-use types.Kit.{‵, raw, ◌⊛◌, at_ret, ◌$◌, ◌∵◌, !, qed, by, move, keep, split, fsplit3, fjoin, suffices, use0, use1}
-use types.Run.{stop, fld, lit, of_opd, bin, no_more, and_then, first, branches, exec, returns, enter}
-use types.ByLocal.{alloc_all, pass_all, free_all, look_at, get, get_in, sets, sets_last, env}
-use types.Part.{agg, sub, whole}
-use types.Match.{live}
-use contract.Monad.{fact, fact_i}
-use contract.Running.{tables}
-use denote.Exit.{yes}
-use denote.Param.{layout}
-use denote.RattleType.{RattleType, owns}
-use denote.RawPtr.{Ptr, block_ptr, null_ptr, ptr_val, tests_null}
-use denote.Signature.{types_at, type_at, plain}
-use denote.Steps.{nothing}
-use denote.Triple.Entry.{alive}
-use denote.Triple.Walked.{Stays, stay_dropped, walk_of, Goes-dropped}
-use Rattle.std.proofs.alloc.Calls.{handle_tells}
-use Rattle.std.proofs.alloc.Shapes.{after}
-use Rattle.std.proofs.cell.Inside.{Good}
-use Rattle.std.proofs.option.Made.{Some-of, none_of}
-use Rattle.std.proofs.raw_atomic.Walks.{proved_at, leaves}
-use Rattle.std.proofs.ResultValues.{and_tt}
+use Rattle.rx_c.proofs.Common.{◌≡◌, List, [], ◌∷◌, ◌++◌, None, Some, refl, sym, ap, ◌∙◌, subst, lit<, Val, vptr, vnull, vcons, vnil, SProp, ent, emp, id⊢}
+use Rattle.rx_c.proofs.Common.{WpFn, ‵, raw, ◌⊛◌, at_ret, ◌$◌, ◌∵◌, !, qed, by, move, keep, split, fsplit3, fjoin, suffices, use0, use1, stop, fld, lit}
+use Rattle.rx_c.proofs.Common.{of_opd, bin, no_more, and_then, first, branches, exec, returns, enter, alloc_all, pass_all, free_all, look_at, get, get_in}
+use Rattle.rx_c.proofs.Common.{sets, sets_last, env, agg, sub, whole, live, fact, fact_i, tables, yes, layout, RattleType, owns, Ptr, block_ptr, null_ptr}
+use Rattle.rx_c.proofs.Common.{ptr_val, tests_null, types_at, type_at, plain, nothing, alive, Stays, stay_dropped, walk_of, Goes-dropped, handle_tells, after}
+use Rattle.rx_c.proofs.Common.{Good, Some-of, none_of, proved_at, leaves, and_tt, ghosts}
 use Rattle.std.specs.contracts.alloc.Global as heap
 use Rattle.std.proofs.alloc.Global.TheLaws as heap_laws
-use Rattle.std.specs.contracts.impls.GlobalAllocator.TheImpl.{ghosts}
 use Rattle.rx_c.proofs.Values.{both, alone, alone_good, al, Loose, loose_good, loose_in, Book, book_out, either}
 use Rattle.rx_typed.specs.contracts.typed.Typed as kept
 use Rattle.rx_c.specs.contracts.book.handle.BookHandle.into_loose.{ended, clauses}
