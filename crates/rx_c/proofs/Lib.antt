@@ -8,3 +8,4 @@ mod AnswersHandedOut
 pub mod Values
 pub mod OwnedMayBeSent
 mod ExportsMakeCourses
+pub mod CallOnBook

@@ -3,8 +3,8 @@
 ghost use Rattle.std.specs.Prelude.{◌≡◌};
 ghost use Rattle.rx_typed.specs.Calls.{IsCalled, IsAsked, IsAskedHeld, IsOwed, IsCounted, no_counts, book_of};
 
-use super::handle::BookHandle;
-use rx_typed::{NOTHING_KEPT, RxCounts, RxNode, RxRes};
+use super::{BookHandle, on_book};
+use rx_typed::{RxCounts, RxNode, RxRes};
 use std::alloc::Global;
 
 /// Whether the key is an open node's: 1 where it is, else 0.
@@ -18,13 +18,7 @@ pub extern "C" fn rx_book_is_open(
     ensures { IsCalled (IsAsked node is_open.new) (is_open.new ≡ 0)
         (book_of handle.old.kept) (book_of handle.new.kept) result }
 {
-    let Some(mut kept) = handle.take(alloc) else {
-        *is_open = 0;
-        return NOTHING_KEPT;
-    };
-    let status = kept.ask(node, is_open);
-    handle.put(kept, alloc);
-    status
+    on_book!(alloc, handle: ask(node, is_open) else *is_open = 0)
 }
 
 /// Whether the key is a held resource's: 1 where it is, else 0.
@@ -38,13 +32,7 @@ pub extern "C" fn rx_book_is_held(
     ensures { IsCalled (IsAskedHeld res is_held.new) (is_held.new ≡ 0)
         (book_of handle.old.kept) (book_of handle.new.kept) result }
 {
-    let Some(mut kept) = handle.take(alloc) else {
-        *is_held = 0;
-        return NOTHING_KEPT;
-    };
-    let status = kept.ask_held(res, is_held);
-    handle.put(kept, alloc);
-    status
+    on_book!(alloc, handle: ask_held(res, is_held) else *is_held = 0)
 }
 
 /// How many items that were projected to an open FlatMap or Switch are owed an inner. The status is 2 where the
@@ -59,13 +47,7 @@ pub extern "C" fn rx_book_owed(
     ensures { IsCalled (IsOwed merging count.new) (count.new ≡ 0)
         (book_of handle.old.kept) (book_of handle.new.kept) result }
 {
-    let Some(mut kept) = handle.take(alloc) else {
-        *count = 0;
-        return NOTHING_KEPT;
-    };
-    let status = kept.owed(merging, count);
-    handle.put(kept, alloc);
-    status
+    on_book!(alloc, handle: owed(merging, count) else *count = 0)
 }
 
 /// What there is.
@@ -78,19 +60,13 @@ pub extern "C" fn rx_book_counts(
     ensures { IsCalled (IsCounted counts.new) (counts.new ≡ no_counts)
         (book_of handle.old.kept) (book_of handle.new.kept) result }
 {
-    let Some(mut kept) = handle.take(alloc) else {
-        *counts = RxCounts {
-            nodes: 0,
-            held: 0,
-            waiting: 0,
-            leases: 0,
-            accepted: 0,
-            taken: 0,
-            events: 0,
-        };
-        return NOTHING_KEPT;
-    };
-    let status = kept.count(counts);
-    handle.put(kept, alloc);
-    status
+    on_book!(alloc, handle: count(counts) else *counts = RxCounts {
+        nodes: 0,
+        held: 0,
+        waiting: 0,
+        leases: 0,
+        accepted: 0,
+        taken: 0,
+        events: 0,
+    })
 }

@@ -5,7 +5,7 @@ ghost use Rattle.rx_typed.specs.Drained.{IsDrainedCall, no_drained};
 ghost use Rattle.rx_typed.specs.Calls.{IsCalled, IsMailTaken, IsTaken, book_of};
 ghost use Rattle.rx_typed.specs.Codes.{no_mail, no_taken};
 
-use super::handle::BookHandle;
+use super::{BookHandle, on_book};
 use rx_book::Resource;
 use rx_typed::{DONE, NOTHING_KEPT, RxDrained, RxMail, RxTaken, Token, drain, no_mail, no_taken};
 use std::alloc::Global;
@@ -16,13 +16,7 @@ pub extern "C" fn rx_book_take_mail(alloc: Global, handle: &mut BookHandle, mail
     ensures { IsCalled (IsMailTaken mail.new) (mail.new ≡ no_mail)
         (book_of handle.old.kept) (book_of handle.new.kept) result }
 {
-    let Some(mut kept) = handle.take(alloc) else {
-        *mail = no_mail();
-        return NOTHING_KEPT;
-    };
-    let status = kept.take_mail(mail);
-    handle.put(kept, alloc);
-    status
+    on_book!(alloc, handle: take_mail(mail) else *mail = no_mail())
 }
 
 /// A resource that waits, which the caller is to release now.
@@ -31,13 +25,7 @@ pub extern "C" fn rx_book_take(alloc: Global, handle: &mut BookHandle, taken: &m
     ensures { IsCalled (IsTaken ⟦<Token as Resource>⟧ taken.new) (taken.new ≡ no_taken)
         (book_of handle.old.kept) (book_of handle.new.kept) result }
 {
-    let Some(mut kept) = handle.take(alloc) else {
-        *taken = no_taken();
-        return NOTHING_KEPT;
-    };
-    let status = kept.take(taken);
-    handle.put(kept, alloc);
-    status
+    on_book!(alloc, handle: take(taken) else *taken = no_taken())
 }
 
 /// Hands out the notes and the resources that wait, to the front of the arrays, as many as fit: where fewer were

@@ -6,7 +6,7 @@ ghost use Rattle.rx_typed.specs.Events.{IsEventTold, no_event};
 ghost use Rattle.rx_c.specs.Answers.{IsSilent};
 ghost use Rattle.rx_c.specs.Dumped.{IsDumped, IsHandedOver};
 
-use super::handle::BookHandle;
+use super::{BookHandle, on_book};
 use crate::handing::fits;
 use rx_typed::{CUT, DONE, NO_MEMORY, NOTHING_KEPT, RxEvent, SMALL, Typed, no_event};
 use std::alloc::Global;
@@ -22,13 +22,7 @@ pub extern "C" fn rx_book_event(
     ensures { IsCalled (IsEventTold place event.new) (event.new ≡ no_event)
         (book_of handle.old.kept) (book_of handle.new.kept) result }
 {
-    let Some(mut kept) = handle.take(alloc) else {
-        *event = no_event();
-        return NOTHING_KEPT;
-    };
-    let status = kept.event(place, event);
-    handle.put(kept, alloc);
-    status
+    on_book!(alloc, handle: event(place, event) else *event = no_event())
 }
 
 // Writes the dump to the front of the buffer.

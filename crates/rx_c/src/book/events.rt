@@ -5,8 +5,8 @@ ghost use Rattle.rx_typed.specs.Calls.{IsCalled, IsDecoded, IsNext, IsNextAll, I
 ghost use Rattle.rx_typed.specs.Calls.{IsAbort, IsFail, IsDecline, IsDispose, book_of};
 ghost use Rattle.rx_typed.specs.Codes.{terminal_of};
 
-use super::handle::BookHandle;
-use rx_typed::{NO_SUCH_CODE, NOTHING_KEPT, RxNode, terminal_of};
+use super::{BookHandle, on_book};
+use rx_typed::{RxNode, terminal_of};
 use std::alloc::Global;
 
 /// A leaf emits an item.
@@ -21,13 +21,7 @@ pub extern "C" fn rx_book_next(
     ensures { IsCalled (IsNext leaf value place.new) (place.new ≡ 0)
         (book_of handle.old.kept) (book_of handle.new.kept) result }
 {
-    let Some(mut kept) = handle.take(alloc) else {
-        *place = 0;
-        return NOTHING_KEPT;
-    };
-    let status = kept.next(leaf, value, place);
-    handle.put(kept, alloc);
-    status
+    on_book!(alloc, handle: next(leaf, value, place) else *place = 0)
 }
 
 /// A leaf emits several items, one after another, up to the first that is refused; `count` gets how many were
@@ -43,13 +37,7 @@ pub extern "C" fn rx_book_next_all(
     ensures { IsCalled (IsNextAll leaf values.now count.new) (count.new ≡ 0)
         (book_of handle.old.kept) (book_of handle.new.kept) result }
 {
-    let Some(mut kept) = handle.take(alloc) else {
-        *count = 0;
-        return NOTHING_KEPT;
-    };
-    let status = kept.next_all(leaf, values, count);
-    handle.put(kept, alloc);
-    status
+    on_book!(alloc, handle: next_all(leaf, values, count) else *count = 0)
 }
 
 /// A node that is no leaf ends with an error.
@@ -64,13 +52,7 @@ pub extern "C" fn rx_book_abort(
     ensures { IsCalled (IsAbort node error place.new) (place.new ≡ 0)
         (book_of handle.old.kept) (book_of handle.new.kept) result }
 {
-    let Some(mut kept) = handle.take(alloc) else {
-        *place = 0;
-        return NOTHING_KEPT;
-    };
-    let status = kept.abort(node, error, place);
-    handle.put(kept, alloc);
-    status
+    on_book!(alloc, handle: abort(node, error, place) else *place = 0)
 }
 
 /// A FlatMap or a Switch ends with an error, in the place of an inner that it is owed.
@@ -85,13 +67,7 @@ pub extern "C" fn rx_book_fail(
     ensures { IsCalled (IsFail merging error place.new) (place.new ≡ 0)
         (book_of handle.old.kept) (book_of handle.new.kept) result }
 {
-    let Some(mut kept) = handle.take(alloc) else {
-        *place = 0;
-        return NOTHING_KEPT;
-    };
-    let status = kept.fail(merging, error, place);
-    handle.put(kept, alloc);
-    status
+    on_book!(alloc, handle: fail(merging, error, place) else *place = 0)
 }
 
 /// An item that was projected to a FlatMap or a Switch gets no inner.
@@ -105,13 +81,7 @@ pub extern "C" fn rx_book_decline(
     ensures { IsCalled (IsDecline merging place.new) (place.new ≡ 0)
         (book_of handle.old.kept) (book_of handle.new.kept) result }
 {
-    let Some(mut kept) = handle.take(alloc) else {
-        *place = 0;
-        return NOTHING_KEPT;
-    };
-    let status = kept.decline(merging, place);
-    handle.put(kept, alloc);
-    status
+    on_book!(alloc, handle: decline(merging, place) else *place = 0)
 }
 
 /// A root is unsubscribed.
@@ -125,13 +95,7 @@ pub extern "C" fn rx_book_dispose(
     ensures { IsCalled (IsDispose root place.new) (place.new ≡ 0)
         (book_of handle.old.kept) (book_of handle.new.kept) result }
 {
-    let Some(mut kept) = handle.take(alloc) else {
-        *place = 0;
-        return NOTHING_KEPT;
-    };
-    let status = kept.dispose(root, place);
-    handle.put(kept, alloc);
-    status
+    on_book!(alloc, handle: dispose(root, place) else *place = 0)
 }
 
 /// A leaf ends: completed where `how` is 0, by the error of that code where it is 1.
@@ -149,15 +113,5 @@ pub extern "C" fn rx_book_end(
         (book_of handle.new.kept))
         ((book_of handle.new.kept ≡ book_of handle.old.kept) × (place.new ≡ 0)) result }
 {
-    let Some(terminal) = terminal_of(how, error) else {
-        *place = 0;
-        return NO_SUCH_CODE;
-    };
-    let Some(mut kept) = handle.take(alloc) else {
-        *place = 0;
-        return NOTHING_KEPT;
-    };
-    let status = kept.end(leaf, terminal, place);
-    handle.put(kept, alloc);
-    status
+    on_book!(alloc, handle: terminal = terminal_of(how, error); end(leaf, terminal, place) else *place = 0)
 }

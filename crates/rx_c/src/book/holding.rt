@@ -4,9 +4,9 @@ ghost use Rattle.std.specs.Prelude.{◌≡◌};
 ghost use Rattle.rx_typed.specs.Calls.{IsCalled, IsHold, IsApply, IsRemove, IsLease, IsGiveBack, book_of};
 ghost use Rattle.rx_typed.specs.Codes.{no_res, no_lease};
 
-use super::handle::BookHandle;
+use super::{BookHandle, on_book};
 use rx_book::Resource;
-use rx_typed::{NOTHING_KEPT, RxLease, RxNode, RxRes, Token, no_lease, no_res};
+use rx_typed::{RxLease, RxNode, RxRes, Token, no_lease, no_res};
 use std::alloc::Global;
 
 /// A node holds the resource of this tag.
@@ -21,13 +21,7 @@ pub extern "C" fn rx_book_hold(
     ensures { IsCalled (IsHold ⟦<Token as Resource>⟧ node tag held.new) (held.new ≡ no_res)
         (book_of handle.old.kept) (book_of handle.new.kept) result }
 {
-    let Some(mut kept) = handle.take(alloc) else {
-        *held = no_res();
-        return NOTHING_KEPT;
-    };
-    let status = kept.hold(node, tag, held);
-    handle.put(kept, alloc);
-    status
+    on_book!(alloc, handle: hold(node, tag, held) else *held = no_res())
 }
 
 /// Uses a resource on a word, and answers that word.
@@ -42,13 +36,7 @@ pub extern "C" fn rx_book_apply(
     ensures { IsCalled (IsApply res answer.new) (answer.new ≡ 0)
         (book_of handle.old.kept) (book_of handle.new.kept) result }
 {
-    let Some(mut kept) = handle.take(alloc) else {
-        *answer = 0;
-        return NOTHING_KEPT;
-    };
-    let status = kept.apply(res, word, answer);
-    handle.put(kept, alloc);
-    status
+    on_book!(alloc, handle: apply(res, word, answer) else *answer = 0)
 }
 
 /// Takes a resource away from its node.
@@ -62,13 +50,7 @@ pub extern "C" fn rx_book_remove(
     ensures { IsCalled (IsRemove res place.new) (place.new ≡ 0)
         (book_of handle.old.kept) (book_of handle.new.kept) result }
 {
-    let Some(mut kept) = handle.take(alloc) else {
-        *place = 0;
-        return NOTHING_KEPT;
-    };
-    let status = kept.remove(res, place);
-    handle.put(kept, alloc);
-    status
+    on_book!(alloc, handle: remove(res, place) else *place = 0)
 }
 
 /// Leases a resource.
@@ -82,13 +64,7 @@ pub extern "C" fn rx_book_lease(
     ensures { IsCalled (IsLease res lease.new) (lease.new ≡ no_lease)
         (book_of handle.old.kept) (book_of handle.new.kept) result }
 {
-    let Some(mut kept) = handle.take(alloc) else {
-        *lease = no_lease();
-        return NOTHING_KEPT;
-    };
-    let status = kept.lease(res, lease);
-    handle.put(kept, alloc);
-    status
+    on_book!(alloc, handle: lease(res, lease) else *lease = no_lease())
 }
 
 /// Gives a lease back.
@@ -102,11 +78,5 @@ pub extern "C" fn rx_book_give_back(
     ensures { IsCalled (IsGiveBack lease place.new) (place.new ≡ 0)
         (book_of handle.old.kept) (book_of handle.new.kept) result }
 {
-    let Some(mut kept) = handle.take(alloc) else {
-        *place = 0;
-        return NOTHING_KEPT;
-    };
-    let status = kept.give_back(lease, place);
-    handle.put(kept, alloc);
-    status
+    on_book!(alloc, handle: give_back(lease, place) else *place = 0)
 }

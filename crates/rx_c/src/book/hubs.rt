@@ -4,8 +4,8 @@ ghost use Rattle.std.specs.Prelude.{◌≡◌};
 ghost use Rattle.rx_typed.specs.Calls.{IsCalled, IsDecoded, IsHub, IsConnect, IsDisconnect, book_of};
 ghost use Rattle.rx_typed.specs.Codes.{mode_of, no_node};
 
-use super::handle::BookHandle;
-use rx_typed::{NO_SUCH_CODE, NOTHING_KEPT, RxNode, mode_of, no_node};
+use super::{BookHandle, on_book};
+use rx_typed::{RxNode, mode_of, no_node};
 use std::alloc::Global;
 
 /// Connects a hub by hand.
@@ -19,13 +19,7 @@ pub extern "C" fn rx_book_connect(
     ensures { IsCalled (IsConnect hub connection.new) (connection.new ≡ no_node)
         (book_of handle.old.kept) (book_of handle.new.kept) result }
 {
-    let Some(mut kept) = handle.take(alloc) else {
-        *connection = no_node();
-        return NOTHING_KEPT;
-    };
-    let status = kept.connect(hub, connection);
-    handle.put(kept, alloc);
-    status
+    on_book!(alloc, handle: connect(hub, connection) else *connection = no_node())
 }
 
 /// Disconnects a hub by hand.
@@ -39,13 +33,7 @@ pub extern "C" fn rx_book_disconnect(
     ensures { IsCalled (IsDisconnect hub place.new) (place.new ≡ 0)
         (book_of handle.old.kept) (book_of handle.new.kept) result }
 {
-    let Some(mut kept) = handle.take(alloc) else {
-        *place = 0;
-        return NOTHING_KEPT;
-    };
-    let status = kept.disconnect(hub, place);
-    handle.put(kept, alloc);
-    status
+    on_book!(alloc, handle: disconnect(hub, place) else *place = 0)
 }
 
 /// Makes a hub: its subscribers connect it where `mode` is 0, a caller does where it is 1. Its number is told.
@@ -55,15 +43,5 @@ pub extern "C" fn rx_book_hub(alloc: Global, handle: &mut BookHandle, mode: u8, 
         (λ m. IsCalled (IsHub m hub.new) (hub.new ≡ 0) (book_of handle.old.kept) (book_of handle.new.kept))
         ((book_of handle.new.kept ≡ book_of handle.old.kept) × (hub.new ≡ 0)) result }
 {
-    let Some(mode) = mode_of(mode) else {
-        *hub = 0;
-        return NO_SUCH_CODE;
-    };
-    let Some(mut kept) = handle.take(alloc) else {
-        *hub = 0;
-        return NOTHING_KEPT;
-    };
-    let status = kept.hub(mode, hub);
-    handle.put(kept, alloc);
-    status
+    on_book!(alloc, handle: mode = mode_of(mode); hub(mode, hub) else *hub = 0)
 }

@@ -3,7 +3,7 @@
 ghost use Rattle.std.specs.Prelude.{◌≡◌, None};
 ghost use Rattle.rx_typed.specs.Calls.{IsMade, IsFinished, IsCalled, IsCheckpoint, IsClosed, book_of};
 
-use super::handle::BookHandle;
+use super::{BookHandle, on_book};
 use rx_typed::{DONE, HELD, NO_MEMORY, NOTHING_KEPT, Typed, UNTAKEN};
 use std::alloc::Global;
 
@@ -31,13 +31,7 @@ pub extern "C" fn rx_book_checkpoint(alloc: Global, handle: &mut BookHandle, pla
     ensures { IsCalled (IsCheckpoint place.new) (place.new ≡ 0)
         (book_of handle.old.kept) (book_of handle.new.kept) result }
 {
-    let Some(mut kept) = handle.take(alloc) else {
-        *place = 0;
-        return NOTHING_KEPT;
-    };
-    let status = kept.checkpoint(place);
-    handle.put(kept, alloc);
-    status
+    on_book!(alloc, handle: checkpoint(place) else *place = 0)
 }
 
 /// Closes all: nothing is open, held or leased afterwards, and each resource waits to be taken. It cannot
@@ -46,12 +40,7 @@ pub extern "C" fn rx_book_checkpoint(alloc: Global, handle: &mut BookHandle, pla
 pub extern "C" fn rx_book_close(alloc: Global, handle: &mut BookHandle) -> u8
     ensures { IsCalled IsClosed Unit (book_of handle.old.kept) (book_of handle.new.kept) result }
 {
-    let Some(mut kept) = handle.take(alloc) else {
-        return NOTHING_KEPT;
-    };
-    let status = kept.close();
-    handle.put(kept, alloc);
-    status
+    on_book!(alloc, handle: close() else ())
 }
 
 /// Ends the book and gives back its memory, if each resource that it accepted was taken. Else nothing is done,

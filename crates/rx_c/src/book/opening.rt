@@ -4,12 +4,9 @@ ghost use Rattle.std.specs.Prelude.{◌≡◌};
 ghost use Rattle.rx_typed.specs.Calls.{IsCalled, IsDecoded, IsOpen, IsUsing, book_of};
 ghost use Rattle.rx_typed.specs.Codes.{asked_of, place_at, no_opened, no_used};
 
-use super::handle::BookHandle;
+use super::{BookHandle, on_book};
 use rx_book::Resource;
-use rx_typed::{
-    NO_SUCH_CODE, NOTHING_KEPT, RxNode, RxOpened, RxUsing, Token, asked, no_opened, no_used,
-    place_at,
-};
+use rx_typed::{RxNode, RxOpened, RxUsing, Token, asked, no_opened, no_used, place_at};
 use std::alloc::Global;
 
 /// Opens a node: `place` is 0 at the root, 1 the source, 2 an inner, 3 the notifier of the node `above`;
@@ -29,17 +26,8 @@ pub extern "C" fn rx_book_open(
         (book_of handle.old.kept) (book_of handle.new.kept))
         ((book_of handle.new.kept ≡ book_of handle.old.kept) × (opened.new ≡ no_opened)) result }
 {
-    let Some((at, kind)) = asked(place, above, kind, hub) else {
-        *opened = no_opened();
-        return NO_SUCH_CODE;
-    };
-    let Some(mut kept) = handle.take(alloc) else {
-        *opened = no_opened();
-        return NOTHING_KEPT;
-    };
-    let status = kept.open(at, kind, opened);
-    handle.put(kept, alloc);
-    status
+    on_book!(alloc, handle: (at, kind) = asked(place, above, kind, hub);
+        open(at, kind, opened) else *opened = no_opened())
 }
 
 /// Opens a mirroring node that holds the resource of this tag.
@@ -57,15 +45,6 @@ pub extern "C" fn rx_book_using(
         (book_of handle.old.kept) (book_of handle.new.kept))
         ((book_of handle.new.kept ≡ book_of handle.old.kept) × (used.new ≡ no_used)) result }
 {
-    let Some(at) = place_at(place, above) else {
-        *used = no_used();
-        return NO_SUCH_CODE;
-    };
-    let Some(mut kept) = handle.take(alloc) else {
-        *used = no_used();
-        return NOTHING_KEPT;
-    };
-    let status = kept.using(at, tag, used);
-    handle.put(kept, alloc);
-    status
+    on_book!(alloc, handle: at = place_at(place, above);
+        using(at, tag, used) else *used = no_used())
 }

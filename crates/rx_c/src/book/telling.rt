@@ -7,11 +7,11 @@ ghost use Rattle.rx_typed.specs.Calls.{IsFail, IsDecline, IsDisconnect, IsRemove
 ghost use Rattle.rx_typed.specs.Calls.{IsOpen, IsUsing, IsDecoded, book_of};
 ghost use Rattle.rx_typed.specs.Codes.{asked_of, place_at, terminal_of, no_opened, no_used};
 
-use super::handle::BookHandle;
+use super::{BookHandle, on_book};
 use rx_book::Resource;
 use rx_typed::{
-    NO_SUCH_CODE, NOTHING_KEPT, RxLease, RxNode, RxOpened, RxRes, RxTold, RxUsing, Token, asked,
-    no_opened, no_used, place_at, terminal_of,
+    RxLease, RxNode, RxOpened, RxRes, RxTold, RxUsing, Token, asked, no_opened, no_used, place_at,
+    terminal_of,
 };
 use std::alloc::Global;
 
@@ -27,13 +27,7 @@ pub extern "C" fn rx_book_next_told(
     ensures { IsCalled (IsThenTold ⟦<Token as Resource>⟧ (IsNext leaf value told.new.place) told.old told.new)
         (told.new ≡ no_told told.old) (book_of handle.old.kept) (book_of handle.new.kept) result }
 {
-    let Some(mut kept) = handle.take(alloc) else {
-        told.clear();
-        return NOTHING_KEPT;
-    };
-    let status = kept.next_told(leaf, value, told);
-    handle.put(kept, alloc);
-    status
+    on_book!(alloc, handle: next_told(leaf, value, told) else told.clear())
 }
 
 /// A leaf ends, and what waits is told.
@@ -51,17 +45,8 @@ pub extern "C" fn rx_book_end_told(
         told.old told.new) (told.new ≡ no_told told.old) (book_of handle.old.kept) (book_of handle.new.kept))
         ((book_of handle.new.kept ≡ book_of handle.old.kept) × (told.new ≡ no_told told.old)) result }
 {
-    let Some(terminal) = terminal_of(how, error) else {
-        told.clear();
-        return NO_SUCH_CODE;
-    };
-    let Some(mut kept) = handle.take(alloc) else {
-        told.clear();
-        return NOTHING_KEPT;
-    };
-    let status = kept.end_told(leaf, terminal, told);
-    handle.put(kept, alloc);
-    status
+    on_book!(alloc, handle: terminal = terminal_of(how, error);
+        end_told(leaf, terminal, told) else told.clear())
 }
 
 /// A root is unsubscribed, and what waits is told.
@@ -75,13 +60,7 @@ pub extern "C" fn rx_book_dispose_told(
     ensures { IsCalled (IsThenTold ⟦<Token as Resource>⟧ (IsDispose root told.new.place) told.old told.new)
         (told.new ≡ no_told told.old) (book_of handle.old.kept) (book_of handle.new.kept) result }
 {
-    let Some(mut kept) = handle.take(alloc) else {
-        told.clear();
-        return NOTHING_KEPT;
-    };
-    let status = kept.dispose_told(root, told);
-    handle.put(kept, alloc);
-    status
+    on_book!(alloc, handle: dispose_told(root, told) else told.clear())
 }
 
 /// A node that is no leaf ends with an error, and what waits is told.
@@ -96,13 +75,7 @@ pub extern "C" fn rx_book_abort_told(
     ensures { IsCalled (IsThenTold ⟦<Token as Resource>⟧ (IsAbort node error told.new.place)
         told.old told.new) (told.new ≡ no_told told.old) (book_of handle.old.kept) (book_of handle.new.kept) result }
 {
-    let Some(mut kept) = handle.take(alloc) else {
-        told.clear();
-        return NOTHING_KEPT;
-    };
-    let status = kept.abort_told(node, error, told);
-    handle.put(kept, alloc);
-    status
+    on_book!(alloc, handle: abort_told(node, error, told) else told.clear())
 }
 
 /// A FlatMap or a Switch ends with an error, and what waits is told.
@@ -117,13 +90,7 @@ pub extern "C" fn rx_book_fail_told(
     ensures { IsCalled (IsThenTold ⟦<Token as Resource>⟧ (IsFail merging error told.new.place)
         told.old told.new) (told.new ≡ no_told told.old) (book_of handle.old.kept) (book_of handle.new.kept) result }
 {
-    let Some(mut kept) = handle.take(alloc) else {
-        told.clear();
-        return NOTHING_KEPT;
-    };
-    let status = kept.fail_told(merging, error, told);
-    handle.put(kept, alloc);
-    status
+    on_book!(alloc, handle: fail_told(merging, error, told) else told.clear())
 }
 
 /// An item that was projected is declined, and what waits is told.
@@ -137,13 +104,7 @@ pub extern "C" fn rx_book_decline_told(
     ensures { IsCalled (IsThenTold ⟦<Token as Resource>⟧ (IsDecline merging told.new.place) told.old told.new)
         (told.new ≡ no_told told.old) (book_of handle.old.kept) (book_of handle.new.kept) result }
 {
-    let Some(mut kept) = handle.take(alloc) else {
-        told.clear();
-        return NOTHING_KEPT;
-    };
-    let status = kept.decline_told(merging, told);
-    handle.put(kept, alloc);
-    status
+    on_book!(alloc, handle: decline_told(merging, told) else told.clear())
 }
 
 /// A hub is disconnected by hand, and what waits is told.
@@ -157,13 +118,7 @@ pub extern "C" fn rx_book_disconnect_told(
     ensures { IsCalled (IsThenTold ⟦<Token as Resource>⟧ (IsDisconnect hub told.new.place) told.old told.new)
         (told.new ≡ no_told told.old) (book_of handle.old.kept) (book_of handle.new.kept) result }
 {
-    let Some(mut kept) = handle.take(alloc) else {
-        told.clear();
-        return NOTHING_KEPT;
-    };
-    let status = kept.disconnect_told(hub, told);
-    handle.put(kept, alloc);
-    status
+    on_book!(alloc, handle: disconnect_told(hub, told) else told.clear())
 }
 
 /// A resource is taken away from its node, and what waits is told.
@@ -177,13 +132,7 @@ pub extern "C" fn rx_book_remove_told(
     ensures { IsCalled (IsThenTold ⟦<Token as Resource>⟧ (IsRemove res told.new.place) told.old told.new)
         (told.new ≡ no_told told.old) (book_of handle.old.kept) (book_of handle.new.kept) result }
 {
-    let Some(mut kept) = handle.take(alloc) else {
-        told.clear();
-        return NOTHING_KEPT;
-    };
-    let status = kept.remove_told(res, told);
-    handle.put(kept, alloc);
-    status
+    on_book!(alloc, handle: remove_told(res, told) else told.clear())
 }
 
 /// A lease is given back, and what waits is told.
@@ -197,13 +146,7 @@ pub extern "C" fn rx_book_give_back_told(
     ensures { IsCalled (IsThenTold ⟦<Token as Resource>⟧ (IsGiveBack lease told.new.place) told.old told.new)
         (told.new ≡ no_told told.old) (book_of handle.old.kept) (book_of handle.new.kept) result }
 {
-    let Some(mut kept) = handle.take(alloc) else {
-        told.clear();
-        return NOTHING_KEPT;
-    };
-    let status = kept.give_back_told(lease, told);
-    handle.put(kept, alloc);
-    status
+    on_book!(alloc, handle: give_back_told(lease, told) else told.clear())
 }
 
 /// Opens a node, and what waits is told.
@@ -224,19 +167,8 @@ pub extern "C" fn rx_book_open_told(
         ((book_of handle.new.kept ≡ book_of handle.old.kept) × (opened.new ≡ no_opened) ×
         (told.new ≡ no_told told.old)) result }
 {
-    let Some((at, kind)) = asked(place, above, kind, hub) else {
-        *opened = no_opened();
-        told.clear();
-        return NO_SUCH_CODE;
-    };
-    let Some(mut kept) = handle.take(alloc) else {
-        *opened = no_opened();
-        told.clear();
-        return NOTHING_KEPT;
-    };
-    let status = kept.open_told(at, kind, opened, told);
-    handle.put(kept, alloc);
-    status
+    on_book!(alloc, handle: (at, kind) = asked(place, above, kind, hub);
+        open_told(at, kind, opened, told) else { *opened = no_opened(); told.clear(); })
 }
 
 /// Opens a mirroring node that holds the resource of this tag, and what waits is told.
@@ -257,17 +189,6 @@ pub extern "C" fn rx_book_using_told(
         ((book_of handle.new.kept ≡ book_of handle.old.kept) × (used.new ≡ no_used) ×
         (told.new ≡ no_told told.old)) result }
 {
-    let Some(at) = place_at(place, above) else {
-        *used = no_used();
-        told.clear();
-        return NO_SUCH_CODE;
-    };
-    let Some(mut kept) = handle.take(alloc) else {
-        *used = no_used();
-        told.clear();
-        return NOTHING_KEPT;
-    };
-    let status = kept.using_told(at, tag, used, told);
-    handle.put(kept, alloc);
-    status
+    on_book!(alloc, handle: at = place_at(place, above);
+        using_told(at, tag, used, told) else { *used = no_used(); told.clear(); })
 }

@@ -1,6 +1,5 @@
-use Rattle.std.proofs.Common.{refl}
-use Rattle.rx_typed.specs.Calls.{calls}
+use Rattle.rx_c.proofs.CallOnBook.{called}
 use Rattle.rx_c.proofs.book.events.rx_book_decline.Goals as goal
 
 pub returns : goal.returns
-returns c = rw (c.in-Some.ensures.taken, c.put.ensures.kept, ← c.deref_mut.ensures.value) (calls refl refl c.put.ensures.promised c.decline-status.ensures)
+returns c = called c.in-Some.ensures.taken c.put.ensures.kept c.deref_mut.ensures.value c.put.ensures.promised c.decline-status.ensures

@@ -1,5 +1,6 @@
 use Rattle.std.proofs.Common.{◌∙◌, refl, sym, ap}
-use Rattle.rx_typed.specs.Calls.{calls, has_none, decodes, book_of}
+use Rattle.rx_typed.specs.Calls.{has_none, decodes, book_of}
+use Rattle.rx_c.proofs.CallOnBook.{called}
 use Rattle.rx_c.proofs.book.opening.rx_book_open.Goals as goal
 
 pub returns-in_default-take : goal.returns-in_default-take
@@ -9,5 +10,5 @@ returns-in_default-take c =
 
 pub returns : goal.returns
 returns c =
-    rw (c.in-Some-take.ensures.taken, c.put.ensures.kept, ← c.deref_mut.ensures.value)
-    (decodes (sym c.asked.ensures ∙ c.in-Some.is) (calls refl refl c.put.ensures.promised c.open-status.ensures))
+    decodes (sym c.asked.ensures ∙ c.in-Some.is)
+    (called c.in-Some-take.ensures.taken c.put.ensures.kept c.deref_mut.ensures.value c.put.ensures.promised c.open-status.ensures)
