@@ -1,11 +1,10 @@
 -- What a handle owns may go to another thread as what it keeps may.
-use Rattle.std.proofs.Common.{Option, None, Some}
+use Rattle.std.{proofs.Common.Option, proofs.Common.None, proofs.Common.Some, below.std_heap.proofs.GlobalAllocator.TheSendSync.the_frees}
 use base.Shift.{Keyless}
 use base.Fraction.{full_share}
 use denote.Param.Send.{IsSend, part_keyless}
 use denote.RattleType.{RattleType}
 use denote.RawPtr.{Ptr, block_ptr, null_ptr, lies_at}
-use Rattle.std.below.std_heap.proofs.GlobalAllocator.TheSendSync.{the_frees}
 use Rattle.rx_c.specs.Ownership.{handle_owns}
 
 lies : (R : RattleType) → IsSend R → (p : Ptr) (x : R.Denot) → Keyless (lies_at R full_share p x)
