@@ -1,5 +1,5 @@
 -- What stands first against a checkpoint.
-use Rattle.std.proofs.Common.{◌≡◌, ℕ, ◌-◌, ◌<◌, ◌≤◌, Some, None, List, length, refl, arith}
+use Rattle.std.proofs.Common.{◌≡◌, ℕ, ◌-◌, ◌<◌, ◌≤◌, Some, None, List, length, refl, arith, rules}
 use Rattle.std.proofs.lemmas.Bool.{lt-ltb, le-ltb}
 use Rattle.rx_event.specs.declared.event.Event.{Event}
 use Rattle.rx_event.specs.declared.refusal.Refusal.TheVariants.{MailLeft, TooMany}
@@ -14,8 +14,8 @@ left_over h told l some = rw (lt-ltb (length (notes h) - told) (length (notes h)
 
 pub too_many : (h : List Event) (told : ℕ) → told ≡ 0 → 9223372036854775807 < length h →
     first_cause (checkpoint_causes h (length (notes h) - told)) ≡ Some TooMany
-too_many h told none many = rw (le-ltb (length (notes h) - told) (length (notes h)) (omega arith), lt-ltb 9223372036854775807 (length h) many) refl
+too_many h told none many = search (rules, le-ltb, length, lt-ltb)
 
 pub nothing_stands : (h : List Event) (told : ℕ) → told ≡ 0 → length h ≤ 9223372036854775807 →
     first_cause (checkpoint_causes h (length (notes h) - told)) ≡ None
-nothing_stands h told none few = rw (le-ltb (length (notes h) - told) (length (notes h)) (omega arith), le-ltb 9223372036854775807 (length h) few) refl
+nothing_stands h told none few = search (rules, le-ltb, length)

@@ -1,6 +1,6 @@
 -- A register after one more event, and after a note that was handed out.
-use Rattle.std.proofs.Common.{◌≡◌, ℕ, zero, suc, ◌+◌, ◌-◌, ◌<◌, ◌≤◌, Bool, true, false, List, [], ◌∷◌, ◌++◌, length, take, drop, Option, Some}
-use Rattle.std.proofs.Common.{None, cond, refl, sym, ap, subst, ◌∙◌, arith, slice_get, length-append, length-drop, take-append-drop}
+use Rattle.std.proofs.Common.{◌≡◌, ℕ, zero, suc, ◌+◌, ◌-◌, ◌<◌, ◌≤◌, Bool, List, [], ◌∷◌, ◌++◌, length, take, drop, Option, Some}
+use Rattle.std.proofs.Common.{None, cond, refl, sym, ap, subst, ◌∙◌, arith, slice_get, length-append, length-drop, take-append-drop, rules}
 use Rattle.std.specs.Option.{option_to_list}
 use Rattle.std.specs.VecDeque.{deque_len, deque_capacity}
 use Rattle.std.specs.declared.collections.VecDeque.{VecDeque}
@@ -67,8 +67,7 @@ pub record IsWritten (a b : Inside) (e : Event) : Type 0 where
   pub all_told : b.told ≡ length a.mail.items
 
 at_most_one : (test : Bool) → cond {A = ℕ} test 1 0 ≤ 1
-at_most_one true = omega arith
-at_most_one false = omega arith
+at_most_one x0 = search rules
 
 pub written : (a b : Inside) (e : Event) → IsTied a → IsWritten a b e → IsTied b
 written a b e r w = record {
@@ -321,7 +320,7 @@ rebases a b room r w = record {
 -- what a caller asks for, of a register and of what it shows ------------------------------------------
 
 pub base_long : (a : Inside) (s : State) (base : Kept) → state_of a ≡ s → base ≡ base_of s.base s.history → base.at_length ≡ length a.history.events
-base_long a s base same is = ap (λ (b : Kept). b.at_length) is ∙ base_length s.base s.history ∙ ap (λ (t : State). length t.history) (sym same)
+base_long a s base same is = search (rules, base_length, length)
 
 pub placed_base : (a : Inside) (s : State) (base : Kept) → state_of a ≡ s → base ≡ base_of s.base s.history → length s.history ≤ 9223372036854775807 →
     base.at_length ≤ 9223372036854775807

@@ -1,5 +1,5 @@
 -- All calls: their events may follow, and add what was counted.
-use Rattle.std.proofs.Common.{ℕ, Bool, List, ◌++◌, map, subst, sym}
+use Rattle.std.proofs.Common.{ℕ, Bool, List, ◌++◌, map, subst, sym, rules}
 use Rattle.rx_event.specs.Kept.{Kept}
 use Rattle.rx_note.specs.declared.note.Terminal.TheVariants.{Error}
 use Rattle.rx_event.specs.declared.event.Kind.TheVariants.{Pass}
@@ -73,4 +73,4 @@ call_fits base h limit fresh (Taking r) m = taking_fits base h r m.lawful m.sett
 -- room for a call is room for what it forces
 pub called_paid : (s t : State) (limit : ℕ) (fresh : Bool) (call : Call) → MayCall s.base s.history limit fresh call → HasRoomFor s call →
     Writes s (outside_of s.history call) t → IsPaid t
-called_paid s t limit fresh call m has w = call_pays s t call (outside_of s.history call) has (call_fits s.base s.history limit fresh call m) w
+called_paid s t limit fresh call m has w = search (rules, call_pays, call_fits)

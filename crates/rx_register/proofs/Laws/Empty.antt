@@ -1,11 +1,11 @@
 -- A register with no events: nothing is left undone, and nothing has to be paid.
-use Rattle.std.proofs.Common.{◌≡◌, ℕ, true, [], refl, arith}
+use Rattle.std.proofs.Common.{◌≡◌, ℕ, true, [], refl, arith, rules}
 use Rattle.std.proofs.lemmas.Bool.{both_ways}
 use Rattle.rx_event.specs.Kept.{Kept}
 use Rattle.rx_event.specs.declared.event.Event.{Event}
 use Rattle.rx_event.specs.Tree.{is_open}
 use Rattle.rx_event.specs.Totals.{debt}
-use Rattle.rx_event.specs.Forced.{IsConnected, IsForced, IsDue, IsSettled, connecting, due, none_waits, mirrored, fired, failed, completed, cut, left}
+use Rattle.rx_event.specs.Forced.{IsConnected, IsForced, IsDue, IsSettled, none_waits}
 use Rattle.rx_event.proofs.Laws.Openness.{is_open_past}
 use Rattle.rx_register.specs.State.{State}
 use Rattle.rx_register.specs.Paid.{IsPaid}
@@ -14,19 +14,13 @@ none_open : (n : ℕ) → is_open [] n ≡ true → ⊥
 none_open n o = both_ways _ (is_open_past [] n (omega arith)) o
 
 none_due : (base : Kept) → {e : Event} → IsDue base [] e → ⊥
-none_due base (mirrored {p = n} o k e) = none_open n o
-none_due base (fired {u = n} o k e) = none_open n o
-none_due base (failed {f = n} o k e) = none_open n o
-none_due base (completed {f = n} o k n_failed s c w) = none_open n o
-none_due base (cut {s = n} o e) = none_open n o
-none_due base (left {c = n} o at_c a w) = none_open n o
+none_due base x1 = search (rules, none_open)
 
 pub connected_empty : IsConnected []
 connected_empty g d = none_open d.subscriber d.subscribed
 
 none_forced : (base : Kept) → {e : Event} → IsForced base [] e → ⊥
-none_forced base (connecting {g = g} d) = connected_empty g d
-none_forced base (due w d) = none_due base d
+none_forced base x1 = search (rules, connected_empty, none_due)
 
 pub settled_empty : (base : Kept) → IsSettled base []
 settled_empty base = record { none = λ e f. none_forced base f }

@@ -1,26 +1,24 @@
 -- What a call adds is what its causes have counted.
 use Rattle.std.proofs.Common.{◌≡◌, ℕ, ℤ, ◌+◌, ◌*◌, ◌≤◌, Bool, true, false, List, [], ◌∷◌, ◌++◌, length}
-use Rattle.std.proofs.Common.{cond, refl, sym, ap, ◌∙◌, arith, length-append, append_assoc}
+use Rattle.std.proofs.Common.{cond, refl, sym, ap, arith, length-append, append_assoc, rules}
 use Rattle.std.specs.List.{count_by}
 use Rattle.rx_event.specs.Kept.{Kept}
 use Rattle.rx_note.specs.declared.note.Terminal.{Terminal}
 use Rattle.rx_event.specs.declared.mail.Mail.{Mail}
 use Rattle.rx_event.specs.declared.event.Place.{Place}
-use Rattle.rx_event.specs.declared.event.Place.TheVariants.{Root, Source, Inner, Notifier}
 use Rattle.rx_event.specs.declared.event.Kind.{Kind}
 use Rattle.rx_event.specs.declared.event.Kind.TheVariants.{Pass}
 use Rattle.rx_event.specs.declared.event.Mode.{Mode}
 use Rattle.rx_event.specs.declared.event.Event.{Event}
 use Rattle.rx_event.specs.declared.event.Event.TheVariants.{Open, Hub, Connect, Accept, Use, Remove, Lease, Return, Item, Decline, End, Close, Take}
-use Rattle.rx_event.specs.Events.{is_root, makes_node}
-use Rattle.rx_event.specs.Tree.{at, is_open}
+use Rattle.rx_event.specs.Events.{makes_node}
 use Rattle.rx_event.specs.Climb.{stops}
 use Rattle.rx_event.specs.Moments.{is_projection}
 use Rattle.rx_event.specs.Notes.{notes, mail_of}
 use Rattle.rx_event.specs.Totals.{debt, open_count}
 use Rattle.rx_event.specs.Forced.{IsConnected, IsSettled, none_waits}
 use Rattle.rx_event.specs.Allowed.{IsAllowed}
-use Rattle.rx_event.specs.Lawful.{MayFollow, IsLawful, forced, allowed}
+use Rattle.rx_event.specs.Lawful.{MayFollow, IsLawful}
 use Rattle.rx_event.proofs.Laws.Counts.{notes-push}
 use Rattle.rx_event.proofs.Laws.Lawful.{IsLawful-push, may_end}
 use Rattle.rx_event.proofs.Laws.Steps.{may_close}
@@ -47,25 +45,19 @@ fits_one base h e events noted connected owes opens = record {
 -- what makes no node, and ends and closes none
 stays_open : (base : Kept) → (h : List Event) (e : Event) → MayFollow base h e → shuts_none e ≡ true → makes_node e ≡ false →
     open_count (h ++ e ∷ []) ≡ open_count h
-stays_open base h e next keeps none = open_count_made base h e next keeps ∙ ap (λ (b : Bool). open_count h + cond b 1 0) none ∙ omega arith
+stays_open base h e next keeps none = search (rules, open_count_made, Bool, cond)
 
 -- openings ----------------------------------------------------------------------------------------
 
 debt_open : (base : Kept) → (h : List Event) (place : Place) (kind : Kind) → IsLawful base h → MayFollow base h (Open place kind) →
     debt base (h ++ Open place kind ∷ []) ≤ debt base h + end_at place
-debt_open base h Root kind law next = let d = debt-root base h kind law next in omega arith
-debt_open base h (Source p) kind law next = let d = debt-source base h p kind law next in omega arith
-debt_open base h (Notifier p) kind law next = let d = debt-notifier base h p kind law next in omega arith
-debt_open base h (Inner p) kind law next = let d = debt_no_rise-inner base h p kind law next in omega arith
+debt_open base h x2 kind law next = search (rules, debt-root, debt-source, debt-notifier, debt_no_rise-inner)
 
 -- an opening makes one node, though an inner of a Switch may close others
 opens_one : (base : Kept) → (h : List Event) (place : Place) (kind : Kind) → MayFollow base h (Open place kind) →
     open_count (h ++ Open place kind ∷ []) ≤ open_count h + 1
 opens_one base h place kind next =
-    let all = open_count-push h (Open place kind) in
-    let new : cond {A = ℕ} (is_open (h ++ Open place kind ∷ []) (length h)) 1 0 ≡ 1 =
-    ap (λ (b : Bool). cond {A = ℕ} b 1 0) (is_open_new base h (Open place kind) next) in
-    omega arith
+    search (rules, open_count-push, cond, ℕ, length, Bool, is_open_new)
 
 pub opening_fits : (base : Kept) → (h : List Event) (place : Place) (kind : Kind) → IsLawful base h → IsSettled base h → MayFollow base h (Open place kind) →
     Fits base h (h ++ Open place kind ∷ []) (1 + end_at place + 2 * cond (forces_connect h kind) 1 0) (nodes_opened h kind)
@@ -157,10 +149,7 @@ declining_fits base h f law settled next =
 
 -- an end tells one note at most
 pub told_by_end : (h : List Event) (n : ℕ) (t : Terminal) → length (mail_of h (End n t)) ≤ 1
-told_by_end h n t = by_test (at is_root h n) refl where
-  by_test : (b : Bool) → at is_root h n ≡ b → length (mail_of h (End n t)) ≤ 1
-  by_test true root = rw root (omega arith)
-  by_test false inner = rw inner (omega arith)
+told_by_end h n t = search (rules, Bool, length)
 
 pub ending_fits : (base : Kept) → (h : List Event) (n : ℕ) (t : Terminal) → IsLawful base h → IsSettled base h → MayFollow base h (End n t) →
     Fits base h (h ++ End n t ∷ []) 0 0
@@ -170,8 +159,7 @@ ending_fits base h n t law settled next =
 
 -- in a settled history a closing is a caller's
 allowed_close : (base : Kept) → {h : List Event} {n : ℕ} → IsSettled base h → MayFollow base h (Close n) → IsAllowed base h (Close n)
-allowed_close base settled (forced {e = e} f) = absurd (settled.none e f)
-allowed_close base settled (allowed s a) = a
+allowed_close base settled x2 = search rules
 
 pub closing_fits : (base : Kept) → (h : List Event) (n : ℕ) → IsLawful base h → IsSettled base h → MayFollow base h (Close n) →
     Fits base h (h ++ Close n ∷ []) 0 0

@@ -1,9 +1,8 @@
 -- Where no cause stands against a call in a settled history, the call's events may follow.
-use Rattle.std.proofs.Common.{◌≡◌, ℕ, ℤ, zero, suc, ◌+◌, ◌<◌, ◌≤◌, Bool, true, false, List, [], ◌∷◌, ◌++◌, length, Option, Some}
-use Rattle.std.proofs.Common.{None, cond, refl, sym, ap, subst, ◌∙◌, arith, inl, inr, ◌⊎◌, ◌==◌, nat_lt, length-append, get_or}
-use Rattle.std.proofs.Math.Bool.{◌&&◌, ◌||◌}
+use Rattle.std.proofs.Common.{◌≡◌, ℕ, ℤ, suc, ◌+◌, ◌<◌, ◌≤◌, Bool, true, false, List, [], ◌∷◌, ◌++◌, length, Option, Some}
+use Rattle.std.proofs.Common.{None, cond, refl, ap, subst, ◌∙◌, arith, inl, inr, ◌⊎◌, ◌==◌, nat_lt, length-append, get_or, rules}
+use Rattle.std.proofs.Math.Bool.{◌&&◌}
 use Rattle.std.specs.List.{list_any}
-use Rattle.std.specs.Option.{option_map_or}
 use Rattle.std.proofs.lemmas.Bool.{cases_Bool, not-false, ltb-false, ltb-true, false≢true, both_ways, and_parts, eqb-true, eq-eqb}
 use Rattle.std.proofs.lemmas.List.Folds.{list_any_at}
 use Rattle.std.proofs.lemmas.List.FromFn.{length-range_with_len, get_or-range_with_len}
@@ -21,7 +20,7 @@ use Rattle.rx_event.specs.declared.event.Event.TheVariants.{Open, Hub, Connect, 
 use Rattle.rx_event.specs.declared.refusal.Refusal.{Refusal}
 use Rattle.rx_event.specs.declared.refusal.Refusal.TheVariants.{Gone, WrongKind, PlaceTaken, NothingOwed, NotRoot, NoHub, HubOrder, Connected, NotConnected}
 use Rattle.rx_event.specs.declared.refusal.Refusal.TheVariants.{NoLease, NotHeld, Leased, HasChild, TooMany}
-use Rattle.rx_event.specs.Events.{is_connect_of, makes_hub, has_source, is_merging, is_until}
+use Rattle.rx_event.specs.Events.{is_connect_of}
 use Rattle.rx_event.specs.Tree.{at, places, parent, ancestors, is_open, is_open_child_of, has_open_child, open_nodes, open_connections}
 use Rattle.rx_event.specs.Moments.{owed}
 use Rattle.rx_event.specs.Resources.{is_waiting}
@@ -47,31 +46,21 @@ use Rattle.rx_register.proofs.Laws.OpeningForcesConnection.{opening_connects, co
 -- places and hubs ---------------------------------------------------------------------------------
 
 some_owed : (n : ℕ) → (n == 0) ≡ false → 0 < n
-some_owed zero none = absurd (false≢true (sym none))
-some_owed (suc n) some = omega arith
+some_owed x0 none = search (rules, false≢true)
 
 -- a place that is there, not taken, and owed where it is an inner's, is free
 pub free_where : (base : Kept) → (h : List Event) (place : Place) → is_gone h place ≡ false → is_wrong_place h place ≡ false →
     is_taken_place base h place ≡ false → is_unowed_place base h place ≡ false → IsFree base h place
-free_where base h Root gone wrong first unowed = tt
-free_where base h (Source p) gone wrong first unowed = (not-false (is_open h p) gone, not-false (at has_source h p) wrong, first)
-free_where base h (Inner p) gone wrong first unowed = (not-false (is_open h p) gone, not-false (at is_merging h p) wrong, some_owed (owed base h p) unowed)
-free_where base h (Notifier p) gone wrong first unowed = (not-false (is_open h p) gone, not-false (at is_until h p) wrong, first)
+free_where base h x2 gone wrong first unowed = search (rules, not-false, some_owed)
 
 -- what no element of a list has, this one of them has not
 none_has : (q : ℕ → Bool) (xs : List ℕ) (a : ℕ) → list_any (λ b. a == b) xs ≡ true → list_any q xs ≡ false → q a ≡ false
 none_has q [] a found none = absurd (false≢true found)
-none_has q (x ∷ xs) a found none = by_test (none_has q xs a) (a == x) refl (q x) refl found none where
-  by_test : (list_any (λ b. a == b) xs ≡ true → list_any q xs ≡ false → q a ≡ false) → (same : Bool) → (a == x) ≡ same → (here : Bool) → q x ≡ here →
-      (same || list_any (λ b. a == b) xs) ≡ true → (here || list_any q xs) ≡ false → q a ≡ false
-  by_test below same is true here found none = absurd (false≢true (sym none))
-  by_test below true is false here found none = ap q (eqb-true a x is) ∙ here
-  by_test below false is false here found none = below found none
+none_has q (x ∷ xs) a found none = search (rules, Bool, false≢true, eqb-true, none_has q xs a)
 
 in_order_at : (h : List Event) (g p : ℕ) → list_any (at (connects_up_to g) h) (ancestors h p) ≡ false → IsInOrderAt h g p
 in_order_at h g p none a k within connects =
-    let here : at (connects_up_to g) h a ≡ false = none_has (at (connects_up_to g) h) (ancestors h p) a within none in
-    ltb-true g k (not-false (nat_lt g k) (sym (ap (λ (o : Option Event). option_map_or (connects_up_to g) o false) connects) ∙ here))
+    search (rules, none_has, ltb-true, not-false, nat_lt, Option)
 
 pub in_order : (h : List Event) (place : Place) (g : ℕ) → is_out_of_order h place (Sub g) ≡ false → IsInOrder h g place
 in_order h Root g none = tt
@@ -81,8 +70,7 @@ in_order h (Notifier p) g none = in_order_at h g p none
 
 -- the hub of a subscriber is there, and in order
 pub hubbed_where : (h : List Event) (place : Place) (kind : Kind) → is_without_hub h kind ≡ false → is_out_of_order h place kind ≡ false → IsHubbed h place kind
-hubbed_where h place (Sub g) there order = (not-false (at makes_hub h g) there, in_order h place g order)
-hubbed_where h place _ there order = tt
+hubbed_where h place x2 there order = search (rules, not-false, in_order)
 
 -- no more nodes are open than may be
 few_where : (h : List Event) (more : ℕ) → is_crowded h more ≡ false → open_count h + more ≤ most_nodes

@@ -1,17 +1,15 @@
 -- Which openings force a connection: just those of a subscriber of a RefCount hub that has none.
 use Rattle.std.proofs.Common.{◌≡◌, ℕ, Bool, true, false, List, [], ◌∷◌, ◌++◌, length, Option, cond, refl}
-use Rattle.std.proofs.Common.{sym, ap, subst, ◌∙◌, arith, inl, inr, ◌⊎◌, length-append, nat_lt}
+use Rattle.std.proofs.Common.{sym, ap, subst, ◌∙◌, arith, inl, inr, ◌⊎◌, length-append, nat_lt, rules}
 use Rattle.std.proofs.Math.Bool.{◌&&◌}
-use Rattle.std.specs.Option.{option_map_or}
 use Rattle.std.proofs.lemmas.Bool.{cases_Bool, not_from_false, false≢true, and_parts, and_from, ltb-false}
 use Rattle.rx_event.specs.Kept.{Kept}
 use Rattle.rx_event.specs.declared.event.Place.{Place}
-use Rattle.rx_event.specs.declared.event.Place.TheVariants.{Inner}
 use Rattle.rx_event.specs.declared.event.Kind.{Kind}
 use Rattle.rx_event.specs.declared.event.Kind.TheVariants.{Leaf, Pass, Flat, Switch, Until, Sub}
 use Rattle.rx_event.specs.declared.event.Event.{Event}
 use Rattle.rx_event.specs.declared.event.Event.TheVariants.{Open}
-use Rattle.rx_event.specs.Events.{makes_hub, is_auto_hub, is_connect_of, is_inner_of}
+use Rattle.rx_event.specs.Events.{makes_hub, is_auto_hub, is_connect_of}
 use Rattle.rx_event.specs.Tree.{at, places, is_open, shuts, open_connections}
 use Rattle.rx_event.specs.Forced.{IsConnectDue, IsSettled, MayWait, none_waits, one_waits}
 use Rattle.rx_event.specs.Allowed.{IsHubbed}
@@ -40,13 +38,7 @@ connects_one h g some = some_member (open_connections h g) some
 
 -- an opening takes no connection away
 spared : (h : List Event) (place : Place) (kind : Kind) (c g : ℕ) → at (is_connect_of g) h c ≡ true → shuts h c (Open place kind) ≡ false
-spared h (Inner f) kind c g connects = by_test (cases_Bool (shuts h c (Open (Inner f) kind))) where
-  by_test : (shuts h c (Open (Inner f) kind) ≡ true) ⊎ (shuts h c (Open (Inner f) kind) ≡ false) → shuts h c (Open (Inner f) kind) ≡ false
-  by_test (inr stays) = stays
-  by_test (inl shut) =
-      let inner : at (is_inner_of f) h c ≡ true = (and_parts _ _ shut).1 in
-      absurd (false≢true (sym (ap (λ (o : Option Event). option_map_or (is_inner_of f) o false) (at_connect h g c connects)) ∙ inner))
-spared h _ kind c g connects = refl
+spared h x1 kind c g connects = search (rules, cases_Bool, and_parts, false≢true, Option, at_connect)
 
 still_open : (h : List Event) (place : Place) (kind : Kind) (c g : ℕ) → at (is_connect_of g) h c ≡ true → is_open h c ≡ true →
     is_open (h ++ Open place kind ∷ []) c ≡ true

@@ -5,11 +5,11 @@ use Rattle.rx_event.specs.Kept.{Kept}
 use Rattle.rx_note.specs.declared.note.Terminal.{Terminal}
 use Rattle.rx_event.specs.declared.mail.Mail.{Mail}
 use Rattle.rx_event.specs.declared.event.Event.{Event}
-use Rattle.rx_event.specs.declared.event.Event.TheVariants.{Item, End, Close, Connect}
+use Rattle.rx_event.specs.declared.event.Event.TheVariants.{End, Close, Connect}
 use Rattle.rx_event.specs.Events.{is_connect}
 use Rattle.rx_event.specs.Notes.{notes, mail_of}
 use Rattle.rx_event.specs.Totals.{debt, open_count}
-use Rattle.rx_event.specs.Forced.{IsConnectDue, IsForced, IsDue, MayWait, connecting, due, none_waits, one_waits, mirrored}
+use Rattle.rx_event.specs.Forced.{IsConnectDue, IsForced, IsDue, MayWait, connecting, due, none_waits, one_waits}
 use Rattle.rx_event.specs.Lawful.{forced, MayFollow, IsLawful}
 use Rattle.rx_event.specs.Calls.{Call}
 use Rattle.rx_event.proofs.Laws.Counts.{notes-push}
@@ -22,6 +22,7 @@ use Rattle.rx_event.specs.Causes.{added_by, is_over}
 use Rattle.rx_register.specs.State.{State, Writes}
 use Rattle.rx_register.specs.Paid.{IsPaid, HasRoomFor, Fits, notes_added}
 use Rattle.rx_register.proofs.Laws.Fits.{told_by_end}
+use Rattle.std.proofs.Common.{rules}
 
 -- writing -----------------------------------------------------------------------------------------
 
@@ -57,17 +58,14 @@ debt_falls base h _ law f other = absurd (false≢true (forced_kind base f))
 
 -- and tells one note at most
 told_by_forced : (base : Kept) → (h : List Event) (e : Event) → IsForced base h e → length (mail_of h e) ≤ 1
-told_by_forced base h (End n t) f = told_by_end h n t
-told_by_forced base h (Item l v) f = absurd (false≢true (forced_kind base f))
-told_by_forced base h _ f = omega arith
+told_by_forced base h x2 f = search (rules, told_by_end, false≢true, forced_kind)
 
 one_may : {h : List Event} {w g : ℕ} → MayWait h w → IsConnectDue h g → w ≡ 1
 one_may {g = g} (none_waits none) d = absurd (none g d)
 one_may (one_waits only) d = refl
 
 is_no_connect : (base : Kept) → {h : List Event} {e : Event} → IsDue base h e → is_connect e ≡ false
-is_no_connect base (mirrored o k e) = refl
-is_no_connect base _ = refl
+is_no_connect base x1 = search rules
 
 -- a forced event is no connection, or the one that is paid for
 data HowPaid (s : State) (e : Event) : Type 0 where

@@ -1,9 +1,8 @@
 -- The same causes stand against a call in two histories that are the same but for their numbers, but for the limit of events.
 use Rattle.std.proofs.Common.{◌≡◌, ℕ, ◌+◌, Bool, true, false, List, [], ◌∷◌, length, Option, Some, None}
-use Rattle.std.proofs.Common.{cond, slice_get, refl, sym, ap, ◌∙◌, inl, inr, ◌⊎◌, ◌==◌, nat_lt}
+use Rattle.std.proofs.Common.{cond, slice_get, refl, sym, ap, ◌∙◌, inl, inr, ◌⊎◌, ◌==◌, nat_lt, rules}
 use Rattle.std.proofs.Math.Bool.{not, ◌&&◌}
 use Rattle.std.specs.List.{list_any}
-use Rattle.std.specs.Option.{option_map_or}
 use Rattle.std.proofs.lemmas.Bool.{false≢true, both_ways, cases_Bool, eq-eqb, false_from_ne_true, not-true, lt-ltb}
 use Rattle.std.proofs.lemmas.List.{length-map}
 use Rattle.rx_event.specs.Kept.{Kept}
@@ -17,7 +16,7 @@ use Rattle.rx_event.specs.declared.refusal.Refusal.{Refusal}
 use Rattle.rx_event.specs.declared.refusal.Refusal.TheVariants.{Full, Gone, WrongKind, PlaceTaken, NothingOwed, NotRoot, NoHub, HubOrder, Connected}
 use Rattle.rx_event.specs.declared.refusal.Refusal.TheVariants.{NotConnected, NoLease, NotHeld, Leased, HasChild, TooMany}
 use Rattle.rx_event.specs.Events.{makes_node, makes_hub, makes_resource, makes_lease}
-use Rattle.rx_event.specs.Tree.{at, ancestors, is_open, is_within, open_connections}
+use Rattle.rx_event.specs.Tree.{at, ancestors, is_open, open_connections}
 use Rattle.rx_event.specs.Allowed.{most_nodes, most_hubs, IsInOrderAt}
 use Rattle.rx_event.specs.Climb.{most_visits}
 use Rattle.rx_event.specs.Refusals.{first_of_these, first_cause}
@@ -66,29 +65,17 @@ same_first p q same = λ i. first_cause (λ why. same why i)
 
 -- what is gone is so whatever else stands
 gone_first : (p q : Refusal → Bool) → p NoHub ≡ q NoHub → p Gone ≡ true → q Gone ≡ true → first_cause p ≡ first_cause q
-gone_first p q hub gone also = by_gone p gone ∙ ap (λ b. cond {A = Option Refusal} b (Some NoHub) (Some Gone)) hub ∙ sym (by_gone q also) where
-  by_gone : (x : Refusal → Bool) → x Gone ≡ true → first_cause x ≡ cond (x NoHub) (Some NoHub) (Some Gone)
-  by_gone x is = rw is refl
+gone_first p q hub gone also = search (rules, cond, Option, Some, Bool)
 
 -- order of hubs
 up_to : (g : ℕ) (h : List Event) (b : ℕ) → at (connects_up_to g) h b ≡ true → (k : ℕ) × (slice_get h b ≡ Some (Connect k)) × (not (nat_lt g k) ≡ true)
-up_to g h b = by_event (slice_get h b) where
-  by_event : (o : Option Event) → option_map_or (connects_up_to g) o false ≡ true → (k : ℕ) × (o ≡ Some (Connect k)) × (not (nat_lt g k) ≡ true)
-  by_event None holds = absurd (false≢true holds)
-  by_event (Some (Connect k)) holds = (k, refl, holds)
-  by_event (Some _) holds = absurd (false≢true holds)
+up_to g h b = search (rules, slice_get, Option, ℕ, Some, not, nat_lt, None, false≢true)
 
 none_out : (h : List Event) (g p : ℕ) → IsInOrderAt h g p → list_any (at (connects_up_to g) h) (ancestors h p) ≡ false
-none_out h g p ordered = false_from_ne_true (list_any (at (connects_up_to g) h) (ancestors h p)) (λ found.
-    let w = list_any_found (at (connects_up_to g) h) (ancestors h p) found in
-    let c = up_to g h w.1 w.3 in
-    let inside : is_within h w.1 p ≡ true = list_any_holds (λ x. w.1 == x) (ancestors h p) w.0 w.1 w.2 (eq-eqb w.1 w.1 refl) in
-    both_ways (nat_lt g c.0) (not-true (nat_lt g c.0) c.2) (lt-ltb g c.0 (ordered w.1 c.0 inside c.1)))
+none_out h g p ordered = search (rules, false_from_ne_true, list_any_found, up_to, list_any_holds, eq-eqb, both_ways, nat_lt, not-true, lt-ltb)
 
 same_false : (x y : Bool) → (x ≡ false → y ≡ false) → (y ≡ false → x ≡ false) → x ≡ y
-same_false true true p q = refl
-same_false false y p q = sym (p refl)
-same_false true false p q = q refl
+same_false x0 x1 p q = search rules
 
 module _ (base : Kept) (r s : ℕ → ℕ) (h c : List Event) (a : AreSameBy base r s h c) where
   seen : CallersSeeTheSame base r s h c
@@ -107,14 +94,10 @@ module _ (base : Kept) (r s : ℕ → ℕ) (h c : List Event) (a : AreSameBy bas
   gone_same (Notifier p) known = ap not (seen.same_open p known)
 
   not_false : (b : Bool) → not b ≡ false → b ≡ true
-  not_false true is = refl
-  not_false false is = absurd (false≢true (sym is))
+  not_false x0 is = search (rules, false≢true)
 
   open_place : (place : Place) → is_gone h place ≡ false → OpenPlace place
-  open_place Root is = tt
-  open_place (Source p) is = not_false (is_open h p) is
-  open_place (Inner p) is = not_false (is_open h p) is
-  open_place (Notifier p) is = not_false (is_open h p) is
+  open_place x0 is = search (rules, not_false)
 
   wrong_same : (place : Place) → OpenPlace place → is_wrong_place c (place_by r place) ≡ is_wrong_place h place
   wrong_same Root o = refl
@@ -123,13 +106,10 @@ module _ (base : Kept) (r s : ℕ → ℕ) (h c : List Event) (a : AreSameBy bas
   wrong_same (Notifier p) o = ap not (seen.untils p o)
 
   taken_same : (place : Place) → OpenPlace place → is_taken_place base c (place_by r place) ≡ is_taken_place base h place
-  taken_same (Source p) o = seen.source_taken p o
-  taken_same (Notifier p) o = seen.notifier_taken p o
-  taken_same _ o = refl
+  taken_same x0 o = search rules
 
   unowed_same : (place : Place) → OpenPlace place → is_unowed_place base c (place_by r place) ≡ is_unowed_place base h place
-  unowed_same (Inner p) o = ap (λ n. n == 0) (seen.same_owed p o)
-  unowed_same _ o = refl
+  unowed_same x0 o = search rules
 
   connection_same : (g : ℕ) → at makes_hub h g ≡ true → has_connection c (r g) ≡ has_connection h g
   connection_same g hub = ap (λ (n : ℕ). nat_lt 0 n) (ap length (seen.connections g hub) ∙ length-map (open_connections h g) r)

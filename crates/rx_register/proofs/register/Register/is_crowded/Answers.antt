@@ -1,4 +1,4 @@
-use Rattle.std.proofs.Common.{◌≡◌, ℕ, ◌+◌, ◌-◌, ◌<◌, ◌≤◌, nat_lt, sym, ap, ◌∙◌, arith}
+use Rattle.std.proofs.Common.{◌≡◌, ℕ, ◌+◌, ◌-◌, ◌<◌, ◌≤◌, nat_lt, sym, ◌∙◌, arith, rules}
 use Rattle.std.proofs.lemmas.Bool.{lt-ltb, ltb-true, ltb_from_iff}
 use Rattle.rx_event.specs.Allowed.{most_nodes}
 use Rattle.rx_register.proofs.register.Register.is_crowded.Goals as goal
@@ -9,14 +9,14 @@ more_alone most alive more over = lt-ltb most more over ∙ sym (lt-ltb most (al
 
 more_with : (most alive more : ℕ) → more ≤ most → nat_lt (most - more) alive ≡ nat_lt most (alive + more)
 more_with most alive more few =
-    ltb_from_iff (λ over. let l = ltb-true (most - more) alive over in omega arith, λ over. lt-ltb (most - more) alive (omega arith))
+    search (rules, ltb_from_iff, ltb-true, lt-ltb)
 
 pub returns-then-more-gt-MOST_NODES : goal.returns-then-more-gt-MOST_NODES
 unfolding most_nodes
 returns-then-more-gt-MOST_NODES c =
-    more_alone 1048576 c.args.load.open c.args.more c.if-more-gt-MOST_NODES.true ∙ ap (λ (k : ℕ). nat_lt 1048576 (k + c.args.more)) c.requires.open_count
+    search (rules, more_alone, ℕ, nat_lt)
 
 pub returns-else-more-gt-MOST_NODES : goal.returns-else-more-gt-MOST_NODES
 unfolding most_nodes
 returns-else-more-gt-MOST_NODES c =
-    more_with 1048576 c.args.load.open c.args.more c.if-more-gt-MOST_NODES.false ∙ ap (λ (k : ℕ). nat_lt 1048576 (k + c.args.more)) c.requires.open_count
+    search (rules, more_with, ℕ, nat_lt)

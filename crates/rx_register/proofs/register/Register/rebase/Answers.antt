@@ -1,7 +1,6 @@
-use Rattle.std.proofs.Common.{refl, sym, ap, ◌∙◌}
-use Rattle.rx_event.specs.Kept.{shown}
 use Rattle.rx_register.proofs.RegisterStaysTied.{IsRebased, may_rebase, base_long, placed_base, rebased, rebases_seen}
 use Rattle.rx_register.proofs.register.Register.rebase.Goals as goal
+use Rattle.std.proofs.Common.{rules}
 
 pub rebase-requires-clause-length : goal.rebase-requires-clause-length
 rebase-requires-clause-length c = base_long c.self.inside _ _ c.self.view_is c.requires.base
@@ -11,20 +10,7 @@ rebase-requires-clause-placed c = placed_base c.self.inside _ _ c.self.view_is c
 
 -- the register over that base
 made : (c : goal.After-self-1) → IsRebased c.self.inside (record c.self.inside { history = c.rebase.new.self; spare = 0 }) c.args.room
-made c = record {
-  may = may_rebase c.self.view_is (c.in_ok-rebase.ensures.base ∙ c.requires.base) c.requires.settled c.requires.handed c.requires.pending c.requires.placed
-      c.requires.closing c.requires.within;
-  events = c.in_ok-rebase.ensures.events ∙ ap shown (sym c.in_ok-rebase.ensures.base);
-  room = c.in_ok-rebase.ensures.room;
-  limit = c.rebase.ensures.limit;
-  own_limit = refl;
-  items = refl;
-  accepted = refl;
-  taken = refl;
-  spare = refl;
-  told = refl;
-  mail = refl;
-}
+made c = search (rules, may_rebase)
 
 pub invariant_of-self-2 : goal.invariant_of-self-2
 invariant_of-self-2 c = rebased c.self.inside _ _ c.self.invariant (made c)

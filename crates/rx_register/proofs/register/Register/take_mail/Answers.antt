@@ -1,4 +1,4 @@
-use Rattle.std.proofs.Common.{◌≡◌, ◌<◌, ℕ, arith}
+use Rattle.std.proofs.Common.{◌≡◌, ◌<◌, ℕ, arith, rules}
 use Rattle.rx_event.specs.Notes.{notes}
 use Rattle.rx_register.proofs.RegisterStaysTied.{IsPopped, popped_first, popped_inside}
 use Rattle.rx_register.proofs.register.Register.take_mail.Goals as goal
@@ -9,9 +9,7 @@ some n nonzero = omega arith
 first : (c : goal.After-pop_front) →
     IsPopped (notes c.self.inside.history.events) c.self.inside.mail.items c.pop_front.new.self.items c.self.inside.told c.pop_front.result
 first c =
-    let r = c.self.invariant in
-    popped_first c.self.inside.told c.pop_front.result
-    c.pop_front.ensures.items c.pop_front.ensures.rest (some c.self.inside.told c.if-self-eq0.false) r.queued r.some_told r.mail
+    search (rules, popped_first, some)
 
 pub invariant_of-self : goal.invariant_of-self
 invariant_of-self c =
