@@ -2,23 +2,22 @@
 use Rattle.rx_typed.proofs.Common.{◌≡◌, ℕ, ℤ, ◌+◌, ◌<◌, ◌≤◌, Bool, true, false, List, [], ◌∷◌, ◌++◌, map, length, cond, slice_get, Option, Some, None, Result}
 use Rattle.rx_typed.proofs.Common.{Ok, Err, refl, sym, ap, ◌∙◌, arith, subst, ◌==◌, append-nil, append_assoc, length-append, map-append, option_and_then, not}
 use Rattle.rx_typed.proofs.Common.{Contains, list_any, option_map_or, ◌&&◌, ◌||◌, eqb-true, and_parts, Ghosts, Event, Open, Accept, Pass, Refusal, Kept, at}
-use Rattle.rx_typed.proofs.Common.{resource_kept, shown, makes_resource, is_take_of, accepted_by, is_held, is_waiting, is_taken, Call, IsStepOf, outside_of}
-use Rattle.rx_typed.proofs.Common.{GivingBack, Disposing, Disconnecting, IsLawful, at_within, slice_get_last, held_resource, held_not_taken, shown_within, At}
+use Rattle.rx_typed.proofs.Common.{resource_kept, shown, makes_resource, accepted_by, is_held, is_waiting, is_taken, Call, IsStepOf, outside_of}
+use Rattle.rx_typed.proofs.Common.{IsLawful, at_within, slice_get_last, held_resource, held_not_taken, shown_within, At}
 use Rattle.rx_typed.proofs.Common.{Label, label_of, Contains-map, Key, ResKey, OpenedUsing, Refused, State, IsPromised, Accepts, Answers, AnswersOpenedUsing}
 use Rattle.rx_typed.proofs.Common.{AnswersResKey, AnswersHanded, AnswersCheckpoint, goes_step, Token, RxTaken, RxMail, RxNode, RxRes, RxUsing, fresh, takes}
 use Rattle.rx_typed.proofs.Common.{IsTakenWhole, AreTaken, none_taken, one_taken, AreMailsTaken, no_mail_taken, mail_taken}
-use Rattle.rx_event.specs.declared.refusal.Refusal.TheVariants.{NoMemory, Full, Gone, WrongKind, PlaceTaken, NothingOwed, NotRoot, NoHub, HubOrder, Connected}
-use Rattle.rx_event.specs.declared.refusal.Refusal.TheVariants.{NotConnected, NotFresh, NotHeld, HasChild, TooMany, NoLease, Leased, MailLeft}
 use Rattle.rx_book.specs.State.{IsLabelOf, accepted_tag, is_kept}
 use Rattle.rx_book.specs.Requests.{Request, place_of, next_request, hold_request, using_request, take_request}
 use Rattle.rx_book.specs.Courses.{LetsGo, none_let_go, next_let_go, lets_go, Emits, none_emitted, next_emitted}
 use Rattle.rx_book.proofs.Laws.LastsThroughSteps.{keeps_resources, kept_same, kept_taken, kept_held, kept_used, kept_past}
 use Rattle.rx_book.proofs.Laws.NotesGoOn.{goes_forced, same_event}
-use Rattle.rx_typed.specs.Codes.{key_of, refusal_status, status_given_back, used_told, res_told}
-use Rattle.rx_typed.specs.Calls.{IsTaken, none_waits, IsMailTaken, tells as tells_mail, has_no_mail, new_book, IsCheckpoint, IsUsing, IsHold}
+use Rattle.rx_typed.specs.Codes.{key_of, refusal_status, status_given_back, res_told}
+use Rattle.rx_typed.specs.Calls.{IsTaken, none_waits, IsMailTaken, tells as tells_mail, has_no_mail, IsCheckpoint, IsUsing, IsHold}
 use Rattle.rx_typed.specs.Courses.{Act, handed_in, handed_back, told, Leads, no_act, comes, goes, tells, with_entry, tag_in, taken_in, given_back, note_told}
 use Rattle.rx_typed.specs.Courses.{Course, no_call, calls, drains, checkpoints, AreHandedBackOnce, IsCall, next, next_all, end, abort, fail, decline, dispose}
 use Rattle.rx_typed.specs.Courses.{open_node, using, hold, hub, connect, disconnect, apply, remove, lease, give_back, take_one, take_mail, close, asks}
+use Rattle.std.proofs.Common.{rules}
 
 -- tables ------------------------------------------------------------------------------------------
 
@@ -50,10 +49,7 @@ same_tag s t asked accepts r within =
 -- where the same numbers are kept the table is the same
 same_table : (s t : State) → ((r : ℕ) → is_kept t.history r ≡ is_kept s.history r) → ((r : ℕ) → is_kept s.history r ≡ true → tag_by t r ≡ tag_by s r) →
     (r : ℕ) → tag_in t r ≡ tag_in s r
-same_table s t kept tags r = ap (λ (b : Bool). cond b (tag_by t r) None) (kept r) ∙ by_kept (is_kept s.history r) refl where
-  by_kept : (b : Bool) → is_kept s.history r ≡ b → cond b (tag_by t r) None ≡ cond b (tag_by s r) None
-  by_kept true is = tags r is
-  by_kept false is = refl
+same_table s t kept tags r = search (rules, Bool, cond, None)
 
 kept_call : (s t : State) (asked : Request) → Accepts s asked t → keeps_resources asked.call ≡ true → Leads (tag_in s) [] (tag_in t)
 kept_call s t asked accepts keeps =
@@ -64,16 +60,12 @@ unchanged s t same = no_act (λ r. ap (λ (u : State). tag_in u r) same)
 
 answered : {A E : Type 0} {gives : A → Type 0} {refuses : E → Type 0} (s t : State) (asked : Request) (answer : Result A E) →
     Answers gives refuses s asked t answer → keeps_resources asked.call ≡ true → Leads (tag_in s) [] (tag_in t)
-answered s t asked (Ok a) says keeps = kept_call s t asked says.accepted keeps
-answered s t asked (Err e) says keeps = unchanged s t says.kept
+answered s t asked x3 says keeps = search (rules, kept_call, unchanged)
 
 -- many calls in one -------------------------------------------------------------------------------
 
 lets_go_keeps : (call : Call) → lets_go call ≡ true → keeps_resources call ≡ true
-lets_go_keeps (GivingBack l) lets = refl
-lets_go_keeps (Disposing root) lets = refl
-lets_go_keeps (Disconnecting g) lets = refl
-lets_go_keeps _ lets = absurd (cc)
+lets_go_keeps x0 lets = search rules
 
 let_go : {s t : State} → LetsGo s t → Leads (tag_in s) [] (tag_in t)
 let_go {s} none_let_go = unchanged s s refl
@@ -87,24 +79,7 @@ emits {leaf} {s} {t} (next_emitted {t = m} value before kept accepts) = leads_on
 -- coming in ---------------------------------------------------------------------------------------
 
 no_refusal_is_done : (why : Refusal) → (refusal_status why == 0) ≡ false
-no_refusal_is_done NoMemory = refl
-no_refusal_is_done Full = refl
-no_refusal_is_done Gone = refl
-no_refusal_is_done WrongKind = refl
-no_refusal_is_done PlaceTaken = refl
-no_refusal_is_done NothingOwed = refl
-no_refusal_is_done NotRoot = refl
-no_refusal_is_done NoHub = refl
-no_refusal_is_done HubOrder = refl
-no_refusal_is_done Connected = refl
-no_refusal_is_done NotConnected = refl
-no_refusal_is_done NotFresh = refl
-no_refusal_is_done NotHeld = refl
-no_refusal_is_done HasChild = refl
-no_refusal_is_done TooMany = refl
-no_refusal_is_done NoLease = refl
-no_refusal_is_done Leased = refl
-no_refusal_is_done MailLeft = refl
+no_refusal_is_done x0 = search rules
 
 -- a resource that a step accepts at a new place has the tag that it came with
 new_tag : (s t : State) (call : Call) → IsLawful s.base s.history → t.base ≡ s.base → IsStepOf s.base s.history call t.history → (r node tag : ℕ) →
@@ -169,16 +144,7 @@ module _ (g : Ghosts Token) (names : (tag : ℕ) → g.tag_of (fresh tag) ≡ ta
 
   by_using : (s t : State) (place : At) (tag : ℕ) (used : RxUsing) (status : ℕ) → IsPromised s → IsUsing g place tag used s t status →
       Leads (tag_in s) (taken_in status used.res.number tag) (tag_in t)
-  by_using s t place tag used status kept says = by_answer says.answer says.says says.tells says.means where
-    by_answer : (answer : Result OpenedUsing (Refused Token)) → AnswersOpenedUsing s (using_request g s place (fresh tag)) (fresh tag) t answer →
-        used ≡ used_told answer → status ≡ status_given_back answer → Leads (tag_in s) (taken_in status used.res.number tag) (tag_in t)
-    by_answer (Ok o) a shown done =
-        subst (λ (n : ℕ). Leads (tag_in s) (taken_in n used.res.number tag) (tag_in t)) (sym done)
-        (comes_by_using s t place tag used.res.number kept.lawful a.accepted (ap (λ (u : RxUsing). u.res.number) shown ∙ a.ok.res.number))
-    by_answer (Err e) a shown done =
-        subst (λ (n : ℕ). Leads (tag_in s) (taken_in n used.res.number tag) (tag_in t)) (sym done)
-        (subst (λ (b : Bool). Leads (tag_in s) (cond b (handed_in (record { number = used.res.number; tag = tag }) ∷ []) []) (tag_in t))
-        (sym (no_refusal_is_done e.why)) (unchanged s t a.kept))
+  by_using s t place tag used status kept says = search (rules, Result, OpenedUsing, Refused, Token, AnswersOpenedUsing, Ok, ℕ, comes_by_using, RxUsing, Err, Bool, cond, no_refusal_is_done, unchanged)
 
   by_hold : (s t : State) (node : RxNode) (tag : ℕ) (held : RxRes) (status : ℕ) → IsPromised s → IsHold g node tag held s t status →
       Leads (tag_in s) (taken_in status held.number tag) (tag_in t)
@@ -198,12 +164,7 @@ module _ (g : Ghosts Token) (names : (tag : ℕ) → g.tag_of (fresh tag) ≡ ta
 -- what waits is kept, and its label has the tag of its acceptance
 waits_kept : (h : List Event) (r : ℕ) → is_waiting h r ≡ true → is_kept h r ≡ true
 unfolding is_waiting is_taken is_kept
-waits_kept h r waits = shape (at makes_resource h r) (is_held h r) (list_any (is_take_of r) h) waits where
-  shape : (made held gone : Bool) → (made && not held && not (made && gone)) ≡ true → (made && not gone) ≡ true
-  shape true false false p = refl
-  shape true true gone p = absurd (cc)
-  shape true false true p = absurd (cc)
-  shape false held gone p = absurd (cc)
+waits_kept h r waits = search (rules, list_any, Bool, not)
 
 module _ (g : Ghosts Token) where
   handed : (s t : State) (number : ℕ) (token : Token) → IsPromised s → AnswersHanded g s t (Some (number, token)) →
@@ -263,18 +224,13 @@ all_mails {s} {t} (mail_taken {mails = mails} {t = m} mail rest says) =
 
 kept_shape : (made gone held : Bool) → (held ≡ true → (made ≡ true) × ((made && gone) ≡ false)) →
     (made && not gone) ≡ (held || (made && not held && not (made && gone)))
-kept_shape true true true p = let e : true ≡ false = (p refl).1 in absurd (cc)
-kept_shape true false true p = refl
-kept_shape false gone true p = let e : false ≡ true = (p refl).0 in absurd (cc)
-kept_shape true true false p = refl
-kept_shape true false false p = refl
-kept_shape false gone false p = refl
+kept_shape x0 x1 x2 p = search rules
 
 -- what is kept is held or waits
 kept_is : (base : Kept) (h : List Event) → IsLawful base h → (r : ℕ) → is_kept h r ≡ (is_held h r || is_waiting h r)
 unfolding is_waiting is_taken is_kept
 kept_is base h law r =
-    kept_shape (at makes_resource h r) (list_any (is_take_of r) h) (is_held h r) (λ held. (held_resource h r held, held_not_taken base h law r held))
+    search (rules, kept_shape, list_any, held_resource, held_not_taken)
 
 by_checkpoint : (s t : State) (place status : ℕ) → IsPromised s → IsPromised t → IsCheckpoint place s t status → Leads (tag_in s) [] (tag_in t)
 by_checkpoint s t place status kept after says = by_answer says.answer says.says where
@@ -289,11 +245,7 @@ by_checkpoint s t place status kept after says = by_answer says.answer says.says
 -- what was taken is not kept
 taken_unkept : (h : List Event) (r : ℕ) → (at makes_resource h r ≡ true → is_taken h r ≡ true) → is_kept h r ≡ false
 unfolding is_taken is_kept
-taken_unkept h r taken = shape (at makes_resource h r) (list_any (is_take_of r) h) taken where
-  shape : (made gone : Bool) → (made ≡ true → (made && gone) ≡ true) → (made && not gone) ≡ false
-  shape true true p = refl
-  shape true false p = let e : false ≡ true = p refl in absurd (cc)
-  shape false gone p = refl
+taken_unkept h r taken = search (rules, list_any, Bool, not)
 
 -- courses -----------------------------------------------------------------------------------------
 
@@ -341,7 +293,4 @@ module _ (g : Ghosts Token) (names : (tag : ℕ) → g.tag_of (fresh tag) ≡ ta
 
   pub handed_back_once : AreHandedBackOnce g
   handed_back_once max_events acts t kept course whole =
-      let nothing : (n : ℕ) → tag_in (new_book max_events) n ≡ None =
-      λ n. ap (λ (b : Bool). cond b (tag_by (new_book max_events) n) None) (kept_past [] n (omega arith)) in
-      leads_same (λ n. None) (tag_in (new_book max_events)) (λ n. None) acts nothing
-      (subst (λ (last : ℕ → Option ℕ). Leads (tag_in (new_book max_events)) acts last) (λ i n. none_kept t whole n i) (by_course kept course))
+      search (rules, ℕ, None, Bool, cond, kept_past, leads_same, Option, none_kept, by_course)

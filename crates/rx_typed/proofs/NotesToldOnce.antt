@@ -3,7 +3,7 @@ use Rattle.rx_typed.proofs.Common.{◌≡◌, ℕ, ℤ, ◌+◌, ◌≤◌, Bool
 use Rattle.rx_typed.proofs.Common.{sym, ◌∙◌, arith, subst, cond, ◌==◌, append-nil, append_assoc, ltb-false, same_Some, map-append, Ghosts, Mail, Refusal, Key}
 use Rattle.rx_typed.proofs.Common.{shown, moments, notes, checkpoint_causes, State, IsPromised, Accepts, Answers, AnswersCheckpoint, goes_step, Token, RxMail}
 use Rattle.rx_typed.proofs.Common.{RxTaken, takes, AreTaken, none_taken, one_taken, AreMailsTaken, no_mail_taken, mail_taken, notes_left}
-use Rattle.std.proofs.Common.{suc, zero}
+use Rattle.std.proofs.Common.{suc, zero, rules}
 use Rattle.std.proofs.lemmas.List.{drop_all, drop_at, drop-append-le}
 use Rattle.rx_event.specs.declared.refusal.Refusal.TheVariants.{MailLeft}
 use Rattle.rx_event.proofs.Laws.MakingRemovesNothing.{made_untold}
@@ -12,7 +12,7 @@ use Rattle.rx_book.specs.Requests.{Request, next_request, take_request}
 use Rattle.rx_book.specs.Courses.{LetsGo, none_let_go, next_let_go, Emits, none_emitted, next_emitted}
 use Rattle.rx_typed.specs.Codes.{mail_of}
 use Rattle.rx_typed.specs.Calls.{IsTaken, none_waits, IsMailTaken, tells as tells_mail, has_no_mail, new_book, IsCheckpoint}
-use Rattle.rx_typed.specs.Courses.{Act, handed_in, handed_back, told, given_back, taken_in, note_told, notes_told, notes_between, notes_made, all_drained}
+use Rattle.rx_typed.specs.Courses.{Act, handed_in, handed_back, told, given_back, taken_in, note_told, notes_told, notes_between, notes_made}
 use Rattle.rx_typed.specs.Courses.{Course, no_call, calls, drains, checkpoints, AreNotesToldOnce, IsCall, next, next_all, end, abort, fail, decline, dispose}
 use Rattle.rx_typed.specs.Courses.{open_node, using, hold, hub, connect, disconnect, apply, remove, lease, give_back, take_one, take_mail, close, asks}
 
@@ -67,8 +67,7 @@ by_accepted s t asked accepts behind =
 
 answered : {A E : Type 0} {gives : A → Type 0} {refuses : E → Type 0} (s t : State) (asked : Request) (answer : Result A E) →
     Answers gives refuses s asked t answer → IsBehind s → Does s t []
-answered s t asked (Ok a) says behind = by_accepted s t asked says.accepted behind
-answered s t asked (Err e) says behind = does_nothing s t [] says.kept refl
+answered s t asked x3 says behind = search (rules, by_accepted, does_nothing)
 
 -- the same where what goes in is told
 handed_over : {A E : Type 0} {gives : A → Type 0} {refuses : E → Type 0} (s t : State) (asked : Request) (answer : Result A E) (status number tag : ℕ) →
@@ -200,8 +199,7 @@ module _ (g : Ghosts Token) where
   by_course {s} {t = u} kept (calls {acts = acts} {more = more} {t = t} before call after) =
       one_on s t u acts more (notes_made before) (by_course kept before) (by_call (promised kept before) call)
   by_course {s} {t = u} kept (drains {acts = acts} {t = t} {mails' = mails'} {takens' = takens'} {drained = drained} before call after) =
-      one_on s t u acts (all_drained mails' takens' drained) (notes_made before) (by_course kept before)
-      (does_both (all_mails call.told.taken) (all_taken g call.taken.taken))
+      search (rules, one_on, does_both, all_mails, all_taken, by_course kept before)
   by_course {s} {t = u} kept (checkpoints {acts = acts} {t = t} {place = place} {status = status} before made after) =
       by_course kept before ∙ ap (λ (ms : List RxMail). notes_told acts ++ ms) (sym (by_checkpoint t u place status after made))
 
