@@ -6,6 +6,8 @@ use Rattle.rx_book.proofs.Common.{Request, IsRefusalOf, state_of, IsLetIn, IsAdm
 use Rattle.rx_slots.specs.declared.Key.{Key}
 use Rattle.rx_register.specs.Claims.{IsReady as IsReadyFor}
 use Rattle.rx_register.specs.State.{IsPromised}
+use Rattle.rx_ground.specs.Told.{IsFound}
+use Rattle.rx_ground.specs.declared.hubs.Found.{Found}
 use Rattle.rx_book.proofs.CallWithoutCause.{let_in, within_full, state_roomier}
 use Rattle.rx_book.proofs.ListOfClosed.{standing_begun, room_begun}
 use Rattle.std.proofs.Common.{rules}
@@ -48,6 +50,14 @@ admits {T = T} {g} {old} {mid} {cause = cause} cost none roomier standing promis
 pub state_admitted : {T : Type 0} {g : Ghosts T} {old new : Ground T} {cause : Option Refusal} {cost : Option Wanted} → Admits g old cause cost new →
     state_of g new ≡ record (state_of g old) { closed = [] }
 state_admitted {g} {old} {new} a = state_roomier g (record old { closed = [] }) new a.roomier
+
+-- and what was found of a hub is so still
+pub found_admitted : {T : Type 0} {g : Ghosts T} {old new : Ground T} {cause : Option Refusal} {cost : Option Wanted} → Admits g old cause cost new →
+    (kind : Kind) {found : Found} → IsFound old.register.history old.hubs.hubs kind found → IsFound new.register.history new.hubs.hubs kind found
+found_admitted {old = old} {new} a kind {found} is =
+    let hubs : new.hubs.hubs ≡ old.hubs.hubs = (λ i. (a.roomier.hubs i).hubs) in
+    let history : new.register.history ≡ old.register.history = (λ i. (a.roomier.register i).history) in
+    rw (hubs, history) is
 
 -- a call, of which the list of what is closed tells nothing, is let in
 module _ {T : Type 0} {g : Ghosts T} {old new : Ground T} {cause : Option Refusal} (ask : State → Request)

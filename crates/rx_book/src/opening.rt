@@ -7,6 +7,7 @@ ghost use Rattle.rx_event.specs.Calls.{Opening};
 ghost use Rattle.rx_event.specs.Causes.{added_by};
 ghost use Rattle.rx_event.specs.Totals.{debt};
 ghost use Rattle.rx_event.specs.Tree.{open_connections};
+ghost use Rattle.rx_ground.specs.Told.{IsFound};
 ghost use Rattle.rx_ground.specs.Ties.{IsStanding};
 ghost use Rattle.rx_book.specs.State.{has_key};
 ghost use Rattle.rx_book.specs.Requests.{place_of, open_request, using_request};
@@ -21,7 +22,7 @@ use crate::holding::is_fresh;
 use crate::key::{Key, shown_key, shown_res_key};
 use crate::place::spot_of;
 use rx_event::{Kind, Refusal};
-use rx_ground::{Ground, Wanted};
+use rx_ground::{Found, Ground, Wanted};
 use rx_resource::Resource;
 
 /// The key of the connection of the hub that such a node subscribes to, where its opening forced one.
@@ -46,8 +47,14 @@ fn connection_of<R: Resource>(ground: &Ground<R>, kind: Kind, connects: bool) ->
 /// Opens a node, for which there is room, and does what that forces. Of the room no more is gone than the
 /// opening costs.
 #[inline(always)]
-pub(crate) fn write_opening<R: Resource>(ground: &mut Ground<R>, at: At, kind: Kind) -> Opened
+pub(crate) fn write_opening<R: Resource>(
+    ground: &mut Ground<R>,
+    at: At,
+    kind: Kind,
+    found: Found,
+) -> Opened
     requires admitted { IsAdmitted R.Resource ground.old (open_request (state_of R.Resource ground.old) at kind) }
+    requires found { IsFound ground.old.register.history ground.old.hubs.hubs kind found }
     ensures standing { IsStanding R.Resource ground.new }
     ensures accepted { Accepts (state_of R.Resource ground.old)
         (open_request (state_of R.Resource ground.old) at kind) (state_of R.Resource ground.new) }
@@ -59,12 +66,11 @@ pub(crate) fn write_opening<R: Resource>(ground: &mut Ground<R>, at: At, kind: K
         debt ground.new.register.base ground.new.register.history + more ≤ ground.new.register.room }
 {
     let spot = spot_of(at);
-    let connects = ground.forces_connect(kind);
-    let key = ground.write_open(spot.place, kind, spot.above);
+    let key = ground.write_open(spot.place, kind, spot.above, found.index);
     ground.settle();
     Opened {
         key: shown_key(key),
-        connected: connection_of(ground, kind, connects),
+        connected: connection_of(ground, kind, found.connects),
     }
 }
 
@@ -85,12 +91,13 @@ impl<R: Resource> Book<R> {
         ensures { AnswersOpened self.old (open_request self.old at kind) self.new result }
     {
         let spot = spot_of(at);
-        let cost = self.ground.opening_cost(spot.place, kind);
+        let found = self.ground.found(kind);
+        let cost = Wanted::of_opening(spot.place, kind, found.connects);
         let cause = self
             .ground
-            .opening_cause(spot.place, spot.above, kind, cost);
+            .opening_cause(spot.place, spot.above, kind, found, cost);
         admit(&mut self.ground, cause, Some(cost))?;
-        Ok(write_opening(&mut self.ground, at, kind))
+        Ok(write_opening(&mut self.ground, at, kind, found))
     }
 
     /// Opens a mirroring node that holds a resource, which waits for its release once the node ends, is
@@ -111,7 +118,9 @@ impl<R: Resource> Book<R> {
                 back: resource,
             });
         }
-        let node = self.ground.write_open(spot.place, Kind::Pass, spot.above);
+        let node = self
+            .ground
+            .write_open(spot.place, Kind::Pass, spot.above, 0);
         let res = self.ground.write_accept(node, resource);
         self.ground.settle();
         Ok(OpenedUsing {

@@ -19,7 +19,7 @@ use crate::key::{Key, ResKey, shown_res_key, tree_key};
 use crate::opening::write_opening;
 use crate::place::spot_of;
 use rx_event::Kind;
-use rx_ground::Ground;
+use rx_ground::{Ground, Wanted};
 use rx_resource::Resource;
 
 /// Holds a fresh resource at an open node, for which there is room. It forces nothing, and the list of what was
@@ -63,17 +63,18 @@ impl<R: Resource> Book<R> {
     {
         let spot = spot_of(at);
         let fresh = is_fresh(&resource);
+        let found = self.ground.found(kind);
+        let cost = Wanted::of_opening_holding(spot.place, kind, found.connects);
         let cause = self
             .ground
-            .opening_holding_cause(spot.place, spot.above, kind, fresh);
-        let cost = self.ground.opening_holding_cost(spot.place, kind);
+            .opening_holding_cause(spot.place, spot.above, kind, fresh, found, cost);
         if let Err(why) = admit(&mut self.ground, cause, Some(cost)) {
             return Err(Refused {
                 why,
                 back: resource,
             });
         }
-        let opened = write_opening(&mut self.ground, at, kind);
+        let opened = write_opening(&mut self.ground, at, kind, found);
         let res = write_holding(&mut self.ground, opened.key, resource);
         Ok(OpenedHolding { opened, res })
     }

@@ -10,7 +10,11 @@ use Rattle.rx_ground.proofs.Common.{AreTied, AreJoined, KeepsNodes, Remarks}
 use Rattle.rx_event.specs.declared.event.Event.TheVariants.{Hub as Publish}
 use Rattle.rx_event.specs.Allowed.{most_hubs}
 use Rattle.rx_event.specs.Tree.{hubs as hubs_in}
-use Rattle.rx_hub.specs.Hubs.{IsPromised, published_of}
+use Rattle.rx_hub.specs.Hubs.{IsPromised, StandsAt, published_of}
+use Rattle.rx_hub.proofs.Laws.Walks.{hub_at}
+use Rattle.rx_ground.specs.Told.{IsFound}
+use Rattle.std.specs.Prelude.{is_none}
+use Rattle.rx_ground.proofs.Common.{not, ◌&&◌, same_Some, Sub}
 use Rattle.rx_ground.proofs.HubsBesideTree.{joined_without, joined_still, joined_found, joined_connected, found_named}
 use Rattle.rx_ground.proofs.StaysTied.{IsOpenedIn, found_still, still_there}
 use Rattle.rx_ground.proofs.Laws.Members.{Contains-map, Contains-from_map, All-members, AllPairs-map}
@@ -56,6 +60,31 @@ hub_known h hubs of g o is =
 
 pub no_auto_hub : (h : List Event) (g : ℕ) → at makes_hub h g ≡ false → at is_auto_hub h g ≡ false
 no_auto_hub h g none = search (rules, slice_get, false≢true, option_map_or)
+
+-- and so is what an opening finds of the hub that its node subscribes to
+pub found_none : (h : List Event) (hubs : List Hub) → AreHubsOf h hubs → (g : ℕ) → find_hub hubs g ≡ None →
+    IsFound h hubs (Sub g) (record { index = 0; is_missing = true; connects = false })
+found_none h hubs of g none = let unmade : at makes_hub h g ≡ false = sym (found_made h hubs of g) ∙ ap is_some none in record {
+  missing = sym (ap not unmade);
+  connects = sym (ap (λ b. b && not (has_connection h g)) (no_auto_hub h g unmade));
+  stands = λ n same some. search (rules, none, same, some);
+}
+
+pub found_there : (h : List Event) (hubs : List Hub) → AreHubsOf h hubs → (g i : ℕ) (p : Published) (b : Bool) → StandsAt hubs i g →
+    Some p ≡ option_map published_of (slice_get hubs i) → b ≡ (is_auto_hub (Publish p.mode) && is_none p.connection) →
+    IsFound h hubs (Sub g) (record { index = i; is_missing = false; connects = b })
+found_there h hubs of g i p b stands got is =
+    let own = hub_at hubs i g stands in
+    let p_is : p ≡ published_of own.0 = same_Some p (published_of own.0) (got ∙ ap (option_map published_of) own.1.0) in
+    let told = hub_told h own.0 (of.each i own.0 own.1.0) g own.1.1 in
+    let made = sym (ap (λ o. option_map_or makes_hub o false) told.made) in
+    let auto = ap (λ o. option_map_or is_auto_hub o false) told.made in
+    let linked = told.connection in
+    record {
+      missing = ap not made;
+      connects = search (rules, p_is, is, auto, linked);
+      stands = λ n same some. search (rules, stands, same);
+    }
 
 -- there are as many as were made ------------------------------------------------------------------
 

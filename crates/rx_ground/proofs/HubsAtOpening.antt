@@ -4,8 +4,17 @@ use Rattle.rx_ground.proofs.Common.{◌⊎◌, IfNone, cases_Bool, Kept, Ghosts,
 use Rattle.rx_ground.proofs.Common.{AreApart, hubs_after, with_made, next_key, is_inside, Hub, Hubs, AreBelow, find_hub, AreHubsOf, hubs_follow, LeavesHubs}
 use Rattle.rx_ground.proofs.Common.{hubs_with_made, hubs_exchanged, ready_to_subscribe, ready_to_exchange, AreTied, AreJoined, Remarks, opened_marks}
 use Rattle.rx_ground.proofs.HubsBesideTree.{as_many, joined_cut, joined_found, joined_opened}
+use Rattle.rx_hub.specs.Hubs.{StandsAt}
+use Rattle.std.proofs.lemmas.Option.{slice_get-map}
+use Rattle.rx_ground.proofs.Common.{option_map, refl, slice_get, without_gone, Key, is_some, IsSome}
 use Rattle.rx_ground.proofs.ReadyToOpen.{IsReadyToOpen, IsOpenedBelow, none_closed, opened_found, opened_new, opened_tied}
 use Rattle.std.proofs.Common.{rules}
+
+-- a hub that nodes left keeps its number
+same_number : (gone : Key → Bool) (o : Option Hub) →
+    option_map (λ (hub : Hub). hub.number) (option_map (without_gone gone None) o) ≡ option_map (λ (hub : Hub). hub.number) o
+same_number gone None = refl
+same_number gone (Some hub) = search rules
 
 module _ {base : Kept} {T : Type 0} {g : Ghosts T} {h : List Event} {place : Place} {kind : Kind} {old left : Tree T} {hubs later : Hubs} {replaces : Bool}
     (ready : IsReadyToOpen base g h place kind old left hubs later replaces) where
@@ -37,6 +46,23 @@ module _ {base : Kept} {T : Type 0} {g : Ghosts T} {h : List Event} {place : Pla
   -- what is left of the hubs finds its records in what is left of the tree
   pub joined_left : AreJoined left.nodes later.hubs
   joined_left = search (rules, cases_Bool, joined_cut)
+
+  -- and each hub stands where it stood
+  pub stands_left : (index n : ℕ) → StandsAt hubs.hubs index n → StandsAt later.hubs index n
+  stands_left index n stands = by_test (cases_Bool replaces) where
+    by_test : (replaces ≡ true) ⊎ (replaces ≡ false) → StandsAt later.hubs index n
+    by_test (inl takes) =
+        let x = ready.clears.exchanged takes in
+        subst (λ (hs : Hubs). StandsAt hs.hubs index n) (sym x.leave)
+        (ap (option_map (λ (hub : Hub). hub.number)) (slice_get-map (without_gone (is_inside h x.inner.number) None) hubs.hubs index) ∙
+        same_number (is_inside h x.inner.number) (slice_get hubs.hubs index) ∙ stands)
+    by_test (inr leaves) = subst (λ (hs : Hubs). StandsAt hs.hubs index n) (sym (ready.clears.same leaves)) stands
+
+  -- the hub that is subscribed to is there
+  pub found_before : (n : ℕ) → kind ≡ Sub n → IsSome (find_hub hubs.hubs n)
+  found_before n same =
+      let next = subst (λ (q : Kind). MayFollow base h (Open place q)) same ready.next in
+      ap is_some (ready_to_subscribe base h place n hubs.hubs next ready.tied.published).1
 
   -- the hub that is subscribed to is there still, and its subscribers are older
   pub ready_left : (n : ℕ) → kind ≡ Sub n → (hub : Hub) × (find_hub later.hubs n ≡ Some hub) × AreBelow (length h) hub.subscribers

@@ -4,7 +4,10 @@ use Rattle.rx_ground.proofs.Common.{◌∙◌, inl, inr, ◌⊎◌, arith, optio
 use Rattle.rx_ground.proofs.Common.{Place, Source, Inner, Notifier, Event, Open, is_switch, is_until, is_source_of, is_inner_of, inner_named, at, Key}
 use Rattle.rx_ground.proofs.Common.{named_by, parent_named, is_open, parent, IsLawful, one_source, parent_within, parent_name, event_at, notifier_stands}
 use Rattle.rx_ground.proofs.Common.{Slots, find, Node, IsChild, IsFirst, HasNone, some_of, child_found, AreRecords, IsInner, HasNoInner, ReplacesNone}
+use Rattle.rx_ground.proofs.Common.{Bool}
 use Rattle.rx_event.proofs.Laws.MarksInner.{switched_parent}
+use Rattle.rx_slots.proofs.Laws.EntryByNumber.{find-value_at}
+use Rattle.rx_slots.specs.Slots.{value_at}
 use Rattle.rx_ground.proofs.Records.{parent_in_tree}
 use Rattle.std.proofs.Common.{rules}
 
@@ -113,11 +116,11 @@ made_found x0 made read = search (rules, none-some, same_Some)
 
 -- where the node above is no Switch, nothing is replaced
 pub no_switch : {base : Kept} → {h : List Event} {nodes : Slots Node} {chain : List Key} (r : AreRecords base h nodes chain) {place : Place}
-    (above : Option Key) (merging : Key) (made : Event) → named_by place ≡ option_map (λ k. k.number) above → above ≡ Some merging →
-    option_map (λ (x : Node). x.made) (find nodes merging) ≡ Some made → false ≡ is_switch made → ReplacesNone h place
-no_switch {h} {nodes} r above merging made named at_above read flat f inner switch =
-    let x = made_found (find nodes merging) made read in
+    (above : Option Key) (merging : Key) (node : Node) → named_by place ≡ option_map (λ k. k.number) above → above ≡ Some merging →
+    IsSome (find nodes merging) → value_at nodes merging.slot ≡ Some node → (b : Bool) → b ≡ is_switch node.made → b ≡ false → ReplacesNone h place
+no_switch {h} {nodes} r above merging node named at_above there value b told flat f inner switch =
     let same : f ≡ merging.number = same_Some f merging.number (sym (ap named_by inner) ∙ named ∙ ap (option_map (λ (k : Key). k.number)) at_above) in
     absurd (both_ways (at is_switch h f)
-    (ap (at is_switch h) same ∙ ap (λ (o : Option Event). option_map_or is_switch o false) (r.each merging x.0 x.1).made ∙ ap is_switch x.2 ∙ sym flat)
+    (ap (at is_switch h) same ∙ ap (λ (o : Option Event). option_map_or is_switch o false) (r.each merging node (find-value_at nodes merging there ∙ value)).made ∙
+    sym told ∙ flat)
     switch)

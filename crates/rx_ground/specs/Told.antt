@@ -1,5 +1,5 @@
 -- What the record of a node and of a hub says.
-use Rattle.std.specs.Prelude.{◌≡◌, ℕ, ◌==◌, ◌&&◌, Bool, true, false, List, Option, Some, is_some, slice_get}
+use Rattle.std.specs.Prelude.{◌≡◌, ℕ, ◌==◌, ◌&&◌, Bool, true, false, List, Option, Some, is_some, IsSome, slice_get}
 use Rattle.std.specs.List.{list_any}
 use Rattle.std.specs.Option.{option_map_or}
 use Rattle.rx_event.specs.Kept.{Kept}
@@ -8,6 +8,8 @@ use Rattle.rx_event.specs.declared.event.Place.{Place}
 use Rattle.rx_event.specs.declared.event.Place.TheVariants.{Root, Source, Inner, Notifier}
 use Rattle.rx_event.specs.declared.event.Event.{Event}
 use Rattle.rx_event.specs.declared.event.Event.TheVariants.{Hub}
+use Rattle.rx_event.specs.declared.event.Kind.{Kind}
+use Rattle.rx_event.specs.declared.event.Kind.TheVariants.{Sub}
 use Rattle.rx_event.specs.Events.{has_source, is_manual_hub, is_merging, is_until}
 use Rattle.rx_event.specs.Tree.{at, ancestors, is_open}
 use Rattle.rx_event.specs.Marks.{marks_of}
@@ -15,8 +17,10 @@ use Rattle.rx_slots.specs.declared.Key.{Key}
 use Rattle.rx_slots.specs.Slots.{Slots, find}
 use Rattle.rx_tree.specs.declared.node.Node.{Node}
 use Rattle.rx_hub.specs.declared.hub.Published.{Published}
-use Rattle.rx_event.specs.Causes.{has_connection, connects_up_to}
+use Rattle.rx_hub.specs.Hubs.{Hub as HubAt, StandsAt, find_hub}
+use Rattle.rx_event.specs.Causes.{has_connection, connects_up_to, is_without_hub, forces_connect}
 use Rattle.rx_ground.specs.declared.base.Record.{Record}
+use Rattle.rx_ground.specs.declared.hubs.Found.{Found}
 
 -- the key is an open node's, and the record says which event made it and how the history marks it
 pub record IsTold (base : Kept) (h : List Event) (nodes : Slots Node) (key : Key) (r : Record) : Type 0 where
@@ -50,6 +54,16 @@ is_unowed m (Notifier p) = false
 pub record IsHubTold (h : List Event) (g : ℕ) (p : Published) : Type 0 where
   pub made : slice_get h g ≡ Some (Hub p.mode)
   pub connection : is_some p.connection ≡ has_connection h g
+
+-- where the hub is there that a node of this kind subscribes to, it stands at this index
+abbrev pub IsFoundAt : List HubAt → Kind → (index : ℕ) → Type 0
+IsFoundAt hubs kind index = (g : ℕ) → kind ≡ Sub g → IsSome (find_hub hubs g) → StandsAt hubs index g
+
+-- what is found of that hub: whether it is missing, whether the opening connects it, and where it stands
+pub record IsFound (h : List Event) (hubs : List HubAt) (kind : Kind) (found : Found) : Type 0 where
+  pub missing : found.is_missing ≡ is_without_hub h kind
+  pub connects : found.connects ≡ forces_connect h kind
+  pub stands : IsFoundAt hubs kind found.index
 
 -- a caller connects the hub of this number, and it has an open connection
 abbrev pub is_connected_manual : List Event → ℕ → Bool

@@ -1,17 +1,16 @@
 //! What each call may cost: the one table that its cause and its reservation read.
 
-ghost use Rattle.std.specs.Prelude.{◌≡◌, []};
+ghost use Rattle.std.specs.Prelude.{◌≡◌, ◌≤◌, []};
 ghost use Rattle.rx_event.specs.declared.event.Mode.{Mode};
 ghost use Rattle.rx_event.specs.Calls.{Opening, OpeningUsing, Holding, Applying, Leasing, Publishing, Connecting};
 ghost use Rattle.rx_event.specs.Causes.{end_at as end_at_in};
 ghost use Rattle.rx_ground.specs.Costs.{cost_of};
 ghost use Rattle.rx_ground.specs.OpeningHolding.{opening_holding_cost};
-ghost use Rattle.rx_ground.specs.Ties.{IsStanding};
+ghost use Rattle.rx_event.specs.Causes.{forces_connect};
 
-use crate::base::{Ground, Wanted};
+use crate::base::Wanted;
 use crate::route::Reach;
 use rx_event::{Kind, Place};
-use rx_resource::Resource;
 
 /// How many events the end of a node at this place has to be given, when it is opened: 0 for an inner,
 /// whose end the item was given that it was projected for, and 1 at each other place.
@@ -132,17 +131,15 @@ impl Wanted {
             leases: 0,
         }
     }
-}
 
-impl<R: Resource> Ground<R> {
     /// Of opening such a node there: its event, and one for its end; with a connection that it forces, two
     /// more.
     #[inline(always)]
-    pub fn opening_cost(&self, place: Place, kind: Kind) -> Wanted
-        requires standing { IsStanding R.Resource self.now }
-        ensures { result ≡ cost_of self.now.register.history (Opening place kind) }
+    pub fn of_opening(place: Place, kind: Kind, connects: bool) -> Self
+        ensures cost { (h : _) → connects ≡ forces_connect h kind → result ≡ cost_of h (Opening place kind) }
+        ensures few { result.events ≤ 4 }
     {
-        let connects = self.forces_connect(kind);
+        let _ = kind;
         let events: u64 = if connects { 3 } else { 1 };
         let nodes: u64 = if connects { 2 } else { 1 };
         Wanted {
@@ -158,11 +155,10 @@ impl<R: Resource> Ground<R> {
     /// Of opening such a node there that holds a resource from then on: what the opening costs, and what the
     /// holding does.
     #[inline(always)]
-    pub fn opening_holding_cost(&self, place: Place, kind: Kind) -> Wanted
-        requires standing { IsStanding R.Resource self.now }
-        ensures { result ≡ opening_holding_cost self.now.register.history place kind }
+    pub fn of_opening_holding(place: Place, kind: Kind, connects: bool) -> Self
+        ensures { (h : _) → connects ≡ forces_connect h kind → result ≡ opening_holding_cost h place kind }
     {
-        let opening = self.opening_cost(place, kind);
+        let opening = Wanted::of_opening(place, kind, connects);
         Wanted {
             events: opening.events + Wanted::of_holding().events,
             notes: opening.notes,

@@ -12,17 +12,18 @@ ghost use Rattle.rx_slots.specs.Slots.{find};
 ghost use Rattle.rx_tree.specs.Resources.{is_held_at};
 ghost use Rattle.rx_ground.specs.Leases.{is_out_at};
 ghost use Rattle.rx_event.specs.Causes.{by_key, projecting_causes};
-ghost use Rattle.rx_event.specs.Causes.{is_without_hub as is_without_hub_in, is_wrong_place as is_wrong_place_in};
+ghost use Rattle.rx_event.specs.Causes.{is_wrong_place as is_wrong_place_in};
 ghost use Rattle.rx_event.specs.Causes.{is_taken_place as is_taken_place_in, is_unowed_place as is_unowed_place_in};
 ghost use Rattle.rx_event.specs.Causes.{is_crowded as is_crowded_in, is_over as is_over_in};
 ghost use Rattle.rx_ground.specs.Costs.{cost_of};
 ghost use Rattle.rx_ground.specs.FirstCause.{first_at, first_by_key, first_by_res_key, first_by_lease_key, has_node};
 ghost use Rattle.rx_ground.specs.Ties.{IsStanding, is_there};
-ghost use Rattle.rx_ground.specs.Told.{IsTold, has_place as has_place_in};
+ghost use Rattle.rx_ground.specs.Told.{IsTold, IsFound, has_place as has_place_in};
 ghost use Rattle.rx_ground.specs.Told.{is_used as is_used_in, is_unowed as is_unowed_in};
-ghost use Rattle.rx_ground.specs.OpeningHolding.{first_holding};
+ghost use Rattle.rx_ground.specs.OpeningHolding.{first_holding, opening_holding_cost};
 
 use crate::base::{Ground, Record, Wanted};
+use crate::hubs::Found;
 use crate::leases::LeaseKey;
 use rx_event::{Event, Kind, Marks, Place, Refusal};
 use rx_note::Terminal;
@@ -75,18 +76,6 @@ impl<R: Resource> Ground<R> {
         ensures none { IfNone result (is_some (find self.now.tree.nodes node) ≡ false) }
     {
         self.record(node)
-    }
-
-    /// Whether the kind is that of a subscriber of a hub that is not there.
-    #[inline(always)]
-    fn is_without_hub(&self, kind: Kind) -> bool
-        requires { IsStanding R.Resource self.now }
-        ensures { result ≡ is_without_hub_in self.now.register.history kind }
-    {
-        match kind {
-            Kind::Sub(hub) => !self.has_hub(hub),
-            _ => false,
-        }
     }
 
     /// Whether the node of this key is open, if there is a key.
@@ -195,14 +184,16 @@ impl<R: Resource> Ground<R> {
         place: Place,
         above: Option<Key>,
         kind: Kind,
+        found: Found,
         cost: Wanted,
     ) -> Option<Refusal>
         requires standing { IsStanding R.Resource self.now }
         requires named { named_by place ≡ option_map (λ key. key.number) above }
+        requires found { IsFound self.now.register.history self.now.hubs.hubs kind found }
         requires cost { cost ≡ cost_of self.now.register.history (Opening place kind) }
         ensures { result ≡ first_by_key self.now (is_there self.now.tree.nodes above) true (Opening place kind) }
     {
-        if self.is_without_hub(kind) {
+        if found.is_missing {
             return Some(Refusal::NoHub);
         }
         if !self.is_there(above) {
@@ -279,12 +270,16 @@ impl<R: Resource> Ground<R> {
         above: Option<Key>,
         kind: Kind,
         is_fresh: bool,
+        found: Found,
+        cost: Wanted,
     ) -> Option<Refusal>
         requires standing { IsStanding R.Resource self.now }
         requires named { named_by place ≡ option_map (λ key. key.number) above }
+        requires found { IsFound self.now.register.history self.now.hubs.hubs kind found }
+        requires cost { cost ≡ opening_holding_cost self.now.register.history place kind }
         ensures { result ≡ first_holding self.now (is_there self.now.tree.nodes above) is_fresh place kind }
     {
-        if self.is_without_hub(kind) {
+        if found.is_missing {
             return Some(Refusal::NoHub);
         }
         if !self.is_there(above) {
@@ -305,7 +300,6 @@ impl<R: Resource> Ground<R> {
         if !is_fresh {
             return Some(Refusal::NotFresh);
         }
-        let cost = self.opening_holding_cost(place, kind);
         if self.is_crowded(cost.nodes as u64) {
             return Some(Refusal::TooMany);
         }

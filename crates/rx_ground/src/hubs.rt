@@ -2,24 +2,24 @@
 //! connects it, and which connections are open.
 
 ghost use Rattle.std.specs.Prelude.{◌≡◌, ◌+◌, ◌<◌, ◌++◌, ◌∷◌, ◌&&◌, [], nat_lt, length, true, false, IfSome, IfNone};
-ghost use Rattle.std.specs.Prelude.{IsSome, is_some, option_map};
+ghost use Rattle.std.specs.Prelude.{IsSome, is_some, is_none, option_map};
 ghost use Rattle.std.specs.List.{find};
 ghost use Rattle.std.specs.Option.{option_to_list};
 ghost use Rattle.rx_event.specs.declared.event.Event.{Event};
+ghost use Rattle.rx_event.specs.declared.event.Kind.{Kind};
 ghost use Rattle.rx_event.specs.Allowed.{most_hubs};
-ghost use Rattle.rx_event.specs.Events.{makes_hub, is_manual_hub};
+ghost use Rattle.rx_event.specs.Events.{makes_hub, is_manual_hub, is_auto_hub};
 ghost use Rattle.rx_event.specs.Tree.{at, hubs, open_connections, places};
 ghost use Rattle.rx_event.specs.Calls.{Publishing, Connecting, Disconnecting};
 ghost use Rattle.rx_slots.specs.Slots.{find as find_in};
 ghost use Rattle.rx_hub.specs.After.{hubs_after};
 ghost use Rattle.rx_hub.specs.Hubs.{new_hub};
-ghost use Rattle.rx_event.specs.Causes.{forces_connect};
 ghost use Rattle.rx_register.specs.State.{Writes};
 ghost use Rattle.rx_ground.specs.FirstCause.{first_by_key};
 ghost use Rattle.rx_ground.specs.Memory.{TakesNoMemory};
 ghost use Rattle.rx_ground.specs.Shown.{list_room};
 ghost use Rattle.rx_ground.specs.Ties.{AreTied, AreLeased, IsReady, IsStanding, IsNewNode, KeepsOlder};
-ghost use Rattle.rx_ground.specs.Told.{IsHubTold, is_connected_manual};
+ghost use Rattle.rx_ground.specs.Told.{IsFound, IsHubTold, is_connected_manual};
 
 use crate::base::{Ground, Wanted};
 use rx_event::{Event, Kind, MOST_HUBS, Mode, Refusal};
@@ -34,16 +34,40 @@ fn is_up_by_hand(hub: Published) -> bool
     Event::Hub(hub.mode).is_manual_hub() && hub.connection.is_some()
 }
 
-impl<R: Resource> Ground<R> {
-    /// Whether a hub has this number.
-    #[inline(always)]
-    pub(crate) fn has_hub(&self, hub: u64) -> bool
-        requires standing { IsStanding R.Resource self.now }
-        ensures { result ≡ at makes_hub self.now.register.history hub }
-    {
-        self.hubs.get(hub).is_some()
-    }
+/// What an opening has to know of the hub that its node subscribes to, looked up once.
+#[derive(Clone, Copy)]
+pub struct Found {
+    /// Where the hub stands among the others; 0 where there is none.
+    pub index: usize,
+    /// Whether no hub has its number.
+    pub(crate) is_missing: bool,
+    /// Whether the opening connects it: it connects by itself, and has no connection.
+    pub connects: bool,
+}
 
+impl Found {
+    // Nothing of a hub.
+    #[inline(always)]
+    fn none(is_missing: bool) -> Self
+        ensures { result ≡ record { index = 0; is_missing = is_missing; connects = false } }
+    {
+        Found {
+            index: 0,
+            is_missing,
+            connects: false,
+        }
+    }
+}
+
+// Whether a hub connects by itself, and has no connection.
+#[inline(always)]
+fn awaits(hub: Published) -> bool
+    ensures { result ≡ (is_auto_hub (Event.Hub hub.mode) && is_none hub.connection) }
+{
+    Event::Hub(hub.mode).is_auto_hub() && hub.connection.is_none()
+}
+
+impl<R: Resource> Ground<R> {
     /// What is known of a hub; None where no hub has this number.
     #[inline(always)]
     fn published(&self, hub: u64) -> Option<Published>
@@ -54,21 +78,31 @@ impl<R: Resource> Ground<R> {
         self.hubs.get(hub)
     }
 
-    /// Whether opening such a node forces a connection: it subscribes to a RefCount hub that has none.
-    #[tactic(auto, using(crate::proofs::HubsAfterEvent::no_auto_hub))]
+    /// What is found of the hub that a node of this kind subscribes to.
     #[inline(always)]
-    pub fn forces_connect(&self, kind: Kind) -> bool
+    pub fn found(&self, kind: Kind) -> Found
         requires standing { IsStanding R.Resource self.now }
-        ensures { result ≡ forces_connect self.now.register.history kind }
+        ensures { IsFound self.now.register.history self.now.hubs.hubs kind result }
     {
         match kind {
-            Kind::Sub(hub) => match self.published(hub) {
-                Some(published) => {
-                    Event::Hub(published.mode).is_auto_hub() && published.connection.is_none()
-                }
-                None => false,
-            },
-            _ => false,
+            Kind::Sub(hub) => self.found_hub(hub),
+            _ => Found::none(false),
+        }
+    }
+
+    // What is found of the hub of this number.
+    #[inline(always)]
+    fn found_hub(&self, hub: u64) -> Found
+        requires standing { IsStanding R.Resource self.now }
+        ensures { IsFound self.now.register.history self.now.hubs.hubs (Kind.Sub hub) result }
+    {
+        let Some(index) = self.hubs.index_of(hub) else {
+            return Found::none(true);
+        };
+        Found {
+            index,
+            is_missing: false,
+            connects: awaits(self.hubs.at(index)),
         }
     }
 

@@ -67,5 +67,6 @@ mod settle;
 mod write;
 
 pub use base::{Ground, Record, Wanted};
+pub use hubs::Found;
 pub use leases::LeaseKey;
 pub use route::{Reach, Way};

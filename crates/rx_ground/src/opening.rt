@@ -14,8 +14,9 @@ ghost use Rattle.rx_ground.specs.Inners.{IsInner, HasNoInner, IsReplaced, Replac
 ghost use Rattle.rx_ground.specs.Ties.{AreTied, AreLeased, IsReady, IsNewNode, IsUndue, Remarks, opened_marks};
 ghost use Rattle.rx_event.specs.declared.event.Kind.{Kind};
 ghost use Rattle.rx_hub.specs.After.{hubs_after, with_made};
-ghost use Rattle.rx_hub.specs.Hubs.{find_hub, AreBelow, IsFree};
+ghost use Rattle.rx_hub.specs.Hubs.{find_hub, AreBelow, IsFree, StandsAt};
 ghost use Rattle.rx_ground.specs.Memory.{TakesNoMemory, TakesOneNode};
+ghost use Rattle.rx_ground.specs.Told.{IsFoundAt};
 ghost use Rattle.rx_ground.specs.Shown.{list_room};
 
 use crate::base::Ground;
@@ -61,8 +62,8 @@ fn mark_opened<R: Resource>(tree: &mut Tree<R>, replaces: bool, place: Place, ab
 
 /// Lets a node that was opened join the hub that it subscribes to (Publish). Nothing for any other node.
 #[inline(always)]
-fn join(hubs: &mut Hubs, place: Place, kind: Kind, key: Key)
-    requires there { (g : _) → kind ≡ Kind.Sub g → IsSome (find_hub hubs.old.hubs g) }
+fn join(hubs: &mut Hubs, index: usize, place: Place, kind: Kind, key: Key)
+    requires there { (g : _) → kind ≡ Kind.Sub g → StandsAt hubs.old.hubs index g }
     requires newest { (g : _) → kind ≡ Kind.Sub g →
         IfSome (find_hub hubs.old.hubs g) (λ h. AreBelow key.number h.subscribers) }
     requires slot { (g : _) → kind ≡ Kind.Sub g → key.slot < hubs.old.slots }
@@ -71,7 +72,7 @@ fn join(hubs: &mut Hubs, place: Place, kind: Kind, key: Key)
 {
     let _ = place;
     if let Kind::Sub(hub) = kind {
-        hubs.subscribe(hub, key);
+        hubs.subscribe(index, hub, key);
     }
 }
 
@@ -79,6 +80,7 @@ impl<R: Resource> Ground<R> {
     /// The key of the open inner of a Switch; None where none is open.
     ///
     /// A Switch has two open children at most, its source and one inner, and only these are looked at.
+    #[inline(never)]
     fn inner_of(&self, switch: Key) -> Option<Key>
         requires tied { AreTied self.now.register.base R.Resource self.now.register.history self.now.tree
             self.now.hubs }
@@ -111,41 +113,16 @@ impl<R: Resource> Ground<R> {
             return None;
         };
         let merging = above?;
-        let made = self.tree.made(merging)?;
-        if !made.is_switch() {
-            return None;
+        if self.tree.at(merging.slot).is_switch() {
+            return self.inner_of(merging);
         }
-        self.inner_of(merging)
+        None
     }
 
     /// Moves out what makes way for a node that is opened at this place: the open inner of a Switch, and
     /// all below it. Whether there was one.
     #[inline(always)]
     fn exchange(&mut self, place: Place, above: Option<Key>) -> bool
-        requires tied { AreTied self.old.register.base R.Resource self.old.register.history self.old.tree
-            self.old.hubs }
-        requires named { named_by place ≡ option_map (λ key. key.number) above }
-        requires there { IfSome above (λ key. IsSome (find self.old.tree.nodes key)) }
-        ensures way { MakesWay self.old.register.history place self.old.tree self.new.tree result }
-        ensures register { self.new.register ≡ self.old.register }
-        ensures room { self.old.tree.nodes.room ≤ self.new.tree.nodes.room }
-        ensures owed { owed_in self.new.tree.nodes ≤ owed_in self.old.tree.nodes }
-        ensures hubs { ClearsHubs self.old.register.history place self.old.tree self.new.tree
-            self.old.hubs self.new.hubs result }
-        ensures leases { self.new.leases ≡ self.old.leases }
-        ensures closed { ListsWay self.old.register.history place self.old.tree self.new.tree
-            self.old.closed self.new.closed result }
-        ensures memory { TakesNoMemory self.old self.new }
-    {
-        let Place::Inner(_) = place else {
-            return false;
-        };
-        self.exchange_inner(place, above)
-    }
-
-    // The same at an Inner place: apart, so that what opens a node stays small.
-    #[inline(never)]
-    fn exchange_inner(&mut self, place: Place, above: Option<Key>) -> bool
         requires tied { AreTied self.old.register.base R.Resource self.old.register.history self.old.tree
             self.old.hubs }
         requires named { named_by place ≡ option_map (λ key. key.number) above }
@@ -170,9 +147,9 @@ impl<R: Resource> Ground<R> {
 
     /// Opens a node, for which there is room. An inner of a Switch takes the place of the open one: in the
     /// same step that one is closed, and all below it (Switch: it unsubscribes from the previous inner). A
-    /// subscriber of a hub comes last among those of its hub (Publish).
+    /// subscriber of a hub comes last among those of its hub (Publish), which stands at this index.
     #[inline(always)]
-    pub fn write_open(&mut self, place: Place, kind: Kind, above: Option<Key>) -> Key
+    pub fn write_open(&mut self, place: Place, kind: Kind, above: Option<Key>, index: usize) -> Key
         requires tied { AreTied self.old.register.base R.Resource self.old.register.history self.old.tree
             self.old.hubs }
         requires leased { AreLeased self.old.register.history self.old.tree.resources self.old.leases }
@@ -182,6 +159,7 @@ impl<R: Resource> Ground<R> {
         requires space { 0 < list_room self.old }
         requires slots { 0 < length self.old.hubs.hubs →
             self.old.tree.nodes.count + self.old.tree.nodes.room ≤ self.old.hubs.slots }
+        requires found { IsFoundAt self.old.hubs.hubs kind index }
         ensures written { Writes self.old.register (Event.Open place kind ∷ []) self.new.register }
         ensures tied { AreTied self.new.register.base R.Resource self.new.register.history self.new.tree self.new.hubs }
         ensures leased { AreLeased self.new.register.history self.new.tree.resources self.new.leases }
@@ -206,7 +184,7 @@ impl<R: Resource> Ground<R> {
         };
         self.tree.promise();
         let _slots = self.tree.slots();
-        join(&mut self.hubs, place, kind, key);
+        join(&mut self.hubs, index, place, kind, key);
         mark_opened(&mut self.tree, replaces, place, above);
         self.register.write(made);
         key

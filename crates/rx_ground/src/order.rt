@@ -48,12 +48,13 @@ impl<R: Resource> Ground<R> {
     }
 
     /// Whether the node, or one above it, connects the hub of this number or an earlier one.
-    fn is_inside_up_to(&self, hub: u64, node: Option<Key>) -> bool
+    #[inline(never)]
+    fn is_inside_up_to(&self, hub: u64, node: Key) -> bool
         requires standing { IsStanding R.Resource self.now }
-        requires there { is_there self.now.tree.nodes node ≡ true }
-        ensures { result ≡ is_inside_up_to self.now.register.history hub (option_map (λ key. key.number) node) }
+        requires there { IsSome (find self.now.tree.nodes node) }
+        ensures { result ≡ is_inside_up_to self.now.register.history hub (Some node.number) }
     {
-        let mut at = node;
+        let mut at = Some(node);
         while let Some(key) = at {
             if self.is_connection_up_to(hub, key) {
                 return true;
@@ -73,8 +74,8 @@ impl<R: Resource> Ground<R> {
         ensures { result ≡ is_out_of_order_in self.now.register.history place kind }
     {
         let _ = place;
-        match kind {
-            Kind::Sub(hub) => self.is_inside_up_to(hub, above),
+        match (kind, above) {
+            (Kind::Sub(hub), Some(node)) => self.is_inside_up_to(hub, node),
             _ => false,
         }
     }

@@ -161,6 +161,19 @@ fn measure<R: Resource>(tree: &Tree<R>, hubs: &Hubs, route: &mut Route, node: Ke
     }
 }
 
+/// The note of an item that stops there.
+#[inline(always)]
+fn mail_at(place: u64, value: i64, stop: Stop) -> Option<Mail>
+    ensures { result ≡ mail_at place value stop }
+{
+    let (to, note) = match stop {
+        Stop::Delivery(root) => (root.number, Note::Next(value)),
+        Stop::Projection(merging) => (merging.number, Note::Project(value)),
+        Stop::Firing(_) | Stop::Connection(_) => return None,
+    };
+    Some(Mail { place, to, note })
+}
+
 /// Tells of an item at one of its stops: a root is told it, and a FlatMap or a Switch to project it.
 #[inline(always)]
 fn tell_at(register: &mut Register, stop: Stop, value: i64)
@@ -170,19 +183,8 @@ fn tell_at(register: &mut Register, stop: Stop, value: i64)
         register.old.pending ++ option_to_list (mail_at (length register.old.history) value stop) }
     ensures mail_room { register.old.mail_room ≡ register.new.mail_room + told_at stop }
 {
-    let place = register.len();
-    match stop {
-        Stop::Delivery(root) => register.tell(Mail {
-            place,
-            to: root.number,
-            note: Note::Next(value),
-        }),
-        Stop::Projection(merging) => register.tell(Mail {
-            place,
-            to: merging.number,
-            note: Note::Project(value),
-        }),
-        Stop::Firing(_) | Stop::Connection(_) => {}
+    if let Some(mail) = mail_at(register.len(), value, stop) {
+        register.tell(mail);
     }
 }
 

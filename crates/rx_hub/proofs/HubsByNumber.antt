@@ -3,6 +3,7 @@ use Rattle.rx_hub.proofs.Common.{◌≡◌, ◌≢◌, ℕ, zero, suc, ◌<◌, 
 use Rattle.rx_hub.proofs.Common.{option_map, is_some, IsSome, IfSome, refl, sym, ap, subst, ◌∙◌, arith, true≢false, cases_lt, nat_tests, Mode}
 use Rattle.rx_hub.proofs.Common.{same_Some, none-some, option_and_then, Key, first_of, HubDue, IsCalm, IsChain, Notes, IsLinked, connect_of}
 use Rattle.rx_hub.proofs.Common.{due_of, Hub, Hubs, IsPromised, find_hub, at_hub, new_hub, Lists, list_at, is_in}
+use Rattle.rx_hub.proofs.Laws.Walks.{hub_at}
 use Rattle.std.proofs.lemmas.Bool.{cases_Bool}
 use Rattle.std.proofs.Common.{rules}
 
@@ -42,11 +43,6 @@ find_at s p i hub got = find_one s.hubs i hub.number hub got refl (λ j other at
 pub find_index : (s : Hubs) → IsPromised s → (i n : ℕ) → option_map (λ (hub : Hub). hub.number) (slice_get s.hubs i) ≡ Some n →
     find_hub s.hubs n ≡ slice_get s.hubs i
 find_index s p i n named = search (rules, none-some, same_Some, find_at)
-
--- the hub of an index
-pub hub_at : (hubs : List Hub) (i n : ℕ) → option_map (λ (hub : Hub). hub.number) (slice_get hubs i) ≡ Some n →
-    (hub : Hub) × ((slice_get hubs i ≡ Some hub) × (hub.number ≡ n))
-hub_at hubs i n named = search (rules, none-some, same_Some)
 
 get_map : {X : Type 0} (g : X → X) (xs : List X) (i : ℕ) → slice_get (map g xs) i ≡ option_map g (slice_get xs i)
 get_map g [] i = refl

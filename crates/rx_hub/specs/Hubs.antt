@@ -1,6 +1,6 @@
 -- What a contract sees of hubs, the published observables: for each its number and mode, its connection, how its last
 -- connection ended that ended by itself, and its open subscribers by rising number (Publish, Connect, RefCount).
-use Rattle.std.specs.Prelude.{◌≡◌, ℕ, ◌<◌, ◌==◌, ◌++◌, cond, false, List, [], ◌∷◌, map, Option, Some, None, slice_get}
+use Rattle.std.specs.Prelude.{◌≡◌, ℕ, ◌<◌, ◌==◌, ◌++◌, cond, false, List, [], ◌∷◌, map, Option, Some, None, option_map, slice_get}
 use Rattle.std.specs.List.{filter, list_any}
 use Rattle.std.specs.Option.{option_or}
 use Rattle.std.proofs.Math.Bool.{not}
@@ -39,6 +39,10 @@ new_hub number mode = record { number = number; mode = mode; connection = None; 
 abbrev pub find_hub : List Hub → ℕ → Option Hub
 find_hub [] number = None
 find_hub (hub ∷ hubs) number = cond (hub.number == number) (Some hub) (find_hub hubs number)
+
+-- the hub of this number stands there
+abbrev pub StandsAt : List Hub → (index number : ℕ) → Type 0
+StandsAt hubs index number = option_map (λ (hub : Hub). hub.number) (slice_get hubs index) ≡ Some number
 
 -- the hub of this number changes so, and the others stay
 abbrev pub at_hub : ℕ → (Hub → Hub) → List Hub → List Hub

@@ -5,7 +5,7 @@ ghost use Rattle.rx_slots.specs.Slots.{find};
 ghost use Rattle.rx_hub.specs.Way.{stop_of, hub_of, way, end_of};
 
 use crate::stop::{Reached, Stop};
-use rx_event::{Event, MOST_VISITS, Place};
+use rx_event::MOST_VISITS;
 use rx_resource::Resource;
 use rx_tree::{Key, Record, Tree};
 
@@ -16,32 +16,23 @@ fn stop_at<R: Resource>(tree: &Tree<R>, key: Key, read: &Record) -> Option<Stop>
     requires above { IfSome read.now.node.above (λ up. IsSome (find tree.now.nodes up)) }
     ensures { result ≡ stop_of tree.now.nodes key }
 {
-    match read.made() {
-        Event::Open {
-            place: Place::Root,
-            ..
-        } => Some(Stop::Delivery(key)),
-        Event::Open {
-            place: Place::Source(_),
-            ..
-        } => {
-            let merging = read.parent()?;
-            if tree.above(read).is_merging() {
-                Some(Stop::Projection(merging))
-            } else {
-                None
-            }
-        }
-        Event::Open {
-            place: Place::Notifier(_),
-            ..
-        } => {
-            let until = read.parent()?;
-            Some(Stop::Firing(until))
-        }
-        Event::Connect(_) => Some(Stop::Connection(key)),
-        _ => None,
+    if read.is_connection() {
+        return Some(Stop::Connection(key));
     }
+    if read.is_root() {
+        return Some(Stop::Delivery(key));
+    }
+    if read.is_source() {
+        let merging = read.parent()?;
+        if tree.above(read).is_merging() {
+            return Some(Stop::Projection(merging));
+        }
+        return None;
+    }
+    if read.is_notifier() {
+        return Some(Stop::Firing(read.parent()?));
+    }
+    None
 }
 
 /// The hub of the connection at which an item stops; None where it stops elsewhere.
@@ -67,11 +58,8 @@ pub fn climb<R: Resource>(tree: &Tree<R>, node: Key) -> Reached
     ensures stop { result.stop ≡ end_of tree.now.nodes (way tree.now.nodes node) }
     ensures hub { result.hub ≡ hub_of tree.now.nodes result.stop }
 {
-    let Some(first) = tree.get(node) else {
-        unreachable!()
-    };
     let mut at = node;
-    let mut read = first;
+    let mut read = tree.at(node.slot);
     let mut stop = stop_at(tree, at, read);
     let mut visits = 1;
     while stop.is_none() && visits <= MOST_VISITS {

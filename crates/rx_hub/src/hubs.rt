@@ -113,7 +113,7 @@ fn note_other(store: &Store, chain: &mut Rings, has_others: bool, index: usize)
 }
 
 impl Hubs {
-    ghost use Rattle.rx_hub.specs.Hubs.{Hub, IsPromised, IsFree, AreBelow, new_hub, find_hub, at_hub, published_of};
+    ghost use Rattle.rx_hub.specs.Hubs.{Hub, IsPromised, IsFree, StandsAt, AreBelow, new_hub, find_hub, at_hub, published_of};
     ghost use Rattle.rx_hub.specs.Hubs.{connected, disconnected, subscribed, unsubscribed, key_after};
     ghost use Rattle.rx_hub.specs.Due.{IsDueIn, IsQuiet, ConcernsHub};
     ghost use Rattle.rx_tree.specs.Tree.{is_on, first_of};
@@ -190,6 +190,16 @@ impl Hubs {
         self.store.add(number, mode);
     }
 
+    /// Where the hub of this number stands among the others; None where no hub has it.
+    #[inline(always)]
+    pub fn index_of(&self, hub: u64) -> Option<usize>
+        ensures some { IfSome result (λ i. StandsAt self.now.hubs i hub) }
+        ensures none { IfNone result (find_hub self.now.hubs hub ≡ None) }
+    {
+        self.store.promise();
+        self.store.index_of(hub)
+    }
+
     /// A hub without its subscribers; None where no hub has the number.
     #[inline(always)]
     pub fn get(&self, hub: u64) -> Option<Published>
@@ -197,6 +207,15 @@ impl Hubs {
     {
         self.store.promise();
         self.store.published(self.store.index_of(hub)?)
+    }
+
+    /// The hub at an index at which there is one, without its subscribers.
+    #[inline(always)]
+    pub fn at(&self, index: usize) -> Published
+        requires { IsSome (slice_get self.now.hubs index) }
+        ensures { option_map published_of (slice_get self.now.hubs index) ≡ Some result }
+    {
+        self.store.at(index)
     }
 
     /// The hub at an index, without its subscribers: hubs stand by rising number. None past the last.
@@ -227,17 +246,15 @@ impl Hubs {
     /// Subscribes: the node of this key comes last among the hub's subscribers. It is newer than they
     /// are, and no subscriber stands at its slot, which was reserved for.
     #[inline(always)]
-    pub fn subscribe(&mut self, hub: u64, key: Key)
-        requires there { IsSome (find_hub self.old.hubs hub) }
+    pub fn subscribe(&mut self, index: usize, hub: u64, key: Key)
+        requires there { StandsAt self.old.hubs index hub }
         requires newest { IfSome (find_hub self.old.hubs hub) (λ h. AreBelow key.number h.subscribers) }
         requires slot { key.slot < self.old.slots }
         requires free { IsFree self.old.hubs key.slot }
         ensures { self.new ≡ record self.old { hubs = at_hub hub (subscribed key) self.old.hubs } }
     {
         self.store.promise();
-        let Some(index) = self.store.index_of(hub) else {
-            unreachable!()
-        };
+        let _ = hub;
         let has_others = self.store.first(index).is_some();
         self.store.subscribe(index, key);
         note_waiting(&self.store, &mut self.waiting, index);

@@ -174,6 +174,15 @@ impl Store {
         copy_at(&self.records, index)
     }
 
+    // The same where there is one: nothing is asked.
+    #[inline(always)]
+    pub(crate) fn at(&self, index: usize) -> Published
+        requires { IsSome (slice_get self.now.hubs index) }
+        ensures { option_map published_of (slice_get self.now.hubs index) ≡ Some result }
+    {
+        self.records[index]
+    }
+
     // Whether a hub has a connection.
     #[inline(always)]
     pub(crate) fn is_connected(&self, index: usize) -> bool

@@ -6,6 +6,7 @@ use Rattle.rx_hub.proofs.Common.{open_subscribers, most_visits, AllByRecursion-b
 use Rattle.rx_hub.proofs.Common.{Connection, numbered, made_of, above_of, stop_of, stop_made, some_of, find_hub, numbers, subscribers_of, onward_by, arrival}
 use Rattle.rx_hub.proofs.Common.{onward_over, visited_over, climb_over, arrival_at, stops_over, IsWalk}
 use Rattle.rx_event.specs.Climb.{Stop as NumberedStop, stop_at, onward, onward_from, onward_unless, visited, climb, stops, visits}
+use Rattle.rx_hub.specs.Hubs.{StandsAt}
 use Rattle.rx_hub.proofs.Laws.Ways.{IsTold, stop_of-found, stop_seen, onward_seen, onward_at, connection_made, above_found}
 use Rattle.std.proofs.Common.{rules}
 
@@ -25,6 +26,10 @@ found_hub (x ∷ hubs) n hub found = of (x.number == n) refl (found_hub hubs n h
       cond b (Some x) (find_hub hubs n) ≡ Some hub → (i : ℕ) × ((slice_get (x ∷ hubs) i ≡ Some hub) × (hub.number ≡ n))
   of true e rest same = let is : x.number ≡ n = grind (arith, nat_tests, e) in (0, (same, ap (λ (y : Hub). y.number) (sym (same_Some x hub same)) ∙ is))
   of false e rest same = let r = rest same in (suc r.0, r.1)
+
+-- and one that stands at an index is there
+pub hub_at : (hubs : List Hub) (i n : ℕ) → StandsAt hubs i n → (hub : Hub) × ((slice_get hubs i ≡ Some hub) × (hub.number ≡ n))
+hub_at hubs i n stands = search (rules, none-some, same_Some)
 
 -- where there is one of the number, one is found
 some_hub : (hubs : List Hub) (n i : ℕ) (hub : Hub) → slice_get hubs i ≡ Some hub → hub.number ≡ n → find_hub hubs n ≡ None → ⊥

@@ -39,7 +39,7 @@ returns-clause-opened g c = let R = g.R.Resource in let b = c.args.ground.now in
     o.written in let settles = settles_to s.standing s.base s.forced s.nodes s.resources s.limit s.given s.leases s.closed in let of =
     c.connection_of.ensures in let key = opened_key R b _ _ a mid new _ w o.tied.of_tree o.new o.resources o.leases o.closed settles _
     c.shown_key.ensures in let connection = opened_connection R b _ _ a mid new _ w o.tied.of_tree o.new o.resources o.leases o.closed settles _ _
-    c.forces_connect-connects.ensures of.forced of.quiet in record { key = key; connection = connection; connected = of.known }
+    c.requires.found.connects of.forced of.quiet in record { key = key; connection = connection; connected = of.known }
 
 pub returns-clause-spare : goal.returns-clause-spare
 returns-clause-spare g c = let o = c.write_open-key.ensures in let s = c.settle.ensures in opening_spares g.R.Resource _ _ _ c.requires.admitted _ _ _

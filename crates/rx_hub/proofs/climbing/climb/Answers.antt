@@ -15,12 +15,12 @@ pub loop-read-preserved : goal.loop-read-preserved
 loop-read-preserved g c =
     search (rules, free_of, limit_is, climbing_on)
 
-pub returns-in_default-parent-clause-visits : goal.returns-in_default-parent-clause-visits
-returns-in_default-parent-clause-visits g c =
+pub returns-in_default-clause-visits : goal.returns-in_default-clause-visits
+returns-in_default-clause-visits g c =
     search (rules, free_of, climbing_top)
 
-pub returns-in_default-parent-clause-stop : goal.returns-in_default-parent-clause-stop
-returns-in_default-parent-clause-stop g c =
+pub returns-in_default-clause-stop : goal.returns-in_default-clause-stop
+returns-in_default-clause-stop g c =
     search (rules, free_of, climbing_top)
 
 ended : (g : given.Over) (c : goal.After-hub_behind g) → (c.loop-read.visits ≡ length (way c.args.tree.now.nodes c.args.node)) ×

@@ -1,18 +1,21 @@
 use Rattle.rx_book.proofs.Common.{◌≡◌, refl, sym, ap, map, subst, ◌∙◌, ◌∷◌, [], Ok, Accept, Opening, outside_of, first_cause, Slots, Node, IsFurther, gone_on}
 use Rattle.rx_book.proofs.Common.{gathers_on, State, place_of, AnswersOpenedHolding, IsAdmittedHolding, stands_holding, key_shown, state_of}
 use Rattle.rx_ground.specs.Shown.{Kept, kept_in}
-use Rattle.rx_book.proofs.Admitted.{state_admitted}
+use Rattle.rx_book.proofs.Admitted.{found_admitted, state_admitted}
 use Rattle.rx_book.proofs.AdmittedHolding.{first_stands, holding_within, admitted_holding}
 use Rattle.rx_book.proofs.HoldingUnstood.{fresh_with}
 use Rattle.rx_book.proofs.OpenedStaysOpened.{opened_after}
 use Rattle.rx_book.proofs.ListOfClosed.{begun_at, holding_begun, further_step, gathers_just, just_gone}
 use Rattle.rx_book.proofs.book.Book.open_holding.Given as given
 use Rattle.rx_book.proofs.book.Book.open_holding.Goals as goal
-use Rattle.rx_book.proofs.book.Book.open_holding.Goals.{After-opening_holding_cost-cost, In_default}
+use Rattle.rx_book.proofs.book.Book.open_holding.Goals.{After-opening_holding_cause-cause, In_default}
 use Rattle.std.proofs.Common.{rules}
 
+pub opening_holding_cause-cause-requires-clause-cost : goal.opening_holding_cause-cause-requires-clause-cost
+opening_holding_cause-cause-requires-clause-cost g c κs within = c.of_opening_holding-cost.ensures _ c.found-found.ensures.connects
+
 -- what stands first, by the caller's key
-first : (g : given.Over) (c : After-opening_holding_cost-cost g) →
+first : (g : given.Over) (c : After-opening_holding_cause-cause g) →
     first_cause (stands_holding (state_of g.R.Resource c.self.inside.ground) c.args.at c.args.kind c.is_fresh-fresh.result)
     ≡ c.opening_holding_cause-cause.result
 first g c =
@@ -23,25 +26,28 @@ admitted : (g : given.Over) (c : In_default g) → IsAdmittedHolding g.R.Resourc
 admitted g c =
     let first = first_stands g.R.Resource c.self.inside.ground c.args.at c.args.kind c.is_fresh-fresh.result _
     (rw (c.spot_of-spot.ensures.place, c.spot_of-spot.ensures.above) at c.opening_holding_cause-cause.ensures) in
-    admitted_holding c.args.at c.args.kind c.is_fresh-fresh.result c.opening_holding_cost-cost.result first
-    (rw c.spot_of-spot.ensures.place at c.opening_holding_cost-cost.ensures) c.in_default.ensures.ok
+    admitted_holding c.args.at c.args.kind c.is_fresh-fresh.result c.of_opening_holding-cost.result first
+    (rw c.spot_of-spot.ensures.place at c.of_opening_holding-cost.ensures _ c.found-found.ensures.connects) c.in_default.ensures.ok
 
 pub admit-requires-clause-within : goal.admit-requires-clause-within
 admit-requires-clause-within g c κs within none =
-    let is = first g (goal.at.admit-requires-clause-within g c).After-opening_holding_cost-cost in
-    holding_within g.R.Resource c.self.inside.ground c.args.at c.args.kind c.is_fresh-fresh.result c.opening_holding_cost-cost.result (is ∙ none)
-    (rw c.spot_of-spot.ensures.place at c.opening_holding_cost-cost.ensures)
+    let is = first g (goal.at.admit-requires-clause-within g c).After-opening_holding_cause-cause in
+    holding_within g.R.Resource c.self.inside.ground c.args.at c.args.kind c.is_fresh-fresh.result c.of_opening_holding-cost.result (is ∙ none)
+    (rw c.spot_of-spot.ensures.place at c.of_opening_holding-cost.ensures _ c.found-found.ensures.connects)
 
 pub returns-in-Err : goal.returns-in-Err
 returns-in-Err g c =
     let a = c.in-Err.ensures in
     let stand = stands_holding (state_of g.R.Resource c.self.inside.ground) c.args.at c.args.kind c.is_fresh-fresh.result in
-    let why = rw c.is_fresh-fresh.ensures at (a.err stand (first g (goal.at.returns-in-Err g c).After-opening_holding_cost-cost)) in
+    let why = rw c.is_fresh-fresh.ensures at (a.err stand (first g (goal.at.returns-in-Err g c).After-opening_holding_cause-cause)) in
     rw (← c.self.view_is) (record { ok = tt; no_cause = tt; refused = why; back = refl; kept = a.same })
 
 pub write_opening-opened-requires-clause-admitted : goal.write_opening-opened-requires-clause-admitted
 write_opening-opened-requires-clause-admitted g c κs within =
     (admitted g (goal.at.write_opening-opened-requires-clause-admitted g c).In_default).opening
+
+pub write_opening-opened-requires-clause-found : goal.write_opening-opened-requires-clause-found
+write_opening-opened-requires-clause-found g c κs within = found_admitted c.in_default.ensures.ok c.args.kind c.found-found.ensures
 
 pub write_holding-res-requires-clause-fresh : goal.write_holding-res-requires-clause-fresh
 write_holding-res-requires-clause-fresh g c κs within =

@@ -3,7 +3,7 @@ use Rattle.rx_ground.proofs.Common.{AreLeased}
 use Rattle.rx_ground.proofs.RegisterAfterWrite.{writes_silent}
 use Rattle.rx_ground.proofs.ReadyToOpen.{IsOpenedBelow, stands_below, opened_new, owes_above, above_there_still, quiet_above, newest_left, placed_left}
 use Rattle.rx_ground.proofs.ReadyToOpen.{way_resources}
-use Rattle.rx_ground.proofs.HubsAtOpening.{rest_same, joined_left, ready_left, older_left, all_opened, as_many_opened}
+use Rattle.rx_ground.proofs.HubsAtOpening.{rest_same, joined_left, stands_left, found_before, ready_left, older_left, all_opened, as_many_opened}
 use Rattle.rx_ground.proofs.RoomAtOpening.{ground_of, IsWayMade, way_made, few_children, hubs_told, slot_within, left_memory, gathers_opened}
 use Rattle.rx_ground.proofs.HubsAfterEvent.{tied_written}
 use Rattle.rx_ground.proofs.HubsBesideTree.{slot_free, some_hub}
@@ -38,7 +38,9 @@ place_taken g c =
     search rules
 
 pub join-requires-clause-there : goal.join-requires-clause-there
-join-requires-clause-there g c = λ n same. ap is_some (ready_left (way g (goal.at.join-requires-clause-there g c).After-open.before).ready n same).1
+join-requires-clause-there g c = λ n same.
+    let ready = (way g (goal.at.join-requires-clause-there g c).After-open.before).ready in
+    stands_left ready _ n ((rw (← c.self.view_is) at c.requires.found) n same (found_before ready n same))
 
 pub join-requires-clause-newest : goal.join-requires-clause-newest
 join-requires-clause-newest g c = λ n same. older_left (way g (goal.at.join-requires-clause-newest g c).After-open.before).ready c.in-Ok.key.number n
