@@ -24,6 +24,8 @@
 //! - A [`Reach`] is what an item of a leaf wants, wherever it goes: how many events with what FlatMaps and
 //!   Switches then owe, and how many notes. `IsReach` (`specs/Reached`) says of which item it is that. A [`Way`]
 //!   has with it the one stop that the item makes, where it makes just one, as `MakesOnly` says.
+//! - What an opening asks of the hub that its node subscribes to is a [`Found`], looked up once: whether it is missing,
+//!   whether the opening connects it, and where it stands (`IsFound`, `specs/Told`).
 //! - What stands first against a call is `first_at`, of a call by an open node's key, and `first_by_key` and
 //!   `first_by_res_key` (`specs/FirstCause`), by the register's table of causes. So it is told for each call
 //!   of a book; whether a subscriber stands in the order of hubs is told by a climb from its place.

@@ -1,6 +1,6 @@
 //! The opening of a node, written on the register and on the tree together. It takes no memory.
 
-ghost use Rattle.std.specs.Prelude.{◌≡◌, ◌+◌, ◌<◌, ◌≤◌, true, [], ◌∷◌, length, option_map, false, IsSome, IfSome, IfNone};
+ghost use Rattle.std.specs.Prelude.{◌≡◌, ◌+◌, ◌<◌, ◌≤◌, true, [], ◌∷◌, length, option_map, false, None, IsSome, IfSome, IfNone};
 ghost use Rattle.rx_event.specs.declared.event.Event.{Event};
 ghost use Rattle.rx_event.specs.declared.event.Place.{Place};
 ghost use Rattle.rx_event.specs.Events.{is_switch, named_by};
@@ -11,7 +11,8 @@ ghost use Rattle.rx_tree.specs.Tree.{IsPlaced, is_on};
 ghost use Rattle.rx_register.specs.State.{Writes};
 ghost use Rattle.rx_ground.specs.Gone.{Gathers};
 ghost use Rattle.rx_ground.specs.Inners.{IsInner, HasNoInner, IsReplaced, ReplacesNone, MakesWay, ClearsHubs, ListsWay};
-ghost use Rattle.rx_ground.specs.Ties.{AreTied, AreLeased, IsReady, IsNewNode, IsUndue, Remarks, opened_marks};
+ghost use Rattle.rx_ground.specs.Ties.{AreTied, AreLeased, Cuts, IsReady, IsNewNode, IsUndue, Moves, Remarks};
+ghost use Rattle.rx_ground.specs.Ties.{left_inside, opened_marks};
 ghost use Rattle.rx_event.specs.declared.event.Kind.{Kind};
 ghost use Rattle.rx_hub.specs.After.{hubs_after, with_made};
 ghost use Rattle.rx_hub.specs.Hubs.{find_hub, AreBelow, IsFree, StandsAt};
@@ -119,6 +120,26 @@ impl<R: Resource> Ground<R> {
         None
     }
 
+    // Moves out a node and all below it: apart, so that what opens a node stays small.
+    #[inline(never)]
+    fn cut_apart(&mut self, node: Key)
+        requires tied { AreTied self.old.register.base R.Resource self.old.register.history self.old.tree
+            self.old.hubs }
+        requires open { IsSome (find self.old.tree.nodes node) }
+        ensures cut { Cuts self.old.tree self.new.tree node.number }
+        ensures owed { owed_in self.new.tree.nodes ≤ owed_in self.old.tree.nodes }
+        ensures register { self.new.register ≡ self.old.register }
+        ensures room { self.old.tree.nodes.room ≤ self.new.tree.nodes.room }
+        ensures hubs { self.new.hubs ≡ left_inside self.old.register.history node.number None self.old.hubs }
+        ensures leases { self.new.leases ≡ self.old.leases }
+        ensures closed { Moves self.old.tree.nodes node.number self.old.closed self.new.closed }
+        ensures listed { length self.new.closed + self.new.tree.nodes.count ≡
+            length self.old.closed + self.old.tree.nodes.count }
+        ensures memory { TakesNoMemory self.old self.new }
+    {
+        self.cut(node, None);
+    }
+
     /// Moves out what makes way for a node that is opened at this place: the open inner of a Switch, and
     /// all below it. Whether there was one.
     #[inline(always)]
@@ -141,7 +162,7 @@ impl<R: Resource> Ground<R> {
         let Some(inner) = self.replaced(place, above) else {
             return false;
         };
-        self.cut(inner, None);
+        self.cut_apart(inner);
         true
     }
 

@@ -219,7 +219,8 @@ fn mark_at<R: Resource>(tree: &mut Tree<R>, stop: Stop)
     match stop {
         Stop::Projection(merging) => mark_projection(tree, merging),
         Stop::Firing(until) => mark_firing(tree, until),
-        Stop::Delivery(_) | Stop::Connection(_) => {}
+        // Two tests for two stops: a table of all four costs each item more.
+        _ => {}
     }
 }
 

@@ -217,7 +217,7 @@ impl<R: Resource> Ground<R> {
 
     /// Moves out a node and all below it onto the list, which gives their room back, and lets them leave the
     /// hubs. A connection among them ended so if it ended by itself.
-    #[inline]
+    #[inline(always)]
     pub(crate) fn cut(&mut self, node: Key, ended: Option<LastEnd>)
         requires tied { AreTied self.old.register.base R.Resource self.old.register.history self.old.tree
             self.old.hubs }

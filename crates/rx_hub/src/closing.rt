@@ -28,6 +28,7 @@ impl Hubs {
     }
 
     // Lets one closed node leave the hub that it subscribed to, or connected.
+    #[inline(always)]
     fn leave_one(&mut self, closed: &Closed, ended: Option<LastEnd>)
         requires known { IsKnown self.old.hubs closed.now }
         ensures { self.new ≡ record self.old { hubs = map (after_closing (closed.now ∷ []) ended) self.old.hubs } }

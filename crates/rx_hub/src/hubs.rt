@@ -296,6 +296,7 @@ impl Hubs {
     /// Takes the hub's connection away, when its node is closed. Where it ended by itself, that end is
     /// kept in place of the one before: a subscriber that is older than its place ends in the same way,
     /// and one that comes later does not.
+    #[inline(never)]
     pub fn disconnect(&mut self, hub: u64, ended: Option<LastEnd>)
         requires there { IsSome (find_hub self.old.hubs hub) }
         ensures { self.new ≡ record self.old { hubs = at_hub hub (disconnected ended) self.old.hubs } }
