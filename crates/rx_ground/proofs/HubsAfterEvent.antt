@@ -6,15 +6,14 @@ use Rattle.rx_ground.proofs.Common.{slice_get_within, slice_get-get_or, get_or_f
 use Rattle.rx_ground.proofs.Common.{MayFollow, IsLawful, places, shuts_none, at_within, Key, Slots, find, Node, Tree, LastEnd, Published, joins_hubs, Hub}
 use Rattle.rx_ground.proofs.Common.{hubs_after, without_gone, Hubs, find_hub, at_hub, connected, new_hub, IsHubOf, AreHubsOf, hubs_follow, hubs_stay}
 use Rattle.rx_ground.proofs.Common.{pushed_from, closes_none, hubs_published, hubs_connected, found_hub, has_connection, State, Writes, IsHubTold, IsTied}
-use Rattle.rx_ground.proofs.Common.{AreTied, AreJoined, KeepsNodes, Remarks}
+use Rattle.rx_ground.proofs.Common.{AreTied, AreJoined, KeepsNodes, Remarks, not, ◌&&◌, same_Some, Sub}
+use Rattle.std.specs.Prelude.{is_none}
 use Rattle.rx_event.specs.declared.event.Event.TheVariants.{Hub as Publish}
 use Rattle.rx_event.specs.Allowed.{most_hubs}
 use Rattle.rx_event.specs.Tree.{hubs as hubs_in}
 use Rattle.rx_hub.specs.Hubs.{IsPromised, StandsAt, published_of}
 use Rattle.rx_hub.proofs.Laws.Walks.{hub_at}
 use Rattle.rx_ground.specs.Told.{IsFound}
-use Rattle.std.specs.Prelude.{is_none}
-use Rattle.rx_ground.proofs.Common.{not, ◌&&◌, same_Some, Sub}
 use Rattle.rx_ground.proofs.HubsBesideTree.{joined_without, joined_still, joined_found, joined_connected, found_named}
 use Rattle.rx_ground.proofs.StaysTied.{IsOpenedIn, found_still, still_there}
 use Rattle.rx_ground.proofs.Laws.Members.{Contains-map, Contains-from_map, All-members, AllPairs-map}
@@ -31,12 +30,6 @@ hub_is_older h hubs of i hub at_i = slice_get_within h hub.number (Publish hub.m
 
 pub found_made : (h : List Event) (hubs : List Hub) → AreHubsOf h hubs → (g : ℕ) → is_some (find_hub hubs g) ≡ at makes_hub h g
 found_made h hubs of g = search (rules, false≢true, is_some, found_named, found_hub, option_map_or)
-
-pub hub_found : (h : List Event) (hubs : List Hub) → AreHubsOf h hubs → (g : ℕ) → is_some (option_map published_of (find_hub hubs g)) ≡ at makes_hub h g
-hub_found h hubs of g = mapped (find_hub hubs g) ∙ found_made h hubs of g where
-  mapped : (o : Option Hub) → is_some (option_map published_of o) ≡ is_some o
-  mapped None = refl
-  mapped (Some hub) = refl
 
 -- what is kept of it ------------------------------------------------------------------------------
 

@@ -6,7 +6,7 @@ use Rattle.rx_ground.proofs.Common.{hubs_with_made, hubs_exchanged, ready_to_sub
 use Rattle.rx_ground.proofs.HubsBesideTree.{as_many, joined_cut, joined_found, joined_opened}
 use Rattle.rx_hub.specs.Hubs.{StandsAt}
 use Rattle.std.proofs.lemmas.Option.{slice_get-map}
-use Rattle.rx_ground.proofs.Common.{option_map, refl, slice_get, without_gone, Key, is_some, IsSome}
+use Rattle.rx_ground.proofs.Common.{option_map, refl, slice_get, without_gone, is_some, IsSome}
 use Rattle.rx_ground.proofs.ReadyToOpen.{IsReadyToOpen, IsOpenedBelow, none_closed, opened_found, opened_new, opened_tied}
 use Rattle.std.proofs.Common.{rules}
 
