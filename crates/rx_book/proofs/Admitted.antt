@@ -24,8 +24,7 @@ refused_for stand x1 first = search rules
 pub within_limit : {T : Type 0} (g : Ghosts T) (b : Ground T) (asked : Request) (cost : Wanted) → (let h = b.register.history in let base = b.register.base in
     causes base h b.register.limit asked.is_fresh asked.call Full ≡ is_over base h b.register.limit (added_by h asked.call) →
     first_cause (stands (state_of g b) asked) ≡ None → cost ≡ cost_of h asked.call → notes_added h asked.call ≤ 4294967295 → IsWithin b cost)
-within_limit g b asked cost full none is few =
-    search (rules, within_full)
+within_limit g b asked cost full none is few = search (rules, within_full)
 
 -- room ---------------------------------------------------------------------------------------------
 
@@ -56,8 +55,7 @@ pub found_admitted : {T : Type 0} {g : Ghosts T} {old new : Ground T} {cause : O
     (kind : Kind) {found : Found} → IsFound old.register.history old.hubs.hubs kind found → IsFound new.register.history new.hubs.hubs kind found
 found_admitted {old = old} {new} a kind {found} is =
     let hubs : new.hubs.hubs ≡ old.hubs.hubs = (λ i. (a.roomier.hubs i).hubs) in
-    let history : new.register.history ≡ old.register.history = (λ i. (a.roomier.register i).history) in
-    rw (hubs, history) is
+    let history : new.register.history ≡ old.register.history = (λ i. (a.roomier.register i).history) in rw (hubs, history) is
 
 -- a call, of which the list of what is closed tells nothing, is let in
 module _ {T : Type 0} {g : Ghosts T} {old new : Ground T} {cause : Option Refusal} (ask : State → Request)

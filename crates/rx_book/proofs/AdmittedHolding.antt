@@ -13,8 +13,7 @@ module _ {T : Type 0} (g : Ghosts T) (b : Ground T) (at : At) (kind : Kind) (fre
   -- what stands first by the tree's key stands first by the caller's
   pub first_stands : (why : Option Refusal) → why ≡ first_holding b (is_there b.tree.nodes (key_above at)) fresh (place_of at) kind →
       first_cause (stands_holding (state_of g b) at kind fresh) ≡ why
-  first_stands why first =
-      search (rules, first_by_place)
+  first_stands why first = search (rules, first_by_place)
 
   -- the cost is within the limit, and its notes are few
   pub holding_within : (cost : Wanted) → first_cause (stands_holding (state_of g b) at kind fresh) ≡ None →
@@ -23,8 +22,7 @@ module _ {T : Type 0} (g : Ghosts T) (b : Ground T) (at : At) (kind : Kind) (fre
       let within = within_with (state_of g b) at kind fresh none in
       let few = few_opened b.register.history kind in
       let events = ap (λ (w : Wanted). w.events) is in
-      let notes = ap (λ (w : Wanted). w.notes) is in
-      record { events = omega arith; notes = omega arith }
+      let notes = ap (λ (w : Wanted). w.notes) is in record { events = omega arith; notes = omega arith }
 
 -- with the room for it, it is admitted
 pub admitted_holding : {T : Type 0} {g : Ghosts T} {old new : Ground T} {cause : Option Refusal} (at : At) (kind : Kind) (fresh : Bool) (cost : Wanted) →

@@ -67,8 +67,7 @@ pub within_full : (base : Kept) → (call : Call) (known fresh : Bool) (h : List
     first_cause (by_key_of call known (causes base h limit fresh call)) ≡ None → length h + debt base h + added_by h call ≤ base.at_length + limit
 within_full base call known fresh h limit counted none =
     let over = no_cause (causes base h limit fresh call) (unstood call known (causes base h limit fresh call) none).1 Full in
-    let within = within_limit base h limit (added_by h call) (sym counted ∙ over) in
-    omega arith
+    let within = within_limit base h limit (added_by h call) (sym counted ∙ over) in omega arith
 
 -- what was forced is written, and nothing else happened: the ground stands again
 pub record SettlesTo {T : Type 0} (g : Ghosts T) (mid new : Ground T) : Type 0 where
@@ -104,8 +103,7 @@ module _ {T : Type 0} (g : Ghosts T) (b : Ground T) (asked : Request) where
   -- a call that takes no memory
   pub let_in_free : IsStanding g b → IsPromised b.register → first_cause (stands (state_of g b) asked) ≡ None → IsReadyFor h asked.call →
       added_by h asked.call ≡ 0 → notes_added h asked.call ≡ 0 → b.closed ≡ [] → IsLetIn g b asked
-  let_in_free standing promised none ready added noted begun =
-      search (rules, let_in, standing, paid_room)
+  let_in_free standing promised none ready added noted begun = search (rules, let_in, standing, paid_room)
 
   module _ (l : IsLetIn g b asked) where
     -- its key is known
@@ -113,8 +111,7 @@ module _ {T : Type 0} (g : Ghosts T) (b : Ground T) (asked : Request) where
     known = (unstood asked.call asked.is_known _ l.none).0
 
     follows : (es : List Event) → outside ≡ es → MayFollowInTurn b.register.base h es
-    follows es writes =
-        subst (λ (xs : List Event). MayFollowInTurn b.register.base h xs) writes
+    follows es writes = subst (λ (xs : List Event). MayFollowInTurn b.register.base h xs) writes
         (call_follows b.register.base h b.register.limit asked.is_fresh asked.call l.may)
 
     fits : (es : List Event) → outside ≡ es → Fits b.register.base h (h ++ es) (added_by h asked.call) (notes_added h asked.call)
@@ -145,8 +142,7 @@ module _ {T : Type 0} (g : Ghosts T) (b : Ground T) (asked : Request) where
       pending = l.standing.paid.pending;
     }
 
-    pub second_ready : (e f : Event) (mid : Register) → outside ≡ e ∷ f ∷ [] → Writes b.register (e ∷ []) mid →
-        mail_of mid.history f ≡ [] → IsReady mid f
+    pub second_ready : (e f : Event) (mid : Register) → outside ≡ e ∷ f ∷ [] → Writes b.register (e ∷ []) mid → mail_of mid.history f ≡ [] → IsReady mid f
     second_ready e f mid writes w silent = record {
       next = subst (λ (c : Kept). MayFollow c mid.history f) (sym w.base)
           (subst (λ (k : List Event). MayFollow b.register.base k f) (sym w.history) (follows (e ∷ f ∷ []) writes).1.0);
@@ -215,8 +211,7 @@ pub written_keeping : {T : Type 0} {g : Ghosts T} {old : Ground T} (new : Ground
     AreTied new.register.base g new.register.history new.tree new.hubs → AreLeased new.register.history new.tree.resources new.leases →
     KeepsKeys old.tree new.tree (length old.register.history) → KeepsLeases old.leases new.leases (length old.register.history) →
     Gathers old.register.history old.closed new.register.history new.closed → IsWritten g old call new
-written_keeping new call written tied leased kept leases closed =
-    search (rules, leases, closed)
+written_keeping new call written tied leased kept leases closed = search (rules, leases, closed)
 
 -- a closing
 pub written_closed : {T : Type 0} {g : Ghosts T} {old : Ground T} (new : Ground T) (call : Call) →
@@ -234,8 +229,7 @@ pub written_held : {T : Type 0} {g : Ghosts T} {old : Ground T} (new : Ground T)
     new.tree.nodes ≡ old.tree.nodes → KeepsHeld old.tree new.tree (length old.register.history) →
     KeepsLeases old.leases new.leases (length old.register.history) → Gathers old.register.history old.closed new.register.history new.closed →
     IsWritten g old call new
-written_held {old} new call written tied leased nodes held leases closed =
-    search (rules, written_keeping, keeps_held, length, leases, closed)
+written_held {old} new call written tied leased nodes held leases closed = search (rules, written_keeping, keeps_held, length, leases, closed)
 
 -- room --------------------------------------------------------------------------------------------
 
@@ -258,8 +252,7 @@ held_asked g b asked l res is = sym (has_res_key_is b.tree res) ∙ sym is ∙ k
 -- a resource by whose key a call is made, and that the history leaves owned, is owned in the tree
 pub owned_asked : {T : Type 0} (g : Ghosts T) (b : Ground T) (asked : Request) → IsLetIn g b asked → (res : ResKey) →
     asked.is_known ≡ has_res_key (res_keys_of b.tree) res → is_owned b.register.history res.number ≡ true → is_owned_at b.tree (tree_res_key_of res) ≡ true
-owned_asked g b asked l res is owned =
-    search (rules, owned_there, held_asked)
+owned_asked g b asked l res is owned = search (rules, owned_there, held_asked)
 
 -- a lease by whose key a call is made is out
 pub out_asked : {T : Type 0} (g : Ghosts T) (b : Ground T) (asked : Request) → IsLetIn g b asked → (lease : LeaseKey) →
@@ -274,8 +267,7 @@ open_asked g b asked l key is = sym (has_key_is b.tree key) ∙ sym is ∙ known
 -- a resource with which a call is made is fresh
 pub fresh_asked : {T : Type 0} (g : Ghosts T) (b : Ground T) (asked : Request) → IsLetIn g b asked →
     causes b.register.base b.register.history b.register.limit asked.is_fresh asked.call NotFresh ≡ not asked.is_fresh → asked.is_fresh ≡ true
-fresh_asked g b asked l is =
-    search (rules, not-false, no_cause)
+fresh_asked g b asked l is = search (rules, not-false, no_cause)
 
 live_is : (life : Life) → is_live life ≡ true → life ≡ Live
 live_is x0 is = search (rules, false≢true)

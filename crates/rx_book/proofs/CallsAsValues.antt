@@ -40,8 +40,7 @@ few_told s x1 fixed = search (rules, false≢true)
 pub fixed_within : {T : Type 0} (g : Ghosts T) (b : Ground T) (call : Call) (w : Wanted) → has_fixed_cost call ≡ true →
     w ≡ cost_of b.register.history (request_of (state_of g b) call).call → first_cause (stands (state_of g b) (request_of (state_of g b) call)) ≡ None →
     IsWithin b w
-fixed_within g b call w fixed is none =
-    search (rules, few_told, within_limit, counted)
+fixed_within g b call w fixed is none = search (rules, few_told, within_limit, counted)
 
 -- letting in ---------------------------------------------------------------------------------------
 

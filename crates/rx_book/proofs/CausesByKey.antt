@@ -45,8 +45,7 @@ module _ {T : Type 0} (b : Ground T) (fresh : Bool) where
   first_of_res {why} k call keyed is = first_by_res_key b.tree (against (call k.number)) why k (rw keyed at is)
 
   pub first_of_place : {why : Option Refusal} {place : Place} {above : Option TreeKey} (at : At) (call : Place → Call) → place ≡ place_of at →
-      above ≡ key_above at →
-      why ≡ first_at_key b (is_there b.tree.nodes above) fresh (call place) →
+      above ≡ key_above at → why ≡ first_at_key b (is_there b.tree.nodes above) fresh (call place) →
       first_cause (by_key (is_known_place (keys_of b.tree) at) (causes b.register.base b.register.history b.register.limit fresh (call (place_of at)))) ≡ why
   first_of_place {why} at call placed keyed is = first_by_place b.tree (against (call (place_of at))) why at (rw (placed, keyed) at is)
 

@@ -126,18 +126,15 @@ roots_older base {h} g step = roots_before (step_neither base (Disconnecting g) 
 
 none_owned : (h : List Event) → ((n : ℕ) → is_open h n ≡ false) → (r : ℕ) → is_owned h r ≡ false
 unfolding is_owned
-none_owned h closed r =
-    search (rules, option_map_or, and_left, option_and_then, slice_get)
+none_owned h closed r = search (rules, option_map_or, and_left, option_and_then, slice_get)
 
 counted_none : (p : ℕ → Bool) → ((n : ℕ) → p n ≡ false) → (ns : List ℕ) → count_by p ns ≡ 0
 counted_none p never [] = refl
-counted_none p never (n ∷ ns) =
-    search (rules, cond, sum_by-cons, counted_none p never ns)
+counted_none p never (n ∷ ns) = search (rules, cond, sum_by-cons, counted_none p never ns)
 
 -- where nothing is open and no lease is out nothing is held
 none_held : (h : List Event) → ((n : ℕ) → is_open h n ≡ false) → ((l : ℕ) → is_out h l ≡ false) → (r : ℕ) → is_held h r ≡ false
-none_held h closed returned r =
-    search (rules, none_leased, counted_none, held_is, none_owned, nat_lt)
+none_held h closed returned r = search (rules, none_leased, counted_none, held_is, none_owned, nat_lt)
 
 -- a list whose numbers pass a test that nothing passes
 none_listed : {A : Type 0} (number : A → ℕ) (test : ℕ → Bool) (xs : List A) → AreJust test (map number xs) → ((n : ℕ) → test n ≡ false) → xs ≡ []
@@ -175,8 +172,7 @@ closed_released {old} mid {new} before after accepted taken drained none_held =
     let held_none : length new.held ≡ 0 = ap length none_held in
     let waits_none : length new.waiting ≡ 0 = ap length drained.none_waits in
     let rose = drained.taken in
-    let whole = after.in_one_place in
-    omega arith
+    let whole = after.in_one_place in omega arith
 
 filter_none : {A : Type 0} (p : A → Bool) (xs : List A) → ((x : A) → p x ≡ false) → filter p xs ≡ []
 filter_none p [] never = refl
@@ -188,20 +184,17 @@ lets_all before none_let_go = before
 lets_all before (next_let_go rest kept lets accepted) = next_let_go (lets_all before rest) kept lets accepted
 
 none_numbered : {A : Type 0} (number : A → ℕ) (test : ℕ → Bool) (xs : List A) → AreJust test (map number xs) → xs ≡ [] → (n : ℕ) → test n ≡ false
-none_numbered number test xs just empty n =
-    search (rules, false_from_ne_true, length, map)
+none_numbered number test xs just empty n = search (rules, false_from_ne_true, length, map)
 
 -- where no key is left nothing is open, and so a caller holds nothing open
 pub shut_let_go : (s : State) → IsPromised s → s.keys ≡ [] → IsLetGo s.history
-shut_let_go s kept none =
-    search (rules, none_numbered, filter_none)
+shut_let_go s kept none = search (rules, none_numbered, filter_none)
 
 pub shut_none_out : (s : State) → IsPromised s → s.lease_keys ≡ [] → (l : ℕ) → is_out s.history l ≡ false
 shut_none_out s kept none = none_numbered (λ k. k.number) (is_out s.history) s.lease_keys kept.lease_keys none
 
 place_listed : (h : List Event) (n : ℕ) → n < length h → Contains (places h) n
-place_listed h n within =
-    search (rules, length, length-range_with_len, get_or-range_with_len, zero-add)
+place_listed h n within = search (rules, length, length-range_with_len, get_or-range_with_len, zero-add)
 
 -- what a search finds ------------------------------------------------------------------------------
 
@@ -210,16 +203,14 @@ find_holds p [] x found = absurd (cc)
 find_holds p (y ∷ ys) x found =
     let branch : (b : Bool) → p y ≡ b → cond b (Some y) (find p ys) ≡ Some x → p x ≡ true =
     λ b. elim b as (λ b. p y ≡ b → cond b (Some y) (find p ys) ≡ Some x → p x ≡ true)
-    [ true ↦ λ is here. let same : y ≡ x = cc in subst (λ z. p z ≡ true) same is | false ↦ λ is rest. find_holds p ys x rest ] in
-    branch (p y) refl found
+    [ true ↦ λ is here. let same : y ≡ x = cc in subst (λ z. p z ≡ true) same is | false ↦ λ is rest. find_holds p ys x rest ] in branch (p y) refl found
 
 find_none : {A : Type 0} (p : A → Bool) (xs : List A) → find p xs ≡ None → All (λ x. p x ≡ false) xs
 find_none p [] missing = λ k d lt. absurd (omega arith)
 find_none p (x ∷ xs) missing =
     let branch : (b : Bool) → p x ≡ b → cond b (Some x) (find p xs) ≡ None → All (λ y. p y ≡ false) (x ∷ xs) =
     λ b. elim b as (λ b. p x ≡ b → cond b (Some x) (find p xs) ≡ None → All (λ y. p y ≡ false) (x ∷ xs))
-    [ true ↦ λ is here. absurd (cc) | false ↦ λ is rest. All-cons (λ y. p y ≡ false) x xs is (find_none p xs rest) ] in
-    branch (p x) refl missing
+    [ true ↦ λ is here. absurd (cc) | false ↦ λ is rest. All-cons (λ y. p y ≡ false) x xs is (find_none p xs rest) ] in branch (p x) refl missing
 
 -- giving leases back -------------------------------------------------------------------------------
 
@@ -227,17 +218,14 @@ pub lease_found : (h : List Event) (l : ℕ) → Some l ≡ find (is_out h) (pla
 lease_found h l found = find_holds (is_out h) (places h) l (sym found)
 
 pub lease_missing : (h : List Event) → None ≡ find (is_out h) (places h) → (l : ℕ) → is_out h l ≡ false
-lease_missing h missing l =
-    ⊎_elim
+lease_missing h missing l = ⊎_elim
     (λ within. let listed = place_listed h l within in ap (is_out h) (sym listed.2) ∙ find_none (is_out h) (places h) (sym missing) listed.0 l listed.1)
-    (λ past. is_out_past h l past)
-    (cases_lt l (length h))
+    (λ past. is_out_past h l past) (cases_lt l (length h))
 
 -- no cause stands against giving back a lease that is out
 pub returnable : (s : State) (k : LeaseKey) (why : Refusal) → has_lease_key s.lease_keys k ≡ true → is_out s.history k.number ≡ true →
     first_cause (stands s (give_back_request s k)) ≡ Some why → ⊥
-returnable s k why known out cause =
-    search rules
+returnable s k why known out cause = search rules
 
 -- disposing of roots -------------------------------------------------------------------------------
 
@@ -245,37 +233,30 @@ pub root_found : (h : List Event) (n : ℕ) → Some n ≡ find (is_open_root h)
 root_found h n found = find_holds (is_open_root h) (places h) n (sym found)
 
 pub root_missing : (h : List Event) → None ≡ find (is_open_root h) (places h) → (n : ℕ) → is_open_root h n ≡ false
-root_missing h missing n =
-    ⊎_elim
-    (λ within. let listed = place_listed h n within in
+root_missing h missing n = ⊎_elim (λ within. let listed = place_listed h n within in
     ap (is_open_root h) (sym listed.2) ∙ find_none (is_open_root h) (places h) (sym missing) listed.0 n listed.1)
-    (λ past. and_left _ _ (is_open_past h n past))
-    (cases_lt n (length h))
+    (λ past. and_left _ _ (is_open_past h n past)) (cases_lt n (length h))
 
 -- no cause stands against the disposal of an open root
 pub disposable : (s : State) (k : Key) (why : Refusal) → has_key s.keys k ≡ true → is_open_root s.history k.number ≡ true →
     first_cause (stands s (dispose_request s k)) ≡ Some why → ⊥
-disposable s k why known root cause =
-    search (rules, and_parts)
+disposable s k why known root cause = search (rules, and_parts)
 
 -- disconnecting ------------------------------------------------------------------------------------
 
 no_closing_counted : (p : Event → Bool) → ((c : ℕ) → p (Close c) ≡ false) → (cs : List ℕ) → count_by p (map (λ c. Close c) cs) ≡ 0
 no_closing_counted p never [] = refl
-no_closing_counted p never (c ∷ cs) =
-    search (rules, count_by, cond, map, count_by-append, no_closing_counted p never cs)
+no_closing_counted p never (c ∷ cs) = search (rules, count_by, cond, map, count_by-append, no_closing_counted p never cs)
 
 pub disconnected_taken : (base : Kept) → (h k : List Event) (g : ℕ) → IsStepOf base h (Disconnecting g) k → taken_count base k ≡ taken_count base h
 disconnected_taken base h k g step =
     let e = step_count base is_take forced_no_take h k (Disconnecting g) step in
-    let none = no_closing_counted is_take (λ c. refl) (open_connections h g) in
-    omega arith
+    let none = no_closing_counted is_take (λ c. refl) (open_connections h g) in omega arith
 
 pub disconnected_accepted : (base : Kept) → (h k : List Event) (g : ℕ) → IsStepOf base h (Disconnecting g) k → accepted_count base k ≡ accepted_count base h
 disconnected_accepted base h k g step =
     let e = step_count base makes_resource forced_no_accept h k (Disconnecting g) step in
-    let none = no_closing_counted makes_resource (λ c. refl) (open_connections h g) in
-    omega arith
+    let none = no_closing_counted makes_resource (λ c. refl) (open_connections h g) in omega arith
 
 pub hub_found : (h : List Event) (g : ℕ) → Some g ≡ find (is_connected_manual h) (places h) → is_connected_manual h g ≡ true
 hub_found h g found = find_holds (is_connected_manual h) (places h) g (sym found)
@@ -287,26 +268,21 @@ hub_missing h missing g manual =
     let listed = place_listed h g within in
     let out : is_connected_manual h g ≡ false =
     ap (is_connected_manual h) (sym listed.2) ∙ find_none (is_connected_manual h) (places h) (sym missing) listed.0 g listed.1 in
-    let here : has_connection h g ≡ is_connected_manual h g = rw manual refl in
-    connects_none h g (here ∙ out)
+    let here : has_connection h g ≡ is_connected_manual h g = rw manual refl in connects_none h g (here ∙ out)
 
 -- no cause stands against the disconnection of such a hub
 pub disconnectable : (s : State) (g : ℕ) (why : Refusal) → is_connected_manual s.history g ≡ true → first_cause (stands s (disconnect_request g)) ≡ Some why → ⊥
-disconnectable s g why found cause =
-    search (rules, and_parts, manual_hub)
+disconnectable s g why found cause = search (rules, and_parts, manual_hub)
 
 -- it closes something
 pub closes_some : (h : List Event) (g : ℕ) → is_connected_manual h g ≡ true → 0 < length (outside_of h (Disconnecting g))
-closes_some h g found =
-    search (rules, connects_one, and_parts)
+closes_some h g found = search (rules, connects_one, and_parts)
 
 -- each step leaves less room
 pub less_room : (old new : State) (asked : Request) → Accepts old asked new → IsPromised new → 0 < length (outside_of old.history asked.call) →
     new.base.at_length + new.limit - length new.history < old.base.at_length + old.limit - length old.history
-less_room old new asked accepts kept some =
-    search (rules, step_longer)
+less_room old new asked accepts kept some = search (rules, step_longer)
 
 -- nothing waits where the list of what waits is empty
 pub none_waits : (s : State) → IsPromised s → s.waiting ≡ [] → waiting_resources s.history ≡ []
-none_waits s kept empty =
-    search (rules, filter_none, false_from_ne_true, map, length)
+none_waits s kept empty = search (rules, filter_none, false_from_ne_true, map, length)

@@ -32,8 +32,7 @@ one_more base {h = h} {k = k} {e = e} before f = record { none_wait = forced_con
   none_come : (n : ℕ) → length h ≤ n → at makes_connection (k ++ e ∷ []) n ≡ false
   none_come n past = by_place (cases_order n (length k)) where
     by_place : (n ≡ length k) ⊎ ((n < length k) ⊎ (length k < n)) → at makes_connection (k ++ e ∷ []) n ≡ false
-    by_place (inl same) =
-        ap (λ (o : Option Event). option_map_or makes_connection o false) (ap (slice_get (k ++ e ∷ [])) same ∙ slice_get_last k e) ∙
+    by_place (inl same) = ap (λ (o : Option Event). option_map_or makes_connection o false) (ap (slice_get (k ++ e ∷ [])) same ∙ slice_get_last k e) ∙
         forced_none base before.none_wait f
     by_place (inr (inl l)) = at-append makes_connection k (e ∷ []) n l ∙ before.none_come n past
     by_place (inr (inr l)) = past_none (k ++ e ∷ []) n (omega (arith, length-append k (e ∷ [])))
@@ -77,8 +76,7 @@ module _ (base : Kept) (h : List Event) (place : Place) (g : ℕ) (law : IsLawfu
     by_place (inr (inr l)) = let w = is_open_within m c alive in let n = long in absurd (omega arith)
     by_place (inr (inl l)) = by_test (is_open h c) refl where
       by_test : (b : Bool) → is_open h c ≡ b → ⊥
-      by_test true was =
-          connection_listed h g c (sym (slice_get-append h (Open place (Sub g) ∷ []) c l) ∙ connects) was
+      by_test true was = connection_listed h g c (sym (slice_get-append h (Open place (Sub g) ∷ []) c l) ∙ connects) was
           (connects_none h g (not-true (has_connection h g) parts.1))
       by_test false was = both_ways (is_open m c) (stays_closed_after h (Open place (Sub g) ∷ []) c l was) alive
 
@@ -124,8 +122,7 @@ module _ (base : Kept) (h : List Event) (place : Place) (g : ℕ) (law : IsLawfu
     here =
         let grown = added_on base connected in
         let within : length m < length (m ++ Connect g ∷ []) = omega (arith, length-append m (Connect g ∷ [])) in
-        ap (λ (q : List Event). slice_get q (length m)) grown.1 ∙
-        slice_get-append (m ++ Connect g ∷ []) grown.0 (length m) within ∙
+        ap (λ (q : List Event). slice_get q (length m)) grown.1 ∙ slice_get-append (m ++ Connect g ∷ []) grown.0 (length m) within ∙
         slice_get_last m (Connect g)
 
     pub connection_comes : at makes_connection k (length h + 1) ≡ true

@@ -11,8 +11,7 @@ use Rattle.std.proofs.Common.{rules}
 
 none_of_these : (stand : Refusal → Bool) (whys : List Refusal) → ((why : Refusal) → stand why ≡ false) → first_of_these stand whys ≡ None
 none_of_these stand [] none = refl
-none_of_these stand (why ∷ whys) none =
-    search (rules, cond, none_of_these stand whys none)
+none_of_these stand (why ∷ whys) none = search (rules, cond, none_of_these stand whys none)
 
 -- where none stands there is no first
 pub no_first_cause : (stand : Refusal → Bool) → ((why : Refusal) → stand why ≡ false) → first_cause stand ≡ None

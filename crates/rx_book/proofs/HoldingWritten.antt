@@ -30,13 +30,11 @@ module _ {T : Type 0} (g : Ghosts T) (b : Ground T) (node : Key) (x : T) (standi
       (standing.tied.of_tree.records.each (tree_key_of node) at_key.0 at_key.1).alive
 
   unstood : first_cause (stands (state_of g b) asked) ≡ None
-  unstood =
-      search (rules, is_fresh_in, holding_unstood, alive)
+  unstood = search (rules, is_fresh_in, holding_unstood, alive)
 
   -- as where the list of what is closed was begun
   holding_let_in : IsLetIn g (record b { closed = [] }) (hold_request g (state_of g b) node x)
-  holding_let_in =
-      search (rules, let_in, standing_begun, unstood)
+  holding_let_in = search (rules, let_in, standing_begun, unstood)
 
   pub holding_ready : IsReady b.register (Accept node.number (g.tag_of x))
   holding_ready = one_ready g (record b { closed = [] }) asked holding_let_in (Accept node.number (g.tag_of x)) refl
@@ -69,8 +67,7 @@ module _ {T : Type 0} (g : Ghosts T) (b : Ground T) (node : Key) (x : T) (standi
     pub holding_accepted : new.tree.nodes ≡ b.tree.nodes → KeepsHeld b.tree new.tree (length b.register.history) → new.leases ≡ b.leases →
         Accepts (state_of g b) (hold_request g (state_of g b) node x) (record (state_of g new) { closed = [] })
     holding_accepted nodes kept leases =
-        let quiet = gathers_quiet (Accept node.number (g.tag_of x)) holding_ready.next
-        refl w refl in
+        let quiet = gathers_quiet (Accept node.number (g.tag_of x)) holding_ready.next refl w refl in
         accepts_begun (accepts_written g (record b { closed = [] }) asked holding_let_in
         (written_held {old = record b { closed = [] }} (record new { closed = [] }) asked.call w tied leased nodes kept (leases_stay _ _ _ leases) quiet)
         settles)

@@ -50,10 +50,8 @@ shown_numbers (x ∷ xs) = ap (λ (ns : List ℕ). x.number ∷ ns) (shown_numbe
 -- a list that was begun has just what has gone since
 pub just_gone : {h k : List Event} {list longer : List TreeKey} → list ≡ [] → Gathers h list k longer →
     AreJust (goes h k) (map (λ (j : Key). j.number) (map key_shown longer))
-just_gone {h} {k} {list} {longer} begun gathers =
-    search (rules, map, shown_numbers)
+just_gone {h} {k} {list} {longer} begun gathers = search (rules, map, shown_numbers)
 
 pub gathers_just : {h k : List Event} {longer : List TreeKey} → AreJust (goes h k) (map (λ (j : Key). j.number) (map key_shown longer)) →
     Gathers h [] k longer
-gathers_just {h} {k} {longer} just =
-    search (rules, shown_numbers)
+gathers_just {h} {k} {longer} just = search (rules, shown_numbers)

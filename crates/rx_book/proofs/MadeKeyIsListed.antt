@@ -18,5 +18,4 @@ module _ {T : Type 0} (g : Ghosts T) (mid new : Ground T)
       new.tree.resources ≡ mid.tree.resources → res.number ≡ place → is_held_at mid.tree res ≡ true → {n tag : ℕ} →
       accepted_by mid.register.base mid.register.history place ≡ Some (Accept n tag) → is_open new.register.history n ≡ true →
       IsNewResKey (state_of g new) place k
-  res_key_listed tied res shown same number held {n} {tag} accepted alive =
-      search (rules, Accept, has_res_key_is, resource_stays)
+  res_key_listed tied res shown same number held {n} {tag} accepted alive = search (rules, Accept, has_res_key_is, resource_stays)

@@ -9,8 +9,7 @@ use Rattle.std.proofs.Common.{rules}
 module _ {T : Type 0} (g : Ghosts T) where
   -- a resource that is shown among those that wait does
   pub listed_waits : (base : Base) → (h : List Event) (tree : Tree T) → IsTied base g h tree → AreApart tree.resources → (handed : ℕ × T) →
-      IsListed g tree handed →
-      is_waiting h handed.0 ≡ true
+      IsListed g tree handed → is_waiting h handed.0 ≡ true
   listed_waits base h tree tied apart handed is =
       let m = Contains-from_map (label_in g) (waiting_in tree) (label_of g handed.0 handed.1) is.listed in
       let number = λ (k : Kept (Stowed T)). k.key.number in

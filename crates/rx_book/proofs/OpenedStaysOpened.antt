@@ -18,11 +18,9 @@ made_on h m e none = ap (λ (b : Bool). cond b (Some (length h + 1)) None) (by_p
 
   by_place : (length h + 1 ≡ length m) ⊎ ((length h + 1 < length m) ⊎ (length m < length h + 1)) →
       at makes_connection m (length h + 1) ≡ at makes_connection (m ++ e ∷ []) (length h + 1)
-  by_place (inl same) =
-      none_past makes_connection m (length h + 1) (λ l. omega arith) ∙ sym last ∙ ap (at makes_connection (m ++ e ∷ [])) (sym same)
+  by_place (inl same) = none_past makes_connection m (length h + 1) (λ l. omega arith) ∙ sym last ∙ ap (at makes_connection (m ++ e ∷ [])) (sym same)
   by_place (inr (inl l)) = sym (at-append makes_connection m (e ∷ []) (length h + 1) l)
-  by_place (inr (inr past)) =
-      none_past makes_connection m (length h + 1) (λ l. omega arith) ∙
+  by_place (inr (inr past)) = none_past makes_connection m (length h + 1) (λ l. omega arith) ∙
       sym (none_past makes_connection (m ++ e ∷ []) (length h + 1) (λ l. let n = longer in omega arith))
 
 pub opened_after : (old mid new : State) (e : Event) {o : Opened} → makes_connection e ≡ false → new.history ≡ mid.history ++ e ∷ [] →

@@ -30,10 +30,8 @@ module _ {T : Type 0} (g : Ghosts T) (b : Ground T) (at : At) (kind : Kind) (a :
       (made : IsNewNode b.tree.nodes mid.tree.nodes (length b.register.history) key) (same : mid.tree.resources ≡ b.tree.resources)
       (leases : mid.leases ≡ b.leases) (gathered : Gathers b.register.history b.closed mid.register.history mid.closed) (s : SettlesTo g mid new) where
     pub opening_accepted : Accepts (state_of g b) (open_request (state_of g b) at kind) (state_of g new)
-    opening_accepted =
-        accepts g b (open_request (state_of g b) at kind) a.let_in mid w tied
-        (keeps_opened h b.tree mid.tree key a.let_in.may.lawful a.let_in.standing.tied.of_tree made same)
-        (leases_stay _ _ _ leases) gathered s
+    opening_accepted = accepts g b (open_request (state_of g b) at kind) a.let_in mid w tied
+        (keeps_opened h b.tree mid.tree key a.let_in.may.lawful a.let_in.standing.tied.of_tree made same) (leases_stay _ _ _ leases) gathered s
 
     pub opened_key : (k : Key) → k ≡ key_shown key → IsNewKey (state_of g new) (length b.register.history) k
     opened_key k shown =
@@ -61,5 +59,4 @@ module _ {T : Type 0} (g : Ghosts T) (b : Ground T) (at : At) (kind : Kind) (a :
         let written = w.room in
         let taken = memory.events in
         let longer : length mid.register.history ≡ length h + 1 =
-        ap (λ (k : List Event). length k) w.history ∙ length-append h (Open (place_of at) kind ∷ []) in
-        rw (s.base ∙ w.base) (omega arith)
+        ap (λ (k : List Event). length k) w.history ∙ length-append h (Open (place_of at) kind ∷ []) in rw (s.base ∙ w.base) (omega arith)

@@ -13,19 +13,16 @@ pub opening_room : {T : Type 0} {old new : Ground T} {place : Place} {kind : Kin
     IsSettled old.register.base old.register.history →
     MayFollow old.register.base old.register.history (Open place kind) → Writes old.register (Open place kind ∷ []) new.register →
     nodes_opened old.register.history kind ≤ old.tree.nodes.room → nodes_opened old.register.history kind ≤ old.space →
-    TakesOneNode old new → TakesNoMemory old new → old.closed ≡ [] →
-    HasRoomToConnect new.register.history new.tree.nodes.room (list_room new)
+    TakesOneNode old new → TakesNoMemory old new → old.closed ≡ [] → HasRoomToConnect new.register.history new.tree.nodes.room (list_room new)
 opening_room {old} {place} {kind} law settled next w room space one memory begun = λ g waits.
-    let forces =
-    opening_connects old.register.history place kind g law settled (may_subscribe old.register.base next)
+    let forces = opening_connects old.register.history place kind g law settled (may_subscribe old.register.base next)
     (subst (λ (k : List Event). IsConnectDue k g) w.history waits) in
     let two : nodes_opened old.register.history kind ≡ 2 = ap (λ (b : Bool). 1 + cond b 1 0) forces in
     let nodes = memory.nodes in
     let closing = memory.closing in
     let none = ap (λ (keys : List Key). length keys) begun in
     let left = one.room in
-    let listed = one.listed in
-    (omega arith, omega arith)
+    let listed = one.listed in (omega arith, omega arith)
 
 -- and for its node, where the list of what is closed was begun
 pub opening_space : {T : Type 0} (b : Ground T) (kind : Kind) → nodes_opened b.register.history kind ≤ b.space → b.closed ≡ [] → 0 < list_room b

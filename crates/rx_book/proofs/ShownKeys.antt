@@ -19,16 +19,13 @@ same_res_key j k slot number = λ i. record { slot = slot i; number = number i }
 
 -- to know a key is to contain it
 pub has_key-Contains : (keys : List Key) (k : Key) → Contains keys k → has_key keys k ≡ true
-has_key-Contains keys k c =
-    search (rules, and_from, eq-eqb, list_any_at, nat_eq)
+has_key-Contains keys k c = search (rules, and_from, eq-eqb, list_any_at, nat_eq)
 
 pub has_res_key-Contains : (keys : List ResKey) (k : ResKey) → Contains keys k → has_res_key keys k ≡ true
-has_res_key-Contains keys k c =
-    search (rules, and_from, eq-eqb, list_any_at, nat_eq)
+has_res_key-Contains keys k c = search (rules, and_from, eq-eqb, list_any_at, nat_eq)
 
 pub Contains-has_res_key : (keys : List ResKey) (k : ResKey) → has_res_key keys k ≡ true → Contains keys k
-Contains-has_res_key keys k found =
-    search (rules, Any-from_list_any, nat_eq, and_parts, same_res_key, eqb-true)
+Contains-has_res_key keys k found = search (rules, Any-from_list_any, nat_eq, and_parts, same_res_key, eqb-true)
 
 -- where a node is to be opened --------------------------------------------------------------------
 
@@ -52,10 +49,7 @@ module _ {T : Type 0} (tree : Tree T) where
       Contains-map (λ (x : Kept Node). key_shown x.key) (kept_in tree.nodes) here (finds_kept tree.nodes (tree_key_of k) found.0 found.1)
 
   pub has_key_is : (k : Key) → has_key (keys_of tree) k ≡ is_some (find tree.nodes (tree_key_of k))
-  has_key_is k =
-      same_test _ _
-      (λ has. key_finds k (Contains-has_key (keys_of tree) k has))
-      (λ some. has_key-Contains (keys_of tree) k (finding_key k some))
+  has_key_is k = same_test _ _ (λ has. key_finds k (Contains-has_key (keys_of tree) k has)) (λ some. has_key-Contains (keys_of tree) k (finding_key k some))
 
   -- a place is known where the key that it names finds a record
   pub is_known_place_is : (at : At) → is_known_place (keys_of tree) at ≡ is_there tree.nodes (key_above at)
@@ -68,8 +62,7 @@ module _ {T : Type 0} (tree : Tree T) where
       let from = Contains-from_map held_key (held_in tree) k c in
       let found = held_finds tree from.0 from.1 in
       ap (λ (j : ResKey). is_held_at tree (tree_res_key_of j)) (sym from.2) ∙
-      ap (λ (o : Option (Stowed T)). option_map_or (is_held tree.nodes) o false) found.0 ∙
-      found.1
+      ap (λ (o : Option (Stowed T)). option_map_or (is_held tree.nodes) o false) found.0 ∙ found.1
 
   pub finding_res_key : (k : ResKey) → is_held_at tree (tree_res_key_of k) ≡ true → Contains (res_keys_of tree) k
   finding_res_key k held = by_value (find tree.resources (store_key (tree_res_key_of k))) refl held where
@@ -81,9 +74,7 @@ module _ {T : Type 0} (tree : Tree T) where
         Contains-map held_key (held_in tree) here (finds_held tree here.key x found is)
 
   pub has_res_key_is : (k : ResKey) → has_res_key (res_keys_of tree) k ≡ is_held_at tree (tree_res_key_of k)
-  has_res_key_is k =
-      same_test _ _
-      (λ has. res_key_finds k (Contains-has_res_key (res_keys_of tree) k has))
+  has_res_key_is k = same_test _ _ (λ has. res_key_finds k (Contains-has_res_key (res_keys_of tree) k has))
       (λ held. has_res_key-Contains (res_keys_of tree) k (finding_res_key k held))
 
 -- leases ------------------------------------------------------------------------------------------
@@ -92,12 +83,10 @@ pub same_lease_key : (j k : LeaseKey) → j.slot ≡ k.slot → j.number ≡ k.n
 same_lease_key j k slot number = λ i. record { slot = slot i; number = number i }
 
 has_lease_key-Contains : (keys : List LeaseKey) (k : LeaseKey) → Contains keys k → has_lease_key keys k ≡ true
-has_lease_key-Contains keys k c =
-    search (rules, and_from, eq-eqb, list_any_at, nat_eq)
+has_lease_key-Contains keys k c = search (rules, and_from, eq-eqb, list_any_at, nat_eq)
 
 Contains-has_lease_key : (keys : List LeaseKey) (k : LeaseKey) → has_lease_key keys k ≡ true → Contains keys k
-Contains-has_lease_key keys k found =
-    search (rules, Any-from_list_any, nat_eq, and_parts, same_lease_key, eqb-true)
+Contains-has_lease_key keys k found = search (rules, Any-from_list_any, nat_eq, and_parts, same_lease_key, eqb-true)
 
 module _ (leases : Slots TreeResKey) where
   abbrev shown_lease : Kept TreeResKey → LeaseKey
@@ -115,5 +104,4 @@ module _ (leases : Slots TreeResKey) where
       Contains-map shown_lease (kept_in leases) here (finds_kept leases here.key found.0 found.1)
 
   pub has_lease_key_is : (k : LeaseKey) → has_lease_key (lease_keys_of leases) k ≡ is_out_at leases (ground_lease_key_of k)
-  has_lease_key_is k =
-      search (rules, lease_key_finds, Contains-has_lease_key, has_lease_key-Contains, finding_lease_key)
+  has_lease_key_is k = search (rules, lease_key_finds, Contains-has_lease_key, has_lease_key-Contains, finding_lease_key)

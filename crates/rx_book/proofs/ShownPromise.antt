@@ -25,8 +25,7 @@ module _ {X : Type 0} where
   -- the numbers of what is shown are those of what is kept
   shown_just : {Y : Type 0} (test : ℕ → Bool) (f : Kept X → Y) (of : Y → ℕ) → ((k : Kept X) → of (f k) ≡ k.key.number) →
       (ks : List (Kept X)) → ListsJust test (numbers ks) → AreJust test (map of (map f ks))
-  shown_just test f of same ks just =
-      search (rules, map-map)
+  shown_just test f of same ks just = search (rules, map-map)
 
 -- hubs --------------------------------------------------------------------------------------------
 

@@ -20,8 +20,7 @@ module _ (base : Kept) {T : Type 0} (g : Ghosts T) (h : List Event) (tree : Tree
 
   -- and an open root has a record
   root_key : (n : ℕ) → is_open_root h n ≡ true → (key : TreeKey) × (key.number ≡ n) × IsRoot tree.nodes key
-  root_key n root =
-      search (rules, and_parts, option_map_or)
+  root_key n root = search (rules, and_parts, option_map_or)
 
   -- where the tree has none, none is open
   pub open_root_none : HasNone (IsRoot tree.nodes) 0 → find (is_open_root h) (places h) ≡ None

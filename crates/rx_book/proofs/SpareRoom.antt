@@ -39,14 +39,11 @@ within_on base h e most law f w =
 
 within_forced : (base : Kept) → (most : ℕ) → {h k : List Event} → IsLawful base h → IsForcedOn base h k → IsWithin base h most → IsWithin base k most
 within_forced base most law stays w = w
-within_forced base most law (more {k = k} {e = e} on f) w =
-    within_on base k e most (lawful_forced base law on) f (within_forced base most law on w)
+within_forced base most law (more {k = k} {e = e} on f) w = within_on base k e most (lawful_forced base law on) f (within_forced base most law on w)
 
 -- a call's events went from h to m, and then to k what they force: what is needed rose by no more than the call was counted to add
 pub call_within : (base : Kept) → (h : List Event) {m k : List Event} (added told : ℕ) → Fits base h m added told → IsLawful base m →
     IsForcedOn base m k → length k + debt base k ≤ length h + debt base h + added
 call_within base h added told fits law on =
-    let w = within_forced base (length h + debt base h + added) law on
-    (record { waits = fits.waits; may_wait = fits.may_wait; events = fits.events }) in
-    let e = w.events in
-    omega arith
+    let w = within_forced base (length h + debt base h + added) law on (record { waits = fits.waits; may_wait = fits.may_wait; events = fits.events }) in
+    let e = w.events in omega arith

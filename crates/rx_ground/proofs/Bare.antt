@@ -1,6 +1,5 @@
 -- Where an item goes is told by what stands at the slots of a tree, whatever room there is.
-use Rattle.rx_ground.proofs.Common.{◌≡◌, ℕ, zero, suc, ◌++◌, List, [], ◌∷◌, Option, refl, filter_map, option_and_then, Event}
-use Rattle.rx_ground.proofs.Common.{Key, Slots, Node, stop_made, Hub}
+use Rattle.rx_ground.proofs.Common.{◌≡◌, ℕ, zero, suc, ◌++◌, List, [], ◌∷◌, Option, refl, filter_map, option_and_then, Event, Key, Slots, Node, stop_made, Hub}
 use Rattle.rx_ground.proofs.Common.{stop_of, onward_over, visited_over, arrival, arrival_at, stops_over, nodes_at}
 use Rattle.std.proofs.Common.{rules}
 
@@ -17,8 +16,7 @@ module _ (nodes : Slots Node) (hubs : List Hub) where
   visited_bare : (left : ℕ) (keys : List Key) → visited_over left (nodes_at nodes.entries) hubs keys ≡ visited_over left nodes hubs keys
   visited_bare zero keys = refl
   visited_bare (suc left) [] = refl
-  visited_bare (suc left) (key ∷ keys) =
-      search (rules, onward_bare, visited_bare left (onward_over nodes hubs key ++ keys))
+  visited_bare (suc left) (key ∷ keys) = search (rules, onward_bare, visited_bare left (onward_over nodes hubs key ++ keys))
 
   arrivals_bare : (keys : List Key) → filter_map (arrival_at (nodes_at nodes.entries)) keys ≡ filter_map (arrival_at nodes) keys
   arrivals_bare keys = λ i. filter_map (λ (key : Key). option_and_then arrival (stop_bare key i)) keys

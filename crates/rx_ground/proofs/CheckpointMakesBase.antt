@@ -26,17 +26,16 @@ pub record IsKeptOf {T : Type 0} (g : Ghosts T) (b : Ground T) (whole : Base) : 
 pub whole_base : {T : Type 0} {g : Ghosts T} {b : Ground T} {whole : Base} → IsStanding g b → IsRegisterPromised b.register → IsTreePromised b.tree →
     IsHubsPromised b.hubs → AreApart b.leases → IsKeptOf g b whole → whole ≡ base_of b.register.base b.register.history
 unfolding base_of
-whole_base {g} {b} {whole} standing promised tree hubs apart kept =
-    λ i. record {
-      at_length = kept.events i;
-      items = kept.items i;
-      accepted = kept.accepted i;
-      taken = kept.taken i;
-      hubs = (kept.hubs ∙ hubs_kept h b.hubs hubs standing.tied.published) i;
-      nodes = nodes_kept base g h b.tree tied tree.sound.apart whole.nodes kept.nodes i;
-      resources = resources_kept base g h b.tree tied tree.resources_apart promised.lawful whole.resources kept.resources i;
-      leases = leases_kept h b.tree.resources b.leases standing.leased apart whole.leases kept.leases i;
-    }
+whole_base {g} {b} {whole} standing promised tree hubs apart kept = λ i. record {
+  at_length = kept.events i;
+  items = kept.items i;
+  accepted = kept.accepted i;
+  taken = kept.taken i;
+  hubs = (kept.hubs ∙ hubs_kept h b.hubs hubs standing.tied.published) i;
+  nodes = nodes_kept base g h b.tree tied tree.sound.apart whole.nodes kept.nodes i;
+  resources = resources_kept base g h b.tree tied tree.resources_apart promised.lawful whole.resources kept.resources i;
+  leases = leases_kept h b.tree.resources b.leases standing.leased apart whole.leases kept.leases i;
+}
   where
     base : Base
     base = b.register.base
@@ -62,8 +61,7 @@ pub may_rebase : {T : Type 0} (g : Ghosts T) (b : Ground T) (reserved : ℕ) →
 may_rebase g b reserved standing promised none same = record {
   settled = standing.settled;
   handed = let given = promised.given in
-      let all =
-      ltb-false b.register.given (length (notes b.register.history))
+      let all = ltb-false b.register.given (length (notes b.register.history))
       (no_cause (checkpoint_causes b.register.history b.register.given) none MailLeft) in
       omega arith;
   pending = standing.paid.pending;

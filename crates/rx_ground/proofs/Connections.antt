@@ -71,12 +71,10 @@ kept_at hubs index p kept = search (rules, slice_get, option_map, none-some, sam
 module _ (h : List Event) (s : Hubs) (published : AreHubsOf h s.hubs) where
   -- what is kept of a hub says whether it is one
   by_hand : (index : ℕ) (hub : Hub) → slice_get s.hubs index ≡ Some hub → is_connected_manual h hub.number ≡ is_up_by_hand (published_of hub)
-  by_hand index hub at_index =
-      search (rules, option_map_or, connection_kept)
+  by_hand index hub at_index = search (rules, option_map_or, connection_kept)
 
   kept_by_hand : (index : ℕ) (p : Published) → option_map published_of (slice_get s.hubs index) ≡ Some p → is_connected_manual h p.number ≡ is_up_by_hand p
-  kept_by_hand index p kept =
-      search (rules, kept_at, by_hand)
+  kept_by_hand index p kept = search (rules, kept_at, by_hand)
 
   -- each such number is a hub's
   its_hub : (n : ℕ) → is_connected_manual h n ≡ true → HasHub s.hubs n
@@ -88,8 +86,7 @@ module _ (h : List Event) (s : Hubs) (published : AreHubsOf h s.hubs) where
 
   -- where none is, none is found
   pub none_by_hand : (index : ℕ) → length s.hubs ≤ index → NoneBefore h s.hubs index → find_number (is_connected_manual h) (places h) ≡ None
-  none_by_hand index past before =
-      search (rules, find_nothing, false_from_ne_true, its_hub, slice_get_within, not_before)
+  none_by_hand index past before = search (rules, find_nothing, false_from_ne_true, its_hub, slice_get_within, not_before)
 
   -- and the first that is one is found
   pub first_by_hand : IsPromised s → (index : ℕ) (p : Published) → option_map published_of (slice_get s.hubs index) ≡ Some p →

@@ -137,8 +137,7 @@ module _ (nodes : Slots Node) (hubs : List Hub) (key : Key) (room : ℕ) where
   pub measuring_ends : (old new : Route) (events notes : ℕ) (is_first : Bool) (only : Option Stop) →
       IsMeasuring nodes hubs key room old events notes is_first only → Arrives nodes hubs old new None →
       IsMeasured (stops_over nodes hubs key) (record { events = events; notes = notes }) × (new.visits ≡ length (climb_over nodes hubs key)) × (new.room ≡ room)
-  measuring_ends old new events notes is_first only was arrives =
-      search (rules, few)
+  measuring_ends old new events notes is_first only was arrives = search (rules, few)
 
   -- and the stop is the only one that was the first and the last
   pub measuring_only : (old new : Route) (events notes : ℕ) (is_first : Bool) (only : Option Stop) →

@@ -36,8 +36,7 @@ module _ {X : Type 0} where
       (i : ℕ) × (k.key.slot ≡ first + i) × (get_or es i None ≡ Some (entry_of k.key.number k.value))
   stands_from first [] k c = absurd (Contains-none k c)
   stands_from first (None ∷ es) k c = let r = stands_from (suc first) es k c in (suc r.0, (let e = r.1 in omega arith), r.2)
-  stands_from first (Some e ∷ es) k c =
-      by_place (stands_from (suc first) es k)
+  stands_from first (Some e ∷ es) k c = by_place (stands_from (suc first) es k)
       (Contains-cases (record { key = record { slot = first; number = e.number }; value = e.value }) (kept_from (suc first) es) k c)
     where
       by_place : (Contains (kept_from (suc first) es) k → (i : ℕ) × (k.key.slot ≡ suc first + i) ×
@@ -52,10 +51,8 @@ module _ {X : Type 0} where
       Contains (kept_from first es) (record { key = record { slot = first + i; number = e.number }; value = e.value })
   listed_from first [] i e at = absurd (none-some e at)
   listed_from first (None ∷ es) zero e at = absurd (none-some e at)
-  listed_from first (None ∷ es) (suc i) e at =
-      search (rules, listed_from (suc first) es i e at)
-  listed_from first (Some d ∷ es) zero e at =
-      search (rules, same_Some)
+  listed_from first (None ∷ es) (suc i) e at = search (rules, listed_from (suc first) es i e at)
+  listed_from first (Some d ∷ es) zero e at = search (rules, same_Some)
   listed_from first (Some d ∷ es) (suc i) e at = Contains-later _ (kept_from (suc first) es) _
       (subst (λ (s : ℕ). Contains (kept_from (suc first) es) (record { key = record { slot = s; number = e.number }; value = e.value })) (omega arith)
       (listed_from (suc first) es i e at))

@@ -1,8 +1,7 @@
 -- Which resources' keys stay: those held after one event were held before it.
-use Rattle.rx_ground.proofs.Common.{◌≡◌, ◌≢◌, ℕ, ◌<◌, true, false, Option, Some, None, is_some, option_map, sym, ap, ◌∙◌}
-use Rattle.rx_ground.proofs.Common.{inl, inr, ◌⊎◌, arith, not, ◌||◌, option_map_or, false≢true, ne_eqb, Key, Slots, find, KeepsOthers, Node, Stowed}
-use Rattle.rx_ground.proofs.Common.{ResKey, Tree, Rewrites, store_key, is_owned, is_owned_at, is_lent, is_held, is_held_at, removed, one_lease_less}
-use Rattle.rx_ground.proofs.Common.{cases_key, KeepsHeld}
+use Rattle.rx_ground.proofs.Common.{◌≡◌, ◌≢◌, ℕ, ◌<◌, true, false, Option, Some, None, is_some, option_map, sym, ap, ◌∙◌, inl, inr, ◌⊎◌, arith, not, ◌||◌}
+use Rattle.rx_ground.proofs.Common.{option_map_or, false≢true, ne_eqb, Key, Slots, find, KeepsOthers, Node, Stowed, ResKey, Tree, Rewrites, store_key, is_owned}
+use Rattle.rx_ground.proofs.Common.{is_owned_at, is_lent, is_held, is_held_at, removed, one_lease_less, cases_key, KeepsHeld}
 use Rattle.std.proofs.Common.{rules}
 
 module _ {T : Type 0} (old new : Tree T) (number : ℕ) (nodes : new.nodes ≡ old.nodes) (k : Key) (others : KeepsOthers old.resources new.resources k) where
@@ -30,8 +29,7 @@ held_rewritten {T = T} old new number k change nodes w keeps = held_but old new 
   mapped (Some x) e = keeps x e
 
   here : (res : ResKey) → store_key res ≡ k → is_held_at new res ≡ true → res.number < number → is_held_at old res ≡ true
-  here res same held l =
-      ap (λ (j : Key). option_map_or (is_held old.nodes) (find old.resources j) false) same ∙
+  here res same held l = ap (λ (j : Key). option_map_or (is_held old.nodes) (find old.resources j) false) same ∙
       mapped (find old.resources k) (sym (ap (λ (j : Key). option_map_or (is_held new.nodes) (find new.resources j) false) same ∙
       ap (λ (ns : Slots Node). option_map_or (is_held ns) (find new.resources k) false) nodes ∙
       ap (λ (o : Option (Stowed T)). option_map_or (is_held old.nodes) o false) w.changed) ∙ held)

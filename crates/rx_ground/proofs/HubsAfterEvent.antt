@@ -82,8 +82,7 @@ found_there h hubs of g i p b stands got is =
 -- there are as many as were made ------------------------------------------------------------------
 
 pub hubs_counted : (h : List Event) (s : Hubs) → IsPromised s → AreHubsOf h s.hubs → length s.hubs ≡ length (hubs_in h)
-hubs_counted h s promised of =
-    sym (length-map s.hubs number) ∙ just_counted (at makes_hub h) (map number s.hubs) (length h) just (at_within makes_hub h) ∙
+hubs_counted h s promised of = sym (length-map s.hubs number) ∙ just_counted (at makes_hub h) (map number s.hubs) (length h) just (at_within makes_hub h) ∙
     sym (length-filter (at makes_hub h) (places h))
   where
     number : Hub → ℕ
@@ -134,8 +133,7 @@ too_many h s promised of count is = one_more most_hubs 1023 count (length (hubs_
 -- the hubs after a connection of one of them
 pub connected_after : (h : List Event) (n : ℕ) (key : Key) (hubs : List Hub) → AreHubsOf h hubs → key.number ≡ length h →
     hubs_after h (Connect n) key.slot hubs ≡ at_hub n (connected key) hubs
-connected_after h n key hubs of numbered =
-    search (rules, hubs_connected)
+connected_after h n key hubs of numbered = search (rules, hubs_connected)
 
 -- the nodes that this event closes are gone from the hubs, and their connections ended so
 pub record LeavesHubs (h : List Event) (e : Event) (gone : Key → Bool) (ended : Option LastEnd) (hubs later : Hubs) : Type 0 where
@@ -228,8 +226,7 @@ module _ {T : Type 0} (g : Ghosts T) where
     joined = record {
       subscribers =
           λ i hub at_i. by_place i hub (pushed_from hubs.hubs (new_hub (length h) mode) hub i (ap (λ (hs : List Hub). slice_get hs i) (sym added) ∙ at_i));
-      connection =
-          λ i hub at_i. by_place_too i hub
+      connection = λ i hub at_i. by_place_too i hub
           (pushed_from hubs.hubs (new_hub (length h) mode) hub i (ap (λ (hs : List Hub). slice_get hs i) (sym added) ∙ at_i));
     };
   }

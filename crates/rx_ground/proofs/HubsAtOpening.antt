@@ -34,8 +34,7 @@ module _ {base : Kept} {T : Type 0} {g : Ghosts T} {h : List Event} {place : Pla
     by_test : (replaces ≡ true) ⊎ (replaces ≡ false) →
         hubs_after h (Open place kind) slot hubs.hubs ≡ with_made (next_key h slot) (Open place kind) later.hubs
     by_test (inl takes) = exchanged (ready.clears.exchanged takes)
-    by_test (inr leaves) =
-        hubs_with_made h (Open place kind) slot hubs.hubs ready.tied.published
+    by_test (inr leaves) = hubs_with_made h (Open place kind) slot hubs.hubs ready.tied.published
         (λ n o. none_closed h place kind (ready.way.none leaves) n (is_open_within h n o) ∙ o) ∙
         ap (λ (hs : Hubs). with_made (next_key h slot) (Open place kind) hs.hubs) (sym (ready.clears.same leaves))
 
@@ -81,14 +80,12 @@ module _ {base : Kept} {T : Type 0} {g : Ghosts T} {h : List Event} {place : Pla
 
   -- those that a new node joins are older
   pub older_left : (number n : ℕ) → number ≡ length h → kind ≡ Sub n → IfSome (find_hub later.hubs n) (λ (hub : Hub). AreBelow number hub.subscribers)
-  older_left number n numbered same =
-      search (rules, ready_left)
+  older_left number n numbered same = search (rules, ready_left)
 
   -- the hubs that the node joined are those after the opening
   pub hubs_opened : {last : Hubs} (key : Key) → key.number ≡ length h → last ≡ record later { hubs = with_made key (Open place kind) later.hubs } →
       last ≡ record hubs { hubs = hubs_after h (Open place kind) key.slot hubs.hubs }
-  hubs_opened key numbered made =
-      search (rules, rest_same, cleared)
+  hubs_opened key numbered made = search (rules, rest_same, cleared)
 
   -- tree and hubs are tied to the longer history then
   pub all_opened : {mid new : Tree T} {last : Hubs} {key : Key} (above : Option Key) → IsOpenedBelow h place kind above old left mid key →
@@ -109,5 +106,4 @@ module _ {base : Kept} {T : Type 0} {g : Ghosts T} {h : List Event} {place : Pla
 -- a node that joins a hub makes none
 pub as_many_opened : (key : Key) (place : Place) (kind : Kind) (later : Hubs) {last : Hubs} →
     last ≡ record later { hubs = with_made key (Open place kind) later.hubs } → length last.hubs + last.room ≡ length later.hubs + later.room
-as_many_opened key place kind later made =
-    ap (λ (s : Hubs). length s.hubs + s.room) made ∙ ap (λ (n : ℕ). n + later.room) (as_many key place kind later.hubs)
+as_many_opened key place kind later made = ap (λ (s : Hubs). length s.hubs + s.room) made ∙ ap (λ (n : ℕ). n + later.room) (as_many key place kind later.hubs)

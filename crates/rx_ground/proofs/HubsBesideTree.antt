@@ -9,13 +9,12 @@ use Rattle.rx_ground.proofs.Common.{entry_at, with_number, Tree, IsSound, is_key
 use Rattle.rx_ground.proofs.Common.{is_inside, with_made, is_closed, remaining, without_gone, after_closing, IsKnown, AreClosing, Hubs, IsFree, find_hub}
 use Rattle.rx_ground.proofs.Common.{at_hub, subscribed, connected, disconnected, IsHubOf, HasHub, AreHubsOf, mapped_from, IsOpenAt, subscribers_open, AreTied}
 use Rattle.rx_ground.proofs.Common.{tests_agree, own_connection, named_connection, IsRecordOf, AreJoined, Cuts}
-use Rattle.std.proofs.Common.{filter}
+use Rattle.std.proofs.Common.{filter, rules}
 use Rattle.std.specs.Cmp.{both_ways as same_test}
 use Rattle.std.proofs.lemmas.List.FromFn.{get_or-range_with_len}
 use Rattle.rx_ground.proofs.Laws.Members.{Contains-head, Contains-later, Contains-none, Contains-cases, Contains-from_map}
 use Rattle.rx_ground.proofs.FoundIsListed.{filter_has}
 use Rattle.rx_ground.proofs.Records.{below_is_within}
-use Rattle.std.proofs.Common.{rules}
 
 -- lists -------------------------------------------------------------------------------------------
 
@@ -62,8 +61,7 @@ key_itself : (key : Key) → is_key key key ≡ true
 key_itself key = and_from _ _ (eq-eqb key.slot key.slot refl) (eq-eqb key.number key.number refl)
 
 place_listed : (h : List Event) (n : ℕ) → n < length h → Contains (places h) n
-place_listed h n within =
-    search (rules, length, length-range_with_len, get_or-range_with_len, zero-add)
+place_listed h n within = search (rules, length, length-range_with_len, get_or-range_with_len, zero-add)
 
 module _ {X : Type 0} where
   all_kept : (P Q : X → Type 0) (p : X → Bool) → ((x : X) → P x → p x ≡ true → Q x) → (xs : List X) → AllByRecursion P xs → AllByRecursion Q (filter p xs)
@@ -88,8 +86,7 @@ joined_without nodes gone ended hubs joined = search (rules, mapped_from, subscr
 pub joined_still : (k : List Event) (old new : Slots Node) (hubs : List Hub) → AreHubsOf k hubs →
     ((key : Key) → IsSome (find old key) → is_open k key.number ≡ true → IsSome (find new key)) → AreJoined old hubs → AreJoined new hubs
 joined_still k old new hubs of still joined = record {
-  subscribers = λ i hub at_i.
-      all_both (λ key. IsSome (find old key)) (λ key. IsOpenAt k hub.number key.number) (λ key. IsSome (find new key))
+  subscribers = λ i hub at_i. all_both (λ key. IsSome (find old key)) (λ key. IsOpenAt k hub.number key.number) (λ key. IsSome (find new key))
       (λ key some o. still key some (and_parts (at (is_subscriber_of hub.number) k key.number) (is_open k key.number) o).1)
       hub.subscribers (joined.subscribers i hub at_i) (subscribers_open k hub (of.each i hub at_i));
   connection = λ i hub at_i. by_connection hub (of.each i hub at_i) hub.connection refl (joined.connection i hub at_i);
@@ -110,8 +107,7 @@ joined_found old new hubs still joined = search (rules, all_weaker, find)
 -- a hub that is there is found by its number
 pub found_named : (hubs : List Hub) (i : ℕ) (hub : Hub) → slice_get hubs i ≡ Some hub → is_some (find_hub hubs hub.number) ≡ true
 found_named [] i hub at_i = absurd (none-some hub at_i)
-found_named (x ∷ hubs) zero hub at_i =
-    search (rules, is_some, cond, eq-eqb, same_Some)
+found_named (x ∷ hubs) zero hub at_i = search (rules, is_some, cond, eq-eqb, same_Some)
 found_named (x ∷ hubs) (suc i) hub at_i = search (rules, is_some, cond, found_named hubs i hub at_i)
 
 found_has : (hubs : List Hub) (g : ℕ) → HasHub hubs g → IsSome (find_hub hubs g)
@@ -212,8 +208,7 @@ module _ (base : Kept) {T : Type 0} (g : Ghosts T) (h : List Event) (tree : Tree
 
       by_option : (x : Hub) (o : Option Key) → IfSome o (λ key. IsSome (find tree.nodes key)) → (b : Bool) → option_map_or (is_inside h top) o false ≡ b →
           IfSome (cond b (disconnected ended (remaining (is_inside h top) (record x { connection = o })))
-          (remaining (is_inside h top) (record x { connection = o }))).connection
-          (λ key. IsSome (find left.nodes key))
+          (remaining (is_inside h top) (record x { connection = o }))).connection (λ key. IsSome (find left.nodes key))
       by_option x o there true e = tt
       by_option x None there false e = tt
       by_option x (Some key) there false e = stays key there (ap not e)
@@ -250,8 +245,7 @@ module _ (base : Kept) {T : Type 0} (g : Ghosts T) (h : List Event) (tree : Tree
       found_connection (Some key) there = (there, tt)
 
       agree : (i : ℕ) (hub : Hub) → slice_get hubs.hubs i ≡ Some hub → AgreeAt (is_closed closed) (is_inside h top) hub
-      agree i hub at_i =
-          all_weaker (λ key. IsSome (find tree.nodes key)) (λ key. is_closed closed key ≡ is_inside h top key) moved_inside
+      agree i hub at_i = all_weaker (λ key. IsSome (find tree.nodes key)) (λ key. is_closed closed key ≡ is_inside h top key) moved_inside
           (option_to_list hub.connection ++ hub.subscribers)
           (AllByRecursion-both (λ key. IsSome (find tree.nodes key)) (option_to_list hub.connection) hub.subscribers
           (found_connection hub.connection (tied.joined.connection i hub at_i)) (tied.joined.subscribers i hub at_i))

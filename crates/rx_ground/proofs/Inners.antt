@@ -1,10 +1,9 @@
 -- The children of a Switch: its source, and one inner.
-use Rattle.rx_ground.proofs.Common.{IfNone, ◌≡◌, ℕ, ◌+◌, true, false, List, Option, Some, is_some, IsSome, IfSome, option_map, slice_get, sym, ap}
-use Rattle.rx_ground.proofs.Common.{◌∙◌, inl, inr, ◌⊎◌, arith, option_map_or, false≢true, both_ways, eq-eqb, false_from_ne_true, none-some, same_Some, Kept}
-use Rattle.rx_ground.proofs.Common.{Place, Source, Inner, Notifier, Event, Open, is_switch, is_until, is_source_of, is_inner_of, inner_named, at, Key}
-use Rattle.rx_ground.proofs.Common.{named_by, parent_named, is_open, parent, IsLawful, one_source, parent_within, parent_name, event_at, notifier_stands}
-use Rattle.rx_ground.proofs.Common.{Slots, find, Node, IsChild, IsFirst, HasNone, some_of, child_found, AreRecords, IsInner, HasNoInner, ReplacesNone}
-use Rattle.rx_ground.proofs.Common.{Bool}
+use Rattle.rx_ground.proofs.Common.{IfNone, ◌≡◌, ℕ, ◌+◌, true, false, List, Option, Some, is_some, IsSome, IfSome, option_map, slice_get, sym, ap, ◌∙◌, inl}
+use Rattle.rx_ground.proofs.Common.{inr, ◌⊎◌, arith, option_map_or, false≢true, both_ways, eq-eqb, false_from_ne_true, none-some, same_Some, Kept, Place}
+use Rattle.rx_ground.proofs.Common.{Source, Inner, Notifier, Event, Open, is_switch, is_until, is_source_of, is_inner_of, inner_named, at, Key, named_by}
+use Rattle.rx_ground.proofs.Common.{parent_named, is_open, parent, IsLawful, one_source, parent_within, parent_name, event_at, notifier_stands, Slots, find}
+use Rattle.rx_ground.proofs.Common.{Node, IsChild, IsFirst, HasNone, some_of, child_found, AreRecords, IsInner, HasNoInner, ReplacesNone, Bool}
 use Rattle.rx_event.proofs.Laws.MarksInner.{switched_parent}
 use Rattle.rx_slots.proofs.Laws.EntryByNumber.{find-value_at}
 use Rattle.rx_slots.specs.Slots.{value_at}
@@ -46,9 +45,7 @@ module _ (base : Kept) (h : List Event) (law : IsLawful base h) (nodes : Slots N
         has.key,
         record {
           there = there;
-          named =
-              parent_in_tree base h nodes chain r has.key has.value has.found ∙
-              ap (parent h) has.numbered ∙
+          named = parent_in_tree base h nodes chain r has.key has.value has.found ∙ ap (parent h) has.numbered ∙
               switched_parent base h law switch.number n inner;
         },
         has.numbered,
@@ -122,5 +119,4 @@ no_switch {h} {nodes} r above merging node named at_above there value b told fla
     let same : f ≡ merging.number = same_Some f merging.number (sym (ap named_by inner) ∙ named ∙ ap (option_map (λ (k : Key). k.number)) at_above) in
     absurd (both_ways (at is_switch h f)
     (ap (at is_switch h) same ∙ ap (λ (o : Option Event). option_map_or is_switch o false) (r.each merging node (find-value_at nodes merging there ∙ value)).made ∙
-    sym told ∙ flat)
-    switch)
+    sym told ∙ flat) switch)

@@ -1,8 +1,7 @@
 -- Which connections a node stands inside of, by its record and those above it.
-use Rattle.rx_ground.proofs.Common.{◌≡◌, ℕ, suc, ◌<◌, true, false, List, Option, Some, None, is_some, option_map, sym, ap, ◌∙◌, ◌||◌}
-use Rattle.rx_ground.proofs.Common.{list_any, option_and_then, option_map_or, Kept, Ghosts, Event, parent_named, at, parent, if_less, parent-lt}
-use Rattle.rx_ground.proofs.Common.{ancestors_step, Key, Slots, find, Node, Tree, IsSound, named_above, parent_number, some_of, named_parent, connects_up_to}
-use Rattle.rx_ground.proofs.Common.{IsTied, is_inside_up_to}
+use Rattle.rx_ground.proofs.Common.{◌≡◌, ℕ, suc, ◌<◌, true, false, List, Option, Some, None, is_some, option_map, sym, ap, ◌∙◌, ◌||◌, list_any, option_and_then}
+use Rattle.rx_ground.proofs.Common.{option_map_or, Kept, Ghosts, Event, parent_named, at, parent, if_less, parent-lt, ancestors_step, Key, Slots, find, Node}
+use Rattle.rx_ground.proofs.Common.{Tree, IsSound, named_above, parent_number, some_of, named_parent, connects_up_to, IsTied, is_inside_up_to}
 use Rattle.std.proofs.Common.{rules}
 
 -- a record that is found has the key of the node that its place names
@@ -15,8 +14,7 @@ parent_none nodes key none = sym (ap (option_and_then (named_above key.number)) 
 
 -- a record names the node above as the history does
 pub parent_told : (base : Kept) → {T : Type 0} (g : Ghosts T) (h : List Event) (tree : Tree T) → IsTied base g h tree → (key : Key) →
-    is_some (find tree.nodes key) ≡ true →
-    parent_number tree.nodes key ≡ parent h key.number
+    is_some (find tree.nodes key) ≡ true → parent_number tree.nodes key ≡ parent h key.number
 unfolding parent
 parent_told base g h tree tied key there =
     let x = some_of (find tree.nodes key) there in
@@ -46,8 +44,7 @@ module _ (h : List Event) (g : ℕ) (from : Option Key) (key : Key) (is : from �
 
   pub climb_on : at (connects_up_to g) h key.number ≡ false → (above : Option Key) → number_of above ≡ parent h key.number →
       is_inside_up_to h g (number_of above) ≡ is_inside_up_to h g (number_of from)
-  climb_on elsewhere above named =
-      search (rules, inside_above)
+  climb_on elsewhere above named = search (rules, inside_above)
 
 pub climb_nearer : (h : List Event) (from above : Option Key) (key : Key) → from ≡ Some key → number_of above ≡ parent h key.number →
     steps_from above < steps_from from

@@ -15,12 +15,10 @@ module _ {T : Type 0} (first : Register) (start : Tree T) (leaf : ℕ) (value : 
   pub arrived_writes : (new : Register) → new.base ≡ register.base → new.history ≡ register.history ++ Item leaf value ∷ [] → new.pending ≡ [] →
       new.room + 1 ≡ register.room →
       new.limit ≡ register.limit → new.given ≡ register.given → new.mail_room ≡ register.mail_room → Writes first (Item leaf value ∷ []) new
-  arrived_writes new =
-      search (rules, writes_told, length, filter_map, all_done)
+  arrived_writes new = search (rules, writes_told, length, filter_map, all_done)
 
   pub arrived_tied : (g : Ghosts T) (hubs : Hubs) → IsLawful first.base first.history → MayFollow first.base first.history (Item leaf value) →
-      AreTied first.base g first.history start hubs →
-      (h : List Event) → h ≡ register.history ++ Item leaf value ∷ [] → AreTied first.base g h tree hubs
+      AreTied first.base g first.history start hubs → (h : List Event) → h ≡ register.history ++ Item leaf value ∷ [] → AreTied first.base g h tree hubs
   arrived_tied g hubs law next tied h grown =
       subst (λ (k : List Event). AreTied first.base g k tree hubs) (sym (grown ∙ ap (λ (r : Register). r.history ++ Item leaf value ∷ []) passed.same))
       (tied_item value law next tree tied

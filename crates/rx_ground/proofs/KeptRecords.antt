@@ -55,8 +55,7 @@ module _ {X Y : Type 0} (keep : Entry X → Y) where
       ListsJust test (numbers (kept_in slots)) → ((n : ℕ) → test n ≡ true → n < m) → ys ≡ map keep_number (filter test (range_with_len 0 m))
   slots_in_order {number} numbered slots keep_number {test} m {ys} order each just below =
       in_order number keep_number m (map keep_kept (kept_in slots)) ys (subst (λ (xs : List Y). IsByNumber number xs ys) (kept_listed_by slots) order)
-      each_kept
-      (subst (ListsJust test) (sym (same_numbers (kept_in slots))) just) below
+      each_kept (subst (ListsJust test) (sym (same_numbers (kept_in slots))) just) below
     where
       same_numbers : (ks : List (Kept X)) → map number (map keep_kept ks) ≡ numbers ks
       same_numbers [] = refl
@@ -137,22 +136,18 @@ module _ (base : Base) {T : Type 0} (g : Ghosts T) (h : List Event) (tree : Tree
     shape false b = refl
 
     state : state_in tree.nodes k.value ≡ cond (is_owned_in h k.key.number) Owned (cond (is_held_in h k.key.number) Leased Waiting)
-    state = shape (is_owned tree.nodes k.value) (is_lent k.value) ∙
-        (λ i. cond (sym (owned_agrees base g h tree tied k.key k.value found) i) Owned
+    state = shape (is_owned tree.nodes k.value) (is_lent k.value) ∙ (λ i. cond (sym (owned_agrees base g h tree tied k.key k.value found) i) Owned
         (cond (sym (held_agrees base g h tree tied k.key k.value found) i) Leased Waiting))
 
   pub resources_kept : AreApart tree.resources → IsLawful base h → (ys : List BaseResource) →
       IsByNumber (λ k. k.number) (kept_by (resource_as_kept g tree.nodes) tree.resources) ys →
       ys ≡ map (keep_resource base h) (filter (is_untaken h) (places h))
-  resources_kept apart law ys order =
-      slots_in_order (resource_as_kept g tree.nodes) (λ k. refl) tree.resources (keep_resource base h) (length h) order
+  resources_kept apart law ys order = slots_in_order (resource_as_kept g tree.nodes) (λ k. refl) tree.resources (keep_resource base h) (length h) order
       resource_kept (just_all tree.resources (is_untaken h) apart (record { each = stored_untaken; every = untaken_stored law })) (untaken_within h)
 
 pub leases_kept : {T : Type 0} (h : List Event) (resources : Slots (Stowed T)) (leases : Slots ResKey) → AreLeased h resources leases → AreApart leases →
-    (ys : List BaseLease) →
-    IsByNumber (λ k. k.number) (kept_by lease_as_kept leases) ys → ys ≡ map (keep_lease h) (filter (is_out h) (places h))
-leases_kept h resources leases leased apart ys order =
-    slots_in_order lease_as_kept (λ k. refl) leases (keep_lease h) (length h) order one
+    (ys : List BaseLease) → IsByNumber (λ k. k.number) (kept_by lease_as_kept leases) ys → ys ≡ map (keep_lease h) (filter (is_out h) (places h))
+leases_kept h resources leases leased apart ys order = slots_in_order lease_as_kept (λ k. refl) leases (keep_lease h) (length h) order one
     (just_out h resources leases leased apart) (is_out_within h)
   where
     one : (k : Kept ResKey) → Contains (kept_in leases) k → lease_as_kept (entry_of k.key.number k.value) ≡ keep_lease h k.key.number
@@ -187,9 +182,7 @@ hubs_rise (hub ∷ hs) rising = (above, hubs_rise hs (λ i j a b at_i at_j l. ri
       subst (λ n. hub.number < n) from.2 (rising 0 (suc place.0) hub from.0 refl place.1 (omega arith))
 
 pub hubs_kept : (h : List Event) (all : Hubs) → AreHubsPromised all → AreHubsOf h all.hubs → map hub_as_kept all.hubs ≡ map (keep_hub h) (hubs h)
-hubs_kept h all promised are =
-    by_numbers all.hubs one ∙
-    ap (map (keep_hub h))
+hubs_kept h all promised are = by_numbers all.hubs one ∙ ap (map (keep_hub h))
     (rising_just (at makes_hub h) (length h) (map number all.hubs) (hubs_rise all.hubs promised.rising) each every (at_within makes_hub h))
   where
     number : Hub → ℕ

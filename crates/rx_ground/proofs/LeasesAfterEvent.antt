@@ -22,8 +22,7 @@ module _ {T : Type 0} (h : List Event) (resources : Slots (Stowed T)) (leases : 
   pub past_leases : (n : ℕ) → n ≡ length h → IsPast leases n
   past_leases n at_end key some =
       let res = some_of (find leases key) some in
-      let l = is_out_within h key.number (leased.each key res.0 res.1).out in
-      omega arith
+      let l = is_out_within h key.number (leased.each key res.0 res.1).out in omega arith
 
   -- a lease that is out under its key is out in the history
   pub out_in_history : (lease : LeaseKey) → is_out_at leases lease ≡ true → is_out h lease.number ≡ true
@@ -157,8 +156,7 @@ module _ {T : Type 0} (base : Kept) (h k : List Event) (e : Event) (old new : Sl
     (leased : AreLeased h old leases) (none : makes_lease e ≡ false) (quiet : is_return e ≡ false) (grown : k ≡ h ++ e ∷ []) (same : later ≡ leases) where
   -- after an event that leases and returns nothing, where the resources of leases are there still
   pub leased_kept : ((l : ℕ) (res : ResKey) → IsLeaseOf h old l res → IsSome (find new (store_key res))) → AreLeased k new later
-  leased_kept kept =
-      subst (λ (x : List Event). AreLeased x new later) (sym grown) (subst (AreLeased (h ++ e ∷ []) new) (sym same)
+  leased_kept kept = subst (λ (x : List Event). AreLeased x new later) (sym grown) (subst (AreLeased (h ++ e ∷ []) new) (sym same)
       (leased_on h new leases (leased_same h old leases leased new leases kept (λ key. refl)) base e law none quiet))
 
   -- where no resource changed

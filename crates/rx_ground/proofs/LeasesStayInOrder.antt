@@ -3,20 +3,17 @@ use Rattle.rx_ground.proofs.Common.{◌≡◌, ◌≢◌, ℕ, ◌+◌, ◌<◌,
 use Rattle.rx_ground.proofs.Common.{IsSome, refl, sym, subst, ◌∙◌, inl, inr, ◌⊎◌, arith, not, option_map_or, cases_Bool, false≢true, both_ways, eqb-true, Key}
 use Rattle.rx_ground.proofs.Common.{eq-eqb, and_parts, Entry, Slots, entry_at, entry_of, find, Changes, ResKey, AreApart, IsPast, same_key, Lists, list_at}
 use Rattle.rx_ground.proofs.Common.{is_in, take_out, number_in, AreRising, IsInOrder}
-use Rattle.std.proofs.Common.{◌||◌}
+use Rattle.std.proofs.Common.{◌||◌, rules}
 use Rattle.rx_slots.proofs.Laws.EntryByNumber.{found_entry, with_number-same}
 use Rattle.rx_ground.proofs.RisingSlots.{is_in-append, is_in-out, rising_append, rising_out, rising_same, rising_apart}
-use Rattle.std.proofs.Common.{rules}
 
 -- the slot of a lease stands on the list, and its number is the lease's
 module _ (out : Slots ResKey) (order : Lists) (is : IsInOrder out order) where
   there_in : (key : Key) → IsSome (find out key) → (is_in key.slot (list_at order 0) ≡ true) × (number_in out key.slot ≡ key.number)
-  there_in key some =
-      search (rules, found_entry, is_some, option_map_or)
+  there_in key some = search (rules, found_entry, is_some, option_map_or)
 
   pub order_apart : AreApart out
-  order_apart a b some_a some_b same =
-      search (rules, there_in, same_key, rising_apart)
+  order_apart a b some_a some_b same = search (rules, there_in, same_key, rising_apart)
 
   -- what stands on the list is there
   on_list : (slot : ℕ) → is_in slot (list_at order 0) ≡ true → (e : Entry ResKey) × (entry_at out slot ≡ Some e)
@@ -53,8 +50,7 @@ module _ (out : Slots ResKey) (order : Lists) (is : IsInOrder out order) where
       each : (slot : ℕ) → ((slot == m) ≡ true) ⊎ ((slot == m) ≡ false) → (is_in slot xs || (slot == m)) ≡ is_some (entry_at new slot)
       each slot (inl here) =
           ap (λ b. is_in slot xs || b) here ∙ or_true (is_in slot xs) ∙ sym (ap is_some (ap (entry_at new) (eqb-true slot m here) ∙ changes.changed))
-      each slot (inr other) =
-          ap (λ b. is_in slot xs || b) other ∙ or_false (is_in slot xs) ∙ is.each slot ∙
+      each slot (inr other) = ap (λ b. is_in slot xs || b) other ∙ or_false (is_in slot xs) ∙ is.each slot ∙
           sym (ap is_some (changes.others slot (λ same. both_ways (slot == m) other (eq-eqb slot m same))))
 
       -- one that was there is no new one
@@ -71,8 +67,7 @@ module _ (out : Slots ResKey) (order : Lists) (is : IsInOrder out order) where
           let found = ap (λ (o : Option (Entry ResKey)). option_map_or (λ x. x.number) o 0) e.1 in
           let less = past key (finds key e.0 e.1 refl) in
           let now = ap (λ (o : Option (Entry ResKey)). option_map_or (λ x. x.number) o 0) changes.changed in
-          let same = number_same y on in
-          omega arith where
+          let same = number_same y on in omega arith where
             finds : (key : Key) (e : Entry ResKey) → entry_at out key.slot ≡ Some e → e.number ≡ key.number → IsSome (find out key)
             finds key e at same = ap is_some (ap (Rattle.rx_slots.specs.Slots.with_number key.number) at ∙ with_number-same key.number e same)
 

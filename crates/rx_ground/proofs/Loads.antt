@@ -7,8 +7,7 @@ use Rattle.rx_ground.proofs.TreeAgreesOnResource.{is_alone}
 use Rattle.std.proofs.Common.{rules}
 
 -- what is held is owned, or leases alone hold it
-counted_apart : (p q : ℕ → Bool) → ((n : ℕ) → q n ≡ true → p n ≡ true) → (ns : List ℕ) →
-    count_by p ns ≡ count_by q ns + count_by (λ n. p n && not (q n)) ns
+counted_apart : (p q : ℕ → Bool) → ((n : ℕ) → q n ≡ true → p n ≡ true) → (ns : List ℕ) → count_by p ns ≡ count_by q ns + count_by (λ n. p n && not (q n)) ns
 counted_apart p q within [] = refl
 counted_apart p q within (n ∷ ns) =
     let rest = counted_apart p q within ns in
@@ -32,10 +31,8 @@ held_counted h = counted_apart (is_held h) (is_owned h) (owned_held h) (places h
 -- and what is owed
 pub debt_counted : {base : Kept} {h : List Event} {nodes waiting accepted taken alone leases owing : ℕ} → IsLawful base h → nodes ≡ open_count h →
     waiting ≡ waiting_count h → accepted ≡ accepted_count base h → taken ≡ taken_count base h → alone ≡ count_by (is_alone h) (places h) →
-    leases ≡ lease_count h → owing ≡ owed_count base h →
-    nodes + 2 * ((accepted - taken - waiting) - alone) + alone + waiting + leases + owing ≡ debt base h
-debt_counted {base} {h} law o w a t k l p =
-    search (rules, accepted_count-parts, debt-counts, held_counted)
+    leases ≡ lease_count h → owing ≡ owed_count base h → nodes + 2 * ((accepted - taken - waiting) - alone) + alone + waiting + leases + owing ≡ debt base h
+debt_counted {base} {h} law o w a t k l p = search (rules, accepted_count-parts, debt-counts, held_counted)
 
 -- a register that is paid for has room for it
 pub debt_bounded : (s : State) → IsPromised s → IsPaid s → debt s.base s.history ≤ 4294967295

@@ -1,13 +1,11 @@
 -- A node at whose place a node is opened, or to which an item is projected, has not to end by that, so its key need not go
 -- on the chain.
-use Rattle.rx_ground.proofs.Common.{◌≡◌, ℕ, ◌+◌, ◌==◌, cond, Bool, false, List, Option, Some, None, is_some, option_map, IsSome, IfSome}
-use Rattle.rx_ground.proofs.Common.{refl, sym, ap, subst, ◌∙◌, option_map_or, option_or, nat_tests, none-some, Terminal, Marks, Event}
-use Rattle.rx_ground.proofs.Common.{End, terminal_due, due_at, after_source, after_notifier, Key, Slots, find, Node, Tree, is_on}
-use Rattle.rx_ground.proofs.Common.{Rewrites, is_due, with_due, with_marks, some_of, IsUndue, Remarks}
-use Rattle.std.proofs.Common.{◌&&◌, true≢false}
+use Rattle.rx_ground.proofs.Common.{◌≡◌, ℕ, ◌+◌, ◌==◌, cond, Bool, false, List, Option, Some, None, is_some, option_map, IsSome, IfSome, refl, sym, ap, subst}
+use Rattle.rx_ground.proofs.Common.{◌∙◌, option_map_or, option_or, nat_tests, none-some, Terminal, Marks, Event, End, terminal_due, due_at, after_source}
+use Rattle.rx_ground.proofs.Common.{after_notifier, Key, Slots, find, Node, Tree, is_on, Rewrites, is_due, with_due, with_marks, some_of, IsUndue, Remarks}
+use Rattle.std.proofs.Common.{◌&&◌, true≢false, rules}
 use Rattle.rx_event.specs.Marks.{completed_if, after_projection}
 use Rattle.rx_ground.proofs.TiedWhileSettling.{SetsMarks, set_remarks}
-use Rattle.std.proofs.Common.{rules}
 
 -- marks -------------------------------------------------------------------------------------------
 
@@ -58,18 +56,15 @@ remarks_undue {T = T} {old} {new} {key} change undue there quiet nodes chain sto
     let x = some_of (find old.nodes key) there in
     let node = x.0 in
     let sets = nodes node x.1 in
-    let found : find new.nodes key ≡ Some (with_marks (change node.marks) node) =
-    sets.changed ∙ ap (option_map (with_marks (change node.marks))) x.1 in
+    let found : find new.nodes key ≡ Some (with_marks (change node.marks) node) = sets.changed ∙ ap (option_map (with_marks (change node.marks))) x.1 in
     let at_marks : option_map (λ (n : Node). n.marks) (find old.nodes key) ≡ Some node.marks = ap (option_map (λ (n : Node). n.marks)) x.1 in
     let not_due : is_on key old.chain ≡ false → is_due new.nodes key ≡ false =
     λ off. ap (λ (o : Option Node). option_map_or (λ (n : Node). is_some (terminal_due n.made n.marks)) o false) found ∙
     ap is_some (undue node.made node.marks (subst (λ (o : Option Node). IfSome o (λ n. terminal_due n.made n.marks ≡ None)) x.1 (quiet off))) in
     let all : SetsMarks old new key (change node.marks) =
-    record { nodes = sets; chain = chain ∙ sym (same_chain new.nodes key old.chain not_due); stored = stored } in
-    set_remarks change at_marks refl all
+    record { nodes = sets; chain = chain ∙ sym (same_chain new.nodes key old.chain not_due); stored = stored } in set_remarks change at_marks refl all
 
 -- and marks that stay
 pub remarks_none : {T : Type 0} (tree : Tree T) (key : Key) → IsSome (find tree.nodes key) → (is_on key tree.chain ≡ false → IsUndue tree.nodes key) →
     Remarks tree tree key (λ m. m)
-remarks_none {T = T} tree key there quiet =
-    search (rules, some_of, find, option_map_or, is_some, same_chain, option_map)
+remarks_none {T = T} tree key there quiet = search (rules, some_of, find, option_map_or, is_some, same_chain, option_map)

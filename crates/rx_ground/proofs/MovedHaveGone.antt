@@ -14,15 +14,13 @@ use Rattle.rx_ground.proofs.Laws.Members.{Contains-from_map}
 pub AllPairs-by : {X : Type 0} (R S : X → X → Type 0) (xs : List X) → ((x y : X) → Contains xs x → Contains xs y → R x y → S x y) →
     AllPairs R xs → AllPairs S xs
 AllPairs-by R S [] by pairs = AllPairs-nil S
-AllPairs-by R S (x ∷ xs) by pairs =
-    AllPairs-cons S x xs
+AllPairs-by R S (x ∷ xs) by pairs = AllPairs-cons S x xs
     (All-members (S x) xs (λ y c. by x y (Contains-head x xs) (Contains-later x xs y c) (AllPairs-head R x xs pairs y c)))
     (AllPairs-by R S xs (λ a b c d r. by a b (Contains-later x xs a c) (Contains-later x xs b d) r) (AllPairs-tail R x xs pairs))
 
 -- what stands behind the first so many
 pub behind : {X : Type 0} (n from : ℕ) (xs list : List X) → from ≡ n → list ≡ xs → take (length list - from) (drop from list) ≡ drop n xs
-behind n from xs list same is =
-    rw (same, is) (ap (λ (m : ℕ). take m (drop n xs)) (sym (length-drop n xs)) ∙ take-length (drop n xs))
+behind n from xs list same is = rw (same, is) (ap (λ (m : ℕ). take m (drop n xs)) (sym (length-drop n xs)) ∙ take-length (drop n xs))
 
 -- the list of closed nodes goes on with the subtree
 pub moves_subtree : (nodes : Slots Node) (top : ℕ) (before after : List Closed) → take (length before) after ≡ before →
@@ -58,8 +56,7 @@ module _ {base : Kept} {h : List Event} {e : Event} {nodes left : Slots Node} {c
       let out : find left key ≡ None = cuts key ∙ ap (λ b. cond b None (find nodes key)) is.1 in
       let shut = false_from_ne_true (is_open (h ++ e ∷ []) key.number) (λ o. none-some x.0 (sym out ∙ stays.still key x.0 x.1 o)) in
       let made = at-append makes_node h (e ∷ []) key.number (is_open_within h key.number alive) ∙ open_node h key.number alive in
-      let stayed = false_from_ne_true (has_gone h key.number) (λ gone.
-      both_ways (is_open h key.number) (not_open gone) alive) in
+      let stayed = false_from_ne_true (has_gone h key.number) (λ gone. both_ways (is_open h key.number) (not_open gone) alive) in
       and_from (has_gone (h ++ e ∷ []) key.number) (not (has_gone h key.number))
       (and_from (at makes_node (h ++ e ∷ []) key.number) (not (is_open (h ++ e ∷ []) key.number)) made (not_from_false _ shut)) (not_from_false _ stayed)
     where
@@ -93,15 +90,12 @@ module _ {base : Kept} {h : List Event} {e : Event} {nodes left : Slots Node} {c
   }
     where
       each : (n : ℕ) → Contains (numbers_of moves.moved) n → goes h (h ++ e ∷ []) n ≡ true
-      each n c =
-          let m = Contains-from_map (λ (key : Key). key.number) moves.moved n c in
-          ap (goes h (h ++ e ∷ [])) (sym m.2) ∙ moved_goes m.0 m.1
+      each n c = let m = Contains-from_map (λ (key : Key). key.number) moves.moved n c in ap (goes h (h ++ e ∷ [])) (sym m.2) ∙ moved_goes m.0 m.1
 
 -- it is so where the event closes a node and all below it
 pub gathers_closed : {base : Kept} {T : Type 0} {g : Ghosts T} {h k : List Event} {e : Event} {old mid : Tree T} {n : ℕ} {list longer : List Key} →
     IsLawful base h → MayFollow base h e → IsTied base g h old → IsSound old.nodes → Cuts old mid n →
-    ((m : ℕ) → is_open (h ++ e ∷ []) m ≡ (is_open h m && not (is_within h n m))) → Moves old.nodes n list longer →
-    k ≡ h ++ e ∷ [] → Gathers h list k longer
+    ((m : ℕ) → is_open (h ++ e ∷ []) m ≡ (is_open h m && not (is_within h n m))) → Moves old.nodes n list longer → k ≡ h ++ e ∷ [] → Gathers h list k longer
 gathers_closed {base} {h = h} {e = e} {old = old} {mid = mid} {n = n} {list = list} {longer = longer} law next tied sound cuts outside moves grown =
     subst (λ (k : List Event). Gathers h list k longer) (sym grown) (gathers_cut next tied.records
     (cut_left base h e law next old.nodes old.chain tied.records mid.nodes mid.chain n sound (λ m l. outside m) cuts.nodes cuts.chain)

@@ -9,8 +9,7 @@ module _ (base : Kept) {T : Type 0} (g : Ghosts T) (h : List Event) (tree : Tree
   pub past_resources : IsPast tree.resources n
   past_resources key some =
       let x = some_of (find tree.resources key) some in
-      let w = (stored_within base g h law tree.nodes key.number x.0 (tied.stored.each key x.0 x.1)).0 in
-      omega arith
+      let w = (stored_within base g h law tree.nodes key.number x.0 (tied.stored.each key x.0 x.1)).0 in omega arith
 
   pub newest : IsNewest tree n
   newest = record {

@@ -60,8 +60,7 @@ module _ {base : Kept} {T : Type 0} {g : Ghosts T} {h : List Event} {n : ℕ} {t
   above_counted x0 ready = search (rules, above_stays, child_counted)
 
   pub ended_tied : {new : Tree T} (above : Option Key) → IsReadyToEnd base g h n t made above old mid → AreApart mid.nodes →
-      IfSome above (λ key. IfSome (find mid.nodes key) (λ node.
-      Remarks mid new key (after_child (is_some (source_named made)) (is_merging node.made) t))) →
+      IfSome above (λ key. IfSome (find mid.nodes key) (λ node. Remarks mid new key (after_child (is_some (source_named made)) (is_merging node.made) t))) →
       IfNone above (new ≡ mid) → IsEnded base g (h ++ End n t ∷ []) old mid new
   ended_tied {new = new} None ready apart marked same =
       let records = ready.tied.records in

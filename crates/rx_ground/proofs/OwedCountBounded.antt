@@ -56,8 +56,7 @@ owed_count-rise base h e law next =
     let less = sum_by_no_rise (λ n. owed_open base h n + projected_open h (stops_of h e) n) (owed_open base (h ++ e ∷ [])) (length h) (λ n l.
     rw (is_open_cut h e n l, at-append is_merging h (e ∷ []) n l)
     (shape (is_open h n) (is_cut h e n) (at is_merging h n) (pays n e) (owed base (h ++ e ∷ []) n) (owed base h n)
-    (count_by (is_projection_to n) (stops_of h e))
-    (owed-push base h e law next n))) in
+    (count_by (is_projection_to n) (stops_of h e)) (owed-push base h e law next n))) in
     let parts = sum_by-plus (owed_open base h) (projected_open h (stops_of h e)) (length h) in
     let projected = projected_count h (stops_of h e) (well e next) in
     omega arith
@@ -83,13 +82,11 @@ owed_count-le base =
     by_events base (λ h. owed_count base h + 1048577 * length (shown base) ≤ owed_count base (shown base) + 1048577 * length h) (λ started. omega arith)
     (λ h e law next before.
     let rise = owed_count-rise base h e law next in
-    let few = few_projected h e 1048577 limit_is in
-    omega (arith, length-append h (e ∷ [])))
+    let few = few_projected h e 1048577 limit_is in omega (arith, length-append h (e ∷ [])))
 
 -- and with at most 4,294,967,295 events since, and a base whose closing fits them, it is far within 64 bits
 pub owed_count-bounded : (s : Register) → IsPromised s → owed_count s.base s.history ≤ 4503608216256510
-owed_count-bounded s promised =
-    search (rules, owed_count-le, length-shown, debt-counts)
+owed_count-bounded s promised = search (rules, owed_count-le, length-shown, debt-counts)
 
 -- by the records of a tree ------------------------------------------------------------------------
 
@@ -116,5 +113,4 @@ owed_in-count base h law nodes chain records apart = owed_in-numbers (owed_open 
 -- it is far within 64 bits
 pub owed_in-bounded : {T : Type 0} (g : Ghosts T) (s : Register) (tree : Tree T) → IsTied s.base g s.history tree → IsPromised s → AreApart tree.nodes →
     owed_in tree.nodes ≤ 4503608216256510
-owed_in-bounded g s tree tied promised apart =
-    search (rules, owed_in-count, owed_count-bounded)
+owed_in-bounded g s tree tied promised apart = search (rules, owed_in-count, owed_count-bounded)

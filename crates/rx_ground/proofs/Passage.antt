@@ -1,13 +1,12 @@
 -- An item on its way over a tree and its hubs, from stop to stop.
-use Rattle.rx_ground.proofs.Common.{◌≡◌, ◌≢◌, ℕ, ℤ, zero, suc, ◌+◌, ◌<◌, ◌≤◌, cond, List, [], ◌∷◌, ◌++◌, length, Option, Some, None, refl}
-use Rattle.rx_ground.proofs.Common.{is_some, IsSome, IfSome, option_map, count_by, sym, ap, subst, ◌∙◌, inl, inr, ◌⊎◌, arith, length-append, append_assoc}
-use Rattle.rx_ground.proofs.Common.{AllByRecursion, filter_map, cons_option, option_and_then, option_map_or, option_to_list, filter_map-append}
-use Rattle.rx_ground.proofs.Common.{sum_by-append, Kept, Mail, Marks, Event, Item, told}
-use Rattle.rx_ground.proofs.Common.{is_projection, mail_of, IsLawful, AllByRecursion-both, Key, Slots, find, Node, owed_in, Tree, IsSound, AreApart, Rewrites}
-use Rattle.rx_ground.proofs.Common.{with_marks, cases_key, some_of, owed_rewritten, Stop, Delivery, Projection, Firing, Connection, numbered, Hub}
-use Rattle.rx_ground.proofs.Common.{stop_made, stop_of-found, above_found, find_hub, Route, IsOrdered, IsUnderWay, Arrives, stops_left}
-use Rattle.rx_ground.proofs.Common.{IsWalk, subscribers_of, onward_over, visited_over, arrival, arrival_at, stops_over, all_stops_told, AreRecords}
-use Rattle.rx_ground.proofs.Common.{IsOrdered-walk, Remarks, ArePassed, IsPassing, IsThere, IsMarkedAt, owed_at, told_at, mail_at, sum_at}
+use Rattle.rx_ground.proofs.Common.{◌≡◌, ◌≢◌, ℕ, ℤ, zero, suc, ◌+◌, ◌<◌, ◌≤◌, cond, List, [], ◌∷◌, ◌++◌, length, Option, Some, None, refl, is_some, IsSome}
+use Rattle.rx_ground.proofs.Common.{IfSome, option_map, count_by, sym, ap, subst, ◌∙◌, inl, inr, ◌⊎◌, arith, length-append, append_assoc, AllByRecursion}
+use Rattle.rx_ground.proofs.Common.{filter_map, cons_option, option_and_then, option_map_or, option_to_list, filter_map-append, sum_by-append, Kept, Mail}
+use Rattle.rx_ground.proofs.Common.{Marks, Event, Item, told, is_projection, mail_of, IsLawful, AllByRecursion-both, Key, Slots, find, Node, owed_in, Tree}
+use Rattle.rx_ground.proofs.Common.{IsSound, AreApart, Rewrites, with_marks, cases_key, some_of, owed_rewritten, Stop, Delivery, Projection, Firing, Connection}
+use Rattle.rx_ground.proofs.Common.{numbered, Hub, stop_made, stop_of-found, above_found, find_hub, Route, IsOrdered, IsUnderWay, Arrives, stops_left, IsWalk}
+use Rattle.rx_ground.proofs.Common.{subscribers_of, onward_over, visited_over, arrival, arrival_at, stops_over, all_stops_told, AreRecords, IsOrdered-walk}
+use Rattle.rx_ground.proofs.Common.{Remarks, ArePassed, IsPassing, IsThere, IsMarkedAt, owed_at, told_at, mail_at, sum_at}
 use Rattle.rx_event.specs.Climb.{Stop as NumberedStop, Delivery as DeliveryTo, Projection as ProjectionTo, Firing as FiringOf, stops}
 use Rattle.rx_event.specs.Marks.{after_projection, after_firing}
 use Rattle.rx_register.specs.State.{State as Register}
@@ -115,9 +114,7 @@ module _ (base : Kept) {T : Type 0} (h : List Event) (done : List NumberedStop) 
 
       fixed : Rewrites old.nodes new.nodes key (with_marks marks)
       fixed = record {
-        changed =
-            marked.nodes.changed ∙
-            ap (option_map (λ (node : Node). with_marks (change node.marks) node)) before.1 ∙
+        changed = marked.nodes.changed ∙ ap (option_map (λ (node : Node). with_marks (change node.marks) node)) before.1 ∙
             sym (ap (option_map (with_marks marks)) before.1);
         others = marked.nodes.others;
         rest = marked.nodes.rest;
@@ -213,14 +210,12 @@ module _ {T : Type 0} (first : Register) (start : Tree T) (hubs : List Hub) (roo
         let both = length-append (filter_map f p.done) (filter_map f rest) in
         let sum = told_sum (length first.history) value left in
         let more : sum_at told_at left ≡ told_at stop + sum_at told_at (stops_left tree.nodes hubs next) = ap (sum_at told_at) arrives.stops in
-        let r = p.mail_room in
-        omega arith
+        let r = p.mail_room in omega arith
 
     go_on : (told_register : Register) (marked : Tree T) (last : NumberedStop) → IsNumbered stop last →
         told_register ≡ record register { pending = told_register.pending; mail_room = told_register.mail_room } →
         told_register.pending ≡ register.pending ++ option_to_list (mail_at (length register.history) value stop) →
-        register.mail_room ≡ told_register.mail_room + told_at stop →
-        IsFurther first.base first.history going.passing.done hubs next stop last tree marked →
+        register.mail_room ≡ told_register.mail_room + told_at stop → IsFurther first.base first.history going.passing.done hubs next stop last tree marked →
         IsGoing first start hubs room leaf.number value told_register marked next
     go_on told_register marked last is same pending mail_room further = record {
       passing = record {
@@ -277,8 +272,7 @@ module _ {T : Type 0} (first : Register) (start : Tree T) (hubs : List Hub) (roo
     (route next : Route) (stop : Stop) (going : IsGoing first start hubs room leaf.number value register tree route)
     (arrives : Arrives tree.nodes hubs route next (Some stop)) (marks : IsMarkedAt stop tree marked) where
   marked_further : (last : NumberedStop) × IsNumbered stop last × IsFurther first.base first.history going.passing.done hubs next stop last tree marked
-  marked_further =
-      search (rules, further)
+  marked_further = search (rules, further)
 
   pub going_on : (told_register : Register) → told_register ≡ record register { pending = told_register.pending; mail_room = told_register.mail_room } →
       told_register.pending ≡ register.pending ++ option_to_list (mail_at (length register.history) value stop) →
@@ -317,16 +311,14 @@ module _ {T : Type 0} (first : Register) (start : Tree T) (hubs : List Hub) (lea
   pub one_there : IsThere start.nodes stop
   one_there =
       let whole = stops_there start.nodes hubs walk.sound walk.found leaf found in
-      let all : AllByRecursion (IsThere start.nodes) (stop ∷ []) = subst (AllByRecursion (IsThere start.nodes)) one whole in
-      all.0
+      let all : AllByRecursion (IsThere start.nodes) (stop ∷ []) = subst (AllByRecursion (IsThere start.nodes)) one whole in all.0
 
   one_stop : stops first.history leaf.number ≡ filter_map numbered (stop ∷ [])
   one_stop = search (rules, all_stops_told, filter_map)
 
   -- there is room for what it tells
   pub one_room : length (mail_of first.history (Item leaf.number value)) ≤ first.mail_room → told_at stop ≤ first.mail_room
-  one_room notes =
-      search (rules, length, filter_map, one_stop, told_sum)
+  one_room notes = search (rules, length, filter_map, one_stop, told_sum)
 
   module _ (told_register : Register) (marked : Tree T) (marks : IsMarkedAt stop start marked) where
     one_further : (last : NumberedStop) × IsNumbered stop last × IsFurther first.base first.history [] hubs (nowhere hubs) stop last start marked

@@ -75,13 +75,11 @@ module _ {base : Kept} {T : Type 0} {g : Ghosts T} {h : List Event} {place : Pla
         let opens : (n : ℕ) → n < length h → is_open (h ++ Open place kind ∷ []) n ≡ (is_open h n && not (is_within h c n)) =
         λ n l. ap (λ (q : Place). is_open (h ++ Open q kind ∷ []) n) r.named ∙
         is_open-inner_switch ready.law (record { switch = r.switches; inner = r.inner.stands; alive = alive }) kind n l in
-        cut_left base h (Open place kind) ready.law ready.next old.nodes old.chain records left.nodes left.chain c ready.sound opens
-        x.cuts.nodes x.cuts.chain
+        cut_left base h (Open place kind) ready.law ready.next old.nodes old.chain records left.nodes left.chain c ready.sound opens x.cuts.nodes x.cuts.chain
 
     by_test : (replaces ≡ true) ⊎ (replaces ≡ false) → AreLeft h (Open place kind) old.nodes left.nodes old.chain left.chain
     by_test (inl takes) = exchanged (ready.way.exchanged takes)
-    by_test (inr leaves) =
-        subst (λ (t : Tree T). AreLeft h (Open place kind) old.nodes t.nodes old.chain t.chain) (sym (ready.way.same leaves))
+    by_test (inr leaves) = subst (λ (t : Tree T). AreLeft h (Open place kind) old.nodes t.nodes old.chain t.chain) (sym (ready.way.same leaves))
         (all_left base h (Open place kind) ready.law ready.next old.nodes old.chain ready.tied.of_tree.records
         (none_closed h place kind (ready.way.none leaves)))
 
@@ -108,8 +106,7 @@ module _ {base : Kept} {T : Type 0} {g : Ghosts T} {h : List Event} {place : Pla
       (record { makes = placed.makes; named = placed.named; lower = placed.lower; there = above_there above placed.named placed.there })
 
   pub newest_left : (n : ℕ) → n ≡ length h → IsNewest left n
-  newest_left n is =
-      newest_fewer old left n (λ k some. let x = some_of (find left.nodes k) some in ap is_some (way_left.was k x.0 x.1)) way_resources
+  newest_left n is = newest_fewer old left n (λ k some. let x = some_of (find left.nodes k) some in ap is_some (way_left.was k x.0 x.1)) way_resources
       (newest base g h old ready.tied.of_tree ready.law n is)
 
   -- the tree with the new node ------------------------------------------------------------------------
@@ -117,8 +114,7 @@ module _ {base : Kept} {T : Type 0} {g : Ghosts T} {h : List Event} {place : Pla
   -- what is left stays as it was
   left_still : {mid : Tree T} {key : Key} {above : Option Key} → IsOpenedBelow h place kind above old left mid key →
       (k : Key) → IsSome (find left.nodes k) → find mid.nodes k ≡ find left.nodes k
-  left_still {mid = mid} {key = key} {above = above} b =
-      found_still base g h ready.law old left mid ready.tied.of_tree key (Open place kind) above b.opened
+  left_still {mid = mid} {key = key} {above = above} b = found_still base g h ready.law old left mid ready.tied.of_tree key (Open place kind) above b.opened
 
   -- so the node above is there, with the marks that the history gives
   pub above_marks : {mid : Tree T} {key : Key} (above : Option Key) → IsOpenedBelow h place kind above old left mid key → (P : Node → Type 0) →
@@ -152,8 +148,7 @@ module _ {base : Kept} {T : Type 0} {g : Ghosts T} {h : List Event} {place : Pla
     few_above most less = above_marks above below (λ node. node.marks.open_children + 1 < suc most) (λ p x named is.
         let count = count_by-le-length (λ m. is_open_child_of h p.number m) (places h) in
         let all = length-range_with_len 0 (length h) in
-        let children : x.marks.open_children ≡ open_children h p.number = ap (λ (m : Marks). m.open_children) is.marks in
-        omega arith)
+        let children : x.marks.open_children ≡ open_children h p.number = ap (λ (m : Marks). m.open_children) is.marks in omega arith)
 
     -- and where an inner is opened it owes something
     pub owes_above : (f : ℕ) → place ≡ Inner f → IfSome above (λ k. IfSome (find mid.nodes k) (λ node. 0 < node.marks.owed))
@@ -161,16 +156,14 @@ module _ {base : Kept} {T : Type 0} {g : Ghosts T} {h : List Event} {place : Pla
         let free = may_open base (subst (λ (q : Place). MayFollow base h (Open q kind)) inner ready.next) in
         let same : f ≡ p.number = same_Some f p.number (sym (ap named_by inner) ∙ named) in
         let owes : 0 < owed base h p.number = subst (λ n. 0 < owed base h n) same free.2 in
-        let owing : x.marks.owed ≡ owed base h p.number = ap (λ (m : Marks). m.owed) is.marks in
-        omega arith)
+        let owing : x.marks.owed ≡ owed base h p.number = ap (λ (m : Marks). m.owed) is.marks in omega arith)
 
     -- a node that is older was there
     opened_before : (k : Key) → IsSome (find mid.nodes k) → k.number < length h → IsSome (find old.nodes k)
     opened_before k some less =
         let other : k ≢ key = λ same. absurd (let n = ap (λ (j : Key). j.number) same in let m = below.opened.numbered in omega arith) in
         let here = ap is_some (sym (below.opened.others k other)) ∙ some in
-        let x = some_of (find left.nodes k) here in
-        ap is_some (way_left.was k x.0 x.1)
+        let x = some_of (find left.nodes k) here in ap is_some (way_left.was k x.0 x.1)
 
   -- no other node came
   pub opened_new : {mid : Tree T} {key : Key} (new : Tree T) (above : Option Key) → IsOpenedBelow h place kind above old left mid key →
@@ -224,5 +217,4 @@ module _ {base : Kept} {T : Type 0} {g : Ghosts T} {h : List Event} {kind : Kind
   opened_tied (Inner f) (Some p) ready below apart marked same =
       let at : p.number ≡ f = sym (same_Some f p.number below.named) in
       opened_below p (after_inner replaces) ready below apart (λ n differs. ne_eqb f n (λ same. differs (at ∙ same)))
-      (subst (λ (n : ℕ). marks_of base (h ++ Open (Inner f) kind ∷ []) n ≡ after_inner replaces (marks_of base h n)) (sym at)
-      (way_marks ready f refl)) marked
+      (subst (λ (n : ℕ). marks_of base (h ++ Open (Inner f) kind ∷ []) n ≡ after_inner replaces (marks_of base h n)) (sym at) (way_marks ready f refl)) marked

@@ -36,8 +36,7 @@ off_due nodes k p chain off = search (rules, off, cond, off_last)
 -- and one that is not there then has not to end
 pub undue : (nodes : Slots Node) (p : Key) (node : Node) (chain : List Key) → find nodes p ≡ Some node → is_on p (with_due nodes p chain) ≡ false →
     due_at node.made node.marks p.number ≡ None
-undue nodes p node chain found off =
-    search (rules, option_map, off, is_some, option_map_or, false≢true, cond, both_ways, on_last)
+undue nodes p node chain found off = search (rules, option_map, off, is_some, option_map_or, false≢true, cond, both_ways, on_last)
 
 -- what stays open and is not on the chain that stays was not on it
 pub off_outside : (nodes : Slots Node) (top : ℕ) (k : Key) (chain : List Key) → is_below nodes top k.number ≡ false →
@@ -58,12 +57,11 @@ pub record AreNearly (base : Kept) (h : List Event) (stale : Option ℕ) (nodes 
 
 pub all_fresh : (base : Kept) → (h : List Event) (nodes : Slots Node) (chain : List Key) → AreNearly base h None nodes chain → AreRecords base h nodes chain
 all_fresh base h nodes chain near = record {
-  each =
-      λ key node found. record {
-        made = near.made key node found;
-        alive = near.alive key node found;
-        marks = near.marks key node found (λ e. none-some key.number e);
-      };
+  each = λ key node found. record {
+    made = near.made key node found;
+    alive = near.alive key node found;
+    marks = near.marks key node found (λ e. none-some key.number e);
+  };
   every = near.every;
   quiet = λ key node found off. near.quiet key node found (λ e. none-some key.number e) off;
 }
@@ -109,12 +107,9 @@ remarked {base} {h} {nodes} {new} {chain} p before change near apart at_p marked
   quiet : (key : Key) (node : Node) → find new key ≡ Some node → is_on key (with_due new p chain) ≡ false → due_at node.made node.marks key.number ≡ None
   quiet key node found off = by_key (cases_key key p) where
     by_key : (key ≡ p) ⊎ (key ≢ p) → due_at node.made node.marks key.number ≡ None
-    by_key (inl same) =
-        ap (λ (k : Key). due_at node.made node.marks k.number) same ∙
+    by_key (inl same) = ap (λ (k : Key). due_at node.made node.marks k.number) same ∙
         undue new p node chain (sym (ap (find new) same) ∙ found) (sym (ap (λ (k : Key). is_on k (with_due new p chain)) same) ∙ off)
-    by_key (inr differs) =
-        let was = other key node differs found in
-        near.quiet key node was (fresh key node differs was) (off_due new key p chain off)
+    by_key (inr differs) = let was = other key node differs found in near.quiet key node was (fresh key node differs was) (off_due new key p chain off)
 
 -- the records are those of the history, whatever is due
 pub as_records : (base : Kept) → (h : List Event) (nodes : Slots Node) (chain : List Key) → AreRecords base h nodes chain → AreRecordsOf base h nodes
@@ -251,13 +246,10 @@ module _ (base : Kept) (h : List Event) (e : Event) (law : IsLawful base h) (nex
 
       still : (k : Key) (node : Node) → find nodes k ≡ Some node → is_open (h ++ e ∷ []) k.number ≡ true → find left k ≡ Some node
       still k node f alive =
-          let parts =
-          and_parts (is_open h k.number) (not (list_any (λ a. top == a) (ancestors h k.number)))
+          let parts = and_parts (is_open h k.number) (not (list_any (λ a. top == a) (ancestors h k.number)))
           (sym (opens k.number (is_open_within h k.number (r.each k node f).alive)) ∙ alive) in
-          cuts k ∙
-          ap (λ b. cond b None (find nodes k))
-          (below_is_within base h nodes chain r sound k node f top ∙ not-true (list_any (λ a. top == a) (ancestors h k.number)) parts.1) ∙
-          f
+          cuts k ∙ ap (λ b. cond b None (find nodes k))
+          (below_is_within base h nodes chain r sound k node f top ∙ not-true (list_any (λ a. top == a) (ancestors h k.number)) parts.1) ∙ f
 
   -- a new node beside those that stay
   pub records_opened : {left : Slots Node} {rest : List Key} → AreLeft h e nodes left chain rest →

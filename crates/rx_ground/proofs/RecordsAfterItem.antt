@@ -42,8 +42,7 @@ passed_none base h nodes chain r = search rules
 
 -- at a stop that changes no marks
 pub passed_told : (base : Kept) → (h : List Event) (done : List NumberedStop) (nodes : Slots Node) (chain : List Key) (root : ℕ) →
-    ArePassed base h done nodes chain →
-    ArePassed base h (done ++ DeliveryTo root ∷ []) nodes chain
+    ArePassed base h done nodes chain → ArePassed base h (done ++ DeliveryTo root ∷ []) nodes chain
 passed_told base h done nodes chain root p = search (rules, after_stops-append)
 
 -- at one that changes those of one record
@@ -89,8 +88,7 @@ passed_marked {base} {h} {done} {nodes} {new} {chain} p s change was apart there
         more n = after_stops-append n done s (marks_of base h n)
 
         by_key : (key ≡ p) ⊎ (key ≢ p) → node.marks ≡ after_stops key.number (done ++ s ∷ []) (marks_of base h key.number)
-        by_key (inl same) =
-            sym (ap (λ (x : Node). x.marks) (is_after key node same found)) ∙ ap change (was.marks p before.0 before.1) ∙
+        by_key (inl same) = sym (ap (λ (x : Node). x.marks) (is_after key node same found)) ∙ ap change (was.marks p before.0 before.1) ∙
             sym (changes.here (after_stops p.number done (marks_of base h p.number))) ∙ sym (more p.number) ∙
             ap (λ (n : ℕ). after_stops n (done ++ s ∷ []) (marks_of base h n)) (sym (number key same))
         by_key (inr differs) =
@@ -110,24 +108,20 @@ passed_marked {base} {h} {done} {nodes} {new} {chain} p s change was apart there
       quiet : (key : Key) (node : Node) → find new key ≡ Some node → is_on key (with_due new p chain) ≡ false → due_at node.made node.marks key.number ≡ None
       quiet key node found off = by_key (cases_key key p) where
         by_key : (key ≡ p) ⊎ (key ≢ p) → due_at node.made node.marks key.number ≡ None
-        by_key (inl same) =
-            ap (λ (k : Key). due_at node.made node.marks k.number) same ∙
+        by_key (inl same) = ap (λ (k : Key). due_at node.made node.marks k.number) same ∙
             undue new p node chain (sym (ap (find new) same) ∙ found) (sym (ap (λ (k : Key). is_on k (with_due new p chain)) same) ∙ off)
         by_key (inr differs) = was.quiet key node (other key node differs found) (off_due new key p chain off)
 
 -- and after the last, once the item is written
 pub passed_all : {base : Kept} → (h : List Event) (leaf : ℕ) (v : ℤ) (nodes : Slots Node) (chain : List Key) → IsLawful base h →
-    MayFollow base h (Item leaf v) →
-    ArePassed base h (stops h leaf) nodes chain → AreRecords base (h ++ Item leaf v ∷ []) nodes chain
+    MayFollow base h (Item leaf v) → ArePassed base h (stops h leaf) nodes chain → AreRecords base (h ++ Item leaf v ∷ []) nodes chain
 passed_all {base} h leaf v nodes chain law next p = search (rules, is_open_within, slice_get-append, is_open_unchanged, marks-item_at)
 
 -- ties --------------------------------------------------------------------------------------------
 
 -- an item that went its whole way and is written
 pub tied_item : {base : Kept} → {T : Type 0} {g : Ghosts T} {h : List Event} {leaf : ℕ} (v : ℤ) → IsLawful base h → MayFollow base h (Item leaf v) →
-    {old : Tree T} (new : Tree T) {hubs : Hubs} →
-    AreTied base g h old hubs → ArePassed base h (stops h leaf) new.nodes new.chain →
+    {old : Tree T} (new : Tree T) {hubs : Hubs} → AreTied base g h old hubs → ArePassed base h (stops h leaf) new.nodes new.chain →
     ((key : Key) → IsSome (find old.nodes key) → IsSome (find new.nodes key)) →
     new.resources ≡ old.resources → AreTied base g (h ++ Item leaf v ∷ []) new hubs
-tied_item {base} {g} {h} {leaf} v law next {old} new tied passed still same =
-    search (rules, tied_on, passed_all, all_stored)
+tied_item {base} {g} {h} {leaf} v law next {old} new tied passed still same = search (rules, tied_on, passed_all, all_stored)

@@ -16,5 +16,4 @@ writes_told {old} {told} {new} {e} tells base history pending room limit given m
 -- one that tells nothing
 pub writes_silent : {old new : State} {e : Event} → mail_of old.history e ≡ [] → new.base ≡ old.base → new.history ≡ old.history ++ e ∷ [] →
     new.pending ≡ [] → new.room + 1 ≡ old.room → new.limit ≡ old.limit → new.given ≡ old.given → new.mail_room ≡ old.mail_room → Writes old (e ∷ []) new
-writes_silent {old} silent =
-    writes_told {told = old} (record { same = refl; notes = (let n = ap (λ (m : List Mail). length m) silent in omega arith) })
+writes_silent {old} silent = writes_told {told = old} (record { same = refl; notes = (let n = ap (λ (m : List Mail). length m) silent in omega arith) })

@@ -56,16 +56,12 @@ module _ (base : Kept) {T : Type 0} (g : Ghosts T) (h : List Event) (law : IsLaw
 
     -- it is used no more often than there are events
     few_after : (r : ℕ) → uses base h r ≤ length h → uses base (h ++ e ∷ []) r ≤ length (h ++ e ∷ [])
-    few_after r few =
-        let u = uses-push base h e r in
-        let o = at_most_one (is_use_of r e) in
-        omega (arith, length-append h (e ∷ []))
+    few_after r few = let u = uses-push base h e r in let o = at_most_one (is_use_of r e) in omega (arith, length-append h (e ∷ []))
 
     -- a resource that it does not remove is owned after it where it was, and its node stays open
     owned_still : (nodes : Slots Node) (r : ℕ) (s : Stowed T) → IsStored base g h nodes r s → is_remove_of r e ≡ false →
         is_owned (h ++ e ∷ []) r ≡ (is_open (h ++ e ∷ []) s.node.number && not s.removed)
-    owned_still nodes r s is kept =
-        is_owned-push base h e law r within.0 ∙ by_test (is_owned h r) refl ∙
+    owned_still nodes r s is kept = is_owned-push base h e law r within.0 ∙ by_test (is_owned h r) refl ∙
         ap (λ o. o && not s.removed) (sym (is_open_cut h e n (let a = within.0 in let b = within.1 in omega arith)))
       where
         n : ℕ
@@ -120,8 +116,7 @@ module _ (base : Kept) {T : Type 0} (g : Ghosts T) (h : List Event) (law : IsLaw
     pub stored_still : (nodes new : Slots Node) (r : ℕ) (s : Stowed T) → IsStored base g h nodes r s → IsApart r e →
         ((key : Key) → IsSome (find nodes key) → is_open (h ++ e ∷ []) key.number ≡ true → IsSome (find new key)) → IsStored base g (h ++ e ∷ []) new r s
     stored_still nodes new r s is apart kept =
-        stored_so new s.leases is apart.removes apart.takes apart.uses (is.lent ∙ sym (leases_of_still base h e law apart.returns r apart.leases))
-        kept
+        stored_so new s.leases is apart.removes apart.takes apart.uses (is.lent ∙ sym (leases_of_still base h e law apart.returns r apart.leases)) kept
 
     -- an acceptance is not of this event
     accepted_before : (r : ℕ) → makes_resource e ≡ false → at makes_resource (h ++ e ∷ []) r ≡ true → at makes_resource h r ≡ true
@@ -145,8 +140,7 @@ module _ (base : Kept) {T : Type 0} (g : Ghosts T) (h : List Event) (law : IsLaw
         ((r : ℕ) → IsApart r e) → ((key : Key) → IsSome (find old.nodes key) → is_open (h ++ e ∷ []) key.number ≡ true →
         IsSome (find new.nodes key)) → AreStored base g (h ++ e ∷ []) new
     all_stored old new s same none apart kept = record {
-      each =
-          λ key x found. stored_still old.nodes new.nodes key.number x (s.each key x (sym (ap (λ (r : Slots (Stowed T)). find r key) same) ∙ found))
+      each = λ key x found. stored_still old.nodes new.nodes key.number x (s.each key x (sym (ap (λ (r : Slots (Stowed T)). find r key) same) ∙ found))
           (apart key.number) kept;
       every = λ r made untaken. let has = s.every r (accepted_before r none made) (untaken_before r untaken) in
           record { key = has.key; value = has.value; found = ap (λ (x : Slots (Stowed T)). find x has.key) same ∙ has.found; numbered = has.numbered };
@@ -230,8 +224,7 @@ module _ (base : Kept) {T : Type 0} (g : Ghosts T) (h : List Event) (law : IsLaw
   -- a resource is removed
   pub stored_removed : (k : Key) (before : Stowed T) → find old.resources k ≡ Some before → Rewrites old.resources new.resources k removed →
       AreStored base g (h ++ Remove k.number ∷ []) new
-  stored_removed k before found w =
-      all_stored_but (Remove k.number) k (ap is_some found) w.others refl (others_still (Remove k.number) k.number apart)
+  stored_removed k before found w = all_stored_but (Remove k.number) k (ap is_some found) w.others refl (others_still (Remove k.number) k.number apart)
       here (λ untaken. ap is_some now)
     where
       now : find new.resources k ≡ Some (removed before)
@@ -303,8 +296,7 @@ module _ (base : Kept) {T : Type 0} (g : Ghosts T) (h : List Event) (law : IsLaw
         lent =
             let one = ap (λ b. cond {A = ℕ} b 1 0) (eq-eqb k.number k.number refl) in
             let more = leases_of_kept base h e law refl k.number in
-            let was = (s.each k before found).lent in
-            omega arith
+            let was = (s.each k before found).lent in omega arith
 
   -- a lease of a resource is given back
   pub stored_returned : (l : ℕ) (k : Key) (before : Stowed T) → MayFollow base h (Return l) → slice_get h l ≡ Some (Lease k.number) →
@@ -319,18 +311,15 @@ module _ (base : Kept) {T : Type 0} (g : Ghosts T) (h : List Event) (law : IsLaw
         lent =
             let one = ap (λ b. cond {A = ℕ} b 1 0) (eq-eqb k.number k.number refl) in
             let fewer = leases_of-return base h l k.number law next made k.number in
-            let was = (s.each k before found).lent in
-            omega arith
+            let was = (s.each k before found).lent in omega arith
 
         same_leases : (r : ℕ) → r ≢ k.number → leases_of (h ++ e ∷ []) r ≡ leases_of h r
         same_leases r differs =
             let none = ap (λ b. cond {A = ℕ} b 1 0) (ne_eqb k.number r (λ same. differs (sym same))) in
-            let fewer = leases_of-return base h l k.number law next made r in
-            omega arith
+            let fewer = leases_of-return base h l k.number law next made r in omega arith
 
         stays : (r : ℕ) (x : Stowed T) → r ≢ k.number → IsStored base g h old.nodes r x → IsStored base g (h ++ e ∷ []) old.nodes r x
-        stays r x differs is =
-            stored_so base g h law e old.nodes x.leases is refl refl refl (is.lent ∙ sym (same_leases r differs)) (kept_all e)
+        stays r x differs is = stored_so base g h law e old.nodes x.leases is refl refl refl (is.lent ∙ sym (same_leases r differs)) (kept_all e)
 
   -- a resource is taken
   pub stored_taken : (k : Key) → IsSome (find old.resources k) → find new.resources k ≡ None → KeepsOthers old.resources new.resources k →
@@ -378,8 +367,7 @@ module _ (base : Kept) {T : Type 0} (g : Ghosts T) (h : List Event) (law : IsLaw
           let at_end : key.number ≡ length h = ap (λ (j : Key). j.number) same ∙ held.numbered in
           subst (λ (n : ℕ). IsStored base g (h ++ e ∷ []) old.nodes n y) (sym at_end)
           (subst (IsStored base g (h ++ e ∷ []) old.nodes (length h)) (same_Some _ y (sym held.found ∙ sym (ap (find new.resources) same) ∙ f)) after_it)
-      by_key (inr differs) =
-          stored_still base g h law e old.nodes old.nodes key.number y (s.each key y (sym (held.others key differs) ∙ f))
+      by_key (inr differs) = stored_still base g h law e old.nodes old.nodes key.number y (s.each key y (sym (held.others key differs) ∙ f))
           (record { removes = refl; takes = refl; uses = refl; leases = refl; returns = refl }) kept
 
     every : (r : ℕ) → at makes_resource (h ++ e ∷ []) r ≡ true → list_any (is_take_of r) (h ++ e ∷ []) ≡ false → HasKey new.resources r
@@ -391,8 +379,7 @@ module _ (base : Kept) {T : Type 0} (g : Ghosts T) (h : List Event) (law : IsLaw
           record {
             key = has.key;
             value = has.value;
-            found =
-                held.others has.key (λ same. none-some has.value (sym (ap (find old.resources) same ∙ ap (with_number k.number) held.free) ∙ has.found)) ∙
+            found = held.others has.key (λ same. none-some has.value (sym (ap (find old.resources) same ∙ ap (with_number k.number) held.free) ∙ has.found)) ∙
                 has.found;
             numbered = has.numbered;
           }

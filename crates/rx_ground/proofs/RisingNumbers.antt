@@ -75,10 +75,8 @@ rising_filter test s (suc n) = by_test (rising_filter test (s + 1) n) (test s) w
 -- the numbers that pass, by rising number
 pub rising_just : (test : ℕ → Bool) (m : ℕ) (ns : List ℕ) → Rising ns → ((k : ℕ) → Contains ns k → test k ≡ true) → ((k : ℕ) → test k ≡ true → Contains ns k) →
     ((k : ℕ) → test k ≡ true → k < m) → ns ≡ filter test (range_with_len 0 m)
-rising_just test m ns up each every below =
-    same_rising ns (filter test (range_with_len 0 m)) up (rising_filter test 0 m)
-    (λ k c. to_filter test 0 m k (each k c) (omega arith) (let l = below k (each k c) in omega arith))
-    (λ k c. every k (from_filter test 0 m k c).0)
+rising_just test m ns up each every below = same_rising ns (filter test (range_with_len 0 m)) up (rising_filter test 0 m)
+    (λ k c. to_filter test 0 m k (each k c) (omega arith) (let l = below k (each k c) in omega arith)) (λ k c. every k (from_filter test 0 m k c).0)
 
 -- records by number ---------------------------------------------------------------------------------
 
@@ -122,22 +120,19 @@ module _ {X : Type 0} (number : X → ℕ) where
   -- what is kept of just these numbers, in the order of the numbers
   pub in_order : (keep : ℕ → X) {test : ℕ → Bool} (m : ℕ) (xs ys : List X) → IsByNumber number xs ys → ((x : X) → Contains xs x → x ≡ keep (number x)) →
       ListsJust test (map number xs) → ((n : ℕ) → test n ≡ true → n < m) → ys ≡ map keep (filter test (range_with_len 0 m))
-  in_order keep {test} m xs ys order each just below =
-      rebuilt keep ys kept ∙ ap (map keep) (rising_just test m (map number ys) up passes listed below)
-    where
-      same : IsPermutation (map number xs) (map number ys)
-      same = IsPermutation-map number xs ys order.same
+  in_order keep {test} m xs ys order each just below = rebuilt keep ys kept ∙ ap (map keep) (rising_just test m (map number ys) up passes listed below) where
+    same : IsPermutation (map number xs) (map number ys)
+    same = IsPermutation-map number xs ys order.same
 
-      kept : (x : X) → Contains ys x → x ≡ keep (number x)
-      kept x c = each x (Contains-permutation ys xs x (IsPermutation-sym xs ys order.same) c)
+    kept : (x : X) → Contains ys x → x ≡ keep (number x)
+    kept x c = each x (Contains-permutation ys xs x (IsPermutation-sym xs ys order.same) c)
 
-      up : Rising (map number ys)
-      up = rises ys order.rising (IsDistinct-IsPermutation (λ a b. a == b) flips (map number xs) (map number ys) same (distinct (map number xs) just.once))
+    up : Rising (map number ys)
+    up = rises ys order.rising (IsDistinct-IsPermutation (λ a b. a == b) flips (map number xs) (map number ys) same (distinct (map number xs) just.once))
 
-      passes : (k : ℕ) → Contains (map number ys) k → test k ≡ true
-      passes k c =
-          All-contains (λ n. IsTrue (test n)) (map number xs) k just.each
-          (Contains-permutation (map number ys) (map number xs) k (IsPermutation-sym (map number xs) (map number ys) same) c)
+    passes : (k : ℕ) → Contains (map number ys) k → test k ≡ true
+    passes k c = All-contains (λ n. IsTrue (test n)) (map number xs) k just.each
+        (Contains-permutation (map number ys) (map number xs) k (IsPermutation-sym (map number xs) (map number ys) same) c)
 
-      listed : (k : ℕ) → test k ≡ true → Contains (map number ys) k
-      listed k is = Contains-permutation (map number xs) (map number ys) k same (just.every k is)
+    listed : (k : ℕ) → test k ≡ true → Contains (map number ys) k
+    listed k is = Contains-permutation (map number xs) (map number ys) k same (just.every k is)

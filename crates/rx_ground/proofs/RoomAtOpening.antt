@@ -49,8 +49,7 @@ module _ {T : Type 0} where
   few_children w promised below =
       let within = promised.within in
       let limited = promised.limited in
-      let placed = promised.placed in
-      few_above w.ready below 18446744073709551615 (omega arith)
+      let placed = promised.placed in few_above w.ready below 18446744073709551615 (omega arith)
 
   -- the hubs that the node joined are those after the opening
   pub hubs_told : {g : Ghosts T} {place : Place} {kind : Kind} {old now left : Ground T} {replaces : Bool} {last : Hubs} →
@@ -66,16 +65,14 @@ module _ {T : Type 0} where
       left.hubs ≡ record old.hubs { hubs = left.hubs.hubs } →
       (0 < length old.hubs.hubs → old.tree.nodes.count + old.tree.nodes.room ≤ old.hubs.slots) → 0 < length left.hubs.hubs →
       (slot : ℕ) → slot < left.tree.nodes.count + left.tree.nodes.room → slot < left.hubs.slots
-  slot_within x rest reserved some slot within =
-      search rules
+  slot_within x rest reserved some slot within = search rules
 
   -- an event that is written then takes no memory beside its own
   pub left_memory : {place : Place} {replaces : Bool} {old left new : Ground T} → IsLeft place replaces old left → (es : List Event) →
       Writes old.register es new.register → new.tree.nodes.count + new.tree.nodes.room ≡ left.tree.nodes.count + left.tree.nodes.room →
       new.tree.resources ≡ left.tree.resources → new.tree.nodes.count + new.space ≡ left.tree.nodes.count + left.space →
       length new.hubs.hubs + new.hubs.room ≡ length left.hubs.hubs + left.hubs.room → new.hubs.slots ≡ left.hubs.slots → TakesNoMemory old new
-  left_memory x es written nodes resources space hubs slots =
-      search (rules, written_memory)
+  left_memory x es written nodes resources space hubs slots = search (rules, written_memory)
 
   -- what was closed for the node has gone after it, and nothing else went
   pub gathers_opened : {g : Ghosts T} {place : Place} {kind : Kind} {old left : Ground T} {replaces : Bool} → IsWayMade g place kind old left replaces →
@@ -87,10 +84,8 @@ module _ {T : Type 0} where
           Gathers old.register.history old.closed (old.register.history ++ Open place kind ∷ []) left.closed
       exchanged x = gathers_cut w.ready.next w.ready.tied.of_tree.records (way_left w.ready) x.cuts.nodes w.ready.sound.apart x.moves
 
-      by_test : (replaces ≡ true) ⊎ (replaces ≡ false) →
-          Gathers old.register.history old.closed (old.register.history ++ Open place kind ∷ []) left.closed
+      by_test : (replaces ≡ true) ⊎ (replaces ≡ false) → Gathers old.register.history old.closed (old.register.history ++ Open place kind ∷ []) left.closed
       by_test (inl takes) = exchanged (w.stays.lists.exchanged takes)
-      by_test (inr leaves) =
-          subst (Gathers old.register.history old.closed (old.register.history ++ Open place kind ∷ [])) (sym (w.stays.lists.same leaves))
+      by_test (inr leaves) = subst (Gathers old.register.history old.closed (old.register.history ++ Open place kind ∷ [])) (sym (w.stays.lists.same leaves))
           (gathers_none old.register.history (Open place kind) old.closed (none_closed old.register.history place kind (w.ready.way.none leaves))
           (is_open_new old.register.base old.register.history (Open place kind) w.ready.next))

@@ -142,8 +142,7 @@ standing_still {T = T} g old new promised checkpoint standing = record {
     waits = 0;
     may_wait = rw (is.history, is.base) (none_waits (settled_connected (base_of b h) (shown (base_of b h)) settled));
     events = rw (is.history, is.base) (let room = is.room in let same = same_debts b h promised.lawful standing.settled in omega arith);
-    notes =
-        rw (is.history, is.base)
+    notes = rw (is.history, is.base)
         (let same = same_open_count b h promised.lawful standing.settled in let room = is.mail_room in let paid = standing.paid.notes in omega arith);
     pending = is.pending;
   };

@@ -36,8 +36,7 @@ module _ {T : Type 0} (g : Ghosts T) where
 
   -- a tree of the same entries and chain
   tied_same_entries : (base : Kept) → (h : List Event) (old new : Tree T) → new.nodes.entries ≡ old.nodes.entries →
-      new.resources.entries ≡ old.resources.entries →
-      new.chain ≡ old.chain → IsTied base g h old → IsTied base g h new
+      new.resources.entries ≡ old.resources.entries → new.chain ≡ old.chain → IsTied base g h old → IsTied base g h new
   tied_same_entries base h old new nodes resources chain tied = record {
     records = record {
       each = λ key node found. r.each key node (sym (at_node key) ∙ found);
@@ -107,8 +106,7 @@ module _ {T : Type 0} (g : Ghosts T) where
           (same_finds old.leases new.leases leases)
 
       tied : AreTied old.register.base g old.register.history new.tree new.hubs
-      tied =
-          tied_beside g old.register.base (ap (λ (hubs : Hubs). hubs.hubs) more.hubs)
+      tied = tied_beside g old.register.base (ap (λ (hubs : Hubs). hubs.hubs) more.hubs)
           (λ key some. ap is_some (same_finds old.tree.nodes new.tree.nodes nodes key) ∙ some) s.tied
           (tied_same_entries old.register.base old.register.history old.tree new.tree nodes resources more.chain s.tied.of_tree)
 
@@ -137,8 +135,7 @@ module _ {T : Type 0} where
   same_register old seen register same is = ap (λ (r : Register). record old { register = r }) same ∙ is
 
   aside_roomier : {old new : Ground T} → SetsAside old new → IsRoomier old new
-  aside_roomier {old} {new} aside =
-      search rules
+  aside_roomier {old} {new} aside = search rules
 
   pub standing_aside : (g : Ghosts T) (old new : Ground T) → SetsAside old new → IsStanding g old → IsStanding g new
   standing_aside g old new aside = standing_roomier g old new (aside_roomier aside) aside.enough
@@ -148,13 +145,11 @@ module _ {T : Type 0} where
 
   -- and then more room
   pub roomier_after_aside : (old mid new : Ground T) → SetsAside old mid → IsRoomier mid new → IsRoomier old new
-  roomier_after_aside old mid new aside more =
-      search rules
+  roomier_after_aside old mid new aside more = search rules
 
   -- room beside what closing everything needs, of which that for the events was set aside before
   pub has_beside : (old new : Ground T) (wanted : Wanted) {alive : ℕ} → alive ≡ open_count old.register.history → IsRoomier old new →
-      old.register.room ≤ new.register.room → debt old.register.base old.register.history + wanted.events ≤ old.register.room →
-      HasRoom new (record {
+      old.register.room ≤ new.register.room → debt old.register.base old.register.history + wanted.events ≤ old.register.room → HasRoom new (record {
         events = 0;
         notes = alive + wanted.notes;
         nodes = wanted.nodes;

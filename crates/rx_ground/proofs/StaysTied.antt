@@ -42,8 +42,7 @@ module _ (base : Kept) {T : Type 0} (g : Ghosts T) (h : List Event) (e : Event) 
   -- one that is about no resource either
   pub tied_same : shuts_none e ≡ true → makes_node e ≡ false → makes_resource e ≡ false → ((n : ℕ) → touches h n e ≡ false) → ((r : ℕ) → IsApart r e) →
       IsTied base g (h ++ e ∷ []) old
-  tied_same shuts makes none untouched apart =
-      search (rules, tied_still, makes, untouched, all_stored, none, apart)
+  tied_same shuts makes none untouched apart = search (rules, tied_still, makes, untouched, all_stored, none, apart)
 
 -- an opening ----------------------------------------------------------------------------------------
 
@@ -69,14 +68,12 @@ module _ (base : Kept) {T : Type 0} (g : Ghosts T) (h : List Event) (law : IsLaw
   -- what was found is found in the tree with the new node
   pub found_still : (e : Event) (above : Option Key) → IsOpenedIn h e above left mid key → (k : Key) → IsSome (find left.nodes k) →
       find mid.nodes k ≡ find left.nodes k
-  found_still e above opened k some =
-      search (rules, is_some, find, with_number, false≢true)
+  found_still e above opened k some = search (rules, is_some, find, with_number, false≢true)
 
   -- what stays open stands in the tree with the new node
   pub opened_there : (e : Event) (above : Option Key) → AreLeft h e old.nodes left.nodes old.chain left.chain → IsOpenedIn h e above left mid key →
       (k : Key) → IsSome (find old.nodes k) → is_open (h ++ e ∷ []) k.number ≡ true → IsSome (find mid.nodes k)
-  opened_there e above stays opened k some alive =
-      search (rules, some_of, find, is_some, found_still)
+  opened_there e above stays opened k some alive = search (rules, some_of, find, is_some, found_still)
 
   -- a node that stands below none
   pub tied_top : {e : Event} → MayFollow base h e → OpensTop h e → AreLeft h e old.nodes left.nodes old.chain left.chain → left.resources ≡ old.resources →
@@ -96,8 +93,7 @@ module _ (base : Kept) {T : Type 0} (g : Ghosts T) (h : List Event) (kind : Kind
 
   pub tied_root : MayFollow base h (Open Root kind) → AreLeft h (Open Root kind) old.nodes left.nodes old.chain left.chain → left.resources ≡ old.resources →
       IsOpenedIn h (Open Root kind) None left mid key → IsTied base g (h ++ Open Root kind ∷ []) mid
-  tied_root next stays same opened =
-      tied_top base g h law old left mid tied key next
+  tied_root next stays same opened = tied_top base g h law old left mid tied key next
       (record { makes = refl; none = refl; top = refl; untouched = λ n. refl; apart = apart_all Root }) stays same opened
 
   -- one below another, which is marked
@@ -107,8 +103,7 @@ module _ (base : Kept) {T : Type 0} (g : Ghosts T) (h : List Event) (kind : Kind
       marks_of base (h ++ e ∷ []) p.number ≡ change (marks_of base h p.number)
       → AreApart mid.nodes → IsSome (find left.nodes p) → IsOpenedIn h e (Some p) left mid key → Remarks mid new p change → IsTied base g (h ++ e ∷ []) new)
   tied_below place p change next stays same named apart_marks changed apart there opened marked = record {
-    records =
-        subst (AreRecords base (h ++ e ∷ []) new.nodes) (ap (with_due new.nodes p) (sym opened.chain) ∙ sym marked.chain)
+    records = subst (AreRecords base (h ++ e ∷ []) new.nodes) (ap (with_due new.nodes p) (sym opened.chain) ∙ sym marked.chain)
         (remarked p before.0 change near apart at_p marks marked.nodes);
     stored = all_stored base g h law e old new tied.stored (marked.resources ∙ opened.resources ∙
         same) refl (apart_all place) (λ k some alive. still_there p marked.nodes k
@@ -143,8 +138,7 @@ module _ (base : Kept) {T : Type 0} (g : Ghosts T) (h : List Event) (law : IsLaw
     records = subst (AreRecords base (h ++ e ∷ []) new.nodes) (sym marked.chain)
         (remarked u before.0 after_decline near sound.apart before.1 marks marked.nodes);
     stored = all_stored base g h law e old new tied.stored marked.resources refl
-        (λ r. record { removes = refl; takes = refl; uses = refl; leases = refl; returns = refl })
-        (λ k some alive. still_there u marked.nodes k some);
+        (λ r. record { removes = refl; takes = refl; uses = refl; leases = refl; returns = refl }) (λ k some alive. still_there u marked.nodes k some);
   }
     where
       e : Event
@@ -177,8 +171,7 @@ module _ (base : Kept) {T : Type 0} (g : Ghosts T) (h : List Event) (c : ℕ) (t
   near_end : (stale : Option ℕ) →
       ((n : ℕ) → stale ≢ Some n → is_open (h ++ End c t ∷ []) n ≡ true → marks_of base (h ++ End c t ∷ []) n ≡ marks_of base h n) →
       AreNearly base (h ++ End c t ∷ []) stale mid.nodes mid.chain
-  near_end stale kept =
-      search (rules, records_cut, is_open_outside-end)
+  near_end stale kept = search (rules, records_cut, is_open_outside-end)
 
   no_child : (o : Option ℕ) → parent h c ≡ o → (n : ℕ) → o ≢ Some n → is_child_of h n c ≡ false
   no_child o above n differs = false_from_ne_true (is_child_of h n c) (λ child. differs (sym above ∙ is_child_parent h n c child))
@@ -189,11 +182,9 @@ module _ (base : Kept) {T : Type 0} (g : Ghosts T) (h : List Event) (c : ℕ) (t
   -- the end of a node that stands below none
   pub tied_end_top : parent h c ≡ None → IsTied base g (h ++ End c t ∷ []) mid
   tied_end_top above = record {
-    records =
-        all_fresh _ _ mid.nodes mid.chain
+    records = all_fresh _ _ mid.nodes mid.chain
         (near_end None (λ n fresh alive. marks-end_other h c t law next n alive (no_child None above n (λ e. none-some n e))));
-    stored =
-        all_stored base g h law (End c t) old mid tied.stored cuts.resources refl apart_end
+    stored = all_stored base g h law (End c t) old mid tied.stored cuts.resources refl apart_end
         (cut_keeps base h (End c t) old mid tied.records sound c (is_open_outside-end h c t) cuts).still;
   }
 
@@ -206,8 +197,7 @@ module _ (base : Kept) {T : Type 0} (g : Ghosts T) (h : List Event) (c : ℕ) (t
         (remarked p above (after_child (is_some (source_named made)) (is_merging above.made) t)
         (near_end (Some p.number) (λ n fresh alive. marks-end_other h c t law next n alive (no_child (Some p.number) below n fresh)))
         apart at_p marks marked.nodes);
-    stored =
-        all_stored base g h law (End c t) old new tied.stored (marked.resources ∙ cuts.resources) refl apart_end
+    stored = all_stored base g h law (End c t) old new tied.stored (marked.resources ∙ cuts.resources) refl apart_end
         (keeps_marked base h (End c t) old mid tied.records sound c (is_open_outside-end h c t) cuts new p _ marked).still;
   }
     where
@@ -215,8 +205,7 @@ module _ (base : Kept) {T : Type 0} (g : Ghosts T) (h : List Event) (c : ℕ) (t
       is = (tied.records.each p above found).made
 
       marks : marks_of base (h ++ End c t ∷ []) p.number ≡ after_child (is_some (source_named made)) (is_merging above.made) t above.marks
-      marks = marks-end_at law next below at_c is ∙
-          ap (λ b. after_child b (is_merging above.made) t (marks_of base h p.number))
+      marks = marks-end_at law next below at_c is ∙ ap (λ b. after_child b (is_merging above.made) t (marks_of base h p.number))
           (sym (source_at made p.number (parent_name h c p.number made below at_c))) ∙
           ap (after_child (is_some (source_named made)) (is_merging above.made) t) (sym (tied.records.each p above found).marks)
 

@@ -40,10 +40,8 @@ module _ (base : Base) {T : Type 0} (g : Ghosts T) (h : List Event) (tree : Tree
 module _ {T : Type 0} (g : Ghosts T) (h : List Event) (old new : Tree T) (number : ℕ) (x : T) where
   -- it waits in the history too
   pub takes_waiting : (base : Base) → IsTied base g h old → Takes old new number x → is_waiting h number ≡ true
-  takes_waiting base tied t =
-      ap (is_waiting h) (sym t.numbered) ∙
-      waits_agrees base g h old tied (record { key = t.key; value = t.stowed }) (kept_listed old.resources t.key t.stowed t.found) ∙
-      ap not t.waited
+  takes_waiting base tied t = ap (is_waiting h) (sym t.numbered) ∙
+      waits_agrees base g h old tied (record { key = t.key; value = t.stowed }) (kept_listed old.resources t.key t.stowed t.found) ∙ ap not t.waited
 
   pub takes_live : (base : Base) → IsTied base g h old → Takes old new number x → g.life_of x ≡ Live
   takes_live base tied t = ap g.life_of (sym t.handed) ∙ (tied.stored.each t.key t.stowed t.found).live
@@ -69,7 +67,6 @@ none_waits {T = T} old held = by_list (waiting_in old) refl where
   by_list : (ks : List (Kept (Stowed T))) → waiting_in old ≡ ks → ks ≡ []
   by_list [] e = refl
   by_list (k ∷ ks) e =
-      let m =
-      filter_member (λ (j : Kept (Stowed T)). not (is_held old.nodes j.value)) (kept_in old.resources) k
+      let m = filter_member (λ (j : Kept (Stowed T)). not (is_held old.nodes j.value)) (kept_in old.resources) k
       (subst (λ (l : List (Kept (Stowed T))). Contains l k) (sym e) (Contains-head k ks)) in
       absurd (false≢true (sym (ap not (held k.key k.value (kept_found old.resources k m.0))) ∙ m.1))

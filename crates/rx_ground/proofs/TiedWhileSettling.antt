@@ -252,10 +252,7 @@ set_remarks {T = T} {old} {new} {key} {marks} {after} change at_marks changes se
       let now : with_marks after x ≡ with_marks (change x.marks) x = ap (λ (m : Marks). with_marks m x) (changes ∙ ap change is_marks) in
       record {
         nodes = record {
-          changed =
-              sets.nodes.changed ∙
-              ap (option_map (with_marks after)) e ∙
-              ap (λ (y : Node). Some y) now ∙
+          changed = sets.nodes.changed ∙ ap (option_map (with_marks after)) e ∙ ap (λ (y : Node). Some y) now ∙
               sym (ap (option_map (λ (node : Node). with_marks (change node.marks) node)) e);
           others = sets.nodes.others;
           rest = sets.nodes.rest;
@@ -272,8 +269,7 @@ pub end_marked : {T : Type 0} (old new : Tree T) (key : Key) (source : Bool) (t 
 end_marked {T = T} old new key source t nodes chain stored = search (rules, find, option_map, chain, set_remarks)
 
 pub end_rest : {T : Type 0} (old new : Tree T) (key : Key) (source : Bool) (t : Terminal) → IsSome (find old.nodes key) → ((node : Node) →
-    find old.nodes key ≡ Some node →
-    Rewrites old.nodes new.nodes key (with_marks (after_child source (is_merging node.made) t node.marks))) →
+    find old.nodes key ≡ Some node → Rewrites old.nodes new.nodes key (with_marks (after_child source (is_merging node.made) t node.marks))) →
     new.nodes ≡ record old.nodes { entries = new.nodes.entries }
 end_rest {T = T} old new key source t there nodes = let x = some_of (find old.nodes key) there in (nodes x.0 x.1).rest
 

@@ -1,10 +1,9 @@
 -- What the record of a node says of the causes.
-use Rattle.rx_ground.proofs.Common.{◌≡◌, ℕ, ◌+◌, Bool, true, false, cond, List, [], ◌∷◌, Option, Some, is_some, option_map, slice_get, refl, sym}
-use Rattle.rx_ground.proofs.Common.{ap, ◌∙◌, arith, zero-add, nat_lt, not, ◌||◌, list_any, option_map_or, lt-ltb, sum_by-cons, none-some, same_Some, Kept, at}
-use Rattle.rx_ground.proofs.Common.{Ghosts, Marks, Place, Event, named_by, is_open}
-use Rattle.rx_ground.proofs.Common.{has_open_child, marks_of, open_children, is_wrong_place, Key}
-use Rattle.rx_ground.proofs.Common.{is_taken_place, is_unowed_place, Slots, find, Node, Stowed, ResKey, Tree, store_key, is_owned, is_owned_at, is_held_at}
-use Rattle.rx_ground.proofs.Common.{some_of, LeaseKey, is_out_at, Record, IsTied, AreLeased, record_of, IsTold, has_place, is_used, is_unowed}
+use Rattle.rx_ground.proofs.Common.{◌≡◌, ℕ, ◌+◌, Bool, true, false, cond, List, [], ◌∷◌, Option, Some, is_some, option_map, slice_get, refl, sym, ap, ◌∙◌}
+use Rattle.rx_ground.proofs.Common.{arith, zero-add, nat_lt, not, ◌||◌, list_any, option_map_or, lt-ltb, sum_by-cons, none-some, same_Some, Kept, at, Ghosts}
+use Rattle.rx_ground.proofs.Common.{Marks, Place, Event, named_by, is_open, has_open_child, marks_of, open_children, is_wrong_place, Key, is_taken_place}
+use Rattle.rx_ground.proofs.Common.{is_unowed_place, Slots, find, Node, Stowed, ResKey, Tree, store_key, is_owned, is_owned_at, is_held_at, some_of, LeaseKey}
+use Rattle.rx_ground.proofs.Common.{is_out_at, Record, IsTied, AreLeased, record_of, IsTold, has_place, is_used, is_unowed}
 use Rattle.std.specs.List.{count_by}
 use Rattle.rx_event.specs.Resources.{is_owned as is_owned_in, is_out, is_held as is_held_in}
 use Rattle.rx_ground.proofs.TreeAgreesOnResource.{owned_agrees, held_agrees}
@@ -19,9 +18,7 @@ module _ (base : Kept) {T : Type 0} (g : Ghosts T) (h : List Event) (tree : Tree
 
   -- a resource that is held in the tree is held in the history
   pub held_in_history : (res : ResKey) → is_held_at tree res ≡ true → is_held_in h res.number ≡ true
-  held_in_history res held =
-      let f = held_found tree res held in
-      held_agrees base g h tree tied (store_key res) f.stowed f.found ∙ f.held
+  held_in_history res held = let f = held_found tree res held in held_agrees base g h tree tied (store_key res) f.stowed f.found ∙ f.held
 
   -- and one that is held is owned there just where it is in the history
   pub owned_in_history : (res : ResKey) → is_held_at tree res ≡ true → is_owned_in h res.number ≡ is_owned_at tree res

@@ -24,8 +24,7 @@ module _ (base : Kept) {T : Type 0} (g : Ghosts T) (h : List Event) (tree : Tree
     node = same_test _ _ is.home (λ some. let f = some_of (find tree.nodes s.node) some in (tied.records.each s.node f.0 f.1).alive)
 
   pub lent_agrees : is_leased h key.number ≡ is_lent s
-  lent_agrees =
-      ap (λ b. b && nat_lt 0 (leases_of h key.number)) is.made ∙ ap (nat_lt 0) (sym is.lent) ∙ some_are s.leases
+  lent_agrees = ap (λ b. b && nat_lt 0 (leases_of h key.number)) is.made ∙ ap (nat_lt 0) (sym is.lent) ∙ some_are s.leases
 
   pub held_agrees : is_held_in h key.number ≡ is_held tree.nodes s
   held_agrees = held_is h key.number ∙ (λ i. owned_agrees i || lent_agrees i)

@@ -19,12 +19,9 @@ walk_tied base {h = h} {tree = tree} {hubs = hubs} tied sound = search (rules, a
 
 owed_sum : (ss : List Stop) → sum_at owed_at ss ≡ count_by is_projection (filter_map numbered ss)
 owed_sum [] = refl
-owed_sum (Delivery key ∷ ss) =
-    search (rules, sum_by-cons, cond, filter_map, owed_sum ss)
-owed_sum (Projection key ∷ ss) =
-    search (rules, sum_by-cons, cond, filter_map, owed_sum ss)
-owed_sum (Firing key ∷ ss) =
-    search (rules, sum_by-cons, cond, filter_map, owed_sum ss)
+owed_sum (Delivery key ∷ ss) = search (rules, sum_by-cons, cond, filter_map, owed_sum ss)
+owed_sum (Projection key ∷ ss) = search (rules, sum_by-cons, cond, filter_map, owed_sum ss)
+owed_sum (Firing key ∷ ss) = search (rules, sum_by-cons, cond, filter_map, owed_sum ss)
 owed_sum (Connection key ∷ ss) = let rest = owed_sum ss in omega arith
 
 pub told_sum : (place : ℕ) (value : ℤ) (ss : List Stop) → length (filter_map (told place value) (filter_map numbered ss)) ≡ sum_at told_at ss
@@ -36,8 +33,7 @@ told_sum place value (Connection key ∷ ss) = let rest = told_sum place value s
 
 -- what was counted on its way is what it wants
 pub reach_told : {base : Kept} → (h : List Event) (nodes : Slots Node) (hubs : List Hub) (key : Key) → IsWalk base h nodes hubs → IsSome (find nodes key) →
-    (reach : Reach) →
-    IsMeasured (stops_over nodes hubs key) reach → IsReach h nodes key reach
+    (reach : Reach) → IsMeasured (stops_over nodes hubs key) reach → IsReach h nodes key reach
 reach_told {base} h nodes hubs key walk there reach is = record {
   there = there;
   events = is.events ∙ ap (λ (n : ℕ). 1 + n) (owed_sum (stops_over nodes hubs key)) ∙ ap (λ (ss : List NumberedStop). 1 + count_by is_projection ss) (sym same);
@@ -104,6 +100,4 @@ module _ (base : Kept) (h : List Event) (limit : ℕ) (nodes : Slots Node) (chai
   -- the room decides last
   pub cause_of-room : (reach : Reach) (full : Bool) → true ≡ is_leaf made → true ≡ not (nat_lt most_visits (visits h key.number)) →
       IsReach h nodes key reach → full ≡ is_over base h limit reach.events → cause_of base h limit nodes key value ≡ cond full (Some Full) None
-  cause_of-room reach full leaf narrow reached room =
-      let few = test_is _ true narrow in
-      row true leaf ∙ rw (few, ← reached.events, ← room) refl
+  cause_of-room reach full leaf narrow reached room = let few = test_is _ true narrow in row true leaf ∙ rw (few, ← reached.events, ← room) refl

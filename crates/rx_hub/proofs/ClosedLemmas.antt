@@ -58,8 +58,7 @@ number_kept gone ended hub = search rules
 some_kept : (gone : Key → Bool) (ended : Option LastEnd) (hubs : List Hub) (g : ℕ) → IsSome (find_hub hubs g) →
     IsSome (find_hub (map (without_gone gone ended) hubs) g)
 some_kept gone ended [] g some = some
-some_kept gone ended (h ∷ hubs) g some =
-    search (rules, number_kept, some_kept gone ended hubs g)
+some_kept gone ended (h ∷ hubs) g some = search (rules, number_kept, some_kept gone ended hubs g)
 
 -- lists of keys -----------------------------------------------------------------------------------
 
@@ -81,8 +80,7 @@ module _ (key : Key) (ended : Option LastEnd) where
   -- what the key's subscriber leaves, where it is no connection
   left_one : (g : ℕ) (hub : Hub) → is_on key hub.subscribers ≡ (g == hub.number) → option_map_or (is_key key) hub.connection false ≡ false →
       cond (hub.number == g) (unsubscribed key hub) hub ≡ without_gone (is_key key) ended hub
-  left_one g hub on off =
-      search (rules, eq_turned, without_none)
+  left_one g hub on off = search (rules, eq_turned, without_none)
 
   -- what its connection leaves, where it is no subscriber
   cut_one : (g : ℕ) (hub : Hub) → is_on key hub.subscribers ≡ false → option_map_or (is_key key) hub.connection false ≡ (g == hub.number) →
@@ -94,8 +92,7 @@ module _ (key : Key) (ended : Option LastEnd) where
   -- and where it is neither
   kept_one : (hub : Hub) → is_on key hub.subscribers ≡ false → option_map_or (is_key key) hub.connection false ≡ false →
       hub ≡ without_gone (is_key key) ended hub
-  kept_one hub off none =
-      (λ i. record hub { subscribers = sym (without_none key hub.subscribers off) i }) ∙
+  kept_one hub off none = (λ i. record hub { subscribers = sym (without_none key hub.subscribers off) i }) ∙
       sym (ap (λ b. cond b (disconnected ended (unsubscribed key hub)) (unsubscribed key hub)) none)
 
 -- what a node's event says of the hubs
@@ -153,8 +150,7 @@ closed_next closed i j d ended hubs below next =
     map_twice (after_closing (take i closed) ended) (after_closing (get_or closed i d ∷ []) ended) (after_closing (take (suc i) closed) ended) hubs
     (λ hub. gone_twice (is_closed (take i closed)) (is_closed (get_or closed i d ∷ [])) ended hub ∙
     (λ k. without_gone (λ key. closed_more (take i closed) (get_or closed i d) key k) ended hub) ∙
-    ap (λ (xs : List Closed). after_closing xs ended hub) (sym (take-suc closed i d below))) ∙
-    ap (λ n. map (after_closing (take n closed) ended) hubs) next
+    ap (λ (xs : List Closed). after_closing xs ended hub) (sym (take-suc closed i d below))) ∙ ap (λ n. map (after_closing (take n closed) ended) hubs) next
 
 not_yet : (closed : List Closed) (i : ℕ) (d : Closed) → AllPairs (λ a b. a.key ≢ b.key) closed → i < length closed →
     is_closed (take i closed) (get_or closed i d).key ≡ false
@@ -174,17 +170,12 @@ known_kept gone ended hubs c stays known = record {
   connected = λ g made. some_kept gone ended hubs g (known.connected g made);
   subscribes = λ i hub got.
       let h = map_at (without_gone gone ended) hubs i hub got in
-      sym (ap (λ (x : Hub). is_on c.key x.subscribers) h.1.1) ∙
-      on_same h.0 ∙
-      known.subscribes i h.0 h.1.0 ∙
+      sym (ap (λ (x : Hub). is_on c.key x.subscribers) h.1.1) ∙ on_same h.0 ∙ known.subscribes i h.0 h.1.0 ∙
       named h.0 hub h.1.1 (λ n. is_subscriber_of n c.node.made);
   connects = λ i hub got.
       let h = map_at (without_gone gone ended) hubs i hub got in
-      sym (ap (λ (x : Hub). option_map_or (is_key c.key) x.connection false) h.1.1) ∙
-      connection_is h.0 ∙
-      connection_same h.0.connection ∙
-      known.connects i h.0 h.1.0 ∙
-      named h.0 hub h.1.1 (λ n. is_connect_of n c.node.made);
+      sym (ap (λ (x : Hub). option_map_or (is_key c.key) x.connection false) h.1.1) ∙ connection_is h.0 ∙ connection_same h.0.connection ∙
+      known.connects i h.0 h.1.0 ∙ named h.0 hub h.1.1 (λ n. is_connect_of n c.node.made);
 } where
   named : (h hub : Hub) → without_gone gone ended h ≡ hub → (test : ℕ → Bool) → test h.number ≡ test hub.number
   named h hub is test = ap test (sym (number_kept gone ended h) ∙ ap (λ (x : Hub). x.number) is)
@@ -214,15 +205,12 @@ known_kept gone ended hubs c stays known = record {
 -- the hubs still know the next
 known_next : (hubs : List Hub) (closed : List Closed) (i : ℕ) (d : Closed) (ended : Option LastEnd) → AreClosing hubs closed → i < length closed →
     IsKnown (map (after_closing (take i closed) ended) hubs) (get_or closed i d)
-known_next hubs closed i d ended closing below =
-    known_kept (is_closed (take i closed)) ended hubs (get_or closed i d) (not_yet closed i d closing.once below)
+known_next hubs closed i d ended closing below = known_kept (is_closed (take i closed)) ended hubs (get_or closed i d) (not_yet closed i d closing.once below)
     (closing.known i (get_or closed i d) (get_some closed i d below))
 
 pub known_at : (now : List Hub) {hubs : List Hub} (closed : List Closed) (i : ℕ) (d : Closed) (ended : Option LastEnd) →
-    now ≡ map (after_closing (take i closed) ended) hubs →
-    AreClosing hubs closed → i < length closed → IsKnown now (get_or closed i d)
-known_at now {hubs} closed i d ended is closing below =
-    search (rules, known_next)
+    now ≡ map (after_closing (take i closed) ended) hubs → AreClosing hubs closed → i < length closed → IsKnown now (get_or closed i d)
+known_at now {hubs} closed i d ended is closing below = search (rules, known_next)
 
 -- a closing of nothing
 filter_all : (ks : List Key) → filter (λ key. not (is_closed [] key)) ks ≡ ks
@@ -230,12 +218,10 @@ filter_all [] = refl
 filter_all (k ∷ ks) = ap (λ (zs : List Key). k ∷ zs) (filter_all ks)
 
 none_closed : (ended : Option LastEnd) (hub : Hub) → hub ≡ after_closing [] ended hub
-none_closed ended hub =
-    (λ i. record hub { subscribers = sym (filter_all hub.subscribers) i }) ∙
-    sym (search rules) where
-      nothing_gone : (o : Option Key) → option_map_or (is_closed []) o false ≡ false
-      nothing_gone None = refl
-      nothing_gone (Some k) = refl
+none_closed ended hub = (λ i. record hub { subscribers = sym (filter_all hub.subscribers) i }) ∙ sym (search rules) where
+  nothing_gone : (o : Option Key) → option_map_or (is_closed []) o false ≡ false
+  nothing_gone None = refl
+  nothing_gone (Some k) = refl
 
 pub closed_first : (ended : Option LastEnd) (hubs : List Hub) → hubs ≡ map (after_closing [] ended) hubs
 closed_first ended hubs = map_none (after_closing [] ended) hubs (λ i hub got. none_closed ended hub)
@@ -244,5 +230,4 @@ pub closed_step : (start : Hubs) {before after : Hubs} (closed : List Closed) {i
     before ≡ record start { hubs = map (after_closing (take i closed) ended) start.hubs } →
     after ≡ record before { hubs = map (after_closing (get_or closed i d ∷ []) ended) before.hubs } → i < length closed → suc i ≡ j →
     after ≡ record start { hubs = map (after_closing (take j closed) ended) start.hubs }
-closed_step start closed {i} {j} d ended first second below next =
-    search (rules, closed_next)
+closed_step start closed {i} {j} d ended first second below next = search (rules, closed_next)

@@ -1,10 +1,9 @@
 -- What a hub has to do is told by its oldest and its youngest subscriber.
-use Rattle.rx_hub.proofs.Common.{◌≡◌, ℕ, ◌<◌, ◌≤◌, ◌==◌, ◌||◌, cond, Bool, true, false, List, [], ◌∷◌, length, slice_get, Option, Some, None, sym}
-use Rattle.rx_hub.proofs.Common.{option_map, is_some, refl, ap, ◌∙◌, arith, true≢false, IfSome, if◌then◌else◌, list_any}
-use Rattle.rx_hub.proofs.Common.{option_map_or, option_and_then, not, nat_tests, same_Some, none-some, Key, first_of, is_key, HubDue, LastEnd, Published, Hub}
-use Rattle.rx_hub.proofs.Common.{Rule, IsCalm, IsChain, IsAt, IsDueIn, IsQuiet, NoneWaits, connects, acts, is_cut, connect_of, due_of, Hubs}
-use Rattle.rx_hub.proofs.Common.{IsPromised, AreAbove, Rises, published_of, last_from, subscribed, unsubscribed, without_key, Lists, list_at, is_in}
-use Rattle.rx_hub.proofs.Common.{take_out, head_of, connect_by, cut_by, due_by, given_by}
+use Rattle.rx_hub.proofs.Common.{◌≡◌, ℕ, ◌<◌, ◌≤◌, ◌==◌, ◌||◌, cond, Bool, true, false, List, [], ◌∷◌, length, slice_get, Option, Some, None, sym, option_map}
+use Rattle.rx_hub.proofs.Common.{is_some, refl, ap, ◌∙◌, arith, true≢false, IfSome, if◌then◌else◌, list_any, option_map_or, option_and_then, not, nat_tests}
+use Rattle.rx_hub.proofs.Common.{same_Some, none-some, Key, first_of, is_key, HubDue, LastEnd, Published, Hub, Rule, IsCalm, IsChain, IsAt, IsDueIn, IsQuiet}
+use Rattle.rx_hub.proofs.Common.{NoneWaits, connects, acts, is_cut, connect_of, due_of, Hubs, IsPromised, AreAbove, Rises, published_of, last_from, subscribed}
+use Rattle.rx_hub.proofs.Common.{unsubscribed, without_key, Lists, list_at, is_in, take_out, head_of, connect_by, cut_by, due_by, given_by}
 use Rattle.std.specs.List.{filter}
 use Rattle.rx_hub.specs.declared.forcing.Rule.TheVariants.{Connect, Other}
 use Rattle.std.proofs.Common.{rules}
@@ -41,8 +40,7 @@ due_told hub = search rules
 
 -- one that comes behind another makes nothing else due
 pub due_behind : (key : Key) (hub : Hub) → is_some (first_of hub.subscribers) ≡ true → due_of hub ≡ None → due_of (subscribed key hub) ≡ None
-due_behind key hub among none =
-    search (rules, due_told, true≢false)
+due_behind key hub among none = search (rules, due_told, true≢false)
 
 -- no end cuts a younger one that cuts no older one
 uncut_on : (last : Option LastEnd) (a b : Key) → a.number < b.number → cut_by last a ≡ None → cut_by last b ≡ None
@@ -64,9 +62,7 @@ first_uncut last key (k ∷ ks) rises first = of (is_key key k) (first_uncut las
 -- one that leaves others makes nothing else due
 pub due_left : (key : Key) (hub : Hub) → Rises hub.subscribers → is_some (first_of (without_key key hub.subscribers)) ≡ true → due_of hub ≡ None →
     due_of (unsubscribed key hub) ≡ None
-due_left key hub rises among none =
-    sym (due_told (unsubscribed key hub)) ∙
-    tail (first_of (without_key key hub.subscribers)) among
+due_left key hub rises among none = sym (due_told (unsubscribed key hub)) ∙ tail (first_of (without_key key hub.subscribers)) among
     (search (rules, first_uncut, due_told)) where
       head : (o : Option Key) → due_by (published_of hub) o ≡ None → IfSome o (λ k. cut_by hub.last_end k ≡ None)
       head None e = tt
@@ -82,8 +78,7 @@ any_fewer p q (k ∷ ks) none = search (rules, true≢false, any_fewer p q ks)
 
 -- one that leaves lets no hub wait for a connection
 pub wait_left : (key : Key) (hub : Hub) → connect_of hub ≡ None → connect_of (unsubscribed key hub) ≡ None
-wait_left key hub none =
-    search (rules, stays_on, any_fewer, none-some)
+wait_left key hub none = search (rules, stays_on, any_fewer, none-some)
 
 -- a hub that has a connection waits for none
 pub connected_there : (o : Option Hub) (p : Published) → option_map published_of o ≡ Some p → is_some p.connection ≡ true →
@@ -152,8 +147,7 @@ pub quiet_chains : (hubs : List Hub) (waiting due : Lists) → IsCalm connect_of
 quiet_chains hubs waiting due no_wait no_act none_waits none_due = search (rules, off_chain)
 
 pub chain_left : (old new : Lists) → length new.lists ≡ length old.lists → new.members ≡ old.members → IsChain old → IsChain new
-chain_left old new count members chain =
-    search rules
+chain_left old new count members chain = search rules
 
 -- of the two chains
 pub connects_if : (hubs : List Hub) (r : Option HubDue) → IfSome r (IsAt (given_by Connect) hubs) → IfSome r (IsDueIn hubs)

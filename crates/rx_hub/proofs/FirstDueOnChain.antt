@@ -1,7 +1,6 @@
 -- Looking for the first of a chain at which something is due.
-use Rattle.rx_hub.proofs.Common.{◌≡◌, true, List, [], ◌∷◌, cond, Option, Some, None, is_some, ap, ◌∙◌, and_parts}
-use Rattle.rx_hub.proofs.Common.{eqb-true, same_Some, none-some, Terminal, Event, End, Key, Slots, Node, Tree}
-use Rattle.rx_hub.proofs.Common.{is_key, first_of, same_key, from_due, IsChained}
+use Rattle.rx_hub.proofs.Common.{◌≡◌, true, List, [], ◌∷◌, cond, Option, Some, None, is_some, ap, ◌∙◌, and_parts, eqb-true, same_Some, none-some, Terminal}
+use Rattle.rx_hub.proofs.Common.{Event, End, Key, Slots, Node, Tree, is_key, first_of, same_key, from_due, IsChained}
 use Rattle.rx_hub.specs.Operators.{terminal_of, IsDueAt, due_of, IsQuiet}
 use Rattle.std.proofs.Common.{rules}
 
@@ -12,8 +11,7 @@ none_is : (chain : List Key) → first_of chain ≡ None → chain ≡ []
 none_is x0 none = search (rules, none-some)
 
 key_same : (a b : Key) → is_key a b ≡ true → a ≡ b
-key_same a b same =
-    search (rules, and_parts, same_key, eqb-true)
+key_same a b same = search (rules, and_parts, same_key, eqb-true)
 
 -- off the rest is what is off the whole, and the first
 still_chained : (nodes : Slots Node) (key : Key) (rest : List Key) → IsChained nodes (key ∷ rest) → due_of nodes key ≡ None → IsChained nodes rest
@@ -51,5 +49,4 @@ module _ {T : Type 0} where
   -- the chain is empty
   pub none_left : (old now : Tree T) → IsSearched old now → first_of now.chain ≡ None →
       (now ≡ record old { chain = from_due old.nodes old.chain }) × IsQuiet old.nodes
-  none_left old now s none =
-      search (rules, none_is)
+  none_left old now s none = search (rules, none_is)

@@ -20,9 +20,7 @@ eq_not a b e = grind (arith, nat_tests, e)
 find_one : (hubs : List Hub) (i n : ℕ) (hub : Hub) → slice_get hubs i ≡ Some hub → hub.number ≡ n →
     ((j : ℕ) (other : Hub) → slice_get hubs j ≡ Some other → other.number ≡ n → j ≡ i) → find_hub hubs n ≡ Some hub
 find_one [] i n hub got named only = absurd (none-some hub got)
-find_one (h ∷ hubs) zero n hub got named only =
-    let same = same_Some h hub got in
-    search (rules, eq_self)
+find_one (h ∷ hubs) zero n hub got named only = let same = same_Some h hub got in search (rules, eq_self)
 find_one (h ∷ hubs) (suc i) n hub got named only =
     ap (λ b. cond b (Some h) (find_hub hubs n)) (eq_not h.number n (λ e. let z = only 0 h refl e in omega (arith, z))) ∙
     find_one hubs i n hub got named (λ j other at_j e. let z = only (suc j) other at_j e in omega (arith, z))
@@ -78,8 +76,7 @@ calm_changed {due} {s} {old} new index n change p named noted calm i hub got off
 -- the hub at an index whose number alone changed
 pub at_changed : (s new : Hubs) (index : ℕ) (change : Hub → Hub) (hub : Hub) → slice_get s.hubs index ≡ Some hub →
     new ≡ record s { hubs = at_hub hub.number change s.hubs } → slice_get new.hubs index ≡ Some (change hub)
-at_changed s new index change hub got is =
-    search (rules, get_map, eq_self)
+at_changed s new index change hub got is = search (rules, get_map, eq_self)
 
 -- a change by which nothing is due that was not leaves a chain calm
 pub still_none : (due : Hub → Option HubDue) (s new : Hubs) (chain : Lists) (index n : ℕ) (change : Hub → Hub) →
@@ -99,8 +96,7 @@ not_noted gives chain index is quiet = search rules
 -- whether there is a first one tells whether there are others
 pub others_there : (hubs : List Hub) (index : ℕ) (hub : Hub) (first : Option Key) (b : Bool) → slice_get hubs index ≡ Some hub →
     IfSome (slice_get hubs index) (λ h. first ≡ first_of h.subscribers) → b ≡ is_some first → b ≡ true → is_some (first_of hub.subscribers) ≡ true
-others_there hubs index hub first b got is said told =
-    search rules
+others_there hubs index hub first b got is said told = search rules
 
 -- one more hub at which nothing is due
 pub calm_added : (due : Hub → Option HubDue) (hubs : List Hub) (chain : Lists) (added : Hub) → due added ≡ None → IsCalm due hubs chain →
@@ -129,8 +125,7 @@ not_found hubs n none there = true≢false (sym there ∙ ap is_some (find_none 
 pub linked_changed : {s new : Hubs} {w d w' d' : Lists} {index : ℕ} (n : ℕ) (change : Hub → Hub) → IsPromised s →
     option_map (λ (hub : Hub). hub.number) (slice_get s.hubs index) ≡ Some n →
     ((hub : Hub) → slice_get s.hubs index ≡ Some hub → new ≡ record s { hubs = at_hub hub.number change s.hubs }) →
-    Notes (due_in connect_of new.hubs index) w w' index → Notes (due_in due_of new.hubs index) d d' index →
-    IsLinked s w d → IsLinked new w' d'
+    Notes (due_in connect_of new.hubs index) w w' index → Notes (due_in due_of new.hubs index) d d' index → IsLinked s w d → IsLinked new w' d'
 linked_changed {s} {new} {w} {d} {w'} {d'} {index} n change p named is notes_w notes_d linked =
     let own = hub_at s.hubs index n named in
     let new_is : new ≡ record s { hubs = at_hub n change s.hubs } = is own.0 own.1.0 ∙ ap (λ k. record s { hubs = at_hub k change s.hubs }) own.1.1 in
@@ -141,10 +136,8 @@ linked_changed {s} {new} {w} {d} {w'} {d'} {index} n change p named is notes_w n
     let both = linked.both in
     let room = linked.room in
     subst (λ (t : Hubs). IsLinked t w' d') (sym new_is) (record {
-      waits = calm_changed w' index n change p named
-          (subst (λ (t : Hubs). Notes (due_in connect_of t.hubs index) w w' index) new_is notes_w) linked.waits;
-      acts = calm_changed d' index n change p named
-          (subst (λ (t : Hubs). Notes (due_in due_of t.hubs index) d d' index) new_is notes_d) linked.acts;
+      waits = calm_changed w' index n change p named (subst (λ (t : Hubs). Notes (due_in connect_of t.hubs index) w w' index) new_is notes_w) linked.waits;
+      acts = calm_changed d' index n change p named (subst (λ (t : Hubs). Notes (due_in due_of t.hubs index) d d' index) new_is notes_d) linked.acts;
       waiting_chain = notes_w.chain;
       due_chain = notes_d.chain;
       fit = omega (arith, count, w_same, fit);
@@ -161,12 +154,9 @@ nothing_new_due n x1 = search rules
 -- an index and a number lead to one hub
 pub only_hub : {s : Hubs} → IsPromised s → (i j : ℕ) (hub other : Hub) → slice_get s.hubs i ≡ Some hub → slice_get s.hubs j ≡ Some other →
     other.number ≡ hub.number → hub ≡ other
-only_hub {s} p i j hub other at_i at_j same =
-    search (rules, same_Some, one_index)
+only_hub {s} p i j hub other at_i at_j same = search (rules, same_Some, one_index)
 
 -- the first subscriber of a hub that is found
 pub first_found : (s : Hubs) → IsPromised s → (i n : ℕ) (r : Option Key) → option_map (λ (hub : Hub). hub.number) (slice_get s.hubs i) ≡ Some n →
     IfSome (slice_get s.hubs i) (λ hub. r ≡ first_of hub.subscribers) → r ≡ option_and_then (λ (h : Hub). first_of h.subscribers) (find_hub s.hubs n)
-first_found s p i n r named first =
-    let own = hub_at s.hubs i n named in
-    search (rules, find_index)
+first_found s p i n r named first = let own = hub_at s.hubs i n named in search (rules, find_index)

@@ -91,6 +91,5 @@ is_there (x ∷ xs) (suc i) d l = is_there xs i d (omega arith)
 -- and is the next to be changed
 pub next_changed : {X : Type 0} (f : X → X) (xs items : List X) (i : ℕ) (d : X) → items ≡ map f (take i xs) ++ drop i xs → i < length xs →
     set items i (f (get_or items i d)) ≡ map f (take (i + 1) xs) ++ drop (i + 1) xs
-next_changed f xs items i d is l =
-    (λ j. set (is j) i (f (get_or (is j) i d))) ∙ ap (λ x. set (map f (take i xs) ++ drop i xs) i (f x)) (stands_at f xs i d) ∙
+next_changed f xs items i d is l = (λ j. set (is j) i (f (get_or (is j) i d))) ∙ ap (λ x. set (map f (take i xs) ++ drop i xs) i (f x)) (stands_at f xs i d) ∙
     changed_more f xs i (get_or xs i d) (is_there xs i d l) ∙ ap (λ n. map f (take n xs) ++ drop n xs) (let e : suc i ≡ i + 1 = omega arith in e)

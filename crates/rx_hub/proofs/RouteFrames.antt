@@ -32,8 +32,7 @@ from_next key (x ∷ xs) rises on = by_test (is_key key x) refl on (from_next ke
 
   at_first : (ys : List Key) → AreAbove x.number ys → ys ≡ option_map_or (λ (k : Key). cond (is_key k x) (x ∷ ys) (keys_from k ys)) (first_of ys) []
   at_first [] above = refl
-  at_first (y ∷ ys) above =
-      sym (search (rules, older, is_key-itself))
+  at_first (y ∷ ys) above = sym (search (rules, older, is_key-itself))
 
   by_after : (o : Option Key) → key_after key xs ≡ o →
       option_map_or (λ (k : Key). keys_from k xs) o [] ≡ option_map_or (λ (k : Key). cond (is_key k x) (x ∷ xs) (keys_from k xs)) o []
@@ -77,26 +76,20 @@ count_there (x ∷ hubs) g n hub found l = by_test (x.number == g) refl found (�
   by_test true e here later =
       let rest = count_more hubs g n (omega (arith, l)) in
       let before : ◌≡◌ {A = ℕ} (cond (nat_lt x.number g) 1 0) 0 = grind (arith, nat_tests, e) in
-      let after : ◌≡◌ {A = ℕ} (cond (nat_lt x.number n) 1 0) 1 = grind (arith, nat_tests, e, l) in
-      omega (arith, rest, before, after)
-  by_test false e there later =
-      let rest = later there in
-      let here = one_before x.number g n (omega (arith, l)) in
-      omega (arith, rest, here)
+      let after : ◌≡◌ {A = ℕ} (cond (nat_lt x.number n) 1 0) 1 = grind (arith, nat_tests, e, l) in omega (arith, rest, before, after)
+  by_test false e there later = let rest = later there in let here = one_before x.number g n (omega (arith, l)) in omega (arith, rest, here)
 
 frames_fit : (hubs : List Hub) (frames : List Frame) (n : ℕ) → AreFrames hubs frames → IsBehind n frames → length frames ≤ count_before hubs n
 frames_fit hubs [] n are behind = omega arith
 frames_fit hubs (f ∷ frames) n are behind =
     let rest = frames_fit hubs frames f.hub are.2 are.1 in
     let own = are.0 in
-    let here = count_there hubs f.hub n own.hub own.there behind in
-    omega (arith, rest, here)
+    let here = count_there hubs f.hub n own.hub own.there behind in omega (arith, rest, here)
 
 -- where a frame's hub comes after all others, there is room for it
 pub frame_fits : (hubs : List Hub) (frames : List Frame) (frame : Frame) → AreFrames hubs frames →
     IsFrame hubs frame → IsBehind frame.hub frames → length frames < length hubs
-frame_fits hubs frames frame are is behind =
-    search (rules, frames_fit, count_there, count_all)
+frame_fits hubs frames frame are is behind = search (rules, frames_fit, count_there, count_all)
 
 -- how it goes on ----------------------------------------------------------------------------------------
 
@@ -112,33 +105,32 @@ pub turned : {s : Hubs} → IsPromised s → (frames : List Frame) (frame : Fram
     AreFrames s.hubs frames →
     ((n : ℕ) (h : Hub) → find_hub s.hubs n ≡ Some h → is_on frame.key h.subscribers ≡ true → next ≡ key_after frame.key h.subscribers) →
     GoesOn s.hubs frames (next_frame frame next frames) (Some frame) (Some frame.key)
-turned {s} p frames frame next is behind are follows =
-    by_next next (follows frame.hub is.hub is.there is.subscribes) where
-      hub : Hub
-      hub = is.hub
+turned {s} p frames frame next is behind are follows = by_next next (follows frame.hub is.hub is.there is.subscribes) where
+  hub : Hub
+  hub = is.hub
 
-      keys_in : (key : Key) → frame_keys s.hubs (record { hub = frame.hub; key = key }) ≡ keys_from key hub.subscribers
-      keys_in key = ap (λ (o : Option Hub). option_map_or (λ (h : Hub). keys_from key h.subscribers) o []) is.there
+  keys_in : (key : Key) → frame_keys s.hubs (record { hub = frame.hub; key = key }) ≡ keys_from key hub.subscribers
+  keys_in key = ap (λ (o : Option Hub). option_map_or (λ (h : Hub). keys_from key h.subscribers) o []) is.there
 
-      rises : Rises hub.subscribers
-      rises = let r = found_hub s.hubs frame.hub hub is.there in p.rises r.0 hub r.1.0
+  rises : Rises hub.subscribers
+  rises = let r = found_hub s.hubs frame.hub hub is.there in p.rises r.0 hub r.1.0
 
-      split : (o : Option Key) → o ≡ key_after frame.key hub.subscribers →
-          keys_from frame.key hub.subscribers ≡ frame.key ∷ option_map_or (λ (k : Key). keys_from k hub.subscribers) o []
-      split o same = from_next frame.key hub.subscribers rises is.subscribes ∙
-          ap (λ (x : Option Key). frame.key ∷ option_map_or (λ (k : Key). keys_from k hub.subscribers) x []) (sym same)
+  split : (o : Option Key) → o ≡ key_after frame.key hub.subscribers →
+      keys_from frame.key hub.subscribers ≡ frame.key ∷ option_map_or (λ (k : Key). keys_from k hub.subscribers) o []
+  split o same = from_next frame.key hub.subscribers rises is.subscribes ∙
+      ap (λ (x : Option Key). frame.key ∷ option_map_or (λ (k : Key). keys_from k hub.subscribers) x []) (sym same)
 
-      by_next : (o : Option Key) → o ≡ key_after frame.key hub.subscribers → GoesOn s.hubs frames (next_frame frame o frames) (Some frame) (Some frame.key)
-      by_next None same = record {
-        turn = record { hub = frame.hub; frame = is; behind = behind_later frames frame.hub (suc frame.hub) (omega arith) behind };
-        frames = are;
-        todo = sym (ap (λ (ks : List Key). ks ++ after_frames s.hubs frames) (keys_in frame.key ∙ split None same));
-        ended = tt;
-      }
-      by_next (Some k) same = record {
-        turn = record { hub = frame.hub; frame = is; behind = omega arith };
-        frames = (record { hub = hub; there = is.there; subscribes = next_on frame.key k hub.subscribers (sym same) }, behind, are);
-        todo = sym (ap (λ (ks : List Key). ks ++ after_frames s.hubs frames)
-            (keys_in frame.key ∙ split (Some k) same ∙ ap (λ (ks : List Key). frame.key ∷ ks) (sym (keys_in k))));
-        ended = tt;
-      }
+  by_next : (o : Option Key) → o ≡ key_after frame.key hub.subscribers → GoesOn s.hubs frames (next_frame frame o frames) (Some frame) (Some frame.key)
+  by_next None same = record {
+    turn = record { hub = frame.hub; frame = is; behind = behind_later frames frame.hub (suc frame.hub) (omega arith) behind };
+    frames = are;
+    todo = sym (ap (λ (ks : List Key). ks ++ after_frames s.hubs frames) (keys_in frame.key ∙ split None same));
+    ended = tt;
+  }
+  by_next (Some k) same = record {
+    turn = record { hub = frame.hub; frame = is; behind = omega arith };
+    frames = (record { hub = hub; there = is.there; subscribes = next_on frame.key k hub.subscribers (sym same) }, behind, are);
+    todo = sym (ap (λ (ks : List Key). ks ++ after_frames s.hubs frames)
+        (keys_in frame.key ∙ split (Some k) same ∙ ap (λ (ks : List Key). frame.key ∷ ks) (sym (keys_in k))));
+    ended = tt;
+  }

@@ -93,23 +93,22 @@ nothing_left m = omega arith
 pub climbs_cut : {nodes : Slots Node} {hubs : List Hub} (old new : Route) (node : Key) → IsUnderWay nodes hubs old → old.at ≡ Some node →
     old.visits ≤ most_visits → suc most_visits < old.visits + length (way nodes node) → new ≡ record old { visits = suc most_visits } →
     Climbs nodes hubs old new None
-climbs_cut {nodes} {hubs} old new node under_way at within cut is =
-    subst (λ (r : Route). Climbs nodes hubs old r None) (sym is) (record {
-      stops = ap (λ (ks : List Key). filter_map (arrival_at nodes) ks) same ∙ cuts.1 ∙ sym (ap (filter_map (arrival_at nodes)) none);
-      visits = let all = ap length same ∙ cuts.0 in let no = ap length none in omega (arith, all, no, within);
-      under_way = record {
-        room = under_way.room;
-        frames = under_way.frames;
-        there = under_way.there;
-        hub = under_way.hub;
-        reaches = under_way.reaches;
-        behind = under_way.behind;
-        ended = under_way.ended;
-        visits = omega arith;
-      };
-      fewer = omega (arith, within);
-      room = refl;
-    })
+climbs_cut {nodes} {hubs} old new node under_way at within cut is = subst (λ (r : Route). Climbs nodes hubs old r None) (sym is) (record {
+  stops = ap (λ (ks : List Key). filter_map (arrival_at nodes) ks) same ∙ cuts.1 ∙ sym (ap (filter_map (arrival_at nodes)) none);
+  visits = let all = ap length same ∙ cuts.0 in let no = ap length none in omega (arith, all, no, within);
+  under_way = record {
+    room = under_way.room;
+    frames = under_way.frames;
+    there = under_way.there;
+    hub = under_way.hub;
+    reaches = under_way.reaches;
+    behind = under_way.behind;
+    ended = under_way.ended;
+    visits = omega arith;
+  };
+  fewer = omega (arith, within);
+  room = refl;
+})
   where
     rest : List Key
     rest = after_frames hubs old.frames

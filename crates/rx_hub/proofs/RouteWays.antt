@@ -44,15 +44,12 @@ module _ (nodes : Slots Node) (hubs : List Hub) where
   visited_way zero zero key rest within fits = refl
   visited_way zero (suc left) key rest within fits = absurd (omega (arith, within))
   visited_way (suc k) zero key rest within fits = absurd (omega (arith, fits))
-  visited_way (suc k) (suc left) key rest within fits =
-      ap (λ (ns : List Key). key ∷ Visits left (ns ++ rest)) (onward_is key (stop_of nodes key)) ∙
+  visited_way (suc k) (suc left) key rest within fits = ap (λ (ns : List Key). key ∷ Visits left (ns ++ rest)) (onward_is key (stop_of nodes key)) ∙
       by_stop (stop_of nodes key) (above_of nodes key) (λ up. visited_way k left up rest (omega (arith, within))) fits where
-        by_stop : (s : Option Stop) (above : Option Key) →
-            ((up : Key) → length (way_within k nodes up) ≤ left →
+        by_stop : (s : Option Stop) (above : Option Key) → ((up : Key) → length (way_within k nodes up) ≤ left →
             Visits left (up ∷ rest) ≡ way_within k nodes up ++
             Visits (left - length (way_within k nodes up)) (beyond_end nodes hubs (end_of nodes (way_within k nodes up)) ++ rest)) →
-            length (way_by k key s above) ≤ suc left →
-            key ∷ Visits left (onward_in s above ++ rest) ≡
+            length (way_by k key s above) ≤ suc left → key ∷ Visits left (onward_in s above ++ rest) ≡
             way_by k key s above ++ Visits (suc left - length (way_by k key s above)) (beyond_end nodes hubs (end_by k s above) ++ rest)
         by_stop None None up short = ap (λ n. key ∷ Visits n rest) (sym (one_less left))
         by_stop None (Some a) up short =
@@ -83,8 +80,7 @@ module _ (nodes : Slots Node) (hubs : List Hub) where
   visited_cut zero (suc left) key rest cut = absurd (omega (arith, cut))
   visited_cut (suc k) (suc left) key rest cut =
       by_stop (stop_of nodes key) (above_of nodes key) (λ up. visited_cut k left up rest) (onward_is key (stop_of nodes key)) cut where
-        by_stop : (s : Option Stop) (above : Option Key) →
-            ((up : Key) → left < length (way_within k nodes up) →
+        by_stop : (s : Option Stop) (above : Option Key) → ((up : Key) → left < length (way_within k nodes up) →
             (length (Visits left (up ∷ rest)) ≡ left) × (Stops (Visits left (up ∷ rest)) ≡ [])) →
             onward_over nodes hubs key ≡ onward_in s above → suc left < length (way_by k key s above) →
             (suc (length (Visits left (onward_over nodes hubs key ++ rest))) ≡ suc left) ×

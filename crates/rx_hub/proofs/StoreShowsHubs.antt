@@ -98,10 +98,7 @@ key_on numbers key [] e = absurd (false≢true e)
 key_on numbers key (x ∷ xs) e = of (λ e. key_on numbers key xs e) (is_key key (key_in numbers x)) refl e where
   of : (is_on key (map (key_in numbers) xs) ≡ true → (is_in key.slot xs ≡ true) × (key ≡ key_in numbers key.slot)) → (b : Bool) →
       is_key key (key_in numbers x) ≡ b → (b || is_on key (map (key_in numbers) xs)) ≡ true → (is_in key.slot (x ∷ xs) ≡ true) × (key ≡ key_in numbers key.slot)
-  of later true t e =
-      let same = key_of numbers key x t in
-      let slot : key.slot ≡ x = ap (λ (k : Key). k.slot) same in
-      (search (rules, eq_self))
+  of later true t e = let same = key_of numbers key x t in let slot : key.slot ≡ x = ap (λ (k : Key). k.slot) same in (search (rules, eq_self))
   of later false t e = let h = later e in (either (key.slot == x) h.0, h.1) where
     either : (b : Bool) → is_in key.slot xs ≡ true → (b || is_in key.slot xs) ≡ true
     either true i = refl
@@ -118,14 +115,12 @@ last_key numbers before (x ∷ xs) = last_key numbers (Some x) xs
 after_key : (numbers : List ℕ) (key : Key) (xs : List ℕ) → key ≡ key_in numbers key.slot →
     key_after key (map (key_in numbers) xs) ≡ option_map (key_in numbers) (after key.slot xs)
 after_key numbers key [] own = refl
-after_key numbers key (x ∷ xs) own =
-    search (rules, is_key_in, first_key, after_key numbers key xs own)
+after_key numbers key (x ∷ xs) own = search (rules, is_key_in, first_key, after_key numbers key xs own)
 
 out_keys : (numbers : List ℕ) (key : Key) (xs : List ℕ) → key ≡ key_in numbers key.slot →
     map (key_in numbers) (take_out key.slot xs) ≡ without_key key (map (key_in numbers) xs)
 out_keys numbers key [] own = refl
-out_keys numbers key (x ∷ xs) own =
-    search (rules, is_key_in, out_keys numbers key xs own)
+out_keys numbers key (x ∷ xs) own = search (rules, is_key_in, out_keys numbers key xs own)
 
 -- taking out what is not there
 out_none : (slot : ℕ) (xs : List ℕ) → is_in slot xs ≡ false → take_out slot xs ≡ xs
@@ -169,9 +164,7 @@ module _ (records : List Published) (lists : Lists) (numbers : List ℕ) where
   hub_within i some = search (rules, cases_lt, true≢false, table_past)
 
   pub hub_is : (i : ℕ) (hub : Hub) → slice_get (hubs_in records lists numbers) i ≡ Some hub → (i < length records) × (hub_in records lists numbers i ≡ hub)
-  hub_is i hub got =
-      let l = hub_within i (ap is_some got) in
-      (l, same_Some (hub_in records lists numbers i) hub (sym (hub_get i l) ∙ got))
+  hub_is i hub got = let l = hub_within i (ap is_some got) in (l, same_Some (hub_in records lists numbers i) hub (sym (hub_get i l) ∙ got))
 
   pub count_hubs : length (hubs_in records lists numbers) ≡ length records
   count_hubs = length-table (hub_in records lists numbers) 0 (length records)
@@ -226,8 +219,7 @@ module _ (records : List Published) (lists : Lists) (numbers : List ℕ) where
       by_hub None got = tt
       by_hub (Some hub) got = sym (first_key numbers (list_at lists i)) ∙ ap (λ (h : Hub). first_of h.subscribers) (hub_is i hub got).1
 
-    pub last_shown : (i : ℕ) →
-        IfSome (slice_get (hubs_in records lists numbers) i)
+    pub last_shown : (i : ℕ) → IfSome (slice_get (hubs_in records lists numbers) i)
         (λ hub. option_map (key_in numbers) (last_after None (list_at lists i)) ≡ last_from None hub.subscribers)
     last_shown i = by_hub (slice_get (hubs_in records lists numbers) i) refl where
       by_hub : (o : Option Hub) → slice_get (hubs_in records lists numbers) i ≡ o →
@@ -295,8 +287,7 @@ module _ (records : List Published) (lists : Lists) (numbers : List ℕ) where
     one_hub : (records' : List Published) (lists' : Lists) (numbers' : List ℕ) (index : ℕ) (change : Hub → Hub) →
         ShowsChange records' lists' numbers' index change →
         hubs_in records' lists' numbers' ≡ at_hub (record_at records index).number change (hubs_in records lists numbers)
-    one_hub records' lists' numbers' index change shows =
-        ap (λ n. map (hub_in records' lists' numbers') (range_with_len 0 n)) shows.count ∙
+    one_hub records' lists' numbers' index change shows = ap (λ n. map (hub_in records' lists' numbers') (range_with_len 0 n)) shows.count ∙
         table_map (hub_in records lists numbers) (hub_in records' lists' numbers')
         (λ hub. cond (hub.number == (record_at records index).number) (change hub) hub) 0 (length records)
         (λ j l m. let m' : j < length records = omega (arith, m) in elim (cases_eq index j) [
@@ -317,15 +308,13 @@ module _ (records : List Published) (lists : Lists) (numbers : List ℕ) where
           (get_or-set_same numbers key.slot key.number 0 (let s = kept.slots in omega (arith, slot, s)))
 
       keys_here : keys_at lists' (set numbers key.slot key.number) index ≡ keys_at lists numbers index ++ key ∷ []
-      keys_here =
-          ap (map (key_in (set numbers key.slot key.number)))
+      keys_here = ap (map (key_in (set numbers key.slot key.number)))
           (joined index ∙ ap (λ b. cond b (list_at lists index ++ key.slot ∷ []) (list_at lists index)) (eq_self index)) ∙
           append_keys (set numbers key.slot key.number) (list_at lists index) key.slot ∙
           (λ i. keys_set numbers key.slot key.number (list_at lists index) (free index) i ++ key_written i ∷ [])
 
       keys_other : (j : ℕ) → index ≢ j → keys_at lists' (set numbers key.slot key.number) j ≡ keys_at lists numbers j
-      keys_other j apart =
-          ap (map (key_in (set numbers key.slot key.number)))
+      keys_other j apart = ap (map (key_in (set numbers key.slot key.number)))
           (joined j ∙ ap (λ b. cond b (list_at lists j ++ key.slot ∷ []) (list_at lists j)) (eq_not index j apart)) ∙
           keys_set numbers key.slot key.number (list_at lists j) (free j)
 
@@ -398,8 +387,7 @@ module _ (records : List Published) (lists : Lists) (numbers : List ℕ) where
         count = length-set records index p;
         here = ap (λ r. hub_of r (keys_at lists numbers index)) record_here;
         others = λ j l apart. ap (λ r. hub_of r (keys_at lists numbers j)) (record_other j apart);
-      }) ∙
-          ap (λ n. at_hub n (with_published p) (hubs_in records lists numbers)) same
+      }) ∙ ap (λ n. at_hub n (with_published p) (hubs_in records lists numbers)) same
 
       number_kept : (j : ℕ) → (record_at (set records index p) j).number ≡ (record_at records j).number
       number_kept j = elim (cases_eq index j) [
@@ -435,8 +423,7 @@ module _ (records : List Published) (lists : Lists) (numbers : List ℕ) where
       old_hub j z l = λ i. hub_of (old_record j (omega (arith, l)) i) (map (key_in numbers) (list_kept j i))
 
       new_one : hub_in (records ++ p ∷ []) lists' numbers (length records) ≡ hub_of p []
-      new_one =
-          λ i. hub_of (new_record i)
+      new_one = λ i. hub_of (new_record i)
           (map (key_in numbers) ((list_kept (length records) ∙ get_or_past lists.lists (length records) [] (let k = kept.listed in omega (arith, k))) i))
 
       pub hubs_added : hubs_in (records ++ p ∷ []) lists' numbers ≡ hubs_in records lists numbers ++ hub_of p [] ∷ []
@@ -472,8 +459,7 @@ module _ (records : List Published) (lists : Lists) (numbers : List ℕ) where
     module _ (lists' : Lists) (numbers' : List ℕ) (same_lists : lists'.lists ≡ lists.lists)
         (same : (slot : ℕ) → get_or numbers' slot 0 ≡ get_or numbers slot 0) where
       pub hubs_same : hubs_in records lists' numbers' ≡ hubs_in records lists numbers
-      hubs_same =
-          λ i. map (λ j. hub_of (record_at records j) (map (λ slot. record { slot = slot; number = same slot i }) (get_or (same_lists i) j [])))
+      hubs_same = λ i. map (λ j. hub_of (record_at records j) (map (λ slot. record { slot = slot; number = same slot i }) (get_or (same_lists i) j [])))
           (range_with_len 0 (length records))
 
       pub kept_same : lists'.members ≤ length numbers' → IsKept records lists' numbers'
@@ -494,8 +480,7 @@ record_forgot (p ∷ records) (suc i) = record_forgot records i
 
 pub hubs_forgot : (records : List Published) (lists : Lists) (numbers : List ℕ) →
     hubs_in (map ended_never records) lists numbers ≡ map without_end (hubs_in records lists numbers)
-hubs_forgot records lists numbers =
-    ap (λ n. map (hub_in (map ended_never records) lists numbers) (range_with_len 0 n)) (length-map records ended_never) ∙
+hubs_forgot records lists numbers = ap (λ n. map (hub_in (map ended_never records) lists numbers) (range_with_len 0 n)) (length-map records ended_never) ∙
     table_map (hub_in records lists numbers) (hub_in (map ended_never records) lists numbers) without_end 0 (length records)
     (λ j l m. ap (λ p. hub_of p (keys_at lists numbers j)) (record_forgot records j))
 

@@ -43,8 +43,7 @@ or_none x0 = search rules
 -- where the way ends
 last_one : (nodes : Slots Node) (first at : Key) (visits : ℕ) (w : IsOnWay nodes first at visits) → way_within (suc w.left) nodes at ≡ at ∷ [] →
     (visits ≡ length (way nodes first)) × (stop_of nodes at ≡ end_of nodes (way nodes first))
-last_one nodes first at visits w last =
-    search (rules, or_none)
+last_one nodes first at visits w last = search (rules, or_none)
 
 ends_here : (nodes : Slots Node) (at : Key) (left : ℕ) → onward_of nodes at ≡ None → way_within (suc left) nodes at ≡ at ∷ []
 ends_here nodes at left none = ap (λ (o : Option Key). at ∷ option_map_or (way_within left nodes) o []) none
@@ -95,8 +94,7 @@ pub record IsClimbing (nodes : Slots Node) (first : Key) (read : Node) (stop : O
 
 pub climbing_starts : (nodes : Slots Node) (first : Key) {read : Node} {stop : Option Stop} → find nodes first ≡ Some read →
     IfSome read.above (λ up. IsSome (find nodes up)) → stop ≡ stop_of nodes first → IsClimbing nodes first read stop 1
-climbing_starts nodes first found above stops =
-    record { at = first; on = at_first nodes first; stops = stops; found = found; above = above }
+climbing_starts nodes first found above stops = record { at = first; on = at_first nodes first; stops = stops; found = found; above = above }
 
 -- the node above, of a record that is found
 above_found : (nodes : Slots Node) (at : Key) (read : Node) (above : Option Key) → find nodes at ≡ Some read → read.above ≡ above → above_of nodes at ≡ above
@@ -116,16 +114,12 @@ climbing_on {nodes} {first} {read} {stop} {visits} w none few next after onward 
 -- it ends at the top, at a stop, or at the limit
 pub climbing_top : {nodes : Slots Node} {first : Key} {read : Node} {stop : Option Stop} {visits : ℕ} → IsClimbing nodes first read stop visits →
     stop ≡ None → read.above ≡ None → (visits ≡ length (way nodes first)) × (stop ≡ end_of nodes (way nodes first))
-climbing_top {nodes} {first} {read} {stop} {visits} w none top =
-    search (rules, at_top, above_found)
+climbing_top {nodes} {first} {read} {stop} {visits} w none top = search (rules, at_top, above_found)
 
 pub climbing_stop : {nodes : Slots Node} {first : Key} {read : Node} {stop : Option Stop} {visits : ℕ} → IsClimbing nodes first read stop visits →
     (x : Stop) → stop ≡ Some x → (visits ≡ length (way nodes first)) × (stop ≡ end_of nodes (way nodes first))
-climbing_stop {nodes} {first} {read} {stop} {visits} w x some =
-    search (rules, at_stop)
+climbing_stop {nodes} {first} {read} {stop} {visits} w x some = search (rules, at_stop)
 
 pub climbing_limit : {nodes : Slots Node} {first : Key} {read : Node} {stop : Option Stop} {visits : ℕ} → IsClimbing nodes first read stop visits →
     most_visits + 1 ≤ visits → (visits ≡ length (way nodes first)) × (stop ≡ end_of nodes (way nodes first))
-climbing_limit {nodes} {first} {read} {stop} {visits} w many =
-    let ends = at_limit nodes first w.at visits w.on many in
-    (ends.0, w.stops ∙ ends.1)
+climbing_limit {nodes} {first} {read} {stop} {visits} w many = let ends = at_limit nodes first w.at visits w.on many in (ends.0, w.stops ∙ ends.1)

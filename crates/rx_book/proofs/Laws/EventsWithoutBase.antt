@@ -7,8 +7,7 @@ whole_at : (b : Kept) (h : List Event) (n : ℕ) → b.at_length ≡ 0 → event
 whole_at b h n none = rw (le-ltb n b.at_length (omega (arith, none))) refl
 
 pub event_more : (b : Kept) (h : List Event) {events more : List Event} (n : ℕ) {e : Event} → b.at_length ≡ 0 → n < length h → event_since b h n ≡ Some e →
-    events ≡ take n h → more ≡ events ++ e ∷ [] →
-    more ≡ take (n + 1) h
+    events ≡ take n h → more ≡ events ++ e ∷ [] → more ≡ take (n + 1) h
 event_more b h n {e} none within there so_far pushed =
     pushed ∙ (λ i. so_far i ++ sym (get_or_from_slice_get h n e e (sym (whole_at b h n none) ∙ there)) i ∷ []) ∙ sym (take_more h n e within)
 

@@ -7,5 +7,4 @@ pub same_key : (j k : Key) → j.slot ≡ k.slot → j.number ≡ k.number → j
 same_key j k slot number = λ i. record { slot = slot i; number = number i }
 
 pub Contains-has_key : (keys : List Key) (k : Key) → has_key keys k ≡ true → Contains keys k
-Contains-has_key keys k found =
-    search (rules, Any-from_list_any, nat_eq, and_parts, same_key, eqb-true)
+Contains-has_key keys k found = search (rules, Any-from_list_any, nat_eq, and_parts, same_key, eqb-true)

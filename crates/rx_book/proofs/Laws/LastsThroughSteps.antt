@@ -1,11 +1,10 @@
 -- What an event of one sort makes and one of another takes away, and what a step of the book leaves of it.
-use Rattle.rx_book.proofs.Common.{◌≡◌, ℕ, ◌+◌, ◌≤◌, Bool, true, false, List, [], ◌∷◌, ◌++◌, length, map, cond, refl, sym, ap, ◌∙◌, arith}
-use Rattle.rx_book.proofs.Common.{◌==◌, append_assoc, length-append, slice_get, not, ◌&&◌, ◌||◌, list_any, list_all, option_map_or, cases_order, and_parts}
-use Rattle.rx_book.proofs.Common.{ne_eqb, eqb-true, eq-eqb, false_from_ne_true, append-nil, Kept, Event, Open, Accept, Lease, Return, Close, Take, Place, at}
-use Rattle.rx_book.proofs.Common.{Pass, makes_resource, makes_lease, is_take_of, is_return_of, is_out, IsLawful, IsForcedOn, stays, more}
-use Rattle.rx_book.proofs.Common.{Call, outside_of, IsStepOf, OpeningUsing, Holding, Leasing, GivingBack}
-use Rattle.rx_book.proofs.Common.{Taking, slice_get_last, at-append, no_take}
-use Rattle.rx_book.proofs.Common.{at_within, at_before, list_any_push, forced_kind, may_be_forced}
+use Rattle.rx_book.proofs.Common.{◌≡◌, ℕ, ◌+◌, ◌≤◌, Bool, true, false, List, [], ◌∷◌, ◌++◌, length, map, cond, refl, sym, ap, ◌∙◌, arith, ◌==◌, append_assoc}
+use Rattle.rx_book.proofs.Common.{length-append, slice_get, not, ◌&&◌, ◌||◌, list_any, list_all, option_map_or, cases_order, and_parts, ne_eqb, eqb-true}
+use Rattle.rx_book.proofs.Common.{eq-eqb, false_from_ne_true, append-nil, Kept, Event, Open, Accept, Lease, Return, Close, Take, Place, at, Pass}
+use Rattle.rx_book.proofs.Common.{makes_resource, makes_lease, is_take_of, is_return_of, is_out, IsLawful, IsForcedOn, stays, more, Call, outside_of, IsStepOf}
+use Rattle.rx_book.proofs.Common.{OpeningUsing, Holding, Leasing, GivingBack, Taking, slice_get_last, at-append, no_take, at_within, at_before, list_any_push}
+use Rattle.rx_book.proofs.Common.{forced_kind, may_be_forced}
 use Rattle.rx_event.proofs.Laws.Leases.{no_return}
 use Rattle.rx_book.specs.State.{is_kept}
 use Rattle.std.proofs.Common.{rules}
@@ -36,15 +35,12 @@ record LeavesAlone (made : Event → Bool) (gone : ℕ → Event → Bool) (plai
 module _ {made : Event → Bool} {gone : ℕ → Event → Bool} {plain : Event → Bool} (alone : LeavesAlone made gone plain) where
   -- by a plain event nothing changes
   lasts_plain : (h : List Event) (e : Event) → plain e ≡ true → (n : ℕ) → lasts made gone (h ++ e ∷ []) n ≡ lasts made gone h n
-  lasts_plain h e p n =
-      search (rules, list_any, list_any_push, or_none, at_same, not)
+  lasts_plain h e p n = search (rules, list_any, list_any_push, or_none, at_same, not)
 
   lasts_all : (h es : List Event) → list_all plain es ≡ true → (n : ℕ) → lasts made gone (h ++ es) n ≡ lasts made gone h n
   lasts_all h [] p n = ap (λ (k : List Event). lasts made gone k n) (append-nil h)
-  lasts_all h (e ∷ es) p n =
-      ap (λ (k : List Event). lasts made gone k n) (sym (append_assoc h (e ∷ []) es)) ∙
-      lasts_all (h ++ e ∷ []) es (and_parts _ _ p).1 n ∙
-      lasts_plain h e (and_parts _ _ p).0 n
+  lasts_all h (e ∷ es) p n = ap (λ (k : List Event). lasts made gone k n) (sym (append_assoc h (e ∷ []) es)) ∙
+      lasts_all (h ++ e ∷ []) es (and_parts _ _ p).1 n ∙ lasts_plain h e (and_parts _ _ p).0 n
 
   lasts_forced : {base : Kept} {h k : List Event} → IsForcedOn base h k → (n : ℕ) → lasts made gone k n ≡ lasts made gone h n
   lasts_forced stays n = refl
@@ -66,15 +62,13 @@ module _ {made : Event → Bool} {gone : ℕ → Event → Bool} {plain : Event 
 
 -- one more is made
 lasts_made : (made : Event → Bool) (gone : ℕ → Event → Bool) (h : List Event) (e : Event) → made e ≡ true → ((n : ℕ) → gone n e ≡ false) →
-    list_any (gone (length h)) h ≡ false →
-    (n : ℕ) → lasts made gone (h ++ e ∷ []) n ≡ cond (length h == n) true (lasts made gone h n)
+    list_any (gone (length h)) h ≡ false → (n : ℕ) → lasts made gone (h ++ e ∷ []) n ≡ cond (length h == n) true (lasts made gone h n)
 lasts_made made gone h e makes keeps fresh n = search (rules, length, list_any, list_any_push, or_none, cond, not, at_last, makes, eqb-true)
 
 -- one is taken away
 lasts_gone : (made : Event → Bool) (gone : ℕ → Event → Bool) (h : List Event) (e : Event) (q : ℕ) → made e ≡ false → ((n : ℕ) → gone n e ≡ (q == n)) →
     (n : ℕ) → lasts made gone (h ++ e ∷ []) n ≡ cond (q == n) false (lasts made gone h n)
-lasts_gone made gone h e q makes takes n =
-    search (rules, list_any, list_any_push, takes, at_same, makes, not, cond)
+lasts_gone made gone h e q makes takes n = search (rules, list_any, list_any_push, takes, at_same, makes, not, cond)
 
 -- resources ------------------------------------------------------------------------------------------
 
@@ -154,8 +148,7 @@ kept_taken {h = h} {q = q} step r =
 pub kept_held : {base : Kept} {h k : List Event} {node tag : ℕ} → IsLawful base h → IsStepOf base h (Holding node tag) k → (r : ℕ) →
     is_kept k r ≡ cond (length h == r) true (is_kept h r)
 unfolding is_kept
-kept_held {base} {h = h} {node = node} {tag = tag} law step r =
-    lasts_one resources_alone (Accept node tag) (Holding node tag) step refl r
+kept_held {base} {h = h} {node = node} {tag = tag} law step r = lasts_one resources_alone (Accept node tag) (Holding node tag) step refl r
     ∙ lasts_made makes_resource is_take_of h (Accept node tag) refl (λ n. refl) (no_take base h law (length h) (omega arith)) r
 
 -- one that accepts a resource with a node of its own
@@ -169,8 +162,7 @@ kept_used {base} {h = h} {place = place} {tag = tag} law step r =
     let both : h ++ Open place Pass ∷ accept ∷ [] ≡ opened ++ accept ∷ [] = sym (append_assoc h (Open place Pass ∷ []) (accept ∷ [])) in
     let untaken : list_any (is_take_of (length opened)) opened ≡ false = list_any_push (is_take_of (length opened)) h (Open place Pass)
     ∙ or_none (list_any (is_take_of (length opened)) h) false refl ∙ no_take base h law (length opened) (omega arith) in
-    lasts_forced resources_alone step.forced r
-    ∙ ap (λ (es : List Event). lasts makes_resource is_take_of es r) both
+    lasts_forced resources_alone step.forced r ∙ ap (λ (es : List Event). lasts makes_resource is_take_of es r) both
     ∙ lasts_made makes_resource is_take_of opened accept refl (λ n. refl) untaken r
     ∙ (λ i. cond (longer i == r) true (lasts_plain resources_alone h (Open place Pass) refl r i))
 
@@ -178,8 +170,7 @@ kept_used {base} {h = h} {place = place} {tag = tag} law step r =
 pub out_leased : {base : Kept} {h k : List Event} {q : ℕ} → IsLawful base h → IsStepOf base h (Leasing q) k → (l : ℕ) →
     is_out k l ≡ cond (length h == l) true (is_out h l)
 unfolding is_out
-out_leased {base} {h = h} {q = q} law step l =
-    lasts_one leases_alone (Lease q) (Leasing q) step refl l
+out_leased {base} {h = h} {q = q} law step l = lasts_one leases_alone (Lease q) (Leasing q) step refl l
     ∙ lasts_made makes_lease is_return_of h (Lease q) refl (λ n. refl) (no_return base h law (length h) (omega arith)) l
 
 pub out_returned : {base : Kept} {h k : List Event} {q : ℕ} → IsStepOf base h (GivingBack q) k → (l : ℕ) → is_out k l ≡ cond (q == l) false (is_out h l)
@@ -190,5 +181,4 @@ out_returned {h = h} {q = q} step l =
 -- what has no place yet is not kept
 pub kept_past : (h : List Event) (r : ℕ) → length h ≤ r → is_kept h r ≡ false
 unfolding is_kept
-kept_past h r past =
-    search (rules, false_from_ne_true, at_within, not, list_any)
+kept_past h r past = search (rules, false_from_ne_true, at_within, not, list_any)

@@ -26,8 +26,7 @@ pub accepted_continues : (old new : State) (asked : Request) → Accepts old ask
 accepted_continues old new asked accepted = search (rules, step_longer)
 
 pub continues_none : (s : State) → Continues s s
-continues_none s =
-    search rules
+continues_none s = search rules
 
 pub continues_more : (a b c : State) → Continues a b → Continues b c → Continues a c
 continues_more a b c p q = search rules

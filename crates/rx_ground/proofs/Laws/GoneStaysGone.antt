@@ -16,13 +16,11 @@ abbrev pub IsFurther : List Event → List Event → Type 0
 IsFurther h k = (n : ℕ) → has_gone h n ≡ true → has_gone k n ≡ true
 
 pub gone_push : (h : List Event) (e : Event) → IsFurther h (h ++ e ∷ [])
-gone_push h e n gone =
-    search (rules, and_parts, not, at_within, false_from_ne_true, both_ways, not-true, open_old, and_from, at-append, not_from_false)
+gone_push h e n gone = search (rules, and_parts, not, at_within, false_from_ne_true, both_ways, not-true, open_old, and_from, at-append, not_from_false)
 
 pub gone_on : (h es : List Event) → IsFurther h (h ++ es)
 gone_on h [] n gone = ap (λ (k : List Event). has_gone k n) (append-nil h) ∙ gone
-gone_on h (e ∷ es) n gone =
-    ap (λ (k : List Event). has_gone k n) (sym (append_assoc h (e ∷ []) es)) ∙ gone_on (h ++ e ∷ []) es n (gone_push h e n gone)
+gone_on h (e ∷ es) n gone = ap (λ (k : List Event). has_gone k n) (sym (append_assoc h (e ∷ []) es)) ∙ gone_on (h ++ e ∷ []) es n (gone_push h e n gone)
 
 pub gone_forced : (base : Kept) → {h k : List Event} → IsForcedOn base h k → IsFurther h k
 gone_forced base stays n gone = gone
@@ -106,12 +104,10 @@ module _ {h k j : List Event} {a b c : List Key} (further : IsFurther h k) (onwa
   then_goes n here = All-contains (λ m. goes k j m ≡ true) (numbers_of then.gone) n then.each here
 
   goes_first : (n : ℕ) → goes h k n ≡ true → goes h j n ≡ true
-  goes_first n now =
-      search (rules, and_parts, not, and_from)
+  goes_first n now = search (rules, and_parts, not, and_from)
 
   goes_then : (n : ℕ) → goes k j n ≡ true → goes h j n ≡ true
-  goes_then n now =
-      search (rules, and_parts, not, false_from_ne_true, both_ways, not-true, and_from, not_from_false)
+  goes_then n now = search (rules, and_parts, not, false_from_ne_true, both_ways, not-true, and_from, not_from_false)
 
   goes_either : (n : ℕ) → goes h j n ≡ true → (goes h k n ≡ true) ⊎ (goes k j n ≡ true)
   goes_either n now = search (rules, cases_Bool, not, and_parts, and_from, not_from_false)
@@ -147,8 +143,7 @@ module _ {h k j : List Event} {a b c : List Key} (further : IsFurther h k) (onwa
 -- with an event that closes none the list stays
 pub gathers_quiet : {old new : Register} {list later : List Key} (e : Event) → MayFollow old.base old.history e → shuts_none e ≡ true →
     Writes old (e ∷ []) new → later ≡ list → Gathers old.history list new.history later
-gathers_quiet {old} {new} {list} {later} e next quiet w same =
-    search (rules, gathers_none, is_open_kept, is_open_new)
+gathers_quiet {old} {new} {list} {later} e next quiet w same = search (rules, gathers_none, is_open_kept, is_open_new)
 
 pub further_written : {old new : Register} (es : List Event) → Writes old es new → IsFurther old.history new.history
 further_written {old} es w = subst (IsFurther old.history) (sym w.history) (gone_on old.history es)

@@ -49,8 +49,7 @@ module _ {X : Type 0} where
     later : (k : Kept X) → Contains rest k → e.number ≢ k.key.number
     later k c same =
         let s = stands_from (suc first) es k c in
-        let place : 0 ≡ suc s.0 = once 0 (suc s.0) e (entry_of k.key.number k.value) refl s.2 same in
-        absurd (omega arith)
+        let place : 0 ≡ suc s.0 = once 0 (suc s.0) e (entry_of k.key.number k.value) refl s.2 same in absurd (omega arith)
 
   -- an entry has a value that passes
   abbrev passes_in : (X → Bool) → Option (Entry X) → Bool
@@ -58,18 +57,13 @@ module _ {X : Type 0} where
 
   length-kept_from : (first : ℕ) (es : List (Option (Entry X))) → length (kept_from first es) ≡ count_by is_some es
   length-kept_from first [] = refl
-  length-kept_from first (None ∷ es) =
-      search (rules, sum_by-cons, cond, is_some, length-kept_from (suc first) es)
-  length-kept_from first (Some e ∷ es) =
-      search (rules, sum_by-cons, cond, is_some, length-kept_from (suc first) es)
+  length-kept_from first (None ∷ es) = search (rules, sum_by-cons, cond, is_some, length-kept_from (suc first) es)
+  length-kept_from first (Some e ∷ es) = search (rules, sum_by-cons, cond, is_some, length-kept_from (suc first) es)
 
-  count_by-kept_from : (p : X → Bool) (first : ℕ) (es : List (Option (Entry X))) →
-      count_by (λ k. p k.value) (kept_from first es) ≡ count_by (passes_in p) es
+  count_by-kept_from : (p : X → Bool) (first : ℕ) (es : List (Option (Entry X))) → count_by (λ k. p k.value) (kept_from first es) ≡ count_by (passes_in p) es
   count_by-kept_from p first [] = refl
-  count_by-kept_from p first (None ∷ es) =
-      search (rules, sum_by-cons, cond, count_by-kept_from p (suc first) es)
-  count_by-kept_from p first (Some e ∷ es) =
-      search (rules, sum_by-cons, cond, count_by-kept_from p (suc first) es)
+  count_by-kept_from p first (None ∷ es) = search (rules, sum_by-cons, cond, count_by-kept_from p (suc first) es)
+  count_by-kept_from p first (Some e ∷ es) = search (rules, sum_by-cons, cond, count_by-kept_from p (suc first) es)
 
   -- a test on numbers says of the values in these slots what another test says of them, and passes no other number
   pub record Agrees (slots : Slots X) (p : X → Bool) (test : ℕ → Bool) : Type 0 where
@@ -116,8 +110,7 @@ module _ {X : Type 0} where
         each : (n : ℕ) → Contains (numbers passing) n → test n ≡ true
         each n c =
             let m = Contains-from_map number passing n c in
-            let f = filter_member passes (kept_in slots) m.0 m.1 in
-            ap test (sym m.2) ∙ agrees.each m.0 f.0 ∙ f.1
+            let f = filter_member passes (kept_in slots) m.0 m.1 in ap test (sym m.2) ∙ agrees.each m.0 f.0 ∙ f.1
 
         every : (n : ℕ) → test n ≡ true → Contains (numbers passing) n
         every n passes_n =
@@ -189,8 +182,7 @@ module _ (base : Base) {T : Type 0} (g : Ghosts T) (h : List Event) (tree : Tree
 
     -- and with those that leases alone hold
     pub length-alone : AreApart tree.resources → lent_alone_count tree ≡ count_by (is_alone h) (places h)
-    length-alone apart =
-        sym (length-filter_kept tree.resources alone) ∙
+    length-alone apart = sym (length-filter_kept tree.resources alone) ∙
         length-just (is_alone h) (filter (λ k. alone k.value) (kept_in tree.resources)) (length h)
         (just_kept tree.resources alone (is_alone h) apart (record { each = alone_agrees base g h tree tied; every = every }))
         (λ r a. is_held_within h r (and_parts (is_held_in h r) _ a).0)
@@ -220,6 +212,5 @@ just_out h resources leases leased apart = just_all leases (is_out h) apart (rec
 -- and as many
 pub count-leases : {T : Type 0} (h : List Event) (resources : Slots (Stowed T)) (leases : Slots ResKey) → AreLeased h resources leases → AreApart leases →
     count_by is_some leases.entries ≡ lease_count h
-count-leases h resources leases leased apart =
-    sym (length-kept leases) ∙
+count-leases h resources leases leased apart = sym (length-kept leases) ∙
     length-just (is_out h) (kept_in leases) (length h) (just_out h resources leases leased apart) (is_out_within h)

@@ -17,13 +17,9 @@ module _ {T : Type 0} (tree : Tree T) where
   holds k = is_held tree.nodes k.value
 
   -- a resource that is listed as held is found under its key, and held
-  pub held_finds : (k : Kept (Stowed T)) → Contains (held_in tree) k →
-      (find tree.resources k.key ≡ Some k.value) × (is_held tree.nodes k.value ≡ true)
-  held_finds k c =
-      let m = filter_member holds (kept_in tree.resources) k c in
-      (kept_found tree.resources k m.0, m.1)
+  pub held_finds : (k : Kept (Stowed T)) → Contains (held_in tree) k → (find tree.resources k.key ≡ Some k.value) × (is_held tree.nodes k.value ≡ true)
+  held_finds k c = let m = filter_member holds (kept_in tree.resources) k c in (kept_found tree.resources k m.0, m.1)
 
   pub finds_held : (key : Key) (x : Stowed T) → find tree.resources key ≡ Some x → is_held tree.nodes x ≡ true →
       Contains (held_in tree) (record { key = key; value = x })
-  finds_held key x found held =
-      search (rules, filter_has, kept_listed)
+  finds_held key x found held = search (rules, filter_has, kept_listed)

@@ -16,5 +16,4 @@ module _ {T : Type 0} (g : Ghosts T) (mid new : Ground T) (tied : IsTied mid.reg
             let stored = ap (λ (r : Slots (Stowed T)). find r (store_key res)) (sym same) ∙ found in
             let both : Some (Accept s.node.number (g.tag_of s.resource)) ≡ Some (Accept n tag) =
             sym (tied.stored.each (store_key res) s stored).accepted ∙ accepted in
-            let at_n : s.node.number ≡ n = cc in
-            ap (is_open new.register.history) at_n ∙ alive
+            let at_n : s.node.number ≡ n = cc in ap (is_open new.register.history) at_n ∙ alive

@@ -123,8 +123,7 @@ no_open : (sort : Event → Bool) (h : List Event) → ((n : ℕ) → at sort h 
 no_open sort h none = by_list (open_of sort h) refl where
   by_list : (ns : List ℕ) → open_of sort h ≡ ns → ns ≡ []
   by_list [] e = refl
-  by_list (n ∷ ns) e =
-      absurd (search (rules, and_parts, first_passes))
+  by_list (n ∷ ns) e = absurd (search (rules, and_parts, first_passes))
 
 -- nobody has subscribed to a new hub, nor connected it
 hub_made : (base : Kept) → (h : List Event) (mode : Mode) → IsLawful base h → IsHubOf (h ++ Publish mode ∷ []) (new_hub (length h) mode)
@@ -145,13 +144,11 @@ hub_made base h mode law = record {
   none_connects : (c : ℕ) → (slice_get h c ≡ Some (Connect (length h))) ⊎ (Publish mode ≡ Connect (length h)) → ⊥
   none_connects c (inl old) =
       let above = connection_hub base h law (length h) c old in
-      let within = slice_get_within h c (Connect (length h)) old in
-      absurd (omega (arith, above, within))
+      let within = slice_get_within h c (Connect (length h)) old in absurd (omega (arith, above, within))
   none_connects c (inr new) = false≢true (ap is_connect new)
 
   no_connection : (c : ℕ) → at (is_connect_of (length h)) (h ++ Publish mode ∷ []) c ≡ true → ⊥
-  no_connection c passes =
-      none_connects c (cases_push h (Publish mode) (Connect (length h)) c (at_connect (h ++ Publish mode ∷ []) (length h) c passes))
+  no_connection c passes = none_connects c (cases_push h (Publish mode) (Connect (length h)) c (at_connect (h ++ Publish mode ∷ []) (length h) c passes))
 
 published : (base : Kept) → (h : List Event) (mode : Mode) (hubs : List Hub) → IsLawful base h → MayFollow base h (Publish mode) → AreHubsOf h hubs →
     AreHubsOf (h ++ Publish mode ∷ []) (all_left h (Publish mode) hubs ++ new_hub (length h) mode ∷ [])
@@ -180,8 +177,7 @@ published base h mode hubs law next are = record { each = each; every = every; s
     numbered = sym same;
   }
   by_place g made (inr (inl l)) = has g (are.every g (sym (at-append makes_hub h (e ∷ []) g l) ∙ made))
-  by_place g made (inr (inr l)) =
-      let within = at_within makes_hub (h ++ e ∷ []) g made in absurd (omega (arith, within, l, length-append h (e ∷ [])))
+  by_place g made (inr (inr l)) = let within = at_within makes_hub (h ++ e ∷ []) g made in absurd (omega (arith, within, l, length-append h (e ∷ [])))
 
   every : (g : ℕ) → at makes_hub (h ++ e ∷ []) g ≡ true → HasHub (all_left h e hubs ++ new_hub (length h) mode ∷ []) g
   every g made = by_place g made (cases_order g (length h))
@@ -207,15 +203,14 @@ left_follow base h (Open place (Sub g)) slot hubs law next are =
       no_connection = λ n other. refl;
       changes = λ hub is named. hub_with_subscriber place g slot hub law next is named;
     })
-left_follow base h (Connect g) slot hubs law next are =
-    one_changed {e = Connect g} {g = g} {change = connected (next_key h slot)} law next are (record {
-      same = λ hub. refl;
-      no_hub = refl;
-      joins = λ k joins. absurd (false≢true joins);
-      no_subscriber = λ n other. refl;
-      no_connection = λ n other. other_number n g other;
-      changes = λ hub is named. hub_with_connection h g slot hub law next is named;
-    })
+left_follow base h (Connect g) slot hubs law next are = one_changed {e = Connect g} {g = g} {change = connected (next_key h slot)} law next are (record {
+  same = λ hub. refl;
+  no_hub = refl;
+  joins = λ k joins. absurd (false≢true joins);
+  no_subscriber = λ n other. refl;
+  no_connection = λ n other. other_number n g other;
+  changes = λ hub is named. hub_with_connection h g slot hub law next is named;
+})
 left_follow base h (Open place Leaf) slot hubs law next are = nothing_made (Open place Leaf) hubs law next are refl (λ g. refl) (λ g. refl)
 left_follow base h (Open place Pass) slot hubs law next are = nothing_made (Open place Pass) hubs law next are refl (λ g. refl) (λ g. refl)
 left_follow base h (Open place Flat) slot hubs law next are = nothing_made (Open place Flat) hubs law next are refl (λ g. refl) (λ g. refl)

@@ -27,8 +27,7 @@ connection_agrees p q x2 keys same = search rules
 
 one_agrees : (p q : Key → Bool) (ended : Option LastEnd) (hub : Hub) → AgreeAt p q hub → without_gone p ended hub ≡ without_gone q ended hub
 one_agrees p q ended hub same =
-    let connection = connection_agrees p q hub.connection hub.subscribers same in
-    search (rules, all_later, all_weaker, filter_agrees)
+    let connection = connection_agrees p q hub.connection hub.subscribers same in search (rules, all_later, all_weaker, filter_agrees)
 
 -- of a test, only what it says of the hubs' keys counts
 pub tests_agree : (p q : Key → Bool) (ended : Option LastEnd) (hubs : List Hub) →
@@ -74,8 +73,7 @@ subscribers_open h hub is =
 keys_open : (h : List Event) (hub : Hub) → IsHubOf h hub →
     AllByRecursion (λ (key : Key). is_open h key.number ≡ true) (option_to_list hub.connection ++ hub.subscribers)
 keys_open h hub is = AllByRecursion-both (λ (key : Key). is_open h key.number ≡ true) (option_to_list hub.connection) hub.subscribers
-    (by_connection hub.connection refl)
-    (search (rules, all_weaker, IsOpenAt, subscribers_open))
+    (by_connection hub.connection refl) (search (rules, all_weaker, IsOpenAt, subscribers_open))
   where
     open_one : (key : Key) → IsOpenAt h hub.number key.number → is_open h key.number ≡ true
     open_one key both = (and_parts (at (is_subscriber_of hub.number) h key.number) (is_open h key.number) both).1
@@ -89,8 +87,7 @@ open_agree : (h : List Event) (hubs : List Hub) (p q : Key → Bool) (ended : Op
     ((key : Key) → is_open h key.number ≡ true → p key ≡ q key) → map (without_gone p ended) hubs ≡ map (without_gone q ended) hubs
 open_agree h hubs p q ended are same = tests_agree p q ended hubs (λ i hub at_i. at_hub_of hub (are.each i hub at_i)) where
   at_hub_of : (hub : Hub) → IsHubOf h hub → AgreeAt p q hub
-  at_hub_of hub is =
-      all_weaker (λ (key : Key). is_open h key.number ≡ true) (λ key. p key ≡ q key) same
+  at_hub_of hub is = all_weaker (λ (key : Key). is_open h key.number ≡ true) (λ key. p key ≡ q key) same
       (option_to_list hub.connection ++ hub.subscribers) (keys_open h hub is)
 
 -- events that close nothing -----------------------------------------------------------------------
@@ -118,8 +115,7 @@ hubs_same h e slot hubs are joins none = hubs_with_made h e slot hubs are none �
 
 -- and so they are the hubs of the longer history
 pub hubs_stay : {base : Kept} → (h : List Event) (e : Event) (hubs : List Hub) → IsLawful base h → MayFollow base h e → AreHubsOf h hubs →
-    joins_hubs e ≡ false → ClosesNone h e →
-    AreHubsOf (h ++ e ∷ []) hubs
+    joins_hubs e ≡ false → ClosesNone h e → AreHubsOf (h ++ e ∷ []) hubs
 hubs_stay {base} h e hubs law next are joins none =
     subst (λ (hs : List Hub). AreHubsOf (h ++ e ∷ []) hs) (hubs_same h e 0 hubs are joins none) (hubs_follow base h e 0 hubs law next are)
 
@@ -142,21 +138,16 @@ gone_inside x0 e = search rules
 
 pub hubs_ended : (h : List Event) (n : ℕ) (t : Terminal) (slot : ℕ) (hubs : List Hub) → AreHubsOf h hubs →
     hubs_after h (End n t) slot hubs ≡ map (without_gone (is_inside h n) (end_by (length h) (End n t))) hubs
-hubs_ended h n t slot hubs are =
-    search (rules, open_agree, gone_inside, is_open_outside-end)
+hubs_ended h n t slot hubs are = search (rules, open_agree, gone_inside, is_open_outside-end)
 
 pub hubs_closed : (h : List Event) (n slot : ℕ) (hubs : List Hub) → AreHubsOf h hubs →
     hubs_after h (Close n) slot hubs ≡ map (without_gone (is_inside h n) None) hubs
-hubs_closed h n slot hubs are =
-    search (rules, open_agree, gone_inside, is_open_outside-close)
+hubs_closed h n slot hubs are = search (rules, open_agree, gone_inside, is_open_outside-close)
 
 -- another inner of a Switch comes in place of the open one
 pub hubs_exchanged : {base : Kept} {h : List Event} {f c : ℕ} (kind : Kind) (slot : ℕ) {hubs : List Hub} → IsLawful base h → AreHubsOf h hubs →
     IsOpenInner h f c → hubs_after h (Open (Inner f) kind) slot hubs ≡
     with_made (next_key h slot) (Open (Inner f) kind) (map (without_gone (is_inside h c) None) hubs)
-hubs_exchanged {base} {h} {f} {c} kind slot {hubs} law are i =
-    ap (with_made (next_key h slot) (Open (Inner f) kind))
-    (open_agree h hubs (is_gone_after h (Open (Inner f) kind)) (is_inside h c) None are
-    (λ key there. gone_inside (is_within h c key.number)
-    (is_open-inner_switch law i kind key.number (is_open_within h key.number there) ∙
-    ap (λ b. b && not (is_within h c key.number)) there)))
+hubs_exchanged {base} {h} {f} {c} kind slot {hubs} law are i = ap (with_made (next_key h slot) (Open (Inner f) kind))
+    (open_agree h hubs (is_gone_after h (Open (Inner f) kind)) (is_inside h c) None are (λ key there. gone_inside (is_within h c key.number)
+    (is_open-inner_switch law i kind key.number (is_open_within h key.number there) ∙ ap (λ b. b && not (is_within h c key.number)) there)))

@@ -87,13 +87,11 @@ numbers_left p x1 = search rules
 -- the connection that the record names is an open one of the hub
 pub own_connection : (h : List Event) (hub : Hub) → IsHubOf h hub → (key : Key) → hub.connection ≡ Some key →
     (at (is_connect_of hub.number) h key.number ≡ true) × (is_open h key.number ≡ true)
-own_connection h hub is key own =
-    search (rules, and_parts, first_passes)
+own_connection h hub is key own = search (rules, and_parts, first_passes)
 
 -- and each open one is that
 pub named_connection : (base : Kept) → (h : List Event) (hub : Hub) → IsLawful base h → IsHubOf h hub → (c : ℕ) → at (is_connect_of hub.number) h c ≡ true →
-    is_open h c ≡ true →
-    (key : Key) × (hub.connection ≡ Some key) × (key.number ≡ c)
+    is_open h c ≡ true → (key : Key) × (hub.connection ≡ Some key) × (key.number ≡ c)
 named_connection base h hub law is c connects o = by_record hub.connection refl where
   by_record : (own : Option Key) → hub.connection ≡ own → (key : Key) × (hub.connection ≡ Some key) × (key.number ≡ c)
   by_record None own =

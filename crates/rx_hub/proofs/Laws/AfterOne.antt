@@ -13,8 +13,7 @@ use Rattle.std.proofs.Common.{rules}
 -- how a hub's last connection ended ---------------------------------------------------------------
 
 older_end : (h t : List Event) (g : ℕ) (end : LastEnd) → EndsConnection h g end → EndsConnection (h ++ t) g end
-older_end h t g end is =
-    search (rules, still_at)
+older_end h t g end is = search (rules, still_at)
 
 older_ends : (h t : List Event) (g : ℕ) (last : Option LastEnd) → IfSome last (EndsConnection h g) → IfSome last (EndsConnection (h ++ t) g)
 older_ends h t g x3 is = search (rules, older_end)
@@ -100,19 +99,15 @@ makes_subscriber g x1 subscribes = search (rules, false≢true)
 -- what stays of a hub's subscribers, and the event's after them
 subscribers_after : (base : Kept) → (h : List Event) (e : Event) (hub : Hub) → MayFollow base h e → IsHubOf h hub →
     open_subscribers (h ++ e ∷ []) hub.number ≡ numbers (hub_left h e hub).subscribers ++ cond (is_subscriber_of hub.number e) (length h ∷ []) []
-subscribers_after base h e hub next is =
-    open_of-push base (is_subscriber_of hub.number) h e next (makes_subscriber hub.number e) ∙
+subscribers_after base h e hub next is = open_of-push base (is_subscriber_of hub.number) h e next (makes_subscriber hub.number e) ∙
     ap (λ (ns : List ℕ). ns ++ cond (is_subscriber_of hub.number e) (length h ∷ []) [])
     (ap (filter (is_open (h ++ e ∷ []))) (sym is.subscribers) ∙ sym (numbers_filter (is_open (h ++ e ∷ [])) hub.subscribers))
 
 -- and so its connection
 connections_after : (base : Kept) → (h : List Event) (e : Event) (hub : Hub) → MayFollow base h e → IsHubOf h hub →
-    open_connections (h ++ e ∷ []) hub.number ≡
-    numbers (option_to_list (hub_left h e hub).connection) ++ cond (is_connect_of hub.number e) (length h ∷ []) []
-connections_after base h e hub next is =
-    open_of-push base (is_connect_of hub.number) h e next (makes_connection hub.number e) ∙
-    ap (λ (ns : List ℕ). ns ++ cond (is_connect_of hub.number e) (length h ∷ []) [])
-    (search (rules, numbers_left))
+    open_connections (h ++ e ∷ []) hub.number ≡ numbers (option_to_list (hub_left h e hub).connection) ++ cond (is_connect_of hub.number e) (length h ∷ []) []
+connections_after base h e hub next is = open_of-push base (is_connect_of hub.number) h e next (makes_connection hub.number e) ∙
+    ap (λ (ns : List ℕ). ns ++ cond (is_connect_of hub.number e) (length h ∷ []) []) (search (rules, numbers_left))
 
 -- a hub to which the event adds nothing
 pub hub_kept : {base : Kept} → (h : List Event) (e : Event) (hub : Hub) → IsLawful base h → MayFollow base h e → IsHubOf h hub →
@@ -145,8 +140,7 @@ hub_with_subscriber {base} {h} place g slot hub law next is named =
 
 -- a hub that the event connects
 pub hub_with_connection : {base : Kept} → (h : List Event) (g slot : ℕ) (hub : Hub) → IsLawful base h → MayFollow base h (Connect g) → IsHubOf h hub →
-    hub.number ≡ g →
-    IsHubOf (h ++ Connect g ∷ []) (connected (next_key h slot) (hub_left h (Connect g) hub))
+    hub.number ≡ g → IsHubOf (h ++ Connect g ∷ []) (connected (next_key h slot) (hub_left h (Connect g) hub))
 hub_with_connection {base} h g slot hub law next is named =
     let e : Event = Connect g in
     let own : is_connect_of hub.number e ≡ true = eq-eqb g hub.number (sym named) in

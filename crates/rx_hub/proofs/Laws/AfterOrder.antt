@@ -1,7 +1,6 @@
 -- The order of hubs: what stands inside a connection subscribes to earlier hubs.
-use Rattle.rx_hub.proofs.Common.{◌≡◌, ℕ, ◌<◌, true, List, [], ◌∷◌, slice_get, Some, AllByRecursion, false≢true, and_parts}
-use Rattle.rx_hub.proofs.Common.{or_cases, eqb-true, Kept, Event, is_subscriber_of, IsLawful, at, is_open, at_connect, hubs_in_order, Key, is_on, Hub}
-use Rattle.rx_hub.proofs.Common.{AreHubsOf, SubscribesInside}
+use Rattle.rx_hub.proofs.Common.{◌≡◌, ℕ, ◌<◌, true, List, [], ◌∷◌, slice_get, Some, AllByRecursion, false≢true, and_parts, or_cases, eqb-true, Kept, Event}
+use Rattle.rx_hub.proofs.Common.{is_subscriber_of, IsLawful, at, is_open, at_connect, hubs_in_order, Key, is_on, Hub, AreHubsOf, SubscribesInside}
 use Rattle.rx_hub.proofs.Laws.AfterLeft.{own_connection}
 use Rattle.rx_hub.proofs.Laws.AfterCases.{IsOpenAt, subscribers_open}
 use Rattle.std.proofs.Common.{rules}

@@ -1,9 +1,8 @@
 -- Before an event that may follow, the hubs are ready for the call that writes it.
 use Rattle.rx_hub.proofs.Common.{◌≡◌, ℕ, zero, suc, ◌<◌, ◌==◌, Bool, true, false, cond, List, [], ◌∷◌, map, length, slice_get, filter, Option, Some, None, ap}
-use Rattle.rx_hub.proofs.Common.{refl, ◌∙◌, AllByRecursion, option_map_or, not, and_parts, eq-eqb, same_Some, none-some, Kept, Place}
-use Rattle.rx_hub.proofs.Common.{slice_get_within, Sub, Event, Open, Connect, MayFollow, may_connect, Key}
-use Rattle.rx_hub.proofs.Common.{may_connect_hub, may_subscribe, is_open_within, LastEnd, remaining, without_gone, Hub, find_hub, disconnected, AreBelow}
-use Rattle.rx_hub.proofs.Common.{IsHubOf, HasHub, AreHubsOf}
+use Rattle.rx_hub.proofs.Common.{refl, ◌∙◌, AllByRecursion, option_map_or, not, and_parts, eq-eqb, same_Some, none-some, Kept, Place, slice_get_within, Sub}
+use Rattle.rx_hub.proofs.Common.{Event, Open, Connect, MayFollow, may_connect, Key, may_connect_hub, may_subscribe, is_open_within, LastEnd, remaining}
+use Rattle.rx_hub.proofs.Common.{without_gone, Hub, find_hub, disconnected, AreBelow, IsHubOf, HasHub, AreHubsOf}
 use Rattle.rx_hub.proofs.Laws.AfterCases.{IsOpenAt, subscribers_open}
 use Rattle.rx_hub.proofs.Laws.Walks.{found_hub}
 use Rattle.std.proofs.Common.{rules}
@@ -15,8 +14,7 @@ hubs_older h hubs are i hub at_i = slice_get_within h hub.number _ (are.each i h
 -- and so are its subscribers
 below_next : (h : List Event) (g : ℕ) (keys : List Key) → AllByRecursion (λ (key : Key). IsOpenAt h g key.number) keys → AreBelow (length h) keys
 below_next h g [] all = tt
-below_next h g (key ∷ keys) all =
-    search (rules, is_open_within, and_parts, below_next h g keys all.1)
+below_next h g (key ∷ keys) all = search (rules, is_open_within, and_parts, below_next h g keys all.1)
 
 hub_found : (hubs : List Hub) (g i : ℕ) (hub : Hub) → slice_get hubs i ≡ Some hub → hub.number ≡ g → (x : Hub) × (find_hub hubs g ≡ Some x)
 hub_found [] g i hub got named = absurd (none-some hub got)
@@ -33,8 +31,7 @@ there_found : (h : List Event) (hubs : List Hub) (g : ℕ) → AreHubsOf h hubs 
     (hub : Hub) × (find_hub hubs g ≡ Some hub) × IsHubOf h hub × (hub.number ≡ g)
 there_found h hubs g are has =
     let some = hub_found hubs g has.index has.hub has.there has.numbered in
-    let own = found_hub hubs g some.0 some.1 in
-    (some.0, some.1, are.each own.0 some.0 own.1.0, own.1.1)
+    let own = found_hub hubs g some.0 some.1 in (some.0, some.1, are.each own.0 some.0 own.1.0, own.1.1)
 
 pub ready_to_subscribe : (base : Kept) → (h : List Event) (place : Place) (g : ℕ) (hubs : List Hub) → MayFollow base h (Open place (Sub g)) → AreHubsOf h hubs →
     (hub : Hub) × (find_hub hubs g ≡ Some hub) × AreBelow (length h) hub.subscribers
@@ -44,8 +41,7 @@ ready_to_subscribe base h place g hubs next are =
 
 pub ready_to_connect : (base : Kept) → (h : List Event) (g : ℕ) (hubs : List Hub) → MayFollow base h (Connect g) → AreHubsOf h hubs →
     (hub : Hub) × (find_hub hubs g ≡ Some hub) × (hub.connection ≡ None)
-ready_to_connect base h g hubs next are =
-    search (rules, there_found, may_connect_hub, may_connect)
+ready_to_connect base h g hubs next are = search (rules, there_found, may_connect_hub, may_connect)
 
 -- after others have gone --------------------------------------------------------------------------
 

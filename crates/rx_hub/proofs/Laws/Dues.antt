@@ -100,16 +100,13 @@ auto_makes x0 e = search (rules, false≢true)
 -- a younger subscriber is not ended by any connection
 stays_uncut : (h : List Event) (hub : Hub) → IsHubOf h hub → (s : ℕ) → at (is_subscriber_of hub.number) h s ≡ true → stays_at hub.last_end s ≡ true →
     (t : Terminal) → ¬ SourceEnded h s t
-stays_uncut h hub is s subscribes stays t ended =
-    search (rules, same_hub, stays_at, of_lt, false≢true)
+stays_uncut h hub is s subscribes stays t ended = search (rules, same_hub, stays_at, of_lt, false≢true)
 
 -- an older one is
 old_cut : (h : List Event) (hub : Hub) → IsHubOf h hub → (s : ℕ) (e : LastEnd) → at (is_subscriber_of hub.number) h s ≡ true → hub.last_end ≡ Some e →
-    s < e.place →
-    SourceEnded h s e.terminal
+    s < e.place → SourceEnded h s e.terminal
 old_cut h hub is s e subscribes last older =
-    let end = subst (λ (o : Option LastEnd). IfSome o (EndsConnection h hub.number)) last is.ended in
-    search (rules, connects)
+    let end = subst (λ (o : Option LastEnd). IfSome o (EndsConnection h hub.number)) last is.ended in search (rules, connects)
 
 no_connection : (o : Option Key) → numbers (option_to_list o) ≡ [] → is_none o ≡ true
 no_connection x0 e = search rules
@@ -186,8 +183,7 @@ hub_due base h hub is d gives = by_lists hub.subscribers refl hub.last_end refl 
   by_lists [] empty (Some x) l is_due = by_left (is_auto hub.mode) refl hub.connection refl (ap numbers empty) is_due
   by_lists (k ∷ ks) some None l is_due = absurd (none-some d is_due)
   by_lists (k ∷ ks) some (Some x) l is_due =
-      let told =
-      if_some (nat_lt k.number x.place) (EndDue k x.terminal) d
+      let told = if_some (nat_lt k.number x.place) (EndDue k x.terminal) d
       (sym (or_none (if nat_lt k.number x.place then Some (EndDue k x.terminal) else None)) ∙ is_due) in
       let first = first_passes (opens h hub.number) (places h) k.number (numbers ks) (sym is.subscribers ∙ ap numbers some) in
       let parts = both_parts (at (is_subscriber_of hub.number) h k.number) (is_open h k.number) first in
@@ -205,8 +201,7 @@ on_first : (k : Key) (ks : List Key) → is_on k (k ∷ ks) ≡ true
 on_first k ks = search (rules, both_hold, nat_tests)
 
 connect_own : (hub : Hub) (d : HubDue) → connect_of hub ≡ Some d → IsOf hub d
-connect_own hub d gives =
-    search (rules, if_some, both_parts, Auto, false≢true)
+connect_own hub d gives = search (rules, if_some, both_parts, Auto, false≢true)
 
 due_own : (hub : Hub) (d : HubDue) → due_of hub ≡ Some d → IsOf hub d
 due_own hub d gives = search (rules, same_Some, none-some, if_some, or_none, on_first)
@@ -241,8 +236,7 @@ none_cut h hubs are quiet n t o ended =
     by_lists {hub} is subscribes passes inside none {ks = []} some {last = Some x} l up =
         filter_nonempty (opens h hub.number) 0 (length h) n (omega arith) (omega (arith, inside)) passes (sym is.subscribers ∙ ap numbers some)
     by_lists {hub} is subscribes passes inside none {ks = k ∷ ks} some {last = Some x} l up =
-        let least =
-        first_least (opens h hub.number) 0 (length h) (numbers ks) (omega arith) (omega (arith, inside)) passes
+        let least = first_least (opens h hub.number) 0 (length h) (numbers ks) (omega arith) (omega (arith, inside)) passes
         (sym is.subscribers ∙ ap numbers some) in
         let later = ended.later in
         true≢false (sym (of_lt k.number x.place (omega (arith, least, later, up))) ∙ quiet_first hub k ks x some l none)
@@ -269,10 +263,8 @@ none_left base h hubs are quiet c (left {g = g} o at_c auto none) =
     by_connection {hub} is inside passes auto_mode {ks = []} some empty {o = None} has quiet_hub =
         filter_nonempty (λ n. at (is_connect_of hub.number) h n && is_open h n) 0 (length h) c (omega arith) (omega (arith, inside)) passes
         (sym is.connection ∙ ap (λ (x : Option Key). numbers (option_to_list x)) has)
-    by_connection {hub} is inside passes auto_mode {ks = []} some empty {o = Some k} has quiet_hub =
-        none-some (CloseDue k) (sym (sym (no_cut hub.last_end) ∙
-        (λ i. option_or (cut_of hub.last_end (sym some i)) (left_of (sym auto_mode i) (sym has i) (sym some i))) ∙
-        quiet_hub))
+    by_connection {hub} is inside passes auto_mode {ks = []} some empty {o = Some k} has quiet_hub = none-some (CloseDue k) (sym (sym (no_cut hub.last_end) ∙
+        (λ i. option_or (cut_of hub.last_end (sym some i)) (left_of (sym auto_mode i) (sym has i) (sym some i))) ∙ quiet_hub))
       where
         no_cut : (last : Option LastEnd) → option_or (cut_of last []) (left_of true (Some k) []) ≡ Some (CloseDue k)
         no_cut None = refl
@@ -280,5 +272,4 @@ none_left base h hubs are quiet c (left {g = g} o at_c auto none) =
 
 pub quiet_settles : (base : Kept) → (h : List Event) (nodes : Slots Node) (hubs : List Hub) → AreRecordsOf base h nodes → AreHubsOf h hubs →
     IsQuietTree nodes → IsQuiet hubs → IsSettled base h
-quiet_settles base h nodes hubs records are quiet_tree quiet =
-    search (rules, quiet_settled, none_waits, none_cut, none_left)
+quiet_settles base h nodes hubs records are quiet_tree quiet = search (rules, quiet_settled, none_waits, none_cut, none_left)

@@ -37,8 +37,7 @@ pub quiet_settled : (base : Kept) → (h : List Event) (nodes : Slots Node) → 
 quiet_settled base h nodes records quiet connected whole kept = settled_by_marks base h connected whole kept (quiet_marks h nodes records quiet)
 
 pub quiet_settled_hubless : (base : Kept) → (h : List Event) (nodes : Slots Node) → IsLawful base h → AreRecordsOf base h nodes → IsQuiet nodes →
-    list_any makes_hub h ≡ false →
-    IsSettled base h
+    list_any makes_hub h ≡ false → IsSettled base h
 quiet_settled_hubless base h nodes law records quiet hubless = settled_hubless base h law hubless (quiet_marks h nodes records quiet)
 
 -- in a settled history nothing is due at any record

@@ -11,8 +11,7 @@ use Rattle.std.proofs.Common.{rules}
 
 -- the node above one is its parent in the history
 parent_above : {base : Kept} → {h : List Event} (nodes : Slots Node) (hubs : List Hub) → IsWalk base h nodes hubs → (key up : Key) (node : Node) →
-    find nodes key ≡ Some node →
-    node.above ≡ Some up → parent h key.number ≡ Some up.number
+    find nodes key ≡ Some node → node.above ≡ Some up → parent h key.number ≡ Some up.number
 unfolding parent
 parent_above nodes hubs w key up node found above =
     let placed = w.sound.placed key node found in
@@ -43,15 +42,13 @@ way_within_connection {base} {h} nodes hubs w c (suc left) key there ends =
           let made = connection_made nodes key c own.0.above own.0.made here in
           ap (λ (k : Key). is_within h c.number k.number) made.2 ∙ is_within_self h c.number
       by_stop None stop None at ends later = absurd (none-some (Connection c) ends)
-      by_stop None stop (Some up) at ends later =
-          within_parent h c.number key.number up.number
+      by_stop None stop (Some up) at ends later = within_parent h c.number key.number up.number
           (parent_above nodes hubs w key up own.0 own.1 (sym (ap (option_and_then (λ (node : Node). node.above)) own.1) ∙ at))
           (later up (above_found nodes key up w.sound at) ends)
 
 -- the event of a node's record is that of the history
 made_told : (base : Kept) → (h : List Event) (nodes : Slots Node) (hubs : List Hub) → IsWalk base h nodes hubs → (c : Key) (e : Event) →
-    made_of nodes c ≡ Some e →
-    slice_get h c.number ≡ Some e
+    made_of nodes c ≡ Some e → slice_get h c.number ≡ Some e
 made_told base h nodes hubs w c e made = search (rules, none-some)
 
 -- what is so of numbers and of their keys together
@@ -70,8 +67,7 @@ IsOrdered-walk base h nodes hubs law w = record { found = w.found; later = later
   reaches : (g : ℕ) (key : Key) → at (is_subscriber_of g) h key.number ≡ true → IsSome (find nodes key) → ReachesFrom nodes (suc g) key
   reaches g key is there c k ends made =
       let order = hubs_in_order law g key.number c.number is (way_within_connection nodes hubs w c (suc most_visits) key there ends)
-      (made_told base h nodes hubs w c (Connect k) made) in
-      omega (arith, order)
+      (made_told base h nodes hubs w c (Connect k) made) in omega (arith, order)
 
   later : (g : ℕ) (hub : Hub) → find_hub hubs g ≡ Some hub → AllByRecursion (ReachesFrom nodes (suc g)) hub.subscribers
   later g hub at_g =

@@ -1,10 +1,8 @@
 -- Marks that are set on the way change nothing of it.
-use Rattle.rx_hub.proofs.Common.{◌≡◌, ◌≢◌, ℕ, zero, suc, ◌++◌, List, [], ◌∷◌, Option, Some, None, IsSome, IfSome, option_map, refl, sym, ap, ◌∙◌}
-use Rattle.rx_hub.proofs.Common.{inl, inr, ◌⊎◌, AllByRecursion, filter_map, option_and_then}
-use Rattle.rx_hub.proofs.Common.{Event, Marks, most_visits, first_some, Key, Slots, find, Node, Rewrites}
-use Rattle.rx_hub.proofs.Common.{with_marks, cases_key, made_of, above_of, if_merging, stop_made, stop_of, way, Hub}
-use Rattle.rx_hub.proofs.Common.{way_within, end_of, onward_over, visited_over, arrival, arrival_at, Route}
-use Rattle.rx_hub.proofs.Common.{stops_left, ReachesFrom, IsOrdered, IsUnderWay}
+use Rattle.rx_hub.proofs.Common.{◌≡◌, ◌≢◌, ℕ, zero, suc, ◌++◌, List, [], ◌∷◌, Option, Some, None, IsSome, IfSome, option_map, refl, sym, ap, ◌∙◌, inl, inr, ◌⊎◌}
+use Rattle.rx_hub.proofs.Common.{AllByRecursion, filter_map, option_and_then, Event, Marks, most_visits, first_some, Key, Slots, find, Node, Rewrites}
+use Rattle.rx_hub.proofs.Common.{with_marks, cases_key, made_of, above_of, if_merging, stop_made, stop_of, way, Hub, way_within, end_of, onward_over}
+use Rattle.rx_hub.proofs.Common.{visited_over, arrival, arrival_at, Route, stops_left, ReachesFrom, IsOrdered, IsUnderWay}
 use Rattle.std.proofs.Common.{rules}
 
 -- two trees of the same nodes -------------------------------------------------------------------------
@@ -37,8 +35,7 @@ module _ (old new : Slots Node) (alike : AreAlike old new) where
   visited_same : (hubs : List Hub) (left : ℕ) (keys : List Key) → visited_over left new hubs keys ≡ visited_over left old hubs keys
   visited_same hubs zero keys = refl
   visited_same hubs (suc left) [] = refl
-  visited_same hubs (suc left) (key ∷ keys) =
-      search (rules, onward_same, visited_same hubs left (onward_over old hubs key ++ keys))
+  visited_same hubs (suc left) (key ∷ keys) = search (rules, onward_same, visited_same hubs left (onward_over old hubs key ++ keys))
 
   arrivals_same : (keys : List Key) → filter_map (arrival_at new) keys ≡ filter_map (arrival_at old) keys
   arrivals_same keys = λ i. filter_map (λ (key : Key). option_and_then arrival (stop_same key i)) keys
@@ -49,8 +46,7 @@ module _ (old new : Slots Node) (alike : AreAlike old new) where
 
   way_same : (left : ℕ) (key : Key) → way_within left new key ≡ way_within left old key
   way_same zero key = refl
-  way_same (suc left) key =
-      search (rules, stop_same, way_same left)
+  way_same (suc left) key = search (rules, stop_same, way_same left)
 
   end_same : (key : Key) → end_of new (way new key) ≡ end_of old (way old key)
   end_same key = ap (end_of new) (way_same (suc most_visits) key) ∙ (λ i. first_some (λ (k : Key). stop_same k i) (way old key))

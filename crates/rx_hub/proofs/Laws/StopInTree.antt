@@ -1,7 +1,6 @@
 -- An item whose way ends in its own tree arrives there alone.
-use Rattle.rx_hub.proofs.Common.{◌≡◌, ℕ, zero, suc, ◌-◌, ◌≤◌, List, [], ◌∷◌, length, Some, arith, filter_map, append-nil}
-use Rattle.rx_hub.proofs.Common.{option_and_then, option_to_list, none-some, Key, Slots, Node, Stop}
-use Rattle.rx_hub.proofs.Common.{way_within, way, end_of, Hub, beyond, visited_over, climb_over, arrival, stops_over}
+use Rattle.rx_hub.proofs.Common.{◌≡◌, ℕ, zero, suc, ◌-◌, ◌≤◌, List, [], ◌∷◌, length, Some, arith, filter_map, append-nil, option_and_then, option_to_list}
+use Rattle.rx_hub.proofs.Common.{none-some, Key, Slots, Node, Stop, way_within, way, end_of, Hub, beyond, visited_over, climb_over, arrival, stops_over}
 use Rattle.rx_hub.proofs.RouteWays.{visited_way, stops_way}
 use Rattle.std.proofs.Common.{rules}
 
@@ -20,11 +19,9 @@ module _ (nodes : Slots Node) (hubs : List Hub) where
   -- it visits the nodes of its way
   pub climb_over-arrived : (key : Key) (stop : Stop) → end_of nodes (way nodes key) ≡ Some stop → arrival stop ≡ Some stop →
       climb_over nodes hubs key ≡ way nodes key
-  climb_over-arrived key stop ends arrives =
-      search (rules, visited_way, way_within-le, none_beyond, visited_none, append-nil)
+  climb_over-arrived key stop ends arrives = search (rules, visited_way, way_within-le, none_beyond, visited_none, append-nil)
 
   -- and stops at its end
   pub stops_over-arrived : (key : Key) (stop : Stop) → end_of nodes (way nodes key) ≡ Some stop → arrival stop ≡ Some stop →
       stops_over nodes hubs key ≡ stop ∷ []
-  stops_over-arrived key stop ends arrives =
-      grind (arith, filter_map, climb_over-arrived, stops_way, option_to_list, option_and_then)
+  stops_over-arrived key stop ends arrives = grind (arith, filter_map, climb_over-arrived, stops_way, option_to_list, option_and_then)

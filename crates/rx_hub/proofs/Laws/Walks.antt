@@ -34,8 +34,7 @@ hub_at hubs i n stands = search (rules, none-some, same_Some)
 -- where there is one of the number, one is found
 some_hub : (hubs : List Hub) (n i : ℕ) (hub : Hub) → slice_get hubs i ≡ Some hub → hub.number ≡ n → find_hub hubs n ≡ None → ⊥
 some_hub [] n i hub got named none = none-some hub got
-some_hub (x ∷ hubs) n zero hub got named none =
-    search (rules, same_Some, nat_tests, none-some)
+some_hub (x ∷ hubs) n zero hub got named none = search (rules, same_Some, nat_tests, none-some)
 some_hub (x ∷ hubs) n (suc i) hub got named none = some_hub hubs n i hub got named (of (x.number == n) none) where
   of : (b : Bool) → cond b (Some x) (find_hub hubs n) ≡ None → find_hub hubs n ≡ None
   of true e = absurd (none-some x (sym e))
@@ -57,9 +56,7 @@ subscribers_told base h nodes hubs w g = of (find_hub hubs g) refl where
 
   of : (o : Option Hub) → find_hub hubs g ≡ o → numbers (option_map_or (λ (hub : Hub). hub.subscribers) o []) ≡ open_subscribers h g
   of None found = none_open found (open_subscribers h g) refl
-  of (Some hub) found =
-      let r = found_hub hubs g hub found in
-      (w.published.each r.0 hub r.1.0).subscribers ∙ ap (open_subscribers h) r.1.1
+  of (Some hub) found = let r = found_hub hubs g hub found in (w.published.each r.0 hub r.1.0).subscribers ∙ ap (open_subscribers h) r.1.1
 
 subscribers_found : (base : Kept) → (h : List Event) (nodes : Slots Node) (hubs : List Hub) → IsWalk base h nodes hubs → (g : ℕ) →
     AreFound nodes (subscribers_of hubs (Some (Connect g)))
@@ -95,9 +92,7 @@ onward_told base h nodes hubs w key there = by_stop (stop_of nodes key) refl whe
 
   by_stop : (s : Option Stop) → stop_of nodes key ≡ s → IsOnward h nodes key (onward_by nodes hubs key s)
   by_stop None free = record {
-    goes =
-        onward_seen base h nodes (told base w) key own.0 own.1 free ∙
-        numbers_option own.0.above ∙
+    goes = onward_seen base h nodes (told base w) key own.0 own.1 free ∙ numbers_option own.0.above ∙
         ap (λ (o : Option Key). numbers (option_to_list o)) (sym (ap (option_and_then (λ (n : Node). n.above)) own.1));
     found = to_parent (above_of nodes key) refl;
   }
@@ -123,20 +118,17 @@ numbers_both [] ys = refl
 numbers_both (x ∷ xs) ys = ap (λ (ns : List ℕ). x.number ∷ ns) (numbers_both xs ys)
 
 visited_told : (base : Kept) → (h : List Event) (nodes : Slots Node) (hubs : List Hub) → IsWalk base h nodes hubs → (left : ℕ) (keys : List Key) →
-    AreFound nodes keys →
-    visited left h (numbers keys) ≡ numbers (visited_over left nodes hubs keys)
+    AreFound nodes keys → visited left h (numbers keys) ≡ numbers (visited_over left nodes hubs keys)
 visited_told base h nodes hubs w zero keys found = refl
 visited_told base h nodes hubs w (suc left) [] found = refl
 visited_told base h nodes hubs w (suc left) (key ∷ keys) found =
     let on = onward_told base h nodes hubs w key found.0 in
-    ap (λ (ns : List ℕ). key.number ∷ visited left h ns)
-    (search (rules, numbers_both)) ∙
+    ap (λ (ns : List ℕ). key.number ∷ visited left h ns) (search (rules, numbers_both)) ∙
     ap (λ (ns : List ℕ). key.number ∷ ns) (visited_told base h nodes hubs w left (onward_over nodes hubs key ++ keys)
     (AllByRecursion-both (λ k. IsSome (find nodes k)) (onward_over nodes hubs key) keys on.found found.1))
 
 visited_found : (base : Kept) → (h : List Event) (nodes : Slots Node) (hubs : List Hub) → IsWalk base h nodes hubs → (left : ℕ) (keys : List Key) →
-    AreFound nodes keys →
-    AreFound nodes (visited_over left nodes hubs keys)
+    AreFound nodes keys → AreFound nodes (visited_over left nodes hubs keys)
 visited_found base h nodes hubs w zero keys found = tt
 visited_found base h nodes hubs w (suc left) [] found = tt
 visited_found base h nodes hubs w (suc left) (key ∷ keys) found =
@@ -170,8 +162,7 @@ climbs_told base h nodes hubs key w found = visited_told base h nodes hubs w (su
 pub all_stops_told : (base : Kept) → (h : List Event) (nodes : Slots Node) (hubs : List Hub) (key : Key) → IsWalk base h nodes hubs → IsSome (find nodes key) →
     stops h key.number ≡ filter_map numbered (stops_over nodes hubs key)
 unfolding stops
-all_stops_told base h nodes hubs key w found =
-    ap (filter_map (stop_at h)) (climbs_told base h nodes hubs key w found) ∙
+all_stops_told base h nodes hubs key w found = ap (filter_map (stop_at h)) (climbs_told base h nodes hubs key w found) ∙
     stops_told base h nodes (told base w) (climb_over nodes hubs key) (visited_found base h nodes hubs w (suc most_visits) (key ∷ []) (found, tt))
 
 length_numbers : (keys : List Key) → length (numbers keys) ≡ length keys

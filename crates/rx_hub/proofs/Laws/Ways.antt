@@ -1,12 +1,11 @@
 -- The way of an item inside one tree is its climb in every history whose records the tree has.
 use Rattle.rx_hub.proofs.Common.{◌≡◌, ℕ, zero, suc, ◌-◌, Bool, true, false, List, [], ◌∷◌, ◌++◌, length, Option, Some, None, IsSome, IfSome, is_some, refl}
 use Rattle.rx_hub.proofs.Common.{option_map, slice_get, sym, ap, ◌∙◌, arith, append-nil, if◌then◌else◌, filter_map, option_and_then, option_map_or, option_or}
-use Rattle.rx_hub.proofs.Common.{option_to_list, false≢true, filter_map-append, same_Some, none-some, Kept, Event, at}
-use Rattle.rx_hub.proofs.Common.{Connect, is_merging, parent_named, hub_connected, parent, if_less, open_subscribers, most_visits, Key, Slots, find, Node}
-use Rattle.rx_hub.proofs.Common.{IsSound, named_above, some_of, named_parent, Stop, Delivery, Projection, Firing, Connection, made_of, above_of}
-use Rattle.rx_hub.proofs.Common.{stop_made, stop_of, onward_of, way_within, way, end_of, AreRecordsOf, numbers, numbered}
-use Rattle.rx_event.specs.Climb.{Stop as NumberedStop, stop_made as stop_made_in, stop_at, onward, visited}
-use Rattle.rx_event.specs.Climb.{onward_from, onward_unless, climb, stops}
+use Rattle.rx_hub.proofs.Common.{option_to_list, false≢true, filter_map-append, same_Some, none-some, Kept, Event, at, Connect, is_merging, parent_named}
+use Rattle.rx_hub.proofs.Common.{hub_connected, parent, if_less, open_subscribers, most_visits, Key, Slots, find, Node, IsSound, named_above, some_of}
+use Rattle.rx_hub.proofs.Common.{named_parent, Stop, Delivery, Projection, Firing, Connection, made_of, above_of, stop_made, stop_of, onward_of, way_within}
+use Rattle.rx_hub.proofs.Common.{way, end_of, AreRecordsOf, numbers, numbered}
+use Rattle.rx_event.specs.Climb.{Stop as NumberedStop, stop_made as stop_made_in, stop_at, onward, visited, onward_from, onward_unless, climb, stops}
 use Rattle.rx_hub.specs.TreeClaims.{IsWay}
 use Rattle.std.proofs.Common.{rules}
 
@@ -31,18 +30,15 @@ stop_told : {base : Kept} → (h : List Event) (nodes : Slots Node) → IsTold b
 stop_told h nodes t key above x5 named there = search (rules, none-some, same_Some, merging_told)
 
 -- of a node that is found
-pub stop_of-found : (nodes : Slots Node) (key : Key) (node : Node) → find nodes key ≡ Some node →
-    stop_of nodes key ≡ stop_made nodes key node.above node.made
-stop_of-found nodes key node found =
-    search rules
+pub stop_of-found : (nodes : Slots Node) (key : Key) (node : Node) → find nodes key ≡ Some node → stop_of nodes key ≡ stop_made nodes key node.above node.made
+stop_of-found nodes key node found = search rules
 
 pub stop_seen : (base : Kept) → (h : List Event) (nodes : Slots Node) → IsTold base h nodes → (key : Key) (node : Node) → find nodes key ≡ Some node →
     stop_at h key.number ≡ option_and_then numbered (stop_of nodes key)
 stop_seen base h nodes t key node found =
     let placed = t.sound.placed key node found in
     ap (option_and_then (stop_made_in h key.number)) (t.records.each key node found).made ∙
-    stop_told h nodes t key node.above node.made placed.named placed.there ∙
-    sym (ap (option_and_then numbered) (stop_of-found nodes key node found))
+    stop_told h nodes t key node.above node.made placed.named placed.there ∙ sym (ap (option_and_then numbered) (stop_of-found nodes key node found))
 
 -- the parent of a node is that above its record
 parent_seen : (base : Kept) → (h : List Event) (nodes : Slots Node) → IsTold base h nodes → (key : Key) (node : Node) → find nodes key ≡ Some node →
@@ -81,16 +77,14 @@ goes_to_parent h nodes key above x4 n free = search (rules, none-some)
 
 -- where a climb goes on, by the stop
 pub onward_at : {base : Kept} → (h : List Event) (nodes : Slots Node) → IsTold base h nodes → (key : Key) (node : Node) → find nodes key ≡ Some node →
-    (s : Option Stop) →
-    stop_of nodes key ≡ s →
+    (s : Option Stop) → stop_of nodes key ≡ s →
     onward h key.number ≡ onward_unless (option_and_then numbered s) (option_map_or (onward_from h key.number) (slice_get h key.number) [])
 onward_at {base} h nodes t key node found s stop =
     ap (λ (x : Option NumberedStop). onward_unless x (option_map_or (onward_from h key.number) (slice_get h key.number) []))
     (stop_seen base h nodes t key node found ∙ ap (option_and_then numbered) stop)
 
 pub onward_seen : (base : Kept) → (h : List Event) (nodes : Slots Node) → IsTold base h nodes → (key : Key) (node : Node) → find nodes key ≡ Some node →
-    stop_of nodes key ≡ None →
-    onward h key.number ≡ option_to_list (option_map (λ k. k.number) node.above)
+    stop_of nodes key ≡ None → onward h key.number ≡ option_to_list (option_map (λ k. k.number) node.above)
 onward_seen base h nodes t key node found free =
     let stop : stop_made nodes key node.above node.made ≡ None = sym (stop_of-found nodes key node found) ∙ free in
     onward_at h nodes t key node found None free ∙
@@ -115,14 +109,12 @@ above_found nodes key up sound above = by_node (find nodes key) refl above where
 
 onward_up : {base : Kept} → {h : List Event} (nodes : Slots Node) → IsTold base h nodes → (key : Key) (node : Node) (up : Key) → find nodes key ≡ Some node →
     stop_of nodes key ≡ None → above_of nodes key ≡ Some up → onward h key.number ≡ up.number ∷ []
-onward_up {base} {h} nodes t key node up found free above =
-    onward_seen base h nodes t key node found free ∙
+onward_up {base} {h} nodes t key node up found free above = onward_seen base h nodes t key node found free ∙
     ap (λ (o : Option Key). option_to_list (option_map (λ k. k.number) o)) (sym (above_seen nodes key node found) ∙ above)
 
 -- from the end of a way
 onward_ended : {base : Kept} → {h : List Event} (nodes : Slots Node) → IsTold base h nodes → (key : Key) (node : Node) → find nodes key ≡ Some node →
-    (s : Option Stop) →
-    stop_of nodes key ≡ s → onward_of nodes key ≡ None → onward h key.number ≡ beyond h nodes s
+    (s : Option Stop) → stop_of nodes key ≡ s → onward_of nodes key ≡ None → onward h key.number ≡ beyond h nodes s
 onward_ended {base} {h} nodes t key node found None free ended =
     let top : node.above ≡ None = sym (above_seen nodes key node found) ∙ sym (ap (λ (s : Option Stop). if is_some s then None else above_of nodes key) free) ∙
     ended in
@@ -167,8 +159,7 @@ visited_way base h nodes t (suc left) key there = by_onward (onward_of nodes key
   goal : List Key → Type 0
   goal keys = visited (suc left) h (key.number ∷ []) ≡ numbers keys ++ after h nodes (suc left) keys
 
-  by_onward : (o : Option Key) → onward_of nodes key ≡ o →
-      ((up : Key) → IsSome (find nodes up) →
+  by_onward : (o : Option Key) → onward_of nodes key ≡ o → ((up : Key) → IsSome (find nodes up) →
       visited left h (up.number ∷ []) ≡ numbers (way_within left nodes up) ++ after h nodes left (way_within left nodes up)) →
       goal (key ∷ option_map_or (way_within left nodes) o [])
   by_onward None ended rest =
@@ -204,8 +195,7 @@ stops_way base h nodes t (suc left) key there =
     one None stop = rw stop refl
     one (Some x) stop = rw stop refl
 
-    by_stop : (s : Option Stop) → stop_of nodes key ≡ s → (o : Option Key) → onward_of nodes key ≡ o →
-        ((up : Key) → IsSome (find nodes up) →
+    by_stop : (s : Option Stop) → stop_of nodes key ≡ s → (o : Option Key) → onward_of nodes key ≡ o → ((up : Key) → IsSome (find nodes up) →
         filter_map (stop_at h) (numbers (way_within left nodes up)) ≡ option_to_list (option_and_then numbered (end_of nodes (way_within left nodes up)))) →
         goal (stop_of nodes key) (option_map_or (way_within left nodes) o [])
     by_stop s stop None ended rest = one (option_and_then numbered (stop_of nodes key)) (here (stop_of nodes key) refl) ∙
@@ -230,8 +220,7 @@ nothing_beyond h nodes x2 none = search rules
 -- where it reaches no connection, it is the climb
 pub climb_whole_way : (base : Kept) → (h : List Event) (nodes : Slots Node) (key : Key) → IsWay base h nodes key →
     ((c : Key) → ¬ (end_of nodes (way nodes key) ≡ Some (Connection c))) → climb h key.number ≡ numbers (way nodes key)
-climb_whole_way base h nodes key w none =
-    search (rules, climb_way, nothing_beyond, visited_nothing, append-nil)
+climb_whole_way base h nodes key w none = search (rules, climb_way, nothing_beyond, visited_nothing, append-nil)
 
 -- and its stop the only one
 pub stops_whole_way : (base : Kept) → (h : List Event) (nodes : Slots Node) (key : Key) → IsWay base h nodes key →
@@ -247,16 +236,13 @@ beyond_hub h nodes s c g stop made = search rules
 
 -- from a connection the climb goes on to the open subscribers of its hub
 pub climb_connected_way : {base : Kept} → (h : List Event) (nodes : Slots Node) (key c : Key) (g : ℕ) → IsWay base h nodes key →
-    end_of nodes (way nodes key) ≡ Some (Connection c) →
-    made_of nodes c ≡ Some (Connect g) →
+    end_of nodes (way nodes key) ≡ Some (Connection c) → made_of nodes c ≡ Some (Connect g) →
     climb h key.number ≡ numbers (way nodes key) ++ visited (suc most_visits - length (way nodes key)) h (open_subscribers h g)
-climb_connected_way {base} h nodes key c g w stop made =
-    search (rules, climb_way, beyond_hub)
+climb_connected_way {base} h nodes key c g w stop made = search (rules, climb_way, beyond_hub)
 
 -- and so do the stops
 pub stops_connected_way : {base : Kept} → (h : List Event) (nodes : Slots Node) (key c : Key) (g : ℕ) → IsWay base h nodes key →
-    end_of nodes (way nodes key) ≡ Some (Connection c) →
-    made_of nodes c ≡ Some (Connect g) →
+    end_of nodes (way nodes key) ≡ Some (Connection c) → made_of nodes c ≡ Some (Connect g) →
     stops h key.number ≡ filter_map (stop_at h) (visited (suc most_visits - length (way nodes key)) h (open_subscribers h g))
 unfolding stops
 stops_connected_way {base} h nodes key c g w stop made =

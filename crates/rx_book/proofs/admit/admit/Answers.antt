@@ -10,16 +10,13 @@ pub returns-in-Some-clause-err : goal.returns-in-Some-clause-err
 returns-in-Some-clause-err g c stand first = refused_for stand (is_some c.args.cost) (first ∙ c.in-Some.is)
 
 pub returns-in_err-get_room-clause-err : goal.returns-in_err-get_room-clause-err
-returns-in_err-get_room-clause-err g c stand first =
-    search (rules, refused_with)
+returns-in_err-get_room-clause-err g c stand first = search (rules, refused_with)
 
 pub returns-in_err-get_room-clause-same : goal.returns-in_err-get_room-clause-same
-returns-in_err-get_room-clause-same g c =
-    search (rules, on_refusal, state_roomier)
+returns-in_err-get_room-clause-same g c = search (rules, on_refusal, state_roomier)
 
 pub returns-clause-standing : goal.returns-clause-standing
 returns-clause-standing g c = search (rules, standing_begun)
 
 pub returns-clause-ok : goal.returns-clause-ok
-returns-clause-ok g c =
-    search (rules, admits)
+returns-clause-ok g c = search (rules, admits)

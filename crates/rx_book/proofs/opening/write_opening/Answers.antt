@@ -5,16 +5,14 @@ use Rattle.rx_book.proofs.opening.write_opening.Goals as goal
 use Rattle.std.proofs.Common.{rules}
 
 pub write_open-key-requires-clause-ready : goal.write_open-key-requires-clause-ready
-write_open-key-requires-clause-ready g c κs within =
-    search (rules, opening_ready)
+write_open-key-requires-clause-ready g c κs within = search (rules, opening_ready)
 
 pub write_open-key-requires-clause-placed : goal.write_open-key-requires-clause-placed
 write_open-key-requires-clause-placed g c κs within = rw (c.spot_of-spot.ensures.place, c.spot_of-spot.ensures.above) (opening_placed g.R.Resource _ _
     _ c.requires.admitted)
 
 pub write_open-key-requires-clause-space : goal.write_open-key-requires-clause-space
-write_open-key-requires-clause-space g c κs within =
-    search (rules, opening_space)
+write_open-key-requires-clause-space g c κs within = search (rules, opening_space)
 
 pub settle-requires-clause-paid : goal.settle-requires-clause-paid
 settle-requires-clause-paid g c κs within = let w = rw c.spot_of-spot.ensures.place at c.write_open-key.ensures.written in pays g.R.Resource _ _
@@ -25,13 +23,11 @@ settle-requires-clause-room g c κs within =
     let o = c.write_open-key.ensures in
     let a = c.requires.admitted in
     let next = (opening_ready g.R.Resource c.args.ground.now c.args.at c.args.kind a).next in
-    opening_room a.let_in.may.lawful a.let_in.may.settled next
-    (rw c.spot_of-spot.ensures.place at o.written) a.room.nodes a.room.space o.left o.memory
+    opening_room a.let_in.may.lawful a.let_in.may.settled next (rw c.spot_of-spot.ensures.place at o.written) a.room.nodes a.room.space o.left o.memory
     a.let_in.begun
 
 pub returns-clause-accepted : goal.returns-clause-accepted
-returns-clause-accepted g c =
-    search (rules, opening_accepted, settles_to)
+returns-clause-accepted g c = search (rules, opening_accepted, settles_to)
 
 pub returns-clause-opened : goal.returns-clause-opened
 returns-clause-opened g c = let R = g.R.Resource in let b = c.args.ground.now in let mid = c.write_open-key.new.self in let new = c.settle.new.self in

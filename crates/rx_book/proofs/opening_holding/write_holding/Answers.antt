@@ -4,12 +4,10 @@ use Rattle.rx_book.proofs.opening_holding.write_holding.Goals as goal
 use Rattle.std.proofs.Common.{rules}
 
 pub write_accept-res-requires-clause-ready : goal.write_accept-res-requires-clause-ready
-write_accept-res-requires-clause-ready g c κs within =
-    search (rules, holding_ready)
+write_accept-res-requires-clause-ready g c κs within = search (rules, holding_ready)
 
 pub write_accept-res-requires-clause-open : goal.write_accept-res-requires-clause-open
-write_accept-res-requires-clause-open g c κs within =
-    search (rules, holding_there)
+write_accept-res-requires-clause-open g c κs within = search (rules, holding_there)
 
 pub write_accept-res-requires-clause-live : goal.write_accept-res-requires-clause-live
 write_accept-res-requires-clause-live g c κs within = live_fresh g.R.Resource c.args.resource c.requires.fresh
@@ -18,8 +16,7 @@ pub write_accept-res-requires-clause-unused : goal.write_accept-res-requires-cla
 write_accept-res-requires-clause-unused g c κs within = unused_fresh g.R.Resource c.args.resource c.requires.fresh
 
 pub returns-clause-standing : goal.returns-clause-standing
-returns-clause-standing g c =
-    search (rules, holding_standing)
+returns-clause-standing g c = search (rules, holding_standing)
 
 pub returns-clause-accepted : goal.returns-clause-accepted
 returns-clause-accepted g c =
@@ -29,12 +26,10 @@ returns-clause-accepted g c =
     c.write_accept-res.new.self (rw c.tree_key.ensures at a.written) a.tied a.leased a.nodes a.kept a.leases
 
 pub returns-clause-closed : goal.returns-clause-closed
-returns-clause-closed g c =
-    search (rules, holding_gathers)
+returns-clause-closed g c = search (rules, holding_gathers)
 
 pub returns-clause-history : goal.returns-clause-history
 returns-clause-history g c = let w = rw c.tree_key.ensures at c.write_accept-res.ensures.written in w.history
 
 pub returns-clause-res : goal.returns-clause-res
-returns-clause-res g c =
-    search (rules, held_key)
+returns-clause-res g c = search (rules, held_key)

@@ -7,19 +7,14 @@ pub loop-stop-init : goal.loop-stop-init
 loop-stop-init g c = measuring_starts _ _ _ _ _ (c.start.ensures.under_way _ _ c.requires.open c.requires.room) (ap (λ (r : Route). r.room)
     c.start.ensures.started) (c.start.ensures.visits _ _) (c.start.ensures.stops _ _)
 
-pub returns-then-visits-gt-MOST_VISITS-clause-visits :
-    goal.returns-then-visits-gt-MOST_VISITS-clause-visits
-returns-then-visits-gt-MOST_VISITS-clause-visits g c =
-    search (rules, measuring_ends, visits_past)
+pub returns-then-visits-gt-MOST_VISITS-clause-visits : goal.returns-then-visits-gt-MOST_VISITS-clause-visits
+returns-then-visits-gt-MOST_VISITS-clause-visits g c = search (rules, measuring_ends, visits_past)
 
 pub returns-clause-visits : goal.returns-clause-visits
-returns-clause-visits g c =
-    search (rules, measuring_ends, visits_within)
+returns-clause-visits g c = search (rules, measuring_ends, visits_within)
 
 pub loop-stop-preserved : goal.loop-stop-preserved
-loop-stop-preserved g c =
-    search (rules, measuring_on)
+loop-stop-preserved g c = search (rules, measuring_on)
 
 pub returns-clause-only : goal.returns-clause-only
-returns-clause-only g c =
-    search (rules, measuring_only)
+returns-clause-only g c = search (rules, measuring_only)

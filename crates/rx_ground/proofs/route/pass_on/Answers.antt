@@ -18,13 +18,11 @@ tell_at-requires g c =
     }
 
 pub loop-stop-smaller : goal.loop-stop-smaller
-loop-stop-smaller g c =
-    going_fewer c.args.register.now c.args.tree.now c.args.hubs.now.hubs c.args.route.now.room c.args.leaf _ c.loop-stop.register
+loop-stop-smaller g c = going_fewer c.args.register.now c.args.tree.now c.args.hubs.now.hubs c.args.route.now.room c.args.leaf _ c.loop-stop.register
     c.loop-stop.tree c.mark_at.new.tree c.loop-stop.route c.next.new.self c.in-Some.stop c.loop-stop.invariant c.in-Some.ensures c.mark_at.ensures
 
 pub loop-stop-preserved : goal.loop-stop-preserved
-loop-stop-preserved g c =
-    going_on c.args.register.now c.args.tree.now c.args.hubs.now.hubs c.args.route.now.room c.args.leaf _ c.loop-stop.register
+loop-stop-preserved g c = going_on c.args.register.now c.args.tree.now c.args.hubs.now.hubs c.args.route.now.room c.args.leaf _ c.loop-stop.register
     c.loop-stop.tree c.mark_at.new.tree c.loop-stop.route c.next.new.self c.in-Some.stop c.loop-stop.invariant c.in-Some.ensures c.mark_at.ensures
     c.tell_at.new.register c.tell_at.ensures.same c.tell_at.ensures.told c.tell_at.ensures.mail_room
 

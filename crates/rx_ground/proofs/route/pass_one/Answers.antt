@@ -11,8 +11,7 @@ tell_at-requires g c = record {
 }
 
 pub mark_at-requires-clause-there : goal.mark_at-requires-clause-there
-mark_at-requires-clause-there g c κs within =
-    search (rules, one_there)
+mark_at-requires-clause-there g c κs within = search (rules, one_there)
 
 pub returns : goal.returns
 returns g c =

@@ -16,8 +16,7 @@ returns-clause-goes_on c =
     c.next_subscriber.ensures in
     let goes_to : List Frame → Type 0 = λ fs. GoesOn c.args.hubs.now.hubs old fs (Some c.args.frame) (Some c.args.frame.key) in
     elim c.match-next_subscriber.branch [
-      | in-Some w ↦ subst goes_to
-          (ap (λ (o : Option Key). next_frame c.args.frame o old) w.in-Some.is ∙
+      | in-Some w ↦ subst goes_to (ap (λ (o : Option Key). next_frame c.args.frame o old) w.in-Some.is ∙
           sym (ap (λ v. reverse v.items) w.frames-is ∙ ap reverse w.push_reserved.ensures.items ∙ reverse-append c.args.frames.now.items _)) on
       | in_default w ↦ subst goes_to (sym (ap (λ v. reverse v.items) w.frames-is))
           (turned c.promise.ensures old c.args.frame None c.requires.frame c.requires.behind c.requires.frames w.in_default.ensures)

@@ -11,12 +11,10 @@ use Rattle.rx_book.proofs.book.Book.answer.Goals.{In_ok-admit}
 use Rattle.std.proofs.Common.{rules}
 
 pub admit-requires-clause-within : goal.admit-requires-clause-within
-admit-requires-clause-within g c κs within none =
-    search (rules, fixed_within)
+admit-requires-clause-within g c κs within none = search (rules, fixed_within)
 
 pub returns-in_err-admit : goal.returns-in_err-admit
-returns-in_err-admit g c =
-    search (rules, fixed_takes, passed_refusal)
+returns-in_err-admit g c = search (rules, fixed_takes, passed_refusal)
 
 called : (g : given.Over) (c : In_ok-admit g) → (let b = c.admit.new.ground in IsAdmitted g.R.Resource b (request_of (state_of g.R.Resource b) c.args.call))
 called g c =

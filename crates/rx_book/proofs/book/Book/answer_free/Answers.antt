@@ -12,8 +12,7 @@ use Rattle.rx_book.proofs.book.Book.answer_free.Goals.{In_ok-admit}
 use Rattle.std.proofs.Common.{rules}
 
 pub returns-in_err-admit : goal.returns-in_err-admit
-returns-in_err-admit g c =
-    search (rules, passed_refusal)
+returns-in_err-admit g c = search (rules, passed_refusal)
 
 called : (g : given.Over) (c : In_ok-admit g) → (let b = c.admit.new.ground in IsLetIn g.R.Resource b (request_of (state_of g.R.Resource b) c.args.call))
 called g c = free_let_in c.args.call (sym c.cause_free-cause.ensures) c.requires c.in_ok-admit.ensures.ok

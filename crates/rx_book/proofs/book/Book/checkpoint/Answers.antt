@@ -4,5 +4,4 @@ use Rattle.rx_book.proofs.book.Book.checkpoint.Goals.{in-Ok, in-Err}
 use Rattle.std.proofs.Common.{rules}
 
 pub returns : goal.returns
-returns g c =
-    search (rules, in-Ok, answers_made, checkpointed, in-Err, answers_refused)
+returns g c = search (rules, in-Ok, answers_made, checkpointed, in-Err, answers_refused)

@@ -7,8 +7,7 @@ use Rattle.std.proofs.Common.{rules}
 
 closed : (g : given.Over) (c : After-promise-3 g) →
     (c.release_waiting-closed.new.self.keys ≡ []) × (c.release_waiting-closed.new.self.held ≡ []) × (c.release_waiting-closed.new.self.lease_keys ≡ [])
-closed g c =
-    search (rules, closed_book, shut_let_go, shut_none_out)
+closed g c = search (rules, closed_book, shut_let_go, shut_none_out)
 
 pub returns-clause-none_open : goal.returns-clause-none_open
 returns-clause-none_open g c = (closed g (goal.at.returns-clause-none_open g c).After-promise-3).0
@@ -20,8 +19,7 @@ pub returns-clause-none_out : goal.returns-clause-none_out
 returns-clause-none_out g c = (closed g (goal.at.returns-clause-none_out g c).After-promise-3).2
 
 pub returns-clause-accepted : goal.returns-clause-accepted
-returns-clause-accepted g c =
-    search (rules, takes_accepted)
+returns-clause-accepted g c = search (rules, takes_accepted)
 
 pub returns-clause-released : goal.returns-clause-released
 returns-clause-released g c =

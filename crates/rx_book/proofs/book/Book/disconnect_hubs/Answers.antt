@@ -5,8 +5,7 @@ use Rattle.rx_book.proofs.book.Book.disconnect_hubs.Goals as goal
 use Rattle.std.proofs.Common.{rules}
 
 pub loop-hub-init : goal.loop-hub-init
-loop-hub-init g c =
-    search (rules, none_let_go)
+loop-hub-init g c = search (rules, none_let_go)
 
 pub loop-hub-smaller : goal.loop-hub-smaller
 loop-hub-smaller g c =
@@ -23,14 +22,10 @@ loop-hub-preserved g c = record {
   given = c.in-Ok.ensures.accepted.given ∙ c.loop-hub.invariant.given;
   roots = λ n found. c.loop-hub.invariant.roots n (roots_older _ c.in-Some.hub c.in-Ok.ensures.accepted.step n found);
   out = λ l found. c.loop-hub.invariant.out l (disconnected_out _ c.in-Some.hub c.in-Ok.ensures.accepted.step l found);
-  accepted =
-      ap (λ (b : Kept). accepted_count b c.disconnect.new.self.history) c.in-Ok.ensures.accepted.base ∙
-      disconnected_accepted _ _ _ _ c.in-Ok.ensures.accepted.step ∙
-      c.loop-hub.invariant.accepted;
-  taken =
-      ap (λ (b : Kept). taken_count b c.disconnect.new.self.history) c.in-Ok.ensures.accepted.base ∙
-      disconnected_taken _ _ _ _ c.in-Ok.ensures.accepted.step ∙
-      c.loop-hub.invariant.taken;
+  accepted = ap (λ (b : Kept). accepted_count b c.disconnect.new.self.history) c.in-Ok.ensures.accepted.base ∙
+      disconnected_accepted _ _ _ _ c.in-Ok.ensures.accepted.step ∙ c.loop-hub.invariant.accepted;
+  taken = ap (λ (b : Kept). taken_count b c.disconnect.new.self.history) c.in-Ok.ensures.accepted.base ∙
+      disconnected_taken _ _ _ _ c.in-Ok.ensures.accepted.step ∙ c.loop-hub.invariant.taken;
 }
 
 pub unreachable-requires : goal.unreachable-requires

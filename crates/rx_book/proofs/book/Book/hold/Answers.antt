@@ -13,8 +13,7 @@ use Rattle.rx_book.proofs.CausesByKey.{first_of_node}
 use Rattle.std.proofs.Common.{rules}
 
 pub admit-requires-clause-within : goal.admit-requires-clause-within
-admit-requires-clause-within g c κs within none =
-    search (rules, first_of_node, within_limit, hold_request)
+admit-requires-clause-within g c κs within none = search (rules, first_of_node, within_limit, hold_request)
 
 pub returns-in-Err : goal.returns-in-Err
 returns-in-Err g c =
@@ -44,16 +43,13 @@ write_accept-res-requires-clause-ready g c κs within =
     rw c.tree_key-2.ensures (one_ready g.R.Resource c.admit.new.ground _ l _ refl)
 
 pub write_accept-res-requires-clause-open : goal.write_accept-res-requires-clause-open
-write_accept-res-requires-clause-open g c κs within =
-    search (rules, called)
+write_accept-res-requires-clause-open g c κs within = search (rules, called)
 
 pub write_accept-res-requires-clause-live : goal.write_accept-res-requires-clause-live
-write_accept-res-requires-clause-live g c κs within =
-    search (rules, called, live_fresh, fresh_asked)
+write_accept-res-requires-clause-live g c κs within = search (rules, called, live_fresh, fresh_asked)
 
 pub write_accept-res-requires-clause-unused : goal.write_accept-res-requires-clause-unused
-write_accept-res-requires-clause-unused g c κs within =
-    search (rules, called, unused_fresh, fresh_asked)
+write_accept-res-requires-clause-unused g c κs within = search (rules, called, unused_fresh, fresh_asked)
 
 pub settle-requires-clause-paid : goal.settle-requires-clause-paid
 settle-requires-clause-paid g c κs within =

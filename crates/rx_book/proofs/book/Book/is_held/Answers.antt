@@ -3,5 +3,4 @@ use Rattle.rx_book.proofs.book.Book.is_held.Goals as goal
 use Rattle.std.proofs.Common.{rules}
 
 pub returns : goal.returns
-returns g c =
-    search (rules, has_res_key_is)
+returns g c = search (rules, has_res_key_is)

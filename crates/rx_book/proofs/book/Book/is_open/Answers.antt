@@ -3,5 +3,4 @@ use Rattle.rx_book.proofs.book.Book.is_open.Goals as goal
 use Rattle.std.proofs.Common.{rules}
 
 pub returns : goal.returns
-returns g c =
-    search (rules, has_key_is)
+returns g c = search (rules, has_key_is)

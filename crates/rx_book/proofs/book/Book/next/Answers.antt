@@ -13,8 +13,7 @@ use Rattle.rx_book.proofs.book.Book.next.Goals.{In_ok-admit}
 use Rattle.std.proofs.Common.{rules}
 
 admitted : (g : given.Over) (c : In_ok-admit g) → Admits g.R.Resource c.self.inside.ground None (Some c.of_item.result) c.admit.new.ground
-admitted g c =
-    search (rules, Admits)
+admitted g c = search (rules, Admits)
 
 called : (g : given.Over) (c : In_ok-admit g) → (let b = c.admit.new.ground in
     IsLetIn g.R.Resource b (next_request (state_of g.R.Resource b) c.args.leaf c.args.value))
@@ -37,8 +36,7 @@ pub admit-requires-clause-standing : goal.admit-requires-clause-standing
 admit-requires-clause-standing g c κs within = subst (IsStanding g.R.Resource) (sym c.in_ok-way.ensures.kept) c.self.invariant
 
 pub admit-requires-clause-within : goal.admit-requires-clause-within
-admit-requires-clause-within g c κs within none =
-    search (rules, to_z-of_z, w64, first_of_node, item_cost, within_limit)
+admit-requires-clause-within g c κs within none = search (rules, to_z-of_z, w64, first_of_node, item_cost, within_limit)
 
 pub returns-in_err-admit : goal.returns-in_err-admit
 returns-in_err-admit g c =
@@ -57,8 +55,7 @@ write_item-requires-clause-ready g c κs within =
     rw (c.tree_key-2.ensures, to_z-of_z w64 c.args.value c.ranges.value) (one_ready g.R.Resource c.admit.new.ground _ l _ refl)
 
 pub write_item-requires-clause-open : goal.write_item-requires-clause-open
-write_item-requires-clause-open g c κs within =
-    search (rules, called)
+write_item-requires-clause-open g c κs within = search (rules, called)
 
 pub write_item-requires-clause-only : goal.write_item-requires-clause-only
 write_item-requires-clause-only g c κs within =

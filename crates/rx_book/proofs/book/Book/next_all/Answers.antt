@@ -28,8 +28,7 @@ returns-in-Err g c =
       emits = subst (λ (s : State). Emits c.args.leaf c.args.self.now (take c.loop-count.count c.args.values.now) s) (sym same) c.loop-count.invariant.emits;
       whole = tt;
       within = c.loop-count-test.true;
-      refused =
-          λ value there. subst (λ (s : State). IsCauseOrWant s (next_request s c.args.leaf value) c.in-Err.why) (sym same)
+      refused = λ value there. subst (λ (s : State). IsCauseOrWant s (next_request s c.args.leaf value) c.in-Err.why) (sym same)
           (subst (λ (x : ℤ). IsCauseOrWant c.loop-count.self (next_request c.loop-count.self c.args.leaf x) c.in-Err.why)
           (same_Some c.item.result value (sym c.item.ensures ∙ there)) refused);
     }

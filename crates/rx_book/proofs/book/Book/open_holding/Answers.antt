@@ -18,8 +18,7 @@ opening_holding_cause-cause-requires-clause-cost g c κs within = c.of_opening_h
 first : (g : given.Over) (c : After-opening_holding_cause-cause g) →
     first_cause (stands_holding (state_of g.R.Resource c.self.inside.ground) c.args.at c.args.kind c.is_fresh-fresh.result)
     ≡ c.opening_holding_cause-cause.result
-first g c =
-    first_stands g.R.Resource c.self.inside.ground c.args.at c.args.kind c.is_fresh-fresh.result _
+first g c = first_stands g.R.Resource c.self.inside.ground c.args.at c.args.kind c.is_fresh-fresh.result _
     (rw (c.spot_of-spot.ensures.place, c.spot_of-spot.ensures.above) at c.opening_holding_cause-cause.ensures)
 
 admitted : (g : given.Over) (c : In_default g) → IsAdmittedHolding g.R.Resource c.admit.new.ground c.args.at c.args.kind c.is_fresh-fresh.result
@@ -43,8 +42,7 @@ returns-in-Err g c =
     rw (← c.self.view_is) (record { ok = tt; no_cause = tt; refused = why; back = refl; kept = a.same })
 
 pub write_opening-opened-requires-clause-admitted : goal.write_opening-opened-requires-clause-admitted
-write_opening-opened-requires-clause-admitted g c κs within =
-    (admitted g (goal.at.write_opening-opened-requires-clause-admitted g c).In_default).opening
+write_opening-opened-requires-clause-admitted g c κs within = (admitted g (goal.at.write_opening-opened-requires-clause-admitted g c).In_default).opening
 
 pub write_opening-opened-requires-clause-found : goal.write_opening-opened-requires-clause-found
 write_opening-opened-requires-clause-found g c κs within = found_admitted c.in_default.ensures.ok c.args.kind c.found-found.ensures
@@ -62,8 +60,7 @@ write_holding-res-requires-clause-events g c κs within =
     c.write_opening-opened.ensures.spare 3 (admitted g (goal.at.write_holding-res-requires-clause-events g c).In_default).events
 
 pub write_holding-res-requires-clause-room : goal.write_holding-res-requires-clause-room
-write_holding-res-requires-clause-room g c κs within =
-    search (rules, admitted)
+write_holding-res-requires-clause-room g c κs within = search (rules, admitted)
 
 pub returns : goal.returns
 returns g c =
@@ -82,8 +79,7 @@ returns g c =
     let gathered = gathers_on further onward (gathers_just o.accepted.closed) t.closed in
     holding_begun (subst (λ (x : State). AnswersOpenedHolding R x c.args.at c.args.kind c.args.resource (state_of R new)
     (Ok (record { opened = c.write_opening-opened.result; res = c.write_holding-res.result })))
-    (begun_at (state_admitted c.in_default.ensures.ok) c.self.view_is)
-    (record {
+    (begun_at (state_admitted c.in_default.ensures.ok) c.self.view_is) (record {
       ok = record {
         middle = state_of R mid;
         opens = o.accepted;

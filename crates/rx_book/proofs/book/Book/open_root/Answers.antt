@@ -3,12 +3,10 @@ use Rattle.rx_book.proofs.book.Book.open_root.Goals as goal
 use Rattle.std.proofs.Common.{rules}
 
 pub returns-in_err-root-clause-least : goal.returns-in_err-root-clause-least
-returns-in_err-root-clause-least g c =
-    search (rules, open_root_none)
+returns-in_err-root-clause-least g c = search (rules, open_root_none)
 
 pub returns-clause-least : goal.returns-clause-least
-returns-clause-least g c =
-    search (rules, open_root_some)
+returns-clause-least g c = search (rules, open_root_some)
 
 pub returns-clause-key : goal.returns-clause-key
 returns-clause-key g c = search (rules, root_listed)

@@ -17,8 +17,7 @@ use Rattle.rx_book.proofs.book.Book.open_using.Goals.{In_default}
 use Rattle.std.proofs.Common.{rules}
 
 pub admit-requires-clause-within : goal.admit-requires-clause-within
-admit-requires-clause-within g c κs within none =
-    search (rules, first_of_place, within_limit, using_request)
+admit-requires-clause-within g c κs within none = search (rules, first_of_place, within_limit, using_request)
 
 pub returns-in-Err : goal.returns-in-Err
 returns-in-Err g c =
@@ -67,8 +66,7 @@ write_open-node-requires-clause-placed g c κs within =
     (placed_at b.register.base g.R.Resource b.register.history b.tree l.standing.tied.of_tree Pass c.args.at there)
 
 pub write_open-node-requires-clause-space : goal.write_open-node-requires-clause-space
-write_open-node-requires-clause-space g c κs within =
-    search (rules, admitted, node_space)
+write_open-node-requires-clause-space g c κs within = search (rules, admitted, node_space)
 
 pub write_open-node-requires-clause-room : goal.write_open-node-requires-clause-room
 write_open-node-requires-clause-room g c κs within = (admitted g (goal.at.write_open-node-requires-clause-room g c).In_default).room.nodes
@@ -84,8 +82,7 @@ write_accept-res-requires-clause-unused g c κs within =
     unused_fresh g.R.Resource c.args.resource (fresh_asked g.R.Resource c.admit.new.ground _ l refl)
 
 pub write_accept-res-requires-clause-ready : goal.write_accept-res-requires-clause-ready
-write_accept-res-requires-clause-ready g c κs within =
-    search (rules, holds)
+write_accept-res-requires-clause-ready g c κs within = search (rules, holds)
 
 pub settle-requires-clause-paid : goal.settle-requires-clause-paid
 settle-requires-clause-paid g c κs within =
@@ -127,11 +124,9 @@ returns g c =
     let both = Writes-append b.register mid.register last.register (e ∷ []) (f ∷ []) w v in
     let quiet = gathers_quiet f (holds g p mid.register w).next refl v a.closed in
     let gathered = gathers_then (e ∷ []) (f ∷ []) w v o.closed quiet in
-    let done =
-    accepts R b _ l last both a.tied.of_tree kept (leases_stay _ _ _ (a.leases ∙ o.leases)) gathered
+    let done = accepts R b _ l last both a.tied.of_tree kept (leases_stay _ _ _ (a.leases ∙ o.leases)) gathered
     (settles_to s.standing s.base s.forced s.nodes s.resources s.limit s.given s.leases s.closed) in
-    let alive =
-    opened_using_stays b.register.base h new.register.history (place_of c.args.at) (R.tag_of c.args.resource) l.may.lawful (opens g p).next
+    let alive = opened_using_stays b.register.base h new.register.history (place_of c.args.at) (R.tag_of c.args.resource) l.may.lawful (opens g p).next
     done.step.forced in
     let found = ap (λ (nodes : Slots Node). is_some (find nodes c.write_open-node.result)) a.nodes ∙ o.new.found in
     let key = key_listed R last new s.nodes (length h) c.write_open-node.result c.shown_key.result c.shown_key.ensures o.new.numbered found alive in

@@ -21,12 +21,10 @@ loop-handed-preserved g c =
       takes = next_taken c.loop-handed.invariant.takes
           (subst (λ (b : Kept). IsStepOf b c.loop-handed.self.history (Taking c.in-Some.handed.0) c.take.new.self.history)
           c.loop-handed.invariant.continues.base c.in-Some.ensures.accepted.step);
-      continues =
-          continues_more c.args.self.now c.loop-handed.self c.take.new.self c.loop-handed.invariant.continues
+      continues = continues_more c.args.self.now c.loop-handed.self c.take.new.self c.loop-handed.invariant.continues
           (accepted_continues c.loop-handed.self c.take.new.self _ c.in-Some.ensures.accepted);
       faults = elim c.if-is_some.branch [ then-is_some w ↦ omega arith | else-is_some w ↦ omega arith ];
     }
 
 pub returns-clause-drains : goal.returns-clause-drains
-returns-clause-drains g c =
-    search (rules, none_waits)
+returns-clause-drains g c = search (rules, none_waits)

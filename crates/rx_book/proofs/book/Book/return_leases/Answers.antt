@@ -4,8 +4,7 @@ use Rattle.rx_book.proofs.book.Book.return_leases.Goals as goal
 use Rattle.std.proofs.Common.{rules}
 
 pub loop-lease-init : goal.loop-lease-init
-loop-lease-init g c =
-    search (rules, none_let_go)
+loop-lease-init g c = search (rules, none_let_go)
 
 pub loop-lease-smaller : goal.loop-lease-smaller
 loop-lease-smaller g c = less_room c.loop-lease.self c.give_back.new.self _ c.in-Ok.ensures.accepted c.promise-in-Ok.ensures (omega arith)
@@ -17,10 +16,8 @@ loop-lease-preserved g c = record {
   base = c.in-Ok.ensures.accepted.base ∙ c.loop-lease.invariant.base;
   limit = c.in-Ok.ensures.accepted.limit ∙ c.loop-lease.invariant.limit;
   given = c.in-Ok.ensures.accepted.given ∙ c.loop-lease.invariant.given;
-  accepted =
-      ap (λ (b : Kept). accepted_count b c.give_back.new.self.history) c.in-Ok.ensures.accepted.base ∙
-      returned_accepted _ _ _ _ c.in-Ok.ensures.accepted.step ∙
-      c.loop-lease.invariant.accepted;
+  accepted = ap (λ (b : Kept). accepted_count b c.give_back.new.self.history) c.in-Ok.ensures.accepted.base ∙
+      returned_accepted _ _ _ _ c.in-Ok.ensures.accepted.step ∙ c.loop-lease.invariant.accepted;
   taken = ap (λ (b : Kept). taken_count b c.give_back.new.self.history) c.in-Ok.ensures.accepted.base ∙ returned_taken _ _ _ _ c.in-Ok.ensures.accepted.step ∙
       c.loop-lease.invariant.taken;
 }

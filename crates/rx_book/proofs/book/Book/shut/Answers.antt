@@ -33,5 +33,4 @@ returns-clause-waiting g c =
     let accepted = c.disconnect_hubs.ensures.accepted ∙ c.dispose_roots.ensures.accepted ∙ c.return_leases.ensures.accepted in
     let taken = c.disconnect_hubs.ensures.taken ∙ c.dispose_roots.ensures.taken ∙ c.return_leases.ensures.taken in
     let before = c.promise.ensures.in_one_place in
-    let after = c.promise-2.ensures.in_one_place in
-    omega arith
+    let after = c.promise-2.ensures.in_one_place in omega arith

@@ -15,18 +15,14 @@ write_take-requires-clause-room g c κs within = λ r waits.
     (standing_begun c.self.invariant) c.promise.ensures.register refl waits refl refl refl) _ refl
 
 -- as where the list of what is closed was begun before
-called : (g : given.Over) (c : In_ok-handed g) →
-    IsLetIn g.R.Resource (record c.self.inside.ground { closed = [] }) (take_request c.in_ok-handed.handed.0)
-called g c =
-    search (rules, listed_waits, let_in_free, standing_begun)
+called : (g : given.Over) (c : In_ok-handed g) → IsLetIn g.R.Resource (record c.self.inside.ground { closed = [] }) (take_request c.in_ok-handed.handed.0)
+called g c = search (rules, listed_waits, let_in_free, standing_begun)
 
 pub settle-requires-clause-tied : goal.settle-requires-clause-tied
-settle-requires-clause-tied g c κs within =
-    search (rules, AreTied)
+settle-requires-clause-tied g c κs within = search (rules, AreTied)
 
 pub settle-requires-clause-leased : goal.settle-requires-clause-leased
-settle-requires-clause-leased g c κs within =
-    search (rules, AreLeased)
+settle-requires-clause-leased g c κs within = search (rules, AreLeased)
 
 pub settle-requires-clause-paid : goal.settle-requires-clause-paid
 settle-requires-clause-paid g c κs within =
@@ -57,18 +53,15 @@ returns g c =
     let rests = settled_on l.may.lawful ready.next l.may.settled refl (λ n. refl) (closes_none_kept h (Take r) refl) refl in
     let settled =
     subst (λ (k : Kept). IsSettled k mid.register.history) (sym t.written.base) (subst (IsSettled b.register.base) (sym t.written.history) rests) in
-    let settles =
-    subst (λ (x : Ground g.row.R.Denot). SettlesTo R x new) c.begin.ensures
+    let settles = subst (λ (x : Ground g.row.R.Denot). SettlesTo R x new) c.begin.ensures
     (settles_to s.standing s.base s.forced s.nodes s.resources s.limit s.given s.leases s.closed) in
     let grown = unforced mid.register.base settles.forced settled ∙ t.written.history in
     let quiet = gathers_quiet {list = []} (Take r) ready.next refl t.written refl in
     rw (← c.self.view_is) (record {
       cases = t.waited.listed;
-      accepted =
-          accepts_begun (accepts R begun _ l begun_mid t.written t.tied.of_tree
+      accepted = accepts_begun (accepts R begun _ l begun_mid t.written t.tied.of_tree
           (keeps_held b.tree mid.tree (length b.register.history) t.nodes t.kept) (leases_stay _ _ _ t.leases) quiet settles);
       kept = tt;
-      fewer =
-          fewer_wait R l.standing.tied.of_tree s.standing.tied.of_tree c.promise.ensures.tree.resources_apart c.promise-2.ensures.tree.resources_apart
+      fewer = fewer_wait R l.standing.tied.of_tree s.standing.tied.of_tree c.promise.ensures.tree.resources_apart c.promise-2.ensures.tree.resources_apart
           l.may.lawful ready.next grown;
     })

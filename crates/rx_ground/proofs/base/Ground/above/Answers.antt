@@ -4,5 +4,4 @@ use Rattle.rx_ground.proofs.base.Ground.above.Goals as goal
 use Rattle.std.proofs.Common.{rules}
 
 pub returns-clause-number : goal.returns-clause-number
-returns-clause-number g c =
-    search (rules, is_some, find, parent_told)
+returns-clause-number g c = search (rules, is_some, find, parent_told)

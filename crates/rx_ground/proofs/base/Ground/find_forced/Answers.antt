@@ -23,8 +23,7 @@ returns-in_err-node-clause-tied g c = let base = c.self.inside.register.base in 
     c.next_due.ensures.kept c.next_due.ensures.chained
 
 pub returns-in_err-node-clause-next : goal.returns-in_err-node-clause-next
-returns-in_err-node-clause-next g c =
-    search (rules, AreTied, not_found, quiet_settled)
+returns-in_err-node-clause-next g c = search (rules, AreTied, not_found, quiet_settled)
 
 pub returns-clause-tied : goal.returns-clause-tied
 returns-clause-tied g c = let base = c.self.inside.register.base in let h = c.self.inside.register.history in let was : AreTied base g.R.Resource h _
@@ -32,5 +31,4 @@ returns-clause-tied g c = let base = c.self.inside.register.base in let h = c.se
     c.next_due.ensures.chained
 
 pub returns-clause-next : goal.returns-clause-next
-returns-clause-next g c =
-    search (rules, AreTied, node_forced, is_some, find)
+returns-clause-next g c = search (rules, AreTied, node_forced, is_some, find)

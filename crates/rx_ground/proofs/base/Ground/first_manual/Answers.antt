@@ -4,8 +4,7 @@ use Rattle.rx_ground.proofs.base.Ground.first_manual.Goals as goal
 use Rattle.std.proofs.Common.{rules}
 
 pub returns-then-is_up_by_hand : goal.returns-then-is_up_by_hand
-returns-then-is_up_by_hand g c =
-    search (rules, first_by_hand)
+returns-then-is_up_by_hand g c = search (rules, first_by_hand)
 
 pub returns : goal.returns
 returns g c = let s = c.self.inside in let of : AreHubsOf s.register.history s.hubs.hubs = rw (← c.self.view_is) at c.requires.standing.tied.published

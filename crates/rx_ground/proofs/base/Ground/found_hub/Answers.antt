@@ -5,13 +5,10 @@ use Rattle.rx_ground.proofs.base.Ground.found_hub.Goals as goal
 use Rattle.std.proofs.Common.{rules}
 
 pub returns-in_default : goal.returns-in_default
-returns-in_default g c =
-    search (rules, AreTied, found_none)
+returns-in_default g c = search (rules, AreTied, found_none)
 
 pub at-requires : goal.at-requires
-at-requires g c =
-    search (rules, hub_at)
+at-requires g c = search (rules, hub_at)
 
 pub returns : goal.returns
-returns g c =
-    search (rules, AreTied, found_there)
+returns g c = search (rules, AreTied, found_there)

@@ -3,5 +3,4 @@ use Rattle.rx_ground.proofs.base.Ground.has_most_hubs.Goals as goal
 use Rattle.std.proofs.Common.{rules}
 
 pub returns : goal.returns
-returns g c =
-    search (rules, too_many)
+returns g c = search (rules, too_many)

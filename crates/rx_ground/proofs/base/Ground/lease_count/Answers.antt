@@ -4,5 +4,4 @@ use Rattle.rx_ground.proofs.base.Ground.lease_count.Goals as goal
 use Rattle.std.proofs.Common.{rules}
 
 pub returns : goal.returns
-returns g c =
-    search (rules, AreLeased, count-leases)
+returns g c = search (rules, AreLeased, count-leases)

@@ -9,12 +9,10 @@ use Rattle.rx_ground.proofs.base.Ground.load.Goals as goal
 use Rattle.std.proofs.Common.{rules}
 
 pub overflow_sub-held : goal.overflow_sub-held
-overflow_sub-held g c =
-    search (rules, accepted_count-parts)
+overflow_sub-held g c = search (rules, accepted_count-parts)
 
 pub overflow_sub-held-2 : goal.overflow_sub-held-2
-overflow_sub-held-2 g c =
-    search (rules, accepted_count-parts)
+overflow_sub-held-2 g c = search (rules, accepted_count-parts)
 
 alone_of : (g : Over) (c : goal.After-owed-owed g) →
     c.lent_alone-alone.result ≡ count_by (is_alone c.args.self.now.register.history) (places c.args.self.now.register.history)
@@ -24,8 +22,7 @@ alone_of g c =
     length-alone b.register.base g.R.Resource b.register.history b.tree c.requires.standing.tied.of_tree c.promise.ensures.register.lawful
     c.promise.ensures.tree.resources_apart
 
-counted : (g : Over) (c : goal.After-owed-owed g) →
-    (let waiting = c.waiting_count-waiting.result in
+counted : (g : Over) (c : goal.After-owed-owed g) → (let waiting = c.waiting_count-waiting.result in
     let alone = c.lent_alone-alone.result in
     c.open_count-open.result + 2 * ((c.accepted.result - c.taken.result - waiting) - alone) + alone + waiting + c.lease_count-leases.result +
     c.owed-owed.result) ≡ debt c.args.self.now.register.base c.args.self.now.register.history
@@ -33,11 +30,8 @@ counted g c =
     let b = c.args.self.now in
     let records = c.requires.standing.tied.of_tree.records in
     let same = ap (λ (s : Ground _). owed_in s.tree.nodes) c.self.view_is in
-    let owing =
-    c.owed-owed.ensures ∙
-    same ∙
-    owed_in-count b.register.base b.register.history c.promise.ensures.register.lawful b.tree.nodes b.tree.chain records
-    c.promise.ensures.tree.sound.apart in
+    let owing = c.owed-owed.ensures ∙ same ∙
+    owed_in-count b.register.base b.register.history c.promise.ensures.register.lawful b.tree.nodes b.tree.chain records c.promise.ensures.tree.sound.apart in
     debt_counted c.promise.ensures.register.lawful c.open_count-open.ensures c.waiting_count-waiting.ensures c.accepted.ensures c.taken.ensures (alone_of g c)
     c.lease_count-leases.ensures owing
 
@@ -71,5 +65,4 @@ pub returns-clause-load : goal.returns-clause-load
 returns-clause-load g c = record { open_count = c.open_count-open.ensures; debt = counted g c }
 
 pub returns-clause-bound : goal.returns-clause-bound
-returns-clause-bound g c =
-    search (rules, counted, debt_bounded)
+returns-clause-bound g c = search (rules, counted, debt_bounded)

@@ -18,5 +18,4 @@ returns-clause-visits g c = let standing = rw (← c.self.view_is) at c.requires
     (nat_lt most_visits n)) (sym told))
 
 pub returns-clause-only : goal.returns-clause-only
-returns-clause-only g c =
-    search rules
+returns-clause-only g c = search rules

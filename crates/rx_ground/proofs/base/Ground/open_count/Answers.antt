@@ -3,5 +3,4 @@ use Rattle.rx_ground.proofs.base.Ground.open_count.Goals as goal
 use Rattle.std.proofs.Common.{rules}
 
 pub returns : goal.returns
-returns g c =
-    search (rules, length-kept, length-nodes)
+returns g c = search (rules, length-kept, length-nodes)

@@ -4,8 +4,7 @@ use Rattle.rx_ground.proofs.base.Ground.published.Goals as goal
 use Rattle.std.proofs.Common.{rules}
 
 pub returns-clause-some : goal.returns-clause-some
-returns-clause-some g c =
-    search (rules, hub_known)
+returns-clause-some g c = search (rules, hub_known)
 
 pub returns-clause-none : goal.returns-clause-none
 returns-clause-none g c =

@@ -5,8 +5,7 @@ use Rattle.rx_ground.proofs.base.Ground.route.Goals as goal
 use Rattle.std.proofs.Common.{rules}
 
 pub returns-then-not-is_leaf-clause-first : goal.returns-then-not-is_leaf-clause-first
-returns-then-not-is_leaf-clause-first g c =
-    search (rules, cause_of-no_leaf)
+returns-then-not-is_leaf-clause-first g c = search (rules, cause_of-no_leaf)
 
 pub returns-in_default-measured-clause-first : goal.returns-in_default-measured-clause-first
 returns-in_default-measured-clause-first g c =

@@ -6,8 +6,7 @@ use Rattle.std.proofs.Common.{rules}
 
 -- where nothing is due nothing is written
 calm : (g : Over) (c : goal.Then-is_calm g) → Settles g.R.Resource c.args.self.now c.args.self.now
-calm g c =
-    search (rules, settled, way_starts)
+calm g c = search (rules, settled, way_starts)
 
 pub returns-then-is_calm-clause-standing : goal.returns-then-is_calm-clause-standing
 returns-then-is_calm-clause-standing g c = (calm g c).standing

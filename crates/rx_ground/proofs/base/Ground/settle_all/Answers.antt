@@ -18,25 +18,20 @@ loop-due-preserved g c = let w = way_rechained g.R.Resource _ _ _ c.loop-due.inv
   way = way_on {d = c.in-Some.due} w (record {
     law = c.promise.ensures.register.lawful;
     next = c.in-Some.ensures.next;
-    written =
-        c.write_due.ensures.written;
+    written = c.write_due.ensures.written;
     tied = c.write_due.ensures.tied;
     leased = c.write_due.ensures.leased;
     nodes = c.write_due.ensures.nodes;
-    resources =
-        c.write_due.ensures.resources;
+    resources = c.write_due.ensures.resources;
     hubs = c.write_due.ensures.hubs;
     leases = c.write_due.ensures.leases;
     memory = c.write_due.ensures.memory;
-    closed =
-        c.write_due.ensures.closed;
+    closed = c.write_due.ensures.closed;
   });
 }
 
 pub loop-due-smaller : goal.loop-due-smaller
-loop-due-smaller g c =
-    search rules
+loop-due-smaller g c = search rules
 
 pub returns : goal.returns
-returns g c =
-    search (rules, settled, way_rechained)
+returns g c = search (rules, settled, way_rechained)

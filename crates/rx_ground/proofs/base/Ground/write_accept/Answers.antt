@@ -28,12 +28,10 @@ returns-clause-tied g c =
     let held = c.in-Ok.ensures in
     let was : AreTied c.self.inside.register.base g.R.Resource c.self.inside.register.history c.self.inside.tree c.self.inside.hubs =
     rw (← c.self.view_is) at c.requires.tied in
-    let stored =
-    stored_accepted c.self.inside.register.base g.R.Resource h c.promise.ensures.lawful c.self.inside.tree c.hold.new.self tied.stored
+    let stored = stored_accepted c.self.inside.register.base g.R.Resource h c.promise.ensures.lawful c.self.inside.tree c.hold.new.self tied.stored
     c.promise-2.ensures.resources_apart held.nodes there (may_accept c.self.inside.register.base next) c.requires.live c.requires.unused
     (record { numbered = held.numbered ∙ c.len-number.ensures; free = held.was_free; found = held.held; others = held.kept }) in
-    rebased g.R.Resource (c.write.ensures.base)
-    (tied_on_same g.R.Resource c.promise.ensures.lawful next was grown refl refl held.nodes
+    rebased g.R.Resource (c.write.ensures.base) (tied_on_same g.R.Resource c.promise.ensures.lawful next was grown refl refl held.nodes
     (subst (λ (k : List Event). IsTied c.self.inside.register.base g.R.Resource k c.hold.new.self) (sym grown)
     (tied_still c.self.inside.register.base g.R.Resource h e c.promise.ensures.lawful next c.self.inside.tree tied c.hold.new.self refl refl
     (λ n. refl) held.nodes held.chain stored)))

@@ -20,22 +20,18 @@ grown g c = search (rules, registered)
 
 -- what is left of the tree and of the hubs
 cut_tree : (g : Over) (c : goal.After-write g) → Cuts c.self.inside.tree c.self-2.inside.tree c.args.node.number
-cut_tree g c =
-    search rules
+cut_tree g c = search rules
 
 left_hubs : (g : Over) (c : goal.After-write g) → c.self-2.inside.hubs ≡ left_inside c.self.inside.register.history c.args.node.number None c.self.inside.hubs
-left_hubs g c =
-    search rules
+left_hubs g c = search rules
 
 -- the nodes that stay open keep their keys
 nodes_kept : (g : Over) (c : goal.After-write g) →
     KeepsNodes (c.self.inside.register.history ++ Close c.args.node.number ∷ []) c.self.inside.tree.nodes c.self-2.inside.tree.nodes
-nodes_kept g c =
-    search (rules, cut_keeps, is_open_outside-close, cut_tree)
+nodes_kept g c = search (rules, cut_keeps, is_open_outside-close, cut_tree)
 
 pub returns-clause-written : goal.returns-clause-written
-returns-clause-written g c =
-    search (rules, registered, writes_silent)
+returns-clause-written g c = search (rules, registered, writes_silent)
 
 pub returns-clause-tied : goal.returns-clause-tied
 returns-clause-tied g c =
@@ -44,9 +40,7 @@ returns-clause-tied g c =
     let was : AreTied c.self.inside.register.base g.R.Resource h c.self.inside.tree c.self.inside.hubs = rw (← c.self.view_is) at c.requires.tied in
     let next : MayFollow c.self.inside.register.base h e = rw (← c.self.view_is) at c.requires.ready.next in
     let law = c.promise.ensures.lawful in
-    let tied =
-    tied_close c.args.node.number law next c.self.inside.tree c.self-2.inside.tree was.of_tree
-    c.promise-2.ensures.sound (cut_tree g c) in
+    let tied = tied_close c.args.node.number law next c.self.inside.tree c.self-2.inside.tree was.of_tree c.promise-2.ensures.sound (cut_tree g c) in
     let leaves : LeavesHubs h e (is_inside h c.args.node.number) None c.self.inside.hubs c.self-2.inside.hubs = record {
       after = hubs_closed h c.args.node.number 0 c.self.inside.hubs.hubs was.published;
       left = ap (λ (hubs : Hubs). hubs.hubs) (left_hubs g c);
@@ -76,8 +70,7 @@ returns-clause-memory g c =
     let same_space : after.tree.nodes.count + after.space ≡ old.tree.nodes.count + (vec_capacity old.closed - old.tree.nodes.count) =
     rw (← c.self.view_is) at c.cut.ensures.memory.closing in
     let closing : mid.tree.nodes.count + (vec_capacity mid.closed - mid.tree.nodes.count) ≡
-    old.tree.nodes.count + (vec_capacity old.closed - old.tree.nodes.count) =
-    rw (← c.self-2.view_is) at same_space in
+    old.tree.nodes.count + (vec_capacity old.closed - old.tree.nodes.count) = rw (← c.self-2.view_is) at same_space in
     let same_hubs : length after.hubs.hubs + after.hubs.room ≡ length old.hubs.hubs + old.hubs.room = rw (← c.self.view_is) at c.cut.ensures.memory.hubs in
     let hubs : length mid.hubs.hubs + mid.hubs.room ≡ length old.hubs.hubs + old.hubs.room = rw (← c.self-2.view_is) at same_hubs in
     let same_resources : after.tree.resources.count + after.tree.resources.room ≡ old.tree.resources.count + old.tree.resources.room =
@@ -85,8 +78,7 @@ returns-clause-memory g c =
     let resources : mid.tree.resources.count + mid.tree.resources.room ≡ old.tree.resources.count + old.tree.resources.room =
     rw (← c.self-2.view_is) at same_resources in
     written_memory (Close c.args.node.number ∷ []) (returns-clause-written g c) (rw (← c.self.view_is) nodes) (rw (← c.self.view_is) resources)
-    (rw (← c.self.view_is) closing) (rw (← c.self.view_is) hubs)
-    (rw (← c.self.view_is) (ap (λ (s : Hubs). s.slots) (left_hubs g c)))
+    (rw (← c.self.view_is) closing) (rw (← c.self.view_is) hubs) (rw (← c.self.view_is) (ap (λ (s : Hubs). s.slots) (left_hubs g c)))
 
 pub returns-clause-leased : goal.returns-clause-leased
 returns-clause-leased g c =
@@ -97,8 +89,7 @@ returns-clause-leased g c =
     (rw (← c.self.view_is) at c.cut.ensures.leases)) (cut_tree g c).resources
 
 pub returns-clause-leases : goal.returns-clause-leases
-returns-clause-leases g c =
-    search rules
+returns-clause-leases g c = search rules
 
 pub returns-clause-closed : goal.returns-clause-closed
 returns-clause-closed g c = let h = c.self.inside.register.history in let tied : IsTied _ g.R.Resource h c.self.inside.tree = rw (← c.self.view_is) at

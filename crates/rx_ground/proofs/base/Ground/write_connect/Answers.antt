@@ -14,29 +14,24 @@ use Rattle.rx_ground.proofs.base.Ground.write_connect.Goals as goal
 use Rattle.std.proofs.Common.{rules}
 
 pub open-requires-clause-newest : goal.open-requires-clause-newest
-open-requires-clause-newest g c κs within =
-    search (rules, AreTied, newest)
+open-requires-clause-newest g c κs within = search (rules, AreTied, newest)
 
 pub open-requires-clause-placed : goal.open-requires-clause-placed
 open-requires-clause-placed g c κs within = record { makes = refl; named = refl; lower = tt; there = tt }
 
 pub connect-requires-clause-there : goal.connect-requires-clause-there
-connect-requires-clause-there g c =
-    search (rules, AreTied, ready_to_connect, is_some)
+connect-requires-clause-there g c = search (rules, AreTied, ready_to_connect, is_some)
 
 pub connect-requires-clause-unconnected : goal.connect-requires-clause-unconnected
-connect-requires-clause-unconnected g c =
-    search (rules, AreTied, ready_to_connect)
+connect-requires-clause-unconnected g c = search (rules, AreTied, ready_to_connect)
 
 pub returns-clause-written : goal.returns-clause-written
-returns-clause-written g c =
-    search (rules, writes_silent)
+returns-clause-written g c = search (rules, writes_silent)
 
 -- the tree has the connection's node
 opened_in : (g : Over) (c : goal.After-write g) →
     IsOpenedIn c.self.inside.register.history (Connect c.args.hub) None c.self.inside.tree c.open.new.self c.in-Ok.key
-opened_in g c =
-    search rules
+opened_in g c = search rules
 
 pub returns-clause-tied : goal.returns-clause-tied
 returns-clause-tied g c = let h = c.self.inside.register.history in let old = c.self.inside.tree in let e : Event = Connect _ in let law =
@@ -45,8 +40,7 @@ returns-clause-tied g c = let h = c.self.inside.register.history in let old = c.
     old.chain was.of_tree.records (λ n less. is_open_kept h e n less refl) in let opens : OpensTop h e = record {
       makes = refl;
       none = refl;
-      top =
-          refl;
+      top = refl;
       untouched = λ n. refl;
       apart = λ r. record { removes = refl; takes = refl; uses = refl; leases = refl; returns = refl };
     } in let tied =
@@ -60,12 +54,10 @@ before : (g : Over) (c : goal.After-write g) → (k : Key) → IsSome (find c.op
 before g c k some less = search (rules, opened_in, is_some)
 
 pub returns-clause-new : goal.returns-clause-new
-returns-clause-new g c =
-    search (rules, opened_in, length, is_some, before)
+returns-clause-new g c = search (rules, opened_in, length, is_some, before)
 
 pub returns-clause-nodes : goal.returns-clause-nodes
-returns-clause-nodes g c =
-    search (rules, AreTied, length, before, is_some, found_still, opened_in)
+returns-clause-nodes g c = search (rules, AreTied, length, before, is_some, found_still, opened_in)
 
 pub returns-clause-resources : goal.returns-clause-resources
 returns-clause-resources g c = rw (← c.self.view_is) c.in-Ok.ensures.resources
@@ -74,14 +66,12 @@ returns-clause-resources g c = rw (← c.self.view_is) c.in-Ok.ensures.resources
 left_hubs : (g : Over) (c : goal.After-write g) → c.connect.new.self ≡ record c.self.inside.hubs {
   hubs = hubs_after c.self.inside.register.history (Connect c.args.hub) c.in-Ok.key.slot c.self.inside.hubs.hubs;
 }
-left_hubs g c =
-    search (rules, AreTied, connected_after, opened_in)
+left_hubs g c = search (rules, AreTied, connected_after, opened_in)
 
 pub returns-clause-hubs : goal.returns-clause-hubs
-returns-clause-hubs g c =
-    subst (λ (b : Ground g.row.R.Denot). c.connect.new.self ≡ record b.hubs {
-      hubs = hubs_after b.register.history (Connect c.args.hub) c.in-Ok.key.slot b.hubs.hubs;
-    }) c.self.view_is (left_hubs g c)
+returns-clause-hubs g c = subst (λ (b : Ground g.row.R.Denot). c.connect.new.self ≡ record b.hubs {
+  hubs = hubs_after b.register.history (Connect c.args.hub) c.in-Ok.key.slot b.hubs.hubs;
+}) c.self.view_is (left_hubs g c)
 
 pub returns-clause-memory : goal.returns-clause-memory
 returns-clause-memory g c = let old = c.self.inside in let room : 0 < old.tree.nodes.room = rw (← c.self.view_is) at c.requires.room in let space : 0

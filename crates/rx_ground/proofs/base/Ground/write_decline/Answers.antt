@@ -12,8 +12,7 @@ use Rattle.rx_ground.proofs.base.Ground.write_decline.Goals as goal
 use Rattle.std.proofs.Common.{rules}
 
 pub mark_decline-requires-clause-owes : goal.mark_decline-requires-clause-owes
-mark_decline-requires-clause-owes g c κs within =
-    search (rules, owes_told, may_decline)
+mark_decline-requires-clause-owes g c κs within = search (rules, owes_told, may_decline)
 
 marked : (g : Over) (c : goal.After-write g) → Remarks c.self.inside.tree c.mark_decline.new.self c.args.merging after_decline
 marked g c =
@@ -34,8 +33,7 @@ returns-clause-tied g c =
     let there : IsSome (find c.self.inside.tree.nodes c.args.merging) = rw (← c.self.view_is) at c.requires.open in
     let was : AreTied c.self.inside.register.base g.R.Resource c.self.inside.register.history c.self.inside.tree c.self.inside.hubs =
     rw (← c.self.view_is) at c.requires.tied in
-    rebased g.R.Resource (c.write.ensures.base)
-    (tied_on_marked g.R.Resource c.promise.ensures.lawful next was c.write.ensures.events refl refl (marked g c)
+    rebased g.R.Resource (c.write.ensures.base) (tied_on_marked g.R.Resource c.promise.ensures.lawful next was c.write.ensures.events refl refl (marked g c)
     (subst (λ (k : List Event). IsTied c.self.inside.register.base g.R.Resource k c.mark_decline.new.self) (sym c.write.ensures.events)
     (tied_decline c.self.inside.register.base g.R.Resource h c.promise.ensures.lawful c.self.inside.tree c.mark_decline.new.self tied
     c.promise-2.ensures.sound c.args.merging there next (marked g c))))

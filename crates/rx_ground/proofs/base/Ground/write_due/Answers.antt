@@ -4,5 +4,4 @@ use Rattle.std.proofs.Common.{rules}
 
 -- a connection closes nothing
 pub returns-in-Connect-clause-closed : goal.returns-in-Connect-clause-closed
-returns-in-Connect-clause-closed g c =
-    search (rules, gathers_quiet)
+returns-in-Connect-clause-closed g c = search (rules, gathers_quiet)

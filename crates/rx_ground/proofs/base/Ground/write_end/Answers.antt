@@ -49,8 +49,7 @@ registered : (g : Over) (c : goal.After-mark_end g) → c.self-2.inside.register
 registered g c = ap (λ (b : Ground g.row.R.Denot). b.register) c.self-2.view_is ∙ c.cut.ensures.register
 
 written : (g : Over) (c : goal.After-mark_end g) → Writes c.self.inside.register (End c.args.node.number c.args.terminal ∷ []) c.write.new.self
-written g c =
-    search (rules, writes_told, registered)
+written g c = search (rules, writes_told, registered)
 
 -- all that an end leaves
 ended : (g : Over) (c : goal.After-mark_end g) → IsEnded c.self.inside.register.base g.R.Resource c.write.new.self.history
@@ -64,22 +63,19 @@ invariant_of-self-2 g c = let count = (ended g c).count in ((let room = c.self-2
 -- the hubs are left by what stands inside the node
 left_hubs : (g : Over) (c : goal.After-mark_end g) → c.self-2.inside.hubs ≡ left_inside c.self.inside.register.history c.args.node.number
     (end_by (length c.self.inside.register.history) (End c.args.node.number c.args.terminal)) c.self.inside.hubs
-left_hubs g c =
-    search (rules, length)
+left_hubs g c = search (rules, length)
 
 pub returns-clause-tied : goal.returns-clause-tied
 returns-clause-tied g c =
     let h = c.self.inside.register.history in
     let e : Event = End c.args.node.number c.args.terminal in
-    let was : AreTied c.self.inside.register.base g.R.Resource h c.self.inside.tree c.self.inside.hubs =
-    rw (← c.self.view_is) at c.requires.tied in
+    let was : AreTied c.self.inside.register.base g.R.Resource h c.self.inside.tree c.self.inside.hubs = rw (← c.self.view_is) at c.requires.tied in
     let leaves : LeavesHubs h e (is_inside h c.args.node.number) (end_by (length h) e) c.self.inside.hubs c.self-2.inside.hubs = record {
       after = hubs_ended h c.args.node.number c.args.terminal 0 c.self.inside.hubs.hubs was.published;
       left = ap (λ (hubs : Hubs). hubs.hubs) (left_hubs g c);
     } in
     let r = ready g (goal.at.returns-clause-tied g c).After-write in
-    rebased g.R.Resource (written g c).base
-    (tied_closed g.R.Resource r.law r.next was (written g c).history leaves (ended g c).kept (ended g c).tied)
+    rebased g.R.Resource (written g c).base (tied_closed g.R.Resource r.law r.next was (written g c).history leaves (ended g c).kept (ended g c).tied)
 
 pub returns-clause-hubs : goal.returns-clause-hubs
 returns-clause-hubs g c = rw (← c.self.view_is) (left_hubs g c)
@@ -109,8 +105,7 @@ returns-clause-memory g c =
     (ap (λ (s : Hubs). s.slots) (left_hubs g c)))
 
 pub cut-requires-clause-tied : goal.cut-requires-clause-tied
-cut-requires-clause-tied g c κs within =
-    search (rules, AreTied)
+cut-requires-clause-tied g c κs within = search (rules, AreTied)
 
 same_leases : (g : Over) (c : goal.After-mark_end g) → c.self-2.inside.leases ≡ c.self.inside.leases
 same_leases g c = ap (λ (b : Ground g.row.R.Denot). b.leases) c.self-2.view_is ∙ c.cut.ensures.leases

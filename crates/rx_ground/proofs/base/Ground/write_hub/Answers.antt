@@ -12,8 +12,7 @@ pub add-requires-clause-newest : goal.add-requires-clause-newest
 add-requires-clause-newest g c = search (rules, AreTied, hub_is_older)
 
 pub returns-clause-written : goal.returns-clause-written
-returns-clause-written g c =
-    search (rules, writes_silent)
+returns-clause-written g c = search (rules, writes_silent)
 
 pub returns-clause-tied : goal.returns-clause-tied
 returns-clause-tied g c = let h = c.self.inside.register.history in let e : Event = Publish _ in let was : AreTied _ g.R.Resource h _
@@ -34,8 +33,7 @@ returns-clause-memory g c =
     let less = c.add.ensures.room in
     let one = length-append old.hubs (new_hub c.len-number.result c.args.mode ∷ []) in
     written_memory (Publish c.args.mode ∷ []) (returns-clause-written g c) (rw (← c.self.view_is) refl) (rw (← c.self.view_is) refl)
-    (rw (← c.self.view_is) refl) (rw (← c.self.view_is) (omega arith))
-    (rw (← c.self.view_is) c.add.ensures.slots)
+    (rw (← c.self.view_is) refl) (rw (← c.self.view_is) (omega arith)) (rw (← c.self.view_is) c.add.ensures.slots)
 
 pub returns-clause-leased : goal.returns-clause-leased
 returns-clause-leased g c = let h = c.self.inside.register.history in let was : AreLeased h _ c.self.inside.leases = rw (← c.self.view_is) at

@@ -19,8 +19,7 @@ pass-requires-clause-countable g c κs within = let tied : AreTied _ g.R.Resourc
     owed_in-bounded g.R.Resource _ _ tied.of_tree c.promise.ensures c.promise-2.ensures.sound.apart
 
 pub pass-requires-clause-only : goal.pass-requires-clause-only
-pass-requires-clause-only g c κs within =
-    search rules
+pass-requires-clause-only g c κs within = search rules
 
 pub returns-clause-written : goal.returns-clause-written
 returns-clause-written g c =

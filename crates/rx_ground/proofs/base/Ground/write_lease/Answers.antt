@@ -12,8 +12,7 @@ use Rattle.rx_ground.proofs.base.Ground.write_lease.Goals as goal
 use Rattle.std.proofs.Common.{rules}
 
 pub lease-lease-requires-clause-newest : goal.lease-lease-requires-clause-newest
-lease-lease-requires-clause-newest g c =
-    search (rules, AreLeased, past_leases)
+lease-lease-requires-clause-newest g c = search (rules, AreLeased, past_leases)
 
 pub lend-requires-clause-countable : goal.lend-requires-clause-countable
 lend-requires-clause-countable g c κs within =
@@ -67,14 +66,12 @@ pub returns-clause-out : goal.returns-clause-out
 returns-clause-out g c = ap is_some c.lease-lease.ensures.out
 
 pub returns-clause-kept : goal.returns-clause-kept
-returns-clause-kept g c =
-    search (rules, is_owned_at, held_owned, length)
+returns-clause-kept g c = search (rules, is_owned_at, held_owned, length)
 
 pub returns-clause-memory : goal.returns-clause-memory
 returns-clause-memory g c =
     let nodes = c.lend.ensures.nodes in
-    written_memory (Lease c.args.res.number ∷ []) (returns-clause-written g c)
-    (rw (← c.self.view_is) (ap (λ (s : Slots Node). s.count + s.room) nodes))
+    written_memory (Lease c.args.res.number ∷ []) (returns-clause-written g c) (rw (← c.self.view_is) (ap (λ (s : Slots Node). s.count + s.room) nodes))
     (rw (← c.self.view_is) (same_places c.self.inside.tree.resources c.lend.new.self.resources c.lend.ensures.resources.rest))
     (rw (← c.self.view_is) (ap (λ (s : Slots Node). s.count + (vec_capacity c.self.inside.closed - s.count)) nodes))
     (rw (← c.self.view_is) refl) (rw (← c.self.view_is) refl)

@@ -34,8 +34,7 @@ below : (g : Over) (c : After-join g) → IsOpenedBelow c.self.inside.register.h
 below g c = search (rules, stands_below)
 
 place_taken : (g : Over) (c : After-open g) → c.open.new.self.nodes.room + 1 ≡ c.self-2.inside.tree.nodes.room
-place_taken g c =
-    search rules
+place_taken g c = search rules
 
 pub join-requires-clause-there : goal.join-requires-clause-there
 join-requires-clause-there g c = λ n same.
@@ -121,8 +120,7 @@ returns-clause-memory g c = let m = c.mark_opened.ensures in
     (ap (λ (s : Hubs). s.slots) c.join.ensures))
 
 pub returns-clause-left : goal.returns-clause-left
-returns-clause-left g c =
-    search (rules, place_taken)
+returns-clause-left g c = search (rules, place_taken)
 
 pub returns-clause-leased : goal.returns-clause-leased
 returns-clause-leased g c =

@@ -40,8 +40,7 @@ returns-clause-kept g c = rw (← c.self.view_is) (held_rewritten c.self.inside.
 pub returns-clause-memory : goal.returns-clause-memory
 returns-clause-memory g c =
     let nodes = c.unhold.ensures.nodes in
-    written_memory (Remove c.args.res.number ∷ []) (returns-clause-written g c)
-    (rw (← c.self.view_is) (ap (λ (s : Slots Node). s.count + s.room) nodes))
+    written_memory (Remove c.args.res.number ∷ []) (returns-clause-written g c) (rw (← c.self.view_is) (ap (λ (s : Slots Node). s.count + s.room) nodes))
     (rw (← c.self.view_is) (same_places c.self.inside.tree.resources c.unhold.new.self.resources c.unhold.ensures.resources.rest))
     (rw (← c.self.view_is) (ap (λ (s : Slots Node). s.count + (vec_capacity c.self.inside.closed - s.count)) nodes)) (rw (← c.self.view_is) refl)
     (rw (← c.self.view_is) refl)

@@ -54,8 +54,7 @@ returns-clause-kept g c = rw (← c.self.view_is) (held_rewritten c.self.inside.
 pub returns-clause-memory : goal.returns-clause-memory
 returns-clause-memory g c =
     let nodes = c.unlend.ensures.nodes in
-    written_memory (Return c.args.lease.number ∷ []) (returns-clause-written g c)
-    (rw (← c.self.view_is) (ap (λ (s : Slots Node). s.count + s.room) nodes))
+    written_memory (Return c.args.lease.number ∷ []) (returns-clause-written g c) (rw (← c.self.view_is) (ap (λ (s : Slots Node). s.count + s.room) nodes))
     (rw (← c.self.view_is) (same_places c.self.inside.tree.resources c.unlend.new.self.resources c.unlend.ensures.resources.rest))
     (rw (← c.self.view_is) (ap (λ (s : Slots Node). s.count + (vec_capacity c.self.inside.closed - s.count)) nodes))
     (rw (← c.self.view_is) refl) (rw (← c.self.view_is) refl)

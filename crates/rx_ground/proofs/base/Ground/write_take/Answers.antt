@@ -17,8 +17,7 @@ pub returns-in_err-number-clause-waited : goal.returns-in_err-number-clause-wait
 returns-in_err-number-clause-waited g c = search (rules, none_waits)
 
 pub write-requires-clause-next : goal.write-requires-clause-next
-write-requires-clause-next g c =
-    search (rules, allowed, takes_waiting)
+write-requires-clause-next g c = search (rules, allowed, takes_waiting)
 
 ready : (g : Over) (c : goal.After-write-arg-1 g) → IsReady c.self.inside.register (Take c.in_ok-number.number)
 ready g c = let tied : IsTied _ g.R.Resource _ c.self.inside.tree = rw (← c.self.view_is) at c.requires.tied.of_tree in (rw (← c.self.view_is) at
@@ -31,8 +30,7 @@ pub write-requires-clause-told : goal.write-requires-clause-told
 write-requires-clause-told g c = (ready g c).pending
 
 pub new-requires-clause-live : goal.new-requires-clause-live
-new-requires-clause-live g c κs within =
-    search (rules, takes_live)
+new-requires-clause-live g c κs within = search (rules, takes_live)
 
 pub returns-clause-written : goal.returns-clause-written
 returns-clause-written g c = search (rules, writes_silent)
@@ -45,8 +43,7 @@ returns-clause-tied g c =
     let tied : IsTied c.self.inside.register.base g.R.Resource h old = rw (← c.self.view_is) at c.requires.tied.of_tree in
     let settled : IsSettled c.self.inside.register.base h = rw (← c.self.view_is) at c.requires.settled in
     let t = c.in_ok-number.ensures.some in
-    let next : MayFollow c.self.inside.register.base h (Take t.key.number) =
-    allowed settled (taken (subst (λ n. is_waiting h n ≡ true) (sym t.numbered)
+    let next : MayFollow c.self.inside.register.base h (Take t.key.number) = allowed settled (taken (subst (λ n. is_waiting h n ≡ true) (sym t.numbered)
     (takes_waiting g.R.Resource h old new c.in_ok-number.number c.in_ok-number.resource c.self.inside.register.base tied t))) in
     let was : AreTied c.self.inside.register.base g.R.Resource c.self.inside.register.history c.self.inside.tree c.self.inside.hubs =
     rw (← c.self.view_is) at c.requires.tied in
@@ -59,8 +56,7 @@ returns-clause-tied g c =
     c.in_ok-number.ensures.nodes t.key (ap is_some t.found) t.gone t.others))))
 
 pub returns-clause-kept : goal.returns-clause-kept
-returns-clause-kept g c =
-    search (rules, held_gone, length)
+returns-clause-kept g c = search (rules, held_gone, length)
 
 pub returns-clause-waited : goal.returns-clause-waited
 returns-clause-waited g c = rw (c.new.ensures, ← c.self.view_is) (takes_listed g.R.Resource _ _ _ _ c.in_ok-number.ensures.some)

@@ -32,8 +32,7 @@ apply-answer-requires-clause-countable g c κs within =
     let less = is.few in
     let p = c.promise.ensures.placed in
     let w = c.promise.ensures.within in
-    let l = c.promise.ensures.limited in
-    omega arith)
+    let l = c.promise.ensures.limited in omega arith)
 
 pub returns-clause-written : goal.returns-clause-written
 returns-clause-written g c = search (rules, writes_silent)
@@ -51,8 +50,7 @@ returns-clause-tied g c =
     let u = of_found (stowed_of old c.args.res) f.stowed (Uses g.R.Resource old new c.args.res) f.found c.apply-answer.ensures in
     let was : AreTied c.self.inside.register.base g.R.Resource c.self.inside.register.history c.self.inside.tree c.self.inside.hubs =
     rw (← c.self.view_is) at c.requires.tied in
-    rebased g.R.Resource (c.write.ensures.base)
-    (tied_on_same g.R.Resource c.promise.ensures.lawful next was c.write.ensures.events refl refl u.nodes
+    rebased g.R.Resource (c.write.ensures.base) (tied_on_same g.R.Resource c.promise.ensures.lawful next was c.write.ensures.events refl refl u.nodes
     (subst (λ (k : List Event). IsTied c.self.inside.register.base g.R.Resource k new) (sym c.write.ensures.events)
     (tied_still c.self.inside.register.base g.R.Resource h e c.promise.ensures.lawful next old tied new refl refl (λ n. refl) u.nodes u.chain
     (stored_used c.self.inside.register.base g.R.Resource h c.promise.ensures.lawful old new tied.stored c.promise-2.ensures.resources_apart
@@ -69,8 +67,7 @@ returns-clause-memory g c = let old = c.self.inside.tree in let new = c.apply-an
     c.self.view_is) at c.requires.held in let f = held_found old _ held in let u = of_found (stowed_of old _) f.stowed (Uses g.R.Resource old new _)
     f.found c.apply-answer.ensures in written_memory (Use c.args.res.number ∷ []) (returns-clause-written g c) (rw (← c.self.view_is) (ap (λ (s :
     Slots Node). s.count + s.room) u.nodes)) (rw (← c.self.view_is) (same_places old.resources new.resources u.written.rest)) (rw (← c.self.view_is)
-    (ap (λ (s : Slots Node). s.count + (vec_capacity c.self.inside.closed - s.count)) u.nodes)) (rw (← c.self.view_is) refl) (rw (← c.self.view_is)
-    refl)
+    (ap (λ (s : Slots Node). s.count + (vec_capacity c.self.inside.closed - s.count)) u.nodes)) (rw (← c.self.view_is) refl) (rw (← c.self.view_is) refl)
 
 pub returns-clause-leased : goal.returns-clause-leased
 returns-clause-leased g c =
@@ -78,8 +75,7 @@ returns-clause-leased g c =
     let was : AreLeased h c.self.inside.tree.resources c.self.inside.leases = rw (← c.self.view_is) at c.requires.leased in
     let held : is_held_at c.self.inside.tree c.args.res ≡ true = rw (← c.self.view_is) at c.requires.held in
     let f = held_found c.self.inside.tree c.args.res held in
-    let u =
-    of_found (stowed_of c.self.inside.tree c.args.res) f.stowed (Uses g.R.Resource c.self.inside.tree c.apply-answer.new.self c.args.res) f.found
+    let u = of_found (stowed_of c.self.inside.tree c.args.res) f.stowed (Uses g.R.Resource c.self.inside.tree c.apply-answer.new.self c.args.res) f.found
     c.apply-answer.ensures in
     leased_found c.self.inside.register.base h _ (Use c.args.res.number) c.self.inside.tree.resources _ c.self.inside.leases _
     c.promise.ensures.lawful was refl refl (c.write.ensures.events) (refl) (still_there (store_key c.args.res) u.written)

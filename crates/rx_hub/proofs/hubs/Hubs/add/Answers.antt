@@ -19,11 +19,9 @@ invariant_of-self c =
     let fit = linked.fit in
     let most = linked.room in
     record {
-      waits =
-          subst (λ (hs : List Hub). IsCalm connect_of hs s.waiting) (sym hubs)
+      waits = subst (λ (hs : List Hub). IsCalm connect_of hs s.waiting) (sym hubs)
           (calm_added connect_of s.store.hubs s.waiting (new_hub c.args.number c.args.mode) (nothing_new_waits c.args.number c.args.mode) linked.waits);
-      acts =
-          subst (λ (hs : List Hub). IsCalm due_of hs s.due) (sym hubs)
+      acts = subst (λ (hs : List Hub). IsCalm due_of hs s.due) (sym hubs)
           (calm_added due_of s.store.hubs s.due (new_hub c.args.number c.args.mode) (nothing_new_due c.args.number c.args.mode) linked.acts);
       waiting_chain = linked.waiting_chain;
       due_chain = linked.due_chain;

@@ -7,12 +7,10 @@ pub unreachable-requires : goal.unreachable-requires
 unreachable-requires c = search (rules, not_found)
 
 pub note-requires-clause-index : goal.note-requires-clause-index
-note-requires-clause-index c =
-    search (rules, index_below)
+note-requires-clause-index c = search (rules, index_below)
 
 pub note-requires-2-clause-index : goal.note-requires-2-clause-index
-note-requires-2-clause-index c =
-    search (rules, index_below)
+note-requires-2-clause-index c = search (rules, index_below)
 
 pub invariant_of-self : goal.invariant_of-self
 invariant_of-self c = let s = c.self.inside in linked_changed _ (disconnected _) c.promise.ensures c.in-Some.ensures.some c.disconnect.ensures

@@ -10,5 +10,4 @@ invariant_of-self c =
     (linked_forgot s.store s.waiting s.due (subst (λ (v : Hubs). IsQuiet v.hubs) (sym c.self.view_is) c.requires) c.self.invariant)
 
 pub returns : goal.returns
-returns c =
-    search (rules, shown_forgot)
+returns c = search (rules, shown_forgot)

@@ -9,12 +9,10 @@ pub unreachable-requires : goal.unreachable-requires
 unreachable-requires c = search (rules, not_found)
 
 pub unsubscribe-requires-clause-there : goal.unsubscribe-requires-clause-there
-unsubscribe-requires-clause-there c =
-    search (rules, find_index)
+unsubscribe-requires-clause-there c = search (rules, find_index)
 
 pub note_other-requires-clause-index : goal.note_other-requires-clause-index
-note_other-requires-clause-index c =
-    search (rules, index_below)
+note_other-requires-clause-index c = search (rules, index_below)
 
 pub note_other-requires-clause-among : goal.note_other-requires-clause-among
 note_other-requires-clause-among c = λ others off. let s = c.self.inside in let index = c.in-Some.index in let behind : (hub : Hub) → slice_get
@@ -26,5 +24,4 @@ note_other-requires-clause-among c = λ others off. let s = c.self.inside in let
 pub invariant_of-self : goal.invariant_of-self
 invariant_of-self c = let s = c.self.inside in linked_changed _ (unsubscribed _) c.promise.ensures c.in-Some.ensures.some c.unsubscribe.ensures
     (not_noted _ s.waiting _ c.self.invariant.waiting_chain (λ off. still_none connect_of s.store _ s.waiting _ _ (unsubscribed _)
-    c.in-Some.ensures.some c.unsubscribe.ensures (λ hub got none. wait_left _ hub none) c.self.invariant.waits off)) c.note_other.ensures
-    c.self.invariant
+    c.in-Some.ensures.some c.unsubscribe.ensures (λ hub got none. wait_left _ hub none) c.self.invariant.waits off)) c.note_other.ensures c.self.invariant

@@ -9,15 +9,13 @@ none_changed f [] none = refl
 none_changed f (hub ∷ hubs) none = absurd (omega arith)
 
 pub returns-then-len-eq0 : goal.returns-then-len-eq0
-returns-then-len-eq0 c =
-    search (rules, none_changed)
+returns-then-len-eq0 c = search (rules, none_changed)
 
 pub loop-one-init : goal.loop-one-init
 loop-one-init c = search (rules, closed_first)
 
 pub leave_one-requires : goal.leave_one-requires
-leave_one-requires c =
-    search (rules, known_at)
+leave_one-requires c = search (rules, known_at)
 
 pub loop-one-preserved : goal.loop-one-preserved
 loop-one-preserved c =

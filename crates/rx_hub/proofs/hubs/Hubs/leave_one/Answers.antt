@@ -3,8 +3,7 @@ use Rattle.rx_hub.proofs.hubs.Hubs.leave_one.Goals as goal
 use Rattle.std.proofs.Common.{rules}
 
 pub leave-requires-clause-subscribes : goal.leave-requires-clause-subscribes
-leave-requires-clause-subscribes c =
-    search (rules, subscriber_on)
+leave-requires-clause-subscribes c = search (rules, subscriber_on)
 
 pub returns-in-Some : goal.returns-in-Some
 returns-in-Some c = search (rules, subscriber_left)

@@ -7,13 +7,10 @@ pub returns-then-is_some-clause-due : goal.returns-then-is_some-clause-due
 returns-then-is_some-clause-due c = search (rules, connects_if)
 
 pub returns-clause-due : goal.returns-clause-due
-returns-clause-due c =
-    search (rules, none_of, acts_if)
+returns-clause-due c = search (rules, none_of, acts_if)
 
 pub returns-then-is_some-clause-concerns : goal.returns-then-is_some-clause-concerns
-returns-then-is_some-clause-concerns c =
-    search (rules, concerns_hub, connects_if)
+returns-then-is_some-clause-concerns c = search (rules, concerns_hub, connects_if)
 
 pub returns-clause-concerns : goal.returns-clause-concerns
-returns-clause-concerns c =
-    search (rules, none_of, concerns_hub, acts_if)
+returns-clause-concerns c = search (rules, none_of, concerns_hub, acts_if)

@@ -9,21 +9,18 @@ pub subscribe-requires-clause-hub : goal.subscribe-requires-clause-hub
 subscribe-requires-clause-hub c = search (rules, hub_at)
 
 pub subscribe-requires-clause-newest : goal.subscribe-requires-clause-newest
-subscribe-requires-clause-newest c =
-    search (rules, find_index)
+subscribe-requires-clause-newest c = search (rules, find_index)
 
 pub note_waiting-requires-clause-index : goal.note_waiting-requires-clause-index
 note_waiting-requires-clause-index c =
     let below = index_below c.self.inside.store.hubs c.args.index c.args.hub (rw (← c.self.view_is) at c.requires.there) in
-    let fit = c.self.invariant.fit in
-    omega (arith, below, fit)
+    let fit = c.self.invariant.fit in omega (arith, below, fit)
 
 pub note_other-requires-clause-index : goal.note_other-requires-clause-index
 note_other-requires-clause-index c =
     let below = index_below c.self.inside.store.hubs c.args.index c.args.hub (rw (← c.self.view_is) at c.requires.there) in
     let fit = c.self.invariant.fit in
-    let both = c.self.invariant.both in
-    omega (arith, below, fit, both)
+    let both = c.self.invariant.both in omega (arith, below, fit, both)
 
 pub note_other-requires-clause-among : goal.note_other-requires-clause-among
 note_other-requires-clause-among c = λ others off. let s = c.self.inside in let behind : (hub : Hub) → slice_get s.store.hubs c.args.index ≡ Some

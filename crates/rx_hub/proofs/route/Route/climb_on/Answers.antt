@@ -4,8 +4,7 @@ use Rattle.rx_hub.proofs.route.Route.climb_on.Goals as goal
 use Rattle.std.proofs.Common.{rules}
 
 pub overflow_sub-self-inside : goal.overflow_sub-self-inside
-overflow_sub-self-inside g c =
-    search (rules, limit_is)
+overflow_sub-self-inside g c = search (rules, limit_is)
 
 pub returns-then-reached-self : goal.returns-then-reached-self
 returns-then-reached-self g c = cut_seen _ _ c.self.view_is c.requires.under_way c.requires.at c.requires.visits c.climb-reached.ensures.visits
@@ -18,11 +17,9 @@ returns g c =
     let found = c.climb-reached.ensures in
     let on = c.go_on-self-inside.ensures in
     climbs_seen {visits = c.climb-reached.result.visits} {first = c.first_beyond-first.result}
-    c.self.view_is c.requires.ordered c.requires.under_way c.requires.at c.requires.visits
-    (record {
+    c.self.view_is c.requires.ordered c.requires.under_way c.requires.at c.requires.visits (record {
       visited = found.visits;
       firsts = c.first_beyond-first.ensures.keys ∙ ap (hub_keys hubs) found.hub ∙ hub_beyond nodes hubs c.climb-reached.result.stop ∙
           ap (beyond_end nodes hubs) found.stop;
       arrives = c.arrival.ensures ∙ ap (option_and_then arrival) found.stop;
-    })
-    (record { fits = c.if-reached-self.false; sum = refl; on = on.goes_on; room = on.room })
+    }) (record { fits = c.if-reached-self.false; sum = refl; on = on.goes_on; room = on.room })

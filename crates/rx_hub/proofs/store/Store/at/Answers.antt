@@ -3,9 +3,7 @@ use Rattle.rx_hub.proofs.store.Store.at.Goals as goal
 use Rattle.std.proofs.Common.{rules}
 
 pub index-requires : goal.index-requires
-index-requires c =
-    search (rules, hub_within)
+index-requires c = search (rules, hub_within)
 
 pub returns : goal.returns
-returns c =
-    search (rules, hub_within, get_some, get_same, shown_record)
+returns c = search (rules, hub_within, get_some, get_same, shown_record)

@@ -10,5 +10,4 @@ invariant_of-self c =
     (kept_forgot s.records.items s.subscribers s.numbers.items c.self.invariant)
 
 pub returns : goal.returns
-returns c =
-    search (rules, store_forgot)
+returns c = search (rules, store_forgot)

@@ -14,14 +14,11 @@ returns-then-found-number-clause-some c = let s = c.self.inside in let middle : 
     : ℕ). Some n) found)
 
 pub loop-low-preserved-then-found-number-2 : goal.loop-low-preserved-then-found-number-2
-loop-low-preserved-then-found-number-2 c =
-    grind (arith, length, get_same, all_before)
+loop-low-preserved-then-found-number-2 c = grind (arith, length, get_same, all_before)
 
 pub loop-low-preserved : goal.loop-low-preserved
-loop-low-preserved c =
-    search (rules, get_same, all_behind)
+loop-low-preserved c = search (rules, get_same, all_behind)
 
 pub returns-clause-none : goal.returns-clause-none
-returns-clause-none c = let s = c.self.inside in rw (← c.self.view_is)
-    (not_between s.records.items s.subscribers s.numbers.items c.self.invariant
+returns-clause-none c = let s = c.self.inside in rw (← c.self.view_is) (not_between s.records.items s.subscribers s.numbers.items c.self.invariant
     (record { before = c.loop-low.invariant.before; behind = c.loop-low.invariant.behind }) c.loop-low-test.false)

@@ -4,5 +4,4 @@ use Rattle.rx_hub.proofs.store.Store.reserve.Goals as goal
 use Rattle.std.proofs.Common.{rules}
 
 pub returns-clause-fits : goal.returns-clause-fits
-returns-clause-fits c =
-    search (rules, count_hubs, on_ok_weaker)
+returns-clause-fits c = search (rules, count_hubs, on_ok_weaker)

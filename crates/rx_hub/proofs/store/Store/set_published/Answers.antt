@@ -4,8 +4,7 @@ use Rattle.rx_hub.proofs.store.Store.set_published.Goals as goal
 use Rattle.std.proofs.Common.{rules}
 
 pub index_mut-requires : goal.index_mut-requires
-index_mut-requires c =
-    search (rules, named)
+index_mut-requires c = search (rules, named)
 
 pub invariant_of-self : goal.invariant_of-self
 invariant_of-self c =
@@ -16,5 +15,4 @@ invariant_of-self c =
     kept_written s.records.items s.subscribers s.numbers.items c.self.invariant c.args.index c.args.published n.0 n.1
 
 pub returns : goal.returns
-returns c =
-    search (rules, named, hubs_written, length-set)
+returns c = search (rules, named, hubs_written, length-set)

@@ -5,21 +5,17 @@ use Rattle.rx_hub.proofs.store.Store.subscribe.Goals as goal
 use Rattle.std.proofs.Common.{rules}
 
 pub join-requires-clause-list : goal.join-requires-clause-list
-join-requires-clause-list c =
-    search (rules, hub_within)
+join-requires-clause-list c = search (rules, hub_within)
 
 pub join-requires-clause-free : goal.join-requires-clause-free
-join-requires-clause-free c =
-    search (rules, free_lists)
+join-requires-clause-free c = search (rules, free_lists)
 
 pub invariant_of-self : goal.invariant_of-self
 invariant_of-self c =
     let s = c.self.inside in
-    let l =
-    hub_within s.records.items s.subscribers s.numbers.items c.args.index
+    let l = hub_within s.records.items s.subscribers s.numbers.items c.args.index
     (subst (λ (v : Hubs). IsSome (slice_get v.hubs c.args.index)) (sym c.self.view_is) c.requires.hub) in
-    let free =
-    free_lists s.records.items s.subscribers s.numbers.items c.self.invariant c.args.key.slot
+    let free = free_lists s.records.items s.subscribers s.numbers.items c.self.invariant c.args.key.slot
     (subst (λ (v : Hubs). IsFree v.hubs c.args.key.slot) (sym c.self.view_is) c.requires.free) in
     let slot = subst (λ (v : Hubs). c.args.key.slot < v.slots) (sym c.self.view_is) c.requires.slot in
     let newest = below_here s.records.items s.subscribers s.numbers.items c.self.invariant c.args.index c.args.key.number
@@ -31,11 +27,9 @@ invariant_of-self c =
 pub returns : goal.returns
 returns c =
     let s = c.self.inside in
-    let l =
-    hub_within s.records.items s.subscribers s.numbers.items c.args.index
+    let l = hub_within s.records.items s.subscribers s.numbers.items c.args.index
     (subst (λ (v : Hubs). IsSome (slice_get v.hubs c.args.index)) (sym c.self.view_is) c.requires.hub) in
-    let free =
-    free_lists s.records.items s.subscribers s.numbers.items c.self.invariant c.args.key.slot
+    let free = free_lists s.records.items s.subscribers s.numbers.items c.self.invariant c.args.key.slot
     (subst (λ (v : Hubs). IsFree v.hubs c.args.key.slot) (sym c.self.view_is) c.requires.free) in
     let slot = subst (λ (v : Hubs). c.args.key.slot < v.slots) (sym c.self.view_is) c.requires.slot in
     let joined =

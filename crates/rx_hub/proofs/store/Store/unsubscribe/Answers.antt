@@ -5,8 +5,7 @@ use Rattle.rx_hub.proofs.store.Store.unsubscribe.Goals as goal
 
 -- the subscriber stands on the hub's list
 pub there : (records : List Published) (lists : Lists) (numbers : List ℕ) → IsKept records lists numbers → (key : Key) (i : ℕ) →
-    IsSome (slice_get (hubs_in records lists numbers) i) →
-    IfSome (slice_get (hubs_in records lists numbers) i) (λ hub. is_on key hub.subscribers ≡ true) →
+    IsSome (slice_get (hubs_in records lists numbers) i) → IfSome (slice_get (hubs_in records lists numbers) i) (λ hub. is_on key hub.subscribers ≡ true) →
     (i < length records) × ((is_in key.slot (list_at lists i) ≡ true) × (key ≡ key_in numbers key.slot))
 there records lists numbers kept key i some on =
     let l = hub_within records lists numbers i some in
@@ -19,8 +18,7 @@ there records lists numbers kept key i some on =
 pub leave-requires : goal.leave-requires
 leave-requires c =
     let s = c.self.inside in
-    let h =
-    there s.records.items s.subscribers s.numbers.items c.self.invariant c.args.key c.args.index
+    let h = there s.records.items s.subscribers s.numbers.items c.self.invariant c.args.key c.args.index
     (subst (λ (v : Hubs). IsSome (slice_get v.hubs c.args.index)) (sym c.self.view_is) c.requires.hub)
     (subst (λ (v : Hubs). IfSome (slice_get v.hubs c.args.index) (λ hub. is_on c.args.key hub.subscribers ≡ true)) (sym c.self.view_is) c.requires.there) in
     record { member = c.promise.ensures.below c.args.index c.args.key.slot h.1.0 }
@@ -28,19 +26,16 @@ leave-requires c =
 pub invariant_of-self : goal.invariant_of-self
 invariant_of-self c =
     let s = c.self.inside in
-    let h =
-    there s.records.items s.subscribers s.numbers.items c.self.invariant c.args.key c.args.index
+    let h = there s.records.items s.subscribers s.numbers.items c.self.invariant c.args.key c.args.index
     (subst (λ (v : Hubs). IsSome (slice_get v.hubs c.args.index)) (sym c.self.view_is) c.requires.hub)
     (subst (λ (v : Hubs). IfSome (slice_get v.hubs c.args.index) (λ hub. is_on c.args.key hub.subscribers ≡ true)) (sym c.self.view_is) c.requires.there) in
     kept_left s.records.items s.subscribers s.numbers.items c.self.invariant c.args.index c.args.key c.leave.new.self h.0 c.promise.ensures h.1.1 h.1.0
-    c.leave.ensures.lists
-    c.leave.ensures.length c.leave.ensures.members
+    c.leave.ensures.lists c.leave.ensures.length c.leave.ensures.members
 
 pub returns : goal.returns
 returns c =
     let s = c.self.inside in
-    let h =
-    there s.records.items s.subscribers s.numbers.items c.self.invariant c.args.key c.args.index
+    let h = there s.records.items s.subscribers s.numbers.items c.self.invariant c.args.key c.args.index
     (subst (λ (v : Hubs). IsSome (slice_get v.hubs c.args.index)) (sym c.self.view_is) c.requires.hub)
     (subst (λ (v : Hubs). IfSome (slice_get v.hubs c.args.index) (λ hub. is_on c.args.key hub.subscribers ≡ true)) (sym c.self.view_is) c.requires.there) in
     let left =
