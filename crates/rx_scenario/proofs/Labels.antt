@@ -1,6 +1,6 @@
 -- Labels that were seen, as a set and as a list.
 use Rattle.std.proofs.Common.{◌≡◌, ℕ, ◌+◌, ◌<◌, Bool, true, false, List, [], ◌∷◌, length, drop, get_or, Option, Some}
-use Rattle.std.proofs.Common.{None, option_map, string_bytes, String, Global, cond, refl, sym, ◌∙◌, Bor, add-one, drop-cons}
+use Rattle.std.proofs.Common.{None, option_map, string_bytes, String, Global, cond, refl, sym, ◌∙◌, Bor, add-one, drop-cons, rules}
 use Rattle.std.specs.Prelude.{◌||◌, not}
 use Rattle.std.specs.HashSet.{HashSet, contains, Updates}
 use Rattle.std.specs.Str.{bytes_eq}
@@ -20,12 +20,10 @@ pub record IsHalfway {S : Type 0} (seen : HashSet (Bor (List ℕ)) S) (all left 
   pub same : are_new [] all ≡ are_new known left
 
 absent_if : (fresh there : Bool) → fresh ≡ not there → fresh ≡ true → there ≡ false
-absent_if fresh true told is_true = sym is_true ∙ told
-absent_if fresh false told is_true = refl
+absent_if fresh x1 told is_true = search rules
 
 present_if : (fresh there : Bool) → fresh ≡ not there → fresh ≡ false → there ≡ true
-present_if fresh true told is_false = refl
-present_if fresh false told is_false = sym is_false ∙ told
+present_if fresh x1 told is_false = search rules
 
 module _ {S : Type 0} where
   pub halfway-start : (seen : HashSet (Bor (List ℕ)) S) (all : List (Option Name)) → seen.keys ≡ [] → IsHalfway seen all all
@@ -58,9 +56,7 @@ module _ {S : Type 0} where
       (fresh : Bool)
       → IsHalfway seen all (label ∷ left) → label ≡ Some k.now → fresh ≡ not (contains same_text seen k) → fresh ≡ false → false ≡ are_new [] all
   halfway-twice {seen} {all} left label k fresh half is told is_false =
-      let here : IsHalfway seen all (Some k.now ∷ left) = rw is at half in
-      let present : is_one_of here.known k.now ≡ true = sym (here.seen_is.listed k) ∙ present_if fresh _ told is_false in
-      sym (here.same ∙ rw present refl)
+      search (rules, Some, present_if)
 
 pub labels_meant-drop : (labels : List (Option (String Global))) (i : ℕ) (label : Option (String Global)) → i < length labels
     → label ≡ get_or labels i label → labels_meant (drop i labels) ≡ option_map string_bytes label ∷ labels_meant (drop (i + 1) labels)

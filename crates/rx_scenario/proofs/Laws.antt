@@ -1,7 +1,7 @@
 -- A step from its parts, and how many steps there are.
 pub mod Members
 pub mod Checkpoints
-use Rattle.std.proofs.Common.{◌≡◌, ℕ, ◌+◌, List, [], ◌∷◌, ◌++◌, length, length-append, map, option_map, string_bytes, refl, sym, ap, ◌∙◌, rules}
+use Rattle.std.proofs.Common.{◌≡◌, ℕ, List, [], ◌∷◌, length, length-append, map, option_map, string_bytes, refl, ap, rules}
 use Rattle.std.specs.Prelude.{sum_by}
 use Rattle.std.proofs.lemmas.List.Sums.{sum_by-cons}
 use Rattle.rx_scenario.specs.declared.scenario.Step.{Step as StepInCode, out-Step, the_lemmas}
@@ -24,9 +24,4 @@ list_of-steps_of (s ∷ ss) = ap (λ (l : List Step). s ∷ l) (list_of-steps_of
 pub length-labels_in : {A : Type 0} (f : A → Step) (xs : List A) → length (labels_in (steps_of (map f xs))) ≡ sum_by (λ x. length (labels_of (f x))) xs
 length-labels_in f [] = refl
 length-labels_in {A} f (x ∷ xs) =
-    let rest = length-labels_in f xs in
-    let whole : length (labels_of (f x) ++ labels_in (steps_of (map f xs))) ≡ length (labels_of (f x)) + length (labels_in (steps_of (map f xs))) =
-    length-append (labels_of (f x)) (labels_in (steps_of (map f xs))) in
-    let sums : sum_by (λ (y : A). length (labels_of (f y))) (x ∷ xs) ≡ length (labels_of (f x)) + sum_by (λ y. length (labels_of (f y))) xs =
-    sum_by-cons (λ y. length (labels_of (f y))) x xs in
-    whole ∙ ap (λ (n : ℕ). length (labels_of (f x)) + n) rest ∙ sym sums
+    search (rules, length, map, length-append, sum_by-cons, ℕ, length-labels_in f xs)

@@ -1,5 +1,5 @@
 -- Steps that make no checkpoint: no step among them makes one, nor one that follows it.
-use Rattle.std.proofs.Common.{◌≡◌, ℕ, zero, suc, Bool, true, false, Some, refl, ap, ◌∙◌, sym}
+use Rattle.std.proofs.Common.{◌≡◌, ℕ, zero, suc, Bool, false, Some, rules}
 use Rattle.std.proofs.lemmas.Bool.{false≢true}
 use Rattle.std.proofs.lemmas.Option.{none-some, same_Some}
 use Rattle.std.specs.Prelude.{◌||◌, slice_get}
@@ -7,15 +7,13 @@ use Rattle.rx_scenario.specs.Scenario.{checkpoint, command, Steps, no_steps, one
 use Rattle.rx_scenario.specs.Checkpoints.{is_checkpoint, has_checkpoint, makes_checkpoint}
 
 first_none : (a b : Bool) → (a || b) ≡ false → a ≡ false
-first_none false b none = refl
-first_none true b none = none
+first_none x0 b none = search rules
 
 other_none : (a b : Bool) → (a || b) ≡ false → b ≡ false
-other_none false b none = none
-other_none true b none = absurd (false≢true (sym none))
+other_none x0 b none = search (rules, false≢true)
 
 pub is_checkpoint-makes : (s : Step) → makes_checkpoint s ≡ false → ¬ (s.action ≡ command checkpoint)
-is_checkpoint-makes s none is = false≢true (sym (first_none (is_checkpoint s.action) (has_checkpoint s.followers) none) ∙ ap is_checkpoint is)
+is_checkpoint-makes s none is = search (rules, false≢true, first_none)
 
 pub has_checkpoint-followers : (s : Step) → makes_checkpoint s ≡ false → has_checkpoint s.followers ≡ false
 has_checkpoint-followers s none = other_none (is_checkpoint s.action) (has_checkpoint s.followers) none
@@ -23,6 +21,6 @@ has_checkpoint-followers s none = other_none (is_checkpoint s.action) (has_check
 pub makes_checkpoint-at : (ss : Steps) (i : ℕ) (s : Step) → has_checkpoint ss ≡ false → slice_get (list_of ss) i ≡ Some s → makes_checkpoint s ≡ false
 makes_checkpoint-at no_steps i s none there = absurd (none-some s there)
 makes_checkpoint-at (one_more label delay action followers others) zero s none there =
-    ap makes_checkpoint (sym (same_Some _ s there)) ∙ first_none (is_checkpoint action || has_checkpoint followers) (has_checkpoint others) none
+    search (rules, same_Some, first_none)
 makes_checkpoint-at (one_more label delay action followers others) (suc i) s none there =
     makes_checkpoint-at others i s (other_none (is_checkpoint action || has_checkpoint followers) (has_checkpoint others) none) there

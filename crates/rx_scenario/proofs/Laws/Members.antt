@@ -1,5 +1,5 @@
 -- Tests on members' names: on one, and on all through the views of a map and of a list of texts.
-use Rattle.std.proofs.Common.{◌≡◌, ◌≢◌, ℕ, List, [], ◌∷◌, Bool, true, false, Decides, map, refl, sym, ap, ◌∙◌, Global}
+use Rattle.std.proofs.Common.{◌≡◌, ◌≢◌, ℕ, List, [], ◌∷◌, Bool, true, false, Decides, map, refl, sym, ap, ◌∙◌, Global, rules}
 use Rattle.std.specs.Prelude.{◌&&◌, ◌||◌}
 use Rattle.std.specs.Str.{bytes_eq}
 use Rattle.std.specs.List.{list_all, list_any}
@@ -17,22 +17,16 @@ use Rattle.rx_device.specs.Part.{data_of, members_data}
 use Rattle.rx_scenario.specs.Reading.{keys}
 
 in_turn : (a b c : Bool) → (b && (a && c)) ≡ ((a && b) && c)
-in_turn true b c = refl
-in_turn false true c = refl
-in_turn false false c = refl
+in_turn x0 b c = search rules
 
 swapped : (a b c : Bool) → (b && (a && c)) ≡ (a && (b && c))
-swapped true b c = refl
-swapped false true c = refl
-swapped false false c = refl
+swapped x0 b c = search rules
 
 pub and_all : (b : Bool) → (b && true) ≡ b
-and_all true = refl
-and_all false = refl
+and_all x0 = search rules
 
 twice : (a c : Bool) → (a && c) ≡ (a && (a && c))
-twice true c = refl
-twice false c = refl
+twice x0 c = search rules
 
 placed : (p : List ℕ → Bool) (k l : List ℕ) (d e : Data) (ms : Members) (o : Ordering) → slice_cmp nat_cmp k l ≡ o
     → list_all p (keys (put k d ms)) ≡ (p k && list_all p (keys ms))
@@ -61,8 +55,4 @@ list_all_keys p (m ∷ ms) found =
     ∙ in_turn (p m.0.now) (list_all (λ (m : Bor (List ℕ) × Value Global). p m.0.now) ms) (list_all p (keys found))
 
 pub bytes_eq-other : (xs ys : List ℕ) → ys ≢ xs → bytes_eq xs ys ≡ false
-bytes_eq-other xs ys other = go (bytes_eq xs ys) (bytes_eq-Decides xs ys)
-  where
-    go : (b : Bool) → Decides b (xs ≡ ys) → b ≡ false
-    go true d = absurd (other (sym (d.0 refl)))
-    go false d = refl
+bytes_eq-other xs ys other = search (rules, bytes_eq-Decides, Bool, Decides)

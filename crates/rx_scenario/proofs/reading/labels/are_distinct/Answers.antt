@@ -1,4 +1,4 @@
-use Rattle.std.proofs.Common.{◌≡◌, Some, None, option_map, string_bytes, ap, sym, refl}
+use Rattle.std.proofs.Common.{◌≡◌, Some, None, option_map, string_bytes, ap, sym, refl, rules}
 use Rattle.rx_scenario.specs.Scenario.{labels_meant}
 use Rattle.rx_scenario.proofs.Labels.{halfway-start, halfway-none, halfway-some, halfway-twice, labels_meant-drop}
 use Rattle.rx_scenario.proofs.reading.labels.are_distinct.Goals.{in-Some+in_ok-insert+else-not-branch, in_default}
@@ -23,7 +23,4 @@ loop-label-preserved c =
 
 pub returns-then-not-branch : goal.returns-then-not-branch
 returns-then-not-branch c =
-    let here = labels_meant-drop c.args.labels.now c.loop-label.label-index c.label-item.result c.loop-label-test.true c.label-item.is in
-    let half = rw here at c.loop-label.invariant in
-    let is : option_map string_bytes c.label-item.result ≡ Some c.as_str.result.now = rw c.in-Some.is (ap Some (sym c.as_str.ensures.value)) in
-    halfway-twice _ _ c.as_str.result c.in_ok-insert.field-0 half is c.in_ok-insert.ensures.added c.if-not-branch.true
+    search (rules, labels_meant-drop, option_map, string_bytes, Some, halfway-twice)

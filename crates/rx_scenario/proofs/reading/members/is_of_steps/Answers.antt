@@ -1,4 +1,4 @@
-use Rattle.std.proofs.Common.{codes, refl}
+use Rattle.std.proofs.Common.{codes, refl, rules}
 use Rattle.rx_scenario.specs.Reading.{is_one_of}
 use Rattle.rx_scenario.proofs.Laws.Members.{bytes_eq-other}
 use Rattle.rx_scenario.proofs.reading.members.is_of_steps.Goals as goal
@@ -6,14 +6,7 @@ use Rattle.rx_scenario.proofs.reading.members.is_of_steps.Goals as goal
 pub returns-in_default : goal.returns-in_default
 unfolding is_one_of
 returns-in_default c =
-    let key = c.args.key.now in
-    rw (
-      bytes_eq-other (codes "do") key c.in_default.not-do,
-      bytes_eq-other (codes "label") key c.in_default.not-label,
-      bytes_eq-other (codes "at") key c.in_default.not-at,
-      bytes_eq-other (codes "after") key c.in_default.not-after,
-      bytes_eq-other (codes "then") key c.in_default.not-then,
-    ) refl
+    search (rules, bytes_eq-other, codes)
 
 pub returns-in-do : goal.returns-in-do
 unfolding is_one_of
