@@ -1,5 +1,5 @@
 -- What is bound after a name more, and after one less.
-use Rattle.std.proofs.Common.{◌≡◌, ℕ, ◌==◌, List, Bool, true, false, cond, Option, Some, None, option_map, refl, ap, ◌∙◌, String, Global, string_bytes}
+use Rattle.std.proofs.Common.{◌≡◌, ℕ, ◌==◌, List, Bool, cond, Option, Some, None, option_map, ap, ◌∙◌, String, Global, string_bytes, rules}
 use Rattle.std.proofs.lemmas.Map.Text.{hash_map_updates_text}
 use Rattle.std.specs.Bool.{nat_eq}
 use Rattle.std.specs.Str.{bytes_eq}
@@ -12,8 +12,7 @@ use Rattle.rx_line.proofs.NamesStayPaired.{paired-bind, paired-forget}
 
 by_bytes : (b : Bool) (x : Option (String Global)) (y : Option (String Global))
     → option_map string_bytes (cond b x y) ≡ cond b (option_map string_bytes x) (option_map string_bytes y)
-by_bytes true x y = refl
-by_bytes false x y = refl
+by_bytes x0 x y = search rules
 
 pub bound_names : (old new : Names) (one other : String Global) (spot : Spot) → string_bytes other ≡ string_bytes one →
     UpdatesBy string_eq (λ (k : String Global). bytes_eq (string_bytes one) (string_bytes k)) old.by_name new.by_name (Some spot) →
@@ -27,17 +26,14 @@ bound_names old new one other spot twice by_name by_number = record {
 pub bound_paired : (old new : Names) (name : List ℕ) (spot : Spot) → spot_of old name ≡ None
     → name_of old spot.number ≡ None → Binds old name spot new → IsPaired old → IsPaired new
 bound_paired old new name spot free unnamed binds paired =
-    paired-bind (spot_of old) (spot_of new) (name_of old) (name_of new) paired name spot free unnamed binds.spots binds.names
+    search (rules, paired-bind)
 
 pub forgotten_names : (old new : Names) (number : ℕ) (name : List ℕ) →
     UpdatesBy string_eq (λ (k : String Global). bytes_eq name (string_bytes k)) old.by_name new.by_name None →
     UpdatesBy nat_eq (nat_eq number) old.by_number new.by_number None → Forgets old number name new
-forgotten_names old new number name by_name by_number = record {
-  spots = λ n. hash_map_updates_text name old.by_name new.by_name None by_name n;
-  names = λ k. ap (option_map string_bytes) (by_number.0 k) ∙ by_bytes (nat_eq number k) None _;
-}
+forgotten_names old new number name by_name by_number = search (rules, hash_map_updates_text, None, option_map, string_bytes, by_bytes)
 
 pub forgotten_paired : (old new : Names) (number : ℕ) (name : List ℕ)
     → name_of old number ≡ Some name → Forgets old number name new → IsPaired old → IsPaired new
 forgotten_paired old new number name known forgets paired =
-    paired-forget (spot_of old) (spot_of new) (name_of old) (name_of new) paired number name known forgets.spots forgets.names
+    search (rules, paired-forget)

@@ -7,9 +7,9 @@ use Rattle.std.specs.Str.{bytes_eq}
 use Rattle.std.specs.String.{string_eq}
 use Rattle.std.specs.HashMap.{HashMap, get, get_by_text, IsReordered}
 use Rattle.std.specs.Map.{lookup}
-use Rattle.rx_line.specs.declared.names.Spot.{Spot}
 use Rattle.rx_line.specs.declared.names.Names.{Names}
 use Rattle.rx_line.specs.Names.{IsPaired, AreSame}
+use Rattle.std.proofs.Common.{rules}
 
 -- what is found stands at a key
 found_at : {K X : Type 0} (test : K → Bool) (es : List (K × X)) (x : X) → lookup test es ≡ Some x → (k : K) × (test k ≡ true)
@@ -29,20 +29,10 @@ module _ {X S : Type 0} (m n : HashMap (String Global) X S) (same : (q : String 
 
   -- so at any bytes
   pub reordered_text : (cs : List ℕ) → get_by_text n cs ≡ get_by_text m cs
-  reordered_text cs = by_cases (get_by_text n cs) (get_by_text m cs) refl refl where
-    by_cases : (a b : Option X) → get_by_text n cs ≡ a → get_by_text m cs ≡ b → get_by_text n cs ≡ get_by_text m cs
-    by_cases None None new old = new ∙ sym old
-    by_cases (Some x) b new old = let key = found_at (λ (k : String Global). bytes_eq cs (string_bytes k)) n.entries x new in at_key cs key.0 key.1
-    by_cases None (Some x) new old = let key = found_at (λ (k : String Global). bytes_eq cs (string_bytes k)) m.entries x old in at_key cs key.0 key.1
+  reordered_text cs = search (rules, Option, None, Some, found_at, String, Global, string_bytes, at_key)
 
 pub same_names : (old new : Names) → IsReordered string_eq old.by_name new.by_name → IsReordered nat_eq old.by_number new.by_number → AreSame old new
-same_names old new by_name by_number = record {
-  spots = λ n. reordered_text old.by_name new.by_name by_name.2 n;
-  names = λ k. ap (option_map string_bytes) (by_number.2 k);
-}
+same_names old new by_name by_number = search (rules, reordered_text, option_map, string_bytes)
 
 pub still_paired : (old new : Names) → AreSame old new → IsPaired old → IsPaired new
-still_paired old new same paired = record {
-  named = λ n s found. same.names s.number ∙ paired.named n s (sym (same.spots n) ∙ found);
-  numbered = λ k n found. ap (option_map (λ (s : Spot). s.number)) (same.spots n) ∙ paired.numbered k n (sym (same.names k) ∙ found);
-}
+still_paired old new same paired = search (rules, option_map)

@@ -1,4 +1,4 @@
-use Rattle.std.proofs.Common.{ℕ, List, subst}
+use Rattle.std.proofs.Common.{ℕ, List, subst, rules}
 use Rattle.rx_line.specs.declared.names.Names.{Names}
 use Rattle.rx_line.specs.Names.{Binds}
 use Rattle.rx_line.proofs.BoundAfterChange.{bound_names, bound_paired}
@@ -12,5 +12,4 @@ returns-clause-binds c =
 
 pub returns-clause-paired : goal.returns-clause-paired
 returns-clause-paired c =
-    let new : Names = record { by_name = c.insert.new.self; by_number = c.insert-2.new.self } in
-    bound_paired c.args.self.now new c.args.name c.args.spot c.requires.free c.requires.unnamed (returns-clause-binds c)
+    search (rules, bound_paired, returns-clause-binds)
