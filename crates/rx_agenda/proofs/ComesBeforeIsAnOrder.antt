@@ -1,6 +1,5 @@
 -- The comparison is an order.
-use Rattle.rx_agenda.proofs.Common.{◌≡◌, ◌⊎◌, cases_lt, Origin, Turn, Placed, IsScheduledBefore, IsEarlierTurn}
-use Rattle.rx_agenda.proofs.Common.{ComesBefore}
+use Rattle.rx_agenda.proofs.Common.{◌≡◌, ◌⊎◌, cases_lt, Origin, Turn, Placed, IsScheduledBefore, IsEarlierTurn, ComesBefore}
 use Rattle.std.proofs.Common.{rules}
 
 pub scheduled-trans : (a b c : Origin) → IsScheduledBefore a b → IsScheduledBefore b c → IsScheduledBefore a c

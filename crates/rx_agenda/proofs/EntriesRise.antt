@@ -26,11 +26,9 @@ is_some-map (Some c) = refl
 bound-push : (labels : List Binding) (name : Name) (number : ℕ) (l : Name)
     → bound (with_binding labels name number) l ≡ cond (is_some (bound labels l)) (bound labels l) (cond (bytes_eq name l) (Some number) None)
 unfolding bound
-bound-push labels name number l =
-    let b : Binding = record { name = name; number = number } in
-    let p : Binding → Bool = λ c. bytes_eq c.name l in
-    ap (option_map (λ c. c.number)) (find-push p labels b ∙ same_last p b (find p labels)) ∙ bound_from b (bytes_eq name l) (find p labels)
-    ∙ ap (λ t. cond t (bound labels l) (cond (bytes_eq name l) (Some number) None)) (is_some-map (find p labels))
+bound-push labels name number l = let b : Binding = record { name = name; number = number } in let p : Binding → Bool = λ c. bytes_eq _ l in ap
+    (option_map (λ c. _)) (find-push p labels b ∙ same_last p b (find p labels)) ∙ bound_from b (bytes_eq name l) (find p labels) ∙ ap (λ t. cond t
+    (bound labels l) (cond (bytes_eq name l) (Some number) None)) (is_some-map (find p labels))
 
 -- the two ways in which a name can stand for a ticket once one more is bound
 pub bound_old_or_new : (labels : List Binding) (name : Name) (number : ℕ) (l : Name) (t : ℕ) → bound (with_binding labels name number) l ≡ Some t

@@ -3,7 +3,7 @@ use Rattle.rx_agenda.proofs.Common.{◌≡◌, ℕ, zero, suc, List, [], ◌∷�
 use Rattle.rx_agenda.proofs.Common.{Name, Command, Action, command, cancel, Step, list_of, bound, Answer, Accepted, Refused, NoStep, Agenda, empty_agenda}
 use Rattle.rx_agenda.proofs.Common.{with_steps, followed_by, next_step, taken_off, none_waits, without_ticket, Acts, does_command, does_cancel, HaveCome}
 use Rattle.rx_agenda.proofs.Common.{none_yet, one_more, Executed, done_in}
-use Rattle.std.proofs.Common.{append_assoc, append-nil}
+use Rattle.std.proofs.Common.{append_assoc, append-nil, rules}
 use Rattle.std.specs.Prelude.{negsuc, pos, codes}
 use Rattle.std.specs.Option.{option_map_or}
 use Rattle.std.proofs.lemmas.Option.{slice_get-map}
@@ -14,7 +14,6 @@ use Rattle.rx_agenda.specs.declared.answer.Cause.TheVariants.{Book}
 use Rattle.rx_agenda.specs.Claims.{IsOrderOf}
 use Rattle.rx_agenda.proofs.RunsInOrder.{runs_in_order}
 use Rattle.rx_agenda.proofs.OneOrder.{determined}
-use Rattle.std.proofs.Common.{rules}
 
 -- a run that computes: commands are answered as these answers say, cancels by the agenda ------------
 

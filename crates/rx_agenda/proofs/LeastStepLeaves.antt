@@ -2,14 +2,13 @@
 use Rattle.rx_agenda.proofs.Common.{◌≡◌, ◌<◌, ◌≤◌, ℕ, List, [], ◌∷◌, true, false, cond, nat_eq, refl, sym, ap, subst, ◌∙◌, inl, inr, arith, ◌⊎◌, Option, Some}
 use Rattle.rx_agenda.proofs.Common.{None, is_some, lookup, cases_lt, Work, next_due, without, Name, bound, Answer, Accepted, Refused, NoStep, Origin, Turn}
 use Rattle.rx_agenda.proofs.Common.{Placed, IsScheduledBefore, IsEarlierTurn, ComesBefore, WaitsUnder}
-use Rattle.std.proofs.Common.{nat_le}
+use Rattle.std.proofs.Common.{nat_le, rules}
 use Rattle.std.proofs.lemmas.Bool.{le-leb, lt-leb}
 use Rattle.rx_time.specs.Schedule.{earlier, next_of, if_due}
 use Rattle.rx_agenda.proofs.Members.{IsIn, Pairwise, pairwise_removed, pairwise_cases, removed_in, removed_or_stays, removed_apart, lookup_at, lookup_in}
 use Rattle.rx_agenda.proofs.PlacedSteps.{Entry, PlacedAgenda, IsPending, IsWithin, Pops, of_turn, of_timeline, without_first, without_entry, Takes, takes}
 use Rattle.rx_agenda.proofs.PlacedSteps.{leaves, without_placed}
 use Rattle.rx_agenda.proofs.EntriesRise.{IsEntry, Rises, FirstOf, IsReady}
-use Rattle.std.proofs.Common.{rules}
 
 -- what comes next of a timeline --------------------------------------------------------------------
 

@@ -3,7 +3,7 @@ use Rattle.rx_agenda.proofs.Common.{◌≡◌, ◌<◌, ◌≤◌, ◌+◌, ℕ,
 use Rattle.rx_agenda.proofs.Common.{slice_get, slice_get_within, schedule, next_due, Name, Step, list_of, bound, Answer, Accepted, Turn, Placed, Executed}
 use Rattle.rx_agenda.proofs.Common.{ComesBefore, opening_turn, placed_at, held_by, IsHeld, by_scenario, by_step, WaitsUnder}
 use Rattle.rx_agenda.proofs.Common.{IsCancelled, IsDue, IsExecuted, IsInOrder, WaitsAt, IsAnswered, one_waits, no_step_waits, AreCancelsAnswered}
-use Rattle.std.proofs.Common.{length-append}
+use Rattle.std.proofs.Common.{length-append, rules}
 use Rattle.rx_agenda.proofs.Members.{IsIn, get_push, get_old, get_last}
 use Rattle.rx_agenda.proofs.ComesBeforeIsAnOrder.{comes-trans, comes-asym, comes-self}
 use Rattle.rx_agenda.proofs.PlacedSteps.{PlacedAgenda, IsPending}
@@ -12,7 +12,6 @@ use Rattle.rx_agenda.proofs.StepsJoin.{IsOneOf, with_all, IsReadyAt, ready_all, 
 use Rattle.rx_agenda.proofs.LeastStepLeaves.{PopsWell, Says, one_there, none_there, none_due}
 use Rattle.rx_agenda.proofs.HeldAndCancelled.{ActsWell, IsSoFar, held_holder, held_more, held_cases, one_held, one_holder, meant_less, meant_now}
 use Rattle.rx_agenda.proofs.HeldAndCancelled.{cancelled_more, cancelled_before, cancelled_cases, taken_cancelled, answered_more}
-use Rattle.std.proofs.Common.{rules}
 
 -- a step that joins comes after the one that holds it
 module _ (x : Placed) (h : ℕ) (before : x.origin.holder < h) (head : x.turn.head.holder < h) where

@@ -2,13 +2,12 @@
 use Rattle.rx_agenda.proofs.Common.{◌≡◌, ◌<◌, ◌≤◌, ◌+◌, ℕ, zero, suc, List, [], ◌∷◌, ◌++◌, true, false, cond, refl, sym, ap, subst, ◌∙◌, inl, inr, arith, ◌⊎◌}
 use Rattle.rx_agenda.proofs.Common.{Option, Some, None, is_some, slice_get, cases_lt, Work, with_work, Name, Step, Binding, bound, is_bound, with_binding}
 use Rattle.rx_agenda.proofs.Common.{with_label, with_steps, Origin, Turn, Placed, IsScheduledBefore, IsEarlierTurn, WaitsUnder, held_by, placed_at, turn_after}
-use Rattle.std.proofs.Common.{max}
+use Rattle.std.proofs.Common.{max, rules}
 use Rattle.rx_agenda.proofs.Members.{IsIn, in-push, in_front, in_back, pairwise_push}
 use Rattle.rx_agenda.proofs.ComesBeforeIsAnOrder.{scheduled-trans, scheduled-asym, scheduled-self}
 use Rattle.rx_agenda.proofs.PlacedSteps.{Entry, PlacedAgenda, IsPending, with_placed_after, with_placed, with_placed-seen, seen}
 use Rattle.rx_agenda.proofs.EntriesRise.{bound_old_or_new, bound_none, bound_kept, bound_new, labelled_as, IsBorne, IsEntry, IsOfTurn, Rises, FirstOf}
 use Rattle.rx_agenda.proofs.EntriesRise.{IsLabelled, IsReady}
-use Rattle.std.proofs.Common.{rules}
 
 -- those before, and one more
 abbrev pub OrOne : (Placed → Type 0) → Placed → Placed → Type 0
