@@ -1,8 +1,8 @@
 pub mod Common
 pub mod Laws
 pub mod PlacesApart
-pub mod PlaceKinds
-pub mod Origins
+pub mod PackedNodes
+pub mod FlagWords
 pub mod StoreLemmas
 pub mod SlotsFit
 pub mod UseSteps

@@ -13,25 +13,33 @@ module _ {X : Type 0} (s : Slots X) where
   some_count slot there counted =
       search (rules, cases_lt, get_or-le-sum_by, true≢false, get_or_past)
 
+-- where a value came to, its slot fits
+pub home_fits : {X : Type 0} (s : Slots X) (key : Key) {slot capacity : ℕ} → IsSome (find s key) → IsWithin s → capacity ≡ s.count + s.room →
+    capacity ≤ 536870912 → slot ≡ key.slot → slot < 536870912
+home_fits s key found within is most at = let below = within key found in omega (arith, below, is, most, at)
+
 module _ {X : Type 0} (s : Slots X) (within : IsWithin s) (most : s.count + s.room ≤ 536870912) where
-  slot_fits : (slot : ℕ) → is_some (entry_at s slot) ≡ true → slot < 4294967296
+  slot_fits : (slot : ℕ) → is_some (entry_at s slot) ≡ true → slot < 536870912
   slot_fits slot there = of (entry_at s slot) refl where
-    of : (o : Option (Entry X)) → entry_at s slot ≡ o → slot < 4294967296
+    of : (o : Option (Entry X)) → entry_at s slot ≡ o → slot < 536870912
     of None at = absurd (true≢false (sym there ∙ ap is_some at))
     of (Some e) at =
         let found = ap (λ o. is_some (with_number e.number o)) at ∙ ap is_some (with_number-same e.number e refl) in
         let below = within (record { slot = slot; number = e.number }) found in
         omega (arith, below, most)
 
+  slot_of_key : (key : Key) → IsSome (find s key) → key.slot < 4294967296
+  slot_of_key key found = let below = within key found in omega (arith, below, most)
+
   pub above_fits : (above : Option Key) → IfSome above (λ key. IsSome (find s key)) → IfSome above (λ key. key.slot < 4294967296)
-  above_fits x0 there = search rules
+  above_fits x0 there = search (rules, slot_of_key)
 
 module _ {T : Type 0} (s : Store T) (nodes_in : IsWithin s.nodes) (nodes_most : s.nodes.count + s.nodes.room ≤ 536870912)
     (resources_in : IsWithin s.resources) (resources_most : s.resources.count + s.resources.room ≤ 536870912) where
-  node_fits : (slot : ℕ) → is_some (entry_at (nodes_of s) slot) ≡ true → slot < 4294967296
+  node_fits : (slot : ℕ) → is_some (entry_at (nodes_of s) slot) ≡ true → slot < 536870912
   node_fits = slot_fits (nodes_of s) (within-project (λ l. l.node) s.nodes nodes_in) nodes_most
 
-  pub place_fits : (p : Place) → is_there s p ≡ true → slot_of p < 4294967296
+  pub place_fits : (p : Place) → is_there s p ≡ true → slot_of p < 536870912
   place_fits Roots there = omega arith
   place_fits Due there = omega arith
   place_fits Waiting there = omega arith

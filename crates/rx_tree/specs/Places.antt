@@ -1,5 +1,5 @@
 -- The places of a tree's rings. No public clause cites this module.
-use Rattle.std.specs.Prelude.{ℕ, ◌==◌, Bool, true, false, ◌&&◌}
+use Rattle.std.specs.Prelude.{ℕ, ◌==◌, ◌/◌, ◌%◌, Bool, true, false, ◌&&◌, cond}
 use Rattle.rx_tree.specs.declared.links.Place.{Place}
 use Rattle.rx_tree.specs.declared.links.Place.TheVariants.{Roots, Due, Waiting, Children, Held, Sibling, Noted, Stored}
 use Rattle.rx_slots.specs.Rings.{Places}
@@ -22,6 +22,16 @@ slot_of (Sibling s) = s
 slot_of (Noted s) = s
 slot_of (Stored s) = s
 slot_of _ = 0
+
+-- and the place of these
+abbrev pub place_at : ℕ → ℕ → Place
+place_at tag s =
+    cond (tag == 0) Roots (cond (tag == 1) Due (cond (tag == 2) Waiting (cond (tag == 3) (Children s) (cond (tag == 4) (Held s)
+    (cond (tag == 5) (Sibling s) (cond (tag == 6) (Noted s) (Stored s)))))))
+
+-- the place of a link's word, which has its tag in the three low bits
+abbrev pub place_in : ℕ → Place
+place_in word = place_at (word % 8) (word / 8)
 
 abbrev pub is_place : Place → Place → Bool
 is_place p q = (tag_of p == tag_of q) && (slot_of p == slot_of q)

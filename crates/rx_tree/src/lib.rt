@@ -44,10 +44,11 @@
 
 mod checkpoint;
 mod closed;
+mod flags;
 mod linked;
 mod links;
 mod node;
-mod origin;
+mod packed;
 mod records;
 mod sibling_rings;
 mod store;

@@ -5,15 +5,15 @@ ghost use Rattle.rx_event.specs.Events.{makes_node, parent_named, is_root, is_le
 ghost use Rattle.rx_event.specs.Events.{source_named, inner_named, notifier_named, hub_connected, hub_subscribed};
 ghost use Rattle.rx_event.specs.Marks.{terminal_due, after_child, after_source, after_notifier, after_inner, after_projection, after_firing, after_decline};
 ghost use Rattle.rx_tree.specs.Store.{alone, no_counts};
-ghost use Rattle.rx_tree.specs.Places.{slot_of, is_place};
+ghost use Rattle.rx_tree.specs.Places.{is_place};
 ghost use Rattle.std.proofs.Math.Bool.{not};
 ghost use Rattle.rx_tree.specs.Tree.{with_marks};
 ghost use Rattle.rx_tree.specs.declared.links.Place.TheVariants.{Children, Held, Sibling, Noted};
 
 use crate::closed::Closed;
-use crate::links::{Link, LinkKinds, LinkSlots, Place, PlaceKind};
+use crate::links::{Link, Place, Step};
 use crate::node::Node;
-use crate::origin::{KindWord, Origin, PlaceWord};
+use crate::packed::{KindWord, Packed, PlaceWord, completes_source, first_end};
 use crate::store::Counts;
 use rx_event::{Event, Marks, Place as At, Terminal};
 use rx_slots::Key;
@@ -22,21 +22,15 @@ use std::marker::Model;
 /// The record of an open node as it stands in the tree, to be read in place: what made the node, its
 /// marks, and its links. It is seen as a record with the field `node`; its links are the tree's own.
 ///
-/// A slot is a word of 32 bits, and the kinds of links stand apart from their slots, a byte each, so that a
-/// record takes little memory.
+/// It takes 88 bytes, so that a node takes little memory.
 #[derive(Drop)]
 pub struct Record {
-    origin: Origin,
-    marks: Marks,
-    sibling: LinkSlots,
-    noted: LinkSlots,
-    children: LinkSlots,
-    held: LinkSlots,
+    packed: Packed,
+    sibling: Link,
+    noted: Link,
+    children: Link,
+    held: Link,
     held_count: Counts,
-    sibling_kinds: LinkKinds,
-    noted_kinds: LinkKinds,
-    children_kinds: LinkKinds,
-    held_kinds: LinkKinds,
 }
 
 impl Model for Record {
@@ -44,14 +38,14 @@ impl Model for Record {
 
     ghost Value = { LinkedNode };
 
-    ghost use Rattle.rx_tree.specs.Record.{link_of, node_of};
+    ghost use Rattle.rx_tree.specs.Record.{node_in};
 
     ghost view = { λ l. record {
-      node = node_of l.origin.place l.origin.kind l.origin l.marks;
-      sibling = link_of l.sibling l.sibling_kinds;
-      noted = link_of l.noted l.noted_kinds;
-      children = link_of l.children l.children_kinds;
-      held = link_of l.held l.held_kinds;
+      node = node_in l.packed;
+      sibling = l.sibling;
+      noted = l.noted;
+      children = l.children;
+      held = l.held;
       held_count = l.held_count;
     } };
 }
@@ -59,35 +53,25 @@ impl Model for Record {
 impl Record {
     // A record at a slot that stands on no ring.
     #[inline(always)]
-    #[tactic(auto, using(crate::proofs::Origins::node_back))]
+    #[tactic(auto, using(crate::proofs::PackedNodes::node_back))]
     pub(crate) fn alone(node: Node, slot: usize) -> Self
         requires makes { IsTrue (makes_node node.made) }
         requires named { parent_named node.made ≡ option_map (λ key. key.number) node.above }
-        requires fits { slot < 2 ^ 32 }
         requires above_fits { IfSome node.above (λ key. key.slot < 2 ^ 32) }
         ensures node { result.node ≡ node }
-        ensures sibling { result.sibling ≡ alone (Sibling slot) }
-        ensures noted { result.noted ≡ alone (Noted slot) }
-        ensures children { result.children ≡ alone (Children slot) }
-        ensures held { result.held ≡ alone (Held slot) }
+        ensures sibling { slot < 2 ^ 29 → result.sibling ≡ alone (Sibling slot) }
+        ensures noted { slot < 2 ^ 29 → result.noted ≡ alone (Noted slot) }
+        ensures children { slot < 2 ^ 29 → result.children ≡ alone (Children slot) }
+        ensures held { slot < 2 ^ 29 → result.held ≡ alone (Held slot) }
         ensures held_count { result.held_count ≡ no_counts }
     {
-        let itself = LinkSlots {
-            next: slot as u32,
-            previous: slot as u32,
-        };
         Record {
-            origin: Origin::of(node),
-            marks: node.marks,
-            sibling: itself,
-            noted: itself,
-            children: itself,
-            held: itself,
+            packed: Packed::of(node, 0),
+            sibling: Link::coming(Place::Sibling(slot)),
+            noted: Link::coming(Place::Noted(slot)),
+            children: Link::coming(Place::Children(slot)),
+            held: Link::coming(Place::Held(slot)),
             held_count: Counts::zero(),
-            sibling_kinds: LinkKinds::both(PlaceKind::Sibling),
-            noted_kinds: LinkKinds::both(PlaceKind::Noted),
-            children_kinds: LinkKinds::both(PlaceKind::Children),
-            held_kinds: LinkKinds::both(PlaceKind::Held),
         }
     }
 
@@ -97,22 +81,22 @@ impl Record {
         ensures { result ≡ self.now.node }
     {
         Node {
-            made: self.origin.made(),
-            above: self.origin.above(),
-            marks: self.marks,
+            made: self.packed.made(),
+            above: self.packed.above(),
+            marks: self.packed.marks(),
         }
     }
 
     // What is left of it where its node is moved out of the tree.
     #[inline(always)]
     pub(crate) fn closed(&self, key: Key) -> Closed
+        requires fits { key.slot < 2 ^ 32 }
         ensures key { result.key ≡ key }
         ensures node { result.node ≡ self.now.node }
     {
         Closed {
-            key,
-            origin: self.origin,
-            marks: self.marks,
+            number: key.number,
+            packed: self.packed.at(key.slot as u32),
         }
     }
 
@@ -121,7 +105,7 @@ impl Record {
     pub fn made(&self) -> Event
         ensures { result ≡ self.now.node.made }
     {
-        self.origin.made()
+        self.packed.made()
     }
 
     /// The key of the node that it stands below; None for a root and for a connection.
@@ -129,16 +113,16 @@ impl Record {
     pub fn parent(&self) -> Option<Key>
         ensures { result ≡ self.now.node.above }
     {
-        self.origin.above()
+        self.packed.above()
     }
 
     // The slot of that node.
     #[inline(always)]
-    #[tactic(auto, using(crate::proofs::Origins::slot_above))]
+    #[tactic(auto, using(crate::proofs::PackedNodes::slot_above))]
     pub(crate) fn above_slot(&self) -> usize
         ensures { IfSome self.now.node.above (λ key. result ≡ key.slot) }
     {
-        self.origin.slot as usize
+        self.packed.slot as usize
     }
 
     /// What it remembers of what happened below it.
@@ -146,7 +130,7 @@ impl Record {
     pub fn marks(&self) -> Marks
         ensures { result ≡ self.now.node.marks }
     {
-        self.marks
+        self.packed.marks()
     }
 
     /// How many projected items have neither got an inner observable nor been declined.
@@ -154,7 +138,7 @@ impl Record {
     pub fn owed(&self) -> u64
         ensures { result ≡ self.now.node.marks.owed }
     {
-        self.marks.owed
+        self.packed.owed
     }
 
     /// How many nodes are open directly below it.
@@ -162,7 +146,7 @@ impl Record {
     pub fn open_children(&self) -> u64
         ensures { result ≡ self.now.node.marks.open_children }
     {
-        self.marks.open_children
+        self.packed.open_children
     }
 
     /// Whether a source was ever opened below it.
@@ -170,7 +154,7 @@ impl Record {
     pub fn source_opened(&self) -> bool
         ensures { result ≡ self.now.node.marks.source_opened }
     {
-        self.marks.source_opened
+        self.packed.happened.source_opened()
     }
 
     /// Whether a notifier was ever opened below it.
@@ -178,7 +162,7 @@ impl Record {
     pub fn notifier_opened(&self) -> bool
         ensures { result ≡ self.now.node.marks.notifier_opened }
     {
-        self.marks.notifier_opened
+        self.packed.happened.notifier_opened()
     }
 
     /// Whether it stands below a node.
@@ -186,7 +170,7 @@ impl Record {
     pub fn is_below(&self) -> bool
         ensures { result ≡ is_some self.now.node.above }
     {
-        match self.origin.place {
+        match self.packed.place {
             PlaceWord::Root => false,
             PlaceWord::Source | PlaceWord::Inner | PlaceWord::Notifier => true,
         }
@@ -256,7 +240,7 @@ impl Record {
     pub fn is_leaf(&self) -> bool
         ensures { result ≡ is_leaf self.now.node.made }
     {
-        match self.origin.kind {
+        match self.packed.kind {
             KindWord::Leaf => true,
             KindWord::Pass
             | KindWord::Flat
@@ -272,7 +256,7 @@ impl Record {
     pub fn is_merging(&self) -> bool
         ensures { result ≡ is_merging self.now.node.made }
     {
-        match self.origin.kind {
+        match self.packed.kind {
             KindWord::Flat | KindWord::Switch => true,
             KindWord::Leaf | KindWord::Pass | KindWord::Until | KindWord::Sub | KindWord::Connect =>
                 false,
@@ -284,7 +268,7 @@ impl Record {
     pub fn is_switch(&self) -> bool
         ensures { result ≡ is_switch self.now.node.made }
     {
-        match self.origin.kind {
+        match self.packed.kind {
             KindWord::Switch => true,
             KindWord::Leaf
             | KindWord::Pass
@@ -300,7 +284,7 @@ impl Record {
     pub fn is_until(&self) -> bool
         ensures { result ≡ is_until self.now.node.made }
     {
-        match self.origin.kind {
+        match self.packed.kind {
             KindWord::Until => true,
             KindWord::Leaf
             | KindWord::Pass
@@ -316,7 +300,7 @@ impl Record {
     pub fn has_source(&self) -> bool
         ensures { result ≡ has_source self.now.node.made }
     {
-        match self.origin.kind {
+        match self.packed.kind {
             KindWord::Leaf | KindWord::Sub => false,
             KindWord::Pass
             | KindWord::Flat
@@ -331,7 +315,7 @@ impl Record {
     pub fn is_connection(&self) -> bool
         ensures { result ≡ is_connect self.now.node.made }
     {
-        match self.origin.kind {
+        match self.packed.kind {
             KindWord::Connect => true,
             KindWord::Leaf
             | KindWord::Pass
@@ -347,7 +331,7 @@ impl Record {
     pub fn connects(&self) -> Option<u64>
         ensures { result ≡ hub_connected self.now.node.made }
     {
-        self.origin.connects()
+        self.packed.connects()
     }
 
     /// The hub that it subscribes to; None where it is no subscriber.
@@ -355,7 +339,7 @@ impl Record {
     pub fn subscribes_to(&self) -> Option<u64>
         ensures { result ≡ hub_subscribed self.now.node.made }
     {
-        self.origin.subscribes_to()
+        self.packed.subscribes_to()
     }
 
     /// How it has to end, by its marks.
@@ -363,16 +347,15 @@ impl Record {
     pub fn terminal_due(&self) -> Option<Terminal>
         ensures { result ≡ terminal_due self.now.node.made self.now.node.marks }
     {
-        let other = match self.origin.kind {
+        let other = match self.packed.kind {
             KindWord::Pass | KindWord::Connect => false,
-            KindWord::Until => self.marks.fired,
-            KindWord::Flat | KindWord::Switch => {
-                self.marks.source_completed && self.marks.open_children == 0 && self.marks.owed == 0
-            }
+            KindWord::Until => self.packed.happened.fired(),
+            KindWord::Flat | KindWord::Switch => self.packed.is_over(),
             KindWord::Leaf | KindWord::Sub => return None,
         };
-        if self.marks.child_terminal.is_some() {
-            return self.marks.child_terminal;
+        let terminal = self.packed.child_terminal();
+        if terminal.is_some() {
+            return terminal;
         }
         if other {
             return Some(Terminal::Completed);
@@ -385,11 +368,12 @@ impl Record {
     pub(crate) fn set_marks(&mut self, marks: Marks)
         ensures { self.new ≡ record self.old { node = with_marks marks self.old.node } }
     {
-        self.marks = marks;
+        self.packed.set_marks(marks);
     }
 
     // A node below it ended.
     #[inline(always)]
+    #[tactic(auto, using(crate::proofs::PackedNodes::terminal_back))]
     pub(crate) fn end_child(&mut self, is_source: bool, terminal: Terminal)
         requires { 0 < self.old.node.marks.open_children }
         ensures { self.new ≡ record self.old {
@@ -398,7 +382,12 @@ impl Record {
         } }
     {
         let merging = self.is_merging();
-        self.marks = self.marks.after_child(is_source, merging, terminal);
+        let first = first_end(self.packed.child_terminal(), merging, terminal);
+        self.packed
+            .happened
+            .note_completion(completes_source(is_source, terminal));
+        self.packed.set_child_terminal(first);
+        self.packed.open_children -= 1;
     }
 
     // A source was opened below it.
@@ -407,8 +396,8 @@ impl Record {
         requires { self.old.node.marks.open_children + 1 < 2 ^ 64 }
         ensures { self.new ≡ record self.old { node = with_marks (after_source self.old.node.marks) self.old.node } }
     {
-        self.marks.source_opened = true;
-        self.marks.open_children += 1;
+        self.packed.happened.open_source();
+        self.packed.open_children += 1;
     }
 
     // A notifier was opened below it.
@@ -417,8 +406,8 @@ impl Record {
         requires { self.old.node.marks.open_children + 1 < 2 ^ 64 }
         ensures { self.new ≡ record self.old { node = with_marks (after_notifier self.old.node.marks) self.old.node } }
     {
-        self.marks.notifier_opened = true;
-        self.marks.open_children += 1;
+        self.packed.happened.open_notifier();
+        self.packed.open_children += 1;
     }
 
     // An inner was opened below it: in the place of another, or beside the others.
@@ -428,9 +417,9 @@ impl Record {
         requires room { self.old.node.marks.open_children + 1 < 2 ^ 64 }
         ensures { self.new ≡ record self.old { node = with_marks (after_inner replaces self.old.node.marks) self.old.node } }
     {
-        self.marks.owed -= 1;
+        self.packed.owed -= 1;
         if !replaces {
-            self.marks.open_children += 1;
+            self.packed.open_children += 1;
         }
     }
 
@@ -440,7 +429,7 @@ impl Record {
         requires { self.old.node.marks.owed + 1 < 2 ^ 64 }
         ensures { self.new ≡ record self.old { node = with_marks (after_projection self.old.node.marks) self.old.node } }
     {
-        self.marks.owed += 1;
+        self.packed.owed += 1;
     }
 
     // An item reached its notifier's place.
@@ -448,7 +437,7 @@ impl Record {
     pub(crate) fn fire(&mut self)
         ensures { self.new ≡ record self.old { node = with_marks (after_firing self.old.node.marks) self.old.node } }
     {
-        self.marks.fired = true;
+        self.packed.happened.fire();
     }
 
     // One of its projected items was declined.
@@ -457,7 +446,7 @@ impl Record {
         requires { 0 < self.old.node.marks.owed }
         ensures { self.new ≡ record self.old { node = with_marks (after_decline self.old.node.marks) self.old.node } }
     {
-        self.marks.owed -= 1;
+        self.packed.owed -= 1;
     }
 
     // How many resources it owns.
@@ -481,41 +470,31 @@ impl Record {
     pub(crate) fn sibling(&self) -> Link
         ensures { result ≡ self.now.sibling }
     {
-        self.sibling.link(self.sibling_kinds)
+        self.sibling.again()
     }
 
     // Writes that link.
     #[inline(always)]
-    #[tactic(auto, using(crate::proofs::PlaceKinds::links_back))]
     pub(crate) fn set_sibling(&mut self, link: Link)
-        requires next { slot_of link.next < 2 ^ 32 }
-        requires previous { slot_of link.previous < 2 ^ 32 }
         ensures { self.new ≡ record self.old { sibling = link } }
     {
-        self.sibling = link.slots();
-        self.sibling_kinds = link.kinds();
+        self.sibling = link;
     }
 
     // Writes where it leads next.
     #[inline(always)]
-    #[tactic(auto, using(crate::proofs::PlaceKinds::leads_back))]
-    pub(crate) fn set_sibling_next(&mut self, to: Place)
-        requires fits { slot_of to < 2 ^ 32 }
+    pub(crate) fn set_sibling_next(&mut self, to: Step)
         ensures { self.new ≡ record self.old { sibling = record self.old.sibling { next = to } } }
     {
-        self.sibling.next = to.slot();
-        self.sibling_kinds.next = to.kind();
+        self.sibling.next = to;
     }
 
     // Writes where it leads back.
     #[inline(always)]
-    #[tactic(auto, using(crate::proofs::PlaceKinds::leads_back))]
-    pub(crate) fn set_sibling_previous(&mut self, to: Place)
-        requires fits { slot_of to < 2 ^ 32 }
+    pub(crate) fn set_sibling_previous(&mut self, to: Step)
         ensures { self.new ≡ record self.old { sibling = record self.old.sibling { previous = to } } }
     {
-        self.sibling.previous = to.slot();
-        self.sibling_kinds.previous = to.kind();
+        self.sibling.previous = to;
     }
 
     // Whether it stands among the nodes that may be due, at this slot: else its link leads to itself.
@@ -523,15 +502,15 @@ impl Record {
     pub(crate) fn is_noted(&self, slot: usize) -> bool
         ensures { result ≡ not (is_place self.now.noted.next (Noted slot)) }
     {
-        match self.noted_kinds.next {
-            PlaceKind::Noted => self.noted.next as usize != slot,
-            PlaceKind::Roots
-            | PlaceKind::Due
-            | PlaceKind::Waiting
-            | PlaceKind::Children
-            | PlaceKind::Held
-            | PlaceKind::Sibling
-            | PlaceKind::Stored => true,
+        match self.noted.next.place() {
+            Place::Noted(next) => next != slot,
+            Place::Roots
+            | Place::Due
+            | Place::Waiting
+            | Place::Children(_)
+            | Place::Held(_)
+            | Place::Sibling(_)
+            | Place::Stored(_) => true,
         }
     }
 
@@ -540,41 +519,31 @@ impl Record {
     pub(crate) fn noted(&self) -> Link
         ensures { result ≡ self.now.noted }
     {
-        self.noted.link(self.noted_kinds)
+        self.noted.again()
     }
 
     // Writes that link.
     #[inline(always)]
-    #[tactic(auto, using(crate::proofs::PlaceKinds::links_back))]
     pub(crate) fn set_noted(&mut self, link: Link)
-        requires next { slot_of link.next < 2 ^ 32 }
-        requires previous { slot_of link.previous < 2 ^ 32 }
         ensures { self.new ≡ record self.old { noted = link } }
     {
-        self.noted = link.slots();
-        self.noted_kinds = link.kinds();
+        self.noted = link;
     }
 
     // Writes where it leads next.
     #[inline(always)]
-    #[tactic(auto, using(crate::proofs::PlaceKinds::leads_back))]
-    pub(crate) fn set_noted_next(&mut self, to: Place)
-        requires fits { slot_of to < 2 ^ 32 }
+    pub(crate) fn set_noted_next(&mut self, to: Step)
         ensures { self.new ≡ record self.old { noted = record self.old.noted { next = to } } }
     {
-        self.noted.next = to.slot();
-        self.noted_kinds.next = to.kind();
+        self.noted.next = to;
     }
 
     // Writes where it leads back.
     #[inline(always)]
-    #[tactic(auto, using(crate::proofs::PlaceKinds::leads_back))]
-    pub(crate) fn set_noted_previous(&mut self, to: Place)
-        requires fits { slot_of to < 2 ^ 32 }
+    pub(crate) fn set_noted_previous(&mut self, to: Step)
         ensures { self.new ≡ record self.old { noted = record self.old.noted { previous = to } } }
     {
-        self.noted.previous = to.slot();
-        self.noted_kinds.previous = to.kind();
+        self.noted.previous = to;
     }
 
     // Its link to its first and last child.
@@ -582,41 +551,31 @@ impl Record {
     pub(crate) fn children(&self) -> Link
         ensures { result ≡ self.now.children }
     {
-        self.children.link(self.children_kinds)
+        self.children.again()
     }
 
     // Writes that link.
     #[inline(always)]
-    #[tactic(auto, using(crate::proofs::PlaceKinds::links_back))]
     pub(crate) fn set_children(&mut self, link: Link)
-        requires next { slot_of link.next < 2 ^ 32 }
-        requires previous { slot_of link.previous < 2 ^ 32 }
         ensures { self.new ≡ record self.old { children = link } }
     {
-        self.children = link.slots();
-        self.children_kinds = link.kinds();
+        self.children = link;
     }
 
     // Writes where it leads next.
     #[inline(always)]
-    #[tactic(auto, using(crate::proofs::PlaceKinds::leads_back))]
-    pub(crate) fn set_children_next(&mut self, to: Place)
-        requires fits { slot_of to < 2 ^ 32 }
+    pub(crate) fn set_children_next(&mut self, to: Step)
         ensures { self.new ≡ record self.old { children = record self.old.children { next = to } } }
     {
-        self.children.next = to.slot();
-        self.children_kinds.next = to.kind();
+        self.children.next = to;
     }
 
     // Writes where it leads back.
     #[inline(always)]
-    #[tactic(auto, using(crate::proofs::PlaceKinds::leads_back))]
-    pub(crate) fn set_children_previous(&mut self, to: Place)
-        requires fits { slot_of to < 2 ^ 32 }
+    pub(crate) fn set_children_previous(&mut self, to: Step)
         ensures { self.new ≡ record self.old { children = record self.old.children { previous = to } } }
     {
-        self.children.previous = to.slot();
-        self.children_kinds.previous = to.kind();
+        self.children.previous = to;
     }
 
     // Its link to the first and last resource that it owns and that has no lease out.
@@ -624,40 +583,30 @@ impl Record {
     pub(crate) fn held(&self) -> Link
         ensures { result ≡ self.now.held }
     {
-        self.held.link(self.held_kinds)
+        self.held.again()
     }
 
     // Writes that link.
     #[inline(always)]
-    #[tactic(auto, using(crate::proofs::PlaceKinds::links_back))]
     pub(crate) fn set_held(&mut self, link: Link)
-        requires next { slot_of link.next < 2 ^ 32 }
-        requires previous { slot_of link.previous < 2 ^ 32 }
         ensures { self.new ≡ record self.old { held = link } }
     {
-        self.held = link.slots();
-        self.held_kinds = link.kinds();
+        self.held = link;
     }
 
     // Writes where it leads next.
     #[inline(always)]
-    #[tactic(auto, using(crate::proofs::PlaceKinds::leads_back))]
-    pub(crate) fn set_held_next(&mut self, to: Place)
-        requires fits { slot_of to < 2 ^ 32 }
+    pub(crate) fn set_held_next(&mut self, to: Step)
         ensures { self.new ≡ record self.old { held = record self.old.held { next = to } } }
     {
-        self.held.next = to.slot();
-        self.held_kinds.next = to.kind();
+        self.held.next = to;
     }
 
     // Writes where it leads back.
     #[inline(always)]
-    #[tactic(auto, using(crate::proofs::PlaceKinds::leads_back))]
-    pub(crate) fn set_held_previous(&mut self, to: Place)
-        requires fits { slot_of to < 2 ^ 32 }
+    pub(crate) fn set_held_previous(&mut self, to: Step)
         ensures { self.new ≡ record self.old { held = record self.old.held { previous = to } } }
     {
-        self.held.previous = to.slot();
-        self.held_kinds.previous = to.kind();
+        self.held.previous = to;
     }
 }

@@ -1,12 +1,13 @@
 //! Where a link of the tree leads.
 
 ghost use Rattle.std.specs.Prelude.{◌≡◌, ◌<◌, ◌^◌};
-ghost use Rattle.rx_tree.specs.Places.{slot_of};
-ghost use Rattle.rx_tree.specs.Record.{kind_of, place_of, link_of};
+ghost use Rattle.rx_tree.specs.Places.{slot_of, tag_of};
+
+use std::marker::Model;
 
 /// A place on one of the tree's rings. A ring begins and ends at one of the first five, and goes
 /// through places of the other three between.
-#[derive(Clone, Copy, PartialEq, Eq)]
+#[derive(Clone, Copy)]
 pub(crate) enum Place {
     /// Where the roots begin and end.
     Roots,
@@ -26,41 +27,28 @@ pub(crate) enum Place {
     Stored(usize),
 }
 
-/// A place without its slot.
-#[derive(Clone, Copy)]
-pub(crate) enum PlaceKind {
-    Roots,
-    Due,
-    Waiting,
-    Children,
-    Held,
-    Sibling,
-    Noted,
-    Stored,
-}
-
 impl Place {
     // What kind of place it is.
     #[inline(always)]
-    pub(crate) fn kind(self) -> PlaceKind
-        ensures { result ≡ kind_of self }
+    fn kind(self) -> u32
+        ensures value { result ≡ tag_of self }
+        ensures few { result < 8 }
     {
         match self {
-            Place::Roots => PlaceKind::Roots,
-            Place::Due => PlaceKind::Due,
-            Place::Waiting => PlaceKind::Waiting,
-            Place::Children(_) => PlaceKind::Children,
-            Place::Held(_) => PlaceKind::Held,
-            Place::Sibling(_) => PlaceKind::Sibling,
-            Place::Noted(_) => PlaceKind::Noted,
-            Place::Stored(_) => PlaceKind::Stored,
+            Place::Roots => 0,
+            Place::Due => 1,
+            Place::Waiting => 2,
+            Place::Children(_) => 3,
+            Place::Held(_) => 4,
+            Place::Sibling(_) => 5,
+            Place::Noted(_) => 6,
+            Place::Stored(_) => 7,
         }
     }
 
     // Its slot, 0 where it has none.
     #[inline(always)]
-    pub(crate) fn slot(self) -> u32
-        requires fits { slot_of self < 2 ^ 32 }
+    fn slot(self) -> usize
         ensures { result ≡ slot_of self }
     {
         match self {
@@ -69,109 +57,116 @@ impl Place {
             | Place::Held(slot)
             | Place::Sibling(slot)
             | Place::Noted(slot)
-            | Place::Stored(slot) => slot as u32,
+            | Place::Stored(slot) => slot,
         }
     }
 }
 
-impl PlaceKind {
-    // The place of this kind at a slot.
+/// A place as a link keeps it, in a word of 32 bits: its kind in the three low ones, and above them its slot, which
+/// is below 2^29. It is seen as the place.
+#[derive(Drop)]
+pub(crate) struct Step {
+    word: u32,
+}
+
+impl Model for Step {
+    ghost use Rattle.rx_tree.specs.declared.links.Place.{Place as Shown};
+
+    ghost Value = { Shown };
+
+    ghost use Rattle.rx_tree.specs.Places.{place_in};
+
+    ghost view = { λ s. place_in s.word };
+}
+
+impl Step {
+    // To a place, where its slot fits.
     #[inline(always)]
-    pub(crate) fn at(self, slot: usize) -> Place
-        ensures { result ≡ place_of self slot }
+    fn of(place: Place) -> Self
+        ensures { slot_of place < 2 ^ 29 → result ≡ place }
     {
-        match self {
-            PlaceKind::Roots => Place::Roots,
-            PlaceKind::Due => Place::Due,
-            PlaceKind::Waiting => Place::Waiting,
-            PlaceKind::Children => Place::Children(slot),
-            PlaceKind::Held => Place::Held(slot),
-            PlaceKind::Sibling => Place::Sibling(slot),
-            PlaceKind::Noted => Place::Noted(slot),
-            PlaceKind::Stored => Place::Stored(slot),
+        let kind = place.kind();
+        let slot = (place.slot() % 536_870_912) as u32;
+        Step {
+            word: slot * 8 + kind,
         }
+    }
+
+    // To a place whose slot fits.
+    #[inline(always)]
+    pub(crate) fn to(place: Place) -> Self
+        requires fits { slot_of place < 2 ^ 29 }
+        ensures { result ≡ place }
+    {
+        Step::of(place)
+    }
+
+    // Where it leads.
+    #[inline(always)]
+    pub(crate) fn place(&self) -> Place
+        ensures { result ≡ self.now }
+    {
+        let slot = (self.word / 8) as usize;
+        match self.word % 8 {
+            0 => Place::Roots,
+            1 => Place::Due,
+            2 => Place::Waiting,
+            3 => Place::Children(slot),
+            4 => Place::Held(slot),
+            5 => Place::Sibling(slot),
+            6 => Place::Noted(slot),
+            _ => Place::Stored(slot),
+        }
+    }
+
+    // The same once more.
+    #[inline(always)]
+    pub(crate) fn again(&self) -> Self
+        ensures { result ≡ self.now }
+    {
+        Step { word: self.word }
     }
 }
 
 /// What comes after a place on its ring, and what before.
-#[derive(Clone, Copy, PartialEq, Eq)]
+#[derive(Drop)]
 pub(crate) struct Link {
-    pub(crate) next: Place,
-    pub(crate) previous: Place,
-}
-
-/// The slots of a link's places. Slots are below 2^29.
-#[derive(Clone, Copy)]
-pub(crate) struct LinkSlots {
-    pub(crate) next: u32,
-    pub(crate) previous: u32,
-}
-
-/// The kinds of a link's places.
-#[derive(Clone, Copy)]
-pub(crate) struct LinkKinds {
-    pub(crate) next: PlaceKind,
-    pub(crate) previous: PlaceKind,
-}
-
-impl LinkKinds {
-    // Of a link whose places are of one kind.
-    #[inline(always)]
-    pub(crate) fn both(kind: PlaceKind) -> Self
-        ensures { result ≡ record { next = kind; previous = kind } }
-    {
-        LinkKinds {
-            next: kind,
-            previous: kind,
-        }
-    }
+    pub(crate) next: Step,
+    pub(crate) previous: Step,
 }
 
 impl Link {
     // The link of a place that is a ring of its own.
+    #[inline(always)]
     pub(crate) fn alone(place: Place) -> Self
+        requires fits { slot_of place < 2 ^ 29 }
         ensures { result ≡ record { next = place; previous = place } }
     {
         Link {
-            next: place,
-            previous: place,
+            next: Step::to(place),
+            previous: Step::to(place),
         }
     }
 
-    // The slots of its places.
+    // The same of a place that is to come, where its slot will fit.
     #[inline(always)]
-    pub(crate) fn slots(self) -> LinkSlots
-        requires next { slot_of self.next < 2 ^ 32 }
-        requires previous { slot_of self.previous < 2 ^ 32 }
-        ensures { result ≡ record { next = slot_of self.next; previous = slot_of self.previous } }
-    {
-        LinkSlots {
-            next: self.next.slot(),
-            previous: self.previous.slot(),
-        }
-    }
-
-    // The kinds of its places.
-    #[inline(always)]
-    pub(crate) fn kinds(self) -> LinkKinds
-        ensures { result ≡ record { next = kind_of self.next; previous = kind_of self.previous } }
-    {
-        LinkKinds {
-            next: self.next.kind(),
-            previous: self.previous.kind(),
-        }
-    }
-}
-
-impl LinkSlots {
-    // The link of these slots and kinds.
-    #[inline(always)]
-    pub(crate) fn link(self, kinds: LinkKinds) -> Link
-        ensures { result ≡ link_of self kinds }
+    pub(crate) fn coming(place: Place) -> Self
+        ensures { slot_of place < 2 ^ 29 → result ≡ record { next = place; previous = place } }
     {
         Link {
-            next: kinds.next.at(self.next as usize),
-            previous: kinds.previous.at(self.previous as usize),
+            next: Step::of(place),
+            previous: Step::of(place),
+        }
+    }
+
+    // The same once more.
+    #[inline(always)]
+    pub(crate) fn again(&self) -> Self
+        ensures { result ≡ self.now }
+    {
+        Link {
+            next: self.next.again(),
+            previous: self.previous.again(),
         }
     }
 }

@@ -109,7 +109,11 @@ impl<R: Drop> Store<R> {
         self.fits_above(node.above);
         let linked = Record::alone(node, self.nodes.next_slot());
         match self.nodes.insert(number, linked) {
-            Ok(key) => Ok(key),
+            Ok(key) => {
+                // What stands at a slot fits.
+                let _slots = self.nodes.capacity();
+                Ok(key)
+            }
             Err(refused) => Err(refused),
         }
     }
@@ -309,7 +313,7 @@ impl<R: Drop> Store<R> {
         ensures room { OnErr result (self.old.resources.room ≤ self.new.resources.room) }
     {
         let home = stowed.node.slot;
-        let link = Link::alone(Place::Stored(self.resources.next_slot()));
+        let link = Link::coming(Place::Stored(self.resources.next_slot()));
         match self.resources.insert(number, Stored { stowed, link }) {
             Ok(key) => {
                 // No more are held than there are slots, so their count fits.

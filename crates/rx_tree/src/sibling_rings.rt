@@ -3,20 +3,20 @@
 //! On them stand the roots' end, a node's end of its children, and nodes. Any other place is asked for last and apart,
 //! so that what opens or closes a node stays small.
 
-ghost use Rattle.std.specs.Prelude.{◌≡◌, ◌<◌, ◌^◌, IsTrue};
+ghost use Rattle.std.specs.Prelude.{◌≡◌, IsTrue};
 ghost use Rattle.rx_slots.specs.Rings.{set_step, Joins, PassesBy};
-ghost use Rattle.rx_tree.specs.Places.{places, slot_of};
+ghost use Rattle.rx_tree.specs.Places.{places};
 ghost use Rattle.rx_tree.specs.Store.{link_at, set_link_at, next_of, previous_of, is_there, Relinks};
 ghost use Rattle.rx_tree.specs.declared.links.Place.TheVariants.{Sibling};
 
-use crate::links::{Link, Place};
+use crate::links::{Link, Place, Step};
 use crate::store::Store;
 
 impl<R: Drop> Store<R> {
     // What comes before a place that is no sibling.
     #[cold]
     #[inline(never)]
-    fn previous_apart(&self, place: Place) -> Place
+    fn previous_apart(&self, place: Place) -> Step
         requires there { IsTrue (is_there self.now place) }
         ensures { result ≡ previous_of self.now place }
     {
@@ -25,12 +25,12 @@ impl<R: Drop> Store<R> {
 
     // The last of a ring of siblings, by its end.
     #[inline(always)]
-    fn last_sibling(&self, end: Place) -> Place
+    fn last_sibling(&self, end: Place) -> Step
         requires there { IsTrue (is_there self.now end) }
         ensures { result ≡ previous_of self.now end }
     {
         match end {
-            Place::Roots => self.roots.previous,
+            Place::Roots => self.roots.previous.again(),
             Place::Children(slot) => self.nodes.at(slot).children().previous,
             _ => self.previous_apart(end),
         }
@@ -48,9 +48,8 @@ impl<R: Drop> Store<R> {
     // Writes what comes after a place that is no sibling.
     #[cold]
     #[inline(never)]
-    fn set_next_apart(&mut self, place: Place, to: Place)
+    fn set_next_apart(&mut self, place: Place, to: Step)
         requires there { IsTrue (is_there self.old place) }
-        requires fits { slot_of to < 2 ^ 32 }
         ensures next { (q : _) → next_of self.new q ≡ set_step places place to (next_of self.old) q }
         ensures previous { (q : _) → previous_of self.new q ≡ previous_of self.old q }
         ensures rest { Relinks self.old self.new }
@@ -60,9 +59,8 @@ impl<R: Drop> Store<R> {
 
     // Writes what comes after a sibling, or first after their end.
     #[inline(always)]
-    fn set_next_sibling(&mut self, place: Place, to: Place)
+    fn set_next_sibling(&mut self, place: Place, to: Step)
         requires there { IsTrue (is_there self.old place) }
-        requires fits { slot_of to < 2 ^ 32 }
         ensures next { (q : _) → next_of self.new q ≡ set_step places place to (next_of self.old) q }
         ensures previous { (q : _) → previous_of self.new q ≡ previous_of self.old q }
         ensures rest { Relinks self.old self.new }
@@ -78,9 +76,8 @@ impl<R: Drop> Store<R> {
     // Writes what comes before a place that is no sibling.
     #[cold]
     #[inline(never)]
-    fn set_previous_apart(&mut self, place: Place, to: Place)
+    fn set_previous_apart(&mut self, place: Place, to: Step)
         requires there { IsTrue (is_there self.old place) }
-        requires fits { slot_of to < 2 ^ 32 }
         ensures next { (q : _) → next_of self.new q ≡ next_of self.old q }
         ensures previous { (q : _) → previous_of self.new q ≡ set_step places place to (previous_of self.old) q }
         ensures rest { Relinks self.old self.new }
@@ -90,9 +87,8 @@ impl<R: Drop> Store<R> {
 
     // Writes what comes before a sibling, or last before their end.
     #[inline(always)]
-    fn set_previous_sibling(&mut self, place: Place, to: Place)
+    fn set_previous_sibling(&mut self, place: Place, to: Step)
         requires there { IsTrue (is_there self.old place) }
-        requires fits { slot_of to < 2 ^ 32 }
         ensures next { (q : _) → next_of self.new q ≡ next_of self.old q }
         ensures previous { (q : _) → previous_of self.new q ≡ set_step places place to (previous_of self.old) q }
         ensures rest { Relinks self.old self.new }
@@ -109,8 +105,6 @@ impl<R: Drop> Store<R> {
     #[inline(always)]
     fn set_sibling(&mut self, slot: usize, link: Link)
         requires there { IsTrue (is_there self.old (Sibling slot)) }
-        requires next { slot_of link.next < 2 ^ 32 }
-        requires previous { slot_of link.previous < 2 ^ 32 }
         ensures linked { (q : _) → link_at self.new q ≡ set_link_at (Sibling slot) link self.old q }
         ensures rest { Relinks self.old self.new }
     {
@@ -130,16 +124,15 @@ impl<R: Drop> Store<R> {
         let last = self.last_sibling(end);
         self.fits(end);
         self.fits(Place::Sibling(slot));
-        self.fits(last);
-        self.set_next_sibling(last, Place::Sibling(slot));
+        self.set_next_sibling(last.place(), Step::to(Place::Sibling(slot)));
         self.set_sibling(
             slot,
             Link {
-                next: end,
+                next: Step::to(end),
                 previous: last,
             },
         );
-        self.set_previous_sibling(end, Place::Sibling(slot));
+        self.set_previous_sibling(end, Step::to(Place::Sibling(slot)));
     }
 
     // Lets its ring pass a slot's node by, whose own link stays as it was.
@@ -153,9 +146,8 @@ impl<R: Drop> Store<R> {
         ensures rest { Relinks self.old self.new }
     {
         let link = self.sibling(slot);
-        self.fits(link.previous);
-        self.fits(link.next);
-        self.set_next_sibling(link.previous, link.next);
-        self.set_previous_sibling(link.next, link.previous);
+        let next = link.next.place();
+        self.set_next_sibling(link.previous.place(), link.next);
+        self.set_previous_sibling(next, link.previous);
     }
 }

@@ -8,7 +8,7 @@ ghost use Rattle.rx_tree.specs.Store.{is_there, no_counts, count_if, one_more, o
 ghost use Rattle.rx_tree.specs.declared.links.Place.TheVariants.{Roots, Due, Waiting, Children, Held, Sibling, Noted};
 
 use crate::linked::Record;
-use crate::links::{Link, Place};
+use crate::links::{Link, Place, Step};
 use crate::node::Stowed;
 use rx_slots::{Records, Slots};
 use std::alloc::Global;
@@ -114,14 +114,14 @@ impl<R: Drop> Store<R> {
         ensures { result ≡ link_at self.now place }
     {
         match place {
-            Place::Roots => self.roots,
-            Place::Due => self.due,
-            Place::Waiting => self.waiting,
+            Place::Roots => self.roots.again(),
+            Place::Due => self.due.again(),
+            Place::Waiting => self.waiting.again(),
             Place::Children(slot) => self.nodes.at(slot).children(),
             Place::Held(slot) => self.nodes.at(slot).held(),
             Place::Sibling(slot) => self.nodes.at(slot).sibling(),
             Place::Noted(slot) => self.nodes.at(slot).noted(),
-            Place::Stored(slot) => self.resources.at(slot).link,
+            Place::Stored(slot) => self.resources.at(slot).link.again(),
         }
     }
 
@@ -129,7 +129,7 @@ impl<R: Drop> Store<R> {
     #[inline(always)]
     pub(crate) fn fits(&self, place: Place)
         requires there { IsTrue (is_there self.now place) }
-        ensures { slot_of place < 2 ^ 32 }
+        ensures { slot_of place < 2 ^ 29 }
     {
         let _place = place;
         let _nodes = self.nodes.capacity();
@@ -140,8 +140,6 @@ impl<R: Drop> Store<R> {
     #[inline(always)]
     fn set_link(&mut self, place: Place, link: Link)
         requires there { IsTrue (is_there self.old place) }
-        requires next { slot_of link.next < 2 ^ 32 }
-        requires previous { slot_of link.previous < 2 ^ 32 }
         ensures linked { (q : _) → link_at self.new q ≡ set_link_at place link self.old q }
         ensures rest { Relinks self.old self.new }
     {
@@ -159,9 +157,8 @@ impl<R: Drop> Store<R> {
 
     // Writes what comes after a place.
     #[inline(always)]
-    pub(crate) fn set_next(&mut self, place: Place, to: Place)
+    pub(crate) fn set_next(&mut self, place: Place, to: Step)
         requires there { IsTrue (is_there self.old place) }
-        requires fits { slot_of to < 2 ^ 32 }
         ensures next { (q : _) → next_of self.new q ≡ set_step places place to (next_of self.old) q }
         ensures previous { (q : _) → previous_of self.new q ≡ previous_of self.old q }
         ensures rest { Relinks self.old self.new }
@@ -180,9 +177,8 @@ impl<R: Drop> Store<R> {
 
     // Writes what comes before a place.
     #[inline(always)]
-    pub(crate) fn set_previous(&mut self, place: Place, to: Place)
+    pub(crate) fn set_previous(&mut self, place: Place, to: Step)
         requires there { IsTrue (is_there self.old place) }
-        requires fits { slot_of to < 2 ^ 32 }
         ensures next { (q : _) → next_of self.new q ≡ next_of self.old q }
         ensures previous { (q : _) → previous_of self.new q ≡ set_step places place to (previous_of self.old) q }
         ensures rest { Relinks self.old self.new }
@@ -210,8 +206,8 @@ impl<R: Drop> Store<R> {
     {
         self.fits(one);
         self.fits(other);
-        self.set_next(one, other);
-        self.set_previous(other, one);
+        self.set_next(one, Step::to(other));
+        self.set_previous(other, Step::to(one));
     }
 
     // Puts a place last on a ring.
@@ -227,16 +223,15 @@ impl<R: Drop> Store<R> {
         let last = self.link(end).previous;
         self.fits(end);
         self.fits(place);
-        self.fits(last);
-        self.set_next(last, place);
+        self.set_next(last.place(), Step::to(place));
         self.set_link(
             place,
             Link {
-                next: end,
+                next: Step::to(end),
                 previous: last,
             },
         );
-        self.set_previous(end, place);
+        self.set_previous(end, Step::to(place));
     }
 
     // Lets its ring pass a place by, whose own link stays as it was.
@@ -250,7 +245,7 @@ impl<R: Drop> Store<R> {
         ensures rest { Relinks self.old self.new }
     {
         let link = self.link(place);
-        self.tie(link.previous, link.next);
+        self.tie(link.previous.place(), link.next.place());
     }
 
     // Takes a place off its ring.
@@ -283,8 +278,8 @@ impl<R: Drop> Store<R> {
         let link = self.link(from);
         let last = self.link(into).previous;
         self.fits(from);
-        self.tie(last, link.next);
-        self.tie(link.previous, into);
+        self.tie(last.place(), link.next.place());
+        self.tie(link.previous.place(), into);
         self.set_link(from, Link::alone(from));
     }
 }

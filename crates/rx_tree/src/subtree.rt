@@ -34,7 +34,7 @@ impl<R: Drop> Store<R> {
         ensures later { IfSome result (λ child. key.number < child.number) }
         ensures none { result ≡ None → next_of self.now (Children key.slot) ≡ Children key.slot }
     {
-        match self.link(Place::Children(key.slot)).next {
+        match self.link(Place::Children(key.slot)).next.place() {
             Place::Sibling(slot) => Some(self.node_key(slot)),
             _ => None,
         }
@@ -65,7 +65,7 @@ impl<R: Drop> Store<R> {
         ensures waits { LetsWait self.old self.new slot }
         ensures rest { Relinks self.old self.new }
     {
-        if let Place::Stored(_) = self.link(Place::Held(slot)).next {
+        if let Place::Stored(_) = self.link(Place::Held(slot)).next.place() {
             self.merge(Place::Held(slot), Place::Waiting);
         }
     }
@@ -144,6 +144,7 @@ impl<R: Drop> Store<R> {
         let leaf = self.nodes.found(key);
         // It is one of those that the list has room for.
         let _count = self.nodes.len();
+        self.fits(Place::Sibling(key.slot));
         let above = leaf.parent();
         closed.push_reserved(leaf.closed(key));
         self.take_leaf(key);

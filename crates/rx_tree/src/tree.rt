@@ -248,7 +248,7 @@ impl<R: Resource> Tree<R> {
         ensures none { IfNone result (HasNone (IsChild self.now.nodes key) 0) }
     {
         let _node = self.store.node(key)?;
-        match self.store.link(Place::Children(key.slot)).next {
+        match self.store.link(Place::Children(key.slot)).next.place() {
             Place::Sibling(slot) => self.store.node_at(slot),
             _ => None,
         }
@@ -265,7 +265,7 @@ impl<R: Resource> Tree<R> {
         ensures alone { parent_number self.now.nodes key ≡ None → result ≡ None }
     {
         let _parent = self.store.node(key)?.above?;
-        match self.store.link(Place::Sibling(key.slot)).next {
+        match self.store.link(Place::Sibling(key.slot)).next.place() {
             Place::Sibling(slot) => self.store.node_at(slot),
             _ => None,
         }
@@ -277,7 +277,7 @@ impl<R: Resource> Tree<R> {
         ensures some { IfSome result (IsFirst (IsRoot self.now.nodes) 0) }
         ensures none { IfNone result (HasNone (IsRoot self.now.nodes) 0) }
     {
-        match self.store.roots.next {
+        match self.store.roots.next.place() {
             Place::Sibling(slot) => self.store.node_at(slot),
             _ => None,
         }
@@ -444,7 +444,7 @@ impl<R: Resource> Tree<R> {
     pub fn is_calm(&self) -> bool
         ensures { IsTrue result ↔ self.now.chain ≡ [] }
     {
-        match self.store.due.next {
+        match self.store.due.next.place() {
             Place::Noted(_) => false,
             _ => true,
         }
@@ -455,7 +455,7 @@ impl<R: Resource> Tree<R> {
     pub fn pending(&self) -> Option<Key>
         ensures { result ≡ first_of self.now.chain }
     {
-        match self.store.due.next {
+        match self.store.due.next.place() {
             Place::Noted(slot) => self.store.node_at(slot),
             _ => None,
         }
@@ -466,7 +466,7 @@ impl<R: Resource> Tree<R> {
     pub fn unchain(&mut self)
         ensures { self.new ≡ record self.old { chain = drop 1 self.old.chain } }
     {
-        if let Place::Noted(slot) = self.store.due.next {
+        if let Place::Noted(slot) = self.store.due.next.place() {
             self.store.leave(Place::Noted(slot));
         }
     }
@@ -660,7 +660,7 @@ impl<R: Resource> Tree<R> {
         ensures nodes { self.new.nodes ≡ self.old.nodes }
         ensures chain { self.new.chain ≡ self.old.chain }
     {
-        match self.store.waiting.next {
+        match self.store.waiting.next.place() {
             Place::Stored(slot) => {
                 let key = self.store.resource_key(slot);
                 self.store.leave(Place::Stored(key.slot));

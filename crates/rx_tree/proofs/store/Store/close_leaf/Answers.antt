@@ -16,3 +16,9 @@ push_reserved-requires g c =
     let some = some_count s.nodes key.slot there (sym c.len-count.ensures.value ∙ c.len-count.ensures.counted) in
     let room = c.requires.room in
     omega (arith, some, room)
+
+pub closed-requires : goal.closed-requires
+closed-requires g c = record { fits = (let below = c.fits.ensures in omega (arith, below)) }
+
+pub fits-requires : goal.fits-requires
+fits-requires g c = record { there = slot_stands (nodes_of c.args.self.now) c.leaf_below-key.result c.leaf_below-key.ensures.there }

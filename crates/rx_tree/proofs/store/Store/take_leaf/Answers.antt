@@ -1,5 +1,5 @@
 use Rattle.rx_tree.proofs.Common.{ap, find, project, nodes_of, some_of}
-use Rattle.rx_tree.proofs.LeafSteps.{noted_before, noted_after, noted_loop, sibling_before, sibling_after, noted_alone, children_alone, held_alone, taken}
+use Rattle.rx_tree.proofs.LeafSteps.{noted_before, noted_after, noted_loop, sibling_before, sibling_after, noted_alone, children_alone, held_alone}
 use Rattle.rx_tree.proofs.LeafSteps.{leaf_tied, leaf_chain}
 use Rattle.rx_tree.proofs.CountSteps.{counted_relinked}
 use Rattle.rx_tree.proofs.There.{slot_stands}

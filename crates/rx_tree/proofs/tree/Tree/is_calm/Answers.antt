@@ -11,7 +11,7 @@ pub returns-in-Noted : goal.returns-in-Noted
 returns-in-Noted g c =
     let s = c.self.inside.store in
     let slot = c.in-Noted.field-0 in
-    let at = c.in-Noted.is in
+    let at = sym c.place.ensures ∙ c.in-Noted.is in
     let first = chain_first s c.self.invariant.tied slot at in
     let some = some_key (λ e. record { slot = slot; number = e.number }) (entry_at (nodes_of s) slot) (first_stands s c.self.invariant.tied slot at) in
     rw (← c.self.view_is) (

@@ -1,0 +1,45 @@
+-- What made a node is what its words and numbers tell.
+use Rattle.rx_tree.proofs.Common.{◌≡◌, ℕ, Option, Some, None, true, option_map, IfSome, true≢false, option_map_or, makes_node, Event}
+use Rattle.rx_tree.proofs.Common.{parent_named, Key, Node, Packed, PlaceWord, place_word, kind_word, end_word, packed_of, made_of, above_of, marks_of, node_in}
+use Rattle.rx_tree.proofs.Common.{Marks}
+use Rattle.rx_note.specs.declared.Terminal.{Terminal}
+use Rattle.rx_tree.specs.Record.{terminal_of, code_in}
+use Rattle.std.proofs.Common.{rules}
+
+-- of a number that the key of the node above has
+named : (n : ℕ) (above : Option Key) → Some n ≡ option_map (λ key. key.number) above → option_map_or (λ key. key.number) above 0 ≡ n
+named n x1 e = search (rules, true≢false)
+
+unnamed : (above : Option Key) → None ≡ option_map (λ key. key.number) above → None ≡ above
+unnamed x0 e = search (rules, true≢false)
+
+keyed : (n : ℕ) (above : Option Key) → Some n ≡ option_map (λ key. key.number) above →
+    Some (record { slot = option_map_or (λ key. key.slot) above 0; number = option_map_or (λ key. key.number) above 0 }) ≡ above
+keyed n x1 e = search (rules, true≢false)
+
+pub made_back : (made : Event) (above : Option Key) (marks : Marks) (home : ℕ) → makes_node made ≡ true →
+    parent_named made ≡ option_map (λ key. key.number) above → made_of (place_word made) (kind_word made) (packed_of made above marks home) ≡ made
+made_back x0 above marks home m e = search (rules, named, true≢false)
+
+pub above_back : (made : Event) (above : Option Key) (marks : Marks) (home : ℕ) → makes_node made ≡ true →
+    parent_named made ≡ option_map (λ key. key.number) above → above_of (place_word made) (packed_of made above marks home) ≡ above
+above_back x0 above marks home m e = search (rules, unnamed, true≢false)
+
+pub terminal_back : (t : Option Terminal) → terminal_of (end_word t) (code_in t) ≡ t
+terminal_back x0 = search rules
+
+marks_back : (made : Event) (above : Option Key) (marks : Marks) (home : ℕ) →
+    marks_of (end_word marks.child_terminal) (packed_of made above marks home) ≡ marks
+marks_back made above marks home = λ i. record marks { child_terminal = terminal_back marks.child_terminal i }
+
+pub node_back : (node : Node) (home : ℕ) → makes_node node.made ≡ true → parent_named node.made ≡ option_map (λ key. key.number) node.above →
+    node_in (packed_of node.made node.above node.marks home) ≡ node
+node_back node home m e = λ i. record {
+  made = made_back node.made node.above node.marks home m e i;
+  above = above_back node.made node.above node.marks home m e i;
+  marks = marks_back node.made node.above node.marks home i;
+}
+
+-- the slot beside the words is that of the node above
+pub slot_above : (place : PlaceWord) (o : Packed) → IfSome (above_of place o) (λ key. o.slot ≡ key.slot)
+slot_above x0 o = search rules
