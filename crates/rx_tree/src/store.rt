@@ -195,21 +195,6 @@ impl<R: Drop> Store<R> {
         }
     }
 
-    // Lets one place come directly before another.
-    #[inline(always)]
-    fn tie(&mut self, one: Place, other: Place)
-        requires one { IsTrue (is_there self.old one) }
-        requires other { IsTrue (is_there self.old other) }
-        ensures next { (q : _) → next_of self.new q ≡ set_step places one other (next_of self.old) q }
-        ensures previous { (q : _) → previous_of self.new q ≡ set_step places other one (previous_of self.old) q }
-        ensures rest { Relinks self.old self.new }
-    {
-        self.fits(one);
-        self.fits(other);
-        self.set_next(one, Step::to(other));
-        self.set_previous(other, Step::to(one));
-    }
-
     // Puts a place last on a ring.
     #[inline(always)]
     pub(crate) fn join(&mut self, end: Place, place: Place)
@@ -245,7 +230,9 @@ impl<R: Drop> Store<R> {
         ensures rest { Relinks self.old self.new }
     {
         let link = self.link(place);
-        self.tie(link.previous.place(), link.next.place());
+        let next = link.next.place();
+        self.set_next(link.previous.place(), link.next);
+        self.set_previous(next, link.previous);
     }
 
     // Takes a place off its ring.
@@ -278,8 +265,13 @@ impl<R: Drop> Store<R> {
         let link = self.link(from);
         let last = self.link(into).previous;
         self.fits(from);
-        self.tie(last.place(), link.next.place());
-        self.tie(link.previous.place(), into);
+        self.fits(into);
+        let first = link.next.place();
+        let end = link.previous.place();
+        self.set_next(last.place(), link.next);
+        self.set_previous(first, last);
+        self.set_next(end, Step::to(into));
+        self.set_previous(into, link.previous);
         self.set_link(from, Link::alone(from));
     }
 }
