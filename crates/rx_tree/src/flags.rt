@@ -35,7 +35,8 @@ impl Flags {
     #[inline(always)]
     #[tactic(auto, using(crate::proofs::FlagWords::told_back))]
     pub(crate) fn of(source: bool, notifier: bool, firing: bool, completion: bool) -> Self
-        ensures { result ≡ record { source_opened = source; notifier_opened = notifier; fired = firing; source_completed = completion } }
+        ensures { result ≡ record
+            { source_opened = source; notifier_opened = notifier; fired = firing; source_completed = completion } }
     {
         Flags {
             word: flag(source, 1) + flag(notifier, 2) + flag(firing, 4) + flag(completion, 8),

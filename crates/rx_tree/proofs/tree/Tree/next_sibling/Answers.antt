@@ -14,7 +14,8 @@ returns-in_err-_parent-clause-none g c = let s = c.self.inside.store in rw (← 
 pub returns-in-Sibling-clause-some : goal.returns-in-Sibling-clause-some
 returns-in-Sibling-clause-some g c = let s = c.self.inside.store in rw (← c.self.view_is) (subst (λ o. IfSome o (λ next. (parent : Key) → IsChild
     (nodes_of s) parent c.args.key → IsFirst (IsChild (nodes_of s) parent) (c.args.key.number + 1) next)) (sym c.node_at.ensures) (sibling_some
-    (nodes_of s) (resources_of s) (next_of s) (previous_of s) c.self.invariant.tied _ _ (ap (λ l. l.next) (sym c.link.ensures) ∙ (sym c.place.ensures ∙ c.in-Sibling.is))))
+    (nodes_of s) (resources_of s) (next_of s) (previous_of s) c.self.invariant.tied _ _ (ap (λ l. l.next) (sym c.link.ensures) ∙ (sym c.place.ensures
+    ∙ c.in-Sibling.is))))
 
 pub returns-in-Sibling-clause-none : goal.returns-in-Sibling-clause-none
 returns-in-Sibling-clause-none g c = let s = c.self.inside.store in rw (← c.self.view_is) (subst (λ o. IfNone o ((parent : Key) → IsChild (nodes_of s)

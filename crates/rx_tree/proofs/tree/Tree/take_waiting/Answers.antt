@@ -9,15 +9,18 @@ resource_key-key-requires g c =
     record { there = first_there c.self.inside.store c.self.invariant.tied c.in-Stored.slot (sym c.place.ensures ∙ c.in-Stored.is) }
 
 pub leave-requires-clause-before : goal.leave-requires-clause-before
-leave-requires-clause-before g c = let s = c.self.inside.store in let at = sym c.place.ensures ∙ c.in-Stored.is in let w = first_waits s c.self.invariant.tied _ at
+leave-requires-clause-before g c = let s = c.self.inside.store in let at = sym c.place.ensures ∙ c.in-Stored.is in let w = first_waits s
+    c.self.invariant.tied _ at
     c.resource_key-key.result c.resource_key-key.ensures in stored_before s _ c.self.invariant.tied w.stowed w.found
 
 pub leave-requires-clause-after : goal.leave-requires-clause-after
-leave-requires-clause-after g c = let s = c.self.inside.store in let at = sym c.place.ensures ∙ c.in-Stored.is in let w = first_waits s c.self.invariant.tied _ at
+leave-requires-clause-after g c = let s = c.self.inside.store in let at = sym c.place.ensures ∙ c.in-Stored.is in let w = first_waits s
+    c.self.invariant.tied _ at
     c.resource_key-key.result c.resource_key-key.ensures in stored_after s _ c.self.invariant.tied w.stowed w.found
 
 pub take_resource-stowed-requires : goal.take_resource-stowed-requires
-take_resource-stowed-requires g c = let s = c.self.inside.store in let at = sym c.place.ensures ∙ c.in-Stored.is in let w = first_waits s c.self.invariant.tied _ at
+take_resource-stowed-requires g c = let s = c.self.inside.store in let at = sym c.place.ensures ∙ c.in-Stored.is in let w = first_waits s
+    c.self.invariant.tied _ at
     c.resource_key-key.result c.resource_key-key.ensures in let l = c.leave.new.self in let still = subst (λ r. find r c.resource_key-key.result ≡
     Some w.stowed) (sym c.leave.ensures.rest.resources) w.found in record {
       counted = counted_relinked s _ c.leave.ensures.rest
