@@ -1,11 +1,10 @@
 -- The chain that callers see, and the ring that it is kept in.
-use Rattle.rx_tree.proofs.Common.{◌≡◌, ℕ, ◌<◌, ◌||◌, map, Bool, true, false, List, [], ◌∷◌, length, Option, Some, None, is_some, IsSome, ap}
-use Rattle.rx_tree.proofs.Common.{refl, sym, subst, ◌∙◌, inl, inr, arith, true≢false, option_map_or, cases_lt, false≢true, Entry}
-use Rattle.rx_tree.proofs.Common.{false_from_ne_true, nat_tests, get_or_past, length-map, Key, Slots, entry_at, find, Place, Due}
-use Rattle.rx_tree.proofs.Common.{Noted, Node, Stowed, Store, is_among, AreDifferent, walk, slot_of, places, tells, or_true}
-use Rattle.rx_tree.proofs.Common.{few_places, among_here, among_there, among_cons, walk_leads, some_same, on_entry, key_on, nodes_of, resources_of, next_of}
-use Rattle.rx_tree.proofs.Common.{previous_of, stands, shown, home_of, resource_ring, IsTiedAt, IsTied, IsPromised, AreDistinct, is_key, is_on}
-use Rattle.rx_tree.proofs.Common.{same_key, entry_found, found_entry, is_lent}
+use Rattle.rx_tree.proofs.Common.{◌≡◌, ℕ, ◌<◌, ◌||◌, map, Bool, true, false, List, [], ◌∷◌, length, Option, Some, None, is_some, IsSome, ap, refl, sym, subst}
+use Rattle.rx_tree.proofs.Common.{◌∙◌, inl, inr, arith, true≢false, option_map_or, cases_lt, false≢true, Entry, false_from_ne_true, nat_tests, get_or_past}
+use Rattle.rx_tree.proofs.Common.{length-map, Key, Slots, entry_at, find, Place, Due, Noted, Node, Stowed, Store, is_among, AreDifferent, walk, slot_of, places}
+use Rattle.rx_tree.proofs.Common.{tells, or_true, few_places, among_here, among_there, among_cons, walk_leads, some_same, on_entry, key_on, nodes_of}
+use Rattle.rx_tree.proofs.Common.{resources_of, next_of, previous_of, stands, shown, home_of, resource_ring, IsTiedAt, IsTied, IsPromised, AreDistinct, is_key}
+use Rattle.rx_tree.proofs.Common.{is_on, same_key, entry_found, found_entry, is_lent}
 use Rattle.std.specs.Option.{option_map}
 use Rattle.rx_tree.proofs.TieRecords.{home_stands}
 use Rattle.std.proofs.Common.{rules}
@@ -29,8 +28,7 @@ module _ {T : Type 0} where
         within : (j : ℕ) → is_some (entry_at nodes j) ≡ true → j < length s.nodes.entries
         within j there = elim (cases_lt j (length s.nodes.entries)) [
           | inl below ↦ below
-          | inr past ↦ absurd (true≢false
-              (sym there ∙ ap (λ m. is_some (entry_at m j)) (sym seen) ∙ ap is_some
+          | inr past ↦ absurd (true≢false (sym there ∙ ap (λ m. is_some (entry_at m j)) (sym seen) ∙ ap is_some
               (get_or_past (nodes_of s).entries j None (let l = length-map s.nodes.entries (option_map (on_entry (λ l. l.node))) in omega (arith, l, past)))))
         ]
 
@@ -41,8 +39,7 @@ module _ {T : Type 0} where
 
   pub retie : (s : Store T) (nodes : Slots Node) (resources : Slots (Stowed T)) → nodes_of s ≡ nodes → resources_of s ≡ resources →
       IsTiedAt (next_of s) (previous_of s) nodes resources → IsTied s
-  retie s nodes resources a b tied =
-      search (rules, resources_of)
+  retie s nodes resources a b tied = search (rules, resources_of)
 
 key_parts : (k l : Key) → is_key k l ≡ true → (k.slot ≡ l.slot) × (k.number ≡ l.number)
 key_parts k l e = search (rules, nat_tests, false≢true)
@@ -87,8 +84,7 @@ distinct_keys nodes (x ∷ ps) d all = (
 )
 
 pub key_on_found : (nodes : Slots Node) (k : Key) (node : Node) (x : Place) → slot_of x ≡ k.slot → find nodes k ≡ Some node → key_on nodes x ≡ k
-key_on_found nodes k node x slot found =
-    search (rules, same_key, slot, entry_found)
+key_on_found nodes k node x slot found = search (rules, same_key, slot, entry_found)
 
 module _ {T : Type 0} where
   -- what holds of every tree

@@ -12,8 +12,7 @@ use Rattle.std.proofs.Common.{rules}
 filter_on : (p q : Key → Bool) (xs : List Key) → ((x : Key) → is_on x xs ≡ true → p x ≡ q x) → filter p xs ≡ filter q xs
 filter_on p q [] same = refl
 filter_on p q (x ∷ xs) same =
-    let again : filter p xs ≡ filter q xs = filter_on p q xs (λ y on. same y (or_true (is_key y x) (is_on y xs) on)) in
-    search (rules, key_self)
+    let again : filter p xs ≡ filter q xs = filter_on p q xs (λ y on. same y (or_true (is_key y x) (is_on y xs) on)) in search (rules, key_self)
 
 filter_all : (xs : List Key) → filter (λ _. true) xs ≡ xs
 filter_all [] = refl

@@ -12,10 +12,7 @@ bit b = cond b 1 0
 module _ {X : Type 0} where
   pub sum_none : (f : Option X → ℕ) (xs : List (Option X)) → ((j : ℕ) → f (get_or xs j None) ≡ 0) → sum_by f xs ≡ 0
   sum_none f [] none = refl
-  sum_none f (x ∷ xs) none =
-      let first : f x ≡ 0 = none 0 in
-      let rest = sum_none f xs (λ j. none (suc j)) in
-      sum_by-cons f x xs ∙ omega (arith, first, rest)
+  sum_none f (x ∷ xs) none = let first : f x ≡ 0 = none 0 in let rest = sum_none f xs (λ j. none (suc j)) in sum_by-cons f x xs ∙ omega (arith, first, rest)
 
   -- sums over the same values, of which one list may have more that count for nothing
   sum_same : (f g : Option X → ℕ) (xs ys : List (Option X)) → f None ≡ 0 → g None ≡ 0 →
@@ -30,10 +27,7 @@ module _ {X : Type 0} where
   sum_both : (f g h : Option X → ℕ) (xs : List (Option X)) →
       ((j : ℕ) → f (get_or xs j None) ≡ g (get_or xs j None) + h (get_or xs j None)) → sum_by f xs ≡ sum_by g xs + sum_by h xs
   sum_both f g h [] both = refl
-  sum_both f g h (x ∷ xs) both =
-      let first : f x ≡ g x + h x = both 0 in
-      let rest = sum_both f g h xs (λ j. both (suc j)) in
-      search (rules, sum_by-cons)
+  sum_both f g h (x ∷ xs) both = let first : f x ≡ g x + h x = both 0 in let rest = sum_both f g h xs (λ j. both (suc j)) in search (rules, sum_by-cons)
 
   -- one entry changed
   pub sum_changed : (f : Option X → ℕ) (xs ys : List (Option X)) (slot : ℕ) → f None ≡ 0 → slot < length xs →
@@ -73,29 +67,25 @@ module _ {T : Type 0} where
       (before : Option (Entry (Stowed T))) {after : Option (Entry (Stowed T))} →
       p None ≡ false → slot < length old.entries → entry_at old slot ≡ before → Changes old new slot after →
       count_by p new.entries + bit (p before) ≡ count_by p old.entries + bit (p after)
-  count_changed p old new {slot} before none within at change =
-      search (rules, sum_changed)
+  count_changed p old new {slot} before none within at change = search (rules, sum_changed)
 
   -- counts of those that pass a test
   module _ (test : Stowed T → Bool) where
     -- one entry changed
     pub counted_changed : {nodes : Slots Node} {old new : Slots (Stowed T)} {slot : ℕ} {before after : Option (Entry (Stowed T))} {u : ℕ} (v : ℕ) {f : ℕ → ℕ}
-        (g : ℕ → ℕ) →
-        AreCounted test nodes old u f → slot < length old.entries → entry_at old slot ≡ before → Changes old new slot after →
+        (g : ℕ → ℕ) → AreCounted test nodes old u f → slot < length old.entries → entry_at old slot ≡ before → Changes old new slot after →
         v + bit (unowned_in test nodes before) ≡ u + bit (unowned_in test nodes after) →
         ((j : ℕ) → g j + bit (owned_at test nodes j before) ≡ f j + bit (owned_at test nodes j after)) → AreCounted test nodes new v g
     counted_changed {nodes} {old} {new} {before} {after} v g c within at change none each = record {
       by_none =
           let was = c.by_none in
           let e : count_by (unowned_in test nodes) new.entries + bit (unowned_in test nodes before) ≡ count_by (unowned_in test nodes) old.entries + bit
-          (unowned_in test nodes after) =
-          count_changed (unowned_in test nodes) old new before refl within at change in
+          (unowned_in test nodes after) = count_changed (unowned_in test nodes) old new before refl within at change in
           omega (arith, was, e, none);
       by_each = λ j.
           let was = c.by_each j in
           let e : count_by (owned_at test nodes j) new.entries + bit (owned_at test nodes j before) ≡ count_by (owned_at test nodes j) old.entries + bit
-          (owned_at test nodes j after) =
-          count_changed (owned_at test nodes j) old new before refl within at change in
+          (owned_at test nodes j after) = count_changed (owned_at test nodes j) old new before refl within at change in
           let here = each j in
           omega (arith, was, e, here);
     }
@@ -141,8 +131,7 @@ module _ {T : Type 0} where
           (λ j. of (entry_at resources j)) where
             of : (o : Option (Entry (Stowed T))) → bit (unowned_in test rest o) ≡ bit (unowned_in test nodes o) + bit (owned_at test nodes slot o)
             of None = refl
-            of (Some e) =
-                ap (λ b. bit (test e.value && not (b && not e.value.removed))) (still_found e.value.node) ∙
+            of (Some e) = ap (λ b. bit (test e.value && not (b && not e.value.removed))) (still_found e.value.node) ∙
                 waits_shape (test e.value) (is_some (find nodes e.value.node)) (not e.value.removed) (e.value.node.slot == slot)
 
       out_here : count_by (owned_at test rest slot) resources.entries ≡ 0
@@ -156,8 +145,7 @@ module _ {T : Type 0} where
               still_found e.value.node ∙ ap (λ b. is_some (find nodes e.value.node) && not b) at in
               (λ i. bit (test e.value && ((off i && not e.value.removed) && at i))) ∙ none_shape (test e.value) (is_some (find nodes e.value.node))
               (not e.value.removed)
-          | inr apart ↦
-              ap (λ b. bit (test e.value && (is_owned rest e.value && b))) (same_apart e.value.node.slot slot apart) ∙ false_last (test e.value)
+          | inr apart ↦ ap (λ b. bit (test e.value && (is_owned rest e.value && b))) (same_apart e.value.node.slot slot apart) ∙ false_last (test e.value)
               (is_owned rest e.value)
         ]
 
@@ -199,8 +187,7 @@ module _ {T : Type 0} where
 
       kept_none : count_by (unowned_in test now) new.entries ≡ count_by (unowned_in test nodes) old.entries
       kept_none = ap (count_by (unowned_in test now)) entries ∙ sum_same (λ e. bit (unowned_in test now e)) (λ e. bit (unowned_in test nodes e)) old.entries
-          old.entries
-          refl refl (λ j. of j (entry_at old j) refl) where
+          old.entries refl refl (λ j. of j (entry_at old j) refl) where
             of : (j : ℕ) (o : Option (Entry (Stowed T))) → entry_at old j ≡ o → bit (unowned_in test now o) ≡ bit (unowned_in test nodes o)
             of j None read = refl
             of j (Some e) read = ap (λ b. bit (test e.value && not b)) (stays j e read)

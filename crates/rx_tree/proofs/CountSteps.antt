@@ -67,16 +67,14 @@ module _ {T : Type 0} (a b : Store T) where
   pub found_before : (key : Key) (number : ℕ) (node : Node) → Inserts (nodes_of a) (nodes_of b) key number node → ((k : Key) (stowed : Stowed T) → find
       (resources_of a) k ≡ Some stowed → stowed.node.number < number) → (k : Key) (stowed : Stowed T) → find (resources_of a) k ≡ Some stowed →
       is_some (find (nodes_of b) stowed.node) ≡ is_some (find (nodes_of a) stowed.node)
-  found_before key number node came homes k stowed found =
-      search rules
+  found_before key number node came homes k stowed found = search rules
 
   -- one that owes nothing changes nothing of what is owed
   pub owed_opened : (key : Key) (number : ℕ) (node : Node) → Inserts (nodes_of a) (nodes_of b) key number node → node.marks.owed ≡ 0 →
       owed_in (nodes_of b) ≡ owed_in (nodes_of a)
   owed_opened key number node came none =
       let more = owed_came (nodes_of a) (nodes_of b) key node came.was_free (subst (λ n. Changes (nodes_of a) (nodes_of b) key.slot (Some (entry_of n node)))
-      (sym came.numbered) came.changes) in
-      omega (arith, more, none)
+      (sym came.numbered) came.changes) in omega (arith, more, none)
 
   -- a node is written in the place of another
   pub found_marked : (key : Key) (change : Node → Node) → Rewrites (nodes_of a) (nodes_of b) key change → (k : Key) →
@@ -106,8 +104,7 @@ module _ {T : Type 0} (a b : Store T) where
         let here = each_of false stowed.node.slot in
         let one : bit (stowed.node.slot == stowed.node.slot) ≡ 1 = ap bit (same_here stowed.node.slot stowed.node.slot refl) in
         let few = count_by-le-length (owned_at is_free (nodes_of a) stowed.node.slot) (resources_of b).entries in
-        let l = length-map b.resources.entries (option_map (on_entry (λ r. r.stowed))) in
-        omega (arith, was, e, here, one, few, l)
+        let l = length-map b.resources.entries (option_map (on_entry (λ r. r.stowed))) in omega (arith, was, e, here, one, few, l)
 
     pub counted_came : nodes_of b ≡ nodes_of a → b.waiting_count ≡ a.waiting_count → ((j : ℕ) → held_count_at b j ≡ cond (stowed.node.slot == j)
         (one_more false (held_count_at a stowed.node.slot)) (held_count_at a j)) → b.owed ≡ a.owed → IsCounted b
@@ -156,8 +153,7 @@ module _ {T : Type 0} (a b : Store T) where
 
     -- where one sort loses one by it, there is one
     pub some_unowned : (l : Bool) → unowned_in (test_of l) (nodes_of a) (Some (entry_of key.number stowed)) ≡ true → unowned_in (test_of l) (nodes_of a)
-        (Some (entry_of key.number other)) ≡ false →
-        1 ≤ part l a.waiting_count
+        (Some (entry_of key.number other)) ≡ false → 1 ≤ part l a.waiting_count
     some_unowned l was now =
         let counts = (sort_of a c l).by_none in
         let e : count_by (unowned_in (test_of l) (nodes_of a)) (resources_of b).entries + bit
@@ -165,12 +161,10 @@ module _ {T : Type 0} (a b : Store T) where
         count_by (unowned_in (test_of l) (nodes_of a)) (resources_of a).entries + bit (unowned_in (test_of l) (nodes_of a) (Some (entry_of key.number other))) =
         count_changed (unowned_in (test_of l) (nodes_of a)) (resources_of a) (resources_of b) (Some (entry_of key.number stowed)) refl within
         (entry_found (resources_of a) key stowed found) change in
-        let one = ap bit was in let none = ap bit now in
-        omega (arith, counts, e, one, none)
+        let one = ap bit was in let none = ap bit now in omega (arith, counts, e, one, none)
 
     pub some_owned : (l : Bool) (j : ℕ) → owned_at (test_of l) (nodes_of a) j (Some (entry_of key.number stowed)) ≡ true → owned_at (test_of l) (nodes_of a)
-        j (Some (entry_of key.number other)) ≡ false →
-        1 ≤ part l (held_count_at a j)
+        j (Some (entry_of key.number other)) ≡ false → 1 ≤ part l (held_count_at a j)
     some_owned l j was now =
         let counts = (sort_of a c l).by_each j in
         let e : count_by (owned_at (test_of l) (nodes_of a) j) (resources_of b).entries + bit
@@ -178,13 +172,11 @@ module _ {T : Type 0} (a b : Store T) where
         count_by (owned_at (test_of l) (nodes_of a) j) (resources_of a).entries + bit (owned_at (test_of l) (nodes_of a) j (Some (entry_of key.number other))) =
         count_changed (owned_at (test_of l) (nodes_of a) j) (resources_of a) (resources_of b) (Some (entry_of key.number stowed)) refl within
         (entry_found (resources_of a) key stowed found) change in
-        let one = ap bit was in let none = ap bit now in
-        omega (arith, counts, e, one, none)
+        let one = ap bit was in let none = ap bit now in omega (arith, counts, e, one, none)
 
     -- and where one sort gains one, it fits
     pub unowned_fits : (l : Bool) → unowned_in (test_of l) (nodes_of a) (Some (entry_of key.number stowed)) ≡ false → unowned_in (test_of l) (nodes_of a)
-        (Some (entry_of key.number other)) ≡ true →
-        part l a.waiting_count < length b.resources.entries
+        (Some (entry_of key.number other)) ≡ true → part l a.waiting_count < length b.resources.entries
     unowned_fits l was now =
         let counts = (sort_of a c l).by_none in
         let e : count_by (unowned_in (test_of l) (nodes_of a)) (resources_of b).entries + bit
@@ -194,12 +186,10 @@ module _ {T : Type 0} (a b : Store T) where
         (entry_found (resources_of a) key stowed found) change in
         let one = ap bit now in let none = ap bit was in
         let few = count_by-le-length (unowned_in (test_of l) (nodes_of a)) (resources_of b).entries in
-        let n = length-map b.resources.entries (option_map (on_entry (λ r. r.stowed))) in
-        omega (arith, counts, e, one, none, few, n)
+        let n = length-map b.resources.entries (option_map (on_entry (λ r. r.stowed))) in omega (arith, counts, e, one, none, few, n)
 
     pub owned_fits : (l : Bool) (j : ℕ) → owned_at (test_of l) (nodes_of a) j (Some (entry_of key.number stowed)) ≡ false → owned_at (test_of l)
-        (nodes_of a) j (Some (entry_of key.number other)) ≡ true →
-        part l (held_count_at a j) < length b.resources.entries
+        (nodes_of a) j (Some (entry_of key.number other)) ≡ true → part l (held_count_at a j) < length b.resources.entries
     owned_fits l j was now =
         let counts = (sort_of a c l).by_each j in
         let e : count_by (owned_at (test_of l) (nodes_of a) j) (resources_of b).entries + bit
@@ -209,8 +199,7 @@ module _ {T : Type 0} (a b : Store T) where
         (entry_found (resources_of a) key stowed found) change in
         let one = ap bit now in let none = ap bit was in
         let few = count_by-le-length (owned_at (test_of l) (nodes_of a) j) (resources_of b).entries in
-        let n = length-map b.resources.entries (option_map (on_entry (λ r. r.stowed))) in
-        omega (arith, counts, e, one, none, few, n)
+        let n = length-map b.resources.entries (option_map (on_entry (λ r. r.stowed))) in omega (arith, counts, e, one, none, few, n)
 
     -- the counts follow
     pub counted_rewritten : nodes_of b ≡ nodes_of a → b.owed ≡ a.owed →
@@ -241,14 +230,12 @@ module _ {T : Type 0} (a b : Store T) where
         Recounts a b stowed.node.slot w x →
         ((l : Bool) → part l w + bit (same_sort l lent && not owned) ≡ part l a.waiting_count + bit (same_sort l lent' && not owned')) →
         ((l : Bool) → part l x + bit (same_sort l lent && owned) ≡ part l (held_count_at a stowed.node.slot) + bit (same_sort l lent' && owned')) → IsCounted b
-    counted_moved {lent} {owned} {lent'} {owned'} {x} was_as now_as new none each = counted_rewritten new.nodes new.owed
-        (λ l.
+    counted_moved {lent} {owned} {lent'} {owned'} {x} was_as now_as new none each = counted_rewritten new.nodes new.owed (λ l.
         let now = ap (part l) new.waiting in
         let was = bit_none was_as l in
         let then = bit_none now_as l in
         let e = none l in
-        omega (arith, now, was, then, e))
-        (λ l j. of l j (cases_eq stowed.node.slot j))
+        omega (arith, now, was, then, e)) (λ l j. of l j (cases_eq stowed.node.slot j))
       where
         of : (l : Bool) (j : ℕ) → (stowed.node.slot ≡ j) ⊎ (stowed.node.slot ≢ j) → part l (held_count_at b j) + bit
             (owned_at (test_of l) (nodes_of a) j (Some (entry_of key.number stowed))) ≡
@@ -258,8 +245,7 @@ module _ {T : Type 0} (a b : Store T) where
             let now : part l (held_count_at b j) ≡ part l x = ap (part l) (new.held j ∙ ap (λ t. cond t x (held_count_at a j)) at) in
             let home_was : part l (held_count_at a stowed.node.slot) ≡ part l (held_count_at a j) = ap (λ k. part l (held_count_at a k)) here in
             let was = bit_each was_as refl l j ∙ ap (λ t. bit (same_sort l lent && (owned && t))) at ∙ and_yes (same_sort l lent) owned in
-            let then = bit_each now_as home l j ∙ ap (λ t. bit (same_sort l lent' && (owned' && t))) at ∙ and_yes (same_sort l lent')
-            owned' in
+            let then = bit_each now_as home l j ∙ ap (λ t. bit (same_sort l lent' && (owned' && t))) at ∙ and_yes (same_sort l lent') owned' in
             let e = each l in
             omega (arith, now, home_was, was, then, e)
           where
@@ -270,8 +256,7 @@ module _ {T : Type 0} (a b : Store T) where
             let at = same_apart stowed.node.slot j apart in
             let now : part l (held_count_at b j) ≡ part l (held_count_at a j) = ap (part l) (new.held j ∙ ap (λ t. cond t x (held_count_at a j)) at) in
             let was = bit_each was_as refl l j ∙ ap (λ t. bit (same_sort l lent && (owned && t))) at ∙ and_no (same_sort l lent) owned in
-            let then = bit_each now_as home l j ∙ ap (λ t. bit (same_sort l lent' && (owned' && t))) at ∙ and_no (same_sort l lent')
-            owned' in
+            let then = bit_each now_as home l j ∙ ap (λ t. bit (same_sort l lent' && (owned' && t))) at ∙ and_no (same_sort l lent') owned' in
             omega (arith, now, was, then)
           where
             and_no : (p q : Bool) → bit (p && (q && false)) ≡ 0
@@ -326,12 +311,10 @@ module _ {T : Type 0} (a b : Store T) where
       some_waiting =
           let counts = c.free.by_none in
           let e : count_by (unowned_in is_free (nodes_of a)) (resources_of b).entries + bit
-          (unowned_in is_free (nodes_of a) (Some (entry_of key.number stowed))) ≡
-          count_by (unowned_in is_free (nodes_of a)) (resources_of a).entries + 0 =
+          (unowned_in is_free (nodes_of a) (Some (entry_of key.number stowed))) ≡ count_by (unowned_in is_free (nodes_of a)) (resources_of a).entries + 0 =
           count_changed (unowned_in is_free (nodes_of a)) (resources_of a) (resources_of b) (Some (entry_of key.number stowed)) refl within_out
           (entry_found (resources_of a) key stowed found) change in
-          let one = none_out false in
-          omega (arith, counts, e, one)
+          let one = none_out false in omega (arith, counts, e, one)
 
       pub counted_taken : b.nodes ≡ a.nodes → b.waiting_count ≡ one_less false a.waiting_count → b.owed ≡ a.owed → IsCounted b
       counted_taken nodes waiting owed = counted_of b (λ l. subst (λ (n : Slots Record). AreCountedAs l (project (λ x. x.node) n) (resources_of b)
@@ -348,15 +331,12 @@ module _ {T : Type 0} (a b : Store T) where
     -- another is written in its place that is the same but for the resource itself
     pub counted_written : (other : Stowed T) → other.node ≡ stowed.node → other.removed ≡ stowed.removed → other.leases ≡ stowed.leases → Changes
         (resources_of a)
-        (resources_of b) key.slot (Some (entry_of key.number other)) → b.nodes ≡ a.nodes → b.waiting_count ≡ a.waiting_count → b.owed ≡ a.owed →
-        IsCounted b
+        (resources_of b) key.slot (Some (entry_of key.number other)) → b.nodes ≡ a.nodes → b.waiting_count ≡ a.waiting_count → b.owed ≡ a.owed → IsCounted b
     counted_written other node off leases change nodes waiting owed = counted_rewritten c key stowed other found node change
         (ap (project (λ x. x.node)) nodes) owed
         (λ l. ap (λ w. part l w + bit (unowned_in (test_of l) (nodes_of a) (Some (entry_of key.number stowed)))) waiting ∙ ap
-        (λ n. part l a.waiting_count + n) (sym (none l)))
-        (λ l j. (λ i. part l (option_map_or (λ x. x.held_count) (value_at (nodes i) j) no_counts) + bit
-        (owned_at (test_of l) (nodes_of a) j (Some (entry_of key.number stowed)))) ∙
-        ap (λ n. part l (held_count_at a j) + n) (sym (each l j)))
+        (λ n. part l a.waiting_count + n) (sym (none l))) (λ l j. (λ i. part l (option_map_or (λ x. x.held_count) (value_at (nodes i) j) no_counts) + bit
+        (owned_at (test_of l) (nodes_of a) j (Some (entry_of key.number stowed)))) ∙ ap (λ n. part l (held_count_at a j) + n) (sym (each l j)))
       where
         lent : is_lent other ≡ is_lent stowed
         lent = ap (λ n. not (n == 0)) leases
@@ -384,13 +364,11 @@ module _ {T : Type 0} (a b : Store T) where
     out_fits l =
         let out = counted_out (test_of l) (nodes_of a) (nodes_of b) (resources_of a) key.slot change (part l a.waiting_count) (λ j. part l (held_count_at a j))
         (λ j. cond (j == key.slot) 0 (part l (held_count_at a j))) (sort_of a c l) (ap (λ t. cond t 0 (part l (held_count_at a key.slot)))
-        (same_here key.slot key.slot refl))
-        (λ j apart. ap (λ t. cond t 0 (part l (held_count_at a j))) (same_apart j key.slot apart)) in
+        (same_here key.slot key.slot refl)) (λ j apart. ap (λ t. cond t 0 (part l (held_count_at a j))) (same_apart j key.slot apart)) in
         let total = out.by_none in
         let at = ap (part l) here in
         let few = count_by-le-length (unowned_in (test_of l) (nodes_of b)) (resources_of a).entries in
-        let n = length-map a.resources.entries (option_map (on_entry (λ r. r.stowed))) in
-        omega (arith, total, at, few, n)
+        let n = length-map a.resources.entries (option_map (on_entry (λ r. r.stowed))) in omega (arith, total, at, few, n)
 
     owed_less : owed_in (nodes_of b) + linked.node.marks.owed ≡ owed_in (nodes_of a)
     owed_less = owed_taken (nodes_of a) (nodes_of b) key linked.node (find-project (λ l. l.node) a.nodes key ∙ ap (option_map (λ l. l.node)) found) change
@@ -411,8 +389,7 @@ module _ {T : Type 0} (a b : Store T) where
         value o = option_map_or (λ l. l.held_count) (option_map (λ e. e.value) o) no_counts
 
         sum : (l : Bool) → AreCounted (test_of l) (nodes_of b) (resources_of a) (part l a.waiting_count + part l (held_count_at a key.slot))
-            (λ j. part l (held_count_at b j)) →
-            AreCountedAs l (nodes_of b) (resources_of a) b.waiting_count (held_count_at b)
+            (λ j. part l (held_count_at b j)) → AreCountedAs l (nodes_of b) (resources_of a) b.waiting_count (held_count_at b)
         sum l each = record {
           by_none = let total = each.by_none in let at = ap (part l) here in let w = waiting l in omega (arith, total, at, w);
           by_each = each.by_each;
@@ -433,8 +410,7 @@ module _ {T : Type 0} (s : Store T) (c : IsCounted s) where
   counted_room_resources m same = search rules
 
 -- nothing is counted where nothing is
-pub counted_empty : {T : Type 0} (s : Store T) → s.nodes.entries ≡ [] → s.resources.entries ≡ [] → s.waiting_count ≡ no_counts → s.owed ≡ 0 →
-    IsCounted s
+pub counted_empty : {T : Type 0} (s : Store T) → s.nodes.entries ≡ [] → s.resources.entries ≡ [] → s.waiting_count ≡ no_counts → s.owed ≡ 0 → IsCounted s
 counted_empty s nodes resources none owed = search (rules, zero_of, unowned_in, nodes_of, owned_at, owed_empty, resources_of)
 
 -- those without a lease out that no node owns are those that wait, and the others are held by leases alone
@@ -475,8 +451,7 @@ module _ {T : Type 0} (a b : Store T) (c : IsCounted a) (key : Key) (stowed : St
       b.owed ≡ a.owed → IsCounted b
   counted_removed nodes waiting count owed = counted_moved a b c key stowed (removed stowed) found refl change
       {x = one_less (is_lent stowed) (held_count_at a stowed.node.slot)} (record { lending = refl; owning = owned }) (record { lending = refl; owning = off })
-      (record { nodes = nodes; owed = owed; waiting = waiting; held = count })
-      (λ l. more l (is_lent stowed)) (λ l. less l (is_lent stowed) removed_some)
+      (record { nodes = nodes; owed = owed; waiting = waiting; held = count }) (λ l. more l (is_lent stowed)) (λ l. less l (is_lent stowed) removed_some)
     where
       more : (l lent : Bool) → part l (one_more lent a.waiting_count) + bit (cond l lent (not lent) && not true) ≡ part l a.waiting_count + bit
           (cond l lent (not lent) && not false)
@@ -486,8 +461,7 @@ module _ {T : Type 0} (a b : Store T) (c : IsCounted a) (key : Key) (stowed : St
       more false false = omega arith
 
       less : (l lent : Bool) → 1 ≤ count_if lent (held_count_at a stowed.node.slot) → part l (one_less lent (held_count_at a stowed.node.slot)) + bit
-          (cond l lent (not lent) && true) ≡
-          part l (held_count_at a stowed.node.slot) + bit (cond l lent (not lent) && false)
+          (cond l lent (not lent) && true) ≡ part l (held_count_at a stowed.node.slot) + bit (cond l lent (not lent) && false)
       less true true some = omega arith
       less true false some = omega arith
       less false true some = omega arith
@@ -525,8 +499,7 @@ module _ {T : Type 0} (a b : Store T) (c : IsCounted a) (key : Key) (stowed : St
         same false = refl
 
         each : 1 ≤ (held_count_at a stowed.node.slot).free → (l : Bool) → part l (one_more true (one_less false (held_count_at a stowed.node.slot))) + bit
-            (cond l false true && true) ≡
-            part l (held_count_at a stowed.node.slot) + bit (cond l true false && true)
+            (cond l false true && true) ≡ part l (held_count_at a stowed.node.slot) + bit (cond l true false && true)
         each some true = omega arith
         each some false = omega arith
 
@@ -585,8 +558,7 @@ module _ {T : Type 0} (a b : Store T) (c : IsCounted a) (key : Key) (stowed : St
           (each_same (held_count_at a stowed.node.slot))
 
   pub counted_fewer : is_lent (one_lease_less stowed) ≡ true → nodes_of b ≡ nodes_of a → b.waiting_count ≡ a.waiting_count →
-      ((j : ℕ) → held_count_at b j ≡ held_count_at a j) →
-      b.owed ≡ a.owed → IsCounted b
+      ((j : ℕ) → held_count_at b j ≡ held_count_at a j) → b.owed ≡ a.owed → IsCounted b
   counted_fewer more nodes waiting count owed = counted_moved a b c key stowed (one_lease_less stowed) found refl change
       {x = held_count_at a stowed.node.slot} (record { lending = lent; owning = own }) (record { lending = more; owning = own })
       (record { nodes = nodes; owed = owed; waiting = waiting; held = still a b stowed.node.slot count }) (λ l. refl) (λ l. refl)

@@ -33,8 +33,7 @@ pub descends_above : (whole : Slots Node) (top c : Key) (node : Node) → Descen
     (node.above ≡ Some p) × Descends whole top p
 descends_above whole top c node from_top found other = absurd (other refl)
 descends_above whole top c node (one_down p k n up at above) found other =
-    let same : n ≡ node = let e : Some n ≡ Some node = sym at ∙ found in cc in
-    (p, ap (λ (x : Node). x.above) (sym same) ∙ above, up)
+    let same : n ≡ node = let e : Some n ≡ Some node = sym at ∙ found in cc in (p, ap (λ (x : Node). x.above) (sym same) ∙ above, up)
 
 -- nothing was moved out yet
 pub part_start : (whole : Slots Node) (top : Key) → IsPart whole top whole []
@@ -73,8 +72,7 @@ module _ (whole : Slots Node) (sound : IsSound whole) (top : Key) (there : IsSom
 
         gone : (k : Key) (n : Node) → find whole k ≡ Some n → find t k ≡ None → find whole key ≡ Some node → (k ≡ key) ⊎ (k ≢ key) →
             Contains (moved ++ record { key = key; node = node } ∷ []) (record { key = k; node = n })
-        gone k n at none was (inr other) =
-            Contains-append_left moved (record { key = key; node = node } ∷ []) (record { key = k; node = n })
+        gone k n at none was (inr other) = Contains-append_left moved (record { key = key; node = node } ∷ []) (record { key = k; node = n })
             (part.gone k n at (sym (taken.kept k other) ∙ none))
         gone k n at none was (inl same) =
             let nodes : n ≡ node = let e : Some n ≡ Some node = sym at ∙ ap (find whole) same ∙ was in cc in
@@ -92,8 +90,7 @@ module _ (whole : Slots Node) (sound : IsSound whole) (top : Key) (there : IsSom
         not_below whole sound top.number key node was (λ same. none_not_some (find s key) (ap (find s) (sym (is_top was same)) ∙ top_gone) (ap is_some found))
         (λ p above.
         let parent = some_of (find s p) (there_of node.above p above (left_sound.placed key node found).there) in
-        let less : p.number < key.number = lower node.above p above placed.lower in
-        left_within limit p parent.0 (omega arith) parent.1) where
+        let less : p.number < key.number = lower node.above p above placed.lower in left_within limit p parent.0 (omega arith) parent.1) where
           there_of : (o : Option Key) (p : Key) → o ≡ Some p → IfSome o (λ k. IsSome (find s k)) → IsSome (find s p)
           there_of o p e some = subst (λ x. IfSome x (λ k. IsSome (find s k))) e some
 
@@ -121,8 +118,7 @@ module _ (whole : Slots Node) (sound : IsSound whole) (top : Key) (there : IsSom
 
       of : (o : Option (Node)) → find s other ≡ o → find s other ≡ cond (is_below whole top.number other.number) None (find whole other)
       of None now = now ∙ missing (find whole other) refl now
-      of (Some n) now =
-          part.left other (ap is_some now) ∙ ap (λ b. cond b None (find whole other)) (sym (left_not_below other n now))
+      of (Some n) now = part.left other (ap is_some now) ∙ ap (λ b. cond b None (find whole other)) (sym (left_not_below other n now))
 
     -- the list has the whole subtree, each record once
     pub subtree_moved : IsSubtree whole top.number moved

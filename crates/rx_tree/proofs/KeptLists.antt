@@ -7,5 +7,4 @@ module _ {X Y Z : Type 0} (f : X → Y) (keep : Entry Y → Z) where
   -- at all slots
   pub list_kept : (s : Slots X) →
       filter_map (λ slot. option_map keep (entry_at (project f s) slot)) (range_with_len 0 (slot_count s)) ≡ kept_by keep (project f s)
-  list_kept s =
-      search (rules, filter_map, length-map)
+  list_kept s = search (rules, filter_map, length-map)

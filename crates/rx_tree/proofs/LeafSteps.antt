@@ -47,8 +47,7 @@ module _ {T : Type 0} where
     pub waits_already : ((j : ℕ) → next_of s (Held slot) ≢ Stored j) → next_of t ≡ next_of s → previous_of t ≡ previous_of s → LetsWait s t slot
     waits_already none next previous =
         let loop = none_held (nodes_of s) (resources_of s) (next_of s) (previous_of s) tied slot none in
-        let empty : (q : Place) → is_among places q (tied.rings (Held slot)) ≡ false =
-        λ q. false_from_ne_true (is_among places q (tied.rings (Held slot)))
+        let empty : (q : Place) → is_among places q (tied.rings (Held slot)) ≡ false = λ q. false_from_ne_true (is_among places q (tied.rings (Held slot)))
         (λ i. nothing_on (next_of s) (previous_of s) old_home tied.rings tied.ringed (Held slot) refl loop q (tied.ringed.members (Held slot) q i)) in
         record {
           tied = tied;
@@ -179,8 +178,7 @@ module _ {T : Type 0} where
         held_alone =
             let h = empty_ring n3 p3 h3 rings3 ringed3 (Held key.slot) refl
             (none_at (Held key.slot) (λ e. true≢false (sym (tells.self Waiting) ∙ ap (is_place Waiting) e))
-            (λ q i at. true≢false (sym (W.tied.ringed.listed (Held key.slot) q at) ∙ i))) in
-            link_alone (Held key.slot) h.to h.back
+            (λ q i at. true≢false (sym (W.tied.ringed.listed (Held key.slot) q at) ∙ i))) in link_alone (Held key.slot) h.to h.back
 
         module _ (s4 : Store T) (took : Takes_out (nodes_of s3) (nodes_of s4) key) (links : (q : Place) → link_at s4 q ≡
             set_link_at (Sibling key.slot) (alone (Sibling key.slot)) s3 q) (rest : resources_of s4 ≡ resources_of s3) where
@@ -211,16 +209,14 @@ module _ {T : Type 0} where
             lent : (l : Bool) → is_lent stowed ≡ l → cond l None (Some (cond (is_owned N0 stowed) (Held stowed.node.slot) Waiting)) ≡ Some (Held key.slot) →
                 resource_ring N4 stowed ≡ Some Waiting
             lent true is e = absurd (true≢false (ap is_some (sym e)))
-            lent false is e =
-                ap (λ l. cond l None (Some (cond (is_owned N4 stowed) (Held stowed.node.slot) Waiting))) is ∙
+            lent false is e = ap (λ l. cond l None (Some (cond (is_owned N4 stowed) (Held stowed.node.slot) Waiting))) is ∙
                 ap (λ q. Some q) (of (is_some (find N0 stowed.node)) (not stowed.removed) refl
                 (some_same (cond (is_owned N0 stowed) (Held stowed.node.slot) Waiting) (Held key.slot) e))
 
           ring_kept : (stowed : Stowed T) → resource_ring N0 stowed ≢ Some (Held key.slot) → resource_ring N4 stowed ≡ resource_ring N0 stowed
           ring_kept stowed other = elim (cases_key stowed.node key) [
             | inl same ↦ ap (λ o. cond (is_lent stowed) None (Some (cond (is_some o && not stowed.removed) (Held stowed.node.slot) Waiting)))
-                (gone_node stowed.node same) ∙
-                of (is_lent stowed) refl (is_owned N0 stowed) refl (ap (λ k. Held k.slot) same)
+                (gone_node stowed.node same) ∙ of (is_lent stowed) refl (is_owned N0 stowed) refl (ap (λ k. Held k.slot) same)
             | inr apart ↦ ap (λ o. cond (is_lent stowed) None (Some (cond (is_some o && not stowed.removed) (Held stowed.node.slot) Waiting)))
                 (taken.kept stowed.node apart)
           ] where
@@ -264,8 +260,7 @@ module _ {T : Type 0} where
             of : (t : Bool) → is_among places q (W.tied.rings (Held key.slot)) ≡ t → h4 q ≡ cond t (Some Waiting) (h0 q)
             of true i =
                 let at = W.tied.ringed.members (Held key.slot) q i in
-                let is = held_is N0 K0 W.tied.noted key.slot q at in
-                ap h4 is ∙ stored_waits (slot_of q) (ap h0 (sym is) ∙ at)
+                let is = held_is N0 K0 W.tied.noted key.slot q at in ap h4 is ∙ stored_waits (slot_of q) (ap h0 (sym is) ∙ at)
             of false i = home_by homes_stay q (a, b, i)
 
           and_none : (b : Bool) → cond (b && false) (Some Due) None ≡ None
@@ -303,8 +298,7 @@ module _ {T : Type 0} where
                   makes = placed.makes;
                   named = placed.named;
                   lower = placed.lower;
-                  there = IfSome-same (λ p. IsSome (find N0 p)) (λ p. IsSome (find N4 p)) n.above
-                      (λ p above some. ap is_some (taken.kept p
+                  there = IfSome-same (λ p. IsSome (find N0 p)) (λ p. IsSome (find N4 p)) n.above (λ p above some. ap is_some (taken.kept p
                       (λ same. no_above N0 K0 (next_of s0) (previous_of s0) W.tied key childless k n was (above ∙ ap (λ z. Some z) same))) ∙ some) placed.there;
                 };
           }

@@ -16,8 +16,7 @@ module _ {T : Type 0} where
 
   module _ {old new : Store T} {place to : Place} {before : Link} where
     -- what comes after the place is written, and what comes before it stays
-    pub next-written : WritesLink old new place before (record before { next = to }) → (q : Place) →
-        next_of new q ≡ set_step places place to (next_of old) q
+    pub next-written : WritesLink old new place before (record before { next = to }) → (q : Place) → next_of new q ≡ set_step places place to (next_of old) q
     next-written w = wrote_next (link_at old) (link_at new) place (record before { next = to }) w.linked to refl
 
     pub previous-kept : WritesLink old new place before (record before { next = to }) → (q : Place) → previous_of new q ≡ previous_of old q
@@ -35,25 +34,20 @@ module _ {T : Type 0} where
 module _ {T : Type 0} (s : Store T) (slot : ℕ) (link : Link) where
   pub writes-Children : (l : Record) → value_at s.nodes slot ≡ Some l →
       WritesLink s (record s { nodes = with_value_at s.nodes slot (record l { children = link }) }) (Children slot) l.children link
-  writes-Children l at =
-      search (rules, linked-Children, relinks-Children)
+  writes-Children l at = search (rules, linked-Children, relinks-Children)
 
   pub writes-Held : (l : Record) → value_at s.nodes slot ≡ Some l →
       WritesLink s (record s { nodes = with_value_at s.nodes slot (record l { held = link }) }) (Held slot) l.held link
-  writes-Held l at =
-      search (rules, linked-Held, relinks-Held)
+  writes-Held l at = search (rules, linked-Held, relinks-Held)
 
   pub writes-Sibling : (l : Record) → value_at s.nodes slot ≡ Some l →
       WritesLink s (record s { nodes = with_value_at s.nodes slot (record l { sibling = link }) }) (Sibling slot) l.sibling link
-  writes-Sibling l at =
-      search (rules, linked-Sibling, relinks-Sibling)
+  writes-Sibling l at = search (rules, linked-Sibling, relinks-Sibling)
 
   pub writes-Noted : (l : Record) → value_at s.nodes slot ≡ Some l →
       WritesLink s (record s { nodes = with_value_at s.nodes slot (record l { noted = link }) }) (Noted slot) l.noted link
-  writes-Noted l at =
-      search (rules, linked-Noted, relinks-Noted)
+  writes-Noted l at = search (rules, linked-Noted, relinks-Noted)
 
   pub writes-Stored : (r : Kept T) → value_at s.resources slot ≡ Some r →
       WritesLink s (record s { resources = with_value_at s.resources slot (record r { link = link }) }) (Stored slot) r.link link
-  writes-Stored r at =
-      search (rules, linked-Stored, relinks-Stored)
+  writes-Stored r at = search (rules, linked-Stored, relinks-Stored)

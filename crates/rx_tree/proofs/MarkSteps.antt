@@ -56,12 +56,10 @@ module _ {T : Type 0} where
 
     -- the chain is the one before
     pub marked_chain : (shown m).chain ≡ (shown s).chain
-    marked_chain = chain_is m (nodes_of m) (resources_of s) refl marked ∙
-        map_same (key_on (nodes_of m)) (key_on (nodes_of s)) (kept.tied.rings Due)
+    marked_chain = chain_is m (nodes_of m) (resources_of s) refl marked ∙ map_same (key_on (nodes_of m)) (key_on (nodes_of s)) (kept.tied.rings Due)
         (λ q. same_key (key_on (nodes_of m) q) (key_on (nodes_of s) q) refl
         (by_entry {T = T} (nodes_of s) (nodes_of m) (resources_of s) key node marks found written.changes written.rewrites.others
-        (λ o. option_map_or (λ n. n) (option_map (λ e. e.number) o) 0) refl (slot_of q))) ∙
-        sym (chain_is s (nodes_of s) (resources_of s) refl kept.tied)
+        (λ o. option_map_or (λ n. n) (option_map (λ e. e.number) o) 0) refl (slot_of q))) ∙ sym (chain_is s (nodes_of s) (resources_of s) refl kept.tied)
 
     -- and stays one with the nodes and the resources of before where links alone change after that
     pub marked_nodes : (t : Store T) → Relinks m t → Rewrites (nodes_of s) (nodes_of t) key (with_marks marks)

@@ -38,10 +38,7 @@ module _ {T : Type 0} (s : Store T) (key : Key) («open» : IsSome (find (nodes_
     module _ (counted : IsCounted s) where
       -- what it owes is within what all owe
       pub owed_within : l.node.marks.owed ≤ s.owed
-      owed_within =
-          let part = owed_part (nodes_of s) key l.node node_found in
-          let was = counted.owed in
-          omega (arith, part, was)
+      owed_within = let part = owed_part (nodes_of s) key l.node node_found in let was = counted.owed in omega (arith, part, was)
 
       module _ (f : Node → Marks) (owed : ℕ) (is : owed ≡ s.owed + (f l.node).owed - l.node.marks.owed) where
         abbrev marked : Record

@@ -1,7 +1,6 @@
 -- What made a node is what its words and numbers tell.
-use Rattle.rx_tree.proofs.Common.{◌≡◌, ℕ, Option, Some, None, true, option_map, IfSome, true≢false, option_map_or, makes_node, Event}
-use Rattle.rx_tree.proofs.Common.{parent_named, Key, Node, Packed, PlaceWord, place_word, kind_word, end_word, packed_of, made_of, above_of, marks_of, node_in}
-use Rattle.rx_tree.proofs.Common.{Marks}
+use Rattle.rx_tree.proofs.Common.{◌≡◌, ℕ, Option, Some, None, true, option_map, IfSome, true≢false, option_map_or, makes_node, Event, parent_named, Key, Node}
+use Rattle.rx_tree.proofs.Common.{Packed, PlaceWord, place_word, kind_word, end_word, packed_of, made_of, above_of, marks_of, node_in, Marks}
 use Rattle.rx_note.specs.declared.Terminal.{Terminal}
 use Rattle.rx_tree.specs.Record.{terminal_of, code_in}
 use Rattle.std.proofs.Common.{rules}

@@ -104,8 +104,7 @@ module _ {T : Type 0} (s : Store T) (key : Key) (tied : IsTied s) (stowed : Stow
       on_chain = chain_is t (nodes_of s) (resources_of m) (relinked.nodes ∙ rest ∙ relinks.nodes) now_on ∙
           ap (map (key_on (nodes_of s))) (ap (λ b. cond b (without places (Stored key.slot) (tied.rings e) ++ Stored key.slot ∷ [])
           (without places (Stored key.slot) (tied.rings Due))) (ring_ends (nodes_of s) (resources_of s) (resources_of m) after e ring).2 ∙
-          without_none tells (Stored key.slot) (tied.rings Due) not_due) ∙
-          sym (chain_is s (nodes_of s) (resources_of s) refl tied)
+          without_none tells (Stored key.slot) (tied.rings Due) not_due) ∙ sym (chain_is s (nodes_of s) (resources_of s) refl tied)
 
 -- what passes a test is there
 pub found_where : {T : Type 0} (test : Stowed T → Bool) (o : Option (Stowed T)) → option_map_or test o false ≡ true →

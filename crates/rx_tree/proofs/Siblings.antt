@@ -1,10 +1,9 @@
 -- The oldest of a ring of siblings, and the next younger of each.
 use Rattle.rx_tree.proofs.Common.{◌≡◌, ◌≢◌, ℕ, ◌+◌, ◌<◌, ◌≤◌, cond, Bool, true, false, List, [], ◌∷◌, Option, Some, None, option_map, is_some, IsSome, IfSome}
-use Rattle.rx_tree.proofs.Common.{IfNone, refl, sym, ap, subst, ◌∙◌, inl, inr, ◌⊎◌, arith, true≢false, option_map_or, option_and_then, false≢true}
-use Rattle.rx_tree.proofs.Common.{Event, is_root, parent_named, Key, Slots, key_at, find, Place, Roots, Children, Sibling, Node, Stowed, is_among}
-use Rattle.rx_tree.proofs.Common.{Steps, Leads, is_place, is_end, slot_of, places, tells, among_here, among_there, among_cons, some_same, key_on, Rises}
-use Rattle.rx_tree.proofs.Common.{sibling_ring, is_by_age, home_of, IsTiedAt, IsChild, IsRoot, IsFirst, HasNone, parent_number, some_of, entry_found, one_key}
-use Rattle.rx_tree.proofs.Common.{found_entry}
+use Rattle.rx_tree.proofs.Common.{IfNone, refl, sym, ap, subst, ◌∙◌, inl, inr, ◌⊎◌, arith, true≢false, option_map_or, option_and_then, false≢true, Event}
+use Rattle.rx_tree.proofs.Common.{is_root, parent_named, Key, Slots, key_at, find, Place, Roots, Children, Sibling, Node, Stowed, is_among, Steps, Leads}
+use Rattle.rx_tree.proofs.Common.{is_place, is_end, slot_of, places, tells, among_here, among_there, among_cons, some_same, key_on, Rises, sibling_ring}
+use Rattle.rx_tree.proofs.Common.{is_by_age, home_of, IsTiedAt, IsChild, IsRoot, IsFirst, HasNone, parent_number, some_of, entry_found, one_key, found_entry}
 use Rattle.rx_tree.proofs.Laws.Parents.{named_parent, child_found, parent_key}
 use Rattle.rx_tree.proofs.Chain.{key_on_found}
 use Rattle.rx_tree.proofs.TieRecords.{aged}
@@ -19,14 +18,13 @@ pub record IsOldest (nodes : Slots Node) (ps : List Place) (x : Place) : Type 0 
 pub first_oldest : (nodes : Slots Node) (n p : Steps Place) (a : Place) (ps : List Place) (e : Place) → Leads n p a ps e → Rises nodes ps →
     ((n a ≡ e) × (ps ≡ [])) ⊎ IsOldest nodes ps (n a)
 first_oldest nodes n p a [] e h up = inl (h.to, refl)
-first_oldest nodes n p a (x ∷ ps) e h up =
-    inr (subst (λ z. IsOldest nodes (x ∷ ps) z) (sym h.0.to) (record {
-      among = among_here tells x ps;
-      oldest = λ q i. elim (among_cons tells q x ps i) [
-        | inl same ↦ let at : (key_on nodes q).number ≡ (key_on nodes x).number = ap (λ z. (key_on nodes z).number) same in omega (arith, at)
-        | inr rest ↦ let less = up.0 q rest in omega (arith, less)
-      ];
-    }))
+first_oldest nodes n p a (x ∷ ps) e h up = inr (subst (λ z. IsOldest nodes (x ∷ ps) z) (sym h.0.to) (record {
+  among = among_here tells x ps;
+  oldest = λ q i. elim (among_cons tells q x ps i) [
+    | inl same ↦ let at : (key_on nodes q).number ≡ (key_on nodes x).number = ap (λ z. (key_on nodes z).number) same in omega (arith, at)
+    | inr rest ↦ let less = up.0 q rest in omega (arith, less)
+  ];
+}))
 
 -- none of these places is younger
 pub record IsYoungest (nodes : Slots Node) (ps : List Place) (x : Place) : Type 0 where
@@ -40,8 +38,7 @@ pub record IsNextYounger (nodes : Slots Node) (ps : List Place) (x y : Place) : 
 
 -- a ring by age goes on with the next younger
 pub next_younger : (nodes : Slots Node) (n p : Steps Place) (a : Place) {ps : List Place} {e : Place} (x : Place) → Leads n p a ps e → Rises nodes ps →
-    is_among places x ps ≡ true →
-    ((n x ≡ e) × IsYoungest nodes ps x) ⊎ IsNextYounger nodes ps x (n x)
+    is_among places x ps ≡ true → ((n x ≡ e) × IsYoungest nodes ps x) ⊎ IsNextYounger nodes ps x (n x)
 next_younger nodes n p a {ps = []} x h up i = absurd (false≢true i)
 next_younger nodes n p a {ps = y ∷ ps} {e} x h up i = elim (among_cons tells x y ps i) [
   | inl same ↦ subst (λ z. ((n z ≡ e) × IsYoungest nodes (y ∷ ps) z) ⊎ IsNextYounger nodes (y ∷ ps) z (n z)) (sym same)
@@ -129,13 +126,11 @@ module _ {T : Type 0} (nodes : Slots Node) (resources : Slots (Stowed T)) (n p :
 
   pub on_sibling : (e : Place) (k : Key) (node : Node) → find nodes k ≡ Some node → sibling_ring node ≡ Some e →
       is_among places (Sibling k.slot) (tied.rings e) ≡ true
-  on_sibling e k node found ring =
-      search (rules, entry_found, node, found, ring)
+  on_sibling e k node found ring = search (rules, entry_found, node, found, ring)
 
   -- the ring that a child stands on
   child_ring : (parent child : Key) (node : Node) → IsChild nodes parent child → find nodes child ≡ Some node → sibling_ring node ≡ Some (Children parent.slot)
-  child_ring parent child node is found =
-      ap (λ o. option_map_or (λ key. Some (Children key.slot)) o (cond (is_root node.made) (Some Roots) None))
+  child_ring parent child node is found = ap (λ o. option_map_or (λ key. Some (Children key.slot)) o (cond (is_root node.made) (Some Roots) None))
       (parent_key nodes parent child node.above tied.sound is (named_parent nodes child node found tied.sound) (tied.sound.placed child node found).there)
 
   ring_child : (parent child : Key) (node : Node) → IsSome (find nodes parent) → find nodes child ≡ Some node →
@@ -201,11 +196,10 @@ module _ {T : Type 0} (nodes : Slots Node) (resources : Slots (Stowed T)) (n p :
 
     -- what comes after one of them is the next younger
     next_is : (key : Key) → IsSo key → (slot : ℕ) → n (Sibling key.slot) ≡ Sibling slot → IsNextYounger nodes (tied.rings e) (Sibling key.slot) (Sibling slot)
-    next_is key is slot at = elim (next_younger nodes n p e (Sibling key.slot) (tied.ringed.leads e ends) (tied.rises e age)
-        (ring.enters key is)) [
-          | inl last ↦ absurd (false≢true (ap is_end (sym at ∙ last.0) ∙ ends))
-          | inr next ↦ subst (λ z. IsNextYounger nodes (tied.rings e) (Sibling key.slot) z) at next
-        ]
+    next_is key is slot at = elim (next_younger nodes n p e (Sibling key.slot) (tied.ringed.leads e ends) (tied.rises e age) (ring.enters key is)) [
+      | inl last ↦ absurd (false≢true (ap is_end (sym at ∙ last.0) ∙ ends))
+      | inr next ↦ subst (λ z. IsNextYounger nodes (tied.rings e) (Sibling key.slot) z) at next
+    ]
 
     pub next_found : (key : Key) → IsSo key → (slot : ℕ) → n (Sibling key.slot) ≡ Sibling slot → key_at nodes slot ≡ Some (key_on nodes (Sibling slot))
     next_found key is slot at = ring.at (Sibling slot) (next_is key is slot at).among
@@ -223,15 +217,14 @@ module _ {T : Type 0} (nodes : Slots Node) (resources : Slots (Stowed T)) (n p :
         }
 
     pub next_none : (key : Key) → IsSo key → ((slot : ℕ) → n (Sibling key.slot) ≢ Sibling slot) → HasNone IsSo (key.number + 1)
-    next_none key is other k so = elim
-        (next_younger nodes n p e (Sibling key.slot) (tied.ringed.leads e ends) (tied.rises e age) (ring.enters key is)) [
-          | inl last ↦
-              let own : (key_on nodes (Sibling key.slot)).number ≡ key.number = ap (λ k. k.number) (ring.keys key is) in
-              let same : (key_on nodes (Sibling k.slot)).number ≡ k.number = ap (λ k. k.number) (ring.keys k so) in
-              let less = last.1.youngest (Sibling k.slot) (ring.enters k so) in
-              omega (arith, own, same, less)
-          | inr next ↦ absurd (other (slot_of (n (Sibling key.slot))) (ring.is (n (Sibling key.slot)) next.among))
-        ]
+    next_none key is other k so = elim (next_younger nodes n p e (Sibling key.slot) (tied.ringed.leads e ends) (tied.rises e age) (ring.enters key is)) [
+      | inl last ↦
+          let own : (key_on nodes (Sibling key.slot)).number ≡ key.number = ap (λ k. k.number) (ring.keys key is) in
+          let same : (key_on nodes (Sibling k.slot)).number ≡ k.number = ap (λ k. k.number) (ring.keys k so) in
+          let less = last.1.youngest (Sibling k.slot) (ring.enters k so) in
+          omega (arith, own, same, less)
+      | inr next ↦ absurd (other (slot_of (n (Sibling key.slot))) (ring.is (n (Sibling key.slot)) next.among))
+    ]
 
   -- the next younger child of the same node
   module _ (key : Key) where
@@ -245,8 +238,7 @@ module _ {T : Type 0} (nodes : Slots Node) (resources : Slots (Stowed T)) (n p :
           (λ next. (parent : Key) → IsChild nodes parent key → IsFirst (IsChild nodes parent) (key.number + 1) next)
       of None read = tt
       of (Some next) read = λ parent is.
-          let same : key_on nodes (Sibling slot) ≡ next =
-          some_key (key_on nodes (Sibling slot)) next
+          let same : key_on nodes (Sibling slot) ≡ next = some_key (key_on nodes (Sibling slot)) next
           (sym (next_found (IsChild nodes parent) (Children parent.slot) refl refl (parent_ring parent is) key is slot at) ∙ read) in
           subst (λ k. IsFirst (IsChild nodes parent) (key.number + 1) k) same
           (next_first (IsChild nodes parent) (Children parent.slot) refl refl (parent_ring parent is) key is slot at)
@@ -285,8 +277,7 @@ module _ {T : Type 0} (nodes : Slots Node) (resources : Slots (Stowed T)) (n p :
     of (Some k) e = absurd (true≢false (ap is_some e))
 
   ring_root : (key : Key) (node : Node) → find nodes key ≡ Some node → sibling_ring node ≡ Some Roots → IsRoot nodes key
-  ring_root key node found ring =
-      search (rules, found, ring, true≢false, false≢true, some_same)
+  ring_root key node found ring = search (rules, found, ring, true≢false, false≢true, some_same)
 
   pub roots_ring : IsRingOf nodes (IsRoot nodes) (tied.rings Roots)
   roots_ring = record {

@@ -10,8 +10,7 @@ use Rattle.std.proofs.Common.{rules}
 module _ {X : Type 0} (s : Slots X) where
   -- where something stands at a slot, there are some
   pub some_count : (slot : ℕ) → is_some (entry_at s slot) ≡ true → s.count ≡ count_by is_some s.entries → 0 < s.count
-  some_count slot there counted =
-      search (rules, cases_lt, get_or-le-sum_by, true≢false, get_or_past)
+  some_count slot there counted = search (rules, cases_lt, get_or-le-sum_by, true≢false, get_or_past)
 
 -- where a value came to, its slot fits
 pub home_fits : {X : Type 0} (s : Slots X) (key : Key) {slot capacity : ℕ} → IsSome (find s key) → IsWithin s → capacity ≡ s.count + s.room →
@@ -25,8 +24,7 @@ module _ {X : Type 0} (s : Slots X) (within : IsWithin s) (most : s.count + s.ro
     of None at = absurd (true≢false (sym there ∙ ap is_some at))
     of (Some e) at =
         let found = ap (λ o. is_some (with_number e.number o)) at ∙ ap is_some (with_number-same e.number e refl) in
-        let below = within (record { slot = slot; number = e.number }) found in
-        omega (arith, below, most)
+        let below = within (record { slot = slot; number = e.number }) found in omega (arith, below, most)
 
   slot_of_key : (key : Key) → IsSome (find s key) → key.slot < 4294967296
   slot_of_key key found = let below = within key found in omega (arith, below, most)
@@ -47,5 +45,4 @@ module _ {T : Type 0} (s : Store T) (nodes_in : IsWithin s.nodes) (nodes_most : 
   place_fits (Held slot) there = node_fits slot there
   place_fits (Sibling slot) there = node_fits slot there
   place_fits (Noted slot) there = node_fits slot there
-  place_fits (Stored slot) there =
-      slot_fits (resources_of s) (within-project (λ r. r.stowed) s.resources resources_in) resources_most slot there
+  place_fits (Stored slot) there = slot_fits (resources_of s) (within-project (λ r. r.stowed) s.resources resources_in) resources_most slot there

@@ -9,8 +9,7 @@ IfSome-same x0 x1 x2 more h = search rules
 -- a place stays one where what was found still is
 pub IsPlaced-kept : (s t : Slots Node) (number : ℕ) (made : Event) (above : Option Key) → ((key : Key) → IsSome (find s key) → IsSome (find t key)) →
     IsPlaced s number made above → IsPlaced t number made above
-IsPlaced-kept s t number made above kept placed =
-    search (rules, IfSome-same)
+IsPlaced-kept s t number made above kept placed = search (rules, IfSome-same)
 
 -- the room is no part of it
 pub IsSound-same : (s t : Slots Node) → ((key : Key) → find t key ≡ find s key) → IsSound s → IsSound t
@@ -25,8 +24,7 @@ IsSound-same s t same sound =
 module _ (s t : Slots Node) (key : Key) (before after : Node) (was : find s key ≡ Some before) (now : find t key ≡ Some after) (kept : KeepsOthers s t key)
     (made : after.made ≡ before.made) (above : after.above ≡ before.above) where
   pub same_found : (k : Key) → is_some (find t k) ≡ is_some (find s k)
-  same_found k =
-      search (rules, cases_key)
+  same_found k = search (rules, cases_key)
 
   pub IsSound-at : IsSound s → IsSound t
   IsSound-at sound =
@@ -49,8 +47,7 @@ module _ (s t : Slots Node) (key : Key) (before after : Node) (was : find s key 
 module _ (s t : Slots Node) (key : Key) (node : Node) (free : find s key ≡ None) (opened : find t key ≡ Some node) (kept : KeepsOthers s t key) where
   -- what was found still is
   pub opened_keeps : (k : Key) → IsSome (find s k) → find t k ≡ find s k
-  opened_keeps k found =
-      search (rules, cases_key, none_not_some)
+  opened_keeps k found = search (rules, cases_key, none_not_some)
 
   -- a new record, under a number that no other has, keeps the tree sound
   pub IsSound-opened : ((k : Key) → k.number ≡ key.number → find s k ≡ None) → IsPlaced s key.number node.made node.above → IsSound s → IsSound t
@@ -64,10 +61,8 @@ module _ (s t : Slots Node) (key : Key) (node : Node) (free : find s key ≡ Non
 
         apart : (a b : Key) → IsSome (find t a) → IsSome (find t b) → a.number ≡ b.number → (a ≡ key) ⊎ (a ≢ key) → (b ≡ key) ⊎ (b ≢ key) → a ≡ b
         apart a b found_a found_b numbers (inl at_a) (inl at_b) = at_a ∙ sym at_b
-        apart a b found_a found_b numbers (inl at_a) (inr at_b) =
-            absurd (fresh b at_b (sym numbers ∙ ap (λ k. k.number) at_a) found_b)
-        apart a b found_a found_b numbers (inr at_a) (inl at_b) =
-            absurd (fresh a at_a (numbers ∙ ap (λ k. k.number) at_b) found_a)
+        apart a b found_a found_b numbers (inl at_a) (inr at_b) = absurd (fresh b at_b (sym numbers ∙ ap (λ k. k.number) at_a) found_b)
+        apart a b found_a found_b numbers (inr at_a) (inl at_b) = absurd (fresh a at_a (numbers ∙ ap (λ k. k.number) at_b) found_a)
         apart a b found_a found_b numbers (inr at_a) (inr at_b) =
             sound.apart a b (ap is_some (sym (kept a at_a)) ∙ found_a) (ap is_some (sym (kept b at_b)) ∙ found_b) numbers
 

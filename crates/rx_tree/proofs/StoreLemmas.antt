@@ -1,10 +1,9 @@
 -- Slots that are seen through a function, and what a write of one link changes.
-use Rattle.rx_tree.proofs.Common.{◌≡◌, ℕ, ◌+◌, ◌==◌, cond, Bool, true, false, Option, Some, None, option_map, is_some, IsSome, refl}
-use Rattle.rx_tree.proofs.Common.{sym, ap, ◌∙◌, true≢false, option_map_or, map-set_same, cases_eq, cases_lt, nat_tests, get_or_past}
-use Rattle.rx_tree.proofs.Common.{get_or-set_same, get_or-set_other, Entry, Key, Slots, entry_of, entry_at, value_at, with_number, find, IsWithin}
-use Rattle.rx_tree.proofs.Common.{with_value, with_value_at, Changes, KeepsOthers, Link, Place, Children, Held, Sibling, Noted, Stored, Record, Store, alone}
-use Rattle.rx_tree.proofs.Common.{on_entry, project, link_at, set_link_at, Relinks, KeepsLinks, Inserts, Takes_out, Rewrites, find-written}
-use Rattle.rx_tree.proofs.Common.{KeepsOthers-written, entry_found, slot_within}
+use Rattle.rx_tree.proofs.Common.{◌≡◌, ℕ, ◌+◌, ◌==◌, cond, Bool, true, false, Option, Some, None, option_map, is_some, IsSome, refl, sym, ap, ◌∙◌, true≢false}
+use Rattle.rx_tree.proofs.Common.{option_map_or, map-set_same, cases_eq, cases_lt, nat_tests, get_or_past, get_or-set_same, get_or-set_other, Entry, Key, Slots}
+use Rattle.rx_tree.proofs.Common.{entry_of, entry_at, value_at, with_number, find, IsWithin, with_value, with_value_at, Changes, KeepsOthers, Link, Place}
+use Rattle.rx_tree.proofs.Common.{Children, Held, Sibling, Noted, Stored, Record, Store, alone, on_entry, project, link_at, set_link_at, Relinks, KeepsLinks}
+use Rattle.rx_tree.proofs.Common.{Inserts, Takes_out, Rewrites, find-written, KeepsOthers-written, entry_found, slot_within}
 use Rattle.std.proofs.Math.ListN.{get_or-map}
 use Rattle.rx_tree.specs.declared.store.Stored.{Stored as Kept}
 use Rattle.std.proofs.Common.{rules}
@@ -38,8 +37,7 @@ module _ {X Y : Type 0} (f : X → Y) where
   -- a write that the function does not see
   pub project-written : (s : Slots X) (slot : ℕ) (before after : X) → value_at s slot ≡ Some before → f after ≡ f before →
       project f (with_value_at s slot after) ≡ project f s
-  project-written s slot before after at same =
-      search (rules, map-set_same, entry_of)
+  project-written s slot before after at same = search (rules, map-set_same, entry_of)
 
 module _ {X : Type 0} where
   -- what stands at a slot after a write
@@ -54,8 +52,7 @@ module _ {X : Type 0} where
   part-written g d s slot before after j at = search (rules, value_at-written)
 
   pub part-kept : {Z : Type 0} (g : X → Z) (d : Z) (s : Slots X) (slot : ℕ) {before : X} (after : X) (j : ℕ) → value_at s slot ≡ Some before →
-      g after ≡ g before →
-      option_map_or g (value_at (with_value_at s slot after) j) d ≡ option_map_or g (value_at s j) d
+      g after ≡ g before → option_map_or g (value_at (with_value_at s slot after) j) d ≡ option_map_or g (value_at s j) d
   part-kept g d s slot {before} after j at same = search (rules, part-written, nat_tests)
 
 module _ {T : Type 0} (s : Store T) (slot : ℕ) (link : Link) where
@@ -187,27 +184,23 @@ module _ {X Z : Type 0} (g : X → Z) (d : ℕ → Z) (old new : Slots X) (slot 
   -- a part that an added value has as if nothing stood there
   pub part-added : (number : ℕ) (value : X) → entry_at old slot ≡ None → Changes old new slot (Some (entry_of number value)) → g value ≡ d slot → (j : ℕ) →
       option_map_or g (value_at new j) (d j) ≡ option_map_or g (value_at old j) (d j)
-  part-added number value free c same j =
-      search (rules, cases_eq)
+  part-added number value free c same j = search (rules, cases_eq)
 
   -- a part that a value had as if nothing stood there, once it is taken out
   pub part-taken : Changes old new slot None → option_map_or g (value_at old slot) (d slot) ≡ d slot → (j : ℕ) →
       option_map_or g (value_at new j) (d j) ≡ option_map_or g (value_at old j) (d j)
-  part-taken c same j =
-      search (rules, cases_eq)
+  part-taken c same j = search (rules, cases_eq)
 
   -- a part of what is taken out is then as if nothing stood there
   pub part-gone : Changes old new slot None → (j : ℕ) →
       option_map_or g (value_at new j) (d j) ≡ cond (slot == j) (d slot) (option_map_or g (value_at old j) (d j))
-  part-gone c j =
-      search (rules, cases_eq, nat_tests)
+  part-gone c j = search (rules, cases_eq, nat_tests)
 
   -- a part that a write at a key leaves
   pub part-rewritten : (number : ℕ) (before after : X) → find old (record { slot = slot; number = number }) ≡ Some before →
       new ≡ with_value old (record { slot = slot; number = number }) after → g after ≡ g before → (j : ℕ) →
       option_map_or g (value_at new j) (d j) ≡ option_map_or g (value_at old j) (d j)
-  part-rewritten number before after found is same j =
-      search (rules, entry_found, slot_within, entry_of, cases_eq, get_or-set_same, get_or-set_other)
+  part-rewritten number before after found is same j = search (rules, entry_found, slot_within, entry_of, cases_eq, get_or-set_same, get_or-set_other)
 
 module _ {T : Type 0} (old : Store T) where
   -- links stay where each part of the nodes' records does, but for that of a node among its siblings, which goes with it

@@ -1,6 +1,5 @@
 -- What ties between places change.
-use Rattle.rx_tree.proofs.Common.{◌≡◌, cond, IsTrue, ◌∙◌, Link, Place, Store, set_step, is_place, places, stands, Relinks}
-use Rattle.rx_tree.proofs.Common.{is_there}
+use Rattle.rx_tree.proofs.Common.{◌≡◌, cond, IsTrue, ◌∙◌, Link, Place, Store, set_step, is_place, places, stands, Relinks, is_there}
 use Rattle.std.proofs.Common.{rules}
 
 -- one link is written

@@ -64,12 +64,11 @@ module _ {T : Type 0} where
 
     pub by_entry : {Z : Type 0} (f : Option (Entry Node) → Z) → f (Some (entry_of key.number (with_marks marks before))) ≡ f
         (Some (entry_of key.number before)) → (j : ℕ) → f (entry_at nodes' j) ≡ f (entry_at nodes j)
-    by_entry f same j =
-        elim (cases_eq key.slot j) [
-          | inl here ↦ subst (λ k. f (entry_at nodes' k) ≡ f (entry_at nodes k)) here
-              (ap f change.changed ∙ same ∙ sym (ap f (entry_found nodes key before found)))
-          | inr apart ↦ ap f (change.others j (λ s. apart (sym s)))
-        ]
+    by_entry f same j = elim (cases_eq key.slot j) [
+      | inl here ↦ subst (λ k. f (entry_at nodes' k) ≡ f (entry_at nodes k)) here
+          (ap f change.changed ∙ same ∙ sym (ap f (entry_found nodes key before found)))
+      | inr apart ↦ ap f (change.others j (λ s. apart (sym s)))
+    ]
 
     pub held_same : (stowed : Stowed T) → is_owned nodes' stowed ≡ is_owned nodes stowed
     held_same stowed = ap (λ b. b && not stowed.removed)
@@ -132,23 +131,22 @@ module _ {T : Type 0} where
 
     pub opened_note : (noted : ℕ → Bool) (j : ℕ) → (unnoted {T = T} nodes resources noted key.slot j && is_some (entry_at nodes' j)) ≡
         (noted j && is_some (entry_at nodes j))
-    opened_note noted j =
-        elim (cases_eq key.slot j) [
-          | inl here ↦ of (noted j) (key.slot == j) (is_some (entry_at nodes' j)) (is_some (entry_at nodes j))
-              (let h : (key.slot == j) ≡ true = grind (arith, nat_tests, here) in h) (ap is_some (sym (ap (entry_at nodes) here) ∙ came.was_free))
-          | inr apart ↦ other (noted j) (key.slot == j) (is_some (entry_at nodes' j)) (is_some (entry_at nodes j))
-              (let h : (key.slot == j) ≡ false = grind (arith, nat_tests, apart) in h) (elsewhere is_some j apart)
-        ] where
-          of : (a b x y : Bool) → b ≡ true → y ≡ false → ((a && not b) && x) ≡ (a && y)
-          of true true x false e f = refl
-          of false true x false e f = refl
-          of a false x y e f = absurd (false≢true e)
-          of a true x true e f = absurd (true≢false f)
+    opened_note noted j = elim (cases_eq key.slot j) [
+      | inl here ↦ of (noted j) (key.slot == j) (is_some (entry_at nodes' j)) (is_some (entry_at nodes j))
+          (let h : (key.slot == j) ≡ true = grind (arith, nat_tests, here) in h) (ap is_some (sym (ap (entry_at nodes) here) ∙ came.was_free))
+      | inr apart ↦ other (noted j) (key.slot == j) (is_some (entry_at nodes' j)) (is_some (entry_at nodes j))
+          (let h : (key.slot == j) ≡ false = grind (arith, nat_tests, apart) in h) (elsewhere is_some j apart)
+    ] where
+      of : (a b x y : Bool) → b ≡ true → y ≡ false → ((a && not b) && x) ≡ (a && y)
+      of true true x false e f = refl
+      of false true x false e f = refl
+      of a false x y e f = absurd (false≢true e)
+      of a true x true e f = absurd (true≢false f)
 
-          other : (a b x y : Bool) → b ≡ false → x ≡ y → ((a && not b) && x) ≡ (a && y)
-          other true false x y e f = f
-          other false false x y e f = refl
-          other a true x y e f = absurd (true≢false e)
+      other : (a b x y : Bool) → b ≡ false → x ≡ y → ((a && not b) && x) ≡ (a && y)
+      other true false x y e f = f
+      other false false x y e f = refl
+      other a true x y e f = absurd (true≢false e)
 
     pub sibling_here : option_and_then (λ e. sibling_ring e.value) (entry_at nodes' key.slot) ≡ sibling_ring node
     sibling_here = ap (option_and_then (λ e. sibling_ring e.value)) came.changes.changed
@@ -204,8 +202,7 @@ module _ {T : Type 0} where
         (λ s. true≢false (sym there ∙ ap is_some (sym (ap (entry_at nodes) s) ∙ came.was_free))))
 
     abbrev pub tied_opened : {n : Steps Place} (p n' p' : Steps Place) (tied : IsTiedAt n p nodes resources) (e : Place) → sibling_ring node ≡ Some e →
-        is_end e ≡ true →
-        Joins places n p n' p' e (Sibling key.slot) → IsTiedAt n' p' nodes' resources
+        is_end e ≡ true → Joins places n p n' p' e (Sibling key.slot) → IsTiedAt n' p' nodes' resources
     tied_opened {n} p n' p' tied e some ends joins = record {
       rings = put_ring places e (tied.rings e ++ Sibling key.slot ∷ []) tied.rings;
       noted = unnoted {T = T} nodes resources tied.noted key.slot;
@@ -256,11 +253,9 @@ module _ {T : Type 0} where
       ringed = rings_joined tells n p n' p' (home_of nodes resources tied.noted) (home_of nodes resources' tied.noted) tied.rings tied.ringed
           (Held stowed.node.slot) (Stored key.slot) joins refl refl (ap (option_and_then (λ e. resource_ring nodes e.value)) came.was_free)
           (ap (option_and_then (λ e. resource_ring nodes e.value)) came.changes.changed ∙ (λ i. cond (free i) None
-          (Some (cond (owned i) (Held stowed.node.slot) Waiting))))
-          (held_others tied.noted);
+          (Some (cond (owned i) (Held stowed.node.slot) Waiting)))) (held_others tied.noted);
       rises = λ q. by_ring tells (λ q ps. is_by_age q ≡ true → Rises nodes ps) (Held stowed.node.slot)
-          (tied.rings (Held stowed.node.slot) ++ Stored key.slot ∷ [])
-          tied.rings (λ age. absurd (false≢true age)) (λ q apart age. tied.rises q age) q;
+          (tied.rings (Held stowed.node.slot) ++ Stored key.slot ∷ []) tied.rings (λ age. absurd (false≢true age)) (λ q apart age. tied.rises q age) q;
       sound = tied.sound;
       resources_apart = held_apart tied.resources_apart;
     }

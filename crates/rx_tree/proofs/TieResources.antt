@@ -38,8 +38,7 @@ module _ {T : Type 0} (nodes : Slots Node) (resources resources' : Slots (Stowed
 
     pub some_still : (k : Key) → is_some (find resources' k) ≡ is_some (find resources k)
     some_still k = elim (cases_eq k.slot key.slot) [
-      | inl same ↦
-          ap (λ o. is_some (with_number k.number o)) (ap (entry_at resources') same ∙ change.changed) ∙ either (key.number == k.number) ∙
+      | inl same ↦ ap (λ o. is_some (with_number k.number o)) (ap (entry_at resources') same ∙ change.changed) ∙ either (key.number == k.number) ∙
           sym (ap (λ o. is_some (with_number k.number o)) (ap (entry_at resources) same ∙ entry_found resources key stowed found))
       | inr other ↦ ap (λ o. is_some (with_number k.number o)) (change.others k.slot other)
     ] where
@@ -82,8 +81,7 @@ module _ {T : Type 0} (nodes : Slots Node) (resources resources' : Slots (Stowed
             (λ q. without places (Stored key.slot) (tied.rings q));
         noted = tied.noted;
         ringed = rings_on;
-        rises = λ q. by_ring tells (λ q ps. is_by_age q ≡ true → Rises nodes ps) e
-            (without places (Stored key.slot) (tied.rings e) ++ Stored key.slot ∷ [])
+        rises = λ q. by_ring tells (λ q ps. is_by_age q ≡ true → Rises nodes ps) e (without places (Stored key.slot) (tied.rings e) ++ Stored key.slot ∷ [])
             (λ q. without places (Stored key.slot) (tied.rings q)) (λ age. absurd (false≢true (sym (ring_ends after e ring).1 ∙ age)))
             (λ q apart age. rises_without nodes (Stored key.slot) (tied.rings q) (tied.rises q age)) q;
         sound = tied.sound;
@@ -107,8 +105,7 @@ module _ {T : Type 0} (nodes : Slots Node) (resources resources' : Slots (Stowed
       rings = λ q. without places (Stored key.slot) (tied.rings q);
       noted = tied.noted;
       ringed = rings_left tells n p n1 p1 (home_of nodes resources tied.noted) (home_of nodes resources' tied.noted) tied.rings tied.ringed
-          (Stored key.slot) leaves
-          refl none_now (stored_others tied.noted key.slot None taken.changes);
+          (Stored key.slot) leaves refl none_now (stored_others tied.noted key.slot None taken.changes);
       rises = λ e age. rises_without nodes (Stored key.slot) (tied.rings e) (tied.rises e age);
       sound = tied.sound;
       resources_apart = λ a b found_a found_b numbers. tied.resources_apart a b (was_there a found_a) (was_there b found_b) numbers;

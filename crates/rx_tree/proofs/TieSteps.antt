@@ -7,16 +7,12 @@ use Rattle.rx_slots.proofs.Laws.Places.{among_append}
 
 -- the same rings, where each place has the home that it had
 pub rings_same : (n p : Steps Place) (home home' : Place → Option Place) (rings : Place → List Place) → AreRings places n p home rings →
-    ((q : Place) → home' q ≡ home q) →
-    AreRings places n p home' rings
-rings_same n p home home' rings R same =
-    let e : home ≡ home' = (λ i q. sym (same q) i) in
-    subst (λ h. AreRings places n p h rings) e R
+    ((q : Place) → home' q ≡ home q) → AreRings places n p home' rings
+rings_same n p home home' rings R same = let e : home ≡ home' = (λ i q. sym (same q) i) in subst (λ h. AreRings places n p h rings) e R
 
 -- and where each place has the links that it had
 abbrev pub tied_links : {T : Type 0} {n : Steps Place} (p n' p' : Steps Place) (nodes : Slots Node) (resources : Slots (Stowed T)) →
-    ((q : Place) → n' q ≡ n q) →
-    ((q : Place) → p' q ≡ p q) → IsTiedAt n p nodes resources → IsTiedAt n' p' nodes resources
+    ((q : Place) → n' q ≡ n q) → ((q : Place) → p' q ≡ p q) → IsTiedAt n p nodes resources → IsTiedAt n' p' nodes resources
 tied_links {n} p n' p' nodes resources next previous tied =
     record {
       rings = tied.rings;
@@ -73,8 +69,7 @@ module _ {T : Type 0} (nodes : Slots Node) (resources : Slots (Stowed T)) where
       of a false e = absurd (false≢true e)
 
     pub unnoted_others : (q : Place) → Noted slot ≢ q → home_of nodes resources unnoted q ≡ home_of nodes resources noted q
-    unnoted_others (Noted j) apart =
-        ap (λ b. cond (b && is_some (entry_at nodes j)) (Some Due) None)
+    unnoted_others (Noted j) apart = ap (λ b. cond (b && is_some (entry_at nodes j)) (Some Due) None)
         (of (noted j) (slot == j) (false_from_ne_true (slot == j) (λ e. let s : slot ≡ j = grind (arith, nat_tests, e) in apart (ap (λ k. Noted k) s)))) where
           of : (a b : Bool) → b ≡ false → (a && not b) ≡ a
           of true false e = refl

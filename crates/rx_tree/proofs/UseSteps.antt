@@ -75,5 +75,4 @@ module _ {T : Type 0} (s : Store T) (tied : IsTied s) (res : ResKey) (kept : Kep
 
   pub used : (g : Ghosts T) → g.uses_of after ≡ g.uses_of kept.stowed.resource + 1 → g.tag_of after ≡ g.tag_of kept.stowed.resource →
       g.life_of after ≡ g.life_of kept.stowed.resource → IfSome (stowed_of (shown s) res) (Uses g (shown s) (shown with_used) res)
-  used g uses tag life =
-      search (rules, seen, used_rewrites, used_chain)
+  used g uses tag life = search (rules, seen, used_rewrites, used_chain)

@@ -20,30 +20,24 @@ module _ (parent : ℕ → Option ℕ) (falls : (n p : ℕ) → parent n ≡ Som
   -- more steps lead no further
   climb_enough : (k j n : ℕ) → n ≤ k → n ≤ j → ancestors_within k parent n ≡ ancestors_within j parent n
   climb_enough zero zero n a b = refl
-  climb_enough zero (suc j) n a b =
-      search (rules, no_parent_of_zero)
-  climb_enough (suc k) zero n a b =
-      search (rules, no_parent_of_zero)
-  climb_enough (suc k) (suc j) n a b =
-      ap (λ (xs : List ℕ). n ∷ xs) (option_map_or-same (ancestors_within k parent) (ancestors_within j parent) (parent n) []
+  climb_enough zero (suc j) n a b = search (rules, no_parent_of_zero)
+  climb_enough (suc k) zero n a b = search (rules, no_parent_of_zero)
+  climb_enough (suc k) (suc j) n a b = ap (λ (xs : List ℕ). n ∷ xs) (option_map_or-same (ancestors_within k parent) (ancestors_within j parent) (parent n) []
       (λ p e. let l : p < n = falls n p e in climb_enough k j p (omega arith) (omega arith)))
 
   -- a number, and then the climb of its parent
   pub climb_step : (n : ℕ) → ancestors_within n parent n ≡ n ∷ option_map_or (λ p. ancestors_within p parent p) (parent n) []
-  climb_step n =
-      search (rules, climb_enough, option_map_or-same)
+  climb_step n = search (rules, climb_enough, option_map_or-same)
 
 module _ (tree : Slots Node) where
   -- parents have smaller numbers
   pub up-lt : (n p : ℕ) → up tree n ≡ Some p → p < n
-  up-lt n p e =
-      search (rules, option_and_then_some, cond_some, ltb-true)
+  up-lt n p e = search (rules, option_and_then_some, cond_some, ltb-true)
 
   -- the top itself, or what stands below it by its parent
   pub is_below_step : (top n : ℕ) → is_below tree top n ≡ ((top == n) || option_map_or (is_below tree top) (up tree n) false)
   unfolding ancestors
-  is_below_step top n =
-      search (rules, climb_step, up-lt)
+  is_below_step top n = search (rules, climb_step, up-lt)
 
   -- the record of a number is the one that its key finds
   record_here : (n : ℕ) (node : Node) (es : List (Option (Entry Node))) (i : ℕ) → get_or es i None ≡ Some (entry_of n node) →
@@ -53,12 +47,11 @@ module _ (tree : Slots Node) where
       ap (λ x. option_or (with_number n x) (record_in es n)) at ∙ ap (λ x. option_or x (record_in es n)) (with_number-same n (entry_of n node) refl)
   record_here n node (None ∷ es) (suc i) at only =
       record_here n node es i at (λ j e found number. let s : suc j ≡ suc i = only (suc j) e found number in omega arith)
-  record_here n node (Some e ∷ es) (suc i) at only =
-      elim (cases_eq e.number n) [
-        | inl same ↦ absurd (let z : 0 ≡ suc i = only 0 e refl same in omega arith)
-        | inr other ↦ ap (λ x. option_or x (record_in es n)) (with_number-other n e other) ∙
-            record_here n node es i at (λ j x found number. let s : suc j ≡ suc i = only (suc j) x found number in omega arith)
-      ]
+  record_here n node (Some e ∷ es) (suc i) at only = elim (cases_eq e.number n) [
+    | inl same ↦ absurd (let z : 0 ≡ suc i = only 0 e refl same in omega arith)
+    | inr other ↦ ap (λ x. option_or x (record_in es n)) (with_number-other n e other) ∙
+        record_here n node es i at (λ j x found number. let s : suc j ≡ suc i = only (suc j) x found number in omega arith)
+  ]
 
   module _ (sound : IsSound tree) where
     pub record_found : (key : Key) (node : Node) → find tree key ≡ Some node → record_of tree key.number ≡ Some node

@@ -29,13 +29,11 @@ module _ {X : Type 0} where
   found_entry s key x at = ap (with_number key.number) at ∙ with_number-same key.number (entry_of key.number x) refl
 
   pub slot_within : (s : Slots X) (slot : ℕ) (e : Entry X) → entry_at s slot ≡ Some e → slot < length s.entries
-  slot_within s slot e at =
-      search (rules, cases_lt, true≢false, get_or_past)
+  slot_within s slot e at = search (rules, cases_lt, true≢false, get_or_past)
 
   -- two keys of one slot that find values are one
   pub one_key : (s : Slots X) (a b : Key) (x y : X) → a.slot ≡ b.slot → find s a ≡ Some x → find s b ≡ Some y → (a ≡ b) × (x ≡ y)
-  one_key s a b x y slot found_a found_b =
-      search (rules, entry_found, same_key)
+  one_key s a b x y slot found_a found_b = search (rules, entry_found, same_key)
 
   -- where a slot's entry is written, its key finds what was written, and every other what it found
   module _ (s t : Slots X) (key : Key) (before after : X) (found : find s key ≡ Some before)
@@ -48,17 +46,15 @@ module _ {X : Type 0} where
         found_entry t key after (ap (λ es. get_or es key.slot None) written ∙ get_or-set_same s.entries key.slot (Some (entry_of key.number after)) None within)
 
     elsewhere : (slot : ℕ) → slot ≢ key.slot → entry_at t slot ≡ entry_at s slot
-    elsewhere slot other =
-        ap (λ es. get_or es slot None) written ∙ get_or-set_other s.entries key.slot slot (Some (entry_of key.number after)) None other
+    elsewhere slot other = ap (λ es. get_or es slot None) written ∙ get_or-set_other s.entries key.slot slot (Some (entry_of key.number after)) None other
 
     pub KeepsOthers-written : KeepsOthers s t key
-    KeepsOthers-written k differs =
-        elim (cases_eq k.slot key.slot) [
-          | inl same ↦
-              let other : key.number ≢ k.number = λ n. differs (same_key k key same (sym n)) in
-              let now = ap (entry_at t) same ∙ entry_found t key after find-written in
-              let was = ap (entry_at s) same ∙ entry_found s key before found in
-              (ap (with_number k.number) now ∙ with_number-other k.number (entry_of key.number after) other) ∙
-              sym (ap (with_number k.number) was ∙ with_number-other k.number (entry_of key.number before) other)
-          | inr apart ↦ ap (with_number k.number) (elsewhere k.slot apart)
-        ]
+    KeepsOthers-written k differs = elim (cases_eq k.slot key.slot) [
+      | inl same ↦
+          let other : key.number ≢ k.number = λ n. differs (same_key k key same (sym n)) in
+          let now = ap (entry_at t) same ∙ entry_found t key after find-written in
+          let was = ap (entry_at s) same ∙ entry_found s key before found in
+          (ap (with_number k.number) now ∙ with_number-other k.number (entry_of key.number after) other) ∙
+          sym (ap (with_number k.number) was ∙ with_number-other k.number (entry_of key.number before) other)
+      | inr apart ↦ ap (with_number k.number) (elsewhere k.slot apart)
+    ]

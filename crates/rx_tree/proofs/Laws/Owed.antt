@@ -20,17 +20,12 @@ module _ {X : Type 0} (f : Option X → ℕ) (f0 : f None ≡ 0) where
   pub sum_no_rise : (xs ys : List (Option X)) → ((j : ℕ) → f (get_or ys j None) ≤ f (get_or xs j None)) → sum_by f ys ≤ sum_by f xs
   sum_no_rise xs [] each = omega arith
   sum_no_rise [] (y ∷ ys) each =
-      let none : sum_by f (y ∷ ys) ≡ 0 = sum_none f (y ∷ ys) (λ j. let e = each j in let z = f0 in omega (arith, e, z)) in
-      omega (arith, none)
-  sum_no_rise (x ∷ xs) (y ∷ ys) each =
-      let first : f y ≤ f x = each 0 in
-      let rest = sum_no_rise xs ys (λ j. each (suc j)) in
-      search (rules, sum_by-cons)
+      let none : sum_by f (y ∷ ys) ≡ 0 = sum_none f (y ∷ ys) (λ j. let e = each j in let z = f0 in omega (arith, e, z)) in omega (arith, none)
+  sum_no_rise (x ∷ xs) (y ∷ ys) each = let first : f y ≤ f x = each 0 in let rest = sum_no_rise xs ys (λ j. each (suc j)) in search (rules, sum_by-cons)
 
 -- what a node owes is within what all owe
 pub owed_part : (nodes : Slots Node) (key : Key) (node : Node) → find nodes key ≡ Some node → node.marks.owed ≤ owed_in nodes
-owed_part nodes key node found =
-    search (rules, part_in_sum, entry_found)
+owed_part nodes key node found = search (rules, part_in_sum, entry_found)
 
 -- and where no slot was used, none is owed
 pub owed_empty : (nodes : Slots Node) → nodes.entries ≡ [] → owed_in nodes ≡ 0
@@ -41,8 +36,7 @@ owed_empty nodes none = ap (sum_by owed_by) none
 module _ (old new : Slots Node) where
   owed_changed : (slot : ℕ) (before after : Option (Entry Node)) → slot < length old.entries → entry_at old slot ≡ before → Changes old new slot after →
       owed_in new + owed_by before ≡ owed_in old + owed_by after
-  owed_changed slot before after within at change =
-      search (rules, sum_changed)
+  owed_changed slot before after within at change = search (rules, sum_changed)
 
   -- another record in the place of one
   pub owed_written : (key : Key) (node other : Node) → find old key ≡ Some node → Changes old new key.slot (Some (entry_of key.number other)) →
@@ -57,8 +51,7 @@ module _ (old new : Slots Node) where
   owed_taken key node found change =
       let at = entry_found old key node found in
       let all : owed_in new + node.marks.owed ≡ owed_in old + 0 =
-      owed_changed key.slot (Some (entry_of key.number node)) None (slot_within old key.slot (entry_of key.number node) at) at change in
-      omega (arith, all)
+      owed_changed key.slot (Some (entry_of key.number node)) None (slot_within old key.slot (entry_of key.number node) at) at change in omega (arith, all)
 
   -- no record comes
   pub owed_fewer : ((key : Key) → IsSome (find new key) → find new key ≡ find old key) → owed_in new ≤ owed_in old
@@ -69,39 +62,36 @@ module _ (old new : Slots Node) where
         let key : Key = record { slot = j; number = e.number } in
         let found : find new key ≡ Some e.value = found_entry new key e.value at in
         let was : find old key ≡ Some e.value = sym (kept key (ap is_some found)) ∙ found in
-        let same : owed_by (entry_at new j) ≡ owed_by (entry_at old j) = ap owed_by (at ∙ sym (entry_found old key e.value was)) in
-        omega (arith, same)
+        let same : owed_by (entry_at new j) ≡ owed_by (entry_at old j) = ap owed_by (at ∙ sym (entry_found old key e.value was)) in omega (arith, same)
 
 -- a record that comes
 pub owed_came : (old new : Slots Node) (key : Key) (node : Node) → entry_at old key.slot ≡ None →
     Changes old new key.slot (Some (entry_of key.number node)) → owed_in new ≡ owed_in old + node.marks.owed
-owed_came old new key node free change =
-    search (rules, owed_taken, found_entry)
+owed_came old new key node free change = search (rules, owed_taken, found_entry)
 
 -- a record changes by a function
 pub owed_rewritten : (old new : Slots Node) (key : Key) (node : Node) (change : Node → Node) → find old key ≡ Some node → Rewrites old new key change →
     owed_in new + node.marks.owed ≡ owed_in old + (change node).marks.owed
-owed_rewritten old new key node change found written =
-    owed_written old new key node (change node) found (record { changed = here; others = others }) where
-      now : find new key ≡ Some (change node)
-      now = written.changed ∙ ap (option_map change) found
+owed_rewritten old new key node change found written = owed_written old new key node (change node) found (record { changed = here; others = others }) where
+  now : find new key ≡ Some (change node)
+  now = written.changed ∙ ap (option_map change) found
 
-      here : entry_at new key.slot ≡ Some (entry_of key.number (change node))
-      here = entry_found new key (change node) now
+  here : entry_at new key.slot ≡ Some (entry_of key.number (change node))
+  here = entry_found new key (change node) now
 
-      others : (j : ℕ) → j ≢ key.slot → entry_at new j ≡ entry_at old j
-      others j apart = of (entry_at new j) (entry_at old j) refl refl where
-        away : (number : ℕ) → find new (record { slot = j; number = number }) ≡ find old (record { slot = j; number = number })
-        away number = written.others (record { slot = j; number = number }) (λ same. apart (ap (λ (k : Key). k.slot) same))
+  others : (j : ℕ) → j ≢ key.slot → entry_at new j ≡ entry_at old j
+  others j apart = of (entry_at new j) (entry_at old j) refl refl where
+    away : (number : ℕ) → find new (record { slot = j; number = number }) ≡ find old (record { slot = j; number = number })
+    away number = written.others (record { slot = j; number = number }) (λ same. apart (ap (λ (k : Key). k.slot) same))
 
-        of : (a b : Option (Entry Node)) → entry_at new j ≡ a → entry_at old j ≡ b → entry_at new j ≡ entry_at old j
-        of None None at was = at ∙ sym was
-        of (Some e) b at was =
-            let key : Key = record { slot = j; number = e.number } in
-            at ∙ sym (entry_found old key e.value (sym (away e.number) ∙ found_entry new key e.value at))
-        of None (Some e) at was =
-            let key : Key = record { slot = j; number = e.number } in
-            entry_found new key e.value (away e.number ∙ found_entry old key e.value was) ∙ sym was
+    of : (a b : Option (Entry Node)) → entry_at new j ≡ a → entry_at old j ≡ b → entry_at new j ≡ entry_at old j
+    of None None at was = at ∙ sym was
+    of (Some e) b at was =
+        let key : Key = record { slot = j; number = e.number } in
+        at ∙ sym (entry_found old key e.value (sym (away e.number) ∙ found_entry new key e.value at))
+    of None (Some e) at was =
+        let key : Key = record { slot = j; number = e.number } in
+        entry_found new key e.value (away e.number ∙ found_entry old key e.value was) ∙ sym was
 
 -- sums over numbers -------------------------------------------------------------------------------
 
@@ -116,8 +106,7 @@ module _ {X : Type 0} where
   abbrev pub weight : (X → ℕ) → Option (Entry X) → ℕ
   weight weigh entry = option_map_or (λ e. weigh e.value) entry 0
 
-  number_at_index : (es : List (Option (Entry X))) (k : ℕ) → has_number es k ≡ true →
-      (i : ℕ) × (e : Entry X) × (get_or es i None ≡ Some e) × (e.number ≡ k)
+  number_at_index : (es : List (Option (Entry X))) (k : ℕ) → has_number es k ≡ true → (i : ℕ) × (e : Entry X) × (get_or es i None ≡ Some e) × (e.number ≡ k)
   number_at_index [] k has = absurd (false≢true has)
   number_at_index (None ∷ es) k has = let r = number_at_index es k has in (suc r.0, r.1, r.2, r.3)
   number_at_index (Some e ∷ es) k has = of (number_at_index es k) (cases_eq e.number k) where
@@ -132,8 +121,7 @@ module _ {X : Type 0} where
   index_has_number [] i e at = absurd (true≢false (ap is_some (sym at)))
   index_has_number (None ∷ es) zero e at = absurd (true≢false (ap is_some (sym at)))
   index_has_number (None ∷ es) (suc i) e at = index_has_number es i e at
-  index_has_number (Some d ∷ es) zero e at =
-      search (rules, nat_tests)
+  index_has_number (Some d ∷ es) zero e at = search (rules, nat_tests)
   index_has_number (Some d ∷ es) (suc i) e at = search (rules, index_has_number es i e at)
 
   -- no number stands twice among these
@@ -151,8 +139,7 @@ module _ {X : Type 0} where
     by_numbers (None ∷ es) differ each =
         let rest = by_numbers es (differ_later None es differ) (λ i e at. each (suc i) e at) in
         let all : sum_by (weight weigh) (None ∷ es) ≡ 0 + sum_by (weight weigh) es = sum_by-cons (weight weigh) None es in
-        let same : sum_by (weight weigh) (None ∷ es) ≡ sum_by (weight weigh) es = omega (arith, all) in
-        same ∙ rest
+        let same : sum_by (weight weigh) (None ∷ es) ≡ sum_by (weight weigh) es = omega (arith, all) in same ∙ rest
     by_numbers (Some e ∷ es) differ each =
         let one = each 0 e refl in
         let rest = by_numbers es (differ_later (Some e) es differ) (λ i d at. each (suc i) d at) in
@@ -178,11 +165,8 @@ module _ {X : Type 0} where
             cond ((e.number == k) || has_number es k) (f k) 0 ≡ cond (e.number == k) (f k) 0 + cond (has_number es k) (f k) 0
         shape k (inl same) =
             let on : (e.number == k) ≡ true = grind (arith, nat_tests, same) in
-            let off : has_number es k ≡ false = ap (has_number es) (sym same) ∙ absent in
-            rw (on, off) (sym (add-zero (f k)))
-        shape k (inr apart) =
-            let off : (e.number == k) ≡ false = grind (arith, nat_tests, apart) in
-            rw off (none_more (cond (has_number es k) (f k) 0))
+            let off : has_number es k ≡ false = ap (has_number es) (sym same) ∙ absent in rw (on, off) (sym (add-zero (f k)))
+        shape k (inr apart) = let off : (e.number == k) ≡ false = grind (arith, nat_tests, apart) in rw off (none_more (cond (has_number es k) (f k) 0))
 
     -- a sum over slots is one over the numbers of what stands there, where each of another weight than 0 does
     pub sum_by-numbers : (slots : Slots X) → AreApart slots → ((key : Key) (x : X) → find slots key ≡ Some x → (key.number < n) × (weigh x ≡ f key.number)) →
@@ -214,6 +198,5 @@ module _ {X : Type 0} where
 -- what all nodes owe is a sum over their numbers
 pub owed_in-numbers : (f : ℕ → ℕ) (n : ℕ) (nodes : Slots Node) → AreApart nodes →
     ((key : Key) (node : Node) → find nodes key ≡ Some node → (key.number < n) × (node.marks.owed ≡ f key.number)) →
-    ((k : ℕ) → k < n → 0 < f k → (key : Key) × (key.number ≡ k) × IsSome (find nodes key)) →
-    owed_in nodes ≡ sum_by f (range_with_len 0 n)
+    ((k : ℕ) → k < n → 0 < f k → (key : Key) × (key.number ≡ k) × IsSome (find nodes key)) → owed_in nodes ≡ sum_by f (range_with_len 0 n)
 owed_in-numbers f n nodes apart each every = sum_by-numbers (λ (node : Node). node.marks.owed) f n nodes apart each every

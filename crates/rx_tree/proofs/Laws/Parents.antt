@@ -23,5 +23,4 @@ pub parent_key : (s : Slots Node) (parent child : Key) (o : Option Key) → IsSo
 parent_key s parent child None sound is numbers found = absurd (let e = is.named in true≢false (ap is_some (sym (numbers ∙ e))))
 parent_key s parent child (Some p) sound is numbers found =
     let e : Some p.number ≡ Some parent.number = numbers ∙ is.named in
-    let same : p.number ≡ parent.number = cc in
-    ap (λ k. Some k) (sound.apart p parent found is.there same)
+    let same : p.number ≡ parent.number = cc in ap (λ k. Some k) (sound.apart p parent found is.there same)

@@ -19,8 +19,7 @@ pub returns-in-Ok-clause-ok : goal.returns-in-Ok-clause-ok
 returns-in-Ok-clause-ok g c =
     let e = c.in-Ok.ensures in
     subst (λ r. Inserts (resources_of c.args.self.now) (project (λ r. r.stowed) r) c.in-Ok.key c.args.number c.args.stowed)
-    (sym c.set_held_count.ensures.resources)
-    (inserts-project (λ r. r.stowed) c.args.number
+    (sym c.set_held_count.ensures.resources) (inserts-project (λ r. r.stowed) c.args.number
     (record { stowed = c.args.stowed; link = c.coming-link.result }) e.numbered e.was_free e.changes e.found e.kept e.count)
 
 pub returns-in-Ok-clause-links : goal.returns-in-Ok-clause-links

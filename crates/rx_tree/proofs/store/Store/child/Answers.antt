@@ -14,14 +14,12 @@ returns-in-Sibling-clause-below g c =
     (one_down c.args.key h.child h.node from_top h.found h.above)
 
 pub returns-in-Sibling-clause-there : goal.returns-in-Sibling-clause-there
-returns-in-Sibling-clause-there g c =
-    search (rules, first_child_at, nodes_of, resources_of)
+returns-in-Sibling-clause-there g c = search (rules, first_child_at, nodes_of, resources_of)
 
 pub returns-in-Sibling-clause-later : goal.returns-in-Sibling-clause-later
 returns-in-Sibling-clause-later g c = let s = c.args.self.now in let h = first_child_at (nodes_of s) (resources_of s) (next_of s) (previous_of s)
     c.requires.tied _ c.requires.open _ (ap (λ l. l.next) (sym c.link.ensures) ∙ (sym c.place.ensures ∙ c.in-Sibling.is)) in subst (λ o. IfSome o (λ
-    child. c.args.key.number
-    < child.number)) (sym h.at ∙ c.node_key.ensures) h.later
+    child. c.args.key.number < child.number)) (sym h.at ∙ c.node_key.ensures) h.later
 
 pub returns-in-Sibling-clause-none : goal.returns-in-Sibling-clause-none
 returns-in-Sibling-clause-none g c none = absurd (true≢false (ap is_some none))
@@ -30,8 +28,7 @@ pub node_key-requires : goal.node_key-requires
 node_key-requires g c = let s = c.args.self.now in record {
   there = subst (λ q. stands (nodes_of s) (resources_of s) q ≡ true) (ap (λ l. l.next) (sym
       c.link.ensures) ∙ (sym c.place.ensures ∙ c.in-Sibling.is)) (next_stands (nodes_of s) (resources_of s) (next_of s) (previous_of s)
-      c.requires.tied (Children _)
-      (slot_stands (nodes_of s) _ c.requires.«open»));
+      c.requires.tied (Children _) (slot_stands (nodes_of s) _ c.requires.«open»));
 }
 
 pub returns-in_default : goal.returns-in_default

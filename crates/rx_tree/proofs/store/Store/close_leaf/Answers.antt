@@ -14,8 +14,7 @@ push_reserved-requires g c =
     let key = c.leaf_below-key.result in
     let there = there_project (λ l. l.node) s.nodes key.slot (slot_stands (nodes_of s) key c.leaf_below-key.ensures.there) in
     let some = some_count s.nodes key.slot there (sym c.len-count.ensures.value ∙ c.len-count.ensures.counted) in
-    let room = c.requires.room in
-    omega (arith, some, room)
+    let room = c.requires.room in omega (arith, some, room)
 
 pub closed-requires : goal.closed-requires
 closed-requires g c = record { fits = (let below = c.fits.ensures in omega (arith, below)) }

@@ -7,8 +7,7 @@ at_mut-requires g c = record { there = slot_there c.args.self.now c.args.key c.r
 
 pub end_child-requires : goal.end_child-requires
 end_child-requires g c =
-    node_holds c.args.self.now c.args.key c.requires.«open» c.at_mut.result.now c.at_mut.ensures.value (λ node. 0 < node.marks.open_children)
-    c.requires.child
+    node_holds c.args.self.now c.args.key c.requires.«open» c.at_mut.result.now c.at_mut.ensures.value (λ node. 0 < node.marks.open_children) c.requires.child
 
 pub returns : goal.returns
 returns g c = remarked _ _ c.requires.«open» _ c.at_mut.ensures.value c.requires.counted (λ node. after_child _ (is_merging node.made) _ node.marks) _

@@ -6,5 +6,4 @@ pub at_mut-requires : goal.at_mut-requires
 at_mut-requires g c = record { there = slot_there c.args.self.now c.args.key c.requires.«open» }
 
 pub returns : goal.returns
-returns g c = remarked _ _ c.requires.«open» _ c.at_mut.ensures.value c.requires.counted (λ node. after_firing node.marks) _ (owed_alike _ _) _
-    c.fire.ensures
+returns g c = remarked _ _ c.requires.«open» _ c.at_mut.ensures.value c.requires.counted (λ node. after_firing node.marks) _ (owed_alike _ _) _ c.fire.ensures

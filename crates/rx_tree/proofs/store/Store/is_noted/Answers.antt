@@ -6,5 +6,4 @@ pub at-requires : goal.at-requires
 at-requires g c = record { there = there_project (λ l. l.node) c.args.self.now.nodes c.args.slot c.requires.there }
 
 pub returns : goal.returns
-returns g c =
-    search rules
+returns g c = search rules

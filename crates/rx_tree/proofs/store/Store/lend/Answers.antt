@@ -12,8 +12,7 @@ less-requires g c =
     let at = sym c.get_mut.ensures.value ∙ ap option_copied_mut c.in-Some.is in
     let found = find-project (λ r. r.stowed) a.resources c.args.key ∙ ap (option_map (λ r. r.stowed)) at in
     let b = record c.args.self.now {
-      resources = with_value c.args.self.now.resources c.args.key
-          (record c.in-Some.stored.now { stowed = one_lease_more c.in-Some.stored.now.stowed });
+      resources = with_value c.args.self.now.resources c.args.key (record c.in-Some.stored.now { stowed = one_lease_more c.in-Some.stored.now.stowed });
     } in
     let change = changes-written (λ r. r.stowed) a.resources c.args.key
     (record c.in-Some.stored.now { stowed = one_lease_more c.in-Some.stored.now.stowed }) c.in-Some.stored.now.stowed one_lease_more at refl found in
@@ -28,8 +27,7 @@ more-requires g c =
     let at = sym c.get_mut.ensures.value ∙ ap option_copied_mut c.in-Some.is in
     let found = find-project (λ r. r.stowed) a.resources c.args.key ∙ ap (option_map (λ r. r.stowed)) at in
     let b = record c.args.self.now {
-      resources = with_value c.args.self.now.resources c.args.key
-          (record c.in-Some.stored.now { stowed = one_lease_more c.in-Some.stored.now.stowed });
+      resources = with_value c.args.self.now.resources c.args.key (record c.in-Some.stored.now { stowed = one_lease_more c.in-Some.stored.now.stowed });
     } in
     let change = changes-written (λ r. r.stowed) a.resources c.args.key
     (record c.in-Some.stored.now { stowed = one_lease_more c.in-Some.stored.now.stowed }) c.in-Some.stored.now.stowed one_lease_more at refl found in
@@ -38,8 +36,7 @@ more-requires g c =
     (ap not (same_here c.in-Some.stored.now.stowed.leases 0 c.if-not-lent.true)) in
     let same = ap (λ n. n.lent) (c.less.ensures ∙ ap (one_less false) c.held_count-count.ensures) in
     let slots = c.slot_count-slots.ensures.value in
-    let fits = c.slot_count-slots.ensures.most in
-    omega (arith, few, same, slots, fits)
+    let fits = c.slot_count-slots.ensures.most in omega (arith, few, same, slots, fits)
 
 pub returns-then-not-lent-clause-counted : goal.returns-then-not-lent-clause-counted
 returns-then-not-lent-clause-counted g c =
@@ -47,8 +44,7 @@ returns-then-not-lent-clause-counted g c =
     let at = sym c.get_mut.ensures.value ∙ ap option_copied_mut c.in-Some.is in
     let found = find-project (λ r. r.stowed) a.resources c.args.key ∙ ap (option_map (λ r. r.stowed)) at in
     let b = record c.args.self.now {
-      resources = with_value c.args.self.now.resources c.args.key
-          (record c.in-Some.stored.now { stowed = one_lease_more c.in-Some.stored.now.stowed });
+      resources = with_value c.args.self.now.resources c.args.key (record c.in-Some.stored.now { stowed = one_lease_more c.in-Some.stored.now.stowed });
     } in
     let change = changes-written (λ r. r.stowed) a.resources c.args.key
     (record c.in-Some.stored.now { stowed = one_lease_more c.in-Some.stored.now.stowed }) c.in-Some.stored.now.stowed one_lease_more at refl found in
@@ -64,8 +60,7 @@ returns-then-not-lent-clause-counted g c =
 
 pub returns-then-not-lent-clause-rewrites : goal.returns-then-not-lent-clause-rewrites
 returns-then-not-lent-clause-rewrites g c = subst (λ r. Rewrites (resources_of c.args.self.now) (project (λ r. r.stowed) r) c.args.key one_lease_more)
-    (sym c.set_held_count.ensures.resources)
-    (rewrites-project (λ r. r.stowed) c.args.self.now.resources c.args.key c.in-Some.stored.now
+    (sym c.set_held_count.ensures.resources) (rewrites-project (λ r. r.stowed) c.args.self.now.resources c.args.key c.in-Some.stored.now
     (record c.in-Some.stored.now { stowed = one_lease_more c.in-Some.stored.now.stowed }) one_lease_more
     (sym c.get_mut.ensures.value ∙ ap option_copied_mut c.in-Some.is) refl)
 
@@ -88,8 +83,7 @@ returns-else-not-lent-clause-counted g c =
     let at = sym c.get_mut.ensures.value ∙ ap option_copied_mut c.in-Some.is in
     let found = find-project (λ r. r.stowed) a.resources c.args.key ∙ ap (option_map (λ r. r.stowed)) at in
     let b = record c.args.self.now {
-      resources = with_value c.args.self.now.resources c.args.key
-          (record c.in-Some.stored.now { stowed = one_lease_more c.in-Some.stored.now.stowed });
+      resources = with_value c.args.self.now.resources c.args.key (record c.in-Some.stored.now { stowed = one_lease_more c.in-Some.stored.now.stowed });
     } in
     let change = changes-written (λ r. r.stowed) a.resources c.args.key
     (record c.in-Some.stored.now { stowed = one_lease_more c.in-Some.stored.now.stowed }) c.in-Some.stored.now.stowed one_lease_more at refl found in

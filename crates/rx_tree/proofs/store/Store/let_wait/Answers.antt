@@ -18,8 +18,7 @@ merge-requires-clause-from_last g c = let s = c.args.self.now in previous_stands
     c.requires.tied (Held _) c.requires.there
 
 pub returns-in-Stored-clause-waits : goal.returns-in-Stored-clause-waits
-returns-in-Stored-clause-waits g c =
-    search (rules, waits_merged)
+returns-in-Stored-clause-waits g c = search (rules, waits_merged)
 
 pub returns-in_default : goal.returns-in_default
 returns-in_default g c = search (rules, waits_already)

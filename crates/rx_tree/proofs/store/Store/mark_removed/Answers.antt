@@ -11,8 +11,7 @@ less-requires g c =
     let at = sym c.get_mut.ensures.value ∙ ap option_copied_mut c.in-Some.is in
     let found = find-project (λ r. r.stowed) a.resources c.args.key ∙ ap (option_map (λ r. r.stowed)) at in
     let b = record c.args.self.now {
-      resources = with_value c.args.self.now.resources c.args.key
-          (record c.in-Some.stored.now { stowed = removed c.in-Some.stored.now.stowed });
+      resources = with_value c.args.self.now.resources c.args.key (record c.in-Some.stored.now { stowed = removed c.in-Some.stored.now.stowed });
     } in
     let owned = subst (λ o. IfSome o (λ stowed. IsTrue (is_owned (nodes_of a) stowed))) found c.requires.owned in
     let some = removed_some a b c.requires.counted c.args.key c.in-Some.stored.now.stowed found
@@ -32,13 +31,11 @@ more-self-requires g c =
     let same = ap (count_if (is_lent c.in-Some.stored.now.stowed)) c.set_held_count.ensures.waiting in
     let longer = ap (λ r. length r.entries) c.set_held_count.ensures.resources in
     let slots = c.slot_count-slots.ensures.value in
-    let fits = c.slot_count-slots.ensures.most in
-    omega (arith, few, same, longer, slots, fits)
+    let fits = c.slot_count-slots.ensures.most in omega (arith, few, same, longer, slots, fits)
 
 pub returns-in-Some-clause-rewrites : goal.returns-in-Some-clause-rewrites
 returns-in-Some-clause-rewrites g c = subst (λ r. Rewrites (resources_of c.args.self.now) (project (λ r. r.stowed) r) c.args.key removed)
-    (sym c.set_held_count.ensures.resources)
-    (rewrites-project (λ r. r.stowed) c.args.self.now.resources c.args.key c.in-Some.stored.now
+    (sym c.set_held_count.ensures.resources) (rewrites-project (λ r. r.stowed) c.args.self.now.resources c.args.key c.in-Some.stored.now
     (record c.in-Some.stored.now { stowed = removed c.in-Some.stored.now.stowed }) removed
     (sym c.get_mut.ensures.value ∙ ap option_copied_mut c.in-Some.is) refl)
 
@@ -51,8 +48,7 @@ returns-in-Some-clause-links g c p = c.set_held_count.ensures.links p ∙ resour
 pub returns-in-Some-clause-changes : goal.returns-in-Some-clause-changes
 returns-in-Some-clause-changes g c stowed found =
     subst (λ r. Changes (resources_of c.args.self.now) (project (λ r. r.stowed) r) c.args.key.slot (Some (entry_of c.args.key.number (removed stowed))))
-    (sym c.set_held_count.ensures.resources)
-    (changes-written (λ r. r.stowed) c.args.self.now.resources c.args.key
+    (sym c.set_held_count.ensures.resources) (changes-written (λ r. r.stowed) c.args.self.now.resources c.args.key
     (record c.in-Some.stored.now { stowed = removed c.in-Some.stored.now.stowed }) stowed removed
     (sym c.get_mut.ensures.value ∙ ap option_copied_mut c.in-Some.is) refl found)
 
@@ -67,8 +63,7 @@ returns-in-Some-clause-counted g c =
     let home = c.in-Some.stored.now.stowed.node.slot in
     counted_removed a b c.requires.counted c.args.key c.in-Some.stored.now.stowed found
     (subst (λ r. Changes (resources_of a) (project (λ r. r.stowed) r) c.args.key.slot (Some (entry_of c.args.key.number (removed c.in-Some.stored.now.stowed))))
-    (sym h.resources)
-    (changes-written (λ r. r.stowed) a.resources c.args.key
+    (sym h.resources) (changes-written (λ r. r.stowed) a.resources c.args.key
     (record c.in-Some.stored.now { stowed = removed c.in-Some.stored.now.stowed }) c.in-Some.stored.now.stowed removed at refl found))
     owned h.nodes (c.more-self.ensures ∙ ap (one_more (is_lent c.in-Some.stored.now.stowed)) h.waiting)
     (λ j. h.held j ∙ ap (λ n. cond (home == j) n (held_count_at a j)) (c.less.ensures ∙ ap (one_less (is_lent c.in-Some.stored.now.stowed))

@@ -7,5 +7,4 @@ pub number_of-requires : goal.number_of-requires
 number_of-requires g c = record { there = there_project (λ l. l.node) c.args.self.now.nodes c.args.slot c.requires.there }
 
 pub returns : goal.returns
-returns g c =
-    search (rules, key_of_number, nodes_of, number_at-project)
+returns g c = search (rules, key_of_number, nodes_of, number_at-project)

@@ -23,17 +23,14 @@ pub returns-then-not-is_noted-clause-kept : goal.returns-then-not-is_noted-claus
 returns-then-not-is_noted-clause-kept g c = record {
   tied = noted_tied _ _ c.requires.kept.tied c.requires.«open» _ (not_false _ (sym
       c.if-not-is_noted.true ∙ c.is_noted.ensures)) c.join.ensures.joins c.join.ensures.rest;
-  counted = counted_relinked _ _ c.join.ensures.rest
-      c.requires.kept.counted;
+  counted = counted_relinked _ _ c.join.ensures.rest c.requires.kept.counted;
 }
 
 pub returns-then-not-is_noted-clause-chain : goal.returns-then-not-is_noted-clause-chain
-returns-then-not-is_noted-clause-chain g c =
-    search (rules, noted_chain, not_false)
+returns-then-not-is_noted-clause-chain g c = search (rules, noted_chain, not_false)
 
 pub returns-else-not-is_noted-clause-chain : goal.returns-else-not-is_noted-clause-chain
-returns-else-not-is_noted-clause-chain g c =
-    search (rules, noted_already, not_true)
+returns-else-not-is_noted-clause-chain g c = search (rules, noted_already, not_true)
 
 pub returns-else-not-is_noted-clause-rest : goal.returns-else-not-is_noted-clause-rest
 returns-else-not-is_noted-clause-rest g c = search rules

@@ -17,11 +17,9 @@ pub overflow_sub-self : goal.overflow_sub-self
 overflow_sub-self g c =
     let part = owed_within c.args.self.now c.args.key c.requires.«open» c.at_mut.result.now c.at_mut.ensures.value c.requires.counted in
     let some = node_holds c.args.self.now c.args.key c.requires.«open» c.at_mut.result.now c.at_mut.ensures.value (λ node. 0 < node.marks.owed)
-    c.requires.owes in
-    omega (arith, part, some)
+    c.requires.owes in omega (arith, part, some)
 
 pub returns : goal.returns
-returns g c =
-    remarked c.args.self.now c.args.key c.requires.«open» c.at_mut.result.now c.at_mut.ensures.value c.requires.counted
+returns g c = remarked c.args.self.now c.args.key c.requires.«open» c.at_mut.result.now c.at_mut.ensures.value c.requires.counted
     (λ node. after_inner c.args.replaces node.marks) _ (owed_less _ _ (node_holds c.args.self.now c.args.key c.requires.«open» c.at_mut.result.now
     c.at_mut.ensures.value (λ node. 0 < node.marks.owed) c.requires.owes)) _ c.open_inner.ensures

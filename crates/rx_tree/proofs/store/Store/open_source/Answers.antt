@@ -6,8 +6,7 @@ pub at_mut-requires : goal.at_mut-requires
 at_mut-requires g c = record { there = slot_there c.args.self.now c.args.key c.requires.«open» }
 
 pub open_source-requires : goal.open_source-requires
-open_source-requires g c =
-    node_holds c.args.self.now c.args.key c.requires.«open» c.at_mut.result.now c.at_mut.ensures.value
+open_source-requires g c = node_holds c.args.self.now c.args.key c.requires.«open» c.at_mut.result.now c.at_mut.ensures.value
     (λ node. node.marks.open_children + 1 < 2 ^ 64) c.requires.room
 
 pub returns : goal.returns

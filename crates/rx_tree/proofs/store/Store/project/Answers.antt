@@ -7,8 +7,7 @@ pub at_mut-requires : goal.at_mut-requires
 at_mut-requires g c = record { there = slot_there c.args.self.now c.args.key c.requires.«open» }
 
 pub project-requires : goal.project-requires
-project-requires g c =
-    search (rules, owed_within)
+project-requires g c = search (rules, owed_within)
 
 pub overflow_add-self : goal.overflow_add-self
 overflow_add-self g c = let was = c.requires.counted.owed in let few = c.requires.countable in omega (arith, was, few)

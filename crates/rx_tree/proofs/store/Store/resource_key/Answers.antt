@@ -7,5 +7,4 @@ pub number_of-requires : goal.number_of-requires
 number_of-requires g c = search (rules, there_project)
 
 pub returns : goal.returns
-returns g c =
-    search (rules, key_of_number, resources_of, number_at-project)
+returns g c = search (rules, key_of_number, resources_of, number_at-project)

@@ -8,8 +8,7 @@ at_mut-requires g c = record { there = there_project (λ l. l.node) c.args.self.
 
 pub returns-clause-links : goal.returns-clause-links
 returns-clause-links g c = let at = c.at_mut.ensures.value in let a = c.args.self.now in let l = record c.at_mut.result.now {
-  held_count =
-      c.args.count;
+  held_count = c.args.count;
 } in rw c.set_held_count.ensures (nodes_keep_links a (with_value_at a.nodes _ l) (λ j. part-kept (λ l. l.children) (alone (Children
     j)) a.nodes _ l j at refl) (λ j. part-kept (λ l. l.held) (alone (Held j)) a.nodes _ l j at refl) (λ j. part-kept (λ l. l.sibling) (alone (Sibling
     j)) a.nodes _ l j at refl) (λ j. part-kept (λ l. l.noted) (alone (Noted j)) a.nodes _ l j at refl))

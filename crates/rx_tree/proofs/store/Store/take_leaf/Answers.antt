@@ -56,29 +56,20 @@ returns-clause-tied g c =
     let h = some_of (find (nodes_of c.args.self.now) c.args.key) c.requires.«open» in
     leaf_tied c.args.self.now c.let_wait.new.self c.args.key h.0 h.1 c.let_wait.ensures.waits c.let_wait.ensures.rest c.requires.childless c.unnote.new.self
     c.unnote.ensures.leaves c.unnote.ensures.rest c.pass_sibling_by.new.self c.pass_sibling_by.ensures.passes c.pass_sibling_by.ensures.rest
-    c.take_node.new.self
-    c.take_node.ensures.taken
-    c.take_node.ensures.links
-    (ap (project (λ r. r.stowed)) c.take_node.ensures.resources)
+    c.take_node.new.self c.take_node.ensures.taken c.take_node.ensures.links (ap (project (λ r. r.stowed)) c.take_node.ensures.resources)
 
 pub returns-clause-chain : goal.returns-clause-chain
 returns-clause-chain g c =
     let h = some_of (find (nodes_of c.args.self.now) c.args.key) c.requires.«open» in
     leaf_chain c.args.self.now c.let_wait.new.self c.args.key h.0 h.1 c.let_wait.ensures.waits c.let_wait.ensures.rest c.requires.childless c.unnote.new.self
     c.unnote.ensures.leaves c.unnote.ensures.rest c.pass_sibling_by.new.self c.pass_sibling_by.ensures.passes c.pass_sibling_by.ensures.rest
-    c.take_node.new.self
-    c.take_node.ensures.taken
-    c.take_node.ensures.links
-    (ap (project (λ r. r.stowed)) c.take_node.ensures.resources)
+    c.take_node.new.self c.take_node.ensures.taken c.take_node.ensures.links (ap (project (λ r. r.stowed)) c.take_node.ensures.resources)
 
 pub returns-clause-taken : goal.returns-clause-taken
-returns-clause-taken g c =
-    search (rules, some_of, nodes_of)
+returns-clause-taken g c = search (rules, some_of, nodes_of)
 
 pub take_node-requires-clause-counted : goal.take_node-requires-clause-counted
-take_node-requires-clause-counted g c =
-    search (rules, counted_relinked)
+take_node-requires-clause-counted g c = search (rules, counted_relinked)
 
 pub pass_sibling_by-requires-clause-place : goal.pass_sibling_by-requires-clause-place
-pass_sibling_by-requires-clause-place g c =
-    search (rules, slot_stands, nodes_of)
+pass_sibling_by-requires-clause-place g c = search (rules, slot_stands, nodes_of)

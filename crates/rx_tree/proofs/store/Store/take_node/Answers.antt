@@ -34,19 +34,13 @@ overflow_sub-self g c = rw c.owed-owed.ensures (let a = c.args.self.now in let b
     b c.requires.counted _ _ c.found-leaf.ensures (changes-project (λ l. l.node) _ _ _ _ c.remove.ensures.changes))
 
 pub returns-clause-counted : goal.returns-clause-counted
-returns-clause-counted g c =
-    rw (c.held_count-count.ensures, c.owed-owed.ensures) (let both : (l : Bool) → count_if l (record {
-      free = c.args.self.now.waiting_count.free + c.found-leaf.result.now.held_count.free;
-      lent =
-          c.args.self.now.waiting_count.lent + c.found-leaf.result.now.held_count.lent;
-    }) ≡
-    count_if l c.args.self.now.waiting_count + count_if l c.found-leaf.result.now.held_count = λ l. elim l as
-    (λ l. count_if l (record {
-      free = c.args.self.now.waiting_count.free + c.found-leaf.result.now.held_count.free;
-      lent =
-          c.args.self.now.waiting_count.lent + c.found-leaf.result.now.held_count.lent;
-    }) ≡
-    count_if l c.args.self.now.waiting_count + count_if l c.found-leaf.result.now.held_count) [ true ↦ refl | false ↦ refl ] in
+returns-clause-counted g c = rw (c.held_count-count.ensures, c.owed-owed.ensures) (let both : (l : Bool) → count_if l (record {
+  free = c.args.self.now.waiting_count.free + c.found-leaf.result.now.held_count.free;
+  lent = c.args.self.now.waiting_count.lent + c.found-leaf.result.now.held_count.lent;
+}) ≡ count_if l c.args.self.now.waiting_count + count_if l c.found-leaf.result.now.held_count = λ l. elim l as (λ l. count_if l (record {
+  free = c.args.self.now.waiting_count.free + c.found-leaf.result.now.held_count.free;
+  lent = c.args.self.now.waiting_count.lent + c.found-leaf.result.now.held_count.lent;
+}) ≡ count_if l c.args.self.now.waiting_count + count_if l c.found-leaf.result.now.held_count) [ true ↦ refl | false ↦ refl ] in
     let a = c.args.self.now in
     let b = record c.args.self.now {
       nodes = c.remove.new.self;

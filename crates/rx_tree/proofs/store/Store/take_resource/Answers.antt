@@ -7,8 +7,7 @@ use Rattle.rx_tree.proofs.store.Store.take_resource.Goals as goal
 use Rattle.std.proofs.Common.{rules}
 
 pub take_at-stored-requires : goal.take_at-stored-requires
-take_at-stored-requires g c =
-    search (rules, found_there, found-project)
+take_at-stored-requires g c = search (rules, found_there, found-project)
 
 pub returns-clause-value : goal.returns-clause-value
 returns-clause-value g c =
@@ -29,8 +28,7 @@ returns-clause-links g c = resources_keep_links c.args.self.now c.take_at-stored
 pub returns-clause-counted : goal.returns-clause-counted
 returns-clause-counted g c = let a = c.args.self.now in let b = record c.args.self.now {
   resources = c.take_at-stored.new.self;
-  waiting_count =
-      c.less-self.result;
+  waiting_count = c.less-self.result;
 } in let found : find (resources_of a) c.args.key ≡ Some c.take_at-stored.result.stowed = returns-clause-value g c in
     counted_taken a b c.requires.counted _ _ found (subst (λ o. IfSome o (λ stowed. is_held (nodes_of a) stowed ≡ false)) found c.requires.waits)
     (changes-project (λ r. r.stowed) _ _ _ _ c.take_at-stored.ensures.changes) refl c.less-self.ensures refl

@@ -11,8 +11,7 @@ free_one-requires-clause-some g c =
     let at = sym c.get_mut.ensures.value ∙ ap option_copied_mut c.in-Some.is in
     let found = find-project (λ r. r.stowed) a.resources c.args.key ∙ ap (option_map (λ r. r.stowed)) at in
     let b = record c.args.self.now {
-      resources = with_value c.args.self.now.resources c.args.key
-          (record c.in-Some.stored.now { stowed = one_lease_less c.in-Some.stored.now.stowed });
+      resources = with_value c.args.self.now.resources c.args.key (record c.in-Some.stored.now { stowed = one_lease_less c.in-Some.stored.now.stowed });
     } in
     let change = changes-written (λ r. r.stowed) a.resources c.args.key
     (record c.in-Some.stored.now { stowed = one_lease_less c.in-Some.stored.now.stowed }) c.in-Some.stored.now.stowed one_lease_less at refl found in
@@ -27,8 +26,7 @@ free_one-requires-clause-fits g c =
     let at = sym c.get_mut.ensures.value ∙ ap option_copied_mut c.in-Some.is in
     let found = find-project (λ r. r.stowed) a.resources c.args.key ∙ ap (option_map (λ r. r.stowed)) at in
     let b = record c.args.self.now {
-      resources = with_value c.args.self.now.resources c.args.key
-          (record c.in-Some.stored.now { stowed = one_lease_less c.in-Some.stored.now.stowed });
+      resources = with_value c.args.self.now.resources c.args.key (record c.in-Some.stored.now { stowed = one_lease_less c.in-Some.stored.now.stowed });
     } in
     let change = changes-written (λ r. r.stowed) a.resources c.args.key
     (record c.in-Some.stored.now { stowed = one_lease_less c.in-Some.stored.now.stowed }) c.in-Some.stored.now.stowed one_lease_less at refl found in
@@ -37,8 +35,7 @@ free_one-requires-clause-fits g c =
     let few = last_fits a b c.requires.counted c.args.key c.in-Some.stored.now.stowed found change lent c.owns-owned.result own
     (ap not (same_here (c.in-Some.stored.now.stowed.leases - 1) 0 c.if-last.true)) in
     let slots = c.slot_count-slots.ensures.value in
-    let fits = c.slot_count-slots.ensures.most in
-    omega (arith, few, slots, fits)
+    let fits = c.slot_count-slots.ensures.most in omega (arith, few, slots, fits)
 
 pub returns-then-last-clause-counted : goal.returns-then-last-clause-counted
 returns-then-last-clause-counted g c =
@@ -46,8 +43,7 @@ returns-then-last-clause-counted g c =
     let at = sym c.get_mut.ensures.value ∙ ap option_copied_mut c.in-Some.is in
     let found = find-project (λ r. r.stowed) a.resources c.args.key ∙ ap (option_map (λ r. r.stowed)) at in
     let b = record c.args.self.now {
-      resources = with_value c.args.self.now.resources c.args.key
-          (record c.in-Some.stored.now { stowed = one_lease_less c.in-Some.stored.now.stowed });
+      resources = with_value c.args.self.now.resources c.args.key (record c.in-Some.stored.now { stowed = one_lease_less c.in-Some.stored.now.stowed });
     } in
     let change = changes-written (λ r. r.stowed) a.resources c.args.key
     (record c.in-Some.stored.now { stowed = one_lease_less c.in-Some.stored.now.stowed }) c.in-Some.stored.now.stowed one_lease_less at refl found in
@@ -61,8 +57,7 @@ returns-then-last-clause-counted g c =
 
 pub returns-then-last-clause-rewrites : goal.returns-then-last-clause-rewrites
 returns-then-last-clause-rewrites g c = subst (λ r. Rewrites (resources_of c.args.self.now) (project (λ r. r.stowed) r) c.args.key one_lease_less)
-    (sym c.free_one.ensures.resources)
-    (rewrites-project (λ r. r.stowed) c.args.self.now.resources c.args.key c.in-Some.stored.now
+    (sym c.free_one.ensures.resources) (rewrites-project (λ r. r.stowed) c.args.self.now.resources c.args.key c.in-Some.stored.now
     (record c.in-Some.stored.now { stowed = one_lease_less c.in-Some.stored.now.stowed }) one_lease_less
     (sym c.get_mut.ensures.value ∙ ap option_copied_mut c.in-Some.is) refl)
 
@@ -85,8 +80,7 @@ returns-else-last-clause-counted g c =
     let at = sym c.get_mut.ensures.value ∙ ap option_copied_mut c.in-Some.is in
     let found = find-project (λ r. r.stowed) a.resources c.args.key ∙ ap (option_map (λ r. r.stowed)) at in
     let b = record c.args.self.now {
-      resources = with_value c.args.self.now.resources c.args.key
-          (record c.in-Some.stored.now { stowed = one_lease_less c.in-Some.stored.now.stowed });
+      resources = with_value c.args.self.now.resources c.args.key (record c.in-Some.stored.now { stowed = one_lease_less c.in-Some.stored.now.stowed });
     } in
     let change = changes-written (λ r. r.stowed) a.resources c.args.key
     (record c.in-Some.stored.now { stowed = one_lease_less c.in-Some.stored.now.stowed }) c.in-Some.stored.now.stowed one_lease_less at refl found in

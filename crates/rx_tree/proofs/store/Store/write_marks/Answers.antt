@@ -10,8 +10,7 @@ pub overflow_add-self : goal.overflow_add-self
 overflow_add-self g c = let was = c.requires.counted.owed in let few = c.requires.countable in omega (arith, was, few)
 
 pub overflow_sub-self : goal.overflow_sub-self
-overflow_sub-self g c =
-    search (rules, owed_within)
+overflow_sub-self g c = search (rules, owed_within)
 
 pub returns : goal.returns
 returns g c = remarked _ _ c.requires.«open» _ c.at_mut-record.ensures.value c.requires.counted (λ node. _) _ (ap (λ k. c.args.self.now.owed +

@@ -10,6 +10,5 @@ returns-clause-value g c = rw (← c.self.view_is)
     (value_at-project (λ l. l.node) c.self.inside.store.nodes c.args.slot ∙ ap (option_map (λ l. l.node)) c.at.ensures)
 
 pub returns-clause-above : goal.returns-clause-above
-returns-clause-above g c = rw (← c.self.view_is)
-    (above_at (nodes_of c.self.inside.store) c.self.invariant.tied.sound c.args.slot c.at.result.now.node
+returns-clause-above g c = rw (← c.self.view_is) (above_at (nodes_of c.self.inside.store) c.self.invariant.tied.sound c.args.slot c.at.result.now.node
     (value_at-project (λ l. l.node) c.self.inside.store.nodes c.args.slot ∙ ap (option_map (λ l. l.node)) c.at.ensures))

@@ -14,8 +14,7 @@ pub close_leaf-requires-clause-open : goal.close_leaf-requires-clause-open
 close_leaf-requires-clause-open g c = c.loop-above.invariant.there
 
 pub close_leaf-requires-clause-room : goal.close_leaf-requires-clause-room
-close_leaf-requires-clause-room g c =
-    search (rules, room_left)
+close_leaf-requires-clause-room g c = search (rules, room_left)
 
 pub loop-above-smaller : goal.loop-above-smaller
 loop-above-smaller g c = one_less _ _ c.close_leaf.ensures.fewer
@@ -27,16 +26,13 @@ loop-above-preserved g c = let next = next_down _ c.self.invariant.tied _ (rw (�
           c.loop-above.invariant.down _ c.close_leaf.ensures.cuts c.close_leaf.ensures.tied;
       down = next.0;
       there = next.1;
-      count = one_moved _ _ _ _ _
-          c.close_leaf.ensures.len c.close_leaf.ensures.fewer c.loop-above.invariant.count;
-      capacity = c.close_leaf.ensures.list_room ∙
-          c.loop-above.invariant.capacity;
+      count = one_moved _ _ _ _ _ c.close_leaf.ensures.len c.close_leaf.ensures.fewer c.loop-above.invariant.count;
+      capacity = c.close_leaf.ensures.list_room ∙ c.loop-above.invariant.capacity;
       counted = c.close_leaf.ensures.counted;
     }
 
 pub invariant_of-self : goal.invariant_of-self
-invariant_of-self g c =
-    record { tied = c.close_leaf.ensures.tied; counted = c.close_leaf.ensures.counted }
+invariant_of-self g c = record { tied = c.close_leaf.ensures.tied; counted = c.close_leaf.ensures.counted }
 
 pub returns-clause-before : goal.returns-clause-before
 returns-clause-before g c = closed_before _ c.self.invariant.tied _ (rw (← c.self.view_is) at c.requires.«open») _ _ _ (cutting_step _

@@ -14,11 +14,7 @@ returns-in-Noted g c =
     let at = sym c.place.ensures ∙ c.in-Noted.is in
     let first = chain_first s c.self.invariant.tied slot at in
     let some = some_key (λ e. record { slot = slot; number = e.number }) (entry_at (nodes_of s) slot) (first_stands s c.self.invariant.tied slot at) in
-    rw (← c.self.view_is) (
-      λ t. absurd (false≢true t),
-      λ none. absurd (false≢true (sym (ap is_some first ∙ ap (λ ks. is_some (first_of ks)) none) ∙ some)),
-    )
+    rw (← c.self.view_is) (λ t. absurd (false≢true t), λ none. absurd (false≢true (sym (ap is_some first ∙ ap (λ ks. is_some (first_of ks)) none) ∙ some)))
 
 pub returns-in_default : goal.returns-in_default
-returns-in_default g c =
-    search (rules, chain_none)
+returns-in_default g c = search (rules, chain_none)

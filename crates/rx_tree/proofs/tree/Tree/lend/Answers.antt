@@ -6,8 +6,7 @@ use Rattle.rx_tree.proofs.tree.Tree.lend.Goals as goal
 use Rattle.std.proofs.Common.{rules}
 
 pub leave-requires-clause-place : goal.leave-requires-clause-place
-leave-requires-clause-place g c =
-    search (rules, found_where, nodes_of, resources_of, stored_stands)
+leave-requires-clause-place g c = search (rules, found_where, nodes_of, resources_of, stored_stands)
 
 pub leave-requires-clause-before : goal.leave-requires-clause-before
 leave-requires-clause-before g c =

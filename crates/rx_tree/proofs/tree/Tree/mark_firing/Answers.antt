@@ -9,17 +9,13 @@ note_due-requires-clause-kept g c =
     marked_kept c.self.inside.store c.fire.new.self c.args.key h.0 _ c.self.invariant h.1 (c.fire.ensures h.0 h.1)
 
 pub note_due-requires-clause-open : goal.note_due-requires-clause-open
-note_due-requires-clause-open g c =
-    search (rules, some_of, nodes_of, marked_open)
+note_due-requires-clause-open g c = search (rules, some_of, nodes_of, marked_open)
 
 pub returns-clause-nodes : goal.returns-clause-nodes
-returns-clause-nodes g c node found =
-    search (rules, nodes_of, marked_nodes)
+returns-clause-nodes g c node found = search (rules, nodes_of, marked_nodes)
 
 pub returns-clause-chain : goal.returns-clause-chain
-returns-clause-chain g c =
-    search (rules, some_of, nodes_of, marked_due)
+returns-clause-chain g c = search (rules, some_of, nodes_of, marked_due)
 
 pub returns-clause-resources : goal.returns-clause-resources
-returns-clause-resources g c =
-    search (rules, some_of, nodes_of, marked_resources)
+returns-clause-resources g c = search (rules, some_of, nodes_of, marked_resources)

@@ -14,15 +14,13 @@ note_due-requires-clause-open g c =
     marked_open c.self.inside.store c.open_inner.new.self c.args.key h.0 _ c.self.invariant h.1 (c.open_inner.ensures h.0 h.1)
 
 pub returns-clause-nodes : goal.returns-clause-nodes
-returns-clause-nodes g c node found =
-    search (rules, nodes_of, marked_nodes)
+returns-clause-nodes g c node found = search (rules, nodes_of, marked_nodes)
 
 pub returns-clause-chain : goal.returns-clause-chain
 returns-clause-chain g c =
     let h = some_of (find (nodes_of c.self.inside.store) c.args.key) (rw (← c.self.view_is) at c.requires.«open») in
     rw (← c.self.view_is) (marked_due c.self.inside.store c.open_inner.new.self c.args.key h.0 _ c.self.invariant h.1 (c.open_inner.ensures h.0 h.1)
-    c.note_due.new.self
-    c.note_due.ensures.rest c.note_due.ensures.chain)
+    c.note_due.new.self c.note_due.ensures.rest c.note_due.ensures.chain)
 
 pub returns-clause-resources : goal.returns-clause-resources
 returns-clause-resources g c =

@@ -9,13 +9,10 @@ invariant_of-self g c =
     marked_kept c.self.inside.store c.open_notifier.new.self c.args.key h.0 _ c.self.invariant h.1 (c.open_notifier.ensures h.0 h.1)
 
 pub returns-clause-nodes : goal.returns-clause-nodes
-returns-clause-nodes g c node found =
-    search (rules, nodes_of)
+returns-clause-nodes g c node found = search (rules, nodes_of)
 
 pub returns-clause-chain : goal.returns-clause-chain
-returns-clause-chain g c =
-    search (rules, some_of, nodes_of, marked_chain)
+returns-clause-chain g c = search (rules, some_of, nodes_of, marked_chain)
 
 pub returns-clause-resources : goal.returns-clause-resources
-returns-clause-resources g c =
-    search (rules, some_of, nodes_of, marked_resources)
+returns-clause-resources g c = search (rules, some_of, nodes_of, marked_resources)

@@ -26,8 +26,7 @@ invariant_of-self-in-Some g c =
           (rw (← c.self.view_is) at c.requires.newest.past) (rw (← c.self.view_is) at c.requires.newest.homes) (rw (← c.self.view_is) at c.requires.placed)
           c.add_node.ensures.links (ap (project (λ r. r.stowed)) c.add_node.ensures.resources) c.join_siblings.new.self c.in-Some.ring
           (sym c.sibling_ring.ensures ∙ c.in-Some.is) c.join_siblings.ensures.joins c.join_siblings.ensures.rest;
-      counted =
-          counted_relinked c.add_node.new.self c.join_siblings.new.self c.join_siblings.ensures.rest c.in-Ok.ensures.counted;
+      counted = counted_relinked c.add_node.new.self c.join_siblings.new.self c.join_siblings.ensures.rest c.in-Ok.ensures.counted;
     }
 
 pub invariant_of-self-in_default : goal.invariant_of-self-in_default
@@ -37,21 +36,18 @@ invariant_of-self-in_default g c =
           (record { made = c.args.made; above = c.args.above; marks = c.blank.result }) c.self.invariant.tied c.in-Ok.ensures.ok
           (rw (← c.self.view_is) at c.requires.newest.past) (rw (← c.self.view_is) at c.requires.newest.homes) (rw (← c.self.view_is) at c.requires.placed)
           c.add_node.ensures.links (ap (project (λ r. r.stowed)) c.add_node.ensures.resources) (sym c.sibling_ring.ensures ∙ c.in_default.is);
-      counted =
-          c.in-Ok.ensures.counted;
+      counted = c.in-Ok.ensures.counted;
     }
 
 pub returns-in-Some-clause-chain : goal.returns-in-Some-clause-chain
-returns-in-Some-clause-chain g c = rw (← c.self.view_is)
-    (opened_on_chain c.self.inside.store c.add_node.new.self c.in-Ok.key c.args.number
+returns-in-Some-clause-chain g c = rw (← c.self.view_is) (opened_on_chain c.self.inside.store c.add_node.new.self c.in-Ok.key c.args.number
     (record { made = c.args.made; above = c.args.above; marks = c.blank.result }) c.self.invariant.tied c.in-Ok.ensures.ok
     (rw (← c.self.view_is) at c.requires.newest.past) (rw (← c.self.view_is) at c.requires.newest.homes) (rw (← c.self.view_is) at c.requires.placed)
     c.add_node.ensures.links (ap (project (λ r. r.stowed)) c.add_node.ensures.resources) c.join_siblings.new.self c.in-Some.ring
     (sym c.sibling_ring.ensures ∙ c.in-Some.is) c.join_siblings.ensures.joins c.join_siblings.ensures.rest)
 
 pub returns-in_default-clause-chain : goal.returns-in_default-clause-chain
-returns-in_default-clause-chain g c = rw (← c.self.view_is)
-    (opened_off_chain c.self.inside.store c.add_node.new.self c.in-Ok.key c.args.number
+returns-in_default-clause-chain g c = rw (← c.self.view_is) (opened_off_chain c.self.inside.store c.add_node.new.self c.in-Ok.key c.args.number
     (record { made = c.args.made; above = c.args.above; marks = c.blank.result }) c.self.invariant.tied c.in-Ok.ensures.ok
     (rw (← c.self.view_is) at c.requires.newest.past) (rw (← c.self.view_is) at c.requires.newest.homes) (rw (← c.self.view_is) at c.requires.placed)
     c.add_node.ensures.links (ap (project (λ r. r.stowed)) c.add_node.ensures.resources) (sym c.sibling_ring.ensures ∙ c.in_default.is))

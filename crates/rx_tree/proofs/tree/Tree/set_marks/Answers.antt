@@ -13,25 +13,19 @@ note_due-requires-clause-kept g c =
     marked_kept c.self.inside.store c.write_marks.new.self c.args.key h.0 c.args.marks c.self.invariant h.1 (c.write_marks.ensures h.0 h.1)
 
 pub note_due-requires-clause-open : goal.note_due-requires-clause-open
-note_due-requires-clause-open g c =
-    search (rules, some_of, nodes_of, marked_open)
+note_due-requires-clause-open g c = search (rules, some_of, nodes_of, marked_open)
 
 pub returns-then-contains-clause-nodes : goal.returns-then-contains-clause-nodes
-returns-then-contains-clause-nodes g c =
-    search (rules, some_of, nodes_of, marked_nodes)
+returns-then-contains-clause-nodes g c = search (rules, some_of, nodes_of, marked_nodes)
 
 pub returns-then-contains-clause-chain : goal.returns-then-contains-clause-chain
-returns-then-contains-clause-chain g c =
-    search (rules, some_of, nodes_of, marked_due)
+returns-then-contains-clause-chain g c = search (rules, some_of, nodes_of, marked_due)
 
 pub returns-then-contains-clause-resources : goal.returns-then-contains-clause-resources
-returns-then-contains-clause-resources g c =
-    search (rules, some_of, nodes_of, marked_resources)
+returns-then-contains-clause-resources g c = search (rules, some_of, nodes_of, marked_resources)
 
 pub returns-else-contains-clause-nodes : goal.returns-else-contains-clause-nodes
-returns-else-contains-clause-nodes g c =
-    search (rules, none_of, true≢false)
+returns-else-contains-clause-nodes g c = search (rules, none_of, true≢false)
 
 pub returns-else-contains-clause-chain : goal.returns-else-contains-clause-chain
-returns-else-contains-clause-chain g c =
-    search (rules, none_of, true≢false)
+returns-else-contains-clause-chain g c = search (rules, none_of, true≢false)

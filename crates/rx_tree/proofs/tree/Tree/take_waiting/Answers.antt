@@ -10,26 +10,22 @@ resource_key-key-requires g c =
 
 pub leave-requires-clause-before : goal.leave-requires-clause-before
 leave-requires-clause-before g c = let s = c.self.inside.store in let at = sym c.place.ensures ∙ c.in-Stored.is in let w = first_waits s
-    c.self.invariant.tied _ at
-    c.resource_key-key.result c.resource_key-key.ensures in stored_before s _ c.self.invariant.tied w.stowed w.found
+    c.self.invariant.tied _ at c.resource_key-key.result c.resource_key-key.ensures in stored_before s _ c.self.invariant.tied w.stowed w.found
 
 pub leave-requires-clause-after : goal.leave-requires-clause-after
 leave-requires-clause-after g c = let s = c.self.inside.store in let at = sym c.place.ensures ∙ c.in-Stored.is in let w = first_waits s
-    c.self.invariant.tied _ at
-    c.resource_key-key.result c.resource_key-key.ensures in stored_after s _ c.self.invariant.tied w.stowed w.found
+    c.self.invariant.tied _ at c.resource_key-key.result c.resource_key-key.ensures in stored_after s _ c.self.invariant.tied w.stowed w.found
 
 pub take_resource-stowed-requires : goal.take_resource-stowed-requires
 take_resource-stowed-requires g c = let s = c.self.inside.store in let at = sym c.place.ensures ∙ c.in-Stored.is in let w = first_waits s
     c.self.invariant.tied _ at
     c.resource_key-key.result c.resource_key-key.ensures in let l = c.leave.new.self in let still = subst (λ r. find r c.resource_key-key.result ≡
     Some w.stowed) (sym c.leave.ensures.rest.resources) w.found in record {
-      counted = counted_relinked s _ c.leave.ensures.rest
-          c.self.invariant.counted;
+      counted = counted_relinked s _ c.leave.ensures.rest c.self.invariant.counted;
       found = ap is_some still;
       waits = subst (λ o. IfSome o (λ stowed. is_held (nodes_of l) stowed ≡ false)) (sym still)
           (subst (λ n. is_held n w.stowed ≡ false) (sym c.leave.ensures.rest.nodes) w.waits);
-      link = left_alone s c.self.invariant.tied _ w.stowed w.found
-          w.waits _ c.leave.ensures.leaves c.leave.ensures.rest;
+      link = left_alone s c.self.invariant.tied _ w.stowed w.found w.waits _ c.leave.ensures.leaves c.leave.ensures.rest;
     }
 
 pub invariant_of-self : goal.invariant_of-self
@@ -55,8 +51,7 @@ returns-in-Stored-clause-some g c =
     let waits = waits_of s c.self.invariant.tied c.in-Stored.slot c.resource_key-key.result w c.take_resource-stowed.result found in
     rw (← c.self.view_is)
     (takes s c.self.invariant.tied c.resource_key-key.result c.take_resource-stowed.result found waits c.leave.new.self c.leave.ensures.leaves
-    c.leave.ensures.rest
-    c.take_resource-stowed.new.self c.take_resource-stowed.ensures.taken c.take_resource-stowed.ensures.links
+    c.leave.ensures.rest c.take_resource-stowed.new.self c.take_resource-stowed.ensures.taken c.take_resource-stowed.ensures.links
     (ap (project (λ l. l.node)) c.take_resource-stowed.ensures.nodes))
 
 pub returns-in-Stored-clause-chain : goal.returns-in-Stored-clause-chain
@@ -68,8 +63,7 @@ returns-in-Stored-clause-chain g c =
     let waits = waits_of s c.self.invariant.tied c.in-Stored.slot c.resource_key-key.result w c.take_resource-stowed.result found in
     rw (← c.self.view_is)
     (taken_chain s c.self.invariant.tied c.resource_key-key.result c.take_resource-stowed.result found waits c.leave.new.self c.leave.ensures.leaves
-    c.leave.ensures.rest
-    c.take_resource-stowed.new.self c.take_resource-stowed.ensures.taken c.take_resource-stowed.ensures.links
+    c.leave.ensures.rest c.take_resource-stowed.new.self c.take_resource-stowed.ensures.taken c.take_resource-stowed.ensures.links
     (ap (project (λ l. l.node)) c.take_resource-stowed.ensures.nodes))
 
 pub returns-in_default : goal.returns-in_default

@@ -19,13 +19,11 @@ leave-requires-clause-after g c = let s = c.self.inside.store in next_stands (no
 pub invariant_of-self : goal.invariant_of-self
 invariant_of-self g c = record {
   tied = dropped_tied _ c.self.invariant.tied _ (sym c.place.ensures ∙ c.in-Noted.is) _ c.leave.ensures.leaves c.leave.ensures.rest;
-  counted =
-      counted_relinked _ _ c.leave.ensures.rest c.self.invariant.counted;
+  counted = counted_relinked _ _ c.leave.ensures.rest c.self.invariant.counted;
 }
 
 pub returns-in-Noted : goal.returns-in-Noted
 returns-in-Noted g c = search (rules, dropped_shown)
 
 pub returns-in_default : goal.returns-in_default
-returns-in_default g c =
-    search (rules, chain_none)
+returns-in_default g c = search (rules, chain_none)

@@ -8,8 +8,7 @@ use Rattle.rx_tree.proofs.tree.Tree.unhold.Goals as goal
 use Rattle.std.proofs.Common.{rules}
 
 pub leave-requires-clause-place : goal.leave-requires-clause-place
-leave-requires-clause-place g c =
-    search (rules, found_where, nodes_of, resources_of, stored_stands)
+leave-requires-clause-place g c = search (rules, found_where, nodes_of, resources_of, stored_stands)
 
 pub leave-requires-clause-before : goal.leave-requires-clause-before
 leave-requires-clause-before g c =
@@ -29,12 +28,10 @@ pub mark_removed-requires-clause-counted : goal.mark_removed-requires-clause-cou
 mark_removed-requires-clause-counted g c = counted_relinked c.self.inside.store c.leave.new.self c.leave.ensures.rest c.self.invariant.counted
 
 pub join-requires-clause-end : goal.join-requires-clause-end
-join-requires-clause-end g c =
-    search (rules, found_where, nodes_of, resources_of, found_entry, removed, resource_ring, stands_still, ring_stands)
+join-requires-clause-end g c = search (rules, found_where, nodes_of, resources_of, found_entry, removed, resource_ring, stands_still, ring_stands)
 
 pub join-requires-clause-place : goal.join-requires-clause-place
-join-requires-clause-place g c =
-    search (rules, found_where, nodes_of, resources_of, stands_still, removed, stored_stands)
+join-requires-clause-place g c = search (rules, found_where, nodes_of, resources_of, stands_still, removed, stored_stands)
 
 pub join-requires-clause-last : goal.join-requires-clause-last
 join-requires-clause-last g c =

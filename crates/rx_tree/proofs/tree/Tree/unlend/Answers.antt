@@ -10,8 +10,7 @@ join-requires-clause-end g c =
     search (rules, found_where, is_lent, resources_of, found_entry, one_lease_less, resource_ring, nodes_of, stands_still, lent_stays, relinks_same, ring_stands)
 
 pub join-requires-clause-place : goal.join-requires-clause-place
-join-requires-clause-place g c =
-    search (rules, found_where, is_lent, resources_of, stands_still, one_lease_less, lent_stays, relinks_same, stored_stands)
+join-requires-clause-place g c = search (rules, found_where, is_lent, resources_of, stands_still, one_lease_less, lent_stays, relinks_same, stored_stands)
 
 pub join-requires-clause-last : goal.join-requires-clause-last
 join-requires-clause-last g c =
@@ -37,8 +36,7 @@ invariant_of-self g c =
     sym (ap (option_and_then (resource_ring (nodes_of c.unlend.new.self))) now) ∙ sym c.ring_of.ensures ∙ c.in-Some.is in
     record {
       tied = on_tied s key c.self.invariant.tied h.0 h.1 (one_lease_less h.0) s c.unlend.new.self (lent_stays s key c.self.invariant.tied h.0 h.1 h.2)
-          (relinks_same s)
-          change c.unlend.ensures.links c.unlend.ensures.nodes c.in-Some.ring ring c.join.new.self c.join.ensures.joins c.join.ensures.rest;
+          (relinks_same s) change c.unlend.ensures.links c.unlend.ensures.nodes c.in-Some.ring ring c.join.new.self c.join.ensures.joins c.join.ensures.rest;
       counted = counted_relinked c.unlend.new.self c.join.new.self c.join.ensures.rest c.unlend.ensures.counted;
     }
 
@@ -80,5 +78,4 @@ returns-in_default-clause-chain g c =
     let ring = ap (λ n. resource_ring n (one_lease_less h.0)) (sym c.unlend.ensures.nodes) ∙
     sym (ap (option_and_then (resource_ring (nodes_of c.unlend.new.self))) now) ∙ sym c.ring_of.ensures ∙ c.in_default.is in
     rw (← c.self.view_is) (off_chain s key c.self.invariant.tied h.0 h.1 (one_lease_less h.0) s c.unlend.new.self (lent_stays s key
-    c.self.invariant.tied h.0 h.1 h.2)
-    (relinks_same s) change c.unlend.ensures.links c.unlend.ensures.nodes ring)
+    c.self.invariant.tied h.0 h.1 h.2) (relinks_same s) change c.unlend.ensures.links c.unlend.ensures.nodes ring)
