@@ -1,8 +1,10 @@
 -- What is still to come of the calls on a handle, by what it keeps.
 use Rattle.std.proofs.Common.{◌≡◌, ℕ, List, [], ◌∷◌, ◌++◌, map, take, drop, length, refl, sym, ap, ◌∙◌, subst}
 use Rattle.std.proofs.lemmas.List.{take_at}
-use Rattle.rx_live.specs.{Session.Session, Promise.Act, Promise.released}
-use Rattle.rx_c.specs.{Answers.IsGiven, Calls.IsSent, Calls.IsRead, Calls.IsEnded}
+use Rattle.rx_live.specs.Session.{Session}
+use Rattle.rx_live.specs.Promise.{Act, released}
+use Rattle.rx_c.specs.Answers.{IsGiven}
+use Rattle.rx_c.specs.Calls.{IsSent, IsRead, IsEnded}
 use Rattle.rx_c.specs.Stages.{Stage, absent, opened, waiting, ended}
 use Rattle.rx_c.specs.Calls as call
 use Rattle.rx_c.specs.Courses.{taken, handed, Course, no_call, send, read, end, IsServed, is_put_off, answers, ends, AreAnswersHandedOut}

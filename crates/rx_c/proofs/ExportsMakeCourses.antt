@@ -3,9 +3,15 @@ use Rattle.std.proofs.Common.{◌≡◌, ℕ, List, [], ◌++◌, Option, Some, 
 use Rattle.std.proofs.lemmas.Option.{same_Some}
 use Rattle.rx_resource.specs.declared.Resource.{Ghosts}
 use Rattle.rx_book.specs.State.{State, IsPromised}
-use Rattle.rx_typed.specs.{declared.token.Token.Token, Codes.asked_of, Codes.place_at, Codes.terminal_of, Codes.mode_of, Events.IsEventTold}
-use Rattle.rx_typed.specs.{Events.tells_event as is_event, Events.has_no_event, Told.IsThenTold, Courses.AreHandedBackOnce, Courses.AreNotesToldOnce}
-use Rattle.rx_typed.specs.declared.shapes.{RxNode.RxNode, RxEvent.RxEvent, RxTold.RxTold}
+use Rattle.rx_typed.specs.declared.token.Token.{Token}
+use Rattle.rx_typed.specs.Codes.{asked_of, place_at, terminal_of, mode_of}
+use Rattle.rx_typed.specs.Events.{IsEventTold}
+use Rattle.rx_typed.specs.Events.{tells_event as is_event, has_no_event}
+use Rattle.rx_typed.specs.Told.{IsThenTold}
+use Rattle.rx_typed.specs.Courses.{AreHandedBackOnce, AreNotesToldOnce}
+use Rattle.rx_typed.specs.declared.shapes.RxNode.{RxNode}
+use Rattle.rx_typed.specs.declared.shapes.RxEvent.{RxEvent}
+use Rattle.rx_typed.specs.declared.shapes.RxTold.{RxTold}
 use Rattle.rx_typed.specs.Calls.{IsCalled, calls, has_none, IsDecoded, decodes, means_nothing, IsOwed, owes, is_none, new_book}
 use Rattle.rx_typed.specs.Calls.{IsMade, makes as is_made, is_starved, is_held, IsFinished, finishes as is_finished, is_untaken, is_absent, IsTakenWhole}
 use Rattle.rx_typed.specs.Courses.{Act, Course, no_call, calls as then_calls, drains as then_drains, checkpoints as then_checkpoints, taken_in}

@@ -1,6 +1,8 @@
 -- Which names are held from a book's first line to its end.
 use Rattle.std.proofs.Common.{ℕ, false, List}
-use Rattle.rx_live.specs.{Session.Session, Session.has_resource, Promise.Act, Promise.Leads, Promise.IsKept, Lines.IsFresh}
+use Rattle.rx_live.specs.Session.{Session, has_resource}
+use Rattle.rx_live.specs.Promise.{Act, Leads, IsKept}
+use Rattle.rx_live.specs.Lines.{IsFresh}
 use Rattle.rx_live.proofs.Laws.HeldStaysHeld.{leads_same, leads_on, put_off_held, fresh_held}
 use Rattle.rx_c.specs.Courses.{IsServed, is_put_off, answers, ends}
 

@@ -3,7 +3,8 @@ use Rattle.std.proofs.Common.{◌≡◌, ℕ, Option, Some, None, List, ◌++◌
 use Rattle.std.proofs.lemmas.Option.{same_Some}
 use Rattle.serde_json.specs.Data.{Data}
 use Rattle.rx_device.specs.Input.{IsJsonOf}
-use Rattle.rx_script.specs.{declared.Form.Form, Running.GivesNoOutput, Running.LacksOutput}
+use Rattle.rx_script.specs.declared.Form.{Form}
+use Rattle.rx_script.specs.Running.{GivesNoOutput, LacksOutput}
 use Rattle.rx_c.specs.Ran.{HasNoOutput, IsUnwritten}
 
 one_value : (input : List ℕ) (d e : Data) → IsJsonOf input d → IsJsonOf input e → d ≡ e

@@ -2,7 +2,8 @@
 use Rattle.std.proofs.Common.{◌≡◌, ℕ, List, Result, Ok, Err, IfOk, IsErrOf, inl, inr, refl, sym, subst}
 use Rattle.rx_device.specs.declared.fault.ScriptError.{ScriptError}
 use Rattle.rx_device.specs.declared.fault.ScriptError.TheVariants.{Read, Write, Syntax, Shape, Memory}
-use Rattle.rx_c.specs.{Answers.Answers, Answers.gives, Answers.needs, Answers.faults, Answers.starves, Handing.IsHandedOut}
+use Rattle.rx_c.specs.Answers.{Answers, gives, needs, faults, starves}
+use Rattle.rx_c.specs.Handing.{IsHandedOut}
 
 answered : {Tells : List ℕ → ℕ → Type 0} {IsFaulty : Type 0} (outcome : Result ℕ ScriptError) (text : List ℕ) {buffer buffer' : List ℕ} {told status : ℕ}
     → IfOk outcome (Tells text) → (IsErrOf outcome Syntax → IsFaulty) → (IsErrOf outcome Shape → IsFaulty)

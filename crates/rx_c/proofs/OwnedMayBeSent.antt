@@ -1,5 +1,6 @@
 -- What a handle owns may go to another thread as what it keeps may.
-use Rattle.std.{proofs.Common.Option, proofs.Common.None, proofs.Common.Some, below.std_heap.proofs.GlobalAllocator.TheSendSync.the_frees}
+use Rattle.std.proofs.Common.{Option, None, Some}
+use Rattle.std.below.std_heap.proofs.GlobalAllocator.TheSendSync.{the_frees}
 use base.Shift.{Keyless}
 use base.Fraction.{full_share}
 use denote.Param.Send.{IsSend, part_keyless}

@@ -1,9 +1,13 @@
 -- The program's stock is, as a book takes it, of fresh resources of the tags from 0 on.
-use Rattle.std.proofs.{Common.◌≡◌, Common.◌∙◌, Common.ℕ, Common.List, Common.map, Common.sym, Common.ap, lemmas.Simd.map-map}
+use Rattle.std.proofs.Common.{◌≡◌, ◌∙◌, ℕ, List, map, sym, ap}
+use Rattle.std.proofs.lemmas.Simd.{map-map}
 use Rattle.std.specs.List.{range_with_len}
 use Rattle.rx_resource.specs.declared.Resource.{Ghosts}
-use Rattle.rx_script.specs.declared.boxes.{kind.ResourceKind.ResourceKind, stocked.Stocked.Stocked}
-use Rattle.rx_script.specs.{Boxes.shown, Boxes.fresh_by, Boxes.marks_of, Marks.Marks, Stage.Ware, Stage.ware_of}
+use Rattle.rx_script.specs.declared.boxes.kind.ResourceKind.{ResourceKind}
+use Rattle.rx_script.specs.declared.boxes.stocked.Stocked.{Stocked}
+use Rattle.rx_script.specs.Boxes.{shown, fresh_by, marks_of}
+use Rattle.rx_script.specs.Marks.{Marks}
+use Rattle.rx_script.specs.Stage.{Ware, ware_of}
 use Rattle.rx_c.specs.Ran.{fresh, stock}
 
 abbrev of_stocked : Ghosts Stocked

@@ -7,7 +7,10 @@
 use Rattle.rx_c.proofs.Common.{◌≡◌, List, [], ◌∷◌, ◌++◌, Option, None, Some, refl, subst, lit<, dnil, Val, vptr, vstruct, vcons, vnil, of_list, fsep, ent}
 use Rattle.rx_c.proofs.Common.{never, fst∗, sem, ‵, ◌$◌, move, drop, use1, fsplit, fjoin, fpick, fpack, feq_i, feq_l, RattleType, RawPtr, Ptr, block_ptr}
 use Rattle.rx_c.proofs.Common.{null_ptr, ptr_val, in_a_block, nothing, layout, handle_tells, Good, box_owns, and_tt}
-use Rattle.std.proofs.{Common.ℕ, alloc.Calls.Al, cell.Inside.one, GlobalToken.dealloc_token-Testable}
+use Rattle.std.proofs.Common.{ℕ}
+use Rattle.std.proofs.alloc.Calls.{Al}
+use Rattle.std.proofs.cell.Inside.{one}
+use Rattle.std.proofs.GlobalToken.{dealloc_token-Testable}
 use mathlib.Core.Bool.{true, ◌&&◌}
 use lib.Dec.{T}
 use seplogic.Ra.Ura.{Ura}
@@ -26,7 +29,8 @@ use denote.RawPtr.{lies_at, Testable}
 use denote.Param.Laws.{Laws}
 use denote.Struct.Struct.{Shape, Struct, within}
 use denote.Struct.Owning.{shape}
-use Rattle.std.specs.declared.alloc.{Allocator.Ghosts, Global.Global}
+use Rattle.std.specs.declared.alloc.Allocator.{Ghosts}
+use Rattle.std.specs.declared.alloc.Global.{Global}
 use Rattle.rx_c.specs.Ownership.{heap_token, handle_owns}
 use Rattle.rx_c.specs.contracts.kept.Kept as kept
 use Rattle.rx_c.specs.contracts.handle.Handle as handle

@@ -1,8 +1,10 @@
 -- What an answer that waits says of the stage.
-use Rattle.std.proofs.{Common.◌≡◌, Common.ℕ, Common.List, Common.length, Common.Some, Common.None, Common.refl, Common.sym, lemmas.Option.same_Some}
+use Rattle.std.proofs.Common.{◌≡◌, ℕ, List, length, Some, None, refl, sym}
+use Rattle.std.proofs.lemmas.Option.{same_Some}
 use Rattle.std.specs.String.{string_bytes}
 use Rattle.rx_live.specs.Session.{Session}
-use Rattle.rx_c.specs.declared.kept.{Unread.Unread, Unread.TheVariants.Nothing, Unread.TheVariants.Answer, Unread.TheVariants.Last}
+use Rattle.rx_c.specs.declared.kept.Unread.{Unread}
+use Rattle.rx_c.specs.declared.kept.Unread.TheVariants.{Nothing, Answer, Last}
 use Rattle.rx_c.specs.Stages.{stage_by, unread_length, opened, Stage, Waits, answer_waits, last_waits}
 
 -- an answer of this length waits

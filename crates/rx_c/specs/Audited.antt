@@ -3,7 +3,9 @@ use Rattle.std.specs.Prelude.{◌≡◌, ℕ, ◌<◌, ◌⊎◌, None, List, le
 use Rattle.serde_json.specs.Data.{Data}
 use Rattle.rx_audit.specs.declared.verdict.Verdict.{Verdict}
 use Rattle.rx_device.specs.Input.{IsJsonOf, most_bytes}
-use Rattle.rx_dump.specs.{History.history_of, Checking.IsVerdictOn, Verdict.verdict_text, Verdict.is_lawful}
+use Rattle.rx_dump.specs.History.{history_of}
+use Rattle.rx_dump.specs.Checking.{IsVerdictOn}
+use Rattle.rx_dump.specs.Verdict.{verdict_text, is_lawful}
 
 -- the bytes are a dump, the text is that of the verdict on its history, and the status says whether it is `lawful`
 pub record TellsVerdict (dump text : List ℕ) (status : ℕ) : Type 0 where

@@ -2,16 +2,28 @@
 use Rattle.std.specs.Prelude.{◌≡◌, ℕ, ℤ, ◌++◌, List, [], Some, None}
 use Rattle.rx_resource.specs.declared.Resource.{Ghosts}
 use Rattle.rx_book.specs.State.{State}
-use Rattle.rx_typed.specs.{declared.token.Token.Token, Drained.IsDrainedCall, Drained.no_drained, Events.IsEventTold, Events.no_event}
-use Rattle.rx_typed.specs.declared.shapes.{RxMail.RxMail, RxTaken.RxTaken, RxDrained.RxDrained, RxNode.RxNode, RxRes.RxRes, RxLease.RxLease}
-use Rattle.rx_typed.specs.declared.shapes.{RxOpened.RxOpened, RxUsing.RxUsing, RxCounts.RxCounts, RxEvent.RxEvent, RxTold.RxTold}
+use Rattle.rx_typed.specs.declared.token.Token.{Token}
+use Rattle.rx_typed.specs.Drained.{IsDrainedCall, no_drained}
+use Rattle.rx_typed.specs.Events.{IsEventTold, no_event}
+use Rattle.rx_typed.specs.declared.shapes.RxMail.{RxMail}
+use Rattle.rx_typed.specs.declared.shapes.RxTaken.{RxTaken}
+use Rattle.rx_typed.specs.declared.shapes.RxDrained.{RxDrained}
+use Rattle.rx_typed.specs.declared.shapes.RxNode.{RxNode}
+use Rattle.rx_typed.specs.declared.shapes.RxRes.{RxRes}
+use Rattle.rx_typed.specs.declared.shapes.RxLease.{RxLease}
+use Rattle.rx_typed.specs.declared.shapes.RxOpened.{RxOpened}
+use Rattle.rx_typed.specs.declared.shapes.RxUsing.{RxUsing}
+use Rattle.rx_typed.specs.declared.shapes.RxCounts.{RxCounts}
+use Rattle.rx_typed.specs.declared.shapes.RxEvent.{RxEvent}
+use Rattle.rx_typed.specs.declared.shapes.RxTold.{RxTold}
 use Rattle.rx_typed.specs.Codes.{asked_of, place_at, terminal_of, mode_of, no_node, no_res, no_lease, no_opened, no_used, no_taken, no_mail}
 use Rattle.rx_typed.specs.Calls.{IsCalled, IsDecoded, IsNext, IsNextAll, IsEnd, IsAbort, IsFail, IsDecline, IsDispose, IsOpen, IsUsing}
 use Rattle.rx_typed.specs.Calls.{IsHold, IsHub, IsConnect, IsDisconnect, IsApply, IsRemove, IsLease, IsGiveBack, IsTaken, IsMailTaken}
 use Rattle.rx_typed.specs.Calls.{new_book, IsMade, IsClosed, IsFinished, IsCheckpoint, IsAsked, IsAskedHeld, IsOwed, IsCounted, no_counts}
 use Rattle.rx_typed.specs.Told.{IsThenTold, no_told, drained_of}
 use Rattle.rx_typed.specs.Courses.{Act, Course, taken_in, given_back, note_told, all_drained, Leads, notes_made, notes_told, notes_left}
-use Rattle.rx_c.specs.{Answers.IsSilent, Dumped.IsDumped}
+use Rattle.rx_c.specs.Answers.{IsSilent}
+use Rattle.rx_c.specs.Dumped.{IsDumped}
 
 -- a call on a book that the handle keeps before and after it, by the definition of its clause
 abbrev pub On : (State → State → ℕ → Type 0) → (IsBlank : Type 0) → State → State → (status : ℕ) → Type 0

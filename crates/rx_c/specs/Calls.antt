@@ -3,7 +3,8 @@
 --     0 done        1 the buffer is too small, the answer waits        2 the handle keeps nothing        3 an answer waits
 --     4 memory was refused        5 the handle keeps something already        6 nothing waits
 use Rattle.std.specs.Prelude.{◌≡◌, ℕ, List, length}
-use Rattle.rx_live.specs.{Session.Session, Lines.IsPutOff, Lines.Sends, Lines.Ends, Lines.IsFresh}
+use Rattle.rx_live.specs.Session.{Session}
+use Rattle.rx_live.specs.Lines.{IsPutOff, Sends, Ends, IsFresh}
 use Rattle.rx_c.specs.Stages.{Stage, absent, opened, waiting, ended, IsPresent, Waits}
 use Rattle.rx_c.specs.Answers.{IsGiven, IsTooLong, IsUntouched, IsSilent}
 

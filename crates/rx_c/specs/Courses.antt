@@ -1,8 +1,11 @@
 -- What the calls on one handle come to, by what a caller sees of them: lines that were taken go in, texts that were handed
 -- out come out.
 use Rattle.std.specs.Prelude.{ℕ, ◌==◌, ◌||◌, List, [], ◌∷◌, ◌++◌, map, take, if◌then◌else◌}
-use Rattle.rx_live.specs.{Session.Session, Lines.IsPutOff, Promise.Act, Promise.released, Promise.IsKept, Lines.Sends, Lines.Ends, Lines.IsFresh}
-use Rattle.rx_c.specs.{Stages.Stage, Stages.absent, Stages.opened, Calls.IsSent, Calls.IsRead, Calls.IsEnded}
+use Rattle.rx_live.specs.Session.{Session}
+use Rattle.rx_live.specs.Lines.{IsPutOff, Sends, Ends, IsFresh}
+use Rattle.rx_live.specs.Promise.{Act, released, IsKept}
+use Rattle.rx_c.specs.Stages.{Stage, absent, opened}
+use Rattle.rx_c.specs.Calls.{IsSent, IsRead, IsEnded}
 
 -- the line, where its status says that it was taken
 abbrev pub taken : (status : ℕ) → List ℕ → List (List ℕ)

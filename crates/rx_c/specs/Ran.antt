@@ -1,8 +1,11 @@
 -- What a run tells of the bytes that are handed in.
-use Rattle.std.specs.{Prelude.◌≡◌, Prelude.ℕ, Prelude.◌<◌, Prelude.◌⊎◌, Prelude.true, Prelude.List, Prelude.length, Prelude.map, List.range_with_len}
+use Rattle.std.specs.Prelude.{◌≡◌, ℕ, ◌<◌, ◌⊎◌, true, List, length, map}
+use Rattle.std.specs.List.{range_with_len}
 use Rattle.serde_json.specs.Data.{Data}
 use Rattle.rx_device.specs.Input.{IsJsonOf, most_bytes}
-use Rattle.rx_script.specs.{declared.Form.Form, Stage.Ware, Running.IsOutputOf, Running.GivesNoOutput}
+use Rattle.rx_script.specs.declared.Form.{Form}
+use Rattle.rx_script.specs.Stage.{Ware}
+use Rattle.rx_script.specs.Running.{IsOutputOf, GivesNoOutput}
 
 -- a fresh resource of this tag
 abbrev pub fresh : ℕ → Ware

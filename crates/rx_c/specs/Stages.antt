@@ -1,7 +1,10 @@
 -- What a handle keeps, as a caller sees it.
 use Rattle.std.specs.Prelude.{ℕ, Bool, cond, List, length, Option, None, Some, string_bytes}
-use Rattle.rx_live.specs.{Session.Session, Live.session}
-use Rattle.rx_c.specs.declared.kept.{Kept.Kept, Unread.Unread, Unread.TheVariants.Nothing, Unread.TheVariants.Answer, Unread.TheVariants.Last}
+use Rattle.rx_live.specs.Session.{Session}
+use Rattle.rx_live.specs.Live.{session}
+use Rattle.rx_c.specs.declared.kept.Kept.{Kept}
+use Rattle.rx_c.specs.declared.kept.Unread.{Unread}
+use Rattle.rx_c.specs.declared.kept.Unread.TheVariants.{Nothing, Answer, Last}
 
 -- nothing; a book; a book and the answer that waits; the last answer of a book that was ended, which waits
 pub data Stage : Type 0 where

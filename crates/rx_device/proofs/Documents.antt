@@ -2,7 +2,8 @@
 use Rattle.std.proofs.Common.{◌≡◌, ℕ, List, ◌∷◌, Option, Some, None, Bool, true, false, option_map, option_and_then, refl, ap, sym, arith, rules}
 use Rattle.std.specs.Prelude.{◌&&◌, ◌==◌, length, is_some}
 use Rattle.std.proofs.lemmas.Bool.{and_parts, false≢true}
-use Rattle.json.specs.{Token.Token, Lex.tokens}
+use Rattle.json.specs.Token.{Token}
+use Rattle.json.specs.Lex.{tokens}
 use Rattle.json.specs.Json as text
 use Rattle.serde_json.specs.Data.{Num, number, array, object, item, Members, no_members, put}
 use Rattle.serde_json.specs.Read.{number_of, of_json, of_items, of_members, read}

@@ -1,8 +1,11 @@
 -- One more write of a text, after the front that is written.
 use Rattle.std.proofs.Common.{◌≡◌, ◌-◌, ◌+◌, ◌++◌, ◌<◌, ◌||◌, ◌==◌, ℕ, Bool, List, length, take, drop, subst, sym, ap, ◌∙◌, rules}
-use Rattle.std.specs.{Prelude.Option, Io.KnownBytes.Appends}
-use Rattle.std.proofs.lemmas.{Bool.ne_eqb, List.take_rest}
-use Rattle.std.proofs.{Math.Seq.take-add, KnownBytes.Appends-trans}
+use Rattle.std.specs.Prelude.{Option}
+use Rattle.std.specs.Io.KnownBytes.{Appends}
+use Rattle.std.proofs.lemmas.Bool.{ne_eqb}
+use Rattle.std.proofs.lemmas.List.{take_rest}
+use Rattle.std.proofs.Math.Seq.{take-add}
+use Rattle.std.proofs.KnownBytes.{Appends-trans}
 
 pub written_more : (a b c : Option (List ℕ)) (text : List ℕ) (done n : ℕ)
     → Appends a b (take done text) → Appends b c (take n (take (length text - done) (drop done text))) → Appends a c (take (done + n) text)

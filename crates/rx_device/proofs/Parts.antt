@@ -1,15 +1,25 @@
 -- A value that is read in place, and the value of serde_json that it stands for.
 use Rattle.std.proofs.Common.{◌≡◌, ℕ, ◌+◌, ◌<◌, List, [], ◌∷◌, ◌++◌, length, take, get_or, Option, Some, None, Bool, true, false, cond, option_map, option_and_then, refl, ap, sym, ◌∙◌}
-use Rattle.std.specs.{Str.bytes_eq, Ordering.is_eq, Ordering.nat_cmp, Ordering.match_ordering, Borrow.Bor, declared.alloc.Global.Global}
-use Rattle.std.{specs.Cmp.Lexicographic.slice_cmp, specs.Cmp.Lexicographic.nat_list_eq_equiv, proofs.Common.rules}
-use Rattle.std.specs.declared.cmp.{Ordering.Ordering, Ordering.TheVariants.Less, Ordering.TheVariants.Equal, Ordering.TheVariants.Greater}
-use Rattle.std.proofs.lemmas.Map.{Text.is_eq-slice_cmp, Lookups.exact_bytes}
-use Rattle.std.proofs.lemmas.{Slice.Eq.bytes_eq-Decides, Bool.false≢true, List.take_more}
+use Rattle.std.specs.Str.{bytes_eq}
+use Rattle.std.specs.Ordering.{is_eq, nat_cmp, match_ordering}
+use Rattle.std.specs.Borrow.{Bor}
+use Rattle.std.specs.declared.alloc.Global.{Global}
+use Rattle.std.specs.Cmp.Lexicographic.{slice_cmp, nat_list_eq_equiv}
+use Rattle.std.proofs.Common.{rules}
+use Rattle.std.specs.declared.cmp.Ordering.{Ordering}
+use Rattle.std.specs.declared.cmp.Ordering.TheVariants.{Less, Equal, Greater}
+use Rattle.std.proofs.lemmas.Map.Text.{is_eq-slice_cmp}
+use Rattle.std.proofs.lemmas.Map.Lookups.{exact_bytes}
+use Rattle.std.proofs.lemmas.Slice.Eq.{bytes_eq-Decides}
+use Rattle.std.proofs.lemmas.Bool.{false≢true}
+use Rattle.std.proofs.lemmas.List.{take_more}
 use Rattle.json.specs.Json as text
-use Rattle.json.specs.{Value.value_view, Value.members_view, declared.value.Value.Value}
+use Rattle.json.specs.Value.{value_view, members_view}
+use Rattle.json.specs.declared.value.Value.{Value}
 use Rattle.json.specs.Find as find
 use Rattle.serde_json.specs.Data.{Num, Data, null, boolean, number, string, array, object, Members, no_members, member, put}
-use Rattle.serde_json.specs.{Find.get, Find.get_member, Find.as_str, Find.as_number, Find.as_array, Find.as_object, Read.number_of}
+use Rattle.serde_json.specs.Find.{get, get_member, as_str, as_number, as_array, as_object}
+use Rattle.serde_json.specs.Read.{number_of}
 use Rattle.rx_device.specs.Part.{data_of, items_data, members_data, number_or_null}
 
 -- members -----------------------------------------------------------------------------------------

@@ -3,7 +3,8 @@ use Rattle.std.proofs.Common.{◌≡◌, ℕ, ◌^◌, ◌<◌, ℤ, pos, ◌<�
 use Rattle.std.specs.Prelude.{◌&&◌, ◌⊎◌, ◌==◌, slice_index, nat_lt, nat_le, if◌then◌else◌, option_and_then, SomeIff, FitsSigned}
 use Rattle.std.specs.Int.{w64}
 use Rattle.fast_float.specs.Text.{Parts, scan, minus, digits_of, with_sign, IsInteger}
-use Rattle.serde_json.specs.{Data.Num, Data.unsigned, Data.negative, Data.float, Find.as_u64, Find.as_i64}
+use Rattle.serde_json.specs.Data.{Num, unsigned, negative, float}
+use Rattle.serde_json.specs.Find.{as_u64, as_i64}
 use Rattle.serde_json.specs.Read.{number_of, number_from, is_integer}
 
 is_integer-true : (p : Parts) → IsInteger p → is_integer p ≡ true

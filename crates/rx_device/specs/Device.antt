@@ -1,6 +1,7 @@
 -- What is known of a device that is watched, and of the bytes that went through it.
 use Rattle.std.specs.Prelude.{◌≡◌, ℕ, ◌≤◌, ◌⊎◌, ◌||◌, ◌==◌, Bool, true, false, List, length, take, Option}
-use Rattle.std.specs.{Io.KnownBytes.Appends, Borrow.MutBor}
+use Rattle.std.specs.Io.KnownBytes.{Appends}
+use Rattle.std.specs.Borrow.{MutBor}
 use Rattle.rx_device.specs.declared.watched.Watched.{Watched}
 
 -- the device that is watched

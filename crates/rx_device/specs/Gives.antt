@@ -1,6 +1,7 @@
 -- What a function answers that reads something from a JSON value.
 use Rattle.std.specs.Prelude.{◌≡◌, Option, Some, None, Result, Ok, Err}
-use Rattle.rx_device.specs.declared.shape.{ShapeError.ShapeError, ShapeError.TheVariants.Shape, ShapeError.TheVariants.Memory}
+use Rattle.rx_device.specs.declared.shape.ShapeError.{ShapeError}
+use Rattle.rx_device.specs.declared.shape.ShapeError.TheVariants.{Shape, Memory}
 
 -- there is nothing to give, or memory ran out
 abbrev pub Fails : {Y : Type 0} → ShapeError → Option Y → Type 0

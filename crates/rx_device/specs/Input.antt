@@ -1,7 +1,8 @@
 -- What a reader gave, said of the bytes that it had and has left.
 use Rattle.std.specs.Prelude.{◌≡◌, ℕ, ◌<◌, ◌≤◌, Some, Option, List, length, IsUtf8}
 use Rattle.std.specs.Io.KnownBytes.{Consumes, IsAtEnd}
-use Rattle.serde_json.specs.{Data.Data, Read.read}
+use Rattle.serde_json.specs.Data.{Data}
+use Rattle.serde_json.specs.Read.{read}
 
 -- the longest input, in bytes
 abbrev pub most_bytes : ℕ

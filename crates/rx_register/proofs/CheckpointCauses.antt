@@ -1,8 +1,11 @@
 -- What stands first against a checkpoint.
 use Rattle.std.proofs.Common.{◌≡◌, ℕ, ◌-◌, ◌<◌, ◌≤◌, Some, None, List, length, refl, arith, rules}
 use Rattle.std.proofs.lemmas.Bool.{lt-ltb, le-ltb}
-use Rattle.rx_event.specs.declared.{event.Event.Event, refusal.Refusal.TheVariants.MailLeft, refusal.Refusal.TheVariants.TooMany}
-use Rattle.rx_event.specs.{Notes.notes, Refusals.first_cause, Causes.checkpoint_causes}
+use Rattle.rx_event.specs.declared.event.Event.{Event}
+use Rattle.rx_event.specs.declared.refusal.Refusal.TheVariants.{MailLeft, TooMany}
+use Rattle.rx_event.specs.Notes.{notes}
+use Rattle.rx_event.specs.Refusals.{first_cause}
+use Rattle.rx_event.specs.Causes.{checkpoint_causes}
 
 -- notes that were told and not handed out
 pub left_over : (h : List Event) (told : ℕ) → told ≤ length (notes h) → (told ≡ 0 → ⊥) →

@@ -1,16 +1,32 @@
 -- A register after one more event, and after a note that was handed out.
 use Rattle.std.proofs.Common.{◌≡◌, ℕ, zero, suc, ◌+◌, ◌-◌, ◌<◌, ◌≤◌, Bool, List, [], ◌∷◌, ◌++◌, length, take, drop, Option, Some}
 use Rattle.std.proofs.Common.{None, cond, refl, sym, ap, subst, ◌∙◌, arith, slice_get, length-append, length-drop, take-append-drop, rules}
-use Rattle.std.specs.{Option.option_to_list, VecDeque.deque_len, VecDeque.deque_capacity}
-use Rattle.std.specs.declared.{collections.VecDeque.VecDeque, alloc.Global.Global}
+use Rattle.std.specs.Option.{option_to_list}
+use Rattle.std.specs.VecDeque.{deque_len, deque_capacity}
+use Rattle.std.specs.declared.collections.VecDeque.{VecDeque}
+use Rattle.std.specs.declared.alloc.Global.{Global}
 use Rattle.std.proofs.lemmas.List.{drop-append-le, drop_all, take_all}
-use Rattle.rx_event.specs.declared.{event.Event.Event, mail.Mail.Mail}
-use Rattle.rx_event.specs.{Events.makes_resource, Events.is_item, Events.is_take, Notes.notes, Notes.mail_of, Moments.moments, Kept.Kept}
-use Rattle.rx_event.specs.{Kept.nothing_kept, Kept.shown, Totals.debt, Lawful.MayFollow, Forced.IsSettled, Bases.base_of, Bases.Agree}
-use Rattle.rx_event.proofs.Laws.{Bases.base_length, Bases.length_base, Checkpoints.base_lawful, Checkpoints.kept_agrees, Checkpoints.same_debt}
-use Rattle.rx_event.proofs.Laws.{CheckpointMarks.base_untold, Counts.notes-push, Begin.shown_nothing, Begin.IsLawful_nothing, Lawful.IsLawful-push}
+use Rattle.rx_event.specs.declared.event.Event.{Event}
+use Rattle.rx_event.specs.declared.mail.Mail.{Mail}
+use Rattle.rx_event.specs.Events.{makes_resource, is_item, is_take}
+use Rattle.rx_event.specs.Notes.{notes, mail_of}
+use Rattle.rx_event.specs.Moments.{moments}
+use Rattle.rx_event.specs.Kept.{Kept}
+use Rattle.rx_event.specs.Kept.{nothing_kept, shown}
+use Rattle.rx_event.specs.Totals.{debt}
+use Rattle.rx_event.specs.Lawful.{MayFollow}
+use Rattle.rx_event.specs.Forced.{IsSettled}
+use Rattle.rx_event.specs.Bases.{base_of, Agree}
+use Rattle.rx_event.proofs.Laws.Bases.{base_length, length_base}
+use Rattle.rx_event.proofs.Laws.Checkpoints.{base_lawful, kept_agrees, same_debt}
+use Rattle.rx_event.proofs.Laws.CheckpointMarks.{base_untold}
+use Rattle.rx_event.proofs.Laws.Counts.{notes-push}
+use Rattle.rx_event.proofs.Laws.Begin.{shown_nothing, IsLawful_nothing}
+use Rattle.rx_event.proofs.Laws.Lawful.{IsLawful-push}
 use Rattle.rx_event.proofs.Laws.Totals.{item_count-push, accepted_count-push, taken_count-push}
-use Rattle.rx_register.specs.{declared.register.Register.TheInside.Inside, State.State, State.Rebases, Ties.state_of, Ties.IsTied}
+use Rattle.rx_register.specs.declared.register.Register.TheInside.{Inside}
+use Rattle.rx_register.specs.State.{State, Rebases}
+use Rattle.rx_register.specs.Ties.{state_of, IsTied}
 use Rattle.rx_register.proofs.Laws.Empty.{debt_empty}
 
 -- so many notes are behind those that were told

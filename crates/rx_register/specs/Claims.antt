@@ -1,8 +1,16 @@
 -- What is promised of calls against which no cause of refusal stands.
 use Rattle.std.specs.Prelude.{◌≡◌, ℕ, Bool, None, List, [], ◌∷◌, ◌++◌, IsTrue}
-use Rattle.rx_event.specs.{Kept.Kept, declared.event.Event.Event, Resources.is_waiting, Forced.IsForced, Forced.IsSettled, Lawful.MayFollow}
-use Rattle.rx_event.specs.{Lawful.IsLawful, Calls.Call, Calls.Taking, Calls.outside_of, Refusals.first_cause, Causes.causes, Causes.added_by}
-use Rattle.rx_register.specs.{State.State, State.Writes, Paid.IsPaid, Paid.HasRoomFor, Paid.Fits, Paid.notes_added}
+use Rattle.rx_event.specs.Kept.{Kept}
+use Rattle.rx_event.specs.declared.event.Event.{Event}
+use Rattle.rx_event.specs.Resources.{is_waiting}
+use Rattle.rx_event.specs.Forced.{IsForced, IsSettled}
+use Rattle.rx_event.specs.Lawful.{MayFollow}
+use Rattle.rx_event.specs.Lawful.{IsLawful}
+use Rattle.rx_event.specs.Calls.{Call, Taking, outside_of}
+use Rattle.rx_event.specs.Refusals.{first_cause}
+use Rattle.rx_event.specs.Causes.{causes, added_by}
+use Rattle.rx_register.specs.State.{State, Writes}
+use Rattle.rx_register.specs.Paid.{IsPaid, HasRoomFor, Fits, notes_added}
 
 -- these events may come next, each after those before it
 abbrev pub MayFollowInTurn : Kept → List Event → List Event → Type 0

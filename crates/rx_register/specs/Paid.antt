@@ -1,8 +1,14 @@
 -- Room that is kept, so that what a call forces, and closing everything, need no new memory.
 use Rattle.std.specs.Prelude.{◌≡◌, ℕ, ◌+◌, ◌*◌, ◌≤◌, List, [], length}
-use Rattle.rx_event.specs.{Kept.Kept, Notes.notes, Notes.mail_of, Totals.debt, Totals.open_count, Forced.MayWait, Calls.Call, Calls.Opening}
-use Rattle.rx_event.specs.{Calls.OpeningUsing, Calls.Emitting, Calls.Connecting, Causes.nodes_opened, Causes.added_by}
-use Rattle.rx_event.specs.declared.event.{Event.Event, Event.TheVariants.Item}
+use Rattle.rx_event.specs.Kept.{Kept}
+use Rattle.rx_event.specs.Notes.{notes, mail_of}
+use Rattle.rx_event.specs.Totals.{debt, open_count}
+use Rattle.rx_event.specs.Forced.{MayWait}
+use Rattle.rx_event.specs.Calls.{Call, Opening}
+use Rattle.rx_event.specs.Calls.{OpeningUsing, Emitting, Connecting}
+use Rattle.rx_event.specs.Causes.{nodes_opened, added_by}
+use Rattle.rx_event.specs.declared.event.Event.{Event}
+use Rattle.rx_event.specs.declared.event.Event.TheVariants.{Item}
 use Rattle.rx_register.specs.State.{State}
 
 -- there is room for the connection that may be forced (its event, and one for its end), for the events that closing everything

@@ -1,7 +1,11 @@
 -- What a register is to its callers, and what it promises at every moment.
 use Rattle.std.specs.Prelude.{◌≡◌, ℕ, ◌+◌, ◌≤◌, List, [], ◌++◌, length}
-use Rattle.rx_event.specs.declared.{mail.Mail.Mail, event.Event.Event}
-use Rattle.rx_event.specs.{Kept.Kept, Kept.shown, Bases.base_of, Notes.notes, Lawful.IsLawful}
+use Rattle.rx_event.specs.declared.mail.Mail.{Mail}
+use Rattle.rx_event.specs.declared.event.Event.{Event}
+use Rattle.rx_event.specs.Kept.{Kept, shown}
+use Rattle.rx_event.specs.Bases.{base_of}
+use Rattle.rx_event.specs.Notes.{notes}
+use Rattle.rx_event.specs.Lawful.{IsLawful}
 use Rattle.rx_event.specs.Totals.{debt, open_count, item_count, accepted_count, taken_count}
 use Rattle.rx_register.specs.declared.load.Load.{Load}
 

@@ -1,8 +1,12 @@
 -- How what a register keeps is tied to its history. No public clause cites this module.
 use Rattle.std.specs.Prelude.{◌≡◌, ◌+◌, ◌-◌, ◌≤◌, length, take, drop}
 use Rattle.std.specs.VecDeque.{deque_len, deque_capacity}
-use Rattle.rx_event.specs.{Kept.shown, Notes.notes, Totals.item_count, Totals.accepted_count, Totals.taken_count, Totals.debt, Lawful.IsLawful}
-use Rattle.rx_register.specs.{declared.register.Register.TheInside.Inside, State.State}
+use Rattle.rx_event.specs.Kept.{shown}
+use Rattle.rx_event.specs.Notes.{notes}
+use Rattle.rx_event.specs.Totals.{item_count, accepted_count, taken_count, debt}
+use Rattle.rx_event.specs.Lawful.{IsLawful}
+use Rattle.rx_register.specs.declared.register.Register.TheInside.{Inside}
+use Rattle.rx_register.specs.State.{State}
 
 -- what callers see
 abbrev pub state_of : Inside → State

@@ -2,10 +2,15 @@
 use Rattle.std.proofs.Common.{◌≡◌, ℕ, ◌<◌, Bool, ◌&&◌, true, false, cond, nat_eq, List}
 use Rattle.std.proofs.Common.{[], ◌∷◌, ◌++◌, length, Option, Some, None, IsSomeAnd, All, refl, sym, ◌∙◌, arith, rules}
 use Rattle.std.proofs.lemmas.Bool.{cases_eq, eqb-true, false≢true, eq-eqb, ne_eqb}
-use Rattle.std.proofs.lemmas.{Bool.Decides.nat_tests, List.Elements.All-head, List.Elements.All-weaker}
+use Rattle.std.proofs.lemmas.Bool.Decides.{nat_tests}
+use Rattle.std.proofs.lemmas.List.Elements.{All-head, All-weaker}
 use Rattle.std.specs.BTreeSet.{BTreeSet, contains, btree_set_len, IsLowerBound, Updates}
-use Rattle.std.specs.{List.list_any, Map.lookup, Map.remove_entry, Ordering.is_eq, Ordering.is_gt}
-use Rattle.rx_time.specs.{declared.work.Work.Work, Agenda.IsKept, Agenda.PointsAt, Agenda.is_due_at, Agenda.place_cmp, Schedule.next_of}
+use Rattle.std.specs.List.{list_any}
+use Rattle.std.specs.Map.{lookup, remove_entry}
+use Rattle.std.specs.Ordering.{is_eq, is_gt}
+use Rattle.rx_time.specs.declared.work.Work.{Work}
+use Rattle.rx_time.specs.Agenda.{IsKept, PointsAt, is_due_at, place_cmp}
+use Rattle.rx_time.specs.Schedule.{next_of}
 use Rattle.rx_time.proofs.Next.{IsAfter, next_of-first}
 use Rattle.rx_time.proofs.Entries.{All-looked_up, lookup-last, lookup-past, lookup-without, sorted-push, sorted-remove_entry}
 

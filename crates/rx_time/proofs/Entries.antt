@@ -1,14 +1,26 @@
 -- Lists of entries under numbers that rise.
 use Rattle.std.proofs.Common.{◌≡◌, ℕ, ◌+◌, ◌<◌, Bool, true, false, cond, nat_eq, get_or, List, [], ◌∷◌, ◌++◌, length}
 use Rattle.std.proofs.Common.{Some, None, All, refl, sym, ap, arith, rules}
-use Rattle.std.proofs.lemmas.{Bool.cond_both, Bool.Decides.nat_tests, Cmp.nat_cmp_total, Cmp.eq_by_cmp_equiv, List.Elements.All-head}
-use Rattle.std.proofs.lemmas.{List.Elements.All-tail, List.Elements.All-cons, Map.lookup-remove_entry, Option.slice_get-get_or}
+use Rattle.std.proofs.lemmas.Bool.{cond_both}
+use Rattle.std.proofs.lemmas.Bool.Decides.{nat_tests}
+use Rattle.std.proofs.lemmas.Cmp.{nat_cmp_total, eq_by_cmp_equiv}
+use Rattle.std.proofs.lemmas.List.Elements.{All-head}
+use Rattle.std.proofs.lemmas.List.Elements.{All-tail, All-cons}
+use Rattle.std.proofs.lemmas.Map.{lookup-remove_entry}
+use Rattle.std.proofs.lemmas.Option.{slice_get-get_or}
 use Rattle.std.proofs.lemmas.List.Sorted.{IsPermutation-cons, IsPermutation-insert, IsPermutation-refl, IsPermutation-sym, IsPermutation-trans}
-use Rattle.std.proofs.lemmas.Map.{Entries.lookup_from_place, Keys.IsDistinct-from_sorted, Keys.sorted_head, Keys.sorted_tail}
-use Rattle.std.specs.{BTreeMap.insert_entry, Cmp.nat_cmp_is, List.AllByRecursion, List.Sorted.IsPermutation, List.Sorted.IsStrictlySortedBy}
-use Rattle.std.specs.{Map.lookup, Map.remove_entry, Map.keys_of, Option.option_or, Ordering.is_eq, Ordering.nat_cmp}
+use Rattle.std.proofs.lemmas.Map.Entries.{lookup_from_place}
+use Rattle.std.proofs.lemmas.Map.Keys.{IsDistinct-from_sorted, sorted_head, sorted_tail}
+use Rattle.std.specs.BTreeMap.{insert_entry}
+use Rattle.std.specs.Cmp.{nat_cmp_is}
+use Rattle.std.specs.List.{AllByRecursion}
+use Rattle.std.specs.List.Sorted.{IsPermutation, IsStrictlySortedBy}
+use Rattle.std.specs.Map.{lookup, remove_entry, keys_of}
+use Rattle.std.specs.Option.{option_or}
+use Rattle.std.specs.Ordering.{is_eq, nat_cmp}
 use Rattle.std.specs.declared.cmp.Ordering.TheVariants.{Less, Greater}
-use Rattle.rx_time.specs.{declared.work.Work.Work, Schedule.items_of}
+use Rattle.rx_time.specs.declared.work.Work.{Work}
+use Rattle.rx_time.specs.Schedule.{items_of}
 
 -- a search by `cmp` stops where one by `==` does
 is_eq-nat_cmp : (t k : ℕ) → is_eq (nat_cmp t k) ≡ nat_eq t k

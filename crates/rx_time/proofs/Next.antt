@@ -4,8 +4,12 @@ use Rattle.std.proofs.Common.{◌∷◌, ◌++◌, Option, Some, None, IfSome, I
 use Rattle.std.proofs.lemmas.Bool.{cases_lt, cond_both, cond-true, cond-false, le-leb, lt-leb, eqb-true}
 use Rattle.std.proofs.lemmas.List.Elements.{All-nil, All-cons, All-head, All-tail, All-weaker}
 use Rattle.std.proofs.lemmas.Map.Keys.{sorted_head, sorted_tail}
-use Rattle.std.specs.{List.Sorted.IsStrictlySortedBy, Map.lookup, Map.keys_of, Ordering.nat_cmp}
-use Rattle.rx_time.specs.{declared.work.Work.Work, Agenda.PointsAt, Places.earlier_place}
+use Rattle.std.specs.List.Sorted.{IsStrictlySortedBy}
+use Rattle.std.specs.Map.{lookup, keys_of}
+use Rattle.std.specs.Ordering.{nat_cmp}
+use Rattle.rx_time.specs.declared.work.Work.{Work}
+use Rattle.rx_time.specs.Agenda.{PointsAt}
+use Rattle.rx_time.specs.Places.{earlier_place}
 use Rattle.rx_time.specs.Schedule.{IsNext, earlier, next_due, next_of}
 use Rattle.rx_time.proofs.Entries.{above_from_lookup, lookup-append, lookup-not_in_front}
 

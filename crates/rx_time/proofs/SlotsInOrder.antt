@@ -1,15 +1,25 @@
 -- Slots in the order of their tickets and due times, and the entries that they hold.
 use Rattle.std.proofs.Common.{◌≡◌, ◌≢◌, ℕ, zero, suc, ◌<◌, ◌≤◌, ◌-◌, ◌↔◌, ◌==◌, Bool, true, false, nat_eq, is_none, List, [], ◌∷◌, ◌++◌}
 use Rattle.std.proofs.Common.{length, set, get_or, Option, Some, None, option_map, Result, Ok, Err, All, IfSome, IfNone, refl, sym, ap, ◌∙◌, inl, inr, arith}
-use Rattle.std.specs.{List.AllPairs, List.HoldsAt, List.cons_option, List.Sorted.IsBinarySearchResult, List.Sorted.IsNonDecreasingBy, Map.lookup}
-use Rattle.std.specs.{Map.remove_entry, Ordering.nat_cmp, Ordering.ordering_index, Result.result_ok}
+use Rattle.std.specs.List.{AllPairs, HoldsAt, cons_option}
+use Rattle.std.specs.List.Sorted.{IsBinarySearchResult, IsNonDecreasingBy}
+use Rattle.std.specs.Map.{lookup}
+use Rattle.std.specs.Map.{remove_entry}
+use Rattle.std.specs.Ordering.{nat_cmp, ordering_index}
+use Rattle.std.specs.Result.{result_ok}
 use Rattle.std.proofs.lemmas.Bool.{cases_eq, cases_lt, cond-true, cond-false, eq-eqb, ne_eqb, true≢false}
-use Rattle.std.proofs.lemmas.{Bool.Decides.nat_tests, Cmp.ranked, List.length-set, List.Quantifiers.all_pairs_push}
+use Rattle.std.proofs.lemmas.Bool.Decides.{nat_tests}
+use Rattle.std.proofs.lemmas.Cmp.{ranked}
+use Rattle.std.proofs.lemmas.List.{length-set}
+use Rattle.std.proofs.lemmas.List.Quantifiers.{all_pairs_push}
 use Rattle.std.proofs.lemmas.List.Elements.{All-nil, All-cons, All-head, All-tail, All-weaker, All-from_all_within, at_read, filter_map-append}
-use Rattle.rx_time.specs.declared.{run.Slot.Slot, work.Work.Work}
-use Rattle.rx_time.specs.{Agenda.PointsAt, Schedule.next_of}
+use Rattle.rx_time.specs.declared.run.Slot.{Slot}
+use Rattle.rx_time.specs.declared.work.Work.{Work}
+use Rattle.rx_time.specs.Agenda.{PointsAt}
+use Rattle.rx_time.specs.Schedule.{next_of}
 use Rattle.rx_time.specs.Runs.{slot_of, work_of, entry_of, entries_of, IsBefore, is_front_empty, IsRun}
-use Rattle.rx_time.proofs.{Entries.remove_entry-absent, Next.IfSome-next_of, Next.earlier-keeps}
+use Rattle.rx_time.proofs.Entries.{remove_entry-absent}
+use Rattle.rx_time.proofs.Next.{IfSome-next_of, earlier-keeps}
 use Rattle.std.proofs.Common.{rules}
 
 module _ {T : Type 0} where

@@ -1,7 +1,9 @@
 -- What holds of every timeline, kept with one entry more and one less.
 use Rattle.std.proofs.Common.{ℕ, ◌+◌, ◌<◌, ◌≤◌, ◌++◌, ◌∷◌, [], nat_eq, arith, rules}
-use Rattle.std.{proofs.lemmas.List.Elements.All-push, proofs.lemmas.List.Elements.All-weaker, specs.Map.remove_entry}
-use Rattle.rx_time.specs.{declared.work.Work.Work, Schedule.Schedule, Schedule.IsSound, Schedule.schedule}
+use Rattle.std.proofs.lemmas.List.Elements.{All-push, All-weaker}
+use Rattle.std.specs.Map.{remove_entry}
+use Rattle.rx_time.specs.declared.work.Work.{Work}
+use Rattle.rx_time.specs.Schedule.{Schedule, IsSound, schedule}
 use Rattle.rx_time.proofs.Entries.{All-remove_entry, sorted-push, sorted-remove_entry}
 
 module _ {T : Type 0} where

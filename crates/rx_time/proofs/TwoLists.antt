@@ -1,9 +1,14 @@
 -- Entries that are kept in two lists, the one behind the other.
 use Rattle.std.proofs.Common.{◌≡◌, ℕ, ◌+◌, ◌≤◌, ◌↔◌, Bool, true, nat_eq, List, [], ◌∷◌, ◌++◌, length, Option, Some, None, Result}
 use Rattle.std.proofs.Common.{All, IfSome, IfNone, IsSomeAnd, refl, sym, append_assoc, append-nil, rules}
-use Rattle.std.specs.{Prelude.OnOk, Prelude.OnErr, Prelude.OnSome, List.Sorted.IsPermutation, Map.lookup}
-use Rattle.std.proofs.lemmas.{List.Elements.All-tail, Map.Entries.All-lookup}
-use Rattle.rx_time.specs.{Agenda.PointsAt, declared.work.Work.Work, Schedule.items_of, Schedule.next_of, Schedule.without}
+use Rattle.std.specs.Prelude.{OnOk, OnErr, OnSome}
+use Rattle.std.specs.List.Sorted.{IsPermutation}
+use Rattle.std.specs.Map.{lookup}
+use Rattle.std.proofs.lemmas.List.Elements.{All-tail}
+use Rattle.std.proofs.lemmas.Map.Entries.{All-lookup}
+use Rattle.rx_time.specs.Agenda.{PointsAt}
+use Rattle.rx_time.specs.declared.work.Work.{Work}
+use Rattle.rx_time.specs.Schedule.{items_of, next_of, without}
 use Rattle.rx_time.proofs.Entries.{items_of-without, length-remove_entry, lookup-append, remove_entry-absent, remove_entry-back, remove_entry-front}
 
 module _ {X : Type 0} where

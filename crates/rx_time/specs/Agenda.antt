@@ -2,7 +2,10 @@
 -- and tickets, in the order in which the entries come out.
 use Rattle.std.specs.Prelude.{◌≡◌, ℕ, ◌==◌, Bool, false, List, Option, Some, None, IsSomeAnd, nat_eq}
 use Rattle.std.specs.Ordering.{nat_cmp, ordering_then}
-use Rattle.std.specs.{declared.cmp.Ordering.Ordering, List.Sorted.IsStrictlySortedBy, Map.lookup, Map.keys_of, BTreeSet.BTreeSet, BTreeSet.contains}
+use Rattle.std.specs.declared.cmp.Ordering.{Ordering}
+use Rattle.std.specs.List.Sorted.{IsStrictlySortedBy}
+use Rattle.std.specs.Map.{lookup, keys_of}
+use Rattle.std.specs.BTreeSet.{BTreeSet, contains}
 use Rattle.rx_time.specs.declared.work.Work.{Work}
 
 -- the order of the agenda: by due time, then by ticket

@@ -2,7 +2,8 @@
 -- scheduled, which is empty once that was taken out.
 use Rattle.std.specs.Prelude.{◌≡◌, ℕ, ◌<◌, ◌≤◌, Bool, false, List, [], ◌∷◌, Option, Some, option_map, filter_map, is_none}
 use Rattle.std.specs.List.{AllPairs}
-use Rattle.rx_time.specs.declared.{work.Work.Work, run.Slot.Slot}
+use Rattle.rx_time.specs.declared.work.Work.{Work}
+use Rattle.rx_time.specs.declared.run.Slot.{Slot}
 
 module _ {T : Type 0} where
   -- the slot of a ticket and its work

@@ -1,7 +1,10 @@
 -- What a contract sees of a timeline, and which of its entries comes next. A virtual-time scheduler does its
 -- work in the order of the due times, and work that is due at one time in the order in which it was scheduled.
 use Rattle.std.specs.Prelude.{◌≡◌, ℕ, ◌+◌, ◌<◌, ◌≤◌, max, List, [], ◌∷◌, ◌++◌, Option, Some, None, All, map, nat_eq, nat_le, if◌then◌else◌}
-use Rattle.std.specs.{Option.option_map, Map.lookup, Map.remove_entry, Map.keys_of, List.Sorted.IsStrictlySortedBy, Ordering.nat_cmp}
+use Rattle.std.specs.Option.{option_map}
+use Rattle.std.specs.Map.{lookup, remove_entry, keys_of}
+use Rattle.std.specs.List.Sorted.{IsStrictlySortedBy}
+use Rattle.std.specs.Ordering.{nat_cmp}
 use Rattle.rx_time.specs.declared.work.Work.{Work}
 
 -- the virtual time, how many tickets were given, and under its ticket each entry's work, in order of scheduling

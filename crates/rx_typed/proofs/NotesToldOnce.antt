@@ -3,8 +3,10 @@ use Rattle.rx_typed.proofs.Common.{◌≡◌, ℕ, ℤ, ◌+◌, ◌≤◌, Bool
 use Rattle.rx_typed.proofs.Common.{sym, ◌∙◌, arith, subst, cond, ◌==◌, append-nil, append_assoc, ltb-false, same_Some, map-append, Ghosts, Mail, Refusal, Key}
 use Rattle.rx_typed.proofs.Common.{shown, moments, notes, checkpoint_causes, State, IsPromised, Accepts, Answers, AnswersCheckpoint, goes_step, Token, RxMail}
 use Rattle.rx_typed.proofs.Common.{RxTaken, takes, AreTaken, none_taken, one_taken, AreMailsTaken, no_mail_taken, mail_taken, notes_left}
-use Rattle.std.proofs.{Common.suc, Common.zero, Common.rules, lemmas.List.drop_all, lemmas.List.drop_at, lemmas.List.drop-append-le}
-use Rattle.rx_event.{specs.declared.refusal.Refusal.TheVariants.MailLeft, proofs.Laws.MakingRemovesNothing.made_untold}
+use Rattle.std.proofs.Common.{suc, zero, rules}
+use Rattle.std.proofs.lemmas.List.{drop_all, drop_at, drop-append-le}
+use Rattle.rx_event.specs.declared.refusal.Refusal.TheVariants.{MailLeft}
+use Rattle.rx_event.proofs.Laws.MakingRemovesNothing.{made_untold}
 use Rattle.rx_register.proofs.Laws.NoCause.{no_cause}
 use Rattle.rx_book.specs.Requests.{Request, next_request, take_request}
 use Rattle.rx_book.specs.Courses.{LetsGo, none_let_go, next_let_go, Emits, none_emitted, next_emitted}

@@ -5,21 +5,39 @@
 -- A call of a book is what `rx_book` says of the call of the same name, by the same definitions.
 use Rattle.std.specs.Prelude.{◌≡◌, ◌≢◌, ℕ, ◌+◌, ◌&&◌, ℤ, List, Option, Some, None, Result, slice_get, [], length, true, if◌then◌else◌}
 use Rattle.rx_resource.specs.declared.Resource.{Ghosts}
-use Rattle.rx_event.specs.declared.{refusal.Refusal.Refusal, mail.Mail.Mail}
-use Rattle.rx_event.specs.{Kept.nothing_kept, Events.is_merging, Events.makes_resource, Resources.is_taken, Tree.at, Moments.owed, Notes.notes}
+use Rattle.rx_event.specs.declared.refusal.Refusal.{Refusal}
+use Rattle.rx_event.specs.declared.mail.Mail.{Mail}
+use Rattle.rx_event.specs.Kept.{nothing_kept}
+use Rattle.rx_event.specs.Events.{is_merging, makes_resource}
+use Rattle.rx_event.specs.Resources.{is_taken}
+use Rattle.rx_event.specs.Tree.{at}
+use Rattle.rx_event.specs.Moments.{owed}
+use Rattle.rx_event.specs.Notes.{notes}
 use Rattle.rx_event.specs.Totals.{open_count, held_count, waiting_count, lease_count, accepted_count, taken_count}
-use Rattle.rx_book.specs.{State.State, State.IsPromised, State.has_key, State.has_res_key, Requests.open_request, Requests.using_request}
-use Rattle.rx_book.specs.{Requests.hold_request, Courses.LetsGo, Courses.EmitsAll, Checkpoints.AnswersCheckpoint}
+use Rattle.rx_book.specs.State.{State, IsPromised, has_key, has_res_key}
+use Rattle.rx_book.specs.Requests.{open_request, using_request}
+use Rattle.rx_book.specs.Requests.{hold_request}
+use Rattle.rx_book.specs.Courses.{LetsGo, EmitsAll}
+use Rattle.rx_book.specs.Checkpoints.{AnswersCheckpoint}
 use Rattle.rx_note.specs.declared.note.Terminal.{Terminal}
-use Rattle.rx_event.specs.declared.event.{Kind.Kind, Mode.Mode}
-use Rattle.rx_book.specs.declared.{answer.At.At, ending.Emitted.Emitted}
+use Rattle.rx_event.specs.declared.event.Kind.{Kind}
+use Rattle.rx_event.specs.declared.event.Mode.{Mode}
+use Rattle.rx_book.specs.declared.answer.At.{At}
+use Rattle.rx_book.specs.declared.ending.Emitted.{Emitted}
 use Rattle.rx_book.specs.Requests.{next_request, end_request, dispose_request, abort_request, fail_request, decline_request}
 use Rattle.rx_book.specs.Requests.{apply_request, remove_request, lease_request, give_back_request, hub_request, connect_request, disconnect_request}
 use Rattle.rx_book.specs.Answers.{AnswersPlace, AnswersPlaceOrWant, AnswersWord, AnswersKey, AnswersResKey, AnswersLeaseKey}
 use Rattle.rx_book.specs.Answers.{AnswersOpened, AnswersOpenedUsing, AnswersHanded}
-use Rattle.rx_typed.specs.declared.{typed.Typed.Typed, token.Token.Token}
-use Rattle.rx_typed.specs.declared.shapes.{RxMail.RxMail, RxTaken.RxTaken, RxNode.RxNode, RxRes.RxRes, RxLease.RxLease, RxOpened.RxOpened}
-use Rattle.rx_typed.specs.declared.shapes.{RxUsing.RxUsing, RxCounts.RxCounts}
+use Rattle.rx_typed.specs.declared.typed.Typed.{Typed}
+use Rattle.rx_typed.specs.declared.token.Token.{Token}
+use Rattle.rx_typed.specs.declared.shapes.RxMail.{RxMail}
+use Rattle.rx_typed.specs.declared.shapes.RxTaken.{RxTaken}
+use Rattle.rx_typed.specs.declared.shapes.RxNode.{RxNode}
+use Rattle.rx_typed.specs.declared.shapes.RxRes.{RxRes}
+use Rattle.rx_typed.specs.declared.shapes.RxLease.{RxLease}
+use Rattle.rx_typed.specs.declared.shapes.RxOpened.{RxOpened}
+use Rattle.rx_typed.specs.declared.shapes.RxUsing.{RxUsing}
+use Rattle.rx_typed.specs.declared.shapes.RxCounts.{RxCounts}
 use Rattle.rx_typed.specs.Codes.{key_of, res_key_of, lease_key_of, mail_of, no_mail, no_taken, status_told, status_given_back}
 use Rattle.rx_typed.specs.Codes.{place_told, opened_told, refused_told, used_told, res_told, node_told, lease_told}
 use Rattle.rx_typed.specs.Tokens.{fresh}

@@ -1,17 +1,32 @@
 -- What the numbers of the calls stand for.
 use Rattle.std.specs.Prelude.{ℕ, pos, ◌==◌, Option, Some, None, option_map, Result, Ok, Err, if◌then◌else◌}
 use Rattle.std.specs.Option.{option_and_then}
-use Rattle.rx_note.specs.declared.note.{Terminal.Terminal, Terminal.TheVariants.Completed, Terminal.TheVariants.Error, Note.Note}
+use Rattle.rx_note.specs.declared.note.Terminal.{Terminal}
+use Rattle.rx_note.specs.declared.note.Terminal.TheVariants.{Completed, Error}
+use Rattle.rx_note.specs.declared.note.Note.{Note}
 use Rattle.rx_note.specs.declared.note.Note.TheVariants.{Next, Project, End}
-use Rattle.rx_event.specs.declared.{mail.Mail.Mail, refusal.Refusal.Refusal}
-use Rattle.rx_event.specs.declared.event.{Kind.Kind, Mode.Mode, Mode.TheVariants.Auto, Mode.TheVariants.Manual}
+use Rattle.rx_event.specs.declared.mail.Mail.{Mail}
+use Rattle.rx_event.specs.declared.refusal.Refusal.{Refusal}
+use Rattle.rx_event.specs.declared.event.Kind.{Kind}
+use Rattle.rx_event.specs.declared.event.Mode.{Mode}
+use Rattle.rx_event.specs.declared.event.Mode.TheVariants.{Auto, Manual}
 use Rattle.rx_event.specs.declared.event.Kind.TheVariants.{Leaf, Pass, Flat, Switch, Until, Sub}
 use Rattle.rx_event.specs.declared.refusal.Refusal.TheVariants.{NoMemory, Full, Gone, WrongKind, PlaceTaken, NothingOwed, NotRoot, NoHub, HubOrder}
 use Rattle.rx_event.specs.declared.refusal.Refusal.TheVariants.{Connected, NotConnected, NotFresh, NotHeld, HasChild, TooMany, NoLease, Leased, MailLeft}
-use Rattle.rx_book.specs.declared.key.{Key.Key, ResKey.ResKey, LeaseKey.LeaseKey}
-use Rattle.rx_book.specs.declared.answer.{At.At, Opened.Opened, OpenedUsing.OpenedUsing, Refused.Refused}
+use Rattle.rx_book.specs.declared.key.Key.{Key}
+use Rattle.rx_book.specs.declared.key.ResKey.{ResKey}
+use Rattle.rx_book.specs.declared.key.LeaseKey.{LeaseKey}
+use Rattle.rx_book.specs.declared.answer.At.{At}
+use Rattle.rx_book.specs.declared.answer.Opened.{Opened}
+use Rattle.rx_book.specs.declared.answer.OpenedUsing.{OpenedUsing}
+use Rattle.rx_book.specs.declared.answer.Refused.{Refused}
 use Rattle.rx_book.specs.declared.answer.At.TheVariants.{Root, Source, Inner, Notifier}
-use Rattle.rx_typed.specs.declared.shapes.{RxNode.RxNode, RxRes.RxRes, RxLease.RxLease, RxMail.RxMail, RxUsing.RxUsing, RxTaken.RxTaken}
+use Rattle.rx_typed.specs.declared.shapes.RxNode.{RxNode}
+use Rattle.rx_typed.specs.declared.shapes.RxRes.{RxRes}
+use Rattle.rx_typed.specs.declared.shapes.RxLease.{RxLease}
+use Rattle.rx_typed.specs.declared.shapes.RxMail.{RxMail}
+use Rattle.rx_typed.specs.declared.shapes.RxUsing.{RxUsing}
+use Rattle.rx_typed.specs.declared.shapes.RxTaken.{RxTaken}
 use Rattle.rx_typed.specs.declared.shapes.RxOpened.{RxOpened}
 
 -- each refusal has a status of its own

@@ -2,12 +2,24 @@
 use Rattle.std.specs.Prelude.{◌≡◌, ℕ, ℤ, ◌==◌, ◌++◌, ◌∷◌, List, [], Option, Some, None, map, take, drop, length, option_and_then, if◌then◌else◌}
 use Rattle.rx_resource.specs.declared.Resource.{Ghosts}
 use Rattle.rx_note.specs.declared.note.Terminal.{Terminal}
-use Rattle.rx_event.specs.declared.event.{Kind.Kind, Mode.Mode}
-use Rattle.rx_event.specs.{Resources.accepted_by, Notes.notes}
-use Rattle.rx_book.specs.{State.State, State.IsPromised, State.accepted_tag, State.is_kept, declared.answer.At.At}
-use Rattle.rx_typed.specs.{declared.token.Token.Token, Codes.mail_of, Calls.IsClosed, Calls.IsCheckpoint, Calls.IsTakenWhole, Drained.IsDrainedCall}
-use Rattle.rx_typed.specs.declared.shapes.{RxMail.RxMail, RxTaken.RxTaken, RxNode.RxNode, RxRes.RxRes, RxLease.RxLease, RxOpened.RxOpened}
-use Rattle.rx_typed.specs.declared.shapes.{RxUsing.RxUsing, RxDrained.RxDrained}
+use Rattle.rx_event.specs.declared.event.Kind.{Kind}
+use Rattle.rx_event.specs.declared.event.Mode.{Mode}
+use Rattle.rx_event.specs.Resources.{accepted_by}
+use Rattle.rx_event.specs.Notes.{notes}
+use Rattle.rx_book.specs.State.{State, IsPromised, accepted_tag, is_kept}
+use Rattle.rx_book.specs.declared.answer.At.{At}
+use Rattle.rx_typed.specs.declared.token.Token.{Token}
+use Rattle.rx_typed.specs.Codes.{mail_of}
+use Rattle.rx_typed.specs.Calls.{IsClosed, IsCheckpoint, IsTakenWhole}
+use Rattle.rx_typed.specs.Drained.{IsDrainedCall}
+use Rattle.rx_typed.specs.declared.shapes.RxMail.{RxMail}
+use Rattle.rx_typed.specs.declared.shapes.RxTaken.{RxTaken}
+use Rattle.rx_typed.specs.declared.shapes.RxNode.{RxNode}
+use Rattle.rx_typed.specs.declared.shapes.RxRes.{RxRes}
+use Rattle.rx_typed.specs.declared.shapes.RxLease.{RxLease}
+use Rattle.rx_typed.specs.declared.shapes.RxOpened.{RxOpened}
+use Rattle.rx_typed.specs.declared.shapes.RxUsing.{RxUsing}
+use Rattle.rx_typed.specs.declared.shapes.RxDrained.{RxDrained}
 use Rattle.rx_typed.specs.Calls.{new_book, IsNext, IsNextAll, IsEnd, IsAbort, IsFail, IsDecline, IsDispose, IsOpen, IsUsing, IsHold}
 use Rattle.rx_typed.specs.Calls.{IsHub, IsConnect, IsDisconnect, IsApply, IsRemove, IsLease, IsGiveBack, IsTaken, IsMailTaken}
 

@@ -3,8 +3,11 @@ use Rattle.std.specs.Prelude.{◌≡◌, ℕ, ◌<◌, ◌≤◌, ◌++◌, ◌�
 use Rattle.rx_resource.specs.declared.Resource.{Ghosts}
 use Rattle.rx_event.specs.Notes.{notes}
 use Rattle.rx_book.specs.State.{State, IsPromised}
-use Rattle.rx_typed.specs.{declared.token.Token.Token, Calls.IsMailTaken, Calls.IsTaken}
-use Rattle.rx_typed.specs.declared.shapes.{RxMail.RxMail, RxTaken.RxTaken, RxDrained.RxDrained}
+use Rattle.rx_typed.specs.declared.token.Token.{Token}
+use Rattle.rx_typed.specs.Calls.{IsMailTaken, IsTaken}
+use Rattle.rx_typed.specs.declared.shapes.RxMail.{RxMail}
+use Rattle.rx_typed.specs.declared.shapes.RxTaken.{RxTaken}
+use Rattle.rx_typed.specs.declared.shapes.RxDrained.{RxDrained}
 
 -- these notes were handed out, one after another
 pub data AreMailsTaken (s : State) : List RxMail → State → Type 0 where

@@ -1,7 +1,11 @@
 -- An event as the caller has it: what it is, and its parts by number.
 use Rattle.std.specs.Prelude.{◌≡◌, ℕ, pos, Some, None}
-use Rattle.rx_note.specs.declared.note.{Terminal.Terminal, Terminal.TheVariants.Completed, Terminal.TheVariants.Error}
-use Rattle.rx_event.specs.declared.event.{Place.Place, Kind.Kind, Mode.TheVariants.Auto, Mode.TheVariants.Manual, Event.Event}
+use Rattle.rx_note.specs.declared.note.Terminal.{Terminal}
+use Rattle.rx_note.specs.declared.note.Terminal.TheVariants.{Completed, Error}
+use Rattle.rx_event.specs.declared.event.Place.{Place}
+use Rattle.rx_event.specs.declared.event.Kind.{Kind}
+use Rattle.rx_event.specs.declared.event.Mode.TheVariants.{Auto, Manual}
+use Rattle.rx_event.specs.declared.event.Event.{Event}
 use Rattle.rx_event.specs.declared.event.Place.TheVariants.{Root, Source, Inner, Notifier}
 use Rattle.rx_event.specs.declared.event.Kind.TheVariants.{Leaf, Pass, Flat, Switch, Until, Sub}
 use Rattle.rx_event.specs.declared.event.Event.TheVariants.{Open, Hub, Connect, Accept, Use, Remove, Lease, Return, Item, Decline, End, Close, Take}

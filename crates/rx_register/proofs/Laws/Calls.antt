@@ -1,16 +1,22 @@
 -- All calls: their events may follow, and add what was counted.
 use Rattle.std.proofs.Common.{ℕ, Bool, List, ◌++◌, map, subst, sym, rules}
-use Rattle.rx_event.specs.{Kept.Kept, Lawful.MayFollow, Causes.added_by}
+use Rattle.rx_event.specs.Kept.{Kept}
+use Rattle.rx_event.specs.Lawful.{MayFollow}
+use Rattle.rx_event.specs.Causes.{added_by}
 use Rattle.rx_note.specs.declared.note.Terminal.TheVariants.{Error}
-use Rattle.rx_event.specs.declared.event.{Kind.TheVariants.Pass, Event.Event, Event.TheVariants.Open, Event.TheVariants.Close}
+use Rattle.rx_event.specs.declared.event.Kind.TheVariants.{Pass}
+use Rattle.rx_event.specs.declared.event.Event.{Event}
+use Rattle.rx_event.specs.declared.event.Event.TheVariants.{Open, Close}
 use Rattle.rx_event.specs.Calls.{Call, Opening, OpeningUsing, Holding, Applying, Removing, Leasing, GivingBack, Emitting, Ending, Aborting, Declining}
 use Rattle.rx_event.specs.Calls.{Failing, Disposing, Publishing, Connecting, Disconnecting, Taking, outside_of}
-use Rattle.rx_register.specs.{State.State, State.Writes, Claims.MayFollowInTurn, Claims.MayCall}
+use Rattle.rx_register.specs.State.{State, Writes}
+use Rattle.rx_register.specs.Claims.{MayFollowInTurn, MayCall}
 use Rattle.rx_register.specs.Paid.{IsPaid, HasRoomFor, Fits, notes_added}
 use Rattle.rx_register.proofs.Laws.Follow.{opening_follows, using_follows, accepting_follows, holding_follows, applying_follows, removing_follows}
 use Rattle.rx_register.proofs.Laws.Follow.{leasing_follows, returning_follows, emitting_follows, ending_follows, aborting_follows, declining_follows}
 use Rattle.rx_register.proofs.Laws.Follow.{failing_follows, disposing_follows, publishing_follows, connecting_follows, disconnecting_one}
-use Rattle.rx_register.proofs.Laws.{Follow.disconnecting_follows, Follow.taking_follows, Paid.call_pays}
+use Rattle.rx_register.proofs.Laws.Follow.{disconnecting_follows, taking_follows}
+use Rattle.rx_register.proofs.Laws.Paid.{call_pays}
 use Rattle.rx_register.proofs.Laws.Fits.{opening_fits, using_fits, holding_fits, applying_fits, removing_fits, leasing_fits, returning_fits, emitting_fits}
 use Rattle.rx_register.proofs.Laws.Fits.{ending_fits, declining_fits, closing_fits, publishing_fits, connecting_fits, taking_fits}
 

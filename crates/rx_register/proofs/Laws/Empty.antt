@@ -1,9 +1,14 @@
 -- A register with no events: nothing is left undone, and nothing has to be paid.
-use Rattle.std.proofs.{Common.◌≡◌, Common.ℕ, Common.true, Common.[], Common.refl, Common.arith, Common.rules, lemmas.Bool.both_ways}
-use Rattle.rx_event.specs.{Kept.Kept, declared.event.Event.Event, Tree.is_open, Totals.debt}
+use Rattle.std.proofs.Common.{◌≡◌, ℕ, true, [], refl, arith, rules}
+use Rattle.std.proofs.lemmas.Bool.{both_ways}
+use Rattle.rx_event.specs.Kept.{Kept}
+use Rattle.rx_event.specs.declared.event.Event.{Event}
+use Rattle.rx_event.specs.Tree.{is_open}
+use Rattle.rx_event.specs.Totals.{debt}
 use Rattle.rx_event.specs.Forced.{IsConnected, IsForced, IsDue, IsSettled, none_waits}
 use Rattle.rx_event.proofs.Laws.Openness.{is_open_past}
-use Rattle.rx_register.specs.{State.State, Paid.IsPaid}
+use Rattle.rx_register.specs.State.{State}
+use Rattle.rx_register.specs.Paid.{IsPaid}
 
 none_open : (n : ℕ) → is_open [] n ≡ true → ⊥
 none_open n o = both_ways _ (is_open_past [] n (omega arith)) o

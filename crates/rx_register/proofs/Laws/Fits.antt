@@ -2,18 +2,35 @@
 use Rattle.std.proofs.Common.{◌≡◌, ℕ, ℤ, ◌+◌, ◌*◌, ◌≤◌, Bool, true, false, List, [], ◌∷◌, ◌++◌, length}
 use Rattle.std.proofs.Common.{cond, refl, sym, ap, arith, length-append, append_assoc, rules}
 use Rattle.std.specs.List.{count_by}
-use Rattle.rx_event.specs.{Kept.Kept, declared.mail.Mail.Mail, Events.makes_node, Climb.stops, Moments.is_projection, Notes.notes, Notes.mail_of}
-use Rattle.rx_event.specs.{Totals.debt, Totals.open_count, Forced.IsConnected, Forced.IsSettled, Forced.none_waits, Allowed.IsAllowed}
-use Rattle.rx_event.specs.{Lawful.MayFollow, Lawful.IsLawful, Causes.end_at, Causes.forces_connect, Causes.nodes_opened}
+use Rattle.rx_event.specs.Kept.{Kept}
+use Rattle.rx_event.specs.declared.mail.Mail.{Mail}
+use Rattle.rx_event.specs.Events.{makes_node}
+use Rattle.rx_event.specs.Climb.{stops}
+use Rattle.rx_event.specs.Moments.{is_projection}
+use Rattle.rx_event.specs.Notes.{notes, mail_of}
+use Rattle.rx_event.specs.Totals.{debt, open_count}
+use Rattle.rx_event.specs.Forced.{IsConnected, IsSettled, none_waits}
+use Rattle.rx_event.specs.Allowed.{IsAllowed}
+use Rattle.rx_event.specs.Lawful.{MayFollow, IsLawful}
+use Rattle.rx_event.specs.Causes.{end_at, forces_connect, nodes_opened}
 use Rattle.rx_note.specs.declared.note.Terminal.{Terminal}
-use Rattle.rx_event.specs.declared.event.{Place.Place, Kind.Kind, Kind.TheVariants.Pass, Mode.Mode, Event.Event}
+use Rattle.rx_event.specs.declared.event.Place.{Place}
+use Rattle.rx_event.specs.declared.event.Kind.{Kind}
+use Rattle.rx_event.specs.declared.event.Kind.TheVariants.{Pass}
+use Rattle.rx_event.specs.declared.event.Mode.{Mode}
+use Rattle.rx_event.specs.declared.event.Event.{Event}
 use Rattle.rx_event.specs.declared.event.Event.TheVariants.{Open, Hub, Connect, Accept, Use, Remove, Lease, Return, Item, Decline, End, Close, Take}
-use Rattle.rx_event.proofs.Laws.{Counts.notes-push, Lawful.IsLawful-push, Lawful.may_end, Steps.may_close, Openness.shuts_none, Hubs.may_subscribe}
+use Rattle.rx_event.proofs.Laws.Counts.{notes-push}
+use Rattle.rx_event.proofs.Laws.Lawful.{IsLawful-push, may_end}
+use Rattle.rx_event.proofs.Laws.Steps.{may_close}
+use Rattle.rx_event.proofs.Laws.Openness.{shuts_none}
+use Rattle.rx_event.proofs.Laws.Hubs.{may_subscribe}
 use Rattle.rx_event.proofs.Laws.Totals.{open_count-push, open_count_made, open_count_falls-end, open_count_falls-close, is_open_new}
 use Rattle.rx_event.proofs.Laws.Debt.{debt-root, debt-source, debt-notifier, debt_no_rise-inner, debt-connect, debt-hub, debt-use, debt-accept, debt-remove}
 use Rattle.rx_event.proofs.Laws.Debt.{debt-lease, debt-return, debt-take, debt-item, debt-decline, debt_falls-end, debt_falls-close}
 use Rattle.rx_event.proofs.Laws.Waits.{kept_end, kept_close_allowed, kept_unsubscribed, settled_connected}
-use Rattle.rx_register.{specs.Paid.Fits, proofs.Laws.OpeningForcesConnection.opening_waits}
+use Rattle.rx_register.specs.Paid.{Fits}
+use Rattle.rx_register.proofs.Laws.OpeningForcesConnection.{opening_waits}
 
 -- one event after which no hub waits
 fits_one : (base : Kept) → (h : List Event) (e : Event) (events noted : ℕ) → IsConnected (h ++ e ∷ []) → debt base (h ++ e ∷ []) + 1 ≤ debt base h + events →

@@ -1,13 +1,29 @@
 -- Where no cause stands against a call in a settled history, the call's events may follow.
 use Rattle.std.proofs.Common.{◌≡◌, ℕ, ℤ, suc, ◌+◌, ◌<◌, ◌≤◌, Bool, true, false, List, [], ◌∷◌, ◌++◌, length, Option, Some}
 use Rattle.std.proofs.Common.{None, cond, refl, ap, subst, ◌∙◌, arith, inl, inr, ◌⊎◌, ◌==◌, nat_lt, length-append, get_or, rules}
-use Rattle.std.{proofs.Math.Bool.◌&&◌, specs.List.list_any}
+use Rattle.std.proofs.Math.Bool.{◌&&◌}
+use Rattle.std.specs.List.{list_any}
 use Rattle.std.proofs.lemmas.Bool.{cases_Bool, not-false, ltb-false, ltb-true, false≢true, both_ways, and_parts, eqb-true, eq-eqb}
-use Rattle.std.proofs.lemmas.List.{Folds.list_any_at, FromFn.length-range_with_len, FromFn.get_or-range_with_len, Sums.length-filter}
-use Rattle.rx_event.specs.{Kept.Kept, declared.refusal.Refusal.Refusal, Events.is_connect_of, Moments.owed, Resources.is_waiting, Climb.visits}
-use Rattle.rx_event.specs.{Climb.most_visits, Totals.open_count, Forced.IsConnectDue, Forced.IsSettled, Refusals.first_cause}
-use Rattle.rx_note.specs.declared.note.{Terminal.Terminal, Terminal.TheVariants.Error}
-use Rattle.rx_event.specs.declared.event.{Place.Place, Kind.Kind, Kind.TheVariants.Pass, Kind.TheVariants.Sub, Mode.Mode, Event.Event}
+use Rattle.std.proofs.lemmas.List.Folds.{list_any_at}
+use Rattle.std.proofs.lemmas.List.FromFn.{length-range_with_len, get_or-range_with_len}
+use Rattle.std.proofs.lemmas.List.Sums.{length-filter}
+use Rattle.rx_event.specs.Kept.{Kept}
+use Rattle.rx_event.specs.declared.refusal.Refusal.{Refusal}
+use Rattle.rx_event.specs.Events.{is_connect_of}
+use Rattle.rx_event.specs.Moments.{owed}
+use Rattle.rx_event.specs.Resources.{is_waiting}
+use Rattle.rx_event.specs.Climb.{visits}
+use Rattle.rx_event.specs.Climb.{most_visits}
+use Rattle.rx_event.specs.Totals.{open_count}
+use Rattle.rx_event.specs.Forced.{IsConnectDue, IsSettled}
+use Rattle.rx_event.specs.Refusals.{first_cause}
+use Rattle.rx_note.specs.declared.note.Terminal.{Terminal}
+use Rattle.rx_note.specs.declared.note.Terminal.TheVariants.{Error}
+use Rattle.rx_event.specs.declared.event.Place.{Place}
+use Rattle.rx_event.specs.declared.event.Kind.{Kind}
+use Rattle.rx_event.specs.declared.event.Kind.TheVariants.{Pass, Sub}
+use Rattle.rx_event.specs.declared.event.Mode.{Mode}
+use Rattle.rx_event.specs.declared.event.Event.{Event}
 use Rattle.rx_event.specs.declared.event.Place.TheVariants.{Root, Source, Inner, Notifier}
 use Rattle.rx_event.specs.declared.event.Event.TheVariants.{Open, Hub, Connect, Accept, Use, Remove, Lease, Return, Item, Decline, End, Close, Take}
 use Rattle.rx_event.specs.declared.refusal.Refusal.TheVariants.{Gone, WrongKind, PlaceTaken, NothingOwed, NotRoot, NoHub, HubOrder, Connected, NotConnected}
@@ -18,7 +34,10 @@ use Rattle.rx_event.specs.Allowed.{leased, returned, emitted, declined, leaf_end
 use Rattle.rx_event.specs.Lawful.{MayFollow, IsLawful, allowed, opened_with}
 use Rattle.rx_event.specs.Calls.{Opening, OpeningUsing, Holding, Applying, Removing, Leasing, GivingBack, Emitting}
 use Rattle.rx_event.specs.Calls.{Ending, Aborting, Declining, Failing, Disposing, Publishing, Connecting}
-use Rattle.rx_event.proofs.Laws.{Lists.first_passes, Places.slice_get_last, Openness.is_open_within, Totals.is_open_new}
+use Rattle.rx_event.proofs.Laws.Lists.{first_passes}
+use Rattle.rx_event.proofs.Laws.Places.{slice_get_last}
+use Rattle.rx_event.proofs.Laws.Openness.{is_open_within}
+use Rattle.rx_event.proofs.Laws.Totals.{is_open_new}
 use Rattle.rx_event.proofs.Laws.Hubs.{at_connect, one_open_connection}
 use Rattle.rx_event.specs.Causes.{causes, is_gone, is_wrong_place, is_taken_place, is_unowed_place, is_without_hub, is_out_of_order}
 use Rattle.rx_event.specs.Causes.{connects_up_to, nodes_opened, is_crowded, opening_causes, using_causes, disconnecting_causes}

@@ -1,7 +1,9 @@
 -- What is known where no cause stands against a call.
 use Rattle.std.proofs.Common.{◌≡◌, Bool, false, List, [], ◌∷◌, Some, None, cond, rules}
-use Rattle.std.{specs.List.AllByRecursion, proofs.lemmas.Option.none-some}
-use Rattle.rx_event.specs.{declared.refusal.Refusal.Refusal, Refusals.first_of_these, Refusals.first_cause}
+use Rattle.std.specs.List.{AllByRecursion}
+use Rattle.std.proofs.lemmas.Option.{none-some}
+use Rattle.rx_event.specs.declared.refusal.Refusal.{Refusal}
+use Rattle.rx_event.specs.Refusals.{first_of_these, first_cause}
 
 none_of : (stands : Refusal → Bool) (whys : List Refusal) → first_of_these stands whys ≡ None → AllByRecursion (λ why. stands why ≡ false) whys
 none_of stands [] none = tt

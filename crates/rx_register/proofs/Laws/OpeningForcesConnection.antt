@@ -3,13 +3,24 @@ use Rattle.std.proofs.Common.{◌≡◌, ℕ, Bool, true, false, List, [], ◌�
 use Rattle.std.proofs.Common.{sym, ap, subst, ◌∙◌, arith, inl, inr, ◌⊎◌, length-append, nat_lt, rules}
 use Rattle.std.proofs.Math.Bool.{◌&&◌}
 use Rattle.std.proofs.lemmas.Bool.{cases_Bool, not_from_false, false≢true, and_parts, and_from, ltb-false}
-use Rattle.rx_event.specs.{Kept.Kept, Events.makes_hub, Events.is_auto_hub, Events.is_connect_of, Tree.at, Tree.places, Tree.is_open, Tree.shuts}
-use Rattle.rx_event.specs.{Tree.open_connections, Allowed.IsHubbed, Lawful.IsLawful, Causes.has_connection, Causes.forces_connect}
-use Rattle.rx_event.specs.declared.event.{Place.Place, Kind.Kind, Event.Event, Event.TheVariants.Open}
+use Rattle.rx_event.specs.Kept.{Kept}
+use Rattle.rx_event.specs.Events.{makes_hub, is_auto_hub, is_connect_of}
+use Rattle.rx_event.specs.Tree.{at, places, is_open, shuts}
+use Rattle.rx_event.specs.Tree.{open_connections}
+use Rattle.rx_event.specs.Allowed.{IsHubbed}
+use Rattle.rx_event.specs.Lawful.{IsLawful}
+use Rattle.rx_event.specs.Causes.{has_connection, forces_connect}
+use Rattle.rx_event.specs.declared.event.Place.{Place}
+use Rattle.rx_event.specs.declared.event.Kind.{Kind}
+use Rattle.rx_event.specs.declared.event.Event.{Event}
+use Rattle.rx_event.specs.declared.event.Event.TheVariants.{Open}
 use Rattle.rx_event.specs.declared.event.Kind.TheVariants.{Leaf, Pass, Flat, Switch, Until, Sub}
 use Rattle.rx_event.specs.Forced.{IsConnectDue, IsSettled, MayWait, none_waits, one_waits}
-use Rattle.rx_event.proofs.Laws.{Lists.first_passes, Lists.filter_nonempty, Places.at-append, Places.at_within, Openness.is_open-push}
-use Rattle.rx_event.proofs.Laws.{Hubs.at_connect, Waits.alone, Waits.kept_unsubscribed, Waits.kept_subscribed, Waits.settled_connected}
+use Rattle.rx_event.proofs.Laws.Lists.{first_passes, filter_nonempty}
+use Rattle.rx_event.proofs.Laws.Places.{at-append, at_within}
+use Rattle.rx_event.proofs.Laws.Openness.{is_open-push}
+use Rattle.rx_event.proofs.Laws.Hubs.{at_connect}
+use Rattle.rx_event.proofs.Laws.Waits.{alone, kept_unsubscribed, kept_subscribed, settled_connected}
 
 no_member : {X : Type 0} (xs : List X) → nat_lt 0 (length xs) ≡ false → xs ≡ []
 no_member [] none = refl

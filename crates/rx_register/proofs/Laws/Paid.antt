@@ -1,14 +1,27 @@
 -- Room is kept: from a call to what it forces, and from each forced event to the next.
 use Rattle.std.proofs.Common.{◌≡◌, ℕ, ◌+◌, ◌*◌, ◌<◌, ◌≤◌, false, List, [], ◌∷◌, ◌++◌, length, refl, sym, ap, subst, ◌∙◌, arith, length-append, append_assoc}
-use Rattle.std.proofs.{lemmas.Bool.false≢true, lemmas.Bool.ltb-false, Common.rules}
-use Rattle.rx_event.specs.{Kept.Kept, declared.mail.Mail.Mail, Events.is_connect, Notes.notes, Notes.mail_of, Totals.debt, Totals.open_count}
-use Rattle.rx_event.specs.{Lawful.forced, Lawful.MayFollow, Lawful.IsLawful, Calls.Call, Causes.added_by, Causes.is_over}
+use Rattle.std.proofs.lemmas.Bool.{false≢true, ltb-false}
+use Rattle.std.proofs.Common.{rules}
+use Rattle.rx_event.specs.Kept.{Kept}
+use Rattle.rx_event.specs.declared.mail.Mail.{Mail}
+use Rattle.rx_event.specs.Events.{is_connect}
+use Rattle.rx_event.specs.Notes.{notes, mail_of}
+use Rattle.rx_event.specs.Totals.{debt, open_count}
+use Rattle.rx_event.specs.Lawful.{forced, MayFollow, IsLawful}
+use Rattle.rx_event.specs.Calls.{Call}
+use Rattle.rx_event.specs.Causes.{added_by, is_over}
 use Rattle.rx_note.specs.declared.note.Terminal.{Terminal}
-use Rattle.rx_event.specs.declared.event.{Event.Event, Event.TheVariants.End, Event.TheVariants.Close, Event.TheVariants.Connect}
+use Rattle.rx_event.specs.declared.event.Event.{Event}
+use Rattle.rx_event.specs.declared.event.Event.TheVariants.{End, Close, Connect}
 use Rattle.rx_event.specs.Forced.{IsConnectDue, IsForced, IsDue, MayWait, connecting, due, none_waits, one_waits}
-use Rattle.rx_event.proofs.Laws.{Counts.notes-push, Lawful.may_end, Steps.forced_kind, Totals.open_count_made, Totals.open_count_falls-end}
-use Rattle.rx_event.proofs.Laws.{Debt.debt-connect, Debt.debt_falls-end, Debt.debt_falls-close, Waits.forced_connected, Waits.forced_closes}
-use Rattle.rx_register.specs.{State.State, State.Writes, Paid.IsPaid, Paid.HasRoomFor, Paid.Fits, Paid.notes_added}
+use Rattle.rx_event.proofs.Laws.Counts.{notes-push}
+use Rattle.rx_event.proofs.Laws.Lawful.{may_end}
+use Rattle.rx_event.proofs.Laws.Steps.{forced_kind}
+use Rattle.rx_event.proofs.Laws.Totals.{open_count_made, open_count_falls-end}
+use Rattle.rx_event.proofs.Laws.Debt.{debt-connect, debt_falls-end, debt_falls-close}
+use Rattle.rx_event.proofs.Laws.Waits.{forced_connected, forced_closes}
+use Rattle.rx_register.specs.State.{State, Writes}
+use Rattle.rx_register.specs.Paid.{IsPaid, HasRoomFor, Fits, notes_added}
 use Rattle.rx_register.proofs.Laws.Fits.{told_by_end}
 
 -- writing -----------------------------------------------------------------------------------------

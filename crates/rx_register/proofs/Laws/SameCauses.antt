@@ -1,20 +1,33 @@
 -- The same causes stand against a call in two histories that are the same but for their numbers, but for the limit of events.
 use Rattle.std.proofs.Common.{◌≡◌, ℕ, ◌+◌, Bool, true, false, List, [], ◌∷◌, length, Option, Some, None}
 use Rattle.std.proofs.Common.{cond, slice_get, refl, sym, ap, ◌∙◌, inl, inr, ◌⊎◌, ◌==◌, nat_lt, rules}
-use Rattle.std.proofs.{Math.Bool.not, Math.Bool.◌&&◌, lemmas.List.length-map}
+use Rattle.std.proofs.Math.Bool.{not, ◌&&◌}
+use Rattle.std.proofs.lemmas.List.{length-map}
 use Rattle.std.specs.List.{list_any}
 use Rattle.std.proofs.lemmas.Bool.{false≢true, both_ways, cases_Bool, eq-eqb, false_from_ne_true, not-true, lt-ltb}
-use Rattle.rx_event.specs.{Kept.Kept, declared.refusal.Refusal.Refusal, Events.makes_node, Events.makes_hub, Events.makes_resource}
-use Rattle.rx_event.specs.{Events.makes_lease, Tree.at, Tree.ancestors, Tree.is_open, Tree.open_connections, Allowed.most_nodes, Allowed.most_hubs}
-use Rattle.rx_event.specs.{Allowed.IsInOrderAt, Climb.most_visits, Refusals.first_of_these, Refusals.first_cause, Claims.Seen.CallersSeeTheSame}
-use Rattle.rx_event.specs.declared.event.{Place.Place, Kind.Kind, Kind.TheVariants.Sub, Event.Event, Event.TheVariants.Connect}
+use Rattle.rx_event.specs.Kept.{Kept}
+use Rattle.rx_event.specs.declared.refusal.Refusal.{Refusal}
+use Rattle.rx_event.specs.Events.{makes_node, makes_hub, makes_resource}
+use Rattle.rx_event.specs.Events.{makes_lease}
+use Rattle.rx_event.specs.Tree.{at, ancestors, is_open, open_connections}
+use Rattle.rx_event.specs.Allowed.{most_nodes, most_hubs}
+use Rattle.rx_event.specs.Allowed.{IsInOrderAt}
+use Rattle.rx_event.specs.Climb.{most_visits}
+use Rattle.rx_event.specs.Refusals.{first_of_these, first_cause}
+use Rattle.rx_event.specs.Claims.Seen.{CallersSeeTheSame}
+use Rattle.rx_event.specs.declared.event.Place.{Place}
+use Rattle.rx_event.specs.declared.event.Kind.{Kind}
+use Rattle.rx_event.specs.declared.event.Kind.TheVariants.{Sub}
+use Rattle.rx_event.specs.declared.event.Event.{Event}
+use Rattle.rx_event.specs.declared.event.Event.TheVariants.{Connect}
 use Rattle.rx_event.specs.declared.event.Place.TheVariants.{Root, Source, Inner, Notifier}
 use Rattle.rx_event.specs.declared.refusal.Refusal.TheVariants.{Full, Gone, WrongKind, PlaceTaken, NothingOwed, NotRoot, NoHub, HubOrder, Connected}
 use Rattle.rx_event.specs.declared.refusal.Refusal.TheVariants.{NotConnected, NoLease, NotHeld, Leased, HasChild, TooMany}
 use Rattle.rx_event.specs.Calls.{Opening, OpeningUsing, Holding, Applying, Removing, Leasing, GivingBack, Emitting, Ending, Aborting, Declining, Failing}
 use Rattle.rx_event.specs.Calls.{Disposing, Publishing, Connecting, Disconnecting, Taking, Call}
 use Rattle.rx_event.specs.Renumbered.{place_by, kind_by, call_by, AreSameBy}
-use Rattle.rx_event.proofs.Laws.{Searches.list_any_found, Searches.list_any_holds, ReadSeen.callers_see}
+use Rattle.rx_event.proofs.Laws.Searches.{list_any_found, list_any_holds}
+use Rattle.rx_event.proofs.Laws.ReadSeen.{callers_see}
 use Rattle.rx_event.specs.Causes.{has_connection, is_without_hub, forces_connect, connects_up_to, is_out_of_order, is_gone, is_wrong_place, is_taken_place}
 use Rattle.rx_event.specs.Causes.{is_unowed_place, is_crowded, nodes_opened, opening_causes, using_causes, causes, unlimited}
 use Rattle.rx_register.proofs.Laws.Follow.{in_order}

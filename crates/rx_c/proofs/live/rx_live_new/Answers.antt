@@ -1,5 +1,6 @@
 use Rattle.std.proofs.Common.{◌∙◌, refl, ap, Some}
-use Rattle.rx_c.specs.{Calls.makes, Stages.stage}
+use Rattle.rx_c.specs.Calls.{makes}
+use Rattle.rx_c.specs.Stages.{stage}
 use Rattle.rx_c.proofs.live.rx_live_new.Goals as goal
 
 pub returns-in-Ok : goal.returns-in-Ok

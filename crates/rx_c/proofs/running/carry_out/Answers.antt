@@ -1,4 +1,5 @@
-use Rattle.std.{proofs.Common.rules, proofs.Common.arith, specs.Prelude.IsErrOf}
+use Rattle.std.proofs.Common.{rules, arith}
+use Rattle.std.specs.Prelude.{IsErrOf}
 use Rattle.rx_device.specs.declared.fault.ScriptError.TheVariants.{Shape}
 use Rattle.rx_c.proofs.NoOutput.{unwritten}
 use Rattle.rx_c.proofs.running.carry_out.Goals as goal

@@ -1,4 +1,5 @@
-use Rattle.rx_c.proofs.{OutcomeIsAnswer.answered_through, NoOutput.no_output}
+use Rattle.rx_c.proofs.OutcomeIsAnswer.{answered_through}
+use Rattle.rx_c.proofs.NoOutput.{no_output}
 use Rattle.rx_c.proofs.running.run_in.Goals as goal
 
 pub returns : goal.returns

@@ -1,5 +1,6 @@
 use Rattle.std.proofs.Common.{◌≡◌, drop, length}
-use Rattle.json.specs.{Tree.json_tokens, Tree.items_tokens, Tree.members_tokens, Value.value_view, Value.items_view, Value.members_view}
+use Rattle.json.specs.Tree.{json_tokens, items_tokens, members_tokens}
+use Rattle.json.specs.Value.{value_view, items_view, members_view}
 use Rattle.rx_device.specs.Part.{items_have_values, members_have_values}
 use Rattle.rx_device.proofs.document.+values.Given as goal
 

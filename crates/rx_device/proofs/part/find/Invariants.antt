@@ -1,6 +1,7 @@
 -- The members that are left have the name where all have it.
 use Rattle.std.proofs.Common.{◌≡◌, ◌≤◌, length, take}
-use Rattle.json.specs.{Find.get_member, Value.members_view}
+use Rattle.json.specs.Find.{get_member}
+use Rattle.json.specs.Value.{members_view}
 use Rattle.rx_device.proofs.part.find.Given as goal
 
 abbrev pub invariant-loop-left : goal.invariant-loop-left

@@ -1,5 +1,6 @@
 use Rattle.std.proofs.Common.{◌≡◌, ◌+◌, ◌++◌, min, length, take, arith, length-append, length-take}
-use Rattle.std.proofs.{lemmas.Grind.common_steps, KnownBytes.Consumes-trans}
+use Rattle.std.proofs.lemmas.Grind.{common_steps}
+use Rattle.std.proofs.KnownBytes.{Consumes-trans}
 use Rattle.rx_device.proofs.reading.read_all.Goals as goal
 
 pub returns-then-count-len-clause-syntax : goal.returns-then-count-len-clause-syntax

@@ -1,5 +1,6 @@
 -- What was read so far is gone from the reader, is within the limit, took a turn each time, and no turn failed.
-use Rattle.std.{proofs.Common.◌≡◌, proofs.Common.◌≤◌, proofs.Common.false, proofs.Common.vec_len, specs.Io.KnownBytes.Consumes}
+use Rattle.std.proofs.Common.{◌≡◌, ◌≤◌, false, vec_len}
+use Rattle.std.specs.Io.KnownBytes.{Consumes}
 use Rattle.rx_device.specs.Device.{device_of, turns_of, has_failed, KeepsDevice}
 use Rattle.rx_device.proofs.reading.read_all.Given as goal
 

@@ -1,4 +1,5 @@
-use Rattle.std.proofs.{lemmas.Grind.common_steps, Common.rules}
+use Rattle.std.proofs.lemmas.Grind.{common_steps}
+use Rattle.std.proofs.Common.{rules}
 use Rattle.rx_device.proofs.OneMoreWrite.{written_more, moves_on}
 use Rattle.rx_device.proofs.writing.write_text.Goals as goal
 

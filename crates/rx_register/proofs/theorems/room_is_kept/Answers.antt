@@ -1,4 +1,5 @@
-use Rattle.rx_register.proofs.Laws.{Calls.called_paid, Paid.forced_pays}
+use Rattle.rx_register.proofs.Laws.Calls.{called_paid}
+use Rattle.rx_register.proofs.Laws.Paid.{forced_pays}
 use Rattle.rx_register.proofs.theorems.room_is_kept.Goals as goal
 
 pub returns : goal.returns

@@ -1,5 +1,6 @@
 -- The entries stay, in their order.
-use Rattle.std.{proofs.Common.◌≡◌, proofs.Common.length, specs.List.AllPairs}
+use Rattle.std.proofs.Common.{◌≡◌, length}
+use Rattle.std.specs.List.{AllPairs}
 use Rattle.rx_time.specs.Runs.{entries_of, IsBefore}
 use Rattle.rx_time.proofs.run.pass_empty.Given as goal
 

@@ -1,4 +1,5 @@
-use Rattle.std.proofs.{Common.rules, lemmas.List.Sorted.answers_always}
+use Rattle.std.proofs.Common.{rules}
+use Rattle.std.proofs.lemmas.List.Sorted.{answers_always}
 use Rattle.rx_time.proofs.SlotsInOrder.{searched}
 use Rattle.rx_time.proofs.run.place_of.Goals as goal
 

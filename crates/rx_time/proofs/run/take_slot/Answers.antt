@@ -1,5 +1,6 @@
 use Rattle.std.proofs.Common.{ap, rules}
-use Rattle.rx_time.{specs.Runs.entries_of, proofs.SlotsInOrder.pairs_held}
+use Rattle.rx_time.specs.Runs.{entries_of}
+use Rattle.rx_time.proofs.SlotsInOrder.{pairs_held}
 use Rattle.rx_time.proofs.run.take_slot.Goals as goal
 
 pub returns-clause-others : goal.returns-clause-others

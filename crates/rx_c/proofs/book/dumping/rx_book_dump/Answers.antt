@@ -1,5 +1,6 @@
 use Rattle.std.proofs.Common.{refl, ap, subst}
-use Rattle.rx_typed.specs.{declared.typed.Typed.Typed, Calls.calls, Calls.book_of}
+use Rattle.rx_typed.specs.declared.typed.Typed.{Typed}
+use Rattle.rx_typed.specs.Calls.{calls, book_of}
 use Rattle.rx_c.specs.Dumped.{IsHandedOver}
 use Rattle.rx_c.proofs.book.dumping.rx_book_dump.Goals as goal
 

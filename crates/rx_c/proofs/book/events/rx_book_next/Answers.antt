@@ -1,4 +1,5 @@
-use Rattle.std.proofs.{Common.w64, lemmas.Int.to_z-of_z}
+use Rattle.std.proofs.Common.{w64}
+use Rattle.std.proofs.lemmas.Int.{to_z-of_z}
 use Rattle.rx_c.proofs.CallOnBook.{called}
 use Rattle.rx_c.proofs.book.events.rx_book_next.Goals as goal
 

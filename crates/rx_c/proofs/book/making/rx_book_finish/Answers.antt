@@ -1,5 +1,6 @@
 use Rattle.std.proofs.Common.{◌∙◌, refl, sym, ap, subst}
-use Rattle.rx_typed.specs.{declared.typed.Typed.Typed, Calls.IsTakenWhole, Calls.IsUntaken, Calls.finishes, Calls.is_untaken, Calls.book_of}
+use Rattle.rx_typed.specs.declared.typed.Typed.{Typed}
+use Rattle.rx_typed.specs.Calls.{IsTakenWhole, IsUntaken, finishes, is_untaken, book_of}
 use Rattle.rx_c.proofs.book.making.rx_book_finish.Goals as goal
 
 pub returns-then-not-is_taken_whole : goal.returns-then-not-is_taken_whole

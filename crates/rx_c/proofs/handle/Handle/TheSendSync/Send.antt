@@ -3,7 +3,8 @@ use denote.Builtin.{RawPtr}
 use denote.Param.Send.{IsSend, owning_send, sendable}
 use Rattle.rx_c.specs.contracts.handle.Handle.{the_row, the_type}
 use Rattle.rx_c.specs.contracts.kept.Kept as kept
-use Rattle.rx_c.proofs.{kept.Kept.TheSendSync.the_send, OwnedMayBeSent.handle_owns-Keyless}
+use Rattle.rx_c.proofs.kept.Kept.TheSendSync.{the_send}
+use Rattle.rx_c.proofs.OwnedMayBeSent.{handle_owns-Keyless}
 
 pub send : IsSend the_row
 send =

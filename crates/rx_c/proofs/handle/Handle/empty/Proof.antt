@@ -2,9 +2,11 @@
 use Rattle.rx_c.proofs.Common.{◌≡◌, [], ◌∷◌, Option, None, refl, Val, vnull, SProp, emp, ftrue, ‵, raw, ◌⊛◌, ◌$◌, ◌∵◌, !, qed, by, keep, split, fpack, use0}
 use Rattle.rx_c.proofs.Common.{lit, no_more, and_then, returns, enter, alloc_all, pass_all, free_all, look_at, sets, agg, fact, fact_i, tables, owns}
 use Rattle.rx_c.proofs.Common.{null_ptr, types_at, nothing, alive, walk_of, proved_at, leaves}
-use Rattle.rx_c.proofs.{Values.alone, Values.alone_good, Values.handle_in, handle.Handle.empty.Statement.statement}
+use Rattle.rx_c.proofs.Values.{alone, alone_good, handle_in}
+use Rattle.rx_c.proofs.handle.Handle.empty.Statement.{statement}
 use Rattle.rx_c.specs.contracts.kept.Kept as kept
-use Rattle.rx_c.specs.contracts.handle.Handle.{empty.ended, empty.clauses, empty.Key.name as #self}
+use Rattle.rx_c.specs.contracts.handle.Handle.empty.{ended, clauses}
+use Rattle.rx_c.specs.contracts.handle.Handle.empty.Key.{name as #self}
 use Rattle.rx_c.proofs.handle.Handle.empty.Code as code
 
 pub empty_spec : {M : Type 1} → statement M

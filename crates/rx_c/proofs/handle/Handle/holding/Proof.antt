@@ -7,7 +7,8 @@ use Rattle.std.specs.contracts.alloc.Global as heap
 use Rattle.std.proofs.alloc.Global.TheLaws as heap_laws
 use Rattle.rx_c.proofs.Values.{both, alone, alone_good, Loose, loose_good, loose_out, handle_in}
 use Rattle.rx_c.specs.contracts.kept.Kept as kept
-use Rattle.rx_c.specs.contracts.handle.Handle.{holding.ended, holding.clauses, holding.Key.name as #self}
+use Rattle.rx_c.specs.contracts.handle.Handle.holding.{ended, clauses}
+use Rattle.rx_c.specs.contracts.handle.Handle.holding.Key.{name as #self}
 use Rattle.rx_c.proofs.handle.Handle.holding.Statement.{statement}
 use Rattle.rx_c.proofs.handle.Handle.holding.Code as code
 

@@ -10,7 +10,8 @@ use Rattle.std.specs.contracts.alloc.Global as heap
 use Rattle.std.proofs.alloc.Global.TheLaws as heap_laws
 use Rattle.rx_c.proofs.Values.{both, alone, alone_good, al, Loose, loose_good, loose_in, Handle, handle_out, either}
 use Rattle.rx_c.specs.contracts.kept.Kept as kept
-use Rattle.rx_c.specs.contracts.handle.Handle.{into_loose.ended, into_loose.clauses, into_loose.Key.name as #self}
+use Rattle.rx_c.specs.contracts.handle.Handle.into_loose.{ended, clauses}
+use Rattle.rx_c.specs.contracts.handle.Handle.into_loose.Key.{name as #self}
 use Rattle.rx_c.proofs.handle.Handle.into_loose.Statement.{statement}
 use Rattle.rx_c.proofs.handle.Handle.into_loose.Code as code
 

@@ -1,6 +1,10 @@
-use Rattle.std.{proofs.Common.refl, proofs.Common.sym, proofs.Common.ap, specs.String.string_bytes}
-use Rattle.rx_live.specs.{Session.Session, Live.session}
-use Rattle.rx_c.specs.{Answers.IsGiven, Answers.IsTooLong, Calls.ends, Calls.ends_on, Calls.has_mail, Calls.is_starved, Stages.stage_by}
+use Rattle.std.proofs.Common.{refl, sym, ap}
+use Rattle.std.specs.String.{string_bytes}
+use Rattle.rx_live.specs.Session.{Session}
+use Rattle.rx_live.specs.Live.{session}
+use Rattle.rx_c.specs.Answers.{IsGiven, IsTooLong}
+use Rattle.rx_c.specs.Calls.{ends, ends_on, has_mail, is_starved}
+use Rattle.rx_c.specs.Stages.{stage_by}
 use Rattle.rx_c.proofs.WhatWaits.{has_unread, none_unread}
 use Rattle.rx_c.proofs.kept.Kept.end.Goals as goal
 

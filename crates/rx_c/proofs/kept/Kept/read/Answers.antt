@@ -1,6 +1,8 @@
-use Rattle.std.{proofs.Common.refl, proofs.Common.ap, specs.String.string_bytes}
+use Rattle.std.proofs.Common.{refl, ap}
+use Rattle.std.specs.String.{string_bytes}
 use Rattle.rx_live.specs.Live.{session}
-use Rattle.rx_c.specs.{Answers.IsGiven, Answers.IsTooLong, Calls.reads, Calls.reads_last, Calls.is_long, Calls.is_idle}
+use Rattle.rx_c.specs.Answers.{IsGiven, IsTooLong}
+use Rattle.rx_c.specs.Calls.{reads, reads_last, is_long, is_idle}
 use Rattle.rx_c.specs.Stages.{stage_of, stage_by, answer_waits, last_waits, Waits}
 use Rattle.rx_c.proofs.kept.Kept.read.Goals as goal
 

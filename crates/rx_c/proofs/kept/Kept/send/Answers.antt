@@ -1,6 +1,8 @@
-use Rattle.std.{proofs.Common.refl, proofs.Common.sym, specs.String.string_bytes}
+use Rattle.std.proofs.Common.{refl, sym}
+use Rattle.std.specs.String.{string_bytes}
 use Rattle.rx_live.specs.Live.{session}
-use Rattle.rx_c.specs.{Answers.IsGiven, Answers.IsTooLong, Calls.sends, Calls.sends_on, Calls.has_mail, Calls.is_starved}
+use Rattle.rx_c.specs.Answers.{IsGiven, IsTooLong}
+use Rattle.rx_c.specs.Calls.{sends, sends_on, has_mail, is_starved}
 use Rattle.rx_c.proofs.WhatWaits.{has_unread, none_unread}
 use Rattle.rx_c.proofs.kept.Kept.send.Goals as goal
 

@@ -4,7 +4,8 @@ use Rattle.rx_c.proofs.Common.{raw, ◌⊛◌, some, later, at_ret, ◌$◌, ◌
 use Rattle.rx_c.proofs.Common.{use1, await, rewrite, feq_i, stop, fld, of_opd, no_more, and_then, first, exec, returns, enter, alloc_all, pass_all, free_all}
 use Rattle.rx_c.proofs.Common.{look_at, get, get_in, sets, env, sub, whole, fact, tables, no, RattleType, owns, types_at, plain, block_ptr, nothing, only}
 use Rattle.rx_c.proofs.Common.{param, layout, bounded, param_laws, triple_of, framed, Stays, stay_dropped, walk_of, Goes-blank, after, Good, box_out, box_in}
-use Rattle.rx_c.proofs.{Common.proved_at, Common.leaves, loose.Loose.into_box.Statement.statement}
+use Rattle.rx_c.proofs.Common.{proved_at, leaves}
+use Rattle.rx_c.proofs.loose.Loose.into_box.Statement.{statement}
 use types.Run.{blocks}
 use types.ByLocal.{lands_last}
 use contract.BorrowLft.{◌⊑◌}
@@ -14,7 +15,8 @@ use Rattle.std.proofs.BoxSteps.Form as box
 use Rattle.rx_c.proofs.Values.{both, Loose, loose_good, loose_out}
 use Rattle.std.specs.contracts.boxed.Box.from_raw as callee
 use Rattle.std.proofs.boxed.Box.from_raw.Met.{met}
-use Rattle.rx_c.specs.contracts.loose.Loose.{into_box.ended, into_box.clauses, into_box.Key.name as #self}
+use Rattle.rx_c.specs.contracts.loose.Loose.into_box.{ended, clauses}
+use Rattle.rx_c.specs.contracts.loose.Loose.into_box.Key.{name as #self}
 use Rattle.rx_c.proofs.loose.Loose.into_box.Code as code
 
 pub into_box_spec : {M : Type 1} → statement M

@@ -5,7 +5,9 @@ use Rattle.rx_c.proofs.Common.{split3, join, fsplit, fjoin, fpick, pick, suffice
 use Rattle.rx_c.proofs.Common.{returns, enter, alloc_all, pass_all, free_all, look_at, get, get_in, sets, agg, sub, whole, fact, fact_i, tables, no}
 use Rattle.rx_c.proofs.Common.{RattleType, owns, types_at, plain, RawPtr, Ptr, block_ptr, null_ptr, ptr_val, in_a_block, nothing, only, param, layout}
 use Rattle.rx_c.proofs.Common.{bounded, param_laws, triple_of, framed, Stays, stay_dropped, walk_of, Goes-blank, handle_tells, box_owns, box_out, box_in}
-use Rattle.rx_c.proofs.{Common.proved_at, Common.leaves, Values.both, Values.loose_good, Values.loose_in, loose.Loose.of.Statement.statement}
+use Rattle.rx_c.proofs.Common.{proved_at, leaves}
+use Rattle.rx_c.proofs.Values.{both, loose_good, loose_in}
+use Rattle.rx_c.proofs.loose.Loose.of.Statement.{statement}
 use mir.Raw.{raw as bare}
 use types.ByLocal.{lands_as}
 use denote.Steps.{heard}
@@ -14,7 +16,8 @@ use denote.Triple.Call.{calls_at}
 use Rattle.std.proofs.BoxSteps.Form as box
 use Rattle.std.specs.contracts.boxed.Box.into_raw_with_allocator as callee
 use Rattle.std.proofs.boxed.Box.into_raw_with_allocator.Met.{met}
-use Rattle.rx_c.specs.contracts.loose.Loose.{of.ended, of.clauses, of.Key.name as #self}
+use Rattle.rx_c.specs.contracts.loose.Loose.of.{ended, clauses}
+use Rattle.rx_c.specs.contracts.loose.Loose.of.Key.{name as #self}
 use Rattle.rx_c.proofs.loose.Loose.of.Code as code
 
 pub of_spec : {M : Type 1} → statement M

@@ -1,6 +1,7 @@
 use Rattle.std.proofs.Common.{sym, rules}
 use Rattle.json.specs.Value.{members_view}
-use Rattle.rx_device.{specs.Part.part_data, proofs.Parts.get_part, proofs.Parts.get_of_other}
+use Rattle.rx_device.specs.Part.{part_data}
+use Rattle.rx_device.proofs.Parts.{get_part, get_of_other}
 use Rattle.rx_device.proofs.part.Part.get.Goals as goal
 
 pub returns-in_default : goal.returns-in_default

@@ -1,7 +1,9 @@
 use Rattle.std.proofs.Common.{◌≡◌, ◌+◌, ◌-◌, ◌<◌, ℕ, Bool, cond, refl, ap, ◌∙◌, length, drop, arith}
-use Rattle.rx_event.specs.{Notes.notes, Notes.mail_of, Lawful.MayFollow}
+use Rattle.rx_event.specs.Notes.{notes, mail_of}
+use Rattle.rx_event.specs.Lawful.{MayFollow}
 use Rattle.rx_event.proofs.Laws.Counts.{notes-push}
-use Rattle.rx_register.specs.{State.State, Ties.state_of}
+use Rattle.rx_register.specs.State.{State}
+use Rattle.rx_register.specs.Ties.{state_of}
 use Rattle.rx_register.proofs.RegisterStaysTied.{written, given_after, told_length}
 use Rattle.rx_register.proofs.register.Register.write.Goals as goal
 

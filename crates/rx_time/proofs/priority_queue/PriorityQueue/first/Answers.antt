@@ -1,4 +1,5 @@
-use Rattle.std.proofs.{Common.◌≡◌, Common.refl, Common.inl, Common.inr, Common.arith, lemmas.Bool.cases_lt, lemmas.Bool.false≢true}
+use Rattle.std.proofs.Common.{◌≡◌, refl, inl, inr, arith}
+use Rattle.std.proofs.lemmas.Bool.{cases_lt, false≢true}
 use Rattle.std.specs.BTreeSet.{btree_set_len}
 use Rattle.rx_time.proofs.AgendaMatchesEntries.{PointsAt-first, work-none}
 use Rattle.rx_time.proofs.priority_queue.PriorityQueue.first.Goals as goal

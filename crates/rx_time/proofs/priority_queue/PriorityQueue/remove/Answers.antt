@@ -1,5 +1,6 @@
 use Rattle.std.proofs.Common.{sym, ◌∙◌}
-use Rattle.rx_time.proofs.{Entries.lookup-nat_cmp, Entries.remove_entry-nat_cmp, AgendaMatchesEntries.IsKept-without}
+use Rattle.rx_time.proofs.Entries.{lookup-nat_cmp, remove_entry-nat_cmp}
+use Rattle.rx_time.proofs.AgendaMatchesEntries.{IsKept-without}
 use Rattle.rx_time.proofs.priority_queue.PriorityQueue.remove.Goals as goal
 
 pub invariant_of-self : goal.invariant_of-self

@@ -1,4 +1,5 @@
-use Rattle.std.proofs.{Common.length, Common.rules, lemmas.Bool.cases_lt, lemmas.Bool.false≢true}
+use Rattle.std.proofs.Common.{length, rules}
+use Rattle.std.proofs.lemmas.Bool.{cases_lt, false≢true}
 use Rattle.rx_time.proofs.SlotsInOrder.{PointsAt-front, nothing_next}
 use Rattle.rx_time.proofs.run.Run.first.Goals as goal
 

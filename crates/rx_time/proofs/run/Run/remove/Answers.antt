@@ -1,4 +1,5 @@
-use Rattle.rx_time.proofs.{Entries.remove_entry-absent, SlotsInOrder.lookup-absent, SlotsInOrder.lookup_held, SlotsInOrder.removed_held}
+use Rattle.rx_time.proofs.Entries.{remove_entry-absent}
+use Rattle.rx_time.proofs.SlotsInOrder.{lookup-absent, lookup_held, removed_held}
 use Rattle.rx_time.proofs.run.Run.remove.Goals as goal
 use Rattle.std.proofs.Common.{rules}
 

@@ -1,5 +1,6 @@
 use Rattle.std.proofs.Common.{◌≤◌, ◌++◌, ap, rules, arith}
-use Rattle.rx_time.{specs.Schedule.Schedule, specs.Schedule.schedule, proofs.SoundSchedule.IsSound-push}
+use Rattle.rx_time.specs.Schedule.{Schedule, schedule}
+use Rattle.rx_time.proofs.SoundSchedule.{IsSound-push}
 use Rattle.rx_time.proofs.timeline.Timeline.enter.Goals as goal
 
 pub put_last-requires : goal.put_last-requires

@@ -1,5 +1,6 @@
 use Rattle.std.proofs.Common.{◌++◌, rules}
-use Rattle.rx_time.proofs.{Next.PointsAt-append, TwoLists.ahead_at}
+use Rattle.rx_time.proofs.Next.{PointsAt-append}
+use Rattle.rx_time.proofs.TwoLists.{ahead_at}
 use Rattle.rx_time.proofs.timeline.Timeline.first_place.Goals as goal
 
 pub returns-clause-next : goal.returns-clause-next

@@ -1,4 +1,5 @@
-use Rattle.std.proofs.{Common.◌≤◌, Common.arith, lemmas.List.Elements.All-weaker}
+use Rattle.std.proofs.Common.{◌≤◌, arith}
+use Rattle.std.proofs.lemmas.List.Elements.{All-weaker}
 use Rattle.rx_time.proofs.Next.{least_at_place}
 use Rattle.rx_time.proofs.timeline.Timeline.place_due.Goals as goal
 

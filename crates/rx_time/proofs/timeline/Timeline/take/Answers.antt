@@ -1,6 +1,7 @@
 use Rattle.std.proofs.Common.{◌++◌, refl, rules}
 use Rattle.rx_time.specs.Schedule.{schedule}
-use Rattle.rx_time.proofs.{SoundSchedule.IsSound-without, TwoLists.fewer_taken, TwoLists.kept_taken, TwoLists.once_taken}
+use Rattle.rx_time.proofs.SoundSchedule.{IsSound-without}
+use Rattle.rx_time.proofs.TwoLists.{fewer_taken, kept_taken, once_taken}
 use Rattle.rx_time.proofs.timeline.Timeline.take.Goals as goal
 
 pub invariant_of-self : goal.invariant_of-self

@@ -1,4 +1,5 @@
-use Rattle.rx_typed.proofs.{Common.eqb-true, EachIsTaken.each_is_taken}
+use Rattle.rx_typed.proofs.Common.{eqb-true}
+use Rattle.rx_typed.proofs.EachIsTaken.{each_is_taken}
 use Rattle.rx_typed.proofs.typed.Typed.is_taken_whole.Goals as goal
 use Rattle.std.proofs.Common.{rules}
 

@@ -2,9 +2,11 @@
 use Rattle.rx_c.proofs.Common.{◌≡◌, [], ◌∷◌, Option, None, refl, Val, vnull, SProp, emp, ftrue, ‵, raw, ◌⊛◌, ◌$◌, ◌∵◌, !, qed, by, keep, split, fpack, use0}
 use Rattle.rx_c.proofs.Common.{lit, no_more, and_then, returns, enter, alloc_all, pass_all, free_all, look_at, sets, agg, fact, fact_i, tables, owns}
 use Rattle.rx_c.proofs.Common.{null_ptr, types_at, nothing, alive, walk_of, proved_at, leaves}
-use Rattle.rx_c.proofs.{Values.alone, Values.alone_good, Values.book_in, book.handle.BookHandle.empty.Statement.statement}
+use Rattle.rx_c.proofs.Values.{alone, alone_good, book_in}
+use Rattle.rx_c.proofs.book.handle.BookHandle.empty.Statement.{statement}
 use Rattle.rx_typed.specs.contracts.typed.Typed as kept
-use Rattle.rx_c.specs.contracts.book.handle.{BookHandle.empty.ended, BookHandle.empty.clauses, BookHandle.empty.Key.name as #self}
+use Rattle.rx_c.specs.contracts.book.handle.BookHandle.empty.{ended, clauses}
+use Rattle.rx_c.specs.contracts.book.handle.BookHandle.empty.Key.{name as #self}
 use Rattle.rx_c.proofs.book.handle.BookHandle.empty.Code as code
 
 pub empty_spec : {M : Type 1} → statement M

@@ -7,7 +7,8 @@ use Rattle.std.specs.contracts.alloc.Global as heap
 use Rattle.std.proofs.alloc.Global.TheLaws as heap_laws
 use Rattle.rx_c.proofs.Values.{both, alone, alone_good, Loose, loose_good, loose_out, book_in}
 use Rattle.rx_typed.specs.contracts.typed.Typed as kept
-use Rattle.rx_c.specs.contracts.book.handle.{BookHandle.holding.ended, BookHandle.holding.clauses, BookHandle.holding.Key.name as #self}
+use Rattle.rx_c.specs.contracts.book.handle.BookHandle.holding.{ended, clauses}
+use Rattle.rx_c.specs.contracts.book.handle.BookHandle.holding.Key.{name as #self}
 use Rattle.rx_c.proofs.book.handle.BookHandle.holding.Statement.{statement}
 use Rattle.rx_c.proofs.book.handle.BookHandle.holding.Code as code
 

@@ -10,7 +10,8 @@ use Rattle.std.specs.contracts.alloc.Global as heap
 use Rattle.std.proofs.alloc.Global.TheLaws as heap_laws
 use Rattle.rx_c.proofs.Values.{both, alone, alone_good, al, Loose, loose_good, loose_in, Book, book_out, either}
 use Rattle.rx_typed.specs.contracts.typed.Typed as kept
-use Rattle.rx_c.specs.contracts.book.handle.{BookHandle.into_loose.ended, BookHandle.into_loose.clauses, BookHandle.into_loose.Key.name as #self}
+use Rattle.rx_c.specs.contracts.book.handle.BookHandle.into_loose.{ended, clauses}
+use Rattle.rx_c.specs.contracts.book.handle.BookHandle.into_loose.Key.{name as #self}
 use Rattle.rx_c.proofs.book.handle.BookHandle.into_loose.Statement.{statement}
 use Rattle.rx_c.proofs.book.handle.BookHandle.into_loose.Code as code
 
