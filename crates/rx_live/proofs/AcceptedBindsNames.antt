@@ -35,25 +35,21 @@ pub or_false : (a b : Bool) → (a || b) ≡ false → (a ≡ false) × (b ≡ f
 or_false x0 b p = search rules
 
 pub not_unnamed : (s : Session) (name n : Name) → has_resource s name ≡ false → s.unnamed ≡ Some n → bytes_eq name n ≡ false
-not_unnamed s name n free is =
-    search (rules, option_map_or, bytes_eq, or_false, is_some)
+not_unnamed s name n free is = search (rules, option_map_or, bytes_eq, or_false, is_some)
 
 -- a number that is not given yet has no name
 pub unnamed_resource : (s : Session) → IsSound s → name_of s.resources (length s.book.history) ≡ None
-unnamed_resource s sound =
-    search (rules, none_of, length, kept_past)
+unnamed_resource s sound = search (rules, none_of, length, kept_past)
 
 pub unnamed_lease : (s : Session) → IsSound s → name_of s.leases (length s.book.history) ≡ None
-unnamed_lease s sound =
-    search (rules, none_of, length, is_out_past)
+unnamed_lease s sound = search (rules, none_of, length, is_out_past)
 
 pub placed_longer : (h k : List Event) (t : Names) → IsPlaced h t → length h ≤ length k → IsPlaced k t
 placed_longer h k t placed longer n past = placed n (omega arith)
 
 pub placed_bound : (h : List Event) {old new : Names} {name : Name} {spot : Spot} → IsPlaced h old → Binds old name spot new → spot.number < length h →
     IsPlaced h new
-placed_bound h {old} {name = name} {spot = spot} placed binds within n past =
-    search (rules, ne_eqb, cond)
+placed_bound h {old} {name = name} {spot = spot} placed binds within n past = search (rules, ne_eqb, cond)
 
 -- open nodes
 pub same_open : (untold : Option Mail) (book : State) (t : Names) → AreOpenSame untold book t t
@@ -84,8 +80,7 @@ module _ {A : Type 0} (stand : State → A → Refusal → Bool) (accepts : Stat
   -- it accepts
   pub accepted_by : {s t : Session} (asked : Option A) {call : A} (taken : Bool) (bound : Session → Type 0) →
       asked ≡ Some call → taken ≡ false → accepts s.book call t.book → bound t → IsSound t → GivesBy stand accepts s asked taken bound Accepted t
-  accepted_by {s} {t} asked {call} taken bound known is did binds sound =
-      search (rules, Accepted)
+  accepted_by {s} {t} asked {call} taken bound known is did binds sound = search (rules, Accepted)
 
 -- of one call
 pub given_refused : {s t : Session} {asked : Option Request} {call : Request} {taken : Bool} (bound : Session → Type 0) (why : Refusal)
@@ -106,12 +101,10 @@ module _ (s : Session) (book : State) (name : Name) (spot : Spot) (mid t : Names
 
   pub held_bound : AreSame s.resources mid → Binds mid name spot t → spot.number ≡ length s.book.history →
       BindsResource s name (record s { book = book; resources = t })
-  held_bound same binds number =
-      search (rules, bound_after)
+  held_bound same binds number = search (rules, bound_after)
 
   pub held_sound : (node tag : ℕ) (known : Bool) → AreSame s.resources mid → Binds mid name spot t → spot.number ≡ length s.book.history →
-      has_resource s name ≡ false →
-      after_binding (Holding node tag) known → IsSound (record s { book = book; resources = t })
+      has_resource s name ≡ false → after_binding (Holding node tag) known → IsSound (record s { book = book; resources = t })
   held_sound node tag known same after number free accepts =
       let asked : Request = record { call = Holding node tag; is_known = known; is_fresh = true } in
       let longer : length s.book.history ≤ length book.history = accepted_longer s.book book asked accepts in
@@ -124,10 +117,8 @@ module _ (s : Session) (book : State) (name : Name) (spot : Spot) (mid t : Names
         lease_pairs = sound.lease_pairs;
         nodes = placed_longer s.book.history book.history s.nodes sound.nodes longer;
         hubs = placed_longer s.book.history book.history s.hubs sound.hubs longer;
-        resources = λ r. ap is_some (binds.names r) ∙ some_cond (spot.number == r) name (name_of s.resources r)
-            ∙
-            (λ i. cond (number i == r) true (sound.resources r i)) ∙
-            sym (kept_held sound.kept.lawful accepts.step r);
+        resources = λ r. ap is_some (binds.names r) ∙ some_cond (spot.number == r) name (name_of s.resources r) ∙
+            (λ i. cond (number i == r) true (sound.resources r i)) ∙ sym (kept_held sound.kept.lawful accepts.step r);
         leases = λ l. sound.leases l ∙ sym (out_same (Holding node tag) accepts.step refl l);
         unnamed = λ n is. binds.spots n ∙ ap (λ (b : Bool). cond b (Some spot) (spot_of s.resources n)) (not_unnamed s name n free is) ∙ sound.unnamed n is;
       }
@@ -162,14 +153,12 @@ module _ (s : Session) (book : State) (name : Name) (spot : Spot) (mid t : Names
   pub hub_sound : (asked : Request) → AreSame s.hubs mid → Binds mid name spot t → spot.number ≡ length s.book.history → Accepts s.book asked book →
       keeps_resources asked.call ≡ true → keeps_leases asked.call ≡ true → length s.book.history < length book.history →
       IsSound (record s { book = book; hubs = t })
-  hub_sound asked same after number accepts resources leases longer =
-      search (rules, bound_after, placed_longer, placed_bound, kept_same, out_same)
+  hub_sound asked same after number accepts resources leases longer = search (rules, bound_after, placed_longer, placed_bound, kept_same, out_same)
 
 -- a lease that is given back -------------------------------------------------------------------------
 
 pub forgot : (old new : Names) (number : ℕ) (name : Name) (result : Option (String Global)) → name_of old number ≡ Some name →
-    option_map string_bytes result ≡ name_of old number →
-    IfSome result (λ n. Forgets old number (string_bytes n) new) → Forgets old number name new
+    option_map string_bytes result ≡ name_of old number → IfSome result (λ n. Forgets old number (string_bytes n) new) → Forgets old number name new
 forgot old new number name x4 known value some = search (rules, none-some, same_Some, string_bytes)
 
 pub returned_sound : {s : Session} {book : State} {q : ℕ} (known : Bool) (name : Name) (t : Names) → IsSound s → IsPromised book → IsPaired t →

@@ -1,10 +1,8 @@
 -- What a command hands in, and what the lines of a session come to.
-use Rattle.rx_live.proofs.Common.{◌≡◌, ℕ, Bool, true, false, cond, List, [], ◌++◌, map, Option, Some, None, refl, sym, ap, subst, is_some, ◌||◌, Name}
-use Rattle.rx_live.proofs.Common.{bytes_eq, option_map_or, Command}
-use Rattle.rx_live.proofs.Common.{Refusal, State, Request, stands, Accepts, Task, Act}
-use Rattle.rx_live.proofs.Common.{plain, Cause, Accepted, Refused, spot_of, Session, has_resource, Carries}
-use Rattle.rx_live.proofs.Common.{Goes, IsAlike, Gives, NamesOne, released, with_held, Leads, no_act, hands_in, IsKept}
-use Rattle.rx_live.proofs.Common.{Runs, Does, handed_by, IsCarried, Ends, GoesOn, no_line, one_line, IsFresh}
+use Rattle.rx_live.proofs.Common.{◌≡◌, ℕ, Bool, true, false, cond, List, [], ◌++◌, map, Option, Some, None, refl, sym, ap, subst, is_some, ◌||◌, Name, bytes_eq}
+use Rattle.rx_live.proofs.Common.{option_map_or, Command, Refusal, State, Request, stands, Accepts, Task, Act, plain, Cause, Accepted, Refused, spot_of}
+use Rattle.rx_live.proofs.Common.{Session, has_resource, Carries, Goes, IsAlike, Gives, NamesOne, released, with_held, Leads, no_act, hands_in, IsKept, Runs}
+use Rattle.rx_live.proofs.Common.{Does, handed_by, IsCarried, Ends, GoesOn, no_line, one_line, IsFresh}
 use Rattle.rx_live.proofs.AcceptedBindsNames.{or_false, alike_same}
 use Rattle.rx_live.proofs.Laws.HeldStaysHeld.{leads_on, leads_same, alike_held, fresh_held}
 use Rattle.rx_live.proofs.SessionAfterCheckpoint.{refused_same}
@@ -53,8 +51,7 @@ keeps : (old new : Session) → ((n : Name) → has_resource new n ≡ has_resou
 keeps old new same = no_act same
 
 by_goes : (old new : Session) (asked : Option Request) → Goes old asked Accepted new → Leads (has_resource old) [] (has_resource new)
-by_goes old new asked goes =
-    search (rules, went, no_act, same_held)
+by_goes old new asked goes = search (rules, went, no_act, same_held)
 
 -- a command that is carried out hands in what it is to hand in, which was not held
 runs_hands : (old new : Session) (c : Command) → Runs old c Accepted new → Leads (has_resource old) (handed_by (plain c)) (has_resource new)
@@ -86,8 +83,7 @@ goes_leads (one_line line text new sent rest) = leads_on sent.leads (goes_leads 
 -- every name that is handed in is released once, to the last line
 pub session_kept : (first last new : Session) (acts : List Act) (text : List ℕ) → IsFresh first → GoesOn first acts last → (ends : Ends last text new) →
     IsKept (acts ++ map released ends.names)
-session_kept first last new acts text fresh goes ends =
-    search (rules, leads_same, map, fresh_held, leads_on, goes_leads)
+session_kept first last new acts text fresh goes ends = search (rules, leads_same, map, fresh_held, leads_on, goes_leads)
 
 -- a refused command ----------------------------------------------------------------------------------
 

@@ -13,8 +13,7 @@ use Rattle.std.proofs.Common.{rules}
 
 -- behind what was written
 behind : (b f p q r s : List ℕ) → b ++ f ++ p ++ q ++ r ++ s ≡ b ++ (f ++ p ++ q ++ r ++ s)
-behind b f p q r s =
-    search (rules, append_assoc)
+behind b f p q r s = search (rules, append_assoc)
 
 -- a task that is carried out
 pub carried_out : {old : Session} (done new : Session) (k : Task) (begun front said text : List ℕ) → Does old k Accepted done →
@@ -100,13 +99,11 @@ found_so p q begun text is tried = subst (λ (b : Bool). Tries p q begun text b)
 -- as it came, or behind a checkpoint
 pub sent_first : (old new : Session) (asked : Option Order) (begun text : List ℕ) → Writes (Answered old asked new) begun text → IsSound new →
     Writes (λ t. AnswersAsked old asked t new) begun text
-sent_first old new asked begun text wrote sound =
-    search (rules, written_as, as_it_was)
+sent_first old new asked begun text wrote sound = search (rules, written_as, as_it_was)
 
 pub sent_again : {old mid : Session} (aged new : Session) (asked : Option Order) (begun text : List ℕ) → IsFullByAge old asked mid → Renews mid aged →
     Writes (Answered aged asked new) begun text → IsSound new → Writes (λ t. AnswersAsked old asked t new) begun text
-sent_again {old} {mid} aged new asked begun text full renews wrote sound =
-    search (rules, renewed_held, written_as, renewed, leads_same)
+sent_again {old} {mid} aged new asked begun text full renews wrote sound = search (rules, renewed_held, written_as, renewed, leads_same)
 
 -- the last line
 pub ended : {old : Session} (left new : Session) (front after text : List ℕ) → IsSound old →

@@ -101,8 +101,7 @@ value_many old new d ds (Ok s) several array =
     record { acts = array.acts; answers = many_asked ds array.texts several array.each array.is; leads = each_leads array.each }
 
 waits_same : (asked : Option Order) (old new : Session) → new ≡ old → WaitsFor asked old new
-waits_same asked old new same =
-    subst (λ (s : Session). WaitsFor asked old s) (sym same) (record { aged = old; ages = as_it_was; alike = alike_same old })
+waits_same asked old new same = subst (λ (s : Session). WaitsFor asked old s) (sym same) (record { aged = old; ages = as_it_was; alike = alike_same old })
 
 pub array_waits : (asked : Option Order) (old new : Session) (result : Result (String Global) AllocError) → OnErr result (new ≡ old) →
     OnErr result (WaitsFor asked old new)
@@ -113,8 +112,7 @@ array_waits asked old new x3 same = search (rules, waits_same)
 pub line_sent : (old new : Session) (line : List ℕ) (d : Data) (result : Result (String Global) AllocError) → IsJsonOf line d → IsSound new →
     IfOk result (λ s. AnsweredValue old d new (string_bytes s)) → IfOk result (λ s. Sends old line (string_bytes s) new)
 line_sent old new line d (Err e) json sound value = value
-line_sent old new line d (Ok s) json sound value =
-    record { acts = value.acts; answer = is_json d json value.answers; leads = value.leads; sound = sound }
+line_sent old new line d (Ok s) json sound value = record { acts = value.acts; answer = is_json d json value.answers; leads = value.leads; sound = sound }
 
 pub line_waits : (old new : Session) (line : List ℕ) (d : Data) (result : Result (String Global) AllocError) → IsJsonOf line d →
     OnErr result (WaitsFor (order_in d) old new) → OnErr result (IsPutOff line old new)

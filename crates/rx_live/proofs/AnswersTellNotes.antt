@@ -1,11 +1,10 @@
 -- The notes of a session's events, and those that its answers tell.
 use Rattle.rx_live.proofs.Common.{◌≡◌, ℕ, ◌≤◌, Bool, List, [], ◌∷◌, ◌++◌, drop, length, Option, Some, None, refl, sym, ap, ◌∙◌, arith, subst, append_assoc}
 use Rattle.rx_live.proofs.Common.{is_some, option_to_list, append-nil, drop_at, drop-append-le, Mail, Event, Kept, notes, mail_of, moments, Call, outside_of}
-use Rattle.rx_live.proofs.Common.{IsStepOf, IsForcedOn, stays, more, notes-push, Data, Items, Task, plain, open_holding, Order, Command, using, open_node}
-use Rattle.rx_live.proofs.Common.{hold, lease, give_back, make_hub, connect, drain, Goes}
-use Rattle.rx_live.proofs.Common.{checkpoint, State, Request, stands, hub_request, Accepts, Accepted, Session, hub_of, Carries, IsAlike, Gives}
-use Rattle.rx_live.proofs.Common.{BindsHub, to_tell, Takes, none_taken, one_taken, Renews, holder_causes, OpensHolder, Runs, Does, IsCarried, GoesOn, no_line}
-use Rattle.rx_live.proofs.Common.{one_line, IsFresh, IsAged, as_it_was, renewed, is_put_off, Act}
+use Rattle.rx_live.proofs.Common.{IsStepOf, IsForcedOn, stays, more, notes-push, Data, Items, Task, plain, open_holding, Order, Command, using, open_node, hold}
+use Rattle.rx_live.proofs.Common.{lease, give_back, make_hub, connect, drain, Goes, checkpoint, State, Request, stands, hub_request, Accepts, Accepted, Session}
+use Rattle.rx_live.proofs.Common.{hub_of, Carries, IsAlike, Gives, BindsHub, to_tell, Takes, none_taken, one_taken, Renews, holder_causes, OpensHolder, Runs}
+use Rattle.rx_live.proofs.Common.{Does, IsCarried, GoesOn, no_line, one_line, IsFresh, IsAged, as_it_was, renewed, is_put_off, Act}
 use Rattle.rx_live.specs.Lines.{IsAnswer, is_faulty, is_refused, is_carried, is_queried, is_listed, is_dumped, AnswersAsked, AnswersOne, is_taken, none_left}
 use Rattle.rx_live.specs.Lines.{AnswersEach, one_more, AnswersValue, one_asked, many_asked, IsAnswered, no_json, is_json}
 use Rattle.rx_live.specs.Sessions.{told_by, written_of, written_by, told_one, written_one, told_each, written_each, told_value, written_value, told_line}
@@ -64,8 +63,7 @@ owes_more old new goes given untold behind =
     }
 
 owes_call : (old new : Session) (asked : Request) → Accepts old.book asked new.book → new.untold ≡ old.untold → IsBehind old → Owes old new
-owes_call old new asked accepts untold behind =
-    search (rules, owes_more, noted_step, behind)
+owes_call old new asked accepts untold behind = search (rules, owes_more, noted_step, behind)
 
 -- a command -------------------------------------------------------------------------------------------
 
@@ -118,15 +116,13 @@ noted_do old new (open_holding name site sort res) does behind =
     let goes : GoesOnNoted old.book.history new.book.history =
     noted_on (noted_step old.book.base old.book.history did.middle.history (opening did) did.opens.step)
     (noted_step did.middle.base did.middle.history new.book.history (holding did) did.holds.step) in
-    goes_on (λ b a. refl) (owes_more old new goes (did.holds.given ∙ did.opens.given)
-    (ap (λ (s : Session). s.untold) given.binds.opened.rest) behind)
+    goes_on (λ b a. refl) (owes_more old new goes (did.holds.given ∙ did.opens.given) (ap (λ (s : Session). s.untold) given.binds.opened.rest) behind)
 
 -- what is released -----------------------------------------------------------------------------------
 
 noted_takes : {a b : State} → Takes a b → GoesOnNoted a.history b.history
 noted_takes {a} none_taken = noted_none a.history
-noted_takes {a} {b} (one_taken mid r before accepts) =
-    search (rules, noted_on, noted_step, noted_takes before)
+noted_takes {a} {b} (one_taken mid r before accepts) = search (rules, noted_on, noted_step, noted_takes before)
 
 given_takes : {a b : State} → Takes a b → b.given ≡ a.given
 given_takes none_taken = refl
@@ -147,8 +143,7 @@ nil_last (x ∷ xs) ys is = absurd (cc)
 
 -- behind a checkpoint there are no notes yet
 begun_silent : (old new : Session) → Renews old new → notes new.book.history ≡ []
-begun_silent old new renews =
-    search (rules, nil_last, option_to_list, drop)
+begun_silent old new renews = search (rules, nil_last, option_to_list, drop)
 
 -- what was told and released after the task was carried out
 module _ (old new : Session) (t : Task) (text : List ℕ) (acts : List Act) (carried : IsCarried old t text acts new) where
@@ -160,8 +155,7 @@ module _ (old new : Session) (t : Task) (text : List ℕ) (acts : List Act) (car
   all_notes = search rules
 
   last_told : (front : List Mail) → to_tell carried.done ≡ front → front ++ later.goes.rest ≡ carried.tells.tells.mails ++ to_tell new
-  last_told front is =
-      search (rules, is, append_assoc, alike_tells)
+  last_told front is = search (rules, is, append_assoc, alike_tells)
 
   carried_balances : IsBehind old → Balances old new (written_of t (notes old.book.history) (notes new.book.history)) carried.tells.tells.mails
   carried_balances behind = by_run (noted_do old carried.done t carried.does behind) where
@@ -175,8 +169,7 @@ module _ (old new : Session) (t : Task) (text : List ℕ) (acts : List Act) (car
         let wrote : written_of t before (notes new.book.history) ≡ one.goes.rest ++ later.goes.rest =
         is before (notes new.book.history) ∙ ap (drop (length before)) all ∙ drop_at before (one.goes.rest ++ later.goes.rest) (length before) refl in
         record {
-          is = ap (λ (ms : List Mail). to_tell old ++ ms) wrote
-              ∙ sym (append_assoc (to_tell old) one.goes.rest later.goes.rest)
+          is = ap (λ (ms : List Mail). to_tell old ++ ms) wrote ∙ sym (append_assoc (to_tell old) one.goes.rest later.goes.rest)
               ∙ last_told (to_tell old ++ one.goes.rest) one.owed;
         }
     by_run (begins is renews) =
@@ -225,8 +218,7 @@ alike_behind old new alike behind = subst (λ (b : State). b.given ≤ length (n
 
 one_balances : {old new : Session} {asked : Option Order} {text : List ℕ} {acts : List Act} → IsBehind old → (one : AnswersOne old asked text acts new) →
     BalancesOn old new (written_one one) (told_one one)
-one_balances {old} {new} {asked} {text} behind (is_taken one) =
-    record { balances = balances_aged old new text behind one; behind = one.sound.kept.given }
+one_balances {old} {new} {asked} {text} behind (is_taken one) = record { balances = balances_aged old new text behind one; behind = one.sound.kept.given }
 one_balances {old} {new} {asked} behind (is_put_off waits) = record {
   balances = idle old new (alike_tells waits.aged new waits.alike ∙ aged_tells old waits.aged waits.ages);
   behind = alike_behind waits.aged new waits.alike (aged_behind old waits.aged waits.ages behind);

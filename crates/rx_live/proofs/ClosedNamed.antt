@@ -17,11 +17,9 @@ module _ (s : Session) (asked : Option ℕ) where
 
   one_text : (n : ℕ) (k : Key) → slice_get s.book.closed n ≡ Some k →
       cons_option (text_at n) [] ≡ map name_text (filter_map (name_beside s.nodes asked) (k ∷ []))
-  one_text n k there =
-      search (rules, cons_option, option_map, quoted)
+  one_text n k there = search (rules, cons_option, option_map, quoted)
 
-  texts_are : (n : ℕ) → n ≤ length s.book.closed →
-      closed_texts s asked n ≡ map name_text (filter_map (name_beside s.nodes asked) (take n s.book.closed))
+  texts_are : (n : ℕ) → n ≤ length s.book.closed → closed_texts s asked n ≡ map name_text (filter_map (name_beside s.nodes asked) (take n s.book.closed))
   texts_are zero within = refl
   texts_are (suc n) within =
       let none : Key = record { slot = 0; number = 0 } in
@@ -37,8 +35,7 @@ module _ (s : Session) (asked : Option ℕ) where
       ∙ ap (map name_text) (sym (filter_map-append (name_beside s.nodes asked) before (k ∷ [])) ∙ ap (filter_map (name_beside s.nodes asked)) (sym next))
 
   pub all_texts : closed_texts s asked (length s.book.closed) ≡ map name_text (names_closed s asked)
-  all_texts =
-      search (rules, texts_are, length, map, filter_map, take_all)
+  all_texts = search (rules, texts_are, length, map, filter_map, take_all)
 
 -- the member, of what was written of it
 none_named : (ps : List (List ℕ)) → true ≡ is_nil ps → [] ≡ member_text (codes "closed") ps
@@ -49,15 +46,13 @@ some_named x0 some = search rules
 
 pub no_member : (s : Session) (asked : Option ℕ) {first : Bool} (text : List ℕ) → first ≡ true → text ≡ [] →
     first ≡ is_nil (closed_texts s asked (length s.book.closed)) → text ≡ member_text (codes "closed") (map name_text (names_closed s asked))
-no_member s asked text is empty first =
-    search (rules, none_named, length, codes, all_texts)
+no_member s asked text is empty first = search (rules, none_named, length, codes, all_texts)
 
 pub whole_member : (s : Session) (asked : Option ℕ) {first : Bool} (text begun before : List ℕ) → first ≡ false →
     first ≡ is_nil (closed_texts s asked (length s.book.closed)) → before ≡ codes ",\"closed\":[" →
     begun ≡ before ++ joined (closed_texts s asked (length s.book.closed)) → text ≡ begun ++ codes "]" →
     text ≡ member_text (codes "closed") (map name_text (names_closed s asked))
-whole_member s asked text begun before is first lead names closing =
-    search (rules, codes, length, some_named, all_texts)
+whole_member s asked text begun before is first lead names closing = search (rules, codes, length, some_named, all_texts)
 
 -- where nothing is to be named
 none_closed : (s : Session) (asked : Option ℕ) (ks : List Key) → length ks ≡ 0 → filter_map (name_beside s.nodes asked) ks ≡ []
@@ -74,5 +69,4 @@ pub says_all : {names : List Name} (begun text : List ℕ) → text ≡ begun ++
 says_all {names} begun text is = search (rules, codes, map)
 
 pub says_null : {names : List Name} (begun mid text : List ℕ) → mid ≡ begun → text ≡ mid ++ codes ",\"closed\":null" → WritesClosed names begun text
-says_null begun mid text same is =
-    search (rules, codes)
+says_null begun mid text same is = search (rules, codes)

@@ -44,8 +44,7 @@ left_open book nodes number spot found alive name known =
 -- a closed one
 pub forgot_one : {book : State} {old new : Names} (number : ℕ) (spot : Spot) (result : Option (String Global)) → IsPaired old → spot_at old number ≡ Some spot →
     has_key book.keys (key_at spot) ≡ false → option_map string_bytes result ≡ name_of old number →
-    IfSome result (λ n. Forgets old number (string_bytes n) new) →
-    AreOpenSame None book old new × (name_of new number ≡ None)
+    IfSome result (λ n. Forgets old number (string_bytes n) new) → AreOpenSame None book old new × (name_of new number ≡ None)
 forgot_one {book} {old} {new} number spot result paired found closed value some =
     let s = stands old number spot paired found in
     let forgets : Forgets old number s.name new = forgot old new number s.name result s.known value some in

@@ -14,8 +14,7 @@ unfolding is_waiting is_taken is_kept
 kept_where h r kept = kept_shape (at makes_resource h r) (is_held h r) (list_any (is_take_of r) h) kept
 
 none_in : {L : Type 0} (number : L → ℕ) (ls : List L) (r : ℕ) → ls ≡ [] → Contains (map number ls) r → ⊥
-none_in {L} number ls r none within =
-    search (rules, map)
+none_in {L} number ls r none within = search (rules, map)
 
 pub closed_sound : (t : Session) → IsPromised t.book → IsClosed t → IsPaired t.nodes → IsPaired t.hubs → IsPaired t.resources → IsPaired t.leases → IsSound t
 closed_sound t kept closed nodes hubs resources leases = record {
@@ -27,8 +26,7 @@ closed_sound t kept closed nodes hubs resources leases = record {
   nodes = λ n past. closed.nodes.1 n;
   hubs = λ n past. closed.hubs.1 n;
   resources = λ r. ap is_some (closed.resources.1 r) ∙ sym (none_kept r);
-  leases =
-      λ l. ap is_some (closed.leases.1 l) ∙
+  leases = λ l. ap is_some (closed.leases.1 l) ∙
       sym (false_from_ne_true (is_out t.book.history l) (λ out. none_in (λ k. k.number) t.book.lease_keys l closed.none_out (kept.lease_keys.every l out)));
   unnamed = λ name is. absurd (none-some name (sym closed.unnamed ∙ is));
 } where

@@ -31,8 +31,7 @@ pub contains_number : {L : Type 0} (number : L → ℕ) (ls : List L) (l : L) (r
 contains_number number ls l r within is = subst (λ (n : ℕ). Contains (map number ls) n) (sym is) (Contains-map number ls l within)
 
 pub waiting_named : (s : Session) (r : ℕ) → IsSound s → Contains (map (λ l. l.number) s.book.waiting) r → is_some (name_of s.resources r) ≡ true
-waiting_named s r sound member =
-    search (rules, waiting_kept, All-contains, map)
+waiting_named s r sound member = search (rules, waiting_kept, All-contains, map)
 
 pub never_none : (result : Option (String Global)) (named : Option Name) (P : Type 0) → option_map string_bytes result ≡ named → is_some named ≡ true →
     IfNone result P
@@ -45,8 +44,7 @@ pub record IsForgotten (s : Session) (q : ℕ) (told : Option (String Global)) (
   pub forgets : IfSome told (λ n. Forgets s.resources q (string_bytes n) t)
 
 pub taken_sound : {s : Session} {book : State} {q : ℕ} {t : Names} {told : Option (String Global)} → IsSound s → IsPromised book →
-    Accepts s.book (take_request q) book → is_some (name_of s.resources q) ≡ true → IsForgotten s q told t →
-    IsSound (record s { book = book; resources = t })
+    Accepts s.book (take_request q) book → is_some (name_of s.resources q) ≡ true → IsForgotten s q told t → IsSound (record s { book = book; resources = t })
 taken_sound {told = None} sound kept accepts named gone = let e : false ≡ true = ap is_some gone.value ∙ named in absurd (cc)
 taken_sound {s} {book} {q} {t} {told = Some n} sound kept accepts named gone =
     let forgets : Forgets s.resources q (string_bytes n) t = gone.forgets in
@@ -127,13 +125,11 @@ dropped_one s new name none sound taken = record {
       gone_spot false o = refl
 
 pub dropped_taken : (s mid new : Session) (result : Option (String Global)) → mid ≡ s → s.unnamed ≡ None → IsSound s →
-    IfSome result (λ n. TakesName mid (string_bytes n) new) →
-    IfSome result (λ n. DropsName s (string_bytes n) new)
+    IfSome result (λ n. TakesName mid (string_bytes n) new) → IfSome result (λ n. DropsName s (string_bytes n) new)
 dropped_taken s mid new x3 same none sound taken = search (rules, dropped_one, string_bytes)
 
 pub wrote_no_name : (s new : Session) (begun : List ℕ) → new ≡ s → s.book.waiting ≡ [] → WritesNoName s begun new begun
-wrote_no_name s new begun same none =
-    search (rules, none_taken)
+wrote_no_name s new begun same none = search (rules, none_taken)
 
 -- many ------------------------------------------------------------------------------------------------
 
@@ -175,8 +171,7 @@ names_ended old mid now begun before text so_far none =
     record {
       names = all;
       releases = record {
-        leads =
-            subst (λ (acts : List Act). Leads (has_resource old) acts (has_resource now)) (append-nil (map released all))
+        leads = subst (λ (acts : List Act). Leads (has_resource old) acts (has_resource now)) (append-nil (map released all))
             (leads_on so_far.releases.leads (no_act none.held));
         takes = takes_on so_far.releases.takes none.takes;
         rest = names_rest old mid now so_far.releases.rest none.rest;

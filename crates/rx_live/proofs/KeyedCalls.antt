@@ -1,8 +1,7 @@
 -- What a command comes to that makes a call as a value.
-use Rattle.rx_live.proofs.Common.{◌≡◌, true, Bool, Option, None, Some, option_map, Result, IfOk, IfErr, refl, sym, subst, AllocError}
-use Rattle.rx_live.proofs.Common.{Refusal, Call, keeps_resources, keeps_leases, IsRefusal, stands, State, IsPromised, Command, Outcome, Refused, NoName}
-use Rattle.rx_live.proofs.Common.{Session, IsSound, apply, remove, next, end, abort, decline, fail, dispose, disconnect, node_of, resource_of, hub_of}
-use Rattle.rx_live.proofs.Common.{Goes, outcome_of, Runs}
+use Rattle.rx_live.proofs.Common.{◌≡◌, true, Bool, Option, None, Some, option_map, Result, IfOk, IfErr, refl, sym, subst, AllocError, Refusal, Call}
+use Rattle.rx_live.proofs.Common.{keeps_resources, keeps_leases, IsRefusal, stands, State, IsPromised, Command, Outcome, Refused, NoName, Session, IsSound}
+use Rattle.rx_live.proofs.Common.{apply, remove, next, end, abort, decline, fail, dispose, disconnect, node_of, resource_of, hub_of, Goes, outcome_of, Runs}
 use Rattle.rx_book.specs.Answers.{IsRefusalOf}
 use Rattle.rx_book.specs.Asks.{request_of, takes_memory, Asks}
 use Rattle.rx_book.specs.declared.answer.Answer.{Answer}
@@ -56,8 +55,7 @@ call_runs {s} c {call} {book} {answer} sound asked found kept asks =
     runs s c o t sound asked (subst (λ (j : Option Asked). Comes s j o t) (sym found) (λ keeps. goes_on {answer = answer} sound (called keeps) refl))
 
 pub nameless_runs : (s : Session) (c : Command) → IsSound s → is_asked c ≡ true → keyed_call s c ≡ None → Runs s c (Refused NoName) s
-nameless_runs s c sound asked none =
-    search (rules, runs)
+nameless_runs s c sound asked none = search (rules, runs)
 
 pub told_so : (P : Outcome → Type 0) (outcome : Outcome) (result : Result Outcome AllocError) → P outcome → IfOk result (λ o. o ≡ outcome) → IfOk result P
 told_so x0 outcome x2 p is = search rules

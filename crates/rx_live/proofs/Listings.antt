@@ -20,8 +20,7 @@ nil_more x0 x1 = search rules
 pub text_more : (names : List Name) (o : Option Name) → open_text (names ++ option_to_list o) ≡ open_text names ++ led_text (is_nil names) o
 text_more names None = ap open_text (append-nil names) ∙ sym (append-nil (open_text names))
 text_more [] (Some n) = ap (λ (t : List ℕ). codes ",\"release\":[" ++ t) (append-nil (name_text n))
-text_more (name ∷ names) (Some n) =
-    ap (λ (ps : List (List ℕ)). codes ",\"release\":[" ++ joined (name_text name ∷ ps)) (map-append name_text names (n ∷ []))
+text_more (name ∷ names) (Some n) = ap (λ (ps : List (List ℕ)). codes ",\"release\":[" ++ joined (name_text name ∷ ps)) (map-append name_text names (n ∷ []))
     ∙ ap (λ (t : List ℕ). codes ",\"release\":[" ++ t) (sym (joined_more (name_text name) (map name_text names) (name_text n))
     ∙ append_assoc (joined (map name_text (name ∷ names))) (codes ",") (name_text n))
     ∙ sym (append_assoc (codes ",\"release\":[") (joined (map name_text (name ∷ names))) (codes "," ++ name_text n))
@@ -45,15 +44,12 @@ names_more s before ns i d within =
 
 pub range_more : (a n : ℕ) → range_with_len a (suc n) ≡ range_with_len a n ++ (a + n) ∷ []
 range_more a zero = ap (λ (k : ℕ). k ∷ []) (let e : a ≡ a + 0 = omega arith in e)
-range_more a (suc n) =
-    search (rules, range_with_len, range_more (a + 1) n)
+range_more a (suc n) = search (rules, range_with_len, range_more (a + 1) n)
 
 below_is : (s : Session) (k : ℕ) → names_at s (range_with_len 0 k) ≡ names_below s k
 below_is s zero = refl
-below_is s (suc k) =
-    ap (names_at s) (range_more 0 k ∙ ap (λ (n : ℕ). range_with_len 0 k ++ n ∷ []) (let e : 0 + k ≡ k = omega arith in e))
-    ∙ filter_map-append (name_of s.resources) (range_with_len 0 k) (k ∷ [])
-    ∙ (λ i. below_is s k i ++ one_name (name_of s.resources k) i)
+below_is s (suc k) = ap (names_at s) (range_more 0 k ∙ ap (λ (n : ℕ). range_with_len 0 k ++ n ∷ []) (let e : 0 + k ≡ k = omega arith in e))
+    ∙ filter_map-append (name_of s.resources) (range_with_len 0 k) (k ∷ []) ∙ (λ i. below_is s k i ++ one_name (name_of s.resources k) i)
 
 -- numbers without a name may be left out
 named_alone : (s : Session) (ns : List ℕ) → names_at s (filter (λ n. is_some (name_of s.resources n)) ns) ≡ names_at s ns
@@ -67,18 +63,15 @@ placed_resources s sound n past = none_of (name_of s.resources n) (sound.resourc
 pub names_all : (s : Session) (before : List Name) (ns : List ℕ) (i : ℕ) → IsSound s → length ns ≤ i →
     ((len : ℕ) → ((n : ℕ) → len ≤ n → name_of s.resources n ≡ None) → ns ≡ filter (λ n. is_some (name_of s.resources n)) (range_with_len 0 len)) →
     before ++ names_at s (take i ns) ≡ before ++ names_below s (length s.book.history)
-names_all s before ns i sound past are =
-    search (rules, length, take_all, placed_resources, named_alone, range_with_len, below_is)
+names_all s before ns i sound past are = search (rules, length, take_all, placed_resources, named_alone, range_with_len, below_is)
 
 pub text_step : (names : List Name) {more : List Name} (o : Option Name) (begun : List ℕ) {text new : List ℕ} (first : Bool) →
     more ≡ names ++ option_to_list o → first ≡ is_nil names → text ≡ begun ++ open_text names → new ≡ text ++ led_text first o → new ≡ begun ++ open_text more
-text_step names o begun first longer is written next =
-    search (rules, append_assoc, text_more)
+text_step names o begun first longer is written next = search (rules, append_assoc, text_more)
 
 pub first_step : (names more : List Name) (o : Option Name) (first new : Bool) → more ≡ names ++ option_to_list o → first ≡ is_nil names →
     new ≡ (first && not (is_some o)) → new ≡ is_nil more
-first_step names more o first new longer is next =
-    next ∙ ap (λ (b : Bool). b && not (is_some o)) is ∙ sym (nil_more names o) ∙ ap is_nil (sym longer)
+first_step names more o first new longer is next = next ∙ ap (λ (b : Bool). b && not (is_some o)) is ∙ sym (nil_more names o) ∙ ap is_nil (sym longer)
 
 -- what is held ---------------------------------------------------------------------------------------
 
@@ -121,8 +114,7 @@ module _ (s : Session) (sound : IsSound s) where
 
   leads_below : (k : ℕ) → Leads (bound_from s 0) (map released (names_below s k)) (bound_from s k)
   leads_below zero = no_act (λ n. refl)
-  leads_below (suc k) =
-      search (rules, map-append, option_to_list, leads_on, leads_one, leads_below k)
+  leads_below (suc k) = search (rules, map-append, option_to_list, leads_on, leads_one, leads_below k)
 
   from_zero : (n : Name) → bound_from s 0 n ≡ is_some (spot_of s.resources n)
   from_zero n = search (rules, option_map_or, not, nat_lt, is_some, le-ltb)
@@ -143,8 +135,7 @@ module _ (s : Session) (sound : IsSound s) where
       Leads held (map released (names_below s (length s.book.history))) (λ n. false)
   leads_bound held same =
       let start : (n : Name) → bound_from s 0 n ≡ held n = λ n. from_zero n ∙ same n in
-      let all =
-      leads_same held (bound_from s 0) (bound_from s (length s.book.history)) (map released (names_below s (length s.book.history))) start
+      let all = leads_same held (bound_from s 0) (bound_from s (length s.book.history)) (map released (names_below s (length s.book.history))) start
       (leads_below (length s.book.history)) in
       subst (λ (last : Name → Bool). Leads held (map released (names_below s (length s.book.history))) last) (λ i n. none_left n i) all
 

@@ -31,14 +31,11 @@ unbound_name untold book t name none = (λ i. is_some (no_node book t name none 
 
 pub late_name : (untold : Option Mail) (book : State) (t : Names) (name : Name) (s : Spot) → spot_of t name ≡ Some s → is_some untold ≡ true →
     is_node_in untold book t name ≡ true
-late_name untold book t name s found late =
-    search (rules, is_some, is_late_name)
+late_name untold book t name s found late = search (rules, is_some, is_late_name)
 
 pub known_name : (untold : Option Mail) (book : State) (t : Names) (name : Name) {s : Spot} (b : Bool) → spot_of t name ≡ Some s → is_some untold ≡ false →
-    has_key book.keys (key_at s) ≡ b →
-    is_node_in untold book t name ≡ b
-known_name untold book t name {s} b found told is =
-    search (rules, node_found, is_some)
+    has_key book.keys (key_at s) ≡ b → is_node_in untold book t name ≡ b
+known_name untold book t name {s} b found told is = search (rules, node_found, is_some)
 
 cond_either : {A : Type 0} (b : Bool) (o : Option A) → (cond b None o ≡ o) ⊎ (cond b None o ≡ None)
 cond_either x0 o = search rules
@@ -53,16 +50,13 @@ either_same a b c is x4 = search rules
 
 -- as the name of a closed node is forgotten
 pub open_forgot : (untold : Option Mail) (book : State) {old new : Names} (name : Name) (s : Spot) → is_some untold ≡ false → spot_of old name ≡ Some s →
-    has_key book.keys (key_at s) ≡ false →
-    Forgets old s.number name new → AreOpenSame untold book old new
+    has_key book.keys (key_at s) ≡ false → Forgets old s.number name new → AreOpenSame untold book old new
 open_forgot untold book {old} {new} name s told found closed forgets = record {
   kept = λ late. (let e : false ≡ true = sym told ∙ late in absurd (cc));
   nodes = λ n. by_name n (bytes_eq name n) refl;
-  spots =
-      λ n. either_same (spot_of new n) (cond (bytes_eq name n) None (spot_of old n)) (spot_of old n) (forgets.spots n)
+  spots = λ n. either_same (spot_of new n) (cond (bytes_eq name n) None (spot_of old n)) (spot_of old n) (forgets.spots n)
       (cond_either (bytes_eq name n) (spot_of old n));
-  names =
-      λ n. either_same (name_of new n) (cond (s.number == n) None (name_of old n)) (name_of old n) (forgets.names n)
+  names = λ n. either_same (name_of new n) (cond (s.number == n) None (name_of old n)) (name_of old n) (forgets.names n)
       (cond_either (s.number == n) (name_of old n));
 } where
   by_name : (n : Name) (b : Bool) → bytes_eq name n ≡ b → node_in book new n ≡ node_in book old n
@@ -76,8 +70,7 @@ pub free_forgot : (old new : Names) (number : ℕ) (name : Name) → Forgets old
 free_forgot old new number name forgets = search (rules, cond, bytes_eq-Decides)
 
 pub open_same : (untold : Option Mail) (book : State) (old new : Names) → AreSame old new → AreOpenSame untold book old new
-open_same untold book old new same =
-    search (rules, same_node)
+open_same untold book old new same = search (rules, same_node)
 
 either_on : {A : Type 0} (a b c : Option A) → (c ≡ b) ⊎ (c ≡ None) → (b ≡ a) ⊎ (b ≡ None) → (c ≡ a) ⊎ (c ≡ None)
 either_on a b c x3 q = search rules

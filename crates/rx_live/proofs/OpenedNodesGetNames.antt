@@ -21,14 +21,11 @@ unchanged_nodes s t sound same paired = search (rules, alike_nodes, sound_alike)
 -- and where room was made, too
 pub unchanged_room : (s : Session) (mid t : Names) → IsSound s → AreOpenSame s.untold s.book s.nodes mid → AreSame mid t → IsPaired t →
     IsUnchanged s (record s { nodes = t })
-unchanged_room s mid t sound same room paired =
-    search (rules, unchanged_nodes, open_on, open_same)
+unchanged_room s mid t sound same room paired = search (rules, unchanged_nodes, open_on, open_same)
 
 pub unchanged_rooms : {s : Session} {mid : Names} (t r : Names) → IsSound s → AreOpenSame s.untold s.book s.nodes mid → AreSame mid t → AreSame s.resources r →
-    IsPaired t → IsPaired r →
-    IsUnchanged s (record s { nodes = t; resources = r })
-unchanged_rooms {s} {mid} t r sound same room more paired pairs =
-    search (rules, open_on, open_same, same_names, sound_alike)
+    IsPaired t → IsPaired r → IsUnchanged s (record s { nodes = t; resources = r })
+unchanged_rooms {s} {mid} t r sound same room more paired pairs = search (rules, open_on, open_same, same_names, sound_alike)
 
 -- what is bound has to be free -----------------------------------------------------------------------
 
@@ -44,10 +41,8 @@ apart_of a b c none = (or_parts a b (or_parts (a || b) c none).0).1
 
 -- behind a node's own name that of its connection is free still
 pub connection_free : (s : Session) {name : Name} {spot : Spot} {mid : Names} (t with_node : Names) (other : Option Name) → is_open_taken s name other ≡ false →
-    AreSame mid t → Binds t name spot with_node →
-    IfSome other (λ n. spot_of mid n ≡ None) → IfSome other (λ n. spot_of with_node n ≡ None)
-connection_free s {name} {spot} {mid} t with_node other taken room binds free =
-    search (rules, other_free, apart_of, option_map_or, bytes_eq, room_free)
+    AreSame mid t → Binds t name spot with_node → IfSome other (λ n. spot_of mid n ≡ None) → IfSome other (λ n. spot_of with_node n ≡ None)
+connection_free s {name} {spot} {mid} t with_node other taken room binds free = search (rules, other_free, apart_of, option_map_or, bytes_eq, room_free)
 
 made_number : (h k : List Event) (n : ℕ) → connection_made h k ≡ Some n → n ≡ length h + 1
 made_number h k n is = search (rules, length, cond, same_Some, none-some)
@@ -60,8 +55,7 @@ made_unnamed h k placed binds is x5 e = search (rules, length, made_number, ne_e
 -- an opened node -------------------------------------------------------------------------------------
 
 nodes_sound : {s : Session} {asked : Request} {book : State} (t : Names) → IsSound s → IsPromised book → IsPaired t → IsPlaced book.history t →
-    Accepts s.book asked book →
-    keeps_resources asked.call ≡ true → keeps_leases asked.call ≡ true → IsSound (record s { book = book; nodes = t })
+    Accepts s.book asked book → keeps_resources asked.call ≡ true → keeps_leases asked.call ≡ true → IsSound (record s { book = book; nodes = t })
 nodes_sound {s} {asked} {book} t sound kept paired placed accepts resources leases = search (rules, placed, placed_longer, accepted_longer, kept_same, out_same)
 
 -- names as some of closed nodes are forgotten, and as room is made
@@ -91,11 +85,9 @@ module _ {s : Session} {mid t : Names} (sound : IsSound s) (same : AreOpenSame s
         let asked : Request = open_request s.book place kind in
         let steps = step_longer s.book.base s.book.history book.history asked.call accepts.step in
         let longer : length s.book.history < length book.history = omega arith in
-        let one : IsPlaced book.history with_node =
-        placed_bound book.history (placed_longer s.book.history book.history t placed (omega arith)) node.binds
+        let one : IsPlaced book.history with_node = placed_bound book.history (placed_longer s.book.history book.history t placed (omega arith)) node.binds
         (let l : node.spot.number ≡ length s.book.history = node.is in omega arith) in
-        let two : IsPlaced book.history new =
-        made_placed book.history with_node new connection (connection_made s.book.history book.history)
+        let two : IsPlaced book.history new = made_placed book.history with_node new connection (connection_made s.book.history book.history)
         (subst (λ (m : Option ℕ). BindsMade with_node connection m new) opened.connection made) one (made_within s.book.history book.history) in
         nodes_sound new sound kept paired two accepts refl refl
 
@@ -122,8 +114,7 @@ module _ {s : Session} {mid t : Names} (sound : IsSound s) (same : AreOpenSame s
         hub_pairs = sound.hub_pairs;
         resource_pairs = paired;
         lease_pairs = sound.lease_pairs;
-        nodes =
-            placed_bound book.history (placed_longer s.book.history book.history t (placed sound same room) (omega arith)) node.binds
+        nodes = placed_bound book.history (placed_longer s.book.history book.history t (placed sound same room) (omega arith)) node.binds
             (let l : node.spot.number ≡ length s.book.history = node.is in omega arith);
         hubs = placed_longer s.book.history book.history s.hubs sound.hubs (omega arith);
         resources = λ r. ap is_some (held_binds.names r) ∙ some_cond (held.spot.number == r) res (name_of s.resources r)
@@ -149,8 +140,7 @@ module _ {s : Session} {mid t : Names} (sound : IsSound s) (same : AreOpenSame s
       let asked : Request = connect_request hub in
       let steps = step_longer s.book.base s.book.history book.history asked.call accepts.step in
       let longer : length s.book.history < length book.history = omega arith in
-      let all : IsPlaced book.history new =
-      made_placed book.history t new name (Some (length s.book.history)) made
+      let all : IsPlaced book.history new = made_placed book.history t new name (Some (length s.book.history)) made
       (placed_longer s.book.history book.history t (placed sound same room) (omega arith))
       (λ n is. let l : length s.book.history ≡ n = same_Some (length s.book.history) n is in omega arith) in
       nodes_sound new sound kept paired all accepts refl refl
@@ -163,5 +153,4 @@ on_err x0 x1 p = search rules
 -- the book stays as it was
 pub with_book : (s : Session) (book : State) (nodes resources : Names) → book ≡ s.book → IsUnchanged s (record s { nodes = nodes; resources = resources }) →
     IsUnchanged s (record s { book = book; nodes = nodes; resources = resources })
-with_book s book nodes resources same unchanged =
-    search rules
+with_book s book nodes resources same unchanged = search rules

@@ -20,8 +20,7 @@ same_causes s place kind x3 = search rules
 
 -- as the book says it of a resource that is fresh
 pub causes_of : (s : State) (at : At) (kind : Kind) {fresh : Bool} → fresh ≡ true → stands_holding s at kind fresh ≡ holder_causes s (holder_at at kind)
-causes_of s at kind fresh =
-    search (rules, same_causes)
+causes_of s at kind fresh = search (rules, same_causes)
 
 -- the two steps ---------------------------------------------------------------------------------------
 
@@ -45,8 +44,7 @@ module _ {old new : State} {asked : Holder} (o : OpensHolder old asked new) wher
   -- what is accepted is kept, and all that was
   kept_after : (r : ℕ) → is_kept new.history r ≡ cond (length o.middle.history == r) true (is_kept old.history r)
   kept_after r =
-      let law : IsLawful o.middle.base o.middle.history =
-      subst (λ (b : Kept). IsLawful b o.middle.history) (sym o.opens.base) o.opens.step.lawful in
+      let law : IsLawful o.middle.base o.middle.history = subst (λ (b : Kept). IsLawful b o.middle.history) (sym o.opens.base) o.opens.step.lawful in
       kept_held law o.holds.step r ∙ ap (λ (b : Bool). cond (length o.middle.history == r) true b) (kept_same opening o.opens.step refl r)
 
 -- the names -------------------------------------------------------------------------------------------
@@ -76,8 +74,7 @@ module _ {s : Session} {mid t : Names} (sound : IsSound s) (same : AreOpenSame s
       let one : IsPlaced book.history with_node =
       placed_bound book.history (placed_longer s.book.history book.history t (placed sound same room) (omega arith)) node.binds
       (let n : node.spot.number ≡ length s.book.history = node.is in omega arith) in
-      let two : IsPlaced book.history new =
-      made_placed book.history with_node new connection (connection_made s.book.history book.history)
+      let two : IsPlaced book.history new = made_placed book.history with_node new connection (connection_made s.book.history book.history)
       (subst (λ (m : Option ℕ). BindsMade with_node connection m new) is_opened.connection made) one (made_within s.book.history book.history) in
       record {
         kept = kept;

@@ -19,14 +19,12 @@ kept_shape x0 x1 x2 p = search rules
 -- what is kept is held or waits
 kept_is : (base : Kept) (h : List Event) → IsLawful base h → (r : ℕ) → is_kept h r ≡ (is_held h r || is_waiting h r)
 unfolding is_waiting is_taken is_kept
-kept_is base h law r =
-    search (rules, kept_shape, list_any, held_resource, held_not_taken)
+kept_is base h law r = search (rules, kept_shape, list_any, held_resource, held_not_taken)
 
 -- a session that is sound stays so --------------------------------------------------------------------
 
 pub renewed_sound : (s : Session) (book : State) (nodes : Names) → IsSound s → IsPromised book → Checkpoints s.book book → IsPaired nodes →
-    AreOpenSame None book s.nodes nodes →
-    IsSound (record s { book = book; nodes = nodes })
+    AreOpenSame None book s.nodes nodes → IsSound (record s { book = book; nodes = nodes })
 renewed_sound s book nodes sound kept made paired same = record {
   kept = kept;
   node_pairs = paired;
@@ -47,17 +45,14 @@ renewed_sound s book nodes sound kept made paired same = record {
 -- what is still to be told ----------------------------------------------------------------------------
 
 told_before : (s : Session) → s.untold ≡ None → first_cause (checkpoint_causes s.book.history s.book.given) ≡ None → to_tell s ≡ []
-told_before s none free =
-    search (rules, length, ltb-false, no_cause, option_to_list, drop, drop_all)
+told_before s none free = search (rules, length, ltb-false, no_cause, option_to_list, drop, drop_all)
 
 told_after : (s : Session) (book : State) (nodes : Names) → s.untold ≡ None → IsPromised book → Checkpoints s.book book →
     to_tell (record s { book = book; nodes = nodes }) ≡ []
-told_after s book nodes none kept made =
-    search (rules, made_untold, length, option_to_list, drop, drop_all)
+told_after s book nodes none kept made = search (rules, made_untold, length, option_to_list, drop, drop_all)
 
 pub renews : (s : Session) (book : State) (nodes : Names) → s.untold ≡ None → IsPromised book → Checkpoints s.book book →
-    AreOpenSame None book s.nodes nodes → AreOpen book nodes →
-    Renews s (record s { book = book; nodes = nodes })
+    AreOpenSame None book s.nodes nodes → AreOpen book nodes → Renews s (record s { book = book; nodes = nodes })
 renews s book nodes none kept made same alive = record {
   told = told_before s none made.no_cause;
   book = made;
@@ -87,8 +82,7 @@ mail_left s some = let left : renewing_causes s MailLeft ≡ true = left_over s 
 
 -- where the book refuses it
 pub renewing_refused : (s : Session) (book : State) (why : Refusal) (result : Result Outcome AllocError) → IfOk result (λ o. o ≡ Refused (Book why)) →
-    IsRefusal (renewing_causes s) why →
-    book ≡ s.book → IfOk result (λ o. Renewing s o (record s { book = book }))
+    IsRefusal (renewing_causes s) why → book ≡ s.book → IfOk result (λ o. Renewing s o (record s { book = book }))
 renewing_refused s book why x3 told refusal same = search rules
 
 pub refused_same : (old new : Session) (why : Cause) → Renewing old (Refused why) new → new ≡ old
@@ -115,8 +109,7 @@ pub full_by_age : (old new : Session) (t : Task) (why : Cause) → Does old t (R
 full_by_age old new t why does alike both = search (rules, full_why, and_parts)
 
 pub full_by_open : (old new : Session) (why : Cause) → IsPromised old.book → IsAlike old new → (is_full why && may_renew new) ≡ false → IsFullByOpen old why
-full_by_open old new why kept alike none =
-    search (rules, by_open)
+full_by_open old new why kept alike none = search (rules, by_open)
 
 -- behind a checkpoint a history is young
 at_base : (b : Kept) (h : List Event) → (base_of b h).at_length ≡ length h
@@ -124,5 +117,4 @@ unfolding base_of
 at_base b h = refl
 
 pub young : (old new : Session) → Renews old new → may_renew new ≡ true → ⊥
-young old new renews aged =
-    search (rules, length, at_base, nat_lt, le-ltb, and_right, not)
+young old new renews aged = search (rules, length, at_base, nat_lt, le-ltb, and_right, not)

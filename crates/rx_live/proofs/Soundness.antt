@@ -1,8 +1,7 @@
 -- A session stays sound as its book goes on.
-use Rattle.rx_live.proofs.Common.{◌≡◌, ℕ, ◌≤◌, true, false, Some, Result, length, refl, sym, ap, ◌∙◌, arith, List}
-use Rattle.rx_live.proofs.Common.{[], IfErr, OnOk, OnErr, is_some, Refusal, none-some, Event, is_out, is_out_past, IsPaired, State, is_kept}
-use Rattle.rx_live.proofs.Common.{IsPromised, Request, Accepts, IsCauseOrWant, step_longer, Outcome, Session, IsSound, IsFresh, outcome_of, Goes}
-use Rattle.rx_live.proofs.Common.{keeps_resources, keeps_leases, kept_same, out_same}
+use Rattle.rx_live.proofs.Common.{◌≡◌, ℕ, ◌≤◌, true, false, Some, Result, length, refl, sym, ap, ◌∙◌, arith, List, [], IfErr, OnOk, OnErr, is_some, Refusal}
+use Rattle.rx_live.proofs.Common.{none-some, Event, is_out, is_out_past, IsPaired, State, is_kept, IsPromised, Request, Accepts, IsCauseOrWant, step_longer}
+use Rattle.rx_live.proofs.Common.{Outcome, Session, IsSound, IsFresh, outcome_of, Goes, keeps_resources, keeps_leases, kept_same, out_same}
 use Rattle.std.proofs.Common.{rules}
 
 pub accepted_longer : (old new : State) (asked : Request) → Accepts old asked new → length old.history ≤ length new.history
@@ -10,8 +9,7 @@ accepted_longer old new asked accepts = let l = step_longer old.base old.history
 
 -- a call that accepts and takes no resource, and gives and takes back no lease
 pub sound_on : (s : Session) (asked : Request) (book : State) → IsSound s → IsPromised book → Accepts s.book asked book → keeps_resources asked.call ≡ true →
-    keeps_leases asked.call ≡ true →
-    IsSound (record s { book = book })
+    keeps_leases asked.call ≡ true → IsSound (record s { book = book })
 sound_on s asked book sound kept accepts resources leases = search (rules, kept, accepted_longer, kept_same, leases, out_same)
 
 -- what is known of the book's answer to such a call

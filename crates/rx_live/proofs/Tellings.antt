@@ -34,18 +34,14 @@ telling_names a b p = ap (λ (s : Session). s.nodes) p
 
 -- one piece more
 pub joined_more : (p : List ℕ) (ps : List (List ℕ)) (q : List ℕ) → joined (p ∷ ps) ++ codes "," ++ q ≡ joined (p ∷ (ps ++ q ∷ []))
-joined_more p ps q =
-    search (rules, codes, flat_map, append-nil, append_assoc, flat_map-append)
+joined_more p ps q = search (rules, codes, flat_map, append-nil, append_assoc, flat_map-append)
 
 pub array_more : {A : Type 0} (f : A → List ℕ) (begun front : List ℕ) (first : A) (more : List A) (x : A) (text : List ℕ) →
-    text ≡ begun ++ front ++ joined (map f (first ∷ more)) →
-    text ++ codes "," ++ f x ≡ begun ++ front ++ joined (map f (first ∷ (more ++ x ∷ [])))
-array_more f begun front first more x text is =
-    search (rules, map, codes, append_assoc, joined_more, map-append)
+    text ≡ begun ++ front ++ joined (map f (first ∷ more)) → text ++ codes "," ++ f x ≡ begun ++ front ++ joined (map f (first ∷ (more ++ x ∷ [])))
+array_more f begun front first more x text is = search (rules, map, codes, append_assoc, joined_more, map-append)
 
 pub array_end : (begun front body : List ℕ) (text : List ℕ) → text ≡ begun ++ front ++ body → text ++ codes "]" ≡ begun ++ (front ++ body ++ codes "]")
-array_end begun front body text is =
-    search (rules, codes, append_assoc)
+array_end begun front body text is = search (rules, codes, append_assoc)
 
 -- the loop of a telling: its first note, one more, and its end
 pub notes_begun : (old now : Session) (begun text : List ℕ) → WritesNote old begun (codes ",\"notes\":[") now text → AreNotesWritten old begun now text

@@ -1,13 +1,10 @@
 -- The calls that steps make: none is the taking of a resource, and every step but a drain and a checkpoint makes one where no cause of the scenario's
 -- own stands.
-use Rattle.rx_script.proofs.Common.{◌≡◌, ◌⊎◌, ℕ, Bool, false, List, Option, Some, None, cond, slice_get, refl, subst, ◌||◌}
-use Rattle.rx_script.proofs.Common.{is_none, option_map, false≢true, same_Some, none-some, Event, Source, Inner}
-use Rattle.rx_script.proofs.Common.{Notifier, Call, Applying}
-use Rattle.rx_script.proofs.Common.{Aborting, IsReady}
-use Rattle.rx_script.proofs.Common.{NoName, NameTaken, NoStock, bound, Site, root, source, inner, notifier, Sort}
-use Rattle.rx_script.proofs.Common.{Command, using, open_node, hold, apply, remove, lease, give_back, next, end, abort, decline, fail}
-use Rattle.rx_script.proofs.Common.{dispose, connect, disconnect, drain, checkpoint, Ware, Stage, is_unbound_site, is_unbound_hub, is_empty}
-use Rattle.rx_script.proofs.Common.{lacks_name, lacks_stock, ◌∙◌, own_cause, place_at, kind_at, call_of, after}
+use Rattle.rx_script.proofs.Common.{◌≡◌, ◌⊎◌, ℕ, Bool, false, List, Option, Some, None, cond, slice_get, refl, subst, ◌||◌, is_none, option_map, false≢true}
+use Rattle.rx_script.proofs.Common.{same_Some, none-some, Event, Source, Inner, Notifier, Call, Applying, Aborting, IsReady, NoName, NameTaken, NoStock, bound}
+use Rattle.rx_script.proofs.Common.{Site, root, source, inner, notifier, Sort, Command, using, open_node, hold, apply, remove, lease, give_back, next, end}
+use Rattle.rx_script.proofs.Common.{abort, decline, fail, dispose, connect, disconnect, drain, checkpoint, Ware, Stage, is_unbound_site, is_unbound_hub}
+use Rattle.rx_script.proofs.Common.{is_empty, lacks_name, lacks_stock, ◌∙◌, own_cause, place_at, kind_at, call_of, after}
 use Rattle.rx_script.proofs.MadeOfOptions.{made_of, made_of_two, is_none-map, is_none-two}
 use Rattle.std.proofs.Common.{rules}
 
@@ -47,8 +44,7 @@ none_stocked x0 = search rules
 -- without a cause of the scenario's own it makes one
 called : (s : Stage) (step : Command) → is_none (call_of s step) ≡ (lacks_name s step || lacks_stock s step) → own_cause s step ≡ None
     → call_of s step ≡ None → ⊥
-called s step same own uncalled =
-    search (rules, no_cause_of_own, false≢true, is_none)
+called s step same own uncalled = search (rules, no_cause_of_own, false≢true, is_none)
 
 pub not_called : (s : Stage) (step : Command) → own_cause s step ≡ None → call_of s step ≡ None → (step ≡ drain) ⊎ (step ≡ checkpoint)
 not_called s x1 own none = search (rules, called, using, is_none-two, none_placed, none_stocked, open_node, none_sorted, plain, hold, apply, none_bound, Applying, remove, lease, give_back, next, end, abort, Aborting, decline, fail, dispose, connect, disconnect, none-some)

@@ -15,8 +15,7 @@ module _ {t : Tallies} {s : State} {h : List Event} (w : IsHistoryOf h t s) (kep
   goes_on = search (rules, kept_length, drop, length, shown_length, drop-append_seam)
 
   told : notes w.front ++ drop s.given (notes s.history) ≡ notes h
-  told =
-      search (rules, drop, notes_whole, stored_lawful)
+  told = search (rules, drop, notes_whole, stored_lawful)
 
   pub gathered : (u : Tallies) → Gathers t u s → AreTalliesOf h u
   gathered u gathers = record {

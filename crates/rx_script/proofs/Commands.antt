@@ -1,13 +1,12 @@
 -- The commands that make a call of the book as a value: what is known of each by that call, and that an engine carries it out.
 use Rattle.rx_script.proofs.Common.{◌≡◌, ℕ, List, Bool, true, false, refl, sym, ap, subst, ◌∙◌, cond, ◌≢◌, Option, Some, None, is_none, option_map, map, not}
 use Rattle.rx_script.proofs.Common.{option_and_then, Kind, Refusal, Gone, NoMemory, is_open, is_held, Call, Opening, Emitting, Ending, Aborting, Declining}
-use Rattle.rx_script.proofs.Common.{Failing, Disposing, Applying, Removing, Leasing, GivingBack, first_cause, Key, ResKey, At, State, has_key}
-use Rattle.rx_script.proofs.Common.{has_res_key, has_lease_key, place_of, is_known_place, causes, by_key, by_res_key, stands, Refused}
-use Rattle.rx_script.proofs.Common.{Cause, NoName, NameTaken, NoStock, Book, Named, Engine, Name, Site, Sort, Command, open_node, apply, remove, lease}
-use Rattle.rx_script.proofs.Common.{next, end, abort, decline, fail, dispose, make_hub, connect, disconnect, false≢true}
-use Rattle.rx_script.proofs.Common.{lacks_name, takes_name, lacks_stock, kind_at, call_of, front_is_fresh, bound, is_unbound, key_of, at_of, kind_of}
-use Rattle.rx_script.proofs.Common.{IsSound, Carries, IsNodeKey, IsHeldKey, IsLeaseKey, key_of-holds}
-use Rattle.rx_script.proofs.Common.{is_unbound_hub, own_cause, bound-numbers, give_back}
+use Rattle.rx_script.proofs.Common.{Failing, Disposing, Applying, Removing, Leasing, GivingBack, first_cause, Key, ResKey, At, State, has_key, has_res_key}
+use Rattle.rx_script.proofs.Common.{has_lease_key, place_of, is_known_place, causes, by_key, by_res_key, stands, Refused, Cause, NoName, NameTaken, NoStock}
+use Rattle.rx_script.proofs.Common.{Book, Named, Engine, Name, Site, Sort, Command, open_node, apply, remove, lease, next, end, abort, decline, fail, dispose}
+use Rattle.rx_script.proofs.Common.{make_hub, connect, disconnect, false≢true, lacks_name, takes_name, lacks_stock, kind_at, call_of, front_is_fresh, bound}
+use Rattle.rx_script.proofs.Common.{is_unbound, key_of, at_of, kind_of, IsSound, Carries, IsNodeKey, IsHeldKey, IsLeaseKey, key_of-holds, is_unbound_hub}
+use Rattle.rx_script.proofs.Common.{own_cause, bound-numbers, give_back}
 use Rattle.rx_agenda.proofs.Laws.{bound-keys}
 use Rattle.rx_event.specs.Causes.{by_lease_key}
 use Rattle.rx_event.specs.declared.refusal.Refusal.TheVariants.{NotHeld, NoLease}
@@ -19,8 +18,8 @@ use Rattle.rx_script.specs.KeyedCalls.{is_asked, keyed_call, rebinds}
 use Rattle.rx_script.proofs.MadeOfOptions.{is_none-map}
 use Rattle.rx_script.proofs.KeysByNumber.{has_key-is_open, has_res_key-is_held, has_lease_key-is_out}
 use Rattle.rx_script.proofs.EngineCarriesOut.{Agrees, first_cause-by_key, with, refused_own, refused_there, stored_stage, cause_of}
-use Rattle.rx_script.proofs.Openings.{binding_by, IsPlaced, site_placed, site_nameless, is_bound-nodes, is_bound-leases, is_bound-hubs}
-use Rattle.rx_script.proofs.Openings.{taken-bound, taken_beside-bound}
+use Rattle.rx_script.proofs.Openings.{binding_by, IsPlaced, site_placed, site_nameless, is_bound-nodes, is_bound-leases, is_bound-hubs, taken-bound}
+use Rattle.rx_script.proofs.Openings.{taken_beside-bound}
 use Rattle.std.proofs.Common.{rules}
 
 -- it uses no name that is not bound, and takes nothing of the stock; it is this call of the stage, and refused by keys as by numbers
@@ -67,8 +66,7 @@ module _ {R : Type 0} (e : Engine R) (sound : IsSound e) where
   at_node : (step : Command) (node : Name) (f : Key → Asked) → lacks_name (stored_stage e) step ≡ is_unbound (stored_stage e).nodes node
       → ((k : Key) → bound (stored_stage e).nodes node ≡ Some k.number
       → ((stand : Refusal → Bool) → (is_open e.book.history k.number ≡ false → stand Gone ≡ true)
-      → first_cause (by_key (has_key e.book.keys k) stand) ≡ first_cause stand)
-      → IsCalled e step (f k))
+      → first_cause (by_key (has_key e.book.keys k) stand) ≡ first_cause stand) → IsCalled e step (f k))
       → IsResolved e step (option_map f (key_of e.nodes node))
   at_node step node f lacks called = by_name e step (λ k. k.number) e.nodes node f (key_of e.nodes node) refl lacks (λ k at is.
       called k is (λ stand gone. first_cause-by_key (has_key e.book.keys k) stand (λ unknown.
@@ -77,8 +75,7 @@ module _ {R : Type 0} (e : Engine R) (sound : IsSound e) where
   at_res : (step : Command) (res : Name) (f : ResKey → Asked) → lacks_name (stored_stage e) step ≡ is_unbound (stored_stage e).resources res
       → ((k : ResKey) → bound (stored_stage e).resources res ≡ Some k.number
       → ((stand : Refusal → Bool) → (is_held e.book.history k.number ≡ false → first_cause stand ≡ Some NotHeld)
-      → first_cause (by_res_key (has_res_key e.book.res_keys k) stand) ≡ first_cause stand)
-      → IsCalled e step (f k))
+      → first_cause (by_res_key (has_res_key e.book.res_keys k) stand) ≡ first_cause stand) → IsCalled e step (f k))
       → IsResolved e step (option_map f (key_of e.resources res))
   at_res step res f lacks called = by_name e step (λ k. k.number) e.resources res f (key_of e.resources res) refl lacks (λ k at is.
       called k is (λ stand gone. by_res_same (has_res_key e.book.res_keys k) stand (λ unknown.
@@ -103,8 +100,7 @@ module _ {R : Type 0} (e : Engine R) (sound : IsSound e) where
         → IsResolved e (open_node name site sort) (option_map (Open place) o)
     of_kind place facts None none =
         let named = facts.named in
-        let hubless : is_unbound_hub (stored_stage e) sort ≡ true = hub_same e sort ∙ ap is_none none in
-        rw (named, hubless) refl
+        let hubless : is_unbound_hub (stored_stage e) sort ≡ true = hub_same e sort ∙ ap is_none none in rw (named, hubless) refl
     of_kind place facts (Some kind) is =
         let placed = facts.named in
         let hubbed : is_unbound_hub (stored_stage e) sort ≡ false = hub_same e sort ∙ ap is_none is in

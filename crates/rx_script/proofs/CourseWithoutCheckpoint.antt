@@ -1,8 +1,7 @@
 -- A course of a scenario that makes no checkpoint is at none.
 use Rattle.rx_script.proofs.Common.{◌≡◌, ℕ, zero, suc, ◌<◌, false, List, [], ◌∷◌, ◌++◌, Some, map, slice_get, refl, ap, ◌∙◌, arith, AllByRecursion, Event}
 use Rattle.rx_script.proofs.Common.{Answer, Placed, Executed, done_in, Command, checkpoint, Action, command, Step, steps_of, Script, has_checkpoint}
-use Rattle.rx_script.proofs.Common.{list_of-steps_of, Ware, Stage, after, Manner, Executes, Does}
-use Rattle.rx_script.proofs.Common.{Plays, none_played, one_played, Course, IsCourseIn}
+use Rattle.rx_script.proofs.Common.{list_of-steps_of, Ware, Stage, after, Manner, Executes, Does, Plays, none_played, one_played, Course, IsCourseIn}
 use Rattle.rx_agenda.specs.Order.{IsHeld, by_scenario, by_step, IsInOrder}
 use Rattle.rx_scenario.specs.Checkpoints.{makes_checkpoint}
 use Rattle.rx_scenario.proofs.Laws.Checkpoints.{is_checkpoint-makes, has_checkpoint-followers, makes_checkpoint-at}
@@ -57,6 +56,5 @@ each_plain (e ∷ es) each = (each 0 e refl, each_plain es (λ i x there. each (
 
 pub unchecked : (m : Manner) (script : Script) (stock : List Ware) (c : Course) → IsCourseIn m script stock c
     → has_checkpoint (steps_of script.steps) ≡ false → c.last.checked ≡ 0
-unchecked m script stock c is none =
-    played_unchecked is.plays (each_plain is.executed
+unchecked m script stock c is none = played_unchecked is.plays (each_plain is.executed
     (λ i e there. all_plain script.steps script.until is.executed is.in_order none (suc i) i e (omega arith) there))

@@ -131,15 +131,13 @@ record IsGone (until : ℕ) (p : Progress) : Type 0 where
   pub goes_on : GoesOn until p answers last
 
 go_far : (until steps : ℕ) (p : Progress) → IsLawful nothing_kept p.stage.history
-    → IsSettled nothing_kept p.stage.history → IsOrderly p.agenda → to_come p.agenda < steps
-    → IsGone until p
+    → IsSettled nothing_kept p.stage.history → IsOrderly p.agenda → to_come p.agenda < steps → IsGone until p
 go_far until zero p law settled orderly few = absurd (omega arith)
 go_far until (suc steps) p law settled orderly few = by_next (next_step until p.agenda) refl
     (λ q one also in_order less. go_far until steps q one also in_order (let a = less in let b = few in omega arith)) where
       by_next : (o : Option (Step × Agenda)) → next_step until p.agenda ≡ o
           → ((q : Progress) → IsLawful nothing_kept q.stage.history → IsSettled nothing_kept q.stage.history
-          → IsOrderly q.agenda → to_come q.agenda < to_come p.agenda → IsGone until q)
-          → IsGone until p
+          → IsOrderly q.agenda → to_come q.agenda < to_come p.agenda → IsGone until q) → IsGone until p
       by_next None over on = record { answers = []; last = p.stage; goes_on = halts over }
       by_next (Some (step, rest)) comes on = record { answers = w.answer ∷ beyond.answers; last = beyond.last; goes_on = goes advances beyond.goes_on } where
         left : IsLeft p.agenda step rest
@@ -163,8 +161,7 @@ go_far until (suc steps) p law settled orderly few = by_next (next_step until p.
 -- the same course, as it grows
 led_on : {until : ℕ} {first p : Progress} {answers rest : List Answer} {last : Stage} → Leads in_one_order until first answers p → GoesOn until p rest last
     → Ends in_one_order until first (answers ++ rest) last
-led_on {until = until} {first = first} {p = p} {answers = answers} leads (halts over) =
-    search (rules, Answer, in_one_order, append-nil)
+led_on {until = until} {first = first} {p = p} {answers = answers} leads (halts over) = search (rules, Answer, in_one_order, append-nil)
 led_on {until = until} {first = first} {answers = answers} {last = last} leads (goes {answer = answer} {answers = rest} step on) =
     subst (λ (l : List Answer). Ends in_one_order until first l last) (append_assoc answers (answer ∷ []) rest) (led_on (advanced leads step) on)
 

@@ -56,8 +56,7 @@ module _ {t : Tallies} {s : State} {h : List Event} (w : IsHistoryOf h t s) (kep
   -- the causes against a call are the same
   cause_same : (fresh : Bool) (call : Call)
       → first_cause (causes nothing_kept h (s.base.at_length + s.limit) fresh call) ≡ first_cause (causes s.base s.history s.limit fresh call)
-  cause_same fresh call =
-      search (rules, same_row, history_agrees, history_lawful)
+  cause_same fresh call = search (rules, same_row, history_agrees, history_lawful)
 
   -- the history with these events more
   abbrev on : List Event → List Event
@@ -70,8 +69,7 @@ module _ {t : Tallies} {s : State} {h : List Event} (w : IsHistoryOf h t s) (kep
   on_stored events = search (rules, append_assoc)
 
   history_on : (u : Tallies) (new : State) (events : List Event) → u ≡ t → new.base ≡ s.base → new.given ≡ s.given
-      → new.history ≡ stored s.base (w.since ++ events)
-      → IsHistoryOf (on events) u new
+      → new.history ≡ stored s.base (w.since ++ events) → IsHistoryOf (on events) u new
   history_on u new events same_tallies same_base same_given same_history = search rules
 
 -- refusals by the book -------------------------------------------------------------------------------
@@ -104,10 +102,8 @@ unchanged {R} {e} step answer book stock sound same_book same_stock executes =
     subst (λ b. Carries e step answer (with e b stock)) (sym same_book) at_book
 
 pub refused_own : {R : Type 0} {e : Engine R} (step : Command) (why : Cause) (book : State) (stock : Shelf) → IsSound e → book ≡ e.book
-    → stock.wares ≡ e.stock.wares
-    → own_cause (stored_stage e) step ≡ Some why → Carries e step (Refused why) (with e book stock)
-refused_own {e} step why book stock sound same_book same_stock own =
-    search (rules, unchanged, refused, own_kept, own)
+    → stock.wares ≡ e.stock.wares → own_cause (stored_stage e) step ≡ Some why → Carries e step (Refused why) (with e book stock)
+refused_own {e} step why book stock sound same_book same_stock own = search (rules, unchanged, refused, own_kept, own)
 
 pub refused_there : {R : Type 0} {e : Engine R} {step : Command} {asked : Request} {why : Refusal} (book : State) (stock : Shelf) → IsSound e
     → book ≡ e.book → stock.wares ≡ e.stock.wares → Agrees e asked step
@@ -146,8 +142,7 @@ module _ {R : Type 0} {e new : Engine R} {step : Command} {asked : Request} (sou
     long = (history_agrees w sound.kept).same_length
 
     ends : after (stage_of e h) step then ≡ stage_of new then
-    ends =
-        after_kept (stored_stage e) h e.book.base.at_length step plain then new.book.history long
+    ends = after_kept (stored_stage e) h e.book.base.at_length step plain then new.book.history long
         (ap (connection_made h) (on_whole w sound.kept over.events) ∙ connection_past h e.book.history over.events long
         ∙ ap (connection_made e.book.history) (sym (over.same ∙ on_stored w sound.kept over.events)))
         ∙ ap (λ (s : Stage). with_history s then e.book.base.at_length) (sym done.staged)
@@ -201,8 +196,7 @@ module _ {R : Type 0} (e : Engine R) (book : State) (faults : ℕ) (sound : IsSo
         (subst (λ (l : List Event). Drains e.book.base l book.history) w.history drains)
 
   pub drained_to : (released : ℕ) → IsPromised book → taken_count book.base book.history ≡ taken_count e.book.base e.book.history + released
-      → faults ≤ e.faults + released
-      → Carries e drain Accepted drained_engine
+      → faults ≤ e.faults + released → Carries e drain Accepted drained_engine
   drained_to released kept rose few = record {
     executes = drains_to;
     sound = let older = keys_kept sound kept goes in record {

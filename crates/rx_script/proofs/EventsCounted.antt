@@ -14,8 +14,7 @@ at-push p h e n = by_order (cases_order (length h) n) where
   at_end b is = ap (λ b. cond b (p e) (at p h n)) (sym is)
 
   by_order : (length h ≡ n) ⊎ ((length h < n) ⊎ (n < length h)) → at p (h ++ e ∷ []) n ≡ cond (length h == n) (p e) (at p h n)
-  by_order (inl same) =
-      ap (at p (h ++ e ∷ [])) (sym same) ∙ ap (λ o. option_map_or p o false) (slice_get_last h e) ∙ at_end true (eq-eqb (length h) n same)
+  by_order (inl same) = ap (at p (h ++ e ∷ [])) (sym same) ∙ ap (λ o. option_map_or p o false) (slice_get_last h e) ∙ at_end true (eq-eqb (length h) n same)
   by_order (inr (inl past)) =
       beyond p (h ++ e ∷ []) n (omega (arith, length-append h (e ∷ []))) ∙ sym (beyond p h n (omega arith)) ∙ at_end false (ne_eqb (length h) n (omega arith))
   by_order (inr (inr older)) = at-append p h (e ∷ []) n older ∙ at_end false (ne_eqb (length h) n (omega arith))
@@ -23,8 +22,7 @@ at-push p h e n = by_order (cases_order (length h) n) where
 -- a node that is told something, and an event that makes none
 pub told_more : (h : List Event) (e : Event) (n : ℕ) {place : ℕ} {old : Bool} (new : Bool) → place ≡ length h → is_told e ≡ true
     → old ≡ at is_told h n → new ≡ cond (place == n) true old → new ≡ at is_told (h ++ e ∷ []) n
-told_more h e n new is told before here =
-    here ∙ (λ i. cond (is i == n) (sym told i) (before i)) ∙ sym (at-push is_told h e n)
+told_more h e n new is told before here = here ∙ (λ i. cond (is i == n) (sym told i) (before i)) ∙ sym (at-push is_told h e n)
 
 pub told_same : (h : List Event) (e : Event) (n : ℕ) → is_told e ≡ false → at is_told h n ≡ at is_told (h ++ e ∷ []) n
 told_same h e n untold = sym (at-push is_told h e n ∙ by_order (cases_order (length h) n)) where

@@ -3,8 +3,7 @@ use Rattle.rx_script.proofs.Common.{◌≡◌, ◌∷◌, [], List, Bool, true, 
 use Rattle.rx_script.proofs.Common.{slice_get, drop, not, Refusal, NoMemory, Gone, is_open, Call, OpeningUsing, Holding, first_cause, IsRefusal, Key, ResKey}
 use Rattle.rx_script.proofs.Common.{At, State, IsPromised, has_key, causes, by_key, Request, place_of, is_known_place, stands, Accepts, IsNewResKey, Accepted}
 use Rattle.rx_script.proofs.Common.{Refused, NoName, NameTaken, NoStock, Book, Named, Engine, Name, Site, using, hold, Ware, is_empty, own_cause, front}
-use Rattle.rx_script.proofs.Common.{front_is_fresh, bound, Shelf, key_of, IsNodeKey, IsHeldKey, at_of, IsSound, Carries, key_of-holds}
-use Rattle.rx_script.proofs.Common.{accepted_continues}
+use Rattle.rx_script.proofs.Common.{front_is_fresh, bound, Shelf, key_of, IsNodeKey, IsHeldKey, at_of, IsSound, Carries, key_of-holds, accepted_continues}
 use Rattle.rx_book.specs.declared.answer.OpenedUsing.{OpenedUsing}
 use Rattle.rx_book.specs.Answers.{IsOpenedUsing}
 use Rattle.rx_script.proofs.KeysByNumber.{has_key-is_open}
@@ -33,8 +32,7 @@ module _ {R : Type 0} (e : Engine R) (w : Ware) (rest : List Ware) (stocked : e.
   pub same_stocked : (known : Bool) (call : Call) → (known ≡ false → causes e.book.base e.book.history e.book.limit w.is_fresh call Gone ≡ true)
       → first_cause (by_key known (causes e.book.base e.book.history e.book.limit w.is_fresh call))
       ≡ first_cause (causes e.book.base e.book.history e.book.limit (front_is_fresh (stored_stage e)) call)
-  same_stocked known call gone =
-      search (rules, first_cause-by_key, fresh_stocked)
+  same_stocked known call gone = search (rules, first_cause-by_key, fresh_stocked)
 
 -- opening with a resource --------------------------------------------------------------------------
 
@@ -68,8 +66,7 @@ module _ {R : Type 0} (e : Engine R) (name : Name) (site : Site) (res : Name) (s
             let named = facts.named in
             let node_named = is_bound-nodes e.nodes name in
             let res_named = is_bound-resources e.resources res in
-            let some = some_stocked e w rest stocked in
-            rw (named, node_named, res_named, free, some) refl
+            let some = some_stocked e w rest stocked in rw (named, node_named, res_named, free, some) refl
 
         abbrev asked : Request
         asked = record { call = OpeningUsing (place_of place) w.tag; is_known = is_known_place e.book.keys place; is_fresh = w.is_fresh }
@@ -84,25 +81,20 @@ module _ {R : Type 0} (e : Engine R) (name : Name) (site : Site) (res : Name) (s
               same = same_stocked e w rest stocked (is_known_place e.book.keys place) (OpeningUsing (place_of place) w.tag) facts.gone;
             }
 
-        pub using_refused : (book : State) (stock : Shelf) (why : Refusal) → book ≡ e.book → stock.wares ≡ e.stock.wares
-            → IsRefusal (stands e.book (record {
-              call = OpeningUsing (place_of place) w.tag;
-              is_known = is_known_place e.book.keys place;
-              is_fresh = w.is_fresh;
-            })) why → why ≢ NoMemory
-            → Carries e (using name site res) (Refused (Book why)) (with e book stock)
-        using_refused book stock why same same_stock refusal other =
-            refused_there book stock sound same same_stock agrees
+        pub using_refused : (book : State) (stock : Shelf) (why : Refusal) → book ≡ e.book → stock.wares ≡ e.stock.wares → IsRefusal (stands e.book (record {
+          call = OpeningUsing (place_of place) w.tag;
+          is_known = is_known_place e.book.keys place;
+          is_fresh = w.is_fresh;
+        })) why → why ≢ NoMemory → Carries e (using name site res) (Refused (Book why)) (with e book stock)
+        using_refused book stock why same same_stock refusal other = refused_there book stock sound same same_stock agrees
             (cause_of (stands e.book asked) why refusal other)
 
         pub using_accepted : {book : State} {nodes : List (Named Key)} {resources : List (Named ResKey)} {stock : Shelf} {opened : OpenedUsing}
-            → IsPromised book
-            → Accepts e.book (record {
+            → IsPromised book → Accepts e.book (record {
               call = OpeningUsing (place_of place) w.tag;
               is_known = is_known_place e.book.keys place;
               is_fresh = w.is_fresh;
-            }) book → IsOpenedUsing e.book book opened
-            → Binds e.nodes name opened.key nodes → Binds e.resources res opened.res resources → stock.wares ≡ rest
+            }) book → IsOpenedUsing e.book book opened → Binds e.nodes name opened.key nodes → Binds e.resources res opened.res resources → stock.wares ≡ rest
             → Carries e (using name site res) Accepted (record e { book = book; nodes = nodes; resources = resources; stock = stock })
         using_accepted {book} {nodes} {resources} {stock} kept accepts given binds binds_res same_stock =
             let older = keys_kept sound kept (accepted_continues e.book book asked accepts) in
@@ -127,8 +119,7 @@ module _ {R : Type 0} (e : Engine R) (name : Name) (site : Site) (res : Name) (s
 
 module _ {R : Type 0} (e : Engine R) (node : Name) (res : Name) (sound : IsSound e) where
   pub hold_nameless : key_of e.nodes node ≡ None → Carries e (hold node res) (Refused NoName) (with e e.book e.stock)
-  hold_nameless none =
-      search (rules, stored_stage, is_none, node_unbound, refused_own, hold)
+  hold_nameless none = search (rules, stored_stage, is_none, node_unbound, refused_own, hold)
 
   module _ (k : Key) (at : key_of e.nodes node ≡ Some k) where
     number_named : bound (stored_stage e).nodes node ≡ Some k.number
@@ -152,8 +143,7 @@ module _ {R : Type 0} (e : Engine R) (node : Name) (res : Name) (sound : IsSound
         hold_no_own_cause =
             let named = number_named in
             let res_named = is_bound-resources e.resources res ∙ free in
-            let some = some_stocked e w rest stocked in
-            rw (named, res_named, some) refl
+            let some = some_stocked e w rest stocked in rw (named, res_named, some) refl
 
         hold_known : has_key e.book.keys k ≡ is_open e.book.history k.number
         hold_known = has_key-is_open e.book k sound.kept (key_of-holds (IsNodeKey e.book) e.nodes node k sound.nodes at)
@@ -174,8 +164,7 @@ module _ {R : Type 0} (e : Engine R) (node : Name) (res : Name) (sound : IsSound
         pub hold_refused : (book : State) (stock : Shelf) (why : Refusal) → book ≡ e.book → stock.wares ≡ e.stock.wares
             → IsRefusal (stands e.book (record { call = Holding k.number w.tag; is_known = has_key e.book.keys k; is_fresh = w.is_fresh })) why → why ≢ NoMemory
             → Carries e (hold node res) (Refused (Book why)) (with e book stock)
-        hold_refused book stock why same same_stock refusal other =
-            refused_there book stock sound same same_stock hold_agrees
+        hold_refused book stock why same same_stock refusal other = refused_there book stock sound same same_stock hold_agrees
             (cause_of (stands e.book hold_asked) why refusal other)
 
         pub hold_accepted : {book : State} {resources : List (Named ResKey)} {stock : Shelf} {held : ResKey} → IsPromised book

@@ -2,7 +2,7 @@
 use Rattle.rx_script.proofs.Common.{◌≡◌, ◌<◌, ℕ, List, Bool, true, map, length, get_or, sym, ap, subst, ◌∙◌, arith, ◌≢◌, ◌&&◌, ◌==◌, Contains, eqb-true, eq-eqb}
 use Rattle.rx_script.proofs.Common.{cases_order, length-map, is_open, is_held, is_out, Key, ResKey, LeaseKey, State, has_key, has_res_key, has_lease_key}
 use Rattle.rx_script.proofs.Common.{IsPromised, IsNodeKey, IsHeldKey, IsLeaseKey, list_any}
-use Rattle.std.proofs.Common.{⊎_elim}
+use Rattle.std.proofs.Common.{⊎_elim, rules}
 use Rattle.std.specs.Prelude.{IsTrue}
 use Rattle.std.specs.List.{AllPairs}
 use Rattle.std.proofs.lemmas.Bool.{and_parts, and_from}
@@ -10,11 +10,9 @@ use Rattle.std.proofs.lemmas.List.{get_or-map, get_or_default}
 use Rattle.std.proofs.lemmas.List.Folds.{list_any_at}
 use Rattle.std.proofs.lemmas.Map.Views.{Contains-from_any}
 use Rattle.rx_book.specs.State.{AreJust}
-use Rattle.std.proofs.Common.{rules}
 
 Contains-map : {A B : Type 0} (f : A → B) (xs : List A) (x : A) → Contains xs x → Contains (map f xs) (f x)
-Contains-map f xs x h =
-    search (rules, length, map, length-map, get_or-map)
+Contains-map f xs x h = search (rules, length, map, length-map, get_or-map)
 
 Contains-from_map : {A B : Type 0} (f : A → B) (xs : List A) (d : A) (y : B) → Contains (map f xs) y → (x : A) × Contains xs x × (f x ≡ y)
 Contains-from_map f xs d y h =
@@ -32,9 +30,7 @@ same_of_number f xs a b once p q e =
     let lq = q.1 in
     let at_a : get_or (map f xs) p.0 (f a) ≡ f a = get_or-map f xs p.0 a (f a) p.1 ∙ ap f p.2 in
     let at_b : get_or (map f xs) q.0 (f a) ≡ f a = get_or-map f xs q.0 b (f a) q.1 ∙ ap f q.2 ∙ sym e in
-    let same : p.0 ≡ q.0 =
-    ⊎_elim (λ equal. equal) (λ apart. absurd (⊎_elim
-    (λ below. once p.0 q.0 (f a) below (omega arith) (at_a ∙ sym at_b))
+    let same : p.0 ≡ q.0 = ⊎_elim (λ equal. equal) (λ apart. absurd (⊎_elim (λ below. once p.0 q.0 (f a) below (omega arith) (at_a ∙ sym at_b))
     (λ above. once q.0 p.0 (f a) above (omega arith) (at_b ∙ sym at_a)) apart)) (cases_order p.0 q.0) in
     sym p.2 ∙ get_or_default xs p.0 a b p.1 ∙ ap (λ i. get_or xs i b) same ∙ q.2
 
@@ -64,8 +60,7 @@ same_test a b there back = grind arith
 -- keys that are the same by slot and number
 module _ {K : Type 0} (slot number : K → ℕ) (whole : (k j : K) → slot j ≡ slot k → number j ≡ number k → k ≡ j) where
   same_parts : (k j : K) → (slot j == slot k && number j == number k) ≡ true → k ≡ j
-  same_parts k j h =
-      search (rules, and_parts, eqb-true)
+  same_parts k j h = search (rules, and_parts, eqb-true)
 
   contained : (keys : List K) (k : K) → list_any (λ j. slot j == slot k && number j == number k) keys ≡ true → Contains keys k
   contained keys k h = Contains-from_any {eq = λ q j. slot j == slot q && number j == number q} same_parts k keys h
@@ -73,8 +68,7 @@ module _ {K : Type 0} (slot number : K → ℕ) (whole : (k j : K) → slot j �
   -- a key that a book gave is in its list just where its number passes the test
   just_where : (test : ℕ → Bool) (keys : List K) (k : K) → AreJust test (map number keys) → (IsTrue (test (number k)) → Contains keys k)
       → list_any (λ j. slot j == slot k && number j == number k) keys ≡ test (number k)
-  just_where test keys k just found =
-      same_test (list_any (λ j. slot j == slot k && number j == number k) keys) (test (number k))
+  just_where test keys k just found = same_test (list_any (λ j. slot j == slot k && number j == number k) keys) (test (number k))
       (λ h. let listed = Contains-map number keys k (contained keys k h) in subst (λ n. test n ≡ true) listed.2 (just.each listed.0 (number k) listed.1))
       (λ good. let there = found good in list_any_at (λ j. slot j == slot k && number j == number k) keys there.0 k there.1
       (and_from _ _ (eq-eqb _ _ (ap slot there.2)) (eq-eqb _ _ (ap number there.2))))

@@ -1,9 +1,8 @@
 -- The leases that are out, and how many of each resource, after one more event.
 use Rattle.rx_script.proofs.Common.{◌≡◌, ℕ, ◌-◌, ◌<◌, ◌≤◌, ◌==◌, Bool, true, false, List, [], ◌∷◌, ◌++◌, length, Option, Some, None, cond, slice_get, refl, sym}
-use Rattle.rx_script.proofs.Common.{ap, ◌∙◌, arith, inl, inr, ◌⊎◌, length-append, not, option_and_then, option_map_or, cases_order, cases_Bool, ne_eqb}
-use Rattle.rx_script.proofs.Common.{eq-eqb, eqb-true, false≢true, count_by-le-length, Event, Open, Lease, Return, makes_lease, is_lease_of, is_return}
-use Rattle.rx_script.proofs.Common.{nothing_kept, shown, IsLawful, MayFollow, is_out, leases_of, slice_get-append, slice_get_last, lawful_front}
-use Rattle.rx_script.proofs.Common.{lawful_last}
+use Rattle.rx_script.proofs.Common.{ap, ◌∙◌, arith, inl, inr, ◌⊎◌, length-append, not, option_and_then, option_map_or, cases_order, cases_Bool, ne_eqb, eq-eqb}
+use Rattle.rx_script.proofs.Common.{eqb-true, false≢true, count_by-le-length, Event, Open, Lease, Return, makes_lease, is_lease_of, is_return, nothing_kept}
+use Rattle.rx_script.proofs.Common.{shown, IsLawful, MayFollow, is_out, leases_of, slice_get-append, slice_get_last, lawful_front, lawful_last}
 use Rattle.std.proofs.lemmas.List.FromFn.{length-range_with_len}
 use Rattle.rx_event.specs.Events.{leased_of, is_return_of}
 use Rattle.rx_event.proofs.Laws.Steps.{may_return}
@@ -25,8 +24,7 @@ last_follows h e law = lawful_last nothing_kept h e (nothing_before h) law
 -- which leases are out ---------------------------------------------------------------------------------
 
 older_out : (h : List Event) (e : Event) (l : ℕ) → l < length h → leased_out (h ++ e ∷ []) l ≡ cond (is_return_of l e) None (leased_out h l)
-older_out h e l less =
-    search (rules, cond, is_out-push, option_and_then, slice_get-append, slice_get, not)
+older_out h e l less = search (rules, cond, is_out-push, option_and_then, slice_get-append, slice_get, not)
 
 new_out : (h : List Event) (e : Event) → IsLawful nothing_kept h → leased_out (h ++ e ∷ []) (length h) ≡ leased_of e
 new_out h e law = (λ i. cond (is_out_last nothing_kept h e law i) (option_and_then leased_of (slice_get_last h e i)) None) ∙ by_event e where
@@ -51,8 +49,7 @@ leased_out-push h e l law = by_order (cases_order (length h) l) where
   by_order : (length h ≡ l) ⊎ ((length h < l) ⊎ (l < length h))
       → leased_out (h ++ e ∷ []) l ≡ cond (length h == l) (leased_of e) (cond (is_return_of l e) None (leased_out h l))
   by_order (inl same) = ap (leased_out (h ++ e ∷ [])) (sym same) ∙ new_out h e law ∙ at_end true (eq-eqb (length h) l same)
-  by_order (inr (inl past)) =
-      none_out_past (h ++ e ∷ []) l (omega (arith, length-append h (e ∷ [])))
+  by_order (inr (inl past)) = none_out_past (h ++ e ∷ []) l (omega (arith, length-append h (e ∷ [])))
       ∙ none_back (is_return_of l e) (leased_out h l) (none_out_past h l (omega arith)) ∙ at_end false (ne_eqb (length h) l (omega arith))
   by_order (inr (inr older)) = older_out h e l older ∙ at_end false (ne_eqb (length h) l (omega arith))
 
@@ -80,20 +77,17 @@ leases_of_less h l q r law next is = let back = leases_of-return nothing_kept h 
 -- no more leases are out than events happened
 pub leases_few : (h : List Event) (r : ℕ) → leases_of h r ≤ length h
 unfolding leases_of
-leases_few h r =
-    search (rules, count_by-le-length, length, length-range_with_len)
+leases_few h r = search (rules, count_by-le-length, length, length-range_with_len)
 
 -- one event more, by what it is ----------------------------------------------------------------------------
 
 pub out_leased : {h : List Event} {e : Event} (l : ℕ) {place r : ℕ} (old new : Option ℕ) → IsLawful nothing_kept h → place ≡ length h → e ≡ Lease r
     → old ≡ leased_out h l → new ≡ cond (place == l) (Some r) old → new ≡ leased_out (h ++ e ∷ []) l
-out_leased {h} {e} l {r} old new law is leases before here =
-    search (rules, cond, length, leases, leased_out-push)
+out_leased {h} {e} l {r} old new law is leases before here = search (rules, cond, length, leases, leased_out-push)
 
 pub out_returned : {h : List Event} {e : Event} (l m : ℕ) (old new : Option ℕ) → IsLawful nothing_kept h → e ≡ Return m → old ≡ leased_out h l
     → new ≡ cond (m == l) None old → new ≡ leased_out (h ++ e ∷ []) l
-out_returned {h} {e} l m old new law returns before here =
-    search (rules, cond, returns, leased_out-plain)
+out_returned {h} {e} l m old new law returns before here = search (rules, cond, returns, leased_out-plain)
 
 -- an event that neither gives out a lease nor takes one back
 pub record LeasesNone (e : Event) : Type 0 where

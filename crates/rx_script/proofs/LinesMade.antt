@@ -16,8 +16,7 @@ filter-push p (y ∷ ys) x =
 
 node_lines-push : (h : List Event) (nodes : List Binding) (b : Binding)
     → node_lines h (nodes ++ b ∷ []) ≡ node_lines h nodes ++ cond (at is_told h b.number) (node_shown h b) []
-node_lines-push h nodes b =
-    search (rules, flat_map, filter-push, flat_map-append, filter, cond, append-nil)
+node_lines-push h nodes b = search (rules, flat_map, filter-push, flat_map-append, filter, cond, append-nil)
 
 res_lines-push : (h : List Event) (resources : List Binding) (b : Binding) → res_lines h (resources ++ b ∷ []) ≡ res_lines h resources ++ res_shown h b
 res_lines-push h resources b = search (rules, flat_map-append, append-nil)
@@ -27,27 +26,21 @@ module _ {A : Type 0} (binding : A → Binding) (xs : List A) (i : ℕ) (x : A) 
   bindings_more = ap (map binding) (take_more xs i x within ∙ ap (λ y. take i xs ++ y ∷ []) (sym is)) ∙ map-append binding (take i xs) (x ∷ [])
 
   pub node_line_told : (h : List Event) (old mid new : List ℕ) → mid ≡ old ++ node_lines h (map binding (take i xs))
-      → at is_told h (binding x).number ≡ true → new ≡ mid ++ node_shown h (binding x)
-      → new ≡ old ++ node_lines h (map binding (take (i + 1) xs))
-  node_line_told h old mid new before told here =
-      search (rules, append_assoc, map, take, cond, bindings_more, node_lines-push)
+      → at is_told h (binding x).number ≡ true → new ≡ mid ++ node_shown h (binding x) → new ≡ old ++ node_lines h (map binding (take (i + 1) xs))
+  node_line_told h old mid new before told here = search (rules, append_assoc, map, take, cond, bindings_more, node_lines-push)
 
   pub node_line_untold : (h : List Event) (old mid : List ℕ) → mid ≡ old ++ node_lines h (map binding (take i xs)) → at is_told h (binding x).number ≡ false
       → mid ≡ old ++ node_lines h (map binding (take (i + 1) xs))
-  node_line_untold h old mid before untold =
-      search (rules, append-nil, map, take, cond, bindings_more, node_lines-push)
+  node_line_untold h old mid before untold = search (rules, append-nil, map, take, cond, bindings_more, node_lines-push)
 
   pub res_line_more : (h : List Event) (old mid new : List ℕ) → mid ≡ old ++ res_lines h (map binding (take i xs)) → new ≡ mid ++ res_shown h (binding x)
       → new ≡ old ++ res_lines h (map binding (take (i + 1) xs))
-  res_line_more h old mid new before here =
-      search (rules, append_assoc, map, take, bindings_more, res_lines-push)
+  res_line_more h old mid new before here = search (rules, append_assoc, map, take, bindings_more, res_lines-push)
 
 -- a node's line, from what the book and its tallies say
 pub node_line_shown : (h : List Event) (x : Named Key) (name : List ℕ) (open_now : Bool) (told : List Note)
-    → name ≡ name_of x → open_now ≡ is_open h x.key.number → told ≡ notes_to h x.key.number
-    → node_line name open_now told ≡ node_shown h (node_binding x)
-node_line_shown h x name open_now told same_name same_open same_notes =
-    search rules
+    → name ≡ name_of x → open_now ≡ is_open h x.key.number → told ≡ notes_to h x.key.number → node_line name open_now told ≡ node_shown h (node_binding x)
+node_line_shown h x name open_now told same_name same_open same_notes = search rules
 
 -- where a resource is
 pub where_held : (h : List Event) (r : ℕ) → is_held h r ≡ true → whereabouts h r ≡ Held

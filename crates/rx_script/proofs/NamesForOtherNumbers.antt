@@ -73,8 +73,7 @@ renamed-same q r (b ∷ bindings) all = λ i. (let x : Binding = record { name =
 -- one more name
 pub with_binding-renamed : (r : ℕ → ℕ) (bindings others : List Binding) (name : Name) (n m : ℕ) → others ≡ map (renamed r) bindings → r n ≡ m
     → with_binding others name m ≡ map (renamed r) (with_binding bindings name n)
-with_binding-renamed r bindings others name n m same number =
-    search (rules, map-append)
+with_binding-renamed r bindings others name n m same number = search (rules, map-append)
 
 pub with_binding-all : (P : ℕ → Type 0) (bindings : List Binding) (name : Name) (n : ℕ) → AllNumbers P bindings → P n
     → AllNumbers P (with_binding bindings name n)

@@ -52,11 +52,9 @@ module _ {R : Type 0} (e : Engine R) (sound : IsSound e) {book : State} (kept : 
       record {
         kept = kept;
         accepts = accepts;
-        staged = ap (λ bound. record (stored_stage e) { history = book.history; nodes = bound })
-            (named_bound named (connection_of sort) o.connected
+        staged = ap (λ bound. record (stored_stage e) { history = book.history; nodes = bound }) (named_bound named (connection_of sort) o.connected
             ∙ ap (λ bound. with_connection bound (option_map string_bytes (connection_of sort)) number) (numbers_bound binds (λ k. k.number) is.key.number)
-            ∙ ap (λ c. with_connection behind c number) (connection_named sort)
-            ∙ ap (with_connection behind (connection_name (sort_of sort))) is.connection);
+            ∙ ap (λ c. with_connection behind c number) (connection_named sort) ∙ ap (with_connection behind (connection_name (sort_of sort))) is.connection);
         keys = record {
           nodes = all_named (IsNodeKey book) named (connection_of sort) o.connected all (forced_node_key e.book book o.connected is);
           resources = old.resources;

@@ -20,8 +20,7 @@ over_settled k settled = by_first (first_forced nothing_kept k) refl where
   by_first (Some e) found = absurd (settled.none e (first_is_forced nothing_kept k e found))
 
 one_first_step : (h outside k j : List Event) → IsFirstStep nothing_kept h outside k → IsFirstStep nothing_kept h outside j → k ≡ j
-one_first_step h outside k j one other =
-    search (rules, one_finish, over_settled)
+one_first_step h outside k j one other = search (rules, one_finish, over_settled)
 
 none_first : (ns : List ℕ) (r : ℕ) → ns ≡ [] → slice_get ns 0 ≡ Some r → {X : Type 0} → X
 none_first ns r none found = absurd (none-some r (sym (ap (λ (l : List ℕ). slice_get l 0) none) ∙ found))
@@ -159,5 +158,4 @@ one_canonical_course script stock c d one other = λ i. record { answers = answe
   answers = sym one.answers ∙ ap (map (λ (e : Executed). e.answer)) executed ∙ other.answers
 
   last : c.last ≡ d.last
-  last = one_played_on (plays c one)
-      (subst (λ (es : List Executed). PlaysOn (start stock) (map done_in es) d.last) (sym executed) (plays d other))
+  last = one_played_on (plays c one) (subst (λ (es : List Executed). PlaysOn (start stock) (map done_in es) d.last) (sym executed) (plays d other))

@@ -22,8 +22,7 @@ pub followers-listed : (s : StepInCode) → list_of (step_of s).followers ≡ ma
 followers-listed s = search (rules, step_of-parts, list_of-steps_of, map)
 
 size_of-parts : (s : StepInCode) → size_of s ≡ 1 + sum_by size_of (out-Step s).then.items
-size_of-parts s =
-    search (rules, length, step_of-parts, length-labels_in)
+size_of-parts s = search (rules, length, step_of-parts, length-labels_in)
 
 module _ {R : Type 0} where
   pub performed_command : (e new : Engine R) (a : AgendaInCode) (c : CommandInCode) (answer : Answer) → Carries e (command_of c) answer new

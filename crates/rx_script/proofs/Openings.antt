@@ -1,12 +1,11 @@
 -- Names that commands bind, places where nodes are opened, and what is known of a name that is new.
-use Rattle.rx_script.proofs.Common.{◌≡◌, ◌<◌, ◌+◌, ◌++◌, ◌∷◌, [], ℕ, List, true, false, cond, String, Global, string_bytes, refl, sym, ap, subst, ◌∙◌}
-use Rattle.rx_script.proofs.Common.{map, length, ◌||◌, Option, Some, None, is_none, is_some, option_map, bytes_eq, option_map_or, not, All, map-append}
-use Rattle.rx_script.proofs.Common.{Source, Inner, Notifier, at, is_open, at_within, outside_of, Key, ResKey, LeaseKey, At, State, has_key}
-use Rattle.rx_script.proofs.Common.{is_gone, Request, place_of, is_known_place, Accepts, IsNewKey, IsNewResKey, IsNewLeaseKey}
-use Rattle.rx_script.proofs.Common.{IsOpened, Named, Engine, Name, Site, root, source, inner, notifier, Binding, is_bound, is_unbound}
-use Rattle.rx_script.proofs.Common.{with_binding, is_unbound_site, place_at, with_connection, name_of, key_of, node_binding, res_binding, lease_binding}
-use Rattle.rx_script.proofs.Common.{IsNodeKey, IsHeldKey, IsLeaseKey, number_binding, at_of, is_taken_beside, with_named, IsSound, key_of-holds, bound-numbers}
-use Rattle.rx_script.proofs.Common.{or_parts, none-some, same_Some, false≢true}
+use Rattle.rx_script.proofs.Common.{◌≡◌, ◌<◌, ◌+◌, ◌++◌, ◌∷◌, [], ℕ, List, true, false, cond, String, Global, string_bytes, refl, sym, ap, subst, ◌∙◌, map}
+use Rattle.rx_script.proofs.Common.{length, ◌||◌, Option, Some, None, is_none, is_some, option_map, bytes_eq, option_map_or, not, All, map-append, Source}
+use Rattle.rx_script.proofs.Common.{Inner, Notifier, at, is_open, at_within, outside_of, Key, ResKey, LeaseKey, At, State, has_key, is_gone, Request, place_of}
+use Rattle.rx_script.proofs.Common.{is_known_place, Accepts, IsNewKey, IsNewResKey, IsNewLeaseKey, IsOpened, Named, Engine, Name, Site, root, source, inner}
+use Rattle.rx_script.proofs.Common.{notifier, Binding, is_bound, is_unbound, with_binding, is_unbound_site, place_at, with_connection, name_of, key_of}
+use Rattle.rx_script.proofs.Common.{node_binding, res_binding, lease_binding, IsNodeKey, IsHeldKey, IsLeaseKey, number_binding, at_of, is_taken_beside}
+use Rattle.rx_script.proofs.Common.{with_named, IsSound, key_of-holds, bound-numbers, or_parts, none-some, same_Some, false≢true}
 use Rattle.std.specs.Prelude.{IfSome}
 use Rattle.std.proofs.lemmas.List.Elements.{All-push}
 use Rattle.rx_book.specs.declared.answer.At.TheVariants.{Root as AtRoot, Source as AtSource, Inner as AtInner, Notifier as AtNotifier}
@@ -70,8 +69,7 @@ module _ {R : Type 0} (e : Engine R) where
       (record { named = ap is_none number; placed = ap (option_map Notifier) number; gone = unknown_gone name v.0 sound v.1 })
 
   nameless : (f : Key → At) (name : Name) → option_map f (key_of e.nodes name) ≡ None → is_unbound (stored_stage e).nodes name ≡ true
-  nameless f name at =
-      search (rules, is_none, bound-nodes, is_none-map)
+  nameless f name at = search (rules, is_none, bound-nodes, is_none-map)
 
   pub site_nameless : (site : Site) → at_of e.nodes site ≡ None → is_unbound_site (stored_stage e) site ≡ true
   site_nameless root at = absurd (none-some AtRoot (sym at))
@@ -83,18 +81,15 @@ module _ {R : Type 0} (e : Engine R) where
 
 pub new_node_key : {old new : State} {asked : Request} {k : Key} → Accepts old asked new → IsNewKey new (length old.history) k
     → 0 < length (outside_of old.history asked.call) → IsNodeKey new k
-new_node_key {old} {new} {asked} {k} accepts given some =
-    search (rules, step_longer, has_key-contained)
+new_node_key {old} {new} {asked} {k} accepts given some = search (rules, step_longer, has_key-contained)
 
 pub new_held_key : {old new : State} {asked : Request} {place : ℕ} {k : ResKey} → Accepts old asked new → IsNewResKey new place k
     → place < length old.history + length (outside_of old.history asked.call) → IsHeldKey new k
-new_held_key {old} {new} {asked} {k = k} accepts given some =
-    search (rules, step_longer, has_res_key-contained)
+new_held_key {old} {new} {asked} {k = k} accepts given some = search (rules, step_longer, has_res_key-contained)
 
 pub new_out_key : {old new : State} {asked : Request} {k : LeaseKey} → Accepts old asked new → IsNewLeaseKey new (length old.history) k
     → 0 < length (outside_of old.history asked.call) → IsLeaseKey new k
-new_out_key {old} {new} {asked} {k} accepts given some =
-    search (rules, step_longer, has_lease_key-contained)
+new_out_key {old} {new} {asked} {k} accepts given some = search (rules, step_longer, has_lease_key-contained)
 
 -- one more name is bound, to this key
 pub record Binds {K : Type 0} (old : List (Named K)) (name : Name) (key : K) (new : List (Named K)) : Type 0 where
@@ -112,8 +107,7 @@ module _ {K : Type 0} {old new : List (Named K)} {name : Name} {key : K} (binds 
 
   pub numbers_bound : (number_of : K → ℕ) {number : ℕ} → number_of key ≡ number
       → map (binding_by number_of) new ≡ with_binding (map (binding_by number_of) old) name number
-  numbers_bound number_of same =
-      search (rules, map, map-append)
+  numbers_bound number_of same = search (rules, map, map-append)
 
   pub all_bound : (P : K → Type 0) → All (λ n. P n.key) old → P key → All (λ n. P n.key) new
   all_bound P all here = subst (All (λ n. P n.key)) (sym binds.pushed) (All-push (λ n. P n.key) old last all here)
@@ -129,8 +123,7 @@ taken_beside-bound names node x2 = search (rules, bytes_eq, is_bound-nodes)
 
 -- a name that is free, and is not the node's, is free still once the node has its own
 pub free_behind : (names between : List (Named Key)) (x : Named Key) (name : Option Name)
-    → between ≡ names ++ x ∷ [] → is_some (key_of names (name_of x)) ≡ false
-    → is_taken_beside names (name_of x) name ≡ false → is_taken between name ≡ false
+    → between ≡ names ++ x ∷ [] → is_some (key_of names (name_of x)) ≡ false → is_taken_beside names (name_of x) name ≡ false → is_taken between name ≡ false
 free_behind names between x x3 pushed free beside = search (rules, or_parts, is_some, bytes_eq, key_of-bind, none_there, cond)
 
 pub named_bound : (names : List (Named Key)) (name : Option (String Global)) (made : Option Key)

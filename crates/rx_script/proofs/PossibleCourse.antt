@@ -38,8 +38,7 @@ did_too : {s last : Stage} {action : Action} {answer : Answer} → Does in_one_o
 did_too (does done) = let w = executed_too done in (w.0, λ limit room. does (w.1 limit room))
 did_too leaves = (0, λ limit room. leaves)
 
-played_too : {first p : Stage} {done : List (Step × Answer)} → Plays in_one_order first done p
-    → FromOnUp (λ limit. Plays (limited limit) first done p)
+played_too : {first p : Stage} {done : List (Step × Answer)} → Plays in_one_order first done p → FromOnUp (λ limit. Plays (limited limit) first done p)
 played_too none_played = (0, λ limit room. none_played)
 played_too (one_played s plays did) =
     let before = played_too plays in
@@ -47,5 +46,4 @@ played_too (one_played s plays did) =
     (before.0 + w.0, λ limit room. one_played s (before.1 limit (omega arith)) (w.1 limit (omega arith)))
 
 pub possible_too : CanonicalCoursesArePossible
-possible_too script stock c is =
-    search (rules, played_too)
+possible_too script stock c is = search (rules, played_too)

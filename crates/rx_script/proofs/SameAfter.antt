@@ -1,12 +1,11 @@
 -- What a step binds, it binds at two stages that are the same but for numbers to numbers of the same things.
 use Rattle.rx_script.proofs.Common.{◌≡◌, ℕ, ◌+◌, ◌-◌, ◌<◌, Bool, true, false, List, [], ◌∷◌, ◌++◌, length, drop, Option, Some, None, cond, map, slice_get, refl}
-use Rattle.rx_script.proofs.Common.{sym, ap, subst, ◌∙◌, arith, append_assoc, length-append, option_map, option_map_or, false≢true}
-use Rattle.rx_script.proofs.Common.{slice_get_within, same_Some, none-some, nothing_kept, Place, Kind, Pass, Event, Open, Hub, Connect, Accept, Lease}
-use Rattle.rx_script.proofs.Common.{makes_node, makes_hub, makes_resource, makes_lease, at, IsSettled, IsForcedOn, stays, more, Call, Opening, OpeningUsing}
-use Rattle.rx_script.proofs.Common.{Holding, Leasing, Publishing, Connecting, IsStepOf, event_by, is_named, AreSameBy, AreSameSince, slice_get-append}
-use Rattle.rx_script.proofs.Common.{slice_get_last, at_within, makes_connection, connection_made, Binding, bound, with_binding, Name, Command, using, open_node}
-use Rattle.rx_script.proofs.Common.{hold, lease, make_hub, connect, checkpoint, Ware, Stage, connection_name, place_at, kind_at, front, call_of}
-use Rattle.rx_script.proofs.Common.{with_connection, after}
+use Rattle.rx_script.proofs.Common.{sym, ap, subst, ◌∙◌, arith, append_assoc, length-append, option_map, option_map_or, false≢true, slice_get_within, same_Some}
+use Rattle.rx_script.proofs.Common.{none-some, nothing_kept, Place, Kind, Pass, Event, Open, Hub, Connect, Accept, Lease, makes_node, makes_hub, makes_resource}
+use Rattle.rx_script.proofs.Common.{makes_lease, at, IsSettled, IsForcedOn, stays, more, Call, Opening, OpeningUsing, Holding, Leasing, Publishing, Connecting}
+use Rattle.rx_script.proofs.Common.{IsStepOf, event_by, is_named, AreSameBy, AreSameSince, slice_get-append, slice_get_last, at_within, makes_connection}
+use Rattle.rx_script.proofs.Common.{connection_made, Binding, bound, with_binding, Name, Command, using, open_node, hold, lease, make_hub, connect, checkpoint}
+use Rattle.rx_script.proofs.Common.{Ware, Stage, connection_name, place_at, kind_at, front, call_of, with_connection, after}
 use Rattle.rx_event.specs.Lawful.{IsStep}
 use Rattle.rx_script.proofs.NamesForOtherNumbers.{renamed, AllNumbers, all_numbers, renamed-same, with_binding-renamed, with_binding-all}
 use Rattle.rx_script.proofs.SameStages.{AreSameStages}
@@ -17,9 +16,7 @@ use Rattle.std.proofs.Common.{rules}
 
 pub stands_on : {b k : List Event} → IsForcedOn nothing_kept b k → (n : ℕ) (e : Event) → slice_get b n ≡ Some e → slice_get k n ≡ Some e
 stands_on stays n e at_n = at_n
-stands_on (more {k = k} {e = x} on f) n e at_n =
-    let before = stands_on on n e at_n in
-    slice_get-append k (x ∷ []) n (slice_get_within k n e before) ∙ before
+stands_on (more {k = k} {e = x} on f) n e at_n = let before = stands_on on n e at_n in slice_get-append k (x ∷ []) n (slice_get_within k n e before) ∙ before
 
 found_at : (q : Event → Bool) (h : List Event) (n : ℕ) → at q h n ≡ true → (e : Event) × (slice_get h n ≡ Some e) × (q e ≡ true)
 found_at q h n holds = search (rules, slice_get, option_map_or, false≢true)
@@ -29,9 +26,7 @@ at_event q h n e at_n = ap (λ (o : Option Event). option_map_or q o false) at_n
 
 pub at_stands : (q : Event → Bool) (h k : List Event) → ((n : ℕ) (e : Event) → slice_get h n ≡ Some e → slice_get k n ≡ Some e) → (n : ℕ) → at q h n ≡ true
     → at q k n ≡ true
-at_stands q h k stands n holds =
-    let w = found_at q h n holds in
-    at_event q k n w.0 (stands n w.0 w.1) ∙ w.2
+at_stands q h k stands n holds = let w = found_at q h n holds in at_event q k n w.0 (stands n w.0 w.1) ∙ w.2
 
 next_there : (h rest : List Event) (e : Event) → slice_get (h ++ e ∷ rest) (length h) ≡ Some e
 next_there [] rest e = refl
@@ -46,8 +41,7 @@ second_event h k e x step =
     let longer : length (h ++ e ∷ []) ≡ length h + 1 = length-append h (e ∷ []) in
     let there : slice_get (h ++ e ∷ x ∷ []) (length h + 1) ≡ Some x =
     ap (λ (l : List Event). slice_get l (length h + 1)) (sym (append_assoc h (e ∷ []) (x ∷ []))) ∙
-    ap (slice_get ((h ++ e ∷ []) ++ x ∷ [])) (sym longer) ∙ slice_get_last (h ++ e ∷ []) x in
-    stands_on step.forced (length h + 1) x there
+    ap (slice_get ((h ++ e ∷ []) ++ x ∷ [])) (sym longer) ∙ slice_get_last (h ++ e ∷ []) x in stands_on step.forced (length h + 1) x there
 
 -- the history goes on ----------------------------------------------------------------------------------------------------------------
 
@@ -62,8 +56,7 @@ pub record GoAlike (r q t : ℕ → ℕ) (x y : Stage) (k j : List Event) : Type
 module _ (r s q t : ℕ → ℕ) (x y : Stage) (k j : List Event) (a : AreSameStages r s x y) (g : GoAlike r q t x y k j) where
   kept_names : (p : Event → Bool) (bindings others : List Binding) → others ≡ map (renamed r) bindings → AllNumbers (λ n. at p x.history n ≡ true) bindings
       → others ≡ map (renamed q) bindings
-  kept_names p bindings others same all =
-      same ∙ sym (renamed-same q r bindings
+  kept_names p bindings others same all = same ∙ sym (renamed-same q r bindings
       (all_numbers (λ n. at p x.history n ≡ true) (λ n. q n ≡ r n) bindings (λ n made. g.older n (at_within p x.history n made)) all))
 
   kept_made : (p : Event → Bool) (bindings : List Binding) → AllNumbers (λ n. at p x.history n ≡ true) bindings → AllNumbers (λ n. at p k n ≡ true) bindings
@@ -114,8 +107,7 @@ module _ (q t : ℕ → ℕ) (x y : Stage) (a : AreSameStages q t x y) where
 
   one_more : (p : Event → Bool) (bindings others : List Binding) → Names p bindings others → (name : Name) (n m : ℕ) → at p x.history n ≡ true → q n ≡ m
       → Names p (with_binding bindings name n) (with_binding others name m)
-  one_more p bindings others names name n m made number =
-      search (rules, with_binding-renamed, with_binding-all)
+  one_more p bindings others names name n m made number = search (rules, with_binding-renamed, with_binding-all)
 
   with_node : (name : Name) (n m : ℕ) → at makes_node x.history n ≡ true → q n ≡ m
       → AreSameStages q t (record x { nodes = with_binding x.nodes name n }) (record y { nodes = with_binding y.nodes name m })
@@ -208,8 +200,7 @@ module _ (r : ℕ → ℕ) (h c k j : List Event) (since : AreSameSince nothing_
 
         named_first : at is_named j (length c) ≡ true
         named_first = at_event is_named j (length c) (event_by since.reads first.0) (ap (slice_get j) (sym number)
-            ∙ since.same.shown.kept (length h) first.0 first.2 first.1)
-            ∙ named_by_numbers since.reads first.0 ∙ first.2
+            ∙ since.same.shown.kept (length h) first.0 first.2 first.1) ∙ named_by_numbers since.reads first.0 ∙ first.2
 
         leads_back : back (length c) ≡ length h
         leads_back = ap back (sym number) ∙ since.same.shown.apart (length h) named
@@ -257,20 +248,16 @@ module _ (r s : ℕ → ℕ) (x y : Stage) (k j : List Event) (a : AreSameStages
   next_number : (e : Event) → is_named e ≡ true → slice_get k (length x.history) ≡ Some e → since.reads (length x.history) ≡ length y.history
   next_number e named at_n = number_next r x.history y.history k j since (one_there e is_named named at_n)
 
-  after_using : (name res : Name) → (place : Place) × (tag : ℕ) × (OpeningUsing place tag ≡ call)
-      → AreSameStages since.reads since.reads_back
-      (record X {
-        nodes = with_binding x.nodes name (length x.history);
-        resources = with_binding x.resources res (length x.history + 1);
-        stock = drop 1 x.stock;
-      })
-      (record Y {
-        nodes = with_binding y.nodes name (length y.history);
-        resources = with_binding y.resources res (length y.history + 1);
-        stock = drop 1 y.stock;
-      })
-  after_using name res w =
-      with_resource since.reads since.reads_back (record X { nodes = with_binding x.nodes name (length x.history) })
+  after_using : (name res : Name) → (place : Place) × (tag : ℕ) × (OpeningUsing place tag ≡ call) → AreSameStages since.reads since.reads_back (record X {
+    nodes = with_binding x.nodes name (length x.history);
+    resources = with_binding x.resources res (length x.history + 1);
+    stock = drop 1 x.stock;
+  }) (record Y {
+    nodes = with_binding y.nodes name (length y.history);
+    resources = with_binding y.resources res (length y.history + 1);
+    stock = drop 1 y.stock;
+  })
+  after_using name res w = with_resource since.reads since.reads_back (record X { nodes = with_binding x.nodes name (length x.history) })
       (record Y { nodes = with_binding y.nodes name (length y.history) })
       (with_node since.reads since.reads_back X Y base name (length x.history) (length y.history) (one_there (Open w.0 Pass) makes_node refl opened)
       (next_number (Open w.0 Pass) refl opened))
@@ -290,14 +277,11 @@ module _ (r s : ℕ → ℕ) (x y : Stage) (k j : List Event) (a : AreSameStages
       → AreSameStages since.reads since.reads_back
       (record X { nodes = with_connection (with_binding x.nodes name (length x.history)) connection (connection_made x.history k) })
       (record Y { nodes = with_connection (with_binding y.nodes name (length y.history)) connection (connection_made y.history j) })
-  after_open name connection w =
-      with_connection-same since.reads since.reads_back (record X { nodes = with_binding x.nodes name (length x.history) })
+  after_open name connection w = with_connection-same since.reads since.reads_back (record X { nodes = with_binding x.nodes name (length x.history) })
       (record Y { nodes = with_binding y.nodes name (length y.history) })
       (with_node since.reads since.reads_back X Y base name (length x.history) (length y.history) (one_there (Open w.0 w.1) makes_node refl opened)
-      (next_number (Open w.0 w.1) refl opened))
-      connection (connection_made x.history k) (connection_made y.history j)
-      (connection_same r x.history y.history k j since (one_there (Open w.0 w.1) is_named refl opened))
-      (connection_node_made r x.history y.history k j since)
+      (next_number (Open w.0 w.1) refl opened)) connection (connection_made x.history k) (connection_made y.history j)
+      (connection_same r x.history y.history k j since (one_there (Open w.0 w.1) is_named refl opened)) (connection_node_made r x.history y.history k j since)
     where
       opened : slice_get k (length x.history) ≡ Some (Open w.0 w.1)
       opened = new_event x.history k [] (Open w.0 w.1) (subst (λ (z : Call). IsStepOf nothing_kept x.history z k) (sym w.2) step)
@@ -325,8 +309,7 @@ module _ (r s : ℕ → ℕ) (x y : Stage) (k j : List Event) (a : AreSameStages
   after_connect : (connection : Option Name) → (hub : ℕ) × (Connecting hub ≡ call)
       → AreSameStages since.reads since.reads_back (record X { nodes = with_connection x.nodes connection (Some (length x.history)) })
       (record Y { nodes = with_connection y.nodes connection (Some (length y.history)) })
-  after_connect connection w =
-      with_connection-same since.reads since.reads_back X Y base connection (Some (length x.history)) (Some (length y.history))
+  after_connect connection w = with_connection-same since.reads since.reads_back X Y base connection (Some (length x.history)) (Some (length y.history))
       (ap (λ (n : ℕ). Some n) (sym (next_number (Connect w.0) refl made)))
       (λ n same. ap (at makes_node k) (sym (same_Some (length x.history) n same)) ∙ one_there (Connect w.0) makes_node refl made)
     where
@@ -338,18 +321,15 @@ module _ (r s : ℕ → ℕ) (x y : Stage) (k j : List Event) (a : AreSameStages
       let v = made_of_two (λ (place : Place) (w : Ware). OpeningUsing place w.tag) (place_at x site) (front x) call called in
       after_using name res (v.0, v.1.tag, v.4)
   after_same (open_node name site sort) called =
-      let v = made_of_two Opening (place_at x site) (kind_at x sort) call called in
-      after_open name (connection_name sort) (v.0, v.1, v.4)
+      let v = made_of_two Opening (place_at x site) (kind_at x sort) call called in after_open name (connection_name sort) (v.0, v.1, v.4)
   after_same (hold node res) called =
       let v = made_of_two (λ (n : ℕ) (w : Ware). Holding n w.tag) (bound x.nodes node) (front x) call called in after_hold res (v.0, v.1.tag, v.4)
-  after_same (lease res name) called =
-      let v = made_of Leasing (bound x.resources res) call called in after_lease name (v.0, v.2)
+  after_same (lease res name) called = let v = made_of Leasing (bound x.resources res) call called in after_lease name (v.0, v.2)
   after_same (make_hub name mode) called =
       let made : slice_get k (length x.history) ≡ Some (Hub mode) =
       new_event x.history k [] (Hub mode) (subst (λ (z : Call). IsStepOf nothing_kept x.history z k) (sym (same_Some (Publishing mode) call called)) step) in
       with_hub since.reads since.reads_back X Y base name (length x.history) (length y.history) (one_there (Hub mode) makes_hub refl made)
       (next_number (Hub mode) refl made)
-  after_same (connect hub name) called =
-      let v = made_of Connecting (bound x.hubs hub) call called in after_connect name (v.0, v.2)
+  after_same (connect hub name) called = let v = made_of Connecting (bound x.hubs hub) call called in after_connect name (v.0, v.2)
   after_same checkpoint called = absurd (none-some call called)
   after_same _ called = base

@@ -1,10 +1,8 @@
 -- Two stages that differ in their histories alone: the same causes of the scenario's own stand, a step makes the same call, and binds
 -- the same names where it adds the same events.
-use Rattle.rx_script.proofs.Common.{◌≡◌, ℕ, suc, ◌+◌, List, [], ◌∷◌, ◌++◌, length, cond, refl, ap, ◌∙◌, arith, slice_get, drop}
-use Rattle.rx_script.proofs.Common.{option_map, option_and_then, option_map_or, Event, connection_made}
-use Rattle.rx_script.proofs.Common.{Site, root, Sort, Command}
-use Rattle.rx_script.proofs.Common.{checkpoint, Stage, is_unbound_site, is_unbound_hub, lacks_name, takes_name, lacks_stock}
-use Rattle.rx_script.proofs.Common.{own_cause, place_at, kind_at, call_of, after}
+use Rattle.rx_script.proofs.Common.{◌≡◌, ℕ, suc, ◌+◌, List, [], ◌∷◌, ◌++◌, length, cond, refl, ap, ◌∙◌, arith, slice_get, drop, option_map, option_and_then}
+use Rattle.rx_script.proofs.Common.{option_map_or, Event, connection_made, Site, root, Sort, Command, checkpoint, Stage, is_unbound_site, is_unbound_hub}
+use Rattle.rx_script.proofs.Common.{lacks_name, takes_name, lacks_stock, own_cause, place_at, kind_at, call_of, after}
 use Rattle.std.proofs.Common.{rules}
 
 -- a stage with another history, in which so many events came before the last checkpoint
@@ -52,5 +50,4 @@ past (e ∷ h) es n = let one : length (e ∷ h) + n ≡ suc (length h + n) = om
 
 -- the same events make the same connection
 pub connection_past : (h k es : List Event) → length h ≡ length k → connection_made h (h ++ es) ≡ connection_made k (k ++ es)
-connection_past h k es long =
-    search (rules, cond, option_map_or, past)
+connection_past h k es long = search (rules, cond, option_map_or, past)

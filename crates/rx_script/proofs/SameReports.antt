@@ -1,10 +1,9 @@
 -- Stages that are the same but for numbers are reported the same, line by line.
-use Rattle.rx_script.proofs.Common.{◌≡◌, ℕ, ◌+◌, Bool, true, false, List, [], ◌∷◌, ◌++◌, length, Option, Some, cond, map, filter, slice_get, refl, sym}
-use Rattle.rx_script.proofs.Common.{ap, ◌∙◌, flat_map, unwrap_or, option_and_then, option_map_or, false≢true, length-map, nothing_kept}
-use Rattle.rx_script.proofs.Common.{Event, Accept, makes_node, makes_resource, at, places, is_held, held_count, waiting_count}
-use Rattle.rx_script.proofs.Common.{event_by, is_named, AreSameBy, accepted_count-parts, accepted_tag, Answer, Binding, node_line, res_line}
-use Rattle.rx_script.proofs.Common.{Held, Waiting, Taken, is_told, node_shown, node_lines, account_of, res_lines, totals_of, Stage}
-use Rattle.rx_script.proofs.Common.{unclosed_report, report}
+use Rattle.rx_script.proofs.Common.{◌≡◌, ℕ, ◌+◌, Bool, true, false, List, [], ◌∷◌, ◌++◌, length, Option, Some, cond, map, filter, slice_get, refl, sym, ap, ◌∙◌}
+use Rattle.rx_script.proofs.Common.{flat_map, unwrap_or, option_and_then, option_map_or, false≢true, length-map, nothing_kept, Event, Accept, makes_node}
+use Rattle.rx_script.proofs.Common.{makes_resource, at, places, is_held, held_count, waiting_count, event_by, is_named, AreSameBy, accepted_count-parts}
+use Rattle.rx_script.proofs.Common.{accepted_tag, Answer, Binding, node_line, res_line, Held, Waiting, Taken, is_told, node_shown, node_lines, account_of}
+use Rattle.rx_script.proofs.Common.{res_lines, totals_of, Stage, unclosed_report, report}
 use Rattle.std.proofs.lemmas.List.Sums.{length-filter}
 use Rattle.rx_event.specs.Resources.{held_resources}
 use Rattle.rx_event.specs.Claims.Seen.{CallersSeeTheSame}
@@ -41,8 +40,7 @@ module _ (r s : ℕ → ℕ) (h c : List Event) (a : AreSameBy nothing_kept r s 
   pub node_lines_same : (bindings : List Binding) → AllNumbers (λ n. at makes_node h n ≡ true) bindings
       → node_lines c (map (renamed r) bindings) ≡ node_lines h bindings
   node_lines_same [] all = refl
-  node_lines_same (b ∷ bindings) all =
-      ap (λ (t : Bool). flat_map (node_shown c)
+  node_lines_same (b ∷ bindings) all = ap (λ (t : Bool). flat_map (node_shown c)
       (cond t (renamed r b ∷ filter (λ x. at is_told c x.number) (map (renamed r) bindings))
       (filter (λ x. at is_told c x.number) (map (renamed r) bindings))))
       (told_same b.number all.0) ∙ by_test (at is_told h b.number) (node_lines_same bindings all.1)
@@ -95,8 +93,7 @@ module _ (r s : ℕ → ℕ) (h c : List Event) (a : AreSameBy nothing_kept r s 
   held_count_same = sym (length-filter (is_held c) (places c)) ∙ ap length held_same ∙ length-map (held_resources h) r ∙ length-filter (is_held h) (places h)
 
   waiting_count_same : waiting_count c ≡ waiting_count h
-  waiting_count_same =
-      search (rules, held_count_same, accepted_count-parts)
+  waiting_count_same = search (rules, held_count_same, accepted_count-parts)
 
   pub totals_same : totals_of nothing_kept c ≡ totals_of nothing_kept h
   totals_same = λ i. record {
@@ -112,5 +109,4 @@ module _ (r s : ℕ → ℕ) (h c : List Event) (a : AreSameBy nothing_kept r s 
 pub report_same : (r s : ℕ → ℕ) (answers : List Answer) (x y : Stage) (faults : ℕ) → AreSameStages r s x y
     → report (record { answers = answers; last = y }) faults ≡ report (record { answers = answers; last = x }) faults
 unfolding report unclosed_report
-report_same r s answers x y faults a =
-    search (rules, totals_same, node_lines_same, res_lines_same, held_count_same, waiting_count_same)
+report_same r s answers x y faults a = search (rules, totals_same, node_lines_same, res_lines_same, held_count_same, waiting_count_same)

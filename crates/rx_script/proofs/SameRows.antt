@@ -1,11 +1,11 @@
 -- The same cause comes first against a call in two stored histories that agree, where the limits end at one place.
-use Rattle.rx_script.proofs.Common.{◌≡◌, ℕ, ◌+◌, Bool, true, false, List, [], ◌∷◌, length, cond, refl, sym, ap, ◌∙◌, inl, inr, ◌⊎◌, ◌==◌, nat_lt}
-use Rattle.rx_script.proofs.Common.{count_by, not, ◌||◌, list_any, AllByRecursion, range_with_len, option_map_or, false≢true, cases_Bool, Kept, Agree}
-use Rattle.rx_script.proofs.Common.{Mode, Place, Root, Source, Inner, Notifier, Kind, Sub, Event, Hub, Refusal, Full, Gone, makes_hub, at, ancestors}
-use Rattle.rx_script.proofs.Common.{is_open, most_visits, owed, most_nodes, most_hubs, debt, open_count, IsLawful, first_cause, Opening, OpeningUsing, Holding}
-use Rattle.rx_script.proofs.Common.{Applying, Removing, Leasing, GivingBack, Emitting, Ending, Aborting, Declining, Failing, Disposing, Publishing, Connecting}
-use Rattle.rx_script.proofs.Common.{Disconnecting, Call, Alike, alike_of, connections_alike, is_gone, is_over, added_by, causes, arith}
-use Rattle.std.proofs.Common.{◌*◌}
+use Rattle.rx_script.proofs.Common.{◌≡◌, ℕ, ◌+◌, Bool, true, false, List, [], ◌∷◌, length, cond, refl, sym, ap, ◌∙◌, inl, inr, ◌⊎◌, ◌==◌, nat_lt, count_by, not}
+use Rattle.rx_script.proofs.Common.{◌||◌, list_any, AllByRecursion, range_with_len, option_map_or, false≢true, cases_Bool, Kept, Agree, Mode, Place, Root}
+use Rattle.rx_script.proofs.Common.{Source, Inner, Notifier, Kind, Sub, Event, Hub, Refusal, Full, Gone, makes_hub, at, ancestors, is_open, most_visits, owed}
+use Rattle.rx_script.proofs.Common.{most_nodes, most_hubs, debt, open_count, IsLawful, first_cause, Opening, OpeningUsing, Holding, Applying, Removing, Leasing}
+use Rattle.rx_script.proofs.Common.{GivingBack, Emitting, Ending, Aborting, Declining, Failing, Disposing, Publishing, Connecting, Disconnecting, Call, Alike}
+use Rattle.rx_script.proofs.Common.{alike_of, connections_alike, is_gone, is_over, added_by, causes, arith}
+use Rattle.std.proofs.Common.{◌*◌, rules}
 use Rattle.rx_event.specs.declared.refusal.Refusal.TheVariants.{WrongKind, PlaceTaken, NothingOwed, NotRoot, NoHub, HubOrder, Connected, NotConnected, NoLease}
 use Rattle.rx_event.specs.declared.refusal.Refusal.TheVariants.{NotHeld, Leased, HasChild, TooMany}
 use Rattle.rx_event.specs.Events.{is_leaf, is_merging, is_root, is_auto_hub, is_manual_hub}
@@ -20,7 +20,6 @@ use Rattle.rx_event.proofs.Laws.Checkpoints.{same_debt}
 use Rattle.rx_event.specs.Causes.{has_connection, is_without_hub, forces_connect, connects_up_to, is_out_of_order, is_wrong_place, is_taken_place}
 use Rattle.rx_event.specs.Causes.{is_unowed_place, is_crowded, nodes_opened, end_at}
 use Rattle.std.proofs.lemmas.Bool.{not-false}
-use Rattle.std.proofs.Common.{rules}
 
 same_first : (p q : Refusal → Bool) → ((why : Refusal) → p why ≡ q why) → first_cause p ≡ first_cause q
 same_first p q same = λ i. first_cause (λ why. same why i)
@@ -98,8 +97,7 @@ module _ (b : Kept) (h : List Event) (c : Kept) (k : List Event) (a : Agree b h 
   crowded_same n m same = λ i. nat_lt most_nodes (open_total i + same i)
 
   order_at : (g p : ℕ) → is_open h p ≡ true → list_any (at (connects_up_to g) h) (ancestors h p) ≡ list_any (at (connects_up_to g) k) (ancestors k p)
-  order_at g p o =
-      search (rules, same_any, each_same, on_open, ancestors_open, list_any, ancestors_alike, alike)
+  order_at g p o = search (rules, same_any, each_same, on_open, ancestors_open, list_any, ancestors_alike, alike)
 
   order_same : (place : Place) (kind : Kind) → OpenPlace place → is_out_of_order h place kind ≡ is_out_of_order k place kind
   order_same Root (Sub g) o = refl

@@ -4,11 +4,10 @@ use Rattle.rx_script.proofs.Common.{◌≡◌, ℕ, true, false, List, Option, S
 use Rattle.rx_script.proofs.Common.{option_and_then, option_map_or, same_Some, none-some, nothing_kept, Place, Root, Source, Inner, Notifier, Kind, Leaf, Pass}
 use Rattle.rx_script.proofs.Common.{Flat, Switch, Until, Sub, makes_node, makes_hub, makes_resource, makes_lease, at, IsSettled, Call, Opening, OpeningUsing}
 use Rattle.rx_script.proofs.Common.{Holding, Applying, Removing, Leasing, GivingBack, Emitting, Ending, Aborting, Declining, Failing, Disposing, Publishing}
-use Rattle.rx_script.proofs.Common.{Connecting, Disconnecting, call_by, AreSameBy, NamesKnown, Binding, bound, is_unbound, is_bound}
-use Rattle.rx_script.proofs.Common.{Name, Site, root, source, inner, notifier, Sort, leaf, pass, flat, switch, until, sub, Command, using, open_node, hold}
-use Rattle.rx_script.proofs.Common.{apply, remove, lease, give_back, next, end, abort, decline, fail, dispose, make_hub, connect, disconnect, Ware, Stage}
-use Rattle.rx_script.proofs.Common.{is_unbound_site, is_unbound_hub, lacks_name, takes_name, lacks_stock, own_cause, place_at}
-use Rattle.rx_script.proofs.Common.{kind_at, front, call_of}
+use Rattle.rx_script.proofs.Common.{Connecting, Disconnecting, call_by, AreSameBy, NamesKnown, Binding, bound, is_unbound, is_bound, Name, Site, root, source}
+use Rattle.rx_script.proofs.Common.{inner, notifier, Sort, leaf, pass, flat, switch, until, sub, Command, using, open_node, hold, apply, remove, lease}
+use Rattle.rx_script.proofs.Common.{give_back, next, end, abort, decline, fail, dispose, make_hub, connect, disconnect, Ware, Stage, is_unbound_site}
+use Rattle.rx_script.proofs.Common.{is_unbound_hub, lacks_name, takes_name, lacks_stock, own_cause, place_at, kind_at, front, call_of}
 use Rattle.rx_event.specs.Renumbered.{place_by, kind_by}
 use Rattle.rx_register.proofs.Laws.SameCauses.{NamesPlace, NamesKind}
 use Rattle.rx_script.proofs.NamesForOtherNumbers.{renamed, AllNumbers, bound-same, is_bound-same, is_unbound-same, bound-holds}
@@ -90,8 +89,7 @@ module _ (r s : ℕ → ℕ) (x y : Stage) (a : AreSameStages r s x y) where
   stock_same x0 = search rules
 
   pub own_same : (step : Command) → own_cause y step ≡ own_cause x step
-  own_same step =
-      search (rules, cond, lacks_same, takes_same, stock_same)
+  own_same step = search (rules, cond, lacks_same, takes_same, stock_same)
 
   -- the call ---------------------------------------------------------------------------------------------------------------------
 
@@ -144,8 +142,7 @@ module _ (r s : ℕ → ℕ) (x y : Stage) (a : AreSameStages r s x y) where
       (λ i. option_and_then (λ place. option_map (λ v. OpeningUsing place v.tag) (front_same i)) (place_same site i)) ∙ using_moved (place_at x site) (front x)
   call_same (open_node name site sort) =
       (λ i. option_and_then (λ place. option_map (Opening place) (kind_same sort i)) (place_same site i)) ∙ open_moved (place_at x site) (kind_at x sort)
-  call_same (hold node res) =
-      (λ i. option_and_then (λ n. option_map (λ v. Holding n v.tag) (front_same i)) (bound-same r x.nodes y.nodes node a.nodes i))
+  call_same (hold node res) = (λ i. option_and_then (λ n. option_map (λ v. Holding n v.tag) (front_same i)) (bound-same r x.nodes y.nodes node a.nodes i))
       ∙ hold_moved (bound x.nodes node) (front x)
   call_same (apply res word) = resource_call Applying (λ n. refl) res
   call_same (remove res) = resource_call Removing (λ n. refl) res
@@ -164,8 +161,7 @@ module _ (r s : ℕ → ℕ) (x y : Stage) (a : AreSameStages r s x y) where
   -- its numbers are of what they have to be --------------------------------------------------------------------------------------
 
   by_number : (f : ℕ → Call) (P : ℕ → Type 0) → ((n : ℕ) → P n → NamesKnown x.history (f n)) → (bindings : List Binding) → AllNumbers P bindings
-      → (name : Name) (call : Call)
-      → option_map f (bound bindings name) ≡ Some call → NamesKnown x.history call
+      → (name : Name) (call : Call) → option_map f (bound bindings name) ≡ Some call → NamesKnown x.history call
   by_number f P each bindings all name call called =
       let v = made_of f (bound bindings name) call called in
       subst (NamesKnown x.history) v.2 (each v.0 (bound-holds P bindings name v.0 all v.1))

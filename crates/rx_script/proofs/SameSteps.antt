@@ -29,10 +29,8 @@ known_number h x1 known = search rules
 
 -- the book's cause is the same with no limit
 cause_same : {r : ℕ → ℕ} (s : ℕ → ℕ) (x y : Stage) (limit : ℕ) (call : Call) → AreSameStages r s x y → NamesKnown x.history call
-    → (book_cause limit x call ≡ Some Full → ⊥)
-    → cause_in in_one_order y (call_by r call) ≡ book_cause limit x call
-cause_same {r} s x y limit call a known room =
-    ap (λ (fresh : Bool). first_cause (unlimited (causes nothing_kept y.history 0 fresh (call_by r call))))
+    → (book_cause limit x call ≡ Some Full → ⊥) → cause_in in_one_order y (call_by r call) ≡ book_cause limit x call
+cause_same {r} s x y limit call a known room = ap (λ (fresh : Bool). first_cause (unlimited (causes nothing_kept y.history 0 fresh (call_by r call))))
     (ap (λ (w : Option Ware). option_map_or (λ v. v.is_fresh) w true) (front_same r s x y a))
     ∙ same_cause nothing_kept r s x.history y.history a.histories 0 (x.checked + limit) (front_is_fresh x) call known
     ∙ never_full (causes nothing_kept x.history (x.checked + limit) (front_is_fresh x) call) refusal_order room
@@ -58,8 +56,7 @@ module _ (r s : ℕ → ℕ) (x y : Stage) (a : AreSameStages r s x y) where
   not_done command why done = record { other = y; reads = r; reads_back = s; done = done; same = a }
 
   done_alike : (limit : ℕ) (command : Command) (call : Call) (k : List Event) → own_cause x command ≡ None → call_of x command ≡ Some call
-      → book_cause limit x call ≡ None
-      → IsStepOf nothing_kept x.history call k → ExecutedAlike y command Accepted (after x command k)
+      → book_cause limit x call ≡ None → IsStepOf nothing_kept x.history call k → ExecutedAlike y command Accepted (after x command k)
   done_alike limit command call k own called none step = record {
     other = after y command w.last;
     reads = since.reads;

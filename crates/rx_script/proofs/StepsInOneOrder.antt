@@ -1,11 +1,10 @@
 -- In the one order a call against which no cause stands is carried out, and all that waits is taken.
 use Rattle.rx_script.proofs.Common.{◌≡◌, ℕ, zero, suc, ◌+◌, ◌<◌, ◌≤◌, Bool, true, false, List, [], ◌∷◌, ◌++◌, length, None, slice_get, refl, sym, ap, subst}
-use Rattle.rx_script.proofs.Common.{◌∙◌, arith, append_assoc, append-nil, false_from_ne_true, ltb-true, nothing_kept, Event, Take, Refusal, places}
-use Rattle.rx_script.proofs.Common.{is_waiting, waiting_resources, waiting_count, debt, IsSettled, MayFollow, IsLawful, stays, first_cause, Call}
-use Rattle.rx_script.proofs.Common.{Applying}
-use Rattle.rx_script.proofs.Common.{Taking, outside_of, IsStepOf, IsFirstStep, nothing_yet, IsLawful-push, lawful_begun}
-use Rattle.rx_script.proofs.Common.{lawful_last, first_forced_on, TakesOn, takes_none, takes_one, is_over, added_by, causes, unlimited, IsReady, Takes}
-use Rattle.rx_script.proofs.Common.{none_taken, next_taken, DrainsInOrder, nothing_left, least_taken}
+use Rattle.rx_script.proofs.Common.{◌∙◌, arith, append_assoc, append-nil, false_from_ne_true, ltb-true, nothing_kept, Event, Take, Refusal, places, is_waiting}
+use Rattle.rx_script.proofs.Common.{waiting_resources, waiting_count, debt, IsSettled, MayFollow, IsLawful, stays, first_cause, Call, Applying, Taking}
+use Rattle.rx_script.proofs.Common.{outside_of, IsStepOf, IsFirstStep, nothing_yet, IsLawful-push, lawful_begun, lawful_last, first_forced_on, TakesOn}
+use Rattle.rx_script.proofs.Common.{takes_none, takes_one, is_over, added_by, causes, unlimited, IsReady, Takes, none_taken, next_taken, DrainsInOrder}
+use Rattle.rx_script.proofs.Common.{nothing_left, least_taken}
 use Rattle.rx_event.specs.Allowed.{taken}
 use Rattle.rx_event.specs.Lawful.{allowed}
 use Rattle.rx_event.proofs.Laws.Lists.{first_passes}
@@ -75,8 +74,7 @@ pub settled_take : (h : List Event) (q : ℕ) → IsLawful nothing_kept h → Ma
 settled_take h q law next settled = settled_on law next settled refl (λ n. refl) (closes_none_kept h (Take q) refl) refl
 
 may_take_on : {h k : List Event} {q : ℕ} → IsStepOf nothing_kept h (Taking q) k → MayFollow nothing_kept h (Take q)
-may_take_on {h = h} {q = q} step =
-    search (rules, lawful_last, nothing_before, lawful_begun)
+may_take_on {h = h} {q = q} step = search (rules, lawful_last, nothing_before, lawful_begun)
 
 taken_alone : {h k : List Event} {q : ℕ} → IsLawful nothing_kept h → IsSettled nothing_kept h → IsStepOf nothing_kept h (Taking q) k → k ≡ h ++ Take q ∷ []
 taken_alone {h = h} {q = q} law settled step = unforced nothing_kept step.forced (settled_take h q law (may_take_on step) settled)
@@ -120,8 +118,7 @@ drain_on : (steps : ℕ) (h : List Event) → IsLawful nothing_kept h → IsSett
 drain_on zero h law settled few = absurd (omega arith)
 drain_on (suc steps) h law settled few = by_list (waiting_resources h) refl
     (λ q law next less. drain_on steps (h ++ Take q ∷ []) law next (let a = less in let l = few in omega arith)) where
-      by_list : (ns : List ℕ) → waiting_resources h ≡ ns
-          → ((q : ℕ) → IsLawful nothing_kept (h ++ Take q ∷ [])
+      by_list : (ns : List ℕ) → waiting_resources h ≡ ns → ((q : ℕ) → IsLawful nothing_kept (h ++ Take q ∷ [])
           → IsSettled nothing_kept (h ++ Take q ∷ []) → waiting_count (h ++ Take q ∷ []) + 1 ≡ waiting_count h
           → OrderedDrain (h ++ Take q ∷ [])) → OrderedDrain h
       by_list [] none rest = record { last = h; drains = nothing_left none; drained = record { takes = takes_none; law = law; settled = settled }; none = none }

@@ -2,15 +2,14 @@
 -- than those that follow it.
 use Rattle.rx_script.proofs.Common.{◌≡◌, ℕ, suc, ◌+◌, ◌<◌, ◌≤◌, Bool, true, false, List, [], ◌∷◌, ◌++◌, Option, Some, None, cond, refl, ap, subst, arith}
 use Rattle.rx_script.proofs.Common.{nat_lt, nat_eq, option_map, AllByRecursion, false_from_ne_true, eqb-true, eq-eqb, ltb-true, same_Some, none-some}
-use Rattle.rx_script.proofs.Common.{AllByRecursion-both, Name, Steps, no_steps, Step, list_of, Answer, Agenda, empty_agenda, with_steps}
-use Rattle.rx_script.proofs.Common.{followed_by, next_step, Cancels, taken_off, none_waits}
-use Rattle.std.proofs.Common.{nat_le}
+use Rattle.rx_script.proofs.Common.{AllByRecursion-both, Name, Steps, no_steps, Step, list_of, Answer, Agenda, empty_agenda, with_steps, followed_by, next_step}
+use Rattle.rx_script.proofs.Common.{Cancels, taken_off, none_waits}
+use Rattle.std.proofs.Common.{nat_le, rules}
 use Rattle.std.proofs.lemmas.Bool.{lt-ltb}
 use Rattle.rx_time.specs.declared.work.Work.{Work}
 use Rattle.rx_time.specs.Schedule.{earlier, next_of, if_due, next_due, without}
 use Rattle.rx_scenario.specs.Scenario.{one_more}
 use Rattle.rx_agenda.specs.Agenda.{with_step_after, with_step, first_of_turn, next_of_turn}
-use Rattle.std.proofs.Common.{rules}
 
 -- a step and those that follow it
 abbrev count_in : Steps → ℕ
@@ -96,8 +95,7 @@ next-total (x ∷ es) e apart found = by_next (next_of es) refl found (λ f at_f
   later : (f : ℕ × Work Step) → next_of es ≡ Some f → waiting_total (without f.0 es) + size f.1.item ≡ waiting_total es
       → waiting_total (without f.0 (x ∷ es)) + size f.1.item ≡ waiting_total (x ∷ es)
   later f some rest =
-      let other : nat_eq f.0 x.0 ≡ false = next_holds (λ (g : ℕ × Work Step). nat_eq g.0 x.0 ≡ false) es f apart.0 some in
-      rw other (omega arith)
+      let other : nat_eq f.0 x.0 ≡ false = next_holds (λ (g : ℕ × Work Step). nat_eq g.0 x.0 ≡ false) es f apart.0 some in rw other (omega arith)
 
   by_next : (o : Option (ℕ × Work Step)) → next_of es ≡ o → earlier x o ≡ Some e
       → ((f : ℕ × Work Step) → next_of es ≡ Some f → waiting_total (without f.0 es) + size f.1.item ≡ waiting_total es)
@@ -143,8 +141,7 @@ step_after-orderly : (d : Option ℕ) (s : Step) (a : Agenda) → IsOrderly a �
 step_after-orderly None s a o = record { given = o.given; apart = o.apart }
 step_after-orderly (Some d) s a o = record {
   given = AllByRecursion-both (λ (f : ℕ × Work Step). nat_lt f.0 (a.timeline.tickets + 1) ≡ true) a.timeline.work _
-      (more_given a.timeline.work a.timeline.tickets o.given)
-      (lt-ltb a.timeline.tickets (a.timeline.tickets + 1) (omega arith), tt);
+      (more_given a.timeline.work a.timeline.tickets o.given) (lt-ltb a.timeline.tickets (a.timeline.tickets + 1) (omega arith), tt);
   apart = push-apart a.timeline.work _ o.apart o.given;
 }
 

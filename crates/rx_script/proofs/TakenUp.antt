@@ -30,11 +30,10 @@ front_all xs front n is missing = is ∙ take_all n xs (slice_get-past xs n (sym
 
 -- where the base is empty each event is there
 pub from_start : (base : Kept) (h : List Event) (n : ℕ) → base ≡ nothing_kept → event_since base h n ≡ slice_get h n
-from_start base h n none = ap (λ (b : Kept). event_since b h n) none ∙ ap (λ b. if b then None else slice_get h n) (by_test (cases_Bool (nat_lt n 0)))
-  where
-    by_test : (nat_lt n 0 ≡ true) ⊎ (nat_lt n 0 ≡ false) → nat_lt n 0 ≡ false
-    by_test (inl less) = absurd (let l = ltb-true n 0 less in omega arith)
-    by_test (inr past) = past
+from_start base h n none = ap (λ (b : Kept). event_since b h n) none ∙ ap (λ b. if b then None else slice_get h n) (by_test (cases_Bool (nat_lt n 0))) where
+  by_test : (nat_lt n 0 ≡ true) ⊎ (nat_lt n 0 ≡ false) → nat_lt n 0 ≡ false
+  by_test (inl less) = absurd (let l = ltb-true n 0 less in omega arith)
+  by_test (inr past) = past
 
 pub event_within : (base : Kept) (h : List Event) (n : ℕ) (e : Event) → Some e ≡ event_since base h n → n < length h
 event_within base h n e found = search (rules, nat_lt, slice_get, length, none-some, slice_get_within)
@@ -51,8 +50,7 @@ no_event base h n since missing = by_test (cases_Bool (nat_lt n base.at_length))
 
 -- a book has far fewer events than a number can count
 pub few_events : (s : State) (n : ℕ) (e : Event) → IsPromised s → Some e ≡ event_since s.base s.history n → n < 18446744073709551615
-few_events s n e kept found =
-    search (rules, event_within)
+few_events s n e kept found = search (rules, event_within)
 
 -- events ------------------------------------------------------------------------------------------------
 
@@ -68,8 +66,7 @@ front_is front h s goes = ap (take (length front)) goes.rest ∙ take-append_sea
 
 lawful_take : (h : List Event) → IsLawful nothing_kept h → (n : ℕ) → IsLawful nothing_kept (take n h)
 lawful_take = by_pushes (λ h. IsLawful nothing_kept h → (n : ℕ) → IsLawful nothing_kept (take n h))
-    (λ law n. subst (IsLawful nothing_kept) (sym (take_all n [] (omega arith))) law)
-    (λ h e before law n. by_length h e before law n (cases_lt (length h) n))
+    (λ law n. subst (IsLawful nothing_kept) (sym (take_all n [] (omega arith))) law) (λ h e before law n. by_length h e before law n (cases_lt (length h) n))
   where
     by_length : (h : List Event) (e : Event) → (IsLawful nothing_kept h → (n : ℕ) → IsLawful nothing_kept (take n h)) → IsLawful nothing_kept (h ++ e ∷ [])
         → (n : ℕ) → (length h < n) ⊎ (n ≤ length h) → IsLawful nothing_kept (take n (h ++ e ∷ []))
@@ -88,8 +85,7 @@ counted_first front h s t goes counts = record {
 }
 
 pub counted_next : {front h : List Event} {s : State} {old : Tallies} (new : Tallies) (e : Event) → GoesOn front h s → IsLawful nothing_kept h →
-    Counted front h old
-    → Some e ≡ event_since s.base s.history old.events → new.events ≡ old.events + 1
+    Counted front h old → Some e ≡ event_since s.base s.history old.events → new.events ≡ old.events + 1
     → ((k : List Event) → IsLawful nothing_kept (k ++ e ∷ []) → AreCountsOf k old → AreCountsOf (k ++ e ∷ []) new) → Counted front h new
 counted_next {front} {h} {s} {old} new e goes law before found more count = record {
   counts = subst (λ k. AreCountsOf k new) (sym (ap (λ n. take n h) more ∙ longer)) (count (take old.events h) lawful before.counts);
@@ -107,8 +103,7 @@ counted_next {front} {h} {s} {old} new e goes law before found more count = reco
 
 pub counted_all : (front h : List Event) (s : State) (t : Tallies) → GoesOn front h s → Counted front h t → None ≡ event_since s.base s.history t.events
     → AreCountsOf h t
-counted_all front h s t goes before missing =
-    search (rules, slice_get, same_past, take_all, slice_get-past)
+counted_all front h s t goes before missing = search (rules, slice_get, same_past, take_all, slice_get-past)
 
 -- notes -------------------------------------------------------------------------------------------------
 
@@ -121,8 +116,7 @@ module _ (first now next : State) (going : now ≡ record first { given = now.gi
   one_more_given = ap (λ s. s.given) handed
 
   pub handed_book : next ≡ record first { given = next.given }
-  handed_book =
-      search (rules, one_more_given)
+  handed_book = search (rules, one_more_given)
 
 -- the notes from the first on that was not handed out, as far as they are now
 pub mail_first : (mail all : List Mail) (n : ℕ) → mail ≡ mail ++ drop n (take n all)

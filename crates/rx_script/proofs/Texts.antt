@@ -16,13 +16,11 @@ pub refused_lines-more : (xs : List Answer) (i : ℕ) (d : Answer) → i < lengt
 refused_lines-more xs i d h =
     let more = take_more xs i d h in
     let long : 0 + length (take i xs) ≡ i = simp length-take (omega arith) in
-    ap refused_lines more
-    ∙ ap (flat_map (λ p. refused_line p.0 p.1)) (enumerate_from-push 0 (take i xs) (get_or xs i d))
+    ap refused_lines more ∙ ap (flat_map (λ p. refused_line p.0 p.1)) (enumerate_from-push 0 (take i xs) (get_or xs i d))
     ∙ flat_map-append (λ p. refused_line p.0 p.1) (enumerate_from 0 (take i xs)) ((0 + length (take i xs), get_or xs i d) ∷ [])
     ∙ ap (λ l. refused_lines (take i xs) ++ l)
     (append-nil (refused_line (0 + length (take i xs)) (get_or xs i d)) ∙ ap (λ k. refused_line k (get_or xs i d)) long)
 
 pub pushed_refused : (old : List ℕ) {mid : List ℕ} (new : List ℕ) (xs : List Answer) (i : ℕ) (d : Answer) → i < length xs
     → mid ≡ old ++ refused_lines (take i xs) → new ≡ mid ++ refused_line i (get_or xs i d) → new ≡ old ++ refused_lines (take (i + 1) xs)
-pushed_refused old new xs i d h before here =
-    search (rules, get_or, append_assoc, take, refused_lines-more)
+pushed_refused old new xs i d h before here = search (rules, get_or, append_assoc, take, refused_lines-more)

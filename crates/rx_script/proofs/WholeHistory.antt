@@ -62,8 +62,7 @@ module _ (front : List Event) (law : IsLawful nothing_kept front) (settled : IsS
     one_more : ForcedOver es m → IsForced b m e → ForcedOver es (m ++ e ∷ [])
     one_more w g = record {
       events = w.events ++ e ∷ [];
-      same =
-          ap (λ (l : List Event). l ++ e ∷ []) w.same ∙ append_assoc (shown b) (es ++ w.events) (e ∷ [])
+      same = ap (λ (l : List Event). l ++ e ∷ []) w.same ∙ append_assoc (shown b) (es ++ w.events) (e ∷ [])
           ∙ ap (λ (l : List Event). shown b ++ l) (append_assoc es w.events (e ∷ []));
       on = subst (λ (l : List Event). IsForcedOn nothing_kept (front ++ es) l)
           (append_assoc front (es ++ w.events) (e ∷ []) ∙ ap (λ (l : List Event). front ++ l) (append_assoc es w.events (e ∷ [])))
@@ -107,8 +106,7 @@ module _ (front : List Event) (law : IsLawful nothing_kept front) (settled : IsS
     law_k = subst (IsLawful b) ends step.lawful
 
     begins : front ++ (es ++ outside) ≡ (front ++ es) ++ outside_of (front ++ es) call
-    begins =
-        sym (append_assoc front es outside)
+    begins = sym (append_assoc front es outside)
         ∙ ap (λ (l : List Event). (front ++ es) ++ l) (sym (outside_alike (front ++ es) (shown b ++ es) (alike_of (whole_agree es law_es)) call))
 
   -- takings --------------------------------------------------------------------------------------
@@ -161,12 +159,10 @@ module _ (front : List Event) (law : IsLawful nothing_kept front) (settled : IsS
   stored_untold = ap (λ (x : Kept). notes (shown x)) is ∙ base_untold nothing_kept front law settled
 
   told_none : ToldSince []
-  told_none law_es =
-      search (rules, append-nil, stored_untold)
+  told_none law_es = search (rules, append-nil, stored_untold)
 
   told_one : (es : List Event) (e : Event) → ToldSince es → ToldSince (es ++ e ∷ [])
-  told_one es e before law_more =
-      ap notes (sym (append_assoc front es (e ∷ []))) ∙ notes-push (front ++ es) e
+  told_one es e before law_more = ap notes (sym (append_assoc front es (e ∷ []))) ∙ notes-push (front ++ es) e
       ∙ (λ i. before law_es i ++ tells i) ∙ append_assoc (notes front) (notes (shown b ++ es)) (mail_of (shown b ++ es) e)
       ∙ ap (λ (l : List _). notes front ++ l) (sym (notes-push (shown b ++ es) e) ∙ ap notes (append_assoc (shown b) es (e ∷ [])))
     where

@@ -1,9 +1,9 @@
 -- The whole report of a course.
-use Rattle.rx_script.proofs.Common.{◌≡◌, ◌≤◌, ◌+◌, ◌++◌, ℕ, List, true, false, refl, sym, ap, ◌∙◌, append-nil, count_by, range_with_len}
-use Rattle.rx_script.proofs.Common.{false≢true, nothing_kept, Agree, held_count, waiting_count, accepted_count-parts, IsPromised, Steps, steps_of, Script}
-use Rattle.rx_script.proofs.Common.{has_checkpoint, Engine, Ware, Stage, start, with_steps, empty_agenda, limited, Course, HasNoFull, IsCourseOf, HasOneCourse}
-use Rattle.rx_script.proofs.Common.{Form, report, lacks_form, has_history, unclosed_output, IsCarriedOut}
-use Rattle.std.proofs.Common.{min}
+use Rattle.rx_script.proofs.Common.{◌≡◌, ◌≤◌, ◌+◌, ◌++◌, ℕ, List, true, false, refl, sym, ap, ◌∙◌, append-nil, count_by, range_with_len, false≢true}
+use Rattle.rx_script.proofs.Common.{nothing_kept, Agree, held_count, waiting_count, accepted_count-parts, IsPromised, Steps, steps_of, Script, has_checkpoint}
+use Rattle.rx_script.proofs.Common.{Engine, Ware, Stage, start, with_steps, empty_agenda, limited, Course, HasNoFull, IsCourseOf, HasOneCourse, Form, report}
+use Rattle.rx_script.proofs.Common.{lacks_form, has_history, unclosed_output, IsCarriedOut}
+use Rattle.std.proofs.Common.{min, rules}
 use Rattle.rx_event.specs.Totals.{accepted_count}
 use Rattle.rx_script.specs.Report.{AreReportedAlike, output}
 use Rattle.rx_script.specs.Outputs.{closing}
@@ -13,7 +13,6 @@ use Rattle.rx_script.proofs.OneCourse.{one_canonical_course}
 use Rattle.rx_script.proofs.SameSteps.{HasCanonical, has_canonical}
 use Rattle.rx_script.proofs.SameReports.{report_same}
 use Rattle.rx_script.proofs.CourseWithoutCheckpoint.{unchecked}
-use Rattle.std.proofs.Common.{rules}
 
 outputs_whole : (form : Form) (c : Course) (faults : ℕ)
     → unclosed_output form c.answers c.last ++ closing form (held_count c.last.history + waiting_count c.last.history) faults ≡ output form c faults
@@ -78,19 +77,16 @@ module _ {R : Type 0} (form : Form) (script : Script) (stock : List Ware) (limit
   left = search (rules, count_by, range_with_len)
 
   lines_whole : whole ≡ output form course faults
-  lines_whole =
-      is_whole ∙ ap (λ l. l ++ closing form released faults) (out.lines (λ has.
+  lines_whole = is_whole ∙ ap (λ l. l ++ closing form released faults) (out.lines (λ has.
       unchecked (limited script.events) script stock course possible (without_checkpoint form (steps_of script.steps) has has_form)))
       ∙ ap (λ n. unclosed_output form out.answers out.last ++ closing form n faults) left ∙ outputs_whole form course faults
 
   -- no more releases met a fault than resources were accepted
   few : (at_end most : ℕ) → IsPromised new.book → at_end ≤ released → faults ≡ min (new.faults + at_end) most
       → faults ≤ accepted_count nothing_kept out.last.history
-  few at_end most kept few_at_end sum =
-      search (rules, accepted_count-parts)
+  few at_end most kept few_at_end sum = search (rules, accepted_count-parts)
 
   pub whole_output : (at_end most : ℕ) → IsPromised new.book → at_end ≤ released → faults ≡ min (new.faults + at_end) most
       → (c : Course) × (n : ℕ) × IsCourseOf script stock c × (n ≤ accepted_count nothing_kept c.last.history) × (whole ≡ output form c n)
       × (HasNoFull c.answers → IsReportedCanonically script stock form c whole n)
-  whole_output at_end most kept few_at_end sum =
-      search (rules, possible, few, lines_whole, canonical_report)
+  whole_output at_end most kept few_at_end sum = search (rules, possible, few, lines_whole, canonical_report)

@@ -1,8 +1,7 @@
 -- What is written before the closing, of the whole history.
-use Rattle.rx_script.proofs.Common.{◌≡◌, ◌≤◌, ◌++◌, ℕ, true, List, map, sym, ap, subst, ◌∙◌, Result, IfOk, Event, nothing_kept, Agree, taken_count}
-use Rattle.rx_script.proofs.Common.{Answer, Tallies, Gathers, IsWhole, node_binding, res_binding, totals_line, refused_lines, node_lines, res_lines, totals_of}
-use Rattle.rx_script.proofs.Common.{Engine, Form, Manner, Progress, Ends, unclosed_report, has_history, unclosed_output, IsCarriedOut, stage_of, IsHistoryOf}
-use Rattle.rx_script.proofs.Common.{IsSound}
+use Rattle.rx_script.proofs.Common.{◌≡◌, ◌≤◌, ◌++◌, ℕ, true, List, map, sym, ap, subst, ◌∙◌, Result, IfOk, Event, nothing_kept, Agree, taken_count, Answer}
+use Rattle.rx_script.proofs.Common.{Tallies, Gathers, IsWhole, node_binding, res_binding, totals_line, refused_lines, node_lines, res_lines, totals_of, Engine}
+use Rattle.rx_script.proofs.Common.{Form, Manner, Progress, Ends, unclosed_report, has_history, unclosed_output, IsCarriedOut, stage_of, IsHistoryOf, IsSound}
 use Rattle.std.specs.Prelude.{OnOk}
 use Rattle.rx_script.proofs.EngineCarriesOut.{history_lawful, history_agrees}
 use Rattle.rx_script.proofs.CheckpointCarriedOut.{gathered}
@@ -18,8 +17,7 @@ module _ {R : Type 0} (e : Engine R) (sound : IsSound e) (h : List Event) (w : I
   pub lines_report : (answers : List Answer) {a : List ℕ} (b c d : List ℕ) → a ≡ refused_lines answers → b ≡ a ++ node_lines h (map node_binding e.nodes)
       → c ≡ b ++ res_lines h (map res_binding e.resources) → d ≡ c ++ totals_line (totals_of nothing_kept h) → d ≡ unclosed_report answers (stage_of e h)
   unfolding unclosed_report
-  lines_report answers b c d refusals nodes resources totals =
-      search (rules, map)
+  lines_report answers b c d refusals nodes resources totals = search (rules, map)
 
   -- what has the history in it, where no checkpoint was made
   pub history_whole : (text_of : List Event → List ℕ) (text : List ℕ) → e.book.base.at_length ≡ 0
@@ -33,8 +31,7 @@ written_of x0 p q s f a = search rules
 
 -- a run that led here, and what is written of it
 pub carried_out : {R : Type 0} {m : Manner} {until : ℕ} {first : Progress} {form : Form} {text : List ℕ} {e : Engine R} (new : Engine R)
-    {answers : List Answer} {k : List Event}
-    → IsSound e → Ends m until first answers (stage_of e k) → IsHistoryOf k e.tallies e.book
+    {answers : List Answer} {k : List Event} → IsSound e → Ends m until first answers (stage_of e k) → IsHistoryOf k e.tallies e.book
     → ((has_history form ≡ true → e.book.base.at_length ≡ 0) → text ≡ unclosed_output form answers (stage_of e k))
     → new.book.base ≡ e.book.base → new.book.history ≡ e.book.history → new.faults ≡ e.faults → IsCarriedOut m until first form text new
 carried_out {e} new {answers} {k} sound ends w lines same_base same_history same_faults = record {

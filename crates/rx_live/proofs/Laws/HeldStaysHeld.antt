@@ -20,8 +20,7 @@ pub alike_held : (old new : Session) → IsAlike old new → (n : Name) → has_
 alike_held old new alike n = λ i. is_some (alike.resources.spots n i) || option_map_or (bytes_eq n) (alike.unnamed i) false
 
 pub renewed_held : (old mid aged : Session) → IsAlike old mid → Renews mid aged → (n : Name) → has_resource aged n ≡ has_resource old n
-renewed_held old mid aged alike renews n =
-    search (rules, is_some, option_map_or, bytes_eq, alike_held)
+renewed_held old mid aged alike renews n = search (rules, is_some, option_map_or, bytes_eq, alike_held)
 
 pub aged_held : {asked : Option Order} {old aged : Session} → IsAged asked old aged → (n : Name) → has_resource aged n ≡ has_resource old n
 aged_held as_it_was n = refl

@@ -136,9 +136,7 @@ orders_differ = (refl, refl)
 
 -- so nothing that shows that order is the same for all courses of a scenario
 pub no_order_is_shown : ((script : Script) (wares : List Ware) (c d : Course) → IsCourseOf script wares c → HasNoFull c.answers → IsCourseOf script wares d
-    → HasNoFull d.answers
-    → tags_in_order c ≡ tags_in_order d) → ⊥
+    → HasNoFull d.answers → tags_in_order c ≡ tags_in_order d) → ⊥
 no_order_is_shown same =
     let one : ◌≡◌ {A = List ℕ} (5 ∷ 6 ∷ []) (6 ∷ 5 ∷ []) = same (script led_to_four.least) stock _ _ two_courses.0 refl two_courses.1 refl in
-    let heads : ◌≡◌ {A = ℕ} 5 6 = ap (λ (l : List ℕ). get_or l 0 0) one in
-    absurd (omega arith)
+    let heads : ◌≡◌ {A = ℕ} 5 6 = ap (λ (l : List ℕ). get_or l 0 0) one in absurd (omega arith)

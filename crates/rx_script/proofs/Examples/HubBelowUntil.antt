@@ -87,14 +87,12 @@ to_until = ordered_to true (Opening Root Until) until_made (stands_after (Publis
 pub to_source : IsFirstStep nothing_kept until_made (Open (Source 1) (Sub 0) ∷ []) source_made
 unfolding first_forced source_end child_terminal source_completed open_children is_fired owed projections moments stops climb most_visits most_nodes is_open
     is_shut ancestors parent
-to_source = ordered_to true (Opening (Source 1) (Sub 0)) source_made (stands_after (Opening Root Until) to_until) tt refl
-    (first_next nothing_yet refl) refl
+to_source = ordered_to true (Opening (Source 1) (Sub 0)) source_made (stands_after (Opening Root Until) to_until) tt refl (first_next nothing_yet refl) refl
 
 pub to_notifier : IsFirstStep nothing_kept source_made (Open (Notifier 1) (Sub 0) ∷ []) notifier_made
 unfolding first_forced source_end child_terminal source_completed open_children is_fired owed projections moments stops climb most_visits most_nodes is_open
     is_shut ancestors parent
-to_notifier = ordered_to true (Opening (Notifier 1) (Sub 0)) notifier_made (stands_after (Opening (Source 1) (Sub 0)) to_source) tt refl
-    nothing_yet refl
+to_notifier = ordered_to true (Opening (Notifier 1) (Sub 0)) notifier_made (stands_after (Opening (Source 1) (Sub 0)) to_source) tt refl nothing_yet refl
 
 pub to_leaf : IsFirstStep nothing_kept notifier_made (Open (Source 3) Leaf ∷ []) leaf_made
 unfolding first_forced source_end child_terminal source_completed open_children is_fired owed projections moments stops climb most_visits most_nodes is_open
@@ -159,8 +157,7 @@ unfolding report unclosed_report refused_line node_line note_text totals_line cl
     ancestors parent stops climb most_visits moments projections owed
 item_report = refl
 
-pub end_report : report (course ended) 0
-    ≡ codes "node u closed: completed\ntotals nodes=5 open=0 accepted=0 held=0 waiting=0 taken=0\nclosed 0 faults 0\n"
+pub end_report : report (course ended) 0 ≡ codes "node u closed: completed\ntotals nodes=5 open=0 accepted=0 held=0 waiting=0 taken=0\nclosed 0 faults 0\n"
 unfolding report unclosed_report refused_line node_line note_text totals_line closed_line notes shown digits is_owned is_held is_waiting is_open is_shut
     ancestors parent stops climb most_visits moments projections owed
 end_report = refl

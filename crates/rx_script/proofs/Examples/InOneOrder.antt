@@ -37,8 +37,7 @@ pub ordered_on : {until : ℕ} {first p : Progress} {answers : List Answer} {lab
     {k : List Event} → Leads in_one_order until first answers p → (c : Command) (call : Call)
     → next_step until p.agenda ≡ Some (record { label = label; delay = delay; action = command c; followers = followers }, rest)
     → own_cause p.stage c ≡ None → call_of p.stage c ≡ Some call → cause_in in_one_order p.stage call ≡ None
-    → IsFirstStep nothing_kept p.stage.history (outside_of p.stage.history call) k
-    → Leads in_one_order until first (answers ++ Accepted ∷ []) (record {
+    → IsFirstStep nothing_kept p.stage.history (outside_of p.stage.history call) k → Leads in_one_order until first (answers ++ Accepted ∷ []) (record {
       stage = after p.stage c k;
       agenda = followed_by Accepted (list_of followers) rest;
     })
@@ -62,13 +61,12 @@ pub refused_on : {until : ℕ} {first p : Progress} {answers : List Answer} {lab
       stage = p.stage;
       agenda = followed_by (Refused (Book why)) (list_of followers) rest;
     })
-refused_on {p = p} {label = label} {delay = delay} {followers = followers} {rest = rest} before c call why comes own called stands =
-    advanced before (record {
-      step = record { label = label; delay = delay; action = command c; followers = followers };
-      rest = rest;
-      comes = comes;
-      done = record { stage = p.stage; agenda = rest };
-      performs = executes (refused_by_book own called stands);
-      stage = refl;
-      follows = refl;
-    })
+refused_on {p = p} {label = label} {delay = delay} {followers = followers} {rest = rest} before c call why comes own called stands = advanced before (record {
+  step = record { label = label; delay = delay; action = command c; followers = followers };
+  rest = rest;
+  comes = comes;
+  done = record { stage = p.stage; agenda = rest };
+  performs = executes (refused_by_book own called stands);
+  stage = refl;
+  follows = refl;
+})

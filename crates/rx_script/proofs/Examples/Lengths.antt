@@ -43,8 +43,7 @@ long = halfway ++ End 4 Completed ∷ End 1 Completed ∷ []
 to_halfway : IsForcedOn nothing_kept (leaf_made ++ End 5 Completed ∷ []) halfway
 unfolding first_forced source_end child_terminal source_completed open_children is_fired owed projections moments stops climb most_visits most_nodes is_open
     is_shut ancestors parent
-to_halfway =
-    more (more stays (first_is_forced nothing_kept (leaf_made ++ End 5 Completed ∷ []) (End 3 Completed) refl))
+to_halfway = more (more stays (first_is_forced nothing_kept (leaf_made ++ End 5 Completed ∷ []) (End 3 Completed) refl))
     (first_is_forced nothing_kept (leaf_made ++ End 5 Completed ∷ End 3 Completed ∷ []) (End 2 Completed) refl)
 
 to_short : IsStepOf nothing_kept leaf_made (Ending 5 Completed) short
@@ -91,8 +90,7 @@ abbrev last_stage : List Event → ℕ → Stage
 last_stage k number = record (stage k) { nodes = (stage k).nodes ++ record { name = x; number = number } ∷ [] }
 
 abbrev course : List Event → ℕ → Course
-course k number =
-    record { answers = Accepted ∷ Accepted ∷ Accepted ∷ Accepted ∷ Accepted ∷ Accepted ∷ Accepted ∷ []; last = last_stage k number }
+course k number = record { answers = Accepted ∷ Accepted ∷ Accepted ∷ Accepted ∷ Accepted ∷ Accepted ∷ Accepted ∷ []; last = last_stage k number }
 
 led_short : Led [] (steps from_end) (course (short ++ Open Root Leaf ∷ []) 10).answers
     (record { stage = last_stage (short ++ Open Root Leaf ∷ []) 10; agenda = turn_of [] })
@@ -131,13 +129,11 @@ pub no_number_is_shown : ((script : Script) (wares : List Ware) (c d : Course) �
     → HasNoFull d.answers → numbers c ≡ numbers d) → ⊥
 no_number_is_shown same =
     let one = same (script room) [] (course (short ++ Open Root Leaf ∷ []) 10) (course (long ++ Open Root Leaf ∷ []) 11) short_course refl long_course refl in
-    let at_x : ◌≡◌ {A = ℕ} 10 11 = ap (λ (ns : List ℕ). get_or ns 5 0) one in
-    absurd (omega arith)
+    let at_x : ◌≡◌ {A = ℕ} 10 11 = ap (λ (ns : List ℕ). get_or ns 5 0) one in absurd (omega arith)
 
 -- nor how long the history is
 pub no_length_is_shown : ((script : Script) (wares : List Ware) (c d : Course) → IsCourseOf script wares c → HasNoFull c.answers → IsCourseOf script wares d
     → HasNoFull d.answers → length c.last.history ≡ length d.last.history) → ⊥
 no_length_is_shown same =
     let one : ◌≡◌ {A = ℕ} 11 12 = same (script room) [] (course (short ++ Open Root Leaf ∷ []) 10)
-    (course (long ++ Open Root Leaf ∷ []) 11) short_course refl long_course refl in
-    absurd (omega arith)
+    (course (long ++ Open Root Leaf ∷ []) 11) short_course refl long_course refl in absurd (omega arith)

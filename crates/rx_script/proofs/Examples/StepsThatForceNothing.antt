@@ -23,8 +23,7 @@ lawful_through (more {k = k} {e = e} on f) law = IsLawful-push nothing_kept k e 
 pub step_to : {h : List Event} (fresh : Bool) (call : Call) {k : List Event} → IsLawful nothing_kept h → IsSettled nothing_kept h → IsReady h call
     → first_cause (unlimited (causes nothing_kept h 0 fresh call)) ≡ None
     → IsForcedOn nothing_kept (h ++ outside_of h call) k → first_forced nothing_kept k ≡ None → IsStepOf nothing_kept h call k
-step_to {h} fresh call {k} law settled ready none on over =
-    search (rules, forced, lawful_through, outside_lawful, settled_by_order)
+step_to {h} fresh call {k} law settled ready none on over = search (rules, forced, lawful_through, outside_lawful, settled_by_order)
 
 -- a call that forces nothing
 pub plain_step : (h : List Event) (fresh : Bool) (call : Call) → IsLawful nothing_kept h → IsSettled nothing_kept h → IsReady h call

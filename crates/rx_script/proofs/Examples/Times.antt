@@ -17,8 +17,7 @@ at moment does followers = record { label = None; delay = Some moment; action = 
 
 -- what follows the opening: at once, and two later
 abbrev followers : List Step
-followers = record { label = None; delay = None; action = command (open_node l (source c) leaf); followers = no_steps }
-    ∷ at 2 (next l (negsuc 0)) [] ∷ []
+followers = record { label = None; delay = None; action = command (open_node l (source c) leaf); followers = no_steps } ∷ at 2 (next l (negsuc 0)) [] ∷ []
 
 abbrev steps : List Step
 steps = at 10 (dispose s) [] ∷ at 5 (make_hub h Auto) [] ∷ at 5 (open_node s root (sub h (Some c))) followers ∷ at 10 (next l (pos 8)) [] ∷ []

@@ -4,8 +4,7 @@ use Rattle.rx_live.proofs.arrays.push_one.Goals as goal
 use Rattle.std.proofs.Common.{rules}
 
 pub returns-in-Ok-clause-ok : goal.returns-in-Ok-clause-ok
-returns-in-Ok-clause-ok c =
-    search (rules, element_taken, string_bytes)
+returns-in-Ok-clause-ok c = search (rules, element_taken, string_bytes)
 
 pub returns-in-Err-clause-ok : goal.returns-in-Err-clause-ok
 returns-in-Err-clause-ok c =

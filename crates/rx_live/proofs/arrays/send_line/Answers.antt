@@ -13,8 +13,7 @@ returns-in-Ok-clause-ok c =
     c.send_value.ensures.ok
 
 pub returns-in-Ok-clause-err : goal.returns-in-Ok-clause-err
-returns-in-Ok-clause-err c =
-    search (rules, line_waits)
+returns-in-Ok-clause-err c = search (rules, line_waits)
 
 pub returns-in-Err-Faulty-clause-ok : goal.returns-in-Err-Faulty-clause-ok
 returns-in-Err-Faulty-clause-ok c =

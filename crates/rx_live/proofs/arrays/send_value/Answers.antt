@@ -11,9 +11,7 @@ returns-in-Some-clause-ok c =
     c.send_array.result several c.send_array.ensures.ok
 
 pub returns-in-Some-clause-err : goal.returns-in-Some-clause-err
-returns-in-Some-clause-err c =
-    search (rules, array_waits)
+returns-in-Some-clause-err c = search (rules, array_waits)
 
 pub returns-in-None-clause-ok : goal.returns-in-None-clause-ok
-returns-in-None-clause-ok c =
-    search (rules, as_array, option_map, items_data, items_view, value_one)
+returns-in-None-clause-ok c = search (rules, as_array, option_map, items_data, items_view, value_one)

@@ -6,8 +6,7 @@ use Rattle.rx_live.proofs.calls.ask.Goals as goal
 use Rattle.std.proofs.Common.{rules}
 
 pub returns-in_default-clause-ok : goal.returns-in_default-clause-ok
-returns-in_default-clause-ok c =
-    search (rules, nameless_runs)
+returns-in_default-clause-ok c = search (rules, nameless_runs)
 
 pub returns-clause-ok : goal.returns-clause-ok
 returns-clause-ok c =

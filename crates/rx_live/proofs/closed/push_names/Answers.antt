@@ -29,9 +29,7 @@ places-preserved c =
     ]
 
 pub returns-clause-first : goal.returns-clause-first
-returns-clause-first c =
-    search (rules, length)
+returns-clause-first c = search (rules, length)
 
 pub returns-clause-text : goal.returns-clause-text
-returns-clause-text c =
-    search (rules, length, string_bytes)
+returns-clause-text c = search (rules, length, string_bytes)

@@ -3,5 +3,4 @@ use Rattle.rx_live.proofs.closing.close.Goals as goal
 use Rattle.std.proofs.Common.{rules}
 
 pub returns-clause-sound : goal.returns-clause-sound
-returns-clause-sound c =
-    search (rules, closed_sound)
+returns-clause-sound c = search (rules, closed_sound)

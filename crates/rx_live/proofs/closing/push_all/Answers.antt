@@ -22,15 +22,13 @@ pub returns-clause-first : goal.returns-clause-first
 returns-clause-first c =
     let s = session_of c.args.engine.now in
     let before : List Name = option_to_list (option_map string_bytes c.args.engine.now.unnamed) in
-    c.numbers.invariant.first
-    ∙ ap is_nil (names_all s before c.deref-number-items.result.now c.numbers.number-index c.requires (omega arith)
+    c.numbers.invariant.first ∙ ap is_nil (names_all s before c.deref-number-items.result.now c.numbers.number-index c.requires (omega arith)
     (λ len placed. c.deref-number-items.ensures.value ∙ c.in_ok-numbers.ensures len placed))
 
 pub returns-clause-text : goal.returns-clause-text
 returns-clause-text c =
     let s = session_of c.args.engine.now in
     let before : List Name = option_to_list (option_map string_bytes c.args.engine.now.unnamed) in
-    c.numbers.invariant.written
-    ∙ ap (λ (names : List Name). string_bytes c.args.text.now ++ open_text names)
+    c.numbers.invariant.written ∙ ap (λ (names : List Name). string_bytes c.args.text.now ++ open_text names)
     (names_all s before c.deref-number-items.result.now c.numbers.number-index c.requires (omega arith)
     (λ len placed. c.deref-number-items.ensures.value ∙ c.in_ok-numbers.ensures len placed))

@@ -9,8 +9,7 @@ places-preserved c =
     let h = c.args.engine.now.book.history in
     let within : c.places.place < length h = let t = c.places-test.true in let l = c.len-place-end.ensures in omega (arith, t, l) in
     elim c.match-event.branch [
-      | in-Some+in_ok-push w ↦ event_more b h c.places.place c.requires within
-          (sym c.event.ensures ∙ w.in-Some.is)
+      | in-Some+in_ok-push w ↦ event_more b h c.places.place c.requires within (sym c.event.ensures ∙ w.in-Some.is)
           c.places.invariant (ap (λ v. v.items) w.events-is ∙ w.in_ok-push.ensures.items)
       | in_default w ↦ absurd (event_there b h c.places.place c.requires within (sym c.event.ensures ∙ w.in_default.is))
     ]

@@ -15,8 +15,7 @@ places-preserved c =
           let there : entry k ≡ Some (string_bytes w.in-Some.entry) = sym c.in_ok-entry.ensures ∙ ap (option_map string_bytes) w.in-Some.is in
           record {
             first = w.is_first-is ∙ entry_nil entry k there;
-            written = ap string_bytes w.text-is ∙ entry_written entry k c.places.is_first begun there
-                c.places.invariant.first c.places.invariant.written
+            written = ap string_bytes w.text-is ∙ entry_written entry k c.places.is_first begun there c.places.invariant.first c.places.invariant.written
                 (w.in_ok-push_entry.ensures ∙ ap (λ (o : List ℕ). string_bytes c.places.text ++ led_text c.places.is_first o) w.as_str.ensures.value);
           }
       | in_default w ↦
@@ -28,5 +27,4 @@ places-preserved c =
     ]
 
 pub returns : goal.returns
-returns c =
-    search (rules, length, string_bytes)
+returns c = search (rules, length, string_bytes)

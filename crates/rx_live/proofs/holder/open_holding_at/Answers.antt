@@ -17,18 +17,15 @@ returns-in_err-make_room-clause-err c =
     (c.make_room.ensures.paired c.are_taken.ensures.paired))
 
 pub returns-in_err-make_room-2-clause-err : goal.returns-in_err-make_room-2-clause-err
-returns-in_err-make_room-2-clause-err c =
-    on_err c.from_residual-in_err-make_room-2.result _
-    (unchanged_rooms c.make_room.new.self c.make_room-2.new.self c.requires c.are_taken.ensures.same c.make_room.ensures.same
-    c.make_room-2.ensures.same
+returns-in_err-make_room-2-clause-err c = on_err c.from_residual-in_err-make_room-2.result _
+    (unchanged_rooms c.make_room.new.self c.make_room-2.new.self c.requires c.are_taken.ensures.same c.make_room.ensures.same c.make_room-2.ensures.same
     (c.make_room.ensures.paired c.are_taken.ensures.paired) (c.make_room-2.ensures.paired c.requires.resource_pairs))
 
 pub returns-in-Err-clause-err : goal.returns-in-Err-clause-err
 returns-in-Err-clause-err c =
     let s = session_of c.args.engine.now in
     on_err c.answered.result _ (with_book s c.open_holding.new.self c.make_room.new.self c.make_room-2.new.self c.in-Err.ensures.kept
-    (unchanged_rooms c.make_room.new.self c.make_room-2.new.self c.requires c.are_taken.ensures.same c.make_room.ensures.same
-    c.make_room-2.ensures.same
+    (unchanged_rooms c.make_room.new.self c.make_room-2.new.self c.requires c.are_taken.ensures.same c.make_room.ensures.same c.make_room-2.ensures.same
     (c.make_room.ensures.paired c.are_taken.ensures.paired) (c.make_room-2.ensures.paired c.requires.resource_pairs)))
 
 pub returns-in-Err-clause-ok : goal.returns-in-Err-clause-ok
@@ -46,13 +43,10 @@ returns-in-Err-clause-ok c =
     let fresh = is_new token.life token.uses c.new-token.ensures.live c.new-token.ensures.unused in
     let cause : IsRefusal (holder_causes s.book (holder_at place kind)) c.in-Err.unheld.why =
     subst (λ (stand : Refusal → Bool). IsRefusal stand c.in-Err.unheld.why) (causes_of s.book place kind fresh) c.in-Err.ensures.refused in
-    refused_by holder_causes OpensHolder (BindsHolder s name connection res) c.in-Err.unheld.why c.answered.result
-    refl (λ i. no_node i || free i) cause
+    refused_by holder_causes OpensHolder (BindsHolder s name connection res) c.in-Err.unheld.why c.answered.result refl (λ i. no_node i || free i) cause
     (with_book s c.open_holding.new.self c.make_room.new.self c.make_room-2.new.self c.in-Err.ensures.kept
-    (unchanged_rooms c.make_room.new.self c.make_room-2.new.self c.requires c.are_taken.ensures.same c.make_room.ensures.same
-    c.make_room-2.ensures.same
-    (c.make_room.ensures.paired c.are_taken.ensures.paired) (c.make_room-2.ensures.paired c.requires.resource_pairs)))
-    c.answered.ensures.ok
+    (unchanged_rooms c.make_room.new.self c.make_room-2.new.self c.requires c.are_taken.ensures.same c.make_room.ensures.same c.make_room-2.ensures.same
+    (c.make_room.ensures.paired c.are_taken.ensures.paired) (c.make_room-2.ensures.paired c.requires.resource_pairs))) c.answered.ensures.ok
 
 pub returns-in-Ok-clause-ok : goal.returns-in-Ok-clause-ok
 returns-in-Ok-clause-ok c =
@@ -119,8 +113,7 @@ bind_made-requires-clause-free c =
     ap (λ (n : Name). is_open_taken s n connection) (sym c.as_str-2.ensures.value) ∙ sym c.are_taken.ensures.answer ∙ c.if-are_taken.false in
     let binds : Binds t name spot with_node = subst (λ (n : Name). Binds t n spot with_node) c.in_ok-name.ensures c.bind.ensures.binds in
     subst (λ (o : Option Name). IfSome o (λ n. spot_of with_node n ≡ None)) (sym c.in_ok-connection.ensures)
-    (connection_free s t with_node connection free c.make_room.ensures.same binds
-    (c.are_taken.ensures.other_free c.if-are_taken.false))
+    (connection_free s t with_node connection free c.make_room.ensures.same binds (c.are_taken.ensures.other_free c.if-are_taken.false))
 
 pub bind_made-requires-clause-unnamed : goal.bind_made-requires-clause-unnamed
 bind_made-requires-clause-unnamed c =
@@ -136,14 +129,12 @@ bind_made-requires-clause-unnamed c =
     c.in-Ok.held.opened.connected opened.connection
 
 pub bind-requires-in-Ok-clause-free : goal.bind-requires-in-Ok-clause-free
-bind-requires-in-Ok-clause-free c =
-    search (rules, string_bytes, none_of, or_false, option_map_or, bytes_eq)
+bind-requires-in-Ok-clause-free c = search (rules, string_bytes, none_of, or_false, option_map_or, bytes_eq)
 
 pub bind-requires-in-Ok-clause-unnamed : goal.bind-requires-in-Ok-clause-unnamed
 bind-requires-in-Ok-clause-unnamed c =
     let s = session_of c.args.engine.now in
     let more = c.make_room-2.new.self in
     let middle = c.in-Ok.ensures.ok.middle in
-    ap (name_of more) c.in-Ok.ensures.ok.res.number
-    ∙ unnamed_past s more (length middle.history) c.requires c.make_room-2.ensures.same
+    ap (name_of more) c.in-Ok.ensures.ok.res.number ∙ unnamed_past s more (length middle.history) c.requires c.make_room-2.ensures.same
     (accepted_longer s.book middle (open_request s.book c.args.place c.args.kind) c.in-Ok.ensures.ok.opens)

@@ -13,9 +13,7 @@ returns-in-Ok-clause-ok c =
     let found : lease_of s name ≡ Some key = sym c.lease_of.ensures ∙ c.in-Some.is in
     let known : name_of s.leases key.number ≡ Some name = lease_named s name key c.requires found in
     let forgets = forgot s.leases new key.number name c.forget-name.result known c.forget-name.ensures.value c.forget-name.ensures.some in
-    given_accepted (option_map (give_back_request s.book) (lease_of s name)) false
-    (FreesLease s name)
+    given_accepted (option_map (give_back_request s.book) (lease_of s name)) false (FreesLease s name)
     (ap (option_map (give_back_request s.book)) found) refl c.in-Ok.ensures.accepted
     (record { number = key.number; known = known; forgets = forgets; rest = refl })
-    (returned_sound (has_lease_key s.book.lease_keys key) name new c.requires c.promise.ensures c.forget-name.ensures.paired forgets
-    c.in-Ok.ensures.accepted)
+    (returned_sound (has_lease_key s.book.lease_keys key) name new c.requires c.promise.ensures c.forget-name.ensures.paired forgets c.in-Ok.ensures.accepted)

@@ -25,8 +25,7 @@ returns-in-Ok-clause-ok c =
     let binds : Binds mid name spot new = subst (λ (n : Name). Binds mid n spot new) c.in_ok-name.ensures c.bind.ensures.binds in
     let accepts : Accepts s.book (lease_request s.book key) book = c.in-Ok.ensures.accepted in
     let paired = c.bind.ensures.paired (c.make_room.ensures.paired c.requires.lease_pairs) in
-    given_accepted (option_map (lease_request s.book) (resource_of s c.args.res.now)) (is_some (lease_of s name))
-    (BindsLease s name)
+    given_accepted (option_map (lease_request s.book) (resource_of s c.args.res.now)) (is_some (lease_of s name)) (BindsLease s name)
     (ap (option_map (lease_request s.book)) found) free accepts
     (leased_bound s book name spot mid new c.requires c.promise.ensures paired c.make_room.ensures.same binds number)
     (leased_sound s book name spot mid new c.requires c.promise.ensures paired key.number (has_res_key s.book.res_keys key) c.make_room.ensures.same binds

@@ -26,12 +26,10 @@ returns-in-Err-clause-ok c =
     let name : Option Name = option_map string_bytes c.args.name in
     let found : hub_of s c.args.hub.now ≡ Some c.in-Some.number = sym c.hub_of.ensures ∙ c.in-Some.is in
     let free : option_map_or (is_node s) name false ≡ false = sym c.is_other_taken.ensures.answer ∙ c.if-is_other_taken.false in
-    given_refused (BindsConnection s name) c.in-Err.why c.answered.result
-    (ap (option_map connect_request) found) free c.in-Err.ensures.refused
+    given_refused (BindsConnection s name) c.in-Err.why c.answered.result (ap (option_map connect_request) found) free c.in-Err.ensures.refused
     (with_book s c.connect.new.self t s.resources c.in-Err.ensures.kept
     (unchanged_room s c.is_other_taken.new.nodes t c.requires c.is_other_taken.ensures.same c.make_room.ensures.same
-    (c.make_room.ensures.paired c.is_other_taken.ensures.paired)))
-    c.answered.ensures.ok
+    (c.make_room.ensures.paired c.is_other_taken.ensures.paired))) c.answered.ensures.ok
 
 pub returns-in-Ok-clause-ok : goal.returns-in-Ok-clause-ok
 returns-in-Ok-clause-ok c =

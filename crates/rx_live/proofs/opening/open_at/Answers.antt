@@ -29,13 +29,10 @@ returns-in-Err-clause-ok c =
     let call = open_request s.book c.args.place c.args.kind in
     let free : is_open_taken s name connection ≡ false =
     ap (λ (n : Name). is_open_taken s n connection) (sym c.as_str.ensures.value) ∙ sym c.are_taken.ensures.answer ∙ c.if-are_taken.false in
-    given_refused (BindsNode s name connection)
-    c.in-Err.why c.answered.result
-    refl free c.in-Err.ensures.refused
+    given_refused (BindsNode s name connection) c.in-Err.why c.answered.result refl free c.in-Err.ensures.refused
     (with_book s c.open.new.self t s.resources c.in-Err.ensures.kept
     (unchanged_room s c.are_taken.new.nodes t c.requires c.are_taken.ensures.same c.make_room.ensures.same
-    (c.make_room.ensures.paired c.are_taken.ensures.paired)))
-    c.answered.ensures.ok
+    (c.make_room.ensures.paired c.are_taken.ensures.paired))) c.answered.ensures.ok
 
 pub returns-in-Ok-clause-ok : goal.returns-in-Ok-clause-ok
 returns-in-Ok-clause-ok c =
@@ -65,5 +62,4 @@ returns-in-Ok-clause-ok c =
     c.args.place c.args.kind c.promise.ensures paired accepts)
 
 pub bind_made-requires-clause-free : goal.bind_made-requires-clause-free
-bind_made-requires-clause-free c =
-    search (rules, string_bytes, option_map, connection_free)
+bind_made-requires-clause-free c = search (rules, string_bytes, option_map, connection_free)

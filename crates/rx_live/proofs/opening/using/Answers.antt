@@ -19,8 +19,7 @@ pub returns-in_err-make_room-2-clause-err : goal.returns-in_err-make_room-2-clau
 returns-in_err-make_room-2-clause-err c =
     let s = session_of c.args.engine.now in
     on_err c.from_residual-in_err-make_room-2.result _
-    (unchanged_rooms c.make_room.new.self c.make_room-2.new.self c.requires c.is_taken.ensures.same c.make_room.ensures.same
-    c.make_room-2.ensures.same
+    (unchanged_rooms c.make_room.new.self c.make_room-2.new.self c.requires c.is_taken.ensures.same c.make_room.ensures.same c.make_room-2.ensures.same
     (c.make_room.ensures.paired c.is_taken.ensures.paired) (c.make_room-2.ensures.paired c.requires.resource_pairs))
 
 pub bind-requires-in-Ok-clause-unnamed : goal.bind-requires-in-Ok-clause-unnamed
@@ -33,8 +32,7 @@ pub returns-in-Err-clause-err : goal.returns-in-Err-clause-err
 returns-in-Err-clause-err c =
     let s = session_of c.args.engine.now in
     on_err c.answered.result _ (with_book s c.open_using.new.self c.make_room.new.self c.make_room-2.new.self c.in-Err.ensures.kept
-    (unchanged_rooms c.make_room.new.self c.make_room-2.new.self c.requires c.is_taken.ensures.same c.make_room.ensures.same
-    c.make_room-2.ensures.same
+    (unchanged_rooms c.make_room.new.self c.make_room-2.new.self c.requires c.is_taken.ensures.same c.make_room.ensures.same c.make_room-2.ensures.same
     (c.make_room.ensures.paired c.is_taken.ensures.paired) (c.make_room-2.ensures.paired c.requires.resource_pairs)))
 
 pub returns-in-Err-clause-ok : goal.returns-in-Err-clause-ok
@@ -52,13 +50,10 @@ returns-in-Err-clause-ok c =
     let tag : token.tag ≡ length s.book.history + 1 = c.new-token.ensures.tag ∙ c.place_behind.ensures in
     let cause : IsCauseOrWant s.book (using_at s.book place) c.in-Err.unheld.why =
     subst (λ (r : Request). IsCauseOrWant s.book r c.in-Err.unheld.why) (λ i. asked s.book place (tag i) (fresh i)) c.in-Err.ensures.refused.why in
-    given_refused (BindsUsing s name res) c.in-Err.unheld.why c.answered.result
-    (ap (option_map (using_at s.book)) found) (λ i. no_node i || free i) cause
+    given_refused (BindsUsing s name res) c.in-Err.unheld.why c.answered.result (ap (option_map (using_at s.book)) found) (λ i. no_node i || free i) cause
     (with_book s c.open_using.new.self c.make_room.new.self c.make_room-2.new.self c.in-Err.ensures.kept
-    (unchanged_rooms c.make_room.new.self c.make_room-2.new.self c.requires c.is_taken.ensures.same c.make_room.ensures.same
-    c.make_room-2.ensures.same
-    (c.make_room.ensures.paired c.is_taken.ensures.paired) (c.make_room-2.ensures.paired c.requires.resource_pairs)))
-    c.answered.ensures.ok
+    (unchanged_rooms c.make_room.new.self c.make_room-2.new.self c.requires c.is_taken.ensures.same c.make_room.ensures.same c.make_room-2.ensures.same
+    (c.make_room.ensures.paired c.is_taken.ensures.paired) (c.make_room-2.ensures.paired c.requires.resource_pairs))) c.answered.ensures.ok
 
 pub returns-in-Ok-clause-ok : goal.returns-in-Ok-clause-ok
 returns-in-Ok-clause-ok c =
@@ -86,12 +81,10 @@ returns-in-Ok-clause-ok c =
     let binds : Binds t name spot nodes = subst (λ (n : Name). Binds t n spot nodes) c.in_ok-name.ensures c.bind.ensures.binds in
     let binds_res : Binds more res held resources = subst (λ (n : Name). Binds more n held resources) c.in_ok-res.ensures c.bind-in-Ok.ensures.binds in
     let node : NamesOne t name (length s.book.history) nodes = record { spot = spot; is = number; binds = binds } in
-    let resource : NamesOne more res (length s.book.history + 1) resources =
-    record { spot = held; is = c.in-Ok.ensures.ok.res.number; binds = binds_res } in
+    let resource : NamesOne more res (length s.book.history + 1) resources = record { spot = held; is = c.in-Ok.ensures.ok.res.number; binds = binds_res } in
     let pairs = c.bind.ensures.paired (c.make_room.ensures.paired c.is_taken.ensures.paired) in
     let paired = c.bind-in-Ok.ensures.paired (c.make_room-2.ensures.paired c.requires.resource_pairs) in
-    given_accepted (using_asked s site) (is_using_taken s name res)
-    (BindsUsing s name res)
+    given_accepted (using_asked s site) (is_using_taken s name res) (BindsUsing s name res)
     (ap (option_map (using_at s.book)) found) (λ i. no_node i || free i) accepts
     (used_bound c.requires c.is_taken.ensures.same c.make_room.ensures.same node c.make_room-2.ensures.same resource)
     (used_sound c.requires c.is_taken.ensures.same c.make_room.ensures.same node c.make_room-2.ensures.same resource

@@ -14,8 +14,7 @@ pub returns-then-is_open-clause-same : goal.returns-then-is_open-clause-same
 returns-then-is_open-clause-same c = same_open None c.args.book.now c.args.nodes.now
 
 pub returns-then-is_open-clause-left : goal.returns-then-is_open-clause-left
-returns-then-is_open-clause-left c =
-    search (rules, spot_at, left_open)
+returns-then-is_open-clause-left c = search (rules, spot_at, left_open)
 
 pub returns-clause-same : goal.returns-clause-same
 returns-clause-same c =
@@ -24,5 +23,4 @@ returns-clause-same c =
     (sym c.is_open.ensures ∙ c.if-is_open.false) c.forget-name.ensures.value c.forget-name.ensures.some).0
 
 pub returns-clause-left : goal.returns-clause-left
-returns-clause-left c =
-    search (rules, spot_at, left_forgotten, forgot_one)
+returns-clause-left c = search (rules, spot_at, left_forgotten, forgot_one)

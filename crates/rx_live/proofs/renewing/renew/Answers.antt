@@ -10,8 +10,7 @@ pub returns-in-Ok-clause-ok : goal.returns-in-Ok-clause-ok
 returns-in-Ok-clause-ok c =
     let s = session_of c.args.engine.now in
     renews s c.checkpoint.new.self c.forget_all_closed.new.nodes (none_of s.untold (sym c.is_some.ensures ∙ c.if-is_some.false)) c.promise.ensures
-    c.in-Ok.ensures.made
-    c.forget_all_closed.ensures.same c.forget_all_closed.ensures.open_alone
+    c.in-Ok.ensures.made c.forget_all_closed.ensures.same c.forget_all_closed.ensures.open_alone
 
 pub returns-in-Ok-clause-sound : goal.returns-in-Ok-clause-sound
 returns-in-Ok-clause-sound c =

@@ -14,17 +14,13 @@ returns-in-Ok-Task-clause-ok c =
     (string_bytes c.args.text.now) (string_bytes c.carry_out.new.text) c.carry_out.result order c.carry_out.ensures.ok
 
 pub returns-in_ok-query_text-in-Ok-Query-clause-ok : goal.returns-in_ok-query_text-in-Ok-Query-clause-ok
-returns-in_ok-query_text-in-Ok-Query-clause-ok c =
-    search (rules, string_bytes, query, tried_said, answered_queried)
+returns-in_ok-query_text-in-Ok-Query-clause-ok c = search (rules, string_bytes, query, tried_said, answered_queried)
 
 pub returns-in_ok-list_text-in-Ok-List-clause-ok : goal.returns-in_ok-list_text-in-Ok-List-clause-ok
-returns-in_ok-list_text-in-Ok-List-clause-ok c =
-    search (rules, list, tried_said, string_bytes, answered_listed)
+returns-in_ok-list_text-in-Ok-List-clause-ok c = search (rules, list, tried_said, string_bytes, answered_listed)
 
 pub returns-in_ok-dump_text-in-Ok-Dump-clause-ok : goal.returns-in_ok-dump_text-in-Ok-Dump-clause-ok
-returns-in_ok-dump_text-in-Ok-Dump-clause-ok c =
-    search (rules, tried_said, string_bytes, answered_dumped)
+returns-in_ok-dump_text-in-Ok-Dump-clause-ok c = search (rules, tried_said, string_bytes, answered_dumped)
 
 pub returns-in_ok-faulty_text-in-Err-Faulty-clause-ok : goal.returns-in_ok-faulty_text-in-Err-Faulty-clause-ok
-returns-in_ok-faulty_text-in-Err-Faulty-clause-ok c =
-    search (rules, tried_said, string_bytes, answered_faulty)
+returns-in_ok-faulty_text-in-Err-Faulty-clause-ok c = search (rules, tried_said, string_bytes, answered_faulty)

@@ -10,8 +10,7 @@ use Rattle.rx_live.proofs.sending.carry_out.Goals as goal
 use Rattle.std.proofs.Common.{rules}
 
 pub returns-then-is_full_by_age-clause-ok : goal.returns-then-is_full_by_age-clause-ok
-returns-then-is_full_by_age-clause-ok c =
-    search (rules, full_by_age, refused_alike)
+returns-then-is_full_by_age-clause-ok c = search (rules, full_by_age, refused_alike)
 
 pub returns-in-Accepted-clause-ok : goal.returns-in-Accepted-clause-ok
 returns-in-Accepted-clause-ok c =
@@ -35,8 +34,7 @@ returns-in-Accepted-clause-ok c =
     ∙ append_assoc begun placed led in
     let written : string_bytes c.push_closed.new.text ≡ begun ++ (placed ++ led ++ said_closed) =
     wrote.written ∙ ap (λ (t : List ℕ). t ++ said_closed) connected ∙ append_assoc begun (placed ++ led) said_closed in
-    let says : SaysClosed (closed_names old asked done) said_closed =
-    subst (λ (ns : List Name). SaysClosed ns said_closed)
+    let says : SaysClosed (closed_names old asked done) said_closed = subst (λ (ns : List Name). SaysClosed ns said_closed)
     (λ i. if c.closing_of-closing.ensures.call i then names_closed done (c.closing_of-closing.ensures.asked i) else []) wrote.says in
     carried_out done (session_of c.tell.new.engine) asked begun (placed ++ led) said_closed (string_bytes c.tell.new.text) runs front says
     (subst (λ (t : List ℕ). TellsAll done t (session_of c.tell.new.engine) (string_bytes c.tell.new.text)) written c.tell.ensures.tells)
@@ -49,16 +47,12 @@ returns-clause-ok c =
     let runs : Does old (task_of c.args.task) (Refused why) new =
     subst (λ (o : Outcome). Does old (task_of c.args.task) o new) c.in-Refused.is c.in_ok-act.ensures.ok in
     refused_out old new (task_of c.args.task) why (string_bytes c.args.text.now) (string_bytes c.in_ok-told-in-Refused.told) (string_bytes
-    c.push_answer.new.text) runs
-    (full_by_open old new why c.requires.sound.kept (refused_alike old new (task_of c.args.task) why runs)
-    (sym c.is_full_by_age.ensures ∙ c.if-is_full_by_age.false))
-    c.in_ok-told-in-Refused.ensures
+    c.push_answer.new.text) runs (full_by_open old new why c.requires.sound.kept (refused_alike old new (task_of c.args.task) why runs)
+    (sym c.is_full_by_age.ensures ∙ c.if-is_full_by_age.false)) c.in_ok-told-in-Refused.ensures
     (c.in_ok-push_answer-in-Refused.ensures.ok ∙ (λ i. c.make_place.ensures.same i ++ c.as_str.ensures.value i))
 
 pub returns-in_err-told-in-Refused-clause-err : goal.returns-in_err-told-in-Refused-clause-err
-returns-in_err-told-in-Refused-clause-err c =
-    search (rules, on_err, refused_alike)
+returns-in_err-told-in-Refused-clause-err c = search (rules, on_err, refused_alike)
 
 pub returns-in_err-push_answer-in-Refused-clause-err : goal.returns-in_err-push_answer-in-Refused-clause-err
-returns-in_err-push_answer-in-Refused-clause-err c =
-    search (rules, on_err, refused_alike)
+returns-in_err-push_answer-in-Refused-clause-err c = search (rules, on_err, refused_alike)

@@ -11,6 +11,5 @@ returns-clause-ok c =
     let is : string_bytes c.reserve.new.self ≡ codes "{\"closed\":true" ++ member_text (codes "release") (map name_text (all_names s)) =
     front ∙ c.in_ok-push_names.ensures ∙ ap (λ (t : List ℕ). t ++ member_text (codes "release") (map name_text (all_names s))) begun in
     ended (session_of c.tell_notes.new.engine) (session_of c.close.new.engine) (string_bytes c.reserve.new.self) (string_bytes c.tell_notes.new.text)
-    (string_bytes c.close_text.new.text)
-    c.requires is c.tell_notes.ensures.told
+    (string_bytes c.close_text.new.text) c.requires is c.tell_notes.ensures.told
     (c.close_text.ensures.text ∙ ap (λ (b : Bool). string_bytes c.tell_notes.new.text ++ late_text b ++ codes "}") c.is_some.ensures) c.close.ensures.closed

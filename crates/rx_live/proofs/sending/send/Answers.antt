@@ -6,8 +6,7 @@ use Rattle.rx_live.proofs.sending.send.Goals as goal
 use Rattle.std.proofs.Common.{rules}
 
 pub returns-in_err-is_answered-clause-err : goal.returns-in_err-is_answered-clause-err
-returns-in_err-is_answered-clause-err c =
-    search (rules, on_err, as_it_was)
+returns-in_err-is_answered-clause-err c = search (rules, on_err, as_it_was)
 
 pub returns-then-is_answered-clause-ok : goal.returns-then-is_answered-clause-ok
 returns-then-is_answered-clause-ok c =
@@ -15,12 +14,10 @@ returns-then-is_answered-clause-ok c =
     (string_bytes c.answer.new.text) (answered_so _ _ _ _ c.if-is_answered.true c.in_ok-is_answered.ensures.ok) c.answer.ensures.sound
 
 pub returns-in_err-make_room-clause-err : goal.returns-in_err-make_room-clause-err
-returns-in_err-make_room-clause-err c =
-    search (rules, found_so, on_err, as_it_was)
+returns-in_err-make_room-clause-err c = search (rules, found_so, on_err, as_it_was)
 
 pub returns-in_err-is_done-clause-err : goal.returns-in_err-is_done-clause-err
-returns-in_err-is_done-clause-err c =
-    search (rules, found_so, on_err, renewed)
+returns-in_err-is_done-clause-err c = search (rules, found_so, on_err, renewed)
 
 pub unreachable-requires : goal.unreachable-requires
 unreachable-requires c =

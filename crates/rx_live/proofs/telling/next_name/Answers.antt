@@ -10,5 +10,4 @@ returns-in-Some-clause-some c =
     (ap (option_map string_bytes) (sym c.take.ensures.value ∙ c.in-Some.is)) (ap (option_map string_bytes) c.take.ensures.after)
 
 pub returns-in-None-clause-some : goal.returns-in-None-clause-some
-returns-in-None-clause-some c =
-    search (rules, option_map, string_bytes, dropped_taken)
+returns-in-None-clause-some c = search (rules, option_map, string_bytes, dropped_taken)

@@ -4,8 +4,7 @@ use Rattle.rx_live.proofs.telling.tell_notes.Goals as goal
 
 pub notes-init : goal.notes-init
 notes-init c = record {
-  written =
-      notes_begun (session_of c.args.engine.now) (session_of c.push_next.new.engine) (string_bytes c.args.text.now) (string_bytes c.push_next.new.text)
+  written = notes_begun (session_of c.args.engine.now) (session_of c.push_next.new.engine) (string_bytes c.args.text.now) (string_bytes c.push_next.new.text)
       c.if-not-push_next.ensures.told;
   sound = c.push_next.ensures.sound;
   room = c.push_next.ensures.room (c.args.rest + 15) (omega arith) c.requires.room;
@@ -13,10 +12,8 @@ notes-init c = record {
 
 pub notes-preserved : goal.notes-preserved
 notes-preserved c = record {
-  written =
-      notes_more (session_of c.args.engine.now) (session_of c.notes.engine) (session_of c.push_next-in-notes.new.engine) (string_bytes c.args.text.now)
-      (string_bytes c.notes.text)
-      (string_bytes c.push_next-in-notes.new.text) c.notes.invariant.written c.notes-test.ensures.told;
+  written = notes_more (session_of c.args.engine.now) (session_of c.notes.engine) (session_of c.push_next-in-notes.new.engine) (string_bytes c.args.text.now)
+      (string_bytes c.notes.text) (string_bytes c.push_next-in-notes.new.text) c.notes.invariant.written c.notes-test.ensures.told;
   sound = c.push_next-in-notes.ensures.sound;
   room = c.push_next-in-notes.ensures.room (c.args.rest + 15) (omega arith) c.notes.invariant.room;
 }
@@ -37,11 +34,9 @@ returns-then-not-push_next-clause-room c = let r : HasRoom (c.args.rest + 15) c.
 pub put-requires : goal.put-requires
 put-requires c =
     let r : HasRoom (c.args.rest + 15) c.push_next-in-notes.new.text = c.push_next-in-notes.ensures.room (c.args.rest + 15) (omega arith)
-    c.notes.invariant.room in
-    record { room = omega (arith, r) }
+    c.notes.invariant.room in record { room = omega (arith, r) }
 
 pub returns-clause-room : goal.returns-clause-room
 returns-clause-room c =
     let r : HasRoom (c.args.rest + 15) c.push_next-in-notes.new.text = c.push_next-in-notes.ensures.room (c.args.rest + 15) (omega arith)
-    c.notes.invariant.room in
-    omega (arith, r, c.put.ensures.len, c.put.ensures.capacity)
+    c.notes.invariant.room in omega (arith, r, c.put.ensures.len, c.put.ensures.capacity)

@@ -5,8 +5,7 @@ use Rattle.std.proofs.Common.{rules}
 
 pub names-init : goal.names-init
 names-init c = record {
-  written =
-      names_begun (session_of c.args.engine.now) (session_of c.push_name.new.engine) (string_bytes c.args.text.now) (string_bytes c.push_name.new.text)
+  written = names_begun (session_of c.args.engine.now) (session_of c.push_name.new.engine) (string_bytes c.args.text.now) (string_bytes c.push_name.new.text)
       c.if-not-push_name.ensures.told;
   sound = c.push_name.ensures.sound;
   room = c.push_name.ensures.room (c.args.rest + 14) (omega arith) c.requires.room;
@@ -14,10 +13,8 @@ names-init c = record {
 
 pub names-preserved : goal.names-preserved
 names-preserved c = record {
-  written =
-      names_more (session_of c.args.engine.now) (session_of c.names.engine) (session_of c.push_name-in-names.new.engine) (string_bytes c.args.text.now)
-      (string_bytes c.names.text)
-      (string_bytes c.push_name-in-names.new.text) c.names.invariant.written c.names-test.ensures.told;
+  written = names_more (session_of c.args.engine.now) (session_of c.names.engine) (session_of c.push_name-in-names.new.engine) (string_bytes c.args.text.now)
+      (string_bytes c.names.text) (string_bytes c.push_name-in-names.new.text) c.names.invariant.written c.names-test.ensures.told;
   sound = c.push_name-in-names.ensures.sound;
   room = c.push_name-in-names.ensures.room (c.args.rest + 14) (omega arith) c.names.invariant.room;
 }
@@ -38,15 +35,12 @@ returns-then-not-push_name-clause-room c = let r : HasRoom (c.args.rest + 14) c.
 pub put-requires : goal.put-requires
 put-requires c =
     let r : HasRoom (c.args.rest + 14) c.push_name-in-names.new.text = c.push_name-in-names.ensures.room (c.args.rest + 14) (omega arith)
-    c.names.invariant.room in
-    record { room = omega (arith, r) }
+    c.names.invariant.room in record { room = omega (arith, r) }
 
 pub returns-clause-room : goal.returns-clause-room
 returns-clause-room c =
     let r : HasRoom (c.args.rest + 14) c.push_name-in-names.new.text = c.push_name-in-names.ensures.room (c.args.rest + 14) (omega arith)
-    c.names.invariant.room in
-    omega (arith, r, c.put.ensures.len, c.put.ensures.capacity)
+    c.names.invariant.room in omega (arith, r, c.put.ensures.len, c.put.ensures.capacity)
 
 pub returns-then-not-push_name-clause-told : goal.returns-then-not-push_name-clause-told
-returns-then-not-push_name-clause-told c =
-    search (rules, names_none, string_bytes)
+returns-then-not-push_name-clause-told c = search (rules, names_none, string_bytes)

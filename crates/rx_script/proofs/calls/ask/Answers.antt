@@ -8,12 +8,10 @@ use Rattle.rx_script.proofs.calls.ask.Goals as goal
 use Rattle.std.proofs.Common.{rules}
 
 pub returns-in_default : goal.returns-in_default
-returns-in_default g c =
-    search (rules, call_nameless)
+returns-in_default g c = search (rules, call_nameless)
 
 pub returns-then-rebinds : goal.returns-then-rebinds
-returns-then-rebinds g c =
-    search (rules, call_taken)
+returns-then-rebinds g c = search (rules, call_taken)
 
 pub returns-in_ok-bind-in-Ok : goal.returns-in_ok-bind-in-Ok
 returns-in_ok-bind-in-Ok g c =

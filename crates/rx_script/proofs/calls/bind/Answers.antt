@@ -5,5 +5,4 @@ use Rattle.rx_script.proofs.calls.bind.Goals as goal
 use Rattle.std.proofs.Common.{rules}
 
 pub bind_connection-requires : goal.bind_connection-requires
-bind_connection-requires g c =
-    search (rules, string_bytes, option_map, is_some, or_parts, connection_named, free_behind)
+bind_connection-requires g c = search (rules, string_bytes, option_map, is_some, or_parts, connection_named, free_behind)

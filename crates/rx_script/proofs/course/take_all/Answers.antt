@@ -22,6 +22,5 @@ loop-step-preserved g c =
     }
 
 pub returns-clause-course : goal.returns-clause-course
-returns-clause-course g c =
-    has_ended c.args.until c.args.engine.now c.loop-step.engine c.args.agenda.now c.loop-step.agenda c.loop-step.answers.items
+returns-clause-course g c = has_ended c.args.until c.args.engine.now c.loop-step.engine c.args.agenda.now c.loop-step.agenda c.loop-step.answers.items
     c.loop-step.invariant.leads c.in_default.ensures.none

@@ -4,8 +4,7 @@ use Rattle.rx_script.proofs.Holdings.{hold_nameless, hold_taken, hold_stockless,
 use Rattle.rx_script.proofs.engine.hold.Goals as goal
 
 pub returns-in_default : goal.returns-in_default
-returns-in_default g c =
-    hold_nameless c.args.engine.now c.args.node.now (string_bytes c.args.res) c.requires (sym c.get.ensures ∙ c.in_default.is)
+returns-in_default g c = hold_nameless c.args.engine.now c.args.node.now (string_bytes c.args.res) c.requires (sym c.get.ensures ∙ c.in_default.is)
 
 pub returns-then-is_bound : goal.returns-then-is_bound
 returns-then-is_bound g c =
@@ -34,5 +33,4 @@ returns-in-Err g c =
     c.in-Some-take.resource c.in-Err.unheld.back c.in-Some-take.ensures.some c.in-Err.ensures.refused.back c.put_back.ensures in
     answered _ _ _ c.refused.ensures.ok (λ other. hold_refused c.args.engine.now c.args.node.now
     (string_bytes c.args.res) c.requires c.in-Some.key (sym c.get.ensures ∙ c.in-Some.is) free (ware c.in-Some-take.resource) c.take.new.self.wares
-    c.in-Some-take.ensures.some
-    c.hold.new.self c.put_back.new.self c.in-Err.unheld.why c.in-Err.ensures.kept same c.in-Err.ensures.refused.why other)
+    c.in-Some-take.ensures.some c.hold.new.self c.put_back.new.self c.in-Err.unheld.why c.in-Err.ensures.kept same c.in-Err.ensures.refused.why other)

@@ -38,8 +38,7 @@ returns-in_ok-bind-in-Ok-2 g c =
     c.in_ok-bind-in-Ok-2.ensures in
     using_accepted c.args.engine.now (string_bytes c.args.name) (site_of c.args.site.now)
     (string_bytes c.args.res) c.requires c.in-Some.place (sym c.place_of.ensures ∙ c.in-Some.is) (or_from _ _ node_free res_free) _ c.take.new.self.wares
-    c.in-Some-take.ensures.some
-    c.promise.ensures c.in-Ok.ensures.accepted c.in-Ok.ensures.ok (record { text = c.args.name; spelt = refl; pushed = pushed })
+    c.in-Some-take.ensures.some c.promise.ensures c.in-Ok.ensures.accepted c.in-Ok.ensures.ok (record { text = c.args.name; spelt = refl; pushed = pushed })
     (record { text = c.args.res; spelt = refl; pushed = res_pushed }) refl
 
 pub returns-in-Err : goal.returns-in-Err
@@ -51,5 +50,4 @@ returns-in-Err g c =
     c.in-Some-take.resource c.in-Err.unheld.back c.in-Some-take.ensures.some c.in-Err.ensures.refused.back c.put_back.ensures in
     answered _ _ _ c.refused.ensures.ok (λ other. using_refused c.args.engine.now (string_bytes c.args.name) (site_of c.args.site.now) (string_bytes c.args.res)
     c.requires c.in-Some.place (sym c.place_of.ensures ∙ c.in-Some.is) (or_from _ _ node_free res_free) (ware c.in-Some-take.resource) c.take.new.self.wares
-    c.in-Some-take.ensures.some
-    c.open_using.new.self c.put_back.new.self c.in-Err.unheld.why c.in-Err.ensures.kept same c.in-Err.ensures.refused.why other)
+    c.in-Some-take.ensures.some c.open_using.new.self c.put_back.new.self c.in-Err.unheld.why c.in-Err.ensures.kept same c.in-Err.ensures.refused.why other)

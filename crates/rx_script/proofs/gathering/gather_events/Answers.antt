@@ -9,15 +9,13 @@ pub add_event-requires : goal.add_event-requires
 add_event-requires g c = search (rules, few_events)
 
 pub loop-event-smaller : goal.loop-event-smaller
-loop-event-smaller g c =
-    search (rules, event_within)
+loop-event-smaller g c = search (rules, event_within)
 
 pub loop-event-preserved : goal.loop-event-preserved
 loop-event-preserved g c = record {
   counts = λ front h counts goes law. counted_next _ _ goes law (c.loop-event.invariant.counts front h counts goes
       law) c.in-Some.ensures c.in_ok-add_event.ensures.events c.in_ok-add_event.ensures.counts;
-  notes = c.in_ok-add_event.ensures.notes ∙
-      c.loop-event.invariant.notes;
+  notes = c.in_ok-add_event.ensures.notes ∙ c.loop-event.invariant.notes;
 }
 
 pub returns-clause-counts : goal.returns-clause-counts

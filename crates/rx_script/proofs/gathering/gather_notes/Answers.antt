@@ -4,8 +4,7 @@ use Rattle.rx_script.proofs.gathering.gather_notes.Goals as goal
 use Rattle.std.proofs.Common.{rules}
 
 pub loop-note-init : goal.loop-note-init
-loop-note-init g c =
-    search (rules, mail_first)
+loop-note-init g c = search (rules, mail_first)
 
 pub loop-note-preserved : goal.loop-note-preserved
 loop-note-preserved g c =
@@ -21,8 +20,7 @@ loop-note-preserved g c =
     record {
       kept = c.promise-in-Some.ensures;
       begun = omega arith;
-      notes = λ mail before.
-          subst (λ l. AreNotesOf l c.add_note.new.self)
+      notes = λ mail before. subst (λ l. AreNotesOf l c.add_note.new.self)
           (mail_next mail all first.given now.given c.in-Some.note begun within found ∙ ap (λ n. mail ++ drop first.given (take n all)) (sym more))
           (c.in_ok-add_note.ensures.notes (mail ++ drop first.given (take now.given all)) (so_far.notes mail before));
       tallies = c.in_ok-add_note.ensures.kept ∙ ap (λ (t : Tallies). record t { notes = c.add_note.new.self.notes }) so_far.tallies;
@@ -38,5 +36,4 @@ returns-clause-notes g c = λ mail before.
     subst (λ l. AreNotesOf l c.loop-note.tallies) (mail_all mail (notes first.history) first.given now.given missing) (c.loop-note.invariant.notes mail before)
 
 pub returns-clause-given : goal.returns-clause-given
-returns-clause-given g c =
-    search (rules, slice_get, length, all_given)
+returns-clause-given g c = search (rules, slice_get, length, all_given)

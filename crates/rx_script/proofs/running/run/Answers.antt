@@ -7,11 +7,9 @@ use Rattle.rx_script.proofs.running.run.Goals as goal
 
 pub returns-in_err-text-clause-syntax : goal.returns-in_err-text-clause-syntax
 returns-in_err-text-clause-syntax g c = λ is. let back : IsErrOf _ ScriptError.Syntax = grind arith in inr (record {
-  input =
-      c.in_ok-input.input.items;
+  input = c.in_ok-input.input.items;
   whole = c.in_ok-input.ensures.ok;
-  no_json = λ d json. c.output_of_input.ensures.syntax back d (subst (λ s. IsJsonOf s
-      d) (sym c.as_slice.ensures.value) json);
+  no_json = λ d json. c.output_of_input.ensures.syntax back d (subst (λ s. IsJsonOf s d) (sym c.as_slice.ensures.value) json);
 })
 
 pub returns-in_err-text-clause-shape : goal.returns-in_err-text-clause-shape
@@ -20,8 +18,7 @@ returns-in_err-text-clause-shape g c = λ is. let back : IsErrOf _ ScriptError.S
       value = none.value;
       gave = record {
         input = c.in_ok-input.input.items;
-        whole =
-            c.in_ok-input.ensures.ok;
+        whole = c.in_ok-input.ensures.ok;
         json = subst (λ s. IsJsonOf s none.value) c.as_slice.ensures.value none.json;
       };
       none = none.none;

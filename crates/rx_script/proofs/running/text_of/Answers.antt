@@ -4,8 +4,7 @@ use Rattle.rx_script.proofs.WholeReport.{whole_output}
 use Rattle.rx_script.proofs.running.text_of.Goals as goal
 
 pub returns : goal.returns
-returns g c =
-    whole_output c.args.form (script_of c.args.scenario) (map (ware_of g.S.Resource) c.args.stock.items)
+returns g c = whole_output c.args.form (script_of c.args.scenario) (map (ware_of g.S.Resource) c.args.stock.items)
     c.begin-engine.result.book.limit (stage_of c.begin-engine.result []) (string_bytes c.in_ok-text.text) (string_bytes c.push_closing.new.text)
     c.carry_out-outcome.new.engine c.close-closed.result.released c.saturating_add-faults.result
     (c.in_ok-text.ensures.ok [] c.begin-engine.ensures.history) c.begin-engine.ensures.limit c.begin-engine.ensures.stage

@@ -5,8 +5,7 @@ use Rattle.rx_script.proofs.running.unclosed_report.Goals as goal
 
 pub returns-clause-ok : goal.returns-clause-ok
 returns-clause-ok g c = λ h w.
-    let whole : IsWhole h c.gather.new.tallies c.gather.new.book =
-    subst (IsWhole h c.gather.new.tallies) (sym c.in_ok-gather.ensures.kept)
+    let whole : IsWhole h c.gather.new.tallies c.gather.new.book = subst (IsWhole h c.gather.new.tallies) (sym c.in_ok-gather.ensures.kept)
     (all_gathered c.args.engine.now c.requires.sound h w c.gather.new.tallies c.gather.new.book.given c.in_ok-gather.ensures.ok) in
     lines_report c.args.engine.now c.requires.sound h w c.args.answers.now _ _ _
     (c.in_ok-push_all_refused.ensures ∙ ap (λ l. l ++ refused_lines c.args.answers.now) c.new-text.ensures.bytes)

@@ -25,8 +25,7 @@ returns c =
       unnamed = refl;
     } in
     record {
-      sound = sound_start c.promise.ensures fresh
-          c.new.ensures.paired c.new-2.ensures.paired c.new-3.ensures.paired c.new-4.ensures.paired;
+      sound = sound_start c.promise.ensures fresh c.new.ensures.paired c.new-2.ensures.paired c.new-3.ensures.paired c.new-4.ensures.paired;
       fresh = fresh;
       limit = ap (λ (b : State). b.limit) c.new-book.ensures;
     }
