@@ -1,5 +1,6 @@
 -- What callers may do. A number that names nothing of the needed sort is never allowed.
-use Rattle.rx_event.specs.Imports.{◌≡◌, ℕ, ℤ, ◌+◌, ◌<◌, ◌≤◌, Bool, false, Some, List, [], ◌∷◌, ◌++◌, length, slice_get, IsTrue, Terminal, Error, Place}
+use Rattle.std.specs.Prelude.{◌≡◌, ◌+◌, ◌<◌, ◌≤◌, ◌∷◌, ◌++◌}
+use Rattle.rx_event.specs.Imports.{ℕ, ℤ, Bool, false, Some, List, [], length, slice_get, IsTrue, Terminal, Error, Place}
 use Rattle.rx_event.specs.Imports.{Root, Source, Inner, Notifier, Kind, Leaf, Pass, Flat, Switch, Until, Sub, Mode, Event, Open, Hub, Connect, Accept, Use}
 use Rattle.rx_event.specs.Imports.{Remove, Lease, Return, Item, Decline, End, Close, Take}
 use Rattle.rx_event.specs.Events.{makes_hub, has_source, is_leaf, is_merging, is_until, is_root, is_manual_hub}

@@ -1,5 +1,6 @@
 -- The base of a stored history, and which stored histories agree. b is the base, h the list that base and events read as.
-use Rattle.rx_event.specs.Imports.{◌≡◌, ℕ, Bool, ◌||◌, Some, List, [], map, filter, length, slice_get, IsTrue, false, if◌then◌else◌, option_map_or, Terminal}
+use Rattle.std.specs.Prelude.{◌≡◌, ◌||◌, if◌then◌else◌}
+use Rattle.rx_event.specs.Imports.{ℕ, Bool, Some, List, [], map, filter, length, slice_get, IsTrue, false, option_map_or, Terminal}
 use Rattle.rx_event.specs.Imports.{Error, Mode, Event, Hub, Connect, Accept, Lease, Close}
 use Rattle.rx_event.specs.declared.base.BaseHub.{BaseHub}
 use Rattle.rx_event.specs.declared.base.BaseNode.{BaseNode}

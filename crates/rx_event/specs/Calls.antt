@@ -1,5 +1,6 @@
 -- The events that a call of the book adds before those that they force.
-use Rattle.rx_event.specs.Imports.{ℕ, ℤ, List, [], ◌∷◌, length, map, Terminal, Error, Place, Kind, Pass, Mode, Event, Open, Hub, Connect, Accept, Use, Remove}
+use Rattle.std.specs.Prelude.{◌∷◌}
+use Rattle.rx_event.specs.Imports.{ℕ, ℤ, List, [], length, map, Terminal, Error, Place, Kind, Pass, Mode, Event, Open, Hub, Connect, Accept, Use, Remove}
 use Rattle.rx_event.specs.Imports.{Lease, Return, Item, Decline, End, Close, Take}
 use Rattle.rx_event.specs.Kept.{Kept}
 use Rattle.rx_event.specs.Tree.{open_connections}

@@ -1,6 +1,7 @@
 -- One order of what is forced: a hub's connection first, else the first rule that gives an event, and of its events the one at the
 -- node of the least number.
-use Rattle.rx_event.specs.Imports.{◌≡◌, ℕ, Bool, true, false, ◌&&◌, Option, Some, None, List, [], ◌∷◌, ◌++◌, slice_get, nat_lt, if◌then◌else◌, list_any}
+use Rattle.std.specs.Prelude.{◌≡◌, ◌&&◌, ◌∷◌, ◌++◌, if◌then◌else◌}
+use Rattle.rx_event.specs.Imports.{ℕ, Bool, true, false, Option, Some, None, List, [], slice_get, nat_lt, list_any}
 use Rattle.rx_event.specs.Imports.{option_and_then, option_map, option_map_or, Terminal, Completed, Event, Connect, End, Close}
 use Rattle.rx_event.specs.Kept.{Kept}
 use Rattle.rx_event.specs.Events.{is_mirroring, is_merging, is_until, is_auto_hub, is_connect_of, is_subscriber_of, hub_subscribed, hub_connected}

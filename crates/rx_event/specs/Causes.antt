@@ -1,5 +1,6 @@
 -- Which causes stand against a call: the table of refusals, a row for each call. In each row the causes stand in the order of refusal.
-use Rattle.rx_event.specs.Imports.{ℕ, ℤ, ◌+◌, ◌*◌, Bool, true, false, ◌&&◌, ◌==◌, nat_lt, List, length, count_by, if◌then◌else◌, not, list_any, option_map_or}
+use Rattle.std.specs.Prelude.{◌+◌, ◌*◌, ◌&&◌, ◌==◌, if◌then◌else◌}
+use Rattle.rx_event.specs.Imports.{ℕ, ℤ, Bool, true, false, nat_lt, List, length, count_by, not, list_any, option_map_or}
 use Rattle.rx_event.specs.Imports.{Place, Root, Source, Inner, Notifier, Kind, Sub, Mode, Event, Connect, Refusal, Full, Gone, WrongKind, PlaceTaken}
 use Rattle.rx_event.specs.Imports.{NothingOwed, NotRoot, NoHub, HubOrder, Connected, NotConnected, NotFresh, NoLease, NotHeld, Leased, HasChild, MailLeft}
 use Rattle.rx_event.specs.Imports.{TooMany}

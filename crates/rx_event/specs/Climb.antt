@@ -1,6 +1,7 @@
 -- Where an item goes: up from its leaf, each operator passing on what reaches it (Observable Contract; FlatMap, Switch,
 -- TakeUntil; Publish: a connection passes on to every subscriber).
-use Rattle.rx_event.specs.Imports.{ℕ, zero, suc, Option, Some, None, List, [], ◌∷◌, ◌++◌, length, slice_get, if◌then◌else◌, filter_map, option_and_then}
+use Rattle.std.specs.Prelude.{◌∷◌, ◌++◌, if◌then◌else◌}
+use Rattle.rx_event.specs.Imports.{ℕ, zero, suc, Option, Some, None, List, [], length, slice_get, filter_map, option_and_then}
 use Rattle.rx_event.specs.Imports.{option_map_or, Root, Source, Notifier, Event, Open, Connect}
 use Rattle.std.specs.Option.{option_to_list}
 use Rattle.rx_event.specs.Events.{is_merging}

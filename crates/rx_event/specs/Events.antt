@@ -1,5 +1,6 @@
 -- Tests of one event. Numbers are places in a history: each names what the event at that place made.
-use Rattle.rx_event.specs.Imports.{ℕ, Bool, true, false, ◌==◌, Option, Some, None, Completed, Error, Place, Root, Source, Inner, Notifier, Leaf, Pass, Flat}
+use Rattle.std.specs.Prelude.{◌==◌}
+use Rattle.rx_event.specs.Imports.{ℕ, Bool, true, false, Option, Some, None, Completed, Error, Place, Root, Source, Inner, Notifier, Leaf, Pass, Flat}
 use Rattle.rx_event.specs.Imports.{Switch, Until, Sub, Auto, Manual, Event, Open, Hub, Connect, Accept, Use, Remove, Lease, Return, Item, Decline, End, Close}
 use Rattle.rx_event.specs.Imports.{Take}
 

@@ -1,6 +1,7 @@
 -- What operators must do before a caller may go on. While a hub waits for its connection nothing else is forced; among the
 -- rest the order is free.
-use Rattle.rx_event.specs.Imports.{◌≡◌, ℕ, ◌<◌, Some, List, [], slice_get, IsTrue, false, Terminal, Completed, Error, Event, Connect, End, Close}
+use Rattle.std.specs.Prelude.{◌≡◌, ◌<◌}
+use Rattle.rx_event.specs.Imports.{ℕ, Some, List, [], slice_get, IsTrue, false, Terminal, Completed, Error, Event, Connect, End, Close}
 use Rattle.rx_event.specs.Kept.{Kept}
 use Rattle.rx_event.specs.Marks.{source_completed}
 use Rattle.rx_event.specs.Events.{is_mirroring, is_until, is_merging, is_auto_hub, is_subscriber_of}

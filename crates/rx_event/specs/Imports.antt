@@ -1,9 +1,9 @@
 -- The names of other modules that most definitions here cite, passed on from one place. Declares nothing.
-pub use Rattle.std.proofs.Math.Bool.{◌||◌, not}
+pub use Rattle.std.proofs.Math.Bool.{not}
 pub use Rattle.std.specs.List.{list_any, AllByRecursion, filter_map, flat_map, list_all, range_with_len}
 pub use Rattle.std.specs.Option.{option_map_or, option_and_then, option_map}
-pub use Rattle.std.specs.Prelude.{◌≡◌, ℕ, ℤ, ◌+◌, ◌<◌, ◌≤◌, Bool, true, false, Some, List, [], ◌∷◌, ◌++◌, length, slice_get, IsTrue, map, filter}
-pub use Rattle.std.specs.Prelude.{if◌then◌else◌, ◌&&◌, Option, None, nat_lt, ◌*◌, ◌==◌, count_by, ◌↔◌, ◌-◌, suc, take, sum_by, ◌⊎◌, zero}
+pub use Rattle.std.specs.Prelude.{ℕ, ℤ, Bool, true, false, Some, List, [], length, slice_get, IsTrue, map, filter}
+pub use Rattle.std.specs.Prelude.{Option, None, nat_lt, count_by, suc, take, sum_by, zero}
 pub use Rattle.rx_note.specs.declared.note.Note.TheVariants.{Project}
 pub use Rattle.rx_note.specs.declared.note.Terminal.{Terminal}
 pub use Rattle.rx_note.specs.declared.note.Terminal.TheVariants.{Error, Completed}

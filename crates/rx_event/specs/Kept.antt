@@ -1,5 +1,6 @@
 -- A base, and the list of events that it reads as.
-use Rattle.rx_event.specs.Imports.{ℕ, ◌==◌, if◌then◌else◌, Option, Some, None, List, [], ◌∷◌, ◌++◌, map, slice_get, nat_lt, range_with_len, option_map_or}
+use Rattle.std.specs.Prelude.{◌==◌, if◌then◌else◌, ◌∷◌, ◌++◌}
+use Rattle.rx_event.specs.Imports.{ℕ, Option, Some, None, List, [], map, slice_get, nat_lt, range_with_len, option_map_or}
 use Rattle.rx_event.specs.Imports.{Event, Hub, Accept, Lease, Close}
 use Rattle.rx_event.specs.declared.base.BaseHub.{BaseHub}
 use Rattle.rx_event.specs.declared.base.BaseNode.{BaseNode}

@@ -1,5 +1,6 @@
 -- Which histories there are, and what one call adds to one.
-use Rattle.rx_event.specs.Imports.{◌≡◌, ℕ, ◌+◌, ◌<◌, ◌≤◌, Some, None, List, [], ◌∷◌, ◌++◌, length, slice_get, take, count_by, IsTrue, false, AllByRecursion}
+use Rattle.std.specs.Prelude.{◌≡◌, ◌+◌, ◌<◌, ◌≤◌, ◌∷◌, ◌++◌}
+use Rattle.rx_event.specs.Imports.{ℕ, Some, None, List, [], length, slice_get, take, count_by, IsTrue, false, AllByRecursion}
 use Rattle.rx_event.specs.Imports.{Terminal, Place, Root, Source, Inner, Notifier, Kind, Pass, Event, Open, Connect, Accept, Lease, End}
 use Rattle.rx_event.specs.Events.{has_source, is_merging, is_until, is_switch, is_source_of, is_inner_of, is_connect_of, makes_hub, makes_node, makes_resource}
 use Rattle.rx_event.specs.Events.{parent_named, is_making, pays}

@@ -1,5 +1,6 @@
 -- What each event did in the history before it.
-use Rattle.rx_event.specs.Imports.{ℕ, ◌+◌, ◌-◌, Bool, true, false, ◌==◌, List, [], ◌∷◌, ◌++◌, count_by, sum_by, list_any, option_map_or, Event, Item}
+use Rattle.std.specs.Prelude.{◌+◌, ◌-◌, ◌==◌, ◌∷◌, ◌++◌}
+use Rattle.rx_event.specs.Imports.{ℕ, Bool, true, false, List, [], count_by, sum_by, list_any, option_map_or, Event, Item}
 use Rattle.rx_event.specs.Kept.{Kept, node_kept, shown}
 use Rattle.rx_event.specs.Events.{pays}
 use Rattle.rx_event.specs.Climb.{Stop, Delivery, Projection, Firing, stops}

@@ -1,5 +1,6 @@
 -- What observers are told (Observable Contract: OnNext, OnCompleted, OnError).
-use Rattle.rx_event.specs.Imports.{ℕ, ℤ, ◌==◌, Option, Some, None, List, [], ◌∷◌, length, filter, map, if◌then◌else◌, filter_map, flat_map, Project, Event}
+use Rattle.std.specs.Prelude.{◌==◌, ◌∷◌, if◌then◌else◌}
+use Rattle.rx_event.specs.Imports.{ℕ, ℤ, Option, Some, None, List, [], length, filter, map, filter_map, flat_map, Project, Event}
 use Rattle.rx_event.specs.Imports.{Item, End}
 use Rattle.rx_note.specs.declared.note.Note.{Note}
 use Rattle.rx_note.specs.declared.note.Note.TheVariants.{Next}

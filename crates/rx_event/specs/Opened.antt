@@ -1,5 +1,6 @@
 -- Whether the places below a node were ever opened.
-use Rattle.rx_event.specs.Imports.{ℕ, Bool, false, List, ◌||◌, list_any, option_map_or, Event}
+use Rattle.std.specs.Prelude.{◌||◌}
+use Rattle.rx_event.specs.Imports.{ℕ, Bool, false, List, list_any, option_map_or, Event}
 use Rattle.rx_event.specs.Events.{is_source_of, is_notifier_of}
 use Rattle.rx_event.specs.Kept.{Kept, node_kept}
 

@@ -1,5 +1,6 @@
 -- The order in which a call's causes of refusal are looked at.
-use Rattle.rx_event.specs.Imports.{◌≡◌, ◌⊎◌, Bool, Option, Some, None, List, [], ◌∷◌, if◌then◌else◌, Refusal, Full, Gone, WrongKind, PlaceTaken, NothingOwed}
+use Rattle.std.specs.Prelude.{◌≡◌, ◌⊎◌, ◌∷◌, if◌then◌else◌}
+use Rattle.rx_event.specs.Imports.{Bool, Option, Some, None, List, [], Refusal, Full, Gone, WrongKind, PlaceTaken, NothingOwed}
 use Rattle.rx_event.specs.Imports.{NotRoot, NoHub, HubOrder, Connected, NotConnected, NotFresh, NotHeld, HasChild, MailLeft, TooMany, NoLease, Leased}
 use Rattle.rx_event.specs.declared.refusal.Refusal.TheVariants.{NoMemory}
 

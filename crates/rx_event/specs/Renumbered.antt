@@ -1,5 +1,6 @@
 -- Two histories that are the same but for their numbers, as far as what may come next can tell.
-use Rattle.rx_event.specs.Imports.{◌≡◌, ℕ, ◌+◌, ◌<◌, Bool, true, false, Some, List, length, slice_get, count_by, IsTrue, Terminal, Place, Root, Source, Inner}
+use Rattle.std.specs.Prelude.{◌≡◌, ◌+◌, ◌<◌}
+use Rattle.rx_event.specs.Imports.{ℕ, Bool, true, false, Some, List, length, slice_get, count_by, IsTrue, Terminal, Place, Root, Source, Inner}
 use Rattle.rx_event.specs.Imports.{Notifier, Kind, Leaf, Pass, Flat, Switch, Until, Sub, Mode, Event, Open, Hub, Connect, Accept, Use, Remove, Lease, Return}
 use Rattle.rx_event.specs.Imports.{Item, Decline, End, Close, Take}
 use Rattle.rx_event.specs.Kept.{Kept}

@@ -1,5 +1,6 @@
 -- Where each resource is (Using: it is disposed of when the observer unsubscribes or the observable terminates; Finally).
-use Rattle.rx_event.specs.Imports.{ℕ, ◌+◌, Bool, false, ◌&&◌, nat_lt, Option, Some, List, slice_get, filter, count_by, not, ◌||◌, list_any, option_and_then}
+use Rattle.std.specs.Prelude.{◌+◌, ◌&&◌, ◌||◌}
+use Rattle.rx_event.specs.Imports.{ℕ, Bool, false, nat_lt, Option, Some, List, slice_get, filter, count_by, not, list_any, option_and_then}
 use Rattle.rx_event.specs.Imports.{option_map_or, Event, Accept}
 use Rattle.rx_event.specs.Kept.{Kept, resource_kept}
 use Rattle.rx_event.specs.Events.{makes_resource, makes_lease, node_of_accept, is_remove_of, is_lease_of, is_return_of, is_take_of, is_use_of}

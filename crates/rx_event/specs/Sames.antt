@@ -1,5 +1,6 @@
 -- Whether two events are the same, as a test.
-use Rattle.rx_event.specs.Imports.{Bool, true, false, ◌&&◌, ◌==◌, Terminal, Completed, Error, Place, Root, Source, Inner, Notifier, Kind, Leaf, Pass, Flat}
+use Rattle.std.specs.Prelude.{◌&&◌, ◌==◌}
+use Rattle.rx_event.specs.Imports.{Bool, true, false, Terminal, Completed, Error, Place, Root, Source, Inner, Notifier, Kind, Leaf, Pass, Flat}
 use Rattle.rx_event.specs.Imports.{Switch, Until, Sub, Mode, Auto, Manual, Event, Open, Hub, Connect, Accept, Use, Remove, Lease, Return, Item, Decline, End}
 use Rattle.rx_event.specs.Imports.{Close, Take}
 use Rattle.std.specs.Ordering.{int_eq}

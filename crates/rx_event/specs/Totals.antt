@@ -1,5 +1,6 @@
 -- Counts over a history.
-use Rattle.rx_event.specs.Imports.{ℕ, ◌+◌, ◌-◌, ◌&&◌, List, count_by, sum_by, if◌then◌else◌, Event}
+use Rattle.std.specs.Prelude.{◌+◌, ◌-◌, ◌&&◌, if◌then◌else◌}
+use Rattle.rx_event.specs.Imports.{ℕ, List, count_by, sum_by, Event}
 use Rattle.rx_event.specs.Kept.{Kept, shown}
 use Rattle.rx_event.specs.Events.{is_item, is_take, is_connect, makes_resource, is_merging}
 use Rattle.rx_event.specs.Tree.{at, places, is_open}

@@ -1,8 +1,8 @@
 -- The subscription tree that a history leaves: which nodes there are, where they stand and which are open.
 -- Observable Contract: an end and an unsubscription stop the observable, and with it all that it subscribed to.
-use Rattle.rx_event.specs.Imports.{ℕ, zero, suc, Bool, false, ◌&&◌, ◌==◌, nat_lt, if◌then◌else◌, Option, Some, None, List, [], ◌∷◌, length, slice_get, filter}
+use Rattle.rx_event.specs.Imports.{ℕ, zero, suc, Bool, false, nat_lt, Option, Some, None, List, [], length, slice_get, filter}
 use Rattle.rx_event.specs.Imports.{not, list_any, list_all, range_with_len, option_and_then, option_map_or, Inner, Event, Open, End, Close}
-use Rattle.std.specs.Prelude.{drop}
+use Rattle.std.specs.Prelude.{drop, ◌&&◌, ◌==◌, if◌then◌else◌, ◌∷◌}
 use Rattle.rx_event.specs.Events.{makes_node, makes_hub, makes_resource, parent_named, is_switch, is_inner_of, is_subscriber_of, is_connect_of}
 
 -- places in a history -----------------------------------------------------------------------------

@@ -1,5 +1,6 @@
 -- What is promised of checkpoints.
-use Rattle.rx_event.specs.Claims.Imports.{◌≡◌, ◌↔◌, ℕ, ◌-◌, List, [], ◌∷◌, ◌++◌, slice_get, count_by, list_any, AllByRecursion, Terminal, Event, is_source_of}
+use Rattle.std.specs.Prelude.{◌≡◌, ◌↔◌, ◌-◌, ◌∷◌, ◌++◌}
+use Rattle.rx_event.specs.Claims.Imports.{ℕ, List, [], slice_get, count_by, list_any, AllByRecursion, Terminal, Event, is_source_of}
 use Rattle.rx_event.specs.Claims.Imports.{is_notifier_of, is_use_of, is_item, is_take, makes_resource, pays, source_opened, notifier_opened, uses}
 use Rattle.rx_event.specs.Claims.Imports.{accepted_by, stops_of, moments, projections, owed, mail_of, completes_source, source_completed, item_count}
 use Rattle.rx_event.specs.Claims.Imports.{accepted_count, taken_count, debt, IsConnectDue, IsForced, IsSettled, IsAllowed, Started, MayFollow, IsLawful, Kept}

@@ -1,5 +1,6 @@
 -- What is promised of climbs.
-use Rattle.rx_event.specs.Claims.Imports.{◌≡◌, ◌↔◌, ℕ, suc, ◌+◌, ◌*◌, ◌<◌, ◌≤◌, ◌==◌, if◌then◌else◌, Some, None, List, [], ◌∷◌, ◌++◌, length, slice_get, take}
+use Rattle.std.specs.Prelude.{◌≡◌, ◌↔◌, ◌+◌, ◌*◌, ◌<◌, ◌≤◌, ◌==◌, if◌then◌else◌, ◌∷◌, ◌++◌}
+use Rattle.rx_event.specs.Claims.Imports.{ℕ, suc, Some, None, List, [], length, slice_get, take}
 use Rattle.rx_event.specs.Claims.Imports.{count_by, sum_by, IsTrue, AllByRecursion, filter_map, flat_map, Event, Connect, Kept, is_root, is_merging, is_until}
 use Rattle.rx_event.specs.Claims.Imports.{is_subscriber_of, at, places, is_within, is_open, Stop, Delivery, Projection, Firing, stop_at, onward, most_visits}
 use Rattle.rx_event.specs.Claims.Imports.{climb, stops, visits, IsLawful}

@@ -1,6 +1,7 @@
 -- What is promised of closing everything: a caller unsubscribes its roots and disconnects what it connected, and the rest goes
 -- by itself.
-use Rattle.rx_event.specs.Claims.Imports.{◌≡◌, ℕ, ◌+◌, ◌≤◌, Bool, false, ◌&&◌, Some, List, [], ◌∷◌, ◌++◌, slice_get, count_by, IsTrue, not, list_all, Event}
+use Rattle.std.specs.Prelude.{◌≡◌, ◌+◌, ◌≤◌, ◌&&◌, ◌∷◌, ◌++◌}
+use Rattle.rx_event.specs.Claims.Imports.{ℕ, Bool, false, Some, List, [], slice_get, count_by, IsTrue, not, list_all, Event}
 use Rattle.rx_event.specs.Claims.Imports.{Connect, Close, Kept, makes_node, makes_hub, is_root, is_manual_hub, at, places, is_open, open_connections}
 use Rattle.rx_event.specs.Claims.Imports.{open_count, IsSettled, IsForcedOn, IsLawful}
 

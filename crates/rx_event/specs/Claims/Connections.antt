@@ -1,6 +1,7 @@
 -- What is promised of connections, one event after the other: by which of them all is told, and what each event changes.
-use Rattle.rx_event.specs.Claims.Imports.{◌≡◌, ◌↔◌, ◌⊎◌, ℕ, zero, suc, ◌<◌, ◌≤◌, Bool, false, ◌&&◌, Some, List, [], ◌∷◌, ◌++◌, length, slice_get, sum_by}
-use Rattle.rx_event.specs.Claims.Imports.{IsTrue, if◌then◌else◌, Terminal, Event, Connect, End, Close, Kept, is_connect_of, is_subscriber_of, hub_subscribed}
+use Rattle.std.specs.Prelude.{◌≡◌, ◌↔◌, ◌⊎◌, ◌<◌, ◌≤◌, ◌&&◌, ◌∷◌, ◌++◌, if◌then◌else◌}
+use Rattle.rx_event.specs.Claims.Imports.{ℕ, zero, suc, Bool, false, Some, List, [], length, slice_get, sum_by}
+use Rattle.rx_event.specs.Claims.Imports.{IsTrue, Terminal, Event, Connect, End, Close, Kept, is_connect_of, is_subscriber_of, hub_subscribed}
 use Rattle.rx_event.specs.Claims.Imports.{at, is_open, open_subscribers, SourceEnded, IsDue, IsConnectDue, MayFollow, IsLawful}
 
 -- the event at the place ends a connection of g so

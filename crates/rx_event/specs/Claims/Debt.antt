@@ -1,5 +1,6 @@
 -- What is promised of the debt.
-use Rattle.rx_event.specs.Claims.Imports.{◌≡◌, ℕ, ℤ, ◌+◌, ◌≤◌, false, List, [], ◌∷◌, ◌++◌, count_by, Terminal, Root, Source, Inner, Notifier, Kind, Mode}
+use Rattle.std.specs.Prelude.{◌≡◌, ◌+◌, ◌≤◌, ◌∷◌, ◌++◌}
+use Rattle.rx_event.specs.Claims.Imports.{ℕ, ℤ, false, List, [], count_by, Terminal, Root, Source, Inner, Notifier, Kind, Mode}
 use Rattle.rx_event.specs.Claims.Imports.{Event, Open, Hub, Connect, Accept, Use, Remove, Lease, Return, Item, Decline, End, Close, Take, Kept, is_switch, at}
 use Rattle.rx_event.specs.Claims.Imports.{stops, is_projection, open_count, owned_count, held_count, lease_count, waiting_count, owed_count, debt, MayFollow}
 use Rattle.rx_event.specs.Claims.Imports.{IsLawful}

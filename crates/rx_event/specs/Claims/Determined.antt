@@ -1,5 +1,6 @@
 -- What is promised of the order in which forced events come: but for the places of ends and closings it leaves no trace.
-use Rattle.rx_event.specs.Claims.Imports.{◌≡◌, ℕ, ◌<◌, ◌≤◌, Bool, true, false, Some, List, length, slice_get, count_by, IsTrue, Terminal, Event, Connect, End}
+use Rattle.std.specs.Prelude.{◌≡◌, ◌<◌, ◌≤◌}
+use Rattle.rx_event.specs.Claims.Imports.{ℕ, Bool, true, false, Some, List, length, slice_get, count_by, IsTrue, Terminal, Event, Connect, End}
 use Rattle.rx_event.specs.Claims.Imports.{Close, Kept, makes_node, is_open, open_nodes, open_connections, open_subscribers, is_owned, is_out, leases_of}
 use Rattle.rx_event.specs.Claims.Imports.{leases_out, is_held, is_taken, is_waiting, held_resources, waiting_resources, uses, owed, notes_to, item_count}
 use Rattle.rx_event.specs.Claims.Imports.{accepted_count, taken_count, open_count, owned_count, held_count, lease_count, waiting_count, marks_of, IsSettled}

@@ -1,5 +1,6 @@
 -- What is promised of what is forced.
-use Rattle.rx_event.specs.Claims.Imports.{◌≡◌, ℕ, ◌+◌, ◌≤◌, false, List, [], ◌∷◌, ◌++◌, option_map_or, Event, Accept, Kept, is_connect, hub_subscribed}
+use Rattle.std.specs.Prelude.{◌≡◌, ◌+◌, ◌≤◌, ◌∷◌, ◌++◌}
+use Rattle.rx_event.specs.Claims.Imports.{ℕ, false, List, [], option_map_or, Event, Accept, Kept, is_connect, hub_subscribed}
 use Rattle.rx_event.specs.Claims.Imports.{open_count, connect_count, IsForced, IsSettled, IsConnected, MayWait, IsAllowed, IsForcedOn, IsLawful}
 
 -- one step connects one hub at most, and first; each other forced event closes a node

@@ -1,7 +1,7 @@
 -- What is promised of hubs.
-use Rattle.rx_event.specs.Claims.Imports.{◌≡◌, ℕ, ◌≤◌, List, [], length, IsTrue, Event, Kept, is_auto_hub, at, open_subscribers, open_connections, IsSettled}
+use Rattle.rx_event.specs.Claims.Imports.{ℕ, List, [], length, IsTrue, Event, Kept, is_auto_hub, at, open_subscribers, open_connections, IsSettled}
 use Rattle.rx_event.specs.Claims.Imports.{IsLawful}
-use Rattle.std.specs.Prelude.{◌≢◌}
+use Rattle.std.specs.Prelude.{◌≢◌, ◌≡◌, ◌≤◌}
 
 -- a hub has at most one open connection (Publish: all subscribers share one subscription)
 pub record ConnectsOnce (base : Kept) : Type 0 where

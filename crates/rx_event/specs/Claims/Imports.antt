@@ -9,10 +9,10 @@ pub use Rattle.rx_event.specs.Events.{is_subscriber_of, makes_node, makes_hub, i
 pub use Rattle.rx_event.specs.Events.{is_auto_hub, is_inner_of, has_source, makes_lease, is_remove_of, is_lease_of, is_return, is_return_of, is_take_of}
 pub use Rattle.rx_event.specs.Events.{is_leaf}
 pub use Rattle.rx_event.specs.Forced.{IsConnectDue, IsForced, IsSettled, SourceEnded, IsDue, IsConnected, MayWait}
-pub use Rattle.rx_event.specs.Imports.{◌≡◌, ◌↔◌, ℕ, ◌-◌, List, [], ◌∷◌, ◌++◌, slice_get, count_by, list_any, AllByRecursion, Terminal, Event, suc, ◌+◌, ◌*◌}
-pub use Rattle.rx_event.specs.Imports.{◌<◌, ◌≤◌, ◌==◌, if◌then◌else◌, Some, None, length, take, sum_by, IsTrue, filter_map, flat_map, Connect, Bool, false}
-pub use Rattle.rx_event.specs.Imports.{◌&&◌, not, list_all, Close, ◌⊎◌, zero, End, ℤ, Root, Source, Inner, Notifier, Kind, Mode, Open, Hub, Accept, Use}
-pub use Rattle.rx_event.specs.Imports.{Remove, Lease, Return, Item, Decline, Take, true, option_map_or, Project, ◌||◌, map, Place, Pass, Sub}
+pub use Rattle.rx_event.specs.Imports.{ℕ, List, [], slice_get, count_by, list_any, AllByRecursion, Terminal, Event, suc}
+pub use Rattle.rx_event.specs.Imports.{Some, None, length, take, sum_by, IsTrue, filter_map, flat_map, Connect, Bool, false}
+pub use Rattle.rx_event.specs.Imports.{not, list_all, Close, zero, End, ℤ, Root, Source, Inner, Notifier, Kind, Mode, Open, Hub, Accept, Use}
+pub use Rattle.rx_event.specs.Imports.{Remove, Lease, Return, Item, Decline, Take, true, option_map_or, Project, map, Place, Pass, Sub}
 pub use Rattle.rx_event.specs.Kept.{Kept, nothing_kept, shown}
 pub use Rattle.rx_event.specs.Lawful.{Started, MayFollow, IsLawful, IsForcedOn, IsStep}
 pub use Rattle.rx_event.specs.Marks.{completes_source, source_completed, marks_of, blank_marks, due_at, touches, after_source, after_notifier, after_inner}

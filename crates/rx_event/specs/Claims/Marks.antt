@@ -1,5 +1,6 @@
 -- What is promised of marks.
-use Rattle.rx_event.specs.Claims.Imports.{◌≡◌, ℕ, ℤ, ◌<◌, true, false, Some, None, List, [], ◌∷◌, ◌++◌, length, slice_get, IsTrue, Terminal, Source, Inner}
+use Rattle.std.specs.Prelude.{◌≡◌, ◌<◌, ◌∷◌, ◌++◌}
+use Rattle.rx_event.specs.Claims.Imports.{ℕ, ℤ, true, false, Some, None, List, [], length, slice_get, IsTrue, Terminal, Source, Inner}
 use Rattle.rx_event.specs.Claims.Imports.{Notifier, Kind, Event, Open, Item, Decline, End, Close, Kept, is_merging, is_switch, is_source_of, is_inner_of, at}
 use Rattle.rx_event.specs.Claims.Imports.{parent, is_open, stops, SourceEnded, IsDue, IsConnected, IsSettled, marks_of, blank_marks, due_at, touches}
 use Rattle.rx_event.specs.Claims.Imports.{after_source, after_notifier, after_inner, after_decline, after_child, after_stops, MayFollow, IsLawful}

@@ -1,5 +1,6 @@
 -- What is promised of nodes.
-use Rattle.rx_event.specs.Claims.Imports.{◌≡◌, ℕ, ◌<◌, false, ◌&&◌, Some, List, [], ◌∷◌, ◌++◌, length, slice_get, IsTrue, not, Terminal, Source, Inner}
+use Rattle.std.specs.Prelude.{◌≡◌, ◌<◌, ◌&&◌, ◌∷◌, ◌++◌}
+use Rattle.rx_event.specs.Claims.Imports.{ℕ, false, Some, List, [], length, slice_get, IsTrue, not, Terminal, Source, Inner}
 use Rattle.rx_event.specs.Claims.Imports.{Notifier, Kind, Event, Open, Connect, End, Close, Kept, makes_node, has_source, is_merging, is_until, is_switch}
 use Rattle.rx_event.specs.Claims.Imports.{is_inner_of, at, parent, is_within, is_open, shuts, MayFollow, IsLawful}
 

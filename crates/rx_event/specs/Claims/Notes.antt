@@ -1,5 +1,6 @@
 -- What is promised of notes.
-use Rattle.rx_event.specs.Claims.Imports.{◌≡◌, ℕ, ℤ, false, List, [], ◌∷◌, ◌++◌, AllByRecursion, Project, Event, Kept, is_root, at, is_open, notes_to}
+use Rattle.std.specs.Prelude.{◌≡◌, ◌∷◌, ◌++◌}
+use Rattle.rx_event.specs.Claims.Imports.{ℕ, ℤ, false, List, [], AllByRecursion, Project, Event, Kept, is_root, at, is_open, notes_to}
 use Rattle.rx_event.specs.Claims.Imports.{MayFollow, IsLawful}
 use Rattle.rx_note.specs.Notes.{IsGrammatical}
 

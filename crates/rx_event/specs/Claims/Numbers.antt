@@ -1,5 +1,6 @@
 -- What is promised of histories that are the same but for their numbers, and of the one order of what is forced.
-use Rattle.rx_event.specs.Claims.Imports.{◌≡◌, ℕ, None, List, [], ◌∷◌, ◌++◌, Event, Kept, shown, IsForced, IsSettled, IsAllowed, Started, MayFollow, IsLawful}
+use Rattle.std.specs.Prelude.{◌≡◌, ◌∷◌, ◌++◌}
+use Rattle.rx_event.specs.Claims.Imports.{ℕ, None, List, [], Event, Kept, shown, IsForced, IsSettled, IsAllowed, Started, MayFollow, IsLawful}
 use Rattle.rx_event.specs.Claims.Imports.{IsForcedOn, Call, IsStepOf, event_by, call_by, IsKnown, AreSameBy, AreSame, AreSameSince, first_forced, IsFirstOn}
 
 -- the same may come next in both, and leaves both the same

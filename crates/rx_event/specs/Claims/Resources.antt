@@ -1,5 +1,6 @@
 -- What is promised of resources.
-use Rattle.rx_event.specs.Claims.Imports.{◌≡◌, ℕ, ◌+◌, ◌<◌, ◌≤◌, ◌==◌, false, ◌&&◌, ◌||◌, Some, List, [], ◌∷◌, ◌++◌, length, slice_get, if◌then◌else◌, IsTrue}
+use Rattle.std.specs.Prelude.{◌≡◌, ◌+◌, ◌<◌, ◌≤◌, ◌==◌, ◌&&◌, ◌||◌, ◌∷◌, ◌++◌, if◌then◌else◌}
+use Rattle.rx_event.specs.Claims.Imports.{ℕ, false, Some, List, [], length, slice_get, IsTrue}
 use Rattle.rx_event.specs.Claims.Imports.{not, Terminal, Event, Accept, Remove, Lease, Return, End, Close, Kept, makes_resource, makes_lease, is_remove_of}
 use Rattle.rx_event.specs.Claims.Imports.{is_lease_of, is_return, is_return_of, is_take_of, at, is_within, is_open, is_owned, is_out, leases_of, is_leased}
 use Rattle.rx_event.specs.Claims.Imports.{is_held, is_taken, is_waiting, open_count, accepted_count, owned_count, held_count, lease_count, waiting_count}

@@ -1,5 +1,6 @@
 -- What callers see of histories that are the same but for their numbers.
-use Rattle.rx_event.specs.Claims.Imports.{◌≡◌, ℕ, List, map, length, IsTrue, Event, Kept, makes_node, makes_hub, makes_resource, makes_lease, has_source}
+use Rattle.std.specs.Prelude.{◌≡◌}
+use Rattle.rx_event.specs.Claims.Imports.{ℕ, List, map, length, IsTrue, Event, Kept, makes_node, makes_hub, makes_resource, makes_lease, has_source}
 use Rattle.rx_event.specs.Claims.Imports.{is_leaf, is_merging, is_until, is_root, is_auto_hub, is_manual_hub, at, hubs, is_open, open_nodes, open_connections}
 use Rattle.rx_event.specs.Claims.Imports.{open_subscribers, has_open_child, is_owned, is_out, leases_of, is_held, is_waiting, visits, owed, source_opened}
 use Rattle.rx_event.specs.Claims.Imports.{notifier_opened, open_count, may_abort, IsInOrderAt, AreSameBy}

@@ -1,5 +1,6 @@
 -- What is promised of what stays open through what is forced, and of events that force nothing.
-use Rattle.rx_event.specs.Claims.Imports.{◌≡◌, ℕ, Bool, true, false, Some, None, List, [], ◌∷◌, ◌++◌, length, slice_get, IsTrue, list_any, Terminal, Place}
+use Rattle.std.specs.Prelude.{◌≡◌, ◌∷◌, ◌++◌}
+use Rattle.rx_event.specs.Claims.Imports.{ℕ, Bool, true, false, Some, None, List, [], length, slice_get, IsTrue, list_any, Terminal, Place}
 use Rattle.rx_event.specs.Claims.Imports.{Kind, Pass, Sub, Event, Open, Connect, Accept, Decline, End, Kept, hub_subscribed, is_open, is_firing_of, stops_of}
 use Rattle.rx_event.specs.Claims.Imports.{marks_of, due_at, IsDue, IsForced, IsSettled, MayFollow, IsLawful, IsForcedOn}
 

@@ -1,5 +1,6 @@
 -- What is promised of totals.
-use Rattle.rx_event.specs.Claims.Imports.{◌≡◌, ℕ, ◌+◌, ◌≤◌, false, ◌&&◌, List, [], ◌∷◌, ◌++◌, length, count_by, if◌then◌else◌, IsTrue, Terminal, Inner, Kind}
+use Rattle.std.specs.Prelude.{◌≡◌, ◌+◌, ◌≤◌, ◌&&◌, ◌∷◌, ◌++◌, if◌then◌else◌}
+use Rattle.rx_event.specs.Claims.Imports.{ℕ, false, List, [], length, count_by, IsTrue, Terminal, Inner, Kind}
 use Rattle.rx_event.specs.Claims.Imports.{Event, Open, Accept, Remove, End, Close, Take, Kept, makes_node, makes_resource, makes_lease, is_item, is_take}
 use Rattle.rx_event.specs.Claims.Imports.{is_return, is_use_of, pays, places, is_within, is_open, shuts, is_leased, uses, owed, is_projection_to, stops_of}
 use Rattle.rx_event.specs.Claims.Imports.{item_count, accepted_count, taken_count, owned_count, held_count, lease_count, waiting_count, open_count, MayFollow}
