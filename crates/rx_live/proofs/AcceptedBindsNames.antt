@@ -1,11 +1,9 @@
 -- Names that are bound where a call is accepted, and a session that stays alike where one is refused.
 use Rattle.rx_live.proofs.Common.{◌≡◌, ℕ, ◌==◌, ◌<◌, ◌≤◌, Bool, true, false, cond, List, length, Option, Some, None, option_map, Result, refl, sym}
-use Rattle.rx_live.proofs.Common.{ap, ◌∙◌, arith, ◌⊎◌, String, Global, string_bytes, IfOk, IfSome, is_some, ◌||◌, ◌&&◌, bytes_eq, AllocError}
-use Rattle.rx_live.proofs.Common.{option_map_or, ne_eqb, none-some, same_Some, Mail, Event, Refusal, Call, Holding, Leasing, GivingBack, IsRefusal}
-use Rattle.rx_live.proofs.Common.{is_out_past, Name, LeaseKey, State, IsPromised, Request, is_live, stands, Accepts, IsCauseOrWant, Spot, Names}
-use Rattle.rx_live.proofs.Common.{spot_of, name_of, IsPaired, AreSame, Binds, Forgets, Book, Outcome, Accepted, Refused, Session, IsSound, IsPlaced, lease_of}
-use Rattle.rx_live.proofs.Common.{has_resource, lease_key_at, AreOpenSame, IsAlike, GivesBy, GivesNames, IsUnchanged, BindsResource, BindsLease, BindsHub}
-use Rattle.rx_live.proofs.Common.{keeps_resources, keeps_leases, kept_same, out_same, kept_held, kept_past, out_leased, out_returned}
+use Rattle.rx_live.proofs.Common.{ap, ◌∙◌, arith, ◌⊎◌, String, Global, string_bytes, IfSome, OnErr, is_some, ◌||◌, ◌&&◌, bytes_eq, AllocError}
+use Rattle.rx_live.proofs.Common.{option_map_or, ne_eqb, none-some, same_Some, Mail, Event, GivingBack, Name, LeaseKey, State, IsPromised, Request}
+use Rattle.rx_live.proofs.Common.{is_live, Accepts, Spot, Names, spot_of, name_of, IsPaired, AreSame, Binds, Forgets, Session, IsSound, IsPlaced}
+use Rattle.rx_live.proofs.Common.{lease_of, has_resource, lease_key_at, AreOpenSame, IsAlike, kept_same, out_returned}
 use Rattle.rx_resource.specs.declared.Life.{Life}
 use Rattle.rx_resource.specs.declared.Life.TheVariants.{Live}
 use Rattle.rx_live.proofs.Soundness.{accepted_longer}
@@ -38,15 +36,6 @@ pub not_unnamed : (s : Session) (name n : Name) → has_resource s name ≡ fals
 not_unnamed s name n free is =
     search (rules, option_map_or, bytes_eq, or_false, is_some)
 
--- a number that is not given yet has no name
-pub unnamed_resource : (s : Session) → IsSound s → name_of s.resources (length s.book.history) ≡ None
-unnamed_resource s sound =
-    search (rules, none_of, length, kept_past)
-
-pub unnamed_lease : (s : Session) → IsSound s → name_of s.leases (length s.book.history) ≡ None
-unnamed_lease s sound =
-    search (rules, none_of, length, is_out_past)
-
 pub placed_longer : (h k : List Event) (t : Names) → IsPlaced h t → length h ≤ length k → IsPlaced k t
 placed_longer h k t placed longer n past = placed n (omega arith)
 
@@ -70,100 +59,6 @@ lost a b x2 none = search rules
 pub sound_alike : (old new : Session) → IsSound old → IsAlike old new → IsPaired new.nodes → IsPaired new.hubs → IsPaired new.resources →
     IsPaired new.leases → IsSound new
 sound_alike old new sound alike nodes hubs resources leases = search (rules, lost, length, is_some)
-
--- outcomes -------------------------------------------------------------------------------------------
-
--- the book refuses
-module _ {A : Type 0} (stand : State → A → Refusal → Bool) (accepts : State → A → State → Type 0) where
-  pub refused_by : {s t : Session} {asked : Option A} {call : A} {taken : Bool} (bound : Session → Type 0) (why : Refusal)
-      (result : Result Outcome AllocError) →
-      asked ≡ Some call → taken ≡ false → IsRefusal (stand s.book call) why → IsUnchanged s t → IfOk result (λ o. o ≡ Refused (Book why)) →
-      IfOk result (λ o. GivesBy stand accepts s asked taken bound o t)
-  refused_by bound why x2 known is cause unchanged told = search rules
-
-  -- it accepts
-  pub accepted_by : {s t : Session} (asked : Option A) {call : A} (taken : Bool) (bound : Session → Type 0) →
-      asked ≡ Some call → taken ≡ false → accepts s.book call t.book → bound t → IsSound t → GivesBy stand accepts s asked taken bound Accepted t
-  accepted_by {s} {t} asked {call} taken bound known is did binds sound =
-      search (rules, Accepted)
-
--- of one call
-pub given_refused : {s t : Session} {asked : Option Request} {call : Request} {taken : Bool} (bound : Session → Type 0) (why : Refusal)
-    (result : Result Outcome AllocError) →
-    asked ≡ Some call → taken ≡ false → IsCauseOrWant s.book call why → IsUnchanged s t → IfOk result (λ o. o ≡ Refused (Book why)) →
-    IfOk result (λ o. GivesNames s asked taken bound o t)
-given_refused = refused_by stands Accepts
-
-pub given_accepted : {s t : Session} (asked : Option Request) {call : Request} (taken : Bool) (bound : Session → Type 0) →
-    asked ≡ Some call → taken ≡ false → Accepts s.book call t.book → bound t → IsSound t → GivesNames s asked taken bound Accepted t
-given_accepted = accepted_by stands Accepts
-
--- a resource -----------------------------------------------------------------------------------------
-
-module _ (s : Session) (book : State) (name : Name) (spot : Spot) (mid t : Names) (sound : IsSound s) (kept : IsPromised book) (paired : IsPaired t) where
-  abbrev after_binding : Call → Bool → Type 0
-  after_binding call known = Accepts s.book (record { call = call; is_known = known; is_fresh = true }) book
-
-  pub held_bound : AreSame s.resources mid → Binds mid name spot t → spot.number ≡ length s.book.history →
-      BindsResource s name (record s { book = book; resources = t })
-  held_bound same binds number =
-      search (rules, bound_after)
-
-  pub held_sound : (node tag : ℕ) (known : Bool) → AreSame s.resources mid → Binds mid name spot t → spot.number ≡ length s.book.history →
-      has_resource s name ≡ false →
-      after_binding (Holding node tag) known → IsSound (record s { book = book; resources = t })
-  held_sound node tag known same after number free accepts =
-      let asked : Request = record { call = Holding node tag; is_known = known; is_fresh = true } in
-      let longer : length s.book.history ≤ length book.history = accepted_longer s.book book asked accepts in
-      let binds : Binds s.resources name spot t = bound_after s.resources mid t name spot same after in
-      record {
-        kept = kept;
-        node_pairs = sound.node_pairs;
-        hub_pairs = sound.hub_pairs;
-        resource_pairs = paired;
-        lease_pairs = sound.lease_pairs;
-        nodes = placed_longer s.book.history book.history s.nodes sound.nodes longer;
-        hubs = placed_longer s.book.history book.history s.hubs sound.hubs longer;
-        resources = λ r. ap is_some (binds.names r) ∙ some_cond (spot.number == r) name (name_of s.resources r)
-            ∙
-            (λ i. cond (number i == r) true (sound.resources r i)) ∙
-            sym (kept_held sound.kept.lawful accepts.step r);
-        leases = λ l. sound.leases l ∙ sym (out_same (Holding node tag) accepts.step refl l);
-        unnamed = λ n is. binds.spots n ∙ ap (λ (b : Bool). cond b (Some spot) (spot_of s.resources n)) (not_unnamed s name n free is) ∙ sound.unnamed n is;
-      }
-
-  pub leased_bound : AreSame s.leases mid → Binds mid name spot t → spot.number ≡ length s.book.history →
-      BindsLease s name (record s { book = book; leases = t })
-  leased_bound same binds number = search (rules, bound_after)
-
-  pub leased_sound : (q : ℕ) (known : Bool) → AreSame s.leases mid → Binds mid name spot t → spot.number ≡ length s.book.history →
-      after_binding (Leasing q) known → IsSound (record s { book = book; leases = t })
-  leased_sound q known same after number accepts =
-      let asked : Request = record { call = Leasing q; is_known = known; is_fresh = true } in
-      let longer : length s.book.history ≤ length book.history = accepted_longer s.book book asked accepts in
-      let binds : Binds s.leases name spot t = bound_after s.leases mid t name spot same after in
-      record {
-        kept = kept;
-        node_pairs = sound.node_pairs;
-        hub_pairs = sound.hub_pairs;
-        resource_pairs = sound.resource_pairs;
-        lease_pairs = paired;
-        nodes = placed_longer s.book.history book.history s.nodes sound.nodes longer;
-        hubs = placed_longer s.book.history book.history s.hubs sound.hubs longer;
-        resources = λ r. sound.resources r ∙ sym (kept_same (Leasing q) accepts.step refl r);
-        leases = λ l. ap is_some (binds.names l) ∙ some_cond (spot.number == l) name (name_of s.leases l)
-            ∙ (λ i. cond (number i == l) true (sound.leases l i)) ∙ sym (out_leased sound.kept.lawful accepts.step l);
-        unnamed = sound.unnamed;
-      }
-
-  pub hub_bound : AreSame s.hubs mid → Binds mid name spot t → spot.number ≡ length s.book.history → BindsHub s name (record s { book = book; hubs = t })
-  hub_bound same binds number = search (rules, bound_after)
-
-  pub hub_sound : (asked : Request) → AreSame s.hubs mid → Binds mid name spot t → spot.number ≡ length s.book.history → Accepts s.book asked book →
-      keeps_resources asked.call ≡ true → keeps_leases asked.call ≡ true → length s.book.history < length book.history →
-      IsSound (record s { book = book; hubs = t })
-  hub_sound asked same after number accepts resources leases longer =
-      search (rules, bound_after, placed_longer, placed_bound, kept_same, out_same)
 
 -- a lease that is given back -------------------------------------------------------------------------
 
@@ -203,3 +98,6 @@ lease_named s name k sound found = by_spot s name k (spot_of s.leases name) soun
 -- a token that is new
 pub is_new : (state : Life) (count : ℕ) → state ≡ Live → count ≡ 0 → (is_live state && count == 0) ≡ true
 is_new state count live unused = rw (live, unused) refl
+
+pub on_err : {A E : Type 0} (result : Result A E) (P : Type 0) → P → OnErr result P
+on_err x0 x1 p = search rules

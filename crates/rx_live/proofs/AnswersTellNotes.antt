@@ -1,16 +1,17 @@
 -- The notes of a session's events, and those that its answers tell.
 use Rattle.rx_live.proofs.Common.{◌≡◌, ℕ, ◌≤◌, Bool, List, [], ◌∷◌, ◌++◌, drop, length, Option, Some, None, refl, sym, ap, ◌∙◌, arith, subst, append_assoc}
-use Rattle.rx_live.proofs.Common.{is_some, option_to_list, append-nil, drop_at, drop-append-le, Mail, Event, Kept, notes, mail_of, moments, Call, outside_of}
-use Rattle.rx_live.proofs.Common.{IsStepOf, IsForcedOn, stays, more, notes-push, Data, Items, Task, plain, open_holding, Order, Command, using, open_node}
-use Rattle.rx_live.proofs.Common.{hold, lease, give_back, make_hub, connect, drain, Goes}
-use Rattle.rx_live.proofs.Common.{checkpoint, State, Request, stands, hub_request, Accepts, Accepted, Session, hub_of, Carries, IsAlike, Gives}
-use Rattle.rx_live.proofs.Common.{BindsHub, to_tell, Takes, none_taken, one_taken, Renews, holder_causes, OpensHolder, Runs, Does, IsCarried, GoesOn, no_line}
+use Rattle.rx_live.proofs.Common.{option_to_list, append-nil, drop_at, drop-append-le, Mail, Event, Kept, notes, mail_of, moments, Call, outside_of}
+use Rattle.rx_live.proofs.Common.{IsStepOf, IsForcedOn, stays, more, notes-push, Data, Items, Task, plain, open_holding, Order, Name, Each, Wish}
+use Rattle.rx_live.proofs.Common.{Asked, OpenUsing, Hold, OpenHolding, give_back, drain, checkpoint, State, Request, request_at, Accepts, Accepted, Session}
+use Rattle.rx_live.proofs.Common.{IsAlike, Gives, Grants, Comes, holder_wish, wish_of, names_of, together, to_tell, Takes, none_taken, one_taken, Renews, Does, IsCarried, GoesOn, no_line}
 use Rattle.rx_live.proofs.Common.{one_line, IsFresh, IsAged, as_it_was, renewed, is_put_off, Act}
 use Rattle.rx_live.specs.Lines.{IsAnswer, is_faulty, is_refused, is_carried, is_queried, is_listed, is_dumped, AnswersAsked, AnswersOne, is_taken, none_left}
 use Rattle.rx_live.specs.Lines.{AnswersEach, one_more, AnswersValue, one_asked, many_asked, IsAnswered, no_json, is_json}
 use Rattle.rx_live.specs.Sessions.{told_by, written_of, written_by, told_one, written_one, told_each, written_each, told_value, written_value, told_line}
 use Rattle.rx_live.specs.Sessions.{written_line, told_in, written_in}
-use Rattle.rx_live.proofs.Acts.{gave, gave_by, refused_alike}
+use Rattle.rx_book.specs.Asks.{request_of}
+use Rattle.rx_live.specs.Wishes.{connection_of}
+use Rattle.rx_live.proofs.Acts.{gave, refused_alike}
 use Rattle.rx_live.proofs.OpenedNodesHold.{opening, holding}
 use Rattle.std.proofs.Common.{rules}
 
@@ -67,18 +68,26 @@ owes_call : (old new : Session) (asked : Request) → Accepts old.book asked new
 owes_call old new asked accepts untold behind =
     search (rules, owes_more, noted_step, behind)
 
--- a command -------------------------------------------------------------------------------------------
+-- a task ----------------------------------------------------------------------------------------------
 
-owes_given : (old new : Session) (asked : Option Request) (taken : Bool) (bound : Session → Type 0) →
-    Gives stands Accepts old asked taken bound Accepted new → (bound new → new.untold ≡ old.untold) → IsBehind old → Owes old new
-owes_given old new asked taken bound gives untold behind =
-    let given = gave old new asked taken bound gives in owes_call old new given.call given.does (untold given.binds) behind
+owes_granted : (old new : Session) (wish : Wish) → Grants old.book wish new.book → new.untold ≡ old.untold → IsBehind old → Owes old new
+owes_granted old new (Asked call) did untold behind = owes_call old new (request_of old.book call) did untold behind
+owes_granted old new (OpenUsing at) did untold behind = owes_call old new (request_at old.book (OpenUsing at)) did untold behind
+owes_granted old new (Hold node) did untold behind = owes_call old new (request_at old.book (Hold node)) did untold behind
+owes_granted old new (OpenHolding at kind) did untold behind =
+    let goes : GoesOnNoted old.book.history new.book.history =
+    noted_on (noted_step old.book.base old.book.history did.middle.history (opening did) did.opens.step)
+    (noted_step did.middle.base did.middle.history new.book.history (holding did) did.holds.step) in
+    owes_more old new goes (did.holds.given ∙ did.opens.given) untold behind
 
-owes_carried : (old new : Session) (asked : Option Request) → Goes old asked Accepted new → IsBehind old → Owes old new
-owes_carried old new asked goes = by_asked asked goes.carries where
-  by_asked : (o : Option Request) → Carries old o Accepted new → IsBehind old → Owes old new
-  by_asked None carries behind = let e = carries.0 in absurd (cc)
-  by_asked (Some call) carries behind = owes_call old new call carries.0 (ap (λ (s : Session). s.untold) carries.1) behind
+owes_given : (old new : Session) (asked : Option Wish) (taken : Bool) (bound : Wish → Session → Type 0) (left : Session → Type 0) →
+    Gives old asked taken bound left Accepted new → ((wish : Wish) → bound wish new → new.untold ≡ old.untold) → IsBehind old → Owes old new
+owes_given old new asked taken bound left gives untold behind =
+    let given = gave old new asked taken bound left gives in owes_granted old new given.wish given.grants (untold given.wish given.binds) behind
+
+owes_come : (old new : Session) (asked : Option Wish) (names : Option (Each Name)) → Comes old asked names Accepted new → IsBehind old → Owes old new
+owes_come old new asked None comes behind = owes_given old new asked _ _ _ comes.gives (λ wish binds. ap (λ (s : Session). s.untold) binds) behind
+owes_come old new asked (Some names) comes behind = owes_given old new asked _ _ _ comes.gives (λ wish binds. binds.binds.untold) behind
 
 owes_same : (old new : Session) → new ≡ old → IsBehind old → Owes old new
 owes_same old new same behind =
@@ -90,36 +99,15 @@ data DoesNoted (old new : Session) (t : Task) : Type 0 where
   goes_on : ((before after : List Mail) → written_of t before after ≡ drop (length before) after) → Owes old new → DoesNoted old new t
   begins : ((before after : List Mail) → written_of t before after ≡ after) → Renews old new → DoesNoted old new t
 
-noted_run : (old new : Session) (c : Command) → Runs old c Accepted new → IsBehind old → DoesNoted old new (plain c)
-noted_run old new (using name site res) runs behind =
-    goes_on (λ b a. refl) (owes_given old new _ _ _ runs.gives (λ binds. ap (λ (s : Session). s.untold) binds.rest) behind)
-noted_run old new (hold node res) runs behind =
-    goes_on (λ b a. refl) (owes_given old new _ _ _ runs.gives (λ binds. ap (λ (s : Session). s.untold) binds.rest) behind)
-noted_run old new (open_node name site sort) runs behind =
-    goes_on (λ b a. refl) (owes_given old new _ _ _ runs.gives (λ binds. ap (λ (s : Session). s.untold) binds.rest) behind)
-noted_run old new (lease res name) runs behind =
-    goes_on (λ b a. refl) (owes_given old new _ _ _ runs.gives (λ binds. ap (λ (s : Session). s.untold) binds.rest) behind)
-noted_run old new (give_back name) runs behind =
-    goes_on (λ b a. refl) (owes_given old new _ _ _ runs.gives (λ binds. ap (λ (s : Session). s.untold) binds.rest) behind)
-noted_run old new (make_hub name mode) runs behind =
-    goes_on (λ b a. refl) (owes_given old new (Some (hub_request mode)) (is_some (hub_of old name)) (BindsHub old name) runs.gives
-    (λ binds. ap (λ (s : Session). s.untold) binds.rest) behind)
-noted_run old new (connect hub name) runs behind =
-    goes_on (λ b a. refl) (owes_given old new _ _ _ runs.gives (λ binds. ap (λ (s : Session). s.untold) binds.rest) behind)
-noted_run old new drain runs behind = goes_on (λ b a. refl) (owes_same old new runs.1 behind)
-noted_run old new checkpoint runs behind = begins (λ b a. refl) runs
-noted_run old new _ runs behind = goes_on (λ b a. refl) (owes_carried old new _ runs behind)
-
 noted_do : (old new : Session) (t : Task) → Does old t Accepted new → IsBehind old → DoesNoted old new t
-noted_do old new (plain c) does behind = noted_run old new c does behind
+noted_do old new (plain (give_back name)) does behind =
+    goes_on (λ b a. refl) (owes_given old new _ _ _ _ does.gives (λ wish binds. ap (λ (s : Session). s.untold) binds.rest) behind)
+noted_do old new (plain drain) does behind = goes_on (λ b a. refl) (owes_same old new does.1 behind)
+noted_do old new (plain checkpoint) does behind = begins (λ b a. refl) does
 noted_do old new (open_holding name site sort res) does behind =
-    let given = gave_by holder_causes OpensHolder old new _ _ _ does.gives in
-    let did = given.does in
-    let goes : GoesOnNoted old.book.history new.book.history =
-    noted_on (noted_step old.book.base old.book.history did.middle.history (opening did) did.opens.step)
-    (noted_step did.middle.base did.middle.history new.book.history (holding did) did.holds.step) in
-    goes_on (λ b a. refl) (owes_more old new goes (did.holds.given ∙ did.opens.given)
-    (ap (λ (s : Session). s.untold) given.binds.opened.rest) behind)
+    goes_on (λ b a. refl)
+    (owes_come old new (holder_wish old site sort) (Some (together (Some name) (connection_of sort) (Some res) None None)) does behind)
+noted_do old new (plain c) does behind = goes_on (λ b a. refl) (owes_come old new (wish_of old c) (names_of c) does behind)
 
 -- what is released -----------------------------------------------------------------------------------
 

@@ -34,16 +34,19 @@ pub use Rattle.rx_line.specs.declared.outcome.Cause.TheVariants.{Book, NameTaken
 pub use Rattle.rx_line.specs.declared.outcome.Outcome.TheVariants.{Accepted, Refused}
 unfoldable pub use Rattle.rx_line.specs.{Orders.order_in, Pieces.name_text, Pieces.faulty_text, Pieces.ok_text, Pieces.refused_text}
 pub use Rattle.rx_listing.{proofs.Laws.Texts.more_nil, proofs.Laws.Texts.more_text, proofs.Laws.Texts.same_texts, specs.Parts.is_nil, specs.Parts.led_text}
-pub use Rattle.rx_live.specs.Given.{AreOpenSame, IsAlike, NamesOne, BindsHub, BindsLease, BindsResource, Gives, IsUnchanged, FreesLease, GivesBy, GivesNames}
-pub use Rattle.rx_live.specs.Given.{hold_asked, hold_tagged}
+pub use Rattle.rx_live.specs.Given.{AreOpenSame, IsAlike, IsUnchanged, NamesOne, BindsMade, BindsEach, BindsNames, FreesLease, Gives, GivesBy, Comes, Grants}
+pub use Rattle.rx_live.specs.Given.{OpensHolder, hold_tagged, request_at, stands_against, are_taken, outcome_of}
+pub use Rattle.rx_live.specs.Wishes.{wish_of, holder_wish, names_of, numbers_of, numbers_at, bytes_of, together}
+pub use Rattle.rx_live.specs.Free.{is_given, Fits, names_or_none, ForgetsClosed, AreFree, ArePaired, HasGrown, HasRooms, AreUnnamed, Makes, is_return}
+pub use Rattle.rx_live.specs.declared.{each.Each.Each, wish.Wish.Wish}
+pub use Rattle.rx_live.specs.declared.wish.Wish.TheVariants.{Asked, OpenUsing, Hold, OpenHolding}
 pub use Rattle.rx_live.specs.Lines.{Does, as_it_was, IsFresh, renewed, IsClosed, Runs, Ends, FindsFull, GoesOn, IsAged, IsCarried, IsPutOff, TellsAll}
 pub use Rattle.rx_live.specs.Lines.{WaitsFor, handed_by, is_put_off, no_line, one_line}
-pub use Rattle.rx_live.specs.Openings.{BindsMade, OpensHolder, holder_causes, front_text, is_node, is_open_taken, BindsConnection, BindsHolder, BindsNode}
-pub use Rattle.rx_live.specs.Openings.{BindsUsing, holder_at, said_if, using_at, connected_by, is_holder_taken, is_using_taken, place_at, using_asked}
+pub use Rattle.rx_live.specs.Openings.{front_text, said_if, connected_by}
 pub use Rattle.rx_live.specs.Session.{session_of, Session, IsSound, has_resource, hub_of, IsPlaced, lease_of, node_of, resource_of, key_at, IsTied, if_open}
 pub use Rattle.rx_live.specs.Session.{is_node_in, lease_key_at}
 pub use Rattle.rx_live.specs.Answers.{to_tell, WritesNotes, Takes, WritesNames, late_text, none_taken, one_taken, told_text, is_late}
-pub use Rattle.rx_live.specs.{Carried.Goes, Carried.Carries, Carried.outcome_of, ClosedAt.closed_texts, ClosedAt.closed_at, Room.HasRoom}
+pub use Rattle.rx_live.specs.{ClosedAt.closed_texts, ClosedAt.closed_at, Room.HasRoom}
 pub use Rattle.rx_live.specs.{Closings.SaysClosed, Closings.closed_names, Dumps.entries, Dumps.query_text, Dumps.dump_text, Dumps.entry_at, Listed.all_names}
 pub use Rattle.rx_live.specs.Promise.{Act, no_act, Leads, released, releases, hands_in, with_held, IsKept}
 pub use Rattle.rx_live.specs.Renewals.{Renews, AreOpen, IsFullByOpen, Renewing, may_renew, renewing_causes}
@@ -51,5 +54,5 @@ pub use Rattle.rx_live.specs.Steps.{AreNamesWritten, AreNotesWritten, names_left
 pub use Rattle.rx_live.specs.Taken.{Writes, connects_at, Answered, AnsweredOne, AreAnswering, IsFullByAge, Tries, is_full}
 unfoldable pub use Rattle.rx_live.specs.Session.{node_in}
 pub use Rattle.rx_scenario.specs.Scenario.{Name, Command, abort, apply, checkpoint, connect, decline, disconnect, dispose, drain, end, fail, give_back, hold}
-pub use Rattle.rx_scenario.specs.Scenario.{lease, make_hub, next, open_node, remove, using, site_of}
+pub use Rattle.rx_scenario.specs.Scenario.{lease, make_hub, next, open_node, remove, using, site_of, sort_of, command_of}
 pub use Rattle.serde_json.specs.{Data.Data, Data.Items, Data.item, Data.no_items, Find.as_array}

@@ -1,10 +1,10 @@
 -- What the answer to an opening says of the connection that it made.
 use Rattle.rx_live.proofs.Common.{◌≡◌, ℕ, ◌+◌, ◌==◌, ◌≤◌, ◌++◌, Bool, true, List, [], ◌∷◌, length, Some, None, refl, sym, ap, ◌∙◌, arith}
-use Rattle.rx_live.proofs.Common.{◌⊎◌, is_some, slice_get, if◌then◌else◌, option_map_or, le-ltb, eqb-true, append-nil, Command}
-use Rattle.rx_live.proofs.Common.{State}
-use Rattle.rx_live.proofs.Common.{connection_made, Task, plain, ok_text, Accepted, Session, IsSound, Runs, Does}
+use Rattle.rx_live.proofs.Common.{◌⊎◌, inl, inr, is_some, slice_get, if◌then◌else◌, option_map_or, le-ltb, eqb-true, append-nil, State, IsPromised, Name, Each}
+use Rattle.rx_live.proofs.Common.{connection_made, Task, plain, open_holding, open_node, ok_text, Accepted, Session, IsSound, Does, Comes, Grants, Wish, Option, None, holder_wish, wish_of, names_of, together}
+use Rattle.rx_live.specs.Wishes.{connection_of}
 use Rattle.rx_live.proofs.Common.{connected_by, said_if, front_text, connects_at}
-use Rattle.rx_live.proofs.Acts.{gave, gave_by}
+use Rattle.rx_live.proofs.Acts.{gave}
 use Rattle.std.proofs.Common.{rules}
 
 pub nothing_said : (b : Bool) → said_if b [] ≡ []
@@ -30,14 +30,22 @@ made_since : (old new : State) → old.base.at_length ≤ length old.history →
 made_since old new begun same =
     search (rules, length, option_map_or, slice_get, le-ltb, made_or_not)
 
--- a command that opens nothing says nothing of it
-same_said : (old done : Session) (c : Command) → IsSound old → Runs old c Accepted done →
-    (connects_at done.book (length old.book.history + 1) ≡ is_some (connection_made old.book.history done.book.history)) ⊎ (connected_by (plain c) ≡ [])
-same_said old done x2 sound runs = search (rules, made_since, gave)
+granted_since : (old new : State) (wish : Wish) → IsPromised old → Grants old wish new →
+    connects_at new (length old.history + 1) ≡ is_some (connection_made old.history new.history)
+granted_since old new x2 kept did = search (rules, made_since)
+
+-- a task that opens nothing says nothing of it
+came_since : (old done : Session) (asked : Option Wish) (names : Option (Each Name)) → IsSound old → Comes old asked names Accepted done →
+    connects_at done.book (length old.book.history + 1) ≡ is_some (connection_made old.book.history done.book.history)
+came_since old done x2 x3 sound comes = search (rules, granted_since, gave)
 
 same_by : (old done : Session) (t : Task) → IsSound old → Does old t Accepted done →
     (connects_at done.book (length old.book.history + 1) ≡ is_some (connection_made old.book.history done.book.history)) ⊎ (connected_by t ≡ [])
-same_by old done x2 sound does = search (rules, same_said, gave_by, made_since)
+same_by old done (plain (open_node name site sort)) sound does =
+    inl (came_since old done (wish_of old (open_node name site sort)) (names_of (open_node name site sort)) sound does)
+same_by old done (open_holding name site sort res) sound does =
+    inl (came_since old done (holder_wish old site sort) (Some (together (Some name) (connection_of sort) (Some res) None None)) sound does)
+same_by old done _ sound does = inr refl
 
 pub front_said : (old done : Session) (t : Task) (begun said text : List ℕ) (behind : ℕ) → IsSound old → Does old t Accepted done →
     begun ≡ ok_text (length old.book.history) → said ≡ connected_by t → behind ≡ length old.book.history + 1 →

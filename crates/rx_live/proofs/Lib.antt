@@ -1,13 +1,12 @@
 pub mod Common
 pub mod Laws
 pub mod Soundness
-pub mod KeyedCalls
 pub mod AcceptedBindsNames
 pub mod NamesOfOpenNodes
 pub mod Tellings
 pub mod Drops
-pub mod OpenedNodesGetNames
 pub mod OpenedNodesHold
+pub mod GivenNames
 pub mod ClosedNamesForgotten
 pub mod SessionAfterCheckpoint
 pub mod Listings

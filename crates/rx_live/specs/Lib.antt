@@ -1,9 +1,9 @@
 pub mod Session
-pub mod Carried
 pub mod ClosedAt
 pub mod Closings
-pub mod KeyedCalls
+pub mod Wishes
 pub mod Given
+pub mod Free
 pub mod Openings
 pub mod Promise
 pub mod Answers

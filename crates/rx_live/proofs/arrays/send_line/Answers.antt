@@ -1,5 +1,5 @@
 use Rattle.rx_live.proofs.Common.{subst, string_bytes, sym, Data, IsJsonOf, part_data, Unread, IsUnread, session_of}
-use Rattle.rx_live.proofs.OpenedNodesGetNames.{on_err}
+use Rattle.rx_live.proofs.AcceptedBindsNames.{on_err}
 use Rattle.rx_live.proofs.AnswersOfArrays.{line_sent, line_waits, line_faulty, line_unread}
 use Rattle.rx_live.proofs.arrays.send_line.Goals as goal
 use Rattle.std.proofs.Common.{rules}

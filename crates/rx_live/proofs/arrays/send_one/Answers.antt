@@ -1,6 +1,6 @@
 use Rattle.rx_live.proofs.Common.{session_of, as_it_was}
 use Rattle.rx_live.proofs.AcceptedBindsNames.{alike_same}
-use Rattle.rx_live.proofs.OpenedNodesGetNames.{on_err}
+use Rattle.rx_live.proofs.AcceptedBindsNames.{on_err}
 use Rattle.rx_live.proofs.arrays.send_one.Goals as goal
 
 pub returns-in_err-text-clause-err : goal.returns-in_err-text-clause-err

@@ -1,21 +1,15 @@
-use Rattle.rx_live.proofs.Common.{◌≡◌, Some, sym, ◌∙◌, session_of}
-use Rattle.rx_scenario.specs.Scenario.{command_of}
-use Rattle.rx_live.specs.KeyedCalls.{keyed_call}
-use Rattle.rx_live.proofs.KeyedCalls.{call_runs, nameless_runs, told_so}
+use Rattle.rx_live.proofs.Common.{session_of}
+use Rattle.rx_live.proofs.GivenNames.{came_plain, told_so}
 use Rattle.rx_live.proofs.calls.ask.Goals as goal
-use Rattle.std.proofs.Common.{rules}
-
-pub returns-in_default-clause-ok : goal.returns-in_default-clause-ok
-returns-in_default-clause-ok c =
-    search (rules, nameless_runs)
 
 pub returns-clause-ok : goal.returns-clause-ok
 returns-clause-ok c =
-    let found : keyed_call (session_of c.args.engine.now) (command_of c.args.command.now) ≡ Some c.in-Some.call = sym c.keyed_call.ensures ∙ c.in-Some.is in
     told_so _ _ c.answered.result
-    (call_runs (command_of c.args.command.now) c.requires.sound c.requires.asked found c.promise.ensures c.ask-answer.ensures).0 c.answered.ensures.ok
+    (came_plain (session_of c.args.engine.now) c.args.wish c.make-answer.new.book c.make-answer.result c.requires.sound c.promise.ensures c.requires.fits
+    c.make-answer.ensures.ok c.make-answer.ensures.err c.make-answer.ensures.kept)
+    c.answered.ensures.ok
 
 pub returns-clause-sound : goal.returns-clause-sound
 returns-clause-sound c =
-    let found : keyed_call (session_of c.args.engine.now) (command_of c.args.command.now) ≡ Some c.in-Some.call = sym c.keyed_call.ensures ∙ c.in-Some.is in
-    (call_runs (command_of c.args.command.now) c.requires.sound c.requires.asked found c.promise.ensures c.ask-answer.ensures).1
+    (came_plain (session_of c.args.engine.now) c.args.wish c.make-answer.new.book c.make-answer.result c.requires.sound c.promise.ensures c.requires.fits
+    c.make-answer.ensures.ok c.make-answer.ensures.err c.make-answer.ensures.kept).sound

@@ -2,7 +2,7 @@ use Rattle.rx_live.proofs.Common.{if◌then◌else◌, Name, ◌≡◌, ℕ, ◌
 use Rattle.rx_live.proofs.Common.{Accepted, Refused, ok_text, session_of, said_if, front_text, closed_names, SaysClosed, Does, TellsAll, connects_at}
 use Rattle.rx_live.specs.Closings.{names_closed}
 use Rattle.rx_live.proofs.Acts.{refused_alike}
-use Rattle.rx_live.proofs.OpenedNodesGetNames.{on_err}
+use Rattle.rx_live.proofs.AcceptedBindsNames.{on_err}
 use Rattle.rx_live.proofs.SessionAfterCheckpoint.{full_by_age, full_by_open}
 use Rattle.rx_live.proofs.ConnectionAnswered.{front_said}
 use Rattle.rx_live.proofs.AnswerToEachLine.{carried_out, refused_out}

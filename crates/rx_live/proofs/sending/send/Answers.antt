@@ -1,5 +1,5 @@
 use Rattle.rx_live.proofs.Common.{ℕ, List, subst, string_bytes, part_data, order_in, session_of, as_it_was, renewed, Answered, Writes}
-use Rattle.rx_live.proofs.OpenedNodesGetNames.{on_err}
+use Rattle.rx_live.proofs.AcceptedBindsNames.{on_err}
 use Rattle.rx_live.proofs.SessionAfterCheckpoint.{young}
 use Rattle.rx_live.proofs.AnswerToEachLine.{sent_first, sent_again, answered_so, found_so}
 use Rattle.rx_live.proofs.sending.send.Goals as goal

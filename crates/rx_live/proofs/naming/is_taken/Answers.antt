@@ -1,6 +1,6 @@
 use Rattle.rx_live.proofs.AcceptedBindsNames.{forgot}
 use Rattle.rx_live.proofs.NamesOfOpenNodes.{unbound_name, late_name, known_name, open_forgot}
-use Rattle.rx_live.proofs.opening.is_taken.Goals as goal
+use Rattle.rx_live.proofs.naming.is_taken.Goals as goal
 use Rattle.std.proofs.Common.{rules}
 
 pub returns-in_default-clause-answer : goal.returns-in_default-clause-answer
