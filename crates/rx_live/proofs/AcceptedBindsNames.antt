@@ -1,6 +1,6 @@
 -- Names that are bound where a call is accepted, and a session that stays alike where one is refused.
 use Rattle.rx_live.proofs.Common.{◌≡◌, ℕ, ◌==◌, ◌<◌, ◌≤◌, Bool, true, false, cond, List, length, Option, Some, None, option_map, Result, refl, sym}
-use Rattle.rx_live.proofs.Common.{ap, ◌∙◌, arith, ◌⊎◌, String, Global, string_bytes, IfSome, OnErr, is_some, ◌||◌, ◌&&◌, bytes_eq, AllocError}
+use Rattle.rx_live.proofs.Common.{ap, ◌∙◌, arith, ◌⊎◌, String, Global, string_bytes, IfSome, OnErr, is_some, ◌||◌, ◌&&◌, bytes_eq}
 use Rattle.rx_live.proofs.Common.{option_map_or, ne_eqb, none-some, same_Some, Mail, Event, GivingBack, Name, LeaseKey, State, IsPromised, Request}
 use Rattle.rx_live.proofs.Common.{is_live, Accepts, Spot, Names, spot_of, name_of, IsPaired, AreSame, Binds, Forgets, Session, IsSound, IsPlaced}
 use Rattle.rx_live.proofs.Common.{lease_of, has_resource, lease_key_at, AreOpenSame, IsAlike, kept_same, out_returned}

@@ -1,5 +1,5 @@
 -- What a command hands in, and what the lines of a session come to.
-use Rattle.rx_live.proofs.Common.{◌≡◌, ℕ, Bool, true, false, cond, List, [], ◌++◌, map, Option, Some, None, refl, sym, ap, subst, is_some, ◌||◌, Name}
+use Rattle.rx_live.proofs.Common.{◌≡◌, ℕ, Bool, true, false, cond, List, ◌++◌, map, Option, Some, None, refl, sym, ap, subst, is_some, ◌||◌, Name}
 use Rattle.rx_live.proofs.Common.{bytes_eq, option_map_or}
 use Rattle.rx_live.proofs.Common.{Task, Act, using, hold, give_back, drain, checkpoint, open_holding, plain, Cause, Accepted, Refused, spot_of, Session}
 use Rattle.rx_live.proofs.Common.{has_resource, IsAlike, Gives, Grants, Comes, Wish, Each, NamesOne, released, with_held, Leads, no_act, hands_in, IsKept}

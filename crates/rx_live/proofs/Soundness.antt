@@ -1,7 +1,6 @@
 -- A session stays sound as its book goes on.
 use Rattle.rx_live.proofs.Common.{◌≡◌, ℕ, ◌≤◌, false, length, refl, sym, ap, ◌∙◌, arith, List, [], none-some, Event, is_some, is_out, is_out_past}
 use Rattle.rx_live.proofs.Common.{IsPaired, State, is_kept, IsPromised, Request, Accepts, step_longer, Session, IsSound, IsFresh}
-use Rattle.std.proofs.Common.{rules}
 
 pub accepted_longer : (old new : State) (asked : Request) → Accepts old asked new → length old.history ≤ length new.history
 accepted_longer old new asked accepts = let l = step_longer old.base old.history new.history asked.call accepts.step in omega arith

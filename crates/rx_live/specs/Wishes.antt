@@ -9,7 +9,6 @@ use Rattle.rx_scenario.specs.Scenario.{Command, using, open_node, hold, apply, r
 use Rattle.rx_scenario.specs.Scenario.{make_hub, connect, disconnect, drain, checkpoint}
 use Rattle.rx_book.specs.declared.answer.At.{At}
 use Rattle.rx_book.specs.declared.answer.At.TheVariants.{Root as AtRoot, Source as AtSource, Inner as AtInner, Notifier as AtNotifier}
-use Rattle.rx_book.specs.declared.call.Call.{Call}
 use Rattle.rx_book.specs.declared.call.Call.TheVariants.{Open, Next, End, Abort, Decline, Fail, Dispose, Apply, Remove, Lease, GiveBack}
 use Rattle.rx_book.specs.declared.call.Call.TheVariants.{Hub, Connect, Disconnect}
 use Rattle.rx_book.specs.Answers.{connection_made}

@@ -1,4 +1,4 @@
-use Rattle.rx_live.proofs.Common.{◌≡◌, ◌∙◌, Bool, Option, Some, false, sym, refl, subst, name_of, session_of, lease_of, FreesLease, GivesBy, Wish, Asked}
+use Rattle.rx_live.proofs.Common.{◌≡◌, ◌∙◌, Option, Some, false, sym, refl, subst, name_of, session_of, lease_of, FreesLease, GivesBy, Wish, Asked}
 use Rattle.rx_live.proofs.Common.{ap, option_map, Accepted}
 use Rattle.rx_book.specs.State.{has_lease_key}
 use Rattle.rx_book.specs.declared.call.Call.TheVariants.{GiveBack}
