@@ -1,9 +1,9 @@
-//! Work that is put in and taken out, whatever keeps it.
+//! The cases `timeline` and `trampoline`: work that is put in and taken out.
 
-ghost use Rattle.std.specs.Prelude.{◌≡◌, ◌+◌, ◌*◌, ◌^◌, ◌<◌, ◌≤◌, ℕ, OnOk, IfOk, MatchOption};
+ghost use Rattle.std.specs.Prelude.{◌≡◌, ◌+◌, ◌*◌, ◌^◌, ◌<◌, ◌≤◌, ℕ, length, OnOk, IfOk, MatchOption};
 
 use crate::done::{Done, Halt};
-use crate::order::Order;
+use rx_time::{Timeline, Trampoline};
 use std::alloc::Global;
 
 /// What keeps entries, and hands them out in an order of its own.
@@ -23,6 +23,74 @@ pub trait Agenda: Drop {
     fn take(&mut self) -> Result<Option<u64>, Halt>
         ensures { IfOk result (λ taken. MatchOption taken
             ((left self.old ≡ 0) × (left self.new ≡ 0)) (λ _. left self.new + 1 ≡ left self.old)) };
+}
+
+/// It has a ticket for each entry, so that it refuses one only for want of memory.
+impl Agenda for Timeline<u64> {
+    ghost left = { λ t. length t.work };
+
+    fn empty(alloc: Global) -> Self {
+        Timeline::new(alloc)
+    }
+
+    fn put(&mut self, due: u64, number: u64) -> Result<(), Halt> {
+        match self.schedule(due, number) {
+            Ok(_) => Ok(()),
+            Err(_back) => Err(Halt::Memory),
+        }
+    }
+
+    fn take(&mut self) -> Result<Option<u64>, Halt> {
+        if self.is_empty() {
+            return Ok(None);
+        }
+        match self.next_until(u64::MAX) {
+            Some((_due, number)) => Ok(Some(number)),
+            None => Err(Halt::Refused),
+        }
+    }
+}
+
+/// A trampoline knows no due times: an entry's is its item.
+impl Agenda for Trampoline<u64> {
+    ghost left = { λ t. length t };
+
+    fn empty(alloc: Global) -> Self {
+        Trampoline::new(alloc)
+    }
+
+    fn put(&mut self, due: u64, _number: u64) -> Result<(), Halt> {
+        match self.push(due) {
+            Ok(()) => Ok(()),
+            Err(_back) => Err(Halt::Memory),
+        }
+    }
+
+    fn take(&mut self) -> Result<Option<u64>, Halt> {
+        Ok(self.next())
+    }
+}
+
+/// How the due times follow one another.
+#[derive(Clone, Copy)]
+enum Order {
+    /// Each before the one that was scheduled before it.
+    Falling,
+    /// Each after the one that was scheduled before it.
+    Rising,
+    /// All at one time.
+    Equal,
+}
+
+impl Order {
+    /// When the entry of this number is due, of so many that are counted from 0.
+    fn due(self, number: u64, count: u64) -> u64 {
+        match self {
+            Order::Falling => count.saturating_sub(number),
+            Order::Rising => number,
+            Order::Equal => 0,
+        }
+    }
 }
 
 /// Puts in the numbers from 0 up to a count.

@@ -1,9 +1,8 @@
-//! The cases, and their names.
+//! The cases, their words and their sizes.
 
-ghost use Rattle.std.specs.Prelude.{◌≤◌};
-ghost use Rattle.rx_bench.specs.Cases.{most_of};
+ghost use Rattle.std.specs.Prelude.{◌<◌, ◌≤◌};
 
-use crate::shapes::{SHAPES, Shape};
+use crate::shapes::Shape;
 
 /// What can be measured. The operations of each are in the crate's head.
 #[derive(Clone, Copy)]
@@ -12,8 +11,6 @@ pub enum Case {
     Timeline,
     /// A trampoline: the same work pushed, and drained.
     Trampoline,
-    /// A sorted list in place of the timeline, to compare it with.
-    Sorted,
     /// Subscriptions that come and go on a book.
     Cycle,
     /// Subscriptions that come and go on a book in which others stay open.
@@ -36,105 +33,115 @@ pub enum Case {
     CheckpointShort,
     /// A scenario in JSON, run over memory.
     Scenario,
+    /// Threads at one desk.
+    Storm,
     /// The audit of a history of a shape.
     Audit(Shape),
     /// The reading of its dump by serde_json alone.
     Json(Shape),
-    /// Threads at one desk.
-    Storm,
-    /// Threads at one desk, with 16 items of a source under one lock, to compare it with.
-    StormBatches,
 }
 
-/// What the word begins with that asks for the audit of a history.
-const AUDIT: &str = "audit-";
-
-/// What the word begins with that asks for the reading of its dump.
-const JSON: &str = "json-";
-
 impl Case {
-    /// The word that asks for the case, in two parts.
-    pub fn name(self) -> (&'static str, &'static str) {
-        match self {
-            Case::Timeline => ("", "timeline"),
-            Case::Trampoline => ("", "trampoline"),
-            Case::Sorted => ("", "sorted"),
-            Case::Cycle => ("", "cycle"),
-            Case::Crowd => ("", "crowd"),
-            Case::Items => ("", "items"),
-            Case::Chain => ("", "chain"),
-            Case::Inner => ("", "inner"),
-            Case::Share => ("", "share"),
-            Case::Hold => ("", "hold"),
-            Case::Lease => ("", "lease"),
-            Case::Checkpoint => ("", "checkpoint"),
-            Case::CheckpointShort => ("", "checkpoint-short"),
-            Case::Scenario => ("", "scenario"),
-            Case::Audit(shape) => (AUDIT, shape.name()),
-            Case::Json(shape) => (JSON, shape.name()),
-            Case::Storm => ("", "storm"),
-            Case::StormBatches => ("", "storm-batches"),
-        }
-    }
-
     /// The greatest size that the case is run at.
-    pub fn most(self) -> u64
-        ensures { result ≤ most_of self }
+    fn most(self) -> u64
+        ensures { result ≤ 10000000 }
     {
         match self {
             Case::Timeline | Case::Trampoline | Case::Cycle | Case::Items => 10_000_000,
-            Case::Sorted | Case::Crowd | Case::Inner | Case::Share | Case::Hold | Case::Lease =>
-                1_000_000,
-            Case::Audit(_) | Case::Json(_) => 1_000_000,
             Case::Chain | Case::Checkpoint | Case::CheckpointShort => 100_000,
             Case::Scenario => 65_536,
-            Case::Storm | Case::StormBatches => 10_000,
+            Case::Storm => 10_000,
+            _ => 1_000_000,
         }
     }
 }
 
-/// All of them but those of a shape.
-static CASES: [Case; 16] = [
-    Case::Timeline,
-    Case::Trampoline,
-    Case::Sorted,
-    Case::Cycle,
-    Case::Crowd,
-    Case::Items,
-    Case::Chain,
-    Case::Inner,
-    Case::Share,
-    Case::Hold,
-    Case::Lease,
-    Case::Checkpoint,
-    Case::CheckpointShort,
-    Case::Scenario,
-    Case::Storm,
-    Case::StormBatches,
+/// Of each case its word, and the small size at which the gate runs it.
+pub static CASES: [(&str, Case, u64); 30] = [
+    ("timeline", Case::Timeline, 2),
+    ("trampoline", Case::Trampoline, 1),
+    ("cycle", Case::Cycle, 3),
+    ("crowd", Case::Crowd, 3),
+    ("items", Case::Items, 3),
+    ("chain", Case::Chain, 3),
+    ("inner", Case::Inner, 3),
+    // The observers 1, 3 and 4 leave in that order, and of the next three, 11, 13 and 14, the newest first.
+    ("share", Case::Share, 3),
+    // The resources 1 and 3 are removed, and then 0 and 2 are closed with their node. The first that waits is
+    // handed out first: 1, 3, 0, 2, whose mark is ((2 * 31 + 4) * 31 + 1) * 31 + 3.
+    ("hold", Case::Hold, 4),
+    // The numbers of the resources, 1 to 4.
+    ("lease", Case::Lease, 4),
+    // After 400 events, and after 4.
+    ("checkpoint", Case::Checkpoint, 4),
+    ("checkpoint-short", Case::CheckpointShort, 4),
+    ("scenario", Case::Scenario, 12),
+    // The mark of the figures: 64 accepted, taken and released, 128 notes, 448 events.
+    ("storm", Case::Storm, 1),
+    ("audit-roots", Case::Audit(Shape::Roots), 40),
+    ("json-roots", Case::Json(Shape::Roots), 40),
+    ("audit-cycle", Case::Audit(Shape::Cycle), 40),
+    ("json-cycle", Case::Json(Shape::Cycle), 40),
+    ("audit-chain", Case::Audit(Shape::Chain), 40),
+    ("json-chain", Case::Json(Shape::Chain), 40),
+    ("audit-resources", Case::Audit(Shape::Resources), 40),
+    ("json-resources", Case::Json(Shape::Resources), 40),
+    ("audit-flat", Case::Audit(Shape::Flat), 40),
+    ("json-flat", Case::Json(Shape::Flat), 40),
+    ("audit-until", Case::Audit(Shape::Until), 40),
+    ("json-until", Case::Json(Shape::Until), 40),
+    ("audit-subscribers", Case::Audit(Shape::Subscribers), 40),
+    ("json-subscribers", Case::Json(Shape::Subscribers), 40),
+    ("audit-hub-items", Case::Audit(Shape::HubItems), 40),
+    ("json-hub-items", Case::Json(Shape::HubItems), 40),
 ];
 
-/// The shape of this name, or `None` where no shape has it.
-fn shape_named(word: &str) -> Option<Shape> {
-    for &shape in &SHAPES {
-        if shape.name() == word {
-            return Some(shape);
-        }
-    }
-    None
+/// A case at a size, which is at least 1, and at most the greatest that it is run at.
+#[derive(Clone, Copy)]
+pub struct Request {
+    pub case: Case,
+    pub size: u64,
+    ghost from_one: { 0 < size },
+    ghost in_range: { size ≤ 10000000 },
 }
 
-/// The case of this name, or `None` where no case has it.
-pub fn case_named(word: &str) -> Option<Case> {
-    if let Some(shape) = word.strip_prefix(AUDIT) {
-        return Some(Case::Audit(shape_named(shape)?));
+impl Request {
+    /// What asks for this case at this size, or `None` where the case is not run at it.
+    pub fn of(case: Case, size: u64) -> Option<Request> {
+        if size == 0 {
+            return None;
+        }
+        if size > case.most() {
+            return None;
+        }
+        Some(Request { case, size })
     }
-    if let Some(shape) = word.strip_prefix(JSON) {
-        return Some(Case::Json(shape_named(shape)?));
-    }
-    for &case in &CASES {
-        if case.name().1 == word {
-            return Some(case);
+}
+
+/// What the words after the program's name ask for: the case of the first at the size of the second; or why they
+/// are refused, by the first of these causes in this order.
+pub fn asked_by(words: &[String]) -> Result<Request, &'static str> {
+    let Some(word) = words.get(1) else {
+        return Err("no case is named");
+    };
+    for &(name, case, _) in &CASES {
+        if name == word.as_str() {
+            return sized(words, case);
         }
     }
-    None
+    Err("there is no such case")
+}
+
+/// The request of this case, whose size the words have in the third place.
+fn sized(words: &[String], case: Case) -> Result<Request, &'static str> {
+    let Some(size) = words.get(2) else {
+        return Err("the case has no size");
+    };
+    if words.len() > 3 {
+        return Err("there are too many words");
+    }
+    let Ok(size) = size.parse::<u64>() else {
+        return Err("the size is no number below 2^64");
+    };
+    Request::of(case, size).ok_or("the size is out of the range of the case")
 }

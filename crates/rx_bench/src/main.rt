@@ -12,8 +12,6 @@
 //! - `timeline`: N entries scheduled on a timeline in falling, rising and equal order, and taken out.
 //!   6N: each call.
 //! - `trampoline`: the same on a trampoline. 6N: each call.
-//! - `sorted`: the same on a sorted list, which stands here to be compared with the timeline. 6N: each
-//!   call.
 //! - `cycle`: a Using subscription opened with one resource and a leaf below it, one item, the disposal,
 //!   the resource taken and released, the note taken; N times on one book, with a new one where its
 //!   history is full. N: each cycle.
@@ -35,24 +33,20 @@
 //! - `lease`: N resources held at one node; each is leased, used and given back, one after another; the
 //!   disposal of the root, each resource taken and released. N: each lease that comes and goes.
 //! - `checkpoint`: one checkpoint of a book in which N subscriptions are open, and which has had 100N
-//!   events. Those are made before the time begins. Beside it, in the same call, the next one is
-//!   measured. N: each open node.
+//!   events. Those are made before the time begins. N: each open node.
 //! - `checkpoint-short`: the same of a book which has had N events, the openings alone. N: each open
 //!   node.
 //! - `scenario`: the first N steps of this cycle, as a JSON text that is run by `rx_script` and
 //!   reported: a Using root with one resource, a leaf at its source, two items, the end of the leaf or
 //!   in each second cycle the disposal of the root, a drain. The text and the resources are made before
 //!   the time begins. N: each step.
-//! - `audit-SHAPE`: the audit of a lawful history of N events of one of twelve shapes: `roots`, `items`,
-//!   `cycle`, `chain`, `resources`, `flat`, `switch`, `until`, `subscribers`, `hub-end`, `hubs`,
-//!   `hub-items`; N is at least 40. The history is made before the time begins. Beside it, in the same
-//!   call, the next one is measured. N: each event.
+//! - `audit-SHAPE`: the audit of a lawful history of N events of one of the shapes of `shapes.rt`: `roots`,
+//!   `cycle`, `chain`, `resources`, `flat`, `until`, `subscribers`, `hub-items`; N is at least 40. The history is
+//!   made before the time begins. N: each event.
 //! - `json-SHAPE`: serde_json's own reading of the dump of that history. The text is made before the
 //!   time begins. N: each event.
-//! - `storm`: a storm of 64 sources, 16 workers and N items of each source, each item under a lock of its own,
-//!   with its start, its end and its figures. Beside it, in the same call, the next one is measured. 64N: each
-//!   item.
-//! - `storm-batches`: the same with 16 items of a source under one lock. 64N: each item.
+//! - `storm`: a storm of 64 sources, 16 workers and N items of each source, with its start, its end and its
+//!   figures. 64N: each item.
 //!
 //! The exit status is 0 where the case was run and what it did is written, 1 where memory, a call,
 //! the clock or the output refused, and 2 where the words are refused: a case that is not known, a
@@ -74,36 +68,21 @@ mod agenda;
 mod audit;
 mod calls;
 mod case;
-mod chain;
 mod checkpoint;
-mod crowd;
-mod cycle;
 mod done;
-mod hold;
-mod inner;
-mod items;
-mod json;
-mod lease;
 mod material;
 mod measure;
-mod order;
 mod program;
-mod reading;
+mod resources;
 mod samples;
 mod scenario;
 mod shapes;
-mod share;
-mod sorted;
 mod storm;
-mod timeline;
-mod times;
-mod trampoline;
+mod subscriptions;
 mod turns;
-mod words;
 
 use program::{REFUSED, serve};
 use std::env::Env;
-use std::io::Write;
 use std::process::ExitCode;
 use std::{env, io};
 
@@ -113,18 +92,9 @@ fn gather<R: Env + AllocGlobal>(rt: &R) -> io::Result<Vec<String>> {
 }
 
 fn main(rt: HostRuntime) -> ExitCode {
-    let mut errors = rt.stderr();
     let Ok(words) = gather(&rt) else {
-        let _ = errors.write_all(b"rx_bench: the words could not be read\n");
+        let _ = eprintln!(rt; "rx_bench: the words could not be read");
         return ExitCode::from(REFUSED);
     };
-    let mut output = io::writer(&rt);
-    ExitCode::from(serve(
-        &rt,
-        rt.alloc(),
-        words.as_slice(),
-        &rt,
-        &mut output,
-        &mut errors,
-    ))
+    ExitCode::from(serve(&rt, rt.alloc(), words.as_slice()))
 }

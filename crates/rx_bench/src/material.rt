@@ -2,14 +2,12 @@
 
 ghost use Rattle.std.specs.Prelude.{◌≡◌, IfOk};
 
-use crate::audit::run_audit;
-use crate::case::Case;
+use crate::audit::{dump_of, run_audit, run_json};
+use crate::case::{Case, Request};
 use crate::checkpoint::{crowded, run_checkpoint};
 use crate::done::{Done, Halt};
-use crate::json::{dump_of, run_json};
 use crate::scenario::{run_scenario, stock_of, text_of};
 use crate::shapes::history;
-use crate::words::Request;
 use rx_book::Book;
 use rx_event::Event;
 use rx_resource::Sample;

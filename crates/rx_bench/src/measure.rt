@@ -5,22 +5,13 @@ ghost use Rattle.std.specs.Duration.{as_nanos};
 ghost use Rattle.rx_bench.specs.Cases.{operations_of};
 
 use crate::agenda::run_orders;
-use crate::case::Case;
-use crate::chain::Chain;
-use crate::crowd::Crowd;
-use crate::cycle::Cycles;
+use crate::case::{Case, Request};
 use crate::done::{Done, Halt};
-use crate::hold::Waiting;
-use crate::inner::Merging;
-use crate::items::Emitter;
-use crate::lease::Held;
 use crate::material::Material;
-use crate::share::Sharing;
-use crate::sorted::SortedList;
+use crate::resources::{Held, Waiting};
 use crate::storm::run_storm;
-use crate::times::{RUNS, Summary, summarize};
+use crate::subscriptions::{Chain, Crowd, Cycles, Emitter, Merging, Sharing};
 use crate::turns::run_work;
-use crate::words::Request;
 use rx_book::Book;
 use rx_resource::Sample;
 use rx_time::{Timeline, Trampoline};
@@ -28,6 +19,9 @@ use std::alloc::Global;
 use std::sync::Wait;
 use std::thread::Threads;
 use std::time::{Clock, Duration, Instant};
+
+/// How often a case is run.
+pub const RUNS: usize = 5;
 
 /// Runs a case once on this book.
 fn run_on(alloc: Global, book: &mut Book<Sample>, request: Request) -> Result<Done, Halt>
@@ -56,8 +50,8 @@ fn run_on_book(alloc: Global, request: Request) -> Result<Done, Halt>
 }
 
 /// Runs a case once, over what is made before.
-pub fn run<T: Threads + Wait + Sync>(
-    rt: &T,
+pub fn run<R: Threads + Wait + Sync>(
+    rt: &R,
     alloc: Global,
     request: Request,
     material: Material,
@@ -67,14 +61,12 @@ pub fn run<T: Threads + Wait + Sync>(
     match request.case {
         Case::Timeline => run_orders::<Timeline<u64>>(alloc, request.size),
         Case::Trampoline => run_orders::<Trampoline<u64>>(alloc, request.size),
-        Case::Sorted => run_orders::<SortedList>(alloc, request.size),
         Case::Scenario => material.run(alloc, request.size),
         Case::Audit(_) => material.run(alloc, request.size),
         Case::Json(_) => material.run(alloc, request.size),
         Case::Checkpoint => material.run(alloc, request.size),
         Case::CheckpointShort => material.run(alloc, request.size),
-        Case::Storm => run_storm(rt, alloc, request.size, false),
-        Case::StormBatches => run_storm(rt, alloc, request.size, true),
+        Case::Storm => run_storm(rt, alloc, request.size),
         _ => run_on_book(alloc, request),
     }
 }
@@ -88,45 +80,44 @@ fn tenths_each(took: Duration, operations: u64) -> u64
     u64::try_from(tenths).unwrap_or(u64::MAX)
 }
 
-/// Runs a case once by this clock, and answers what it did and what an operation took. The making of
+/// Runs a case once by the clock, and answers what it did and what an operation took. The making of
 /// what it is run over is not timed.
-fn time_run<T: Threads + Wait + Sync, C: Clock>(
-    rt: &T,
-    clock: &C,
+fn time_run<R: Threads + Wait + Sync + Clock>(
+    rt: &R,
     alloc: Global,
     request: Request,
 ) -> Result<(Done, u64), Halt>
     ensures { IfOk result (λ r. r.0.operations ≡ operations_of request.case request.size) }
 {
     let material = Material::of(alloc, request)?;
-    let Ok(start) = Instant::now(clock) else {
+    let Ok(start) = Instant::now(rt) else {
         return Err(Halt::Clock);
     };
     let done = run(rt, alloc, request, material)?;
-    match start.elapsed(clock) {
+    match start.elapsed(rt) {
         Ok(took) => Ok((done, tenths_each(took, done.operations))),
         Err(_) => Err(Halt::Clock),
     }
 }
 
-/// Runs a case [`RUNS`] times by this clock, and answers what each run did, which is the same, and the
-/// tenths of a nanosecond that an operation took in them.
-pub fn measure<T: Threads + Wait + Sync, C: Clock>(
-    rt: &T,
-    clock: &C,
+/// Runs a case [`RUNS`] times by the clock, and answers what each run did, which is the same, and the
+/// tenths of a nanosecond that an operation took in them, in rising order.
+pub fn measure<R: Threads + Wait + Sync + Clock>(
+    rt: &R,
     alloc: Global,
     request: Request,
-) -> Result<(Done, Summary), Halt>
+) -> Result<(Done, [u64; RUNS]), Halt>
     ensures { IfOk result (λ m. m.0.operations ≡ operations_of request.case request.size) }
 {
-    let (done, first) = time_run(rt, clock, alloc, request)?;
+    let (done, first) = time_run(rt, alloc, request)?;
     let mut times = [first; RUNS];
     for i in 1..RUNS {
-        let (again, time) = time_run(rt, clock, alloc, request)?;
+        let (again, time) = time_run(rt, alloc, request)?;
         if again != done {
             return Err(Halt::Differs);
         }
         times[i] = time;
     }
-    Ok((done, summarize(&mut times)))
+    times.sort_unstable();
+    Ok((done, times))
 }

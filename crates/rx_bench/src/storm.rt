@@ -1,4 +1,4 @@
-//! The cases `storm` and `storm-batches`: threads at one desk.
+//! The case `storm`: threads at one desk.
 
 ghost use Rattle.std.specs.Prelude.{◌≡◌, ◌≤◌, ◌*◌, IfOk};
 
@@ -6,7 +6,7 @@ use crate::done::{Done, Halt, mark_of};
 use crate::samples::samples;
 use rx_crew::Gate;
 use rx_device::Watched;
-use rx_storm::{StormFault, storm, storm_in_batches};
+use rx_storm::{StormFault, storm};
 use std::alloc::Global;
 use std::sync::Wait;
 use std::thread::Threads;
@@ -41,41 +41,25 @@ fn done(answer: Result<bool, StormFault>, items: u64, text: &[u8]) -> Result<Don
     }
 }
 
-/// A storm with so many items of each source, each under a lock of its own, or 16 under one lock: an operation each.
-pub fn run_storm<T: Threads + Wait + Sync>(
-    rt: &T,
-    alloc: Global,
-    items: u64,
-    in_batches: bool,
-) -> Result<Done, Halt>
-    requires { items ≤ 10000 }
+/// A storm with so many items of each source, an operation each; it is not run with more than 10,000.
+pub fn run_storm<T: Threads + Wait + Sync>(rt: &T, alloc: Global, items: u64) -> Result<Done, Halt>
     ensures { IfOk result (λ done. done.operations ≡ 64 * items) }
 {
+    if items > 10_000 {
+        return Err(Halt::Refused);
+    }
     let stock = samples(alloc, SOURCES)?;
     let mut text = Vec::new(alloc);
     let mut writer = Watched::new(&mut text);
-    let run = if in_batches {
-        storm_in_batches(
-            rt,
-            alloc,
-            SOURCES,
-            WORKERS,
-            items,
-            stock,
-            &Open,
-            &mut writer,
-        )
-    } else {
-        storm(
-            rt,
-            alloc,
-            SOURCES,
-            WORKERS,
-            items,
-            stock,
-            &Open,
-            &mut writer,
-        )
-    };
+    let run = storm(
+        rt,
+        alloc,
+        SOURCES,
+        WORKERS,
+        items,
+        stock,
+        &Open,
+        &mut writer,
+    );
     done(run, items, &text)
 }
