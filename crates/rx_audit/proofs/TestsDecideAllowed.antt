@@ -15,7 +15,6 @@ use Rattle.rx_event.specs.Events.{has_source, is_leaf, is_root, is_manual_hub}
 use Rattle.rx_event.specs.Allowed.{most_nodes, most_hubs, IsInOrderAt, IsInOrder, may_abort, opened, published, connected, used, removed, leased, returned}
 use Rattle.rx_event.specs.Allowed.{emitted, declined, leaf_ended, aborted, projection_failed, root_closed, disconnected, taken}
 use Rattle.rx_audit.specs.Allowing.{is_in_order, is_hubbed, is_free, failure_allowed, failing_allowed, end_allowed, close_allowed, connect_allowed}
-use Rattle.rx_audit.specs.Allowing.{decline_allowed}
 use Rattle.rx_audit.proofs.TestsDecideRules.{connection_at, at_connection, filter_none, none_filtered, connected_key}
 use Rattle.rx_audit.proofs.Due.{child_closed, no_child_open}
 use Rattle.std.proofs.Common.{rules}
@@ -114,13 +113,11 @@ connect_may_of : (h : List Event) (g : ℕ) → IsAllowed nothing_kept h (Connec
 unfolding connect_allowed most_nodes
 connect_may_of h g (connected m none few) = search (rules, and_from, not, nat_lt, length, not_from_false, connected_key, none_filtered, lt-ltb)
 
-decline_may : (h : List Event) (f : ℕ) → decline_allowed h f ≡ true → IsAllowed nothing_kept h (Decline f)
-unfolding decline_allowed
+decline_may : (h : List Event) (f : ℕ) → (is_open h f && at is_merging h f && is_owing h f) ≡ true → IsAllowed nothing_kept h (Decline f)
 decline_may h f e = let a = and_parts (is_open h f && at is_merging h f) (is_owing h f) e in
     let b = and_parts (is_open h f) (at is_merging h f) a.0 in declined b.0 b.1 (owes h f a.1)
 
-decline_may_of : (h : List Event) (f : ℕ) → IsAllowed nothing_kept h (Decline f) → decline_allowed h f ≡ true
-unfolding decline_allowed
+decline_may_of : (h : List Event) (f : ℕ) → IsAllowed nothing_kept h (Decline f) → (is_open h f && at is_merging h f && is_owing h f) ≡ true
 decline_may_of h f (declined o m w) = and_from (is_open h f && at is_merging h f) (is_owing h f) (and_from _ _ o m) (is_owed h f w)
 
 hub_may : (h : List Event) (mode : Mode) → nat_lt (length (hubs h)) 1024 ≡ true → IsAllowed nothing_kept h (Hub mode)

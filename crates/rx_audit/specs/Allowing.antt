@@ -1,21 +1,14 @@
 -- What callers may do, as tests that compute.
-use Rattle.std.specs.Prelude.{ℕ, ◌+◌, ◌==◌, Bool, true, false, ◌&&◌, ◌||◌, List, length, nat_lt, nat_le}
-use Rattle.std.proofs.Math.Bool.{not}
-use Rattle.std.specs.List.{list_any, list_all}
-use Rattle.std.specs.Option.{option_map_or}
-use Rattle.rx_note.specs.declared.note.Terminal.{Terminal}
+use Rattle.std.specs.Prelude.{◌+◌, ◌==◌, ◌&&◌, ◌||◌, nat_le}
+use Rattle.rx_audit.specs.Imports.{ℕ, Bool, true, false, List, length, nat_lt, not, list_any, list_all, option_map_or, Terminal, Event, Open, Hub}
+use Rattle.rx_audit.specs.Imports.{Connect, Accept, Use, Remove, Lease, Return, Item, Decline, End, Close, Take, makes_hub, has_source, is_leaf}
+use Rattle.rx_audit.specs.Imports.{is_merging, is_until, is_root, is_manual_hub, is_auto_hub, hub_subscribed, is_source_of, is_notifier_of, at, hubs}
+use Rattle.rx_audit.specs.Imports.{is_open, open_nodes, ancestors, has_open_child, is_owned, is_out, is_held, is_waiting, visits}
 use Rattle.rx_note.specs.declared.note.Terminal.TheVariants.{Completed, Error}
 use Rattle.rx_event.specs.declared.event.Place.{Place}
 use Rattle.rx_event.specs.declared.event.Place.TheVariants.{Root, Source, Inner, Notifier}
 use Rattle.rx_event.specs.declared.event.Kind.{Kind}
 use Rattle.rx_event.specs.declared.event.Kind.TheVariants.{Pass, Sub}
-use Rattle.rx_event.specs.declared.event.Event.{Event}
-use Rattle.rx_event.specs.declared.event.Event.TheVariants.{Open, Hub, Connect, Accept, Use, Remove, Lease, Return, Item, Decline, End, Close, Take}
-use Rattle.rx_event.specs.Events.{makes_hub, has_source, is_leaf, is_merging, is_until, is_root}
-use Rattle.rx_event.specs.Events.{is_manual_hub, is_auto_hub, hub_subscribed, is_source_of, is_notifier_of}
-use Rattle.rx_event.specs.Tree.{at, hubs, is_open, open_nodes, ancestors, has_open_child}
-use Rattle.rx_event.specs.Resources.{is_owned, is_out, is_held, is_waiting}
-use Rattle.rx_event.specs.Climb.{visits}
 use Rattle.rx_audit.specs.Rules.{hub_connected_at, has_key, open_connected, is_owing}
 
 abbrev pub connects_later : List Event → ℕ → ℕ → Bool
@@ -58,9 +51,6 @@ unfoldable pub connect_allowed : List Event → ℕ → Bool
 connect_allowed h g =
     at is_manual_hub h g && not (has_key (open_connected h) h g) && nat_lt (length (open_nodes h)) 1048576
 
-unfoldable pub decline_allowed : List Event → ℕ → Bool
-decline_allowed h f = is_open h f && at is_merging h f && is_owing h f
-
 abbrev pub allowed_simply : List Event → Event → Bool
 allowed_simply h (Hub mode) = nat_lt (length (hubs h)) 1024
 allowed_simply h (Connect g) = connect_allowed h g
@@ -69,7 +59,7 @@ allowed_simply h (Use r) = is_held h r
 allowed_simply h (Remove r) = is_owned h r
 allowed_simply h (Lease r) = is_owned h r
 allowed_simply h (Return l) = is_out h l
-allowed_simply h (Decline f) = decline_allowed h f
+allowed_simply h (Decline f) = is_open h f && at is_merging h f && is_owing h f
 allowed_simply h (End n t) = end_allowed h n t
 allowed_simply h (Close n) = close_allowed h n
 allowed_simply h (Take r) = is_waiting h r

@@ -1,9 +1,6 @@
 -- The list of the nodes that may have to end or to close. No public clause cites this module.
-use Rattle.std.specs.Prelude.{◌≡◌, ℕ, suc, Bool, true, ◌&&◌, ◌||◌, Option, Some, List, slice_index_or}
-use Rattle.std.specs.Option.{option_and_then}
-use Rattle.rx_event.specs.declared.event.Event.{Event}
-use Rattle.rx_event.specs.Events.{is_subscriber_of}
-use Rattle.rx_event.specs.Tree.{at, is_open}
+use Rattle.std.specs.Prelude.{◌≡◌, ◌&&◌, ◌||◌, slice_index_or}
+use Rattle.rx_audit.specs.Imports.{ℕ, suc, Bool, true, Option, Some, List, option_and_then, Event, is_subscriber_of, at, is_open}
 use Rattle.rx_audit.specs.Latest.{IsNoted}
 use Rattle.rx_audit.specs.HubTables.{number_of}
 use Rattle.rx_audit.specs.Marking.{node_due}

@@ -1,8 +1,6 @@
 -- How much flows up from a node: the law on which counting visits by node stands.
-use Rattle.std.specs.Prelude.{◌≡◌, ℕ, zero, suc, ◌+◌, ◌*◌, ◌<◌, ◌≤◌, Some, List, slice_get, sum_by}
-use Rattle.rx_event.specs.declared.event.Event.{Event}
-use Rattle.rx_event.specs.Climb.{onward, climb, visits}
-use Rattle.rx_audit.specs.declared.reach.Visit.{Visit}
+use Rattle.std.specs.Prelude.{◌≡◌, ◌+◌, ◌*◌, ◌<◌, ◌≤◌}
+use Rattle.rx_audit.specs.Imports.{ℕ, zero, suc, Some, List, slice_get, sum_by, Event, onward, climb, visits, Visit}
 
 -- the sum of a number for each node that is visited from n, each as often as it is reached,
 -- as far as so many steps lead

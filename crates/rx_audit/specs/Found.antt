@@ -1,11 +1,6 @@
 -- What was found of a list of events.
-use Rattle.std.specs.Prelude.{◌≡◌, ℕ, ◌≤◌, ℤ, List, length, slice_index_or}
-use Rattle.rx_event.specs.declared.event.Event.{Event}
-use Rattle.rx_event.specs.declared.event.Event.TheVariants.{Item}
-use Rattle.rx_event.specs.Tree.{is_open}
-use Rattle.rx_event.specs.Resources.{leases_of}
-use Rattle.rx_audit.specs.declared.found.Found.{Found}
-use Rattle.rx_audit.specs.declared.reach.Visit.{Visit}
+use Rattle.std.specs.Prelude.{◌≡◌, ◌≤◌, slice_index_or}
+use Rattle.rx_audit.specs.Imports.{ℕ, ℤ, List, length, Event, Item, is_open, leases_of, Found, Visit}
 use Rattle.rx_audit.specs.Flow.{IsReached}
 use Rattle.rx_audit.specs.Tables.{IsMarked, IsTable, IsTally, mark_count}
 use Rattle.rx_audit.specs.Rules.{was_removed, was_returned, was_taken}

@@ -1,19 +1,11 @@
 -- What is kept of the hubs, and of the open subscribers of each. No public clause cites this module.
-use Rattle.std.specs.Prelude.{◌≡◌, ℕ, zero, suc, Bool, false, ◌&&◌, ◌||◌, Option, Some, None, List, length, slice_get, slice_index_or, ◌<◌, ◌≤◌, true}
-use Rattle.std.specs.Prelude.{if◌then◌else◌}
-use Rattle.std.proofs.Math.Bool.{not}
-use Rattle.std.specs.Option.{option_and_then, option_map_or}
-use Rattle.rx_note.specs.declared.note.Terminal.{Terminal}
-use Rattle.rx_event.specs.declared.event.Event.{Event}
-use Rattle.rx_event.specs.declared.event.Event.TheVariants.{Connect, End, Close}
-use Rattle.rx_event.specs.Sames.{same_terminal}
-use Rattle.rx_event.specs.Tree.{hubs, is_open, at}
-use Rattle.rx_event.specs.Forced.{IsConnectDue}
+use Rattle.std.specs.Prelude.{◌≡◌, ◌&&◌, ◌||◌, slice_index_or, ◌<◌, ◌≤◌, if◌then◌else◌}
+use Rattle.rx_audit.specs.Imports.{ℕ, zero, suc, Bool, false, Option, Some, None, List, length, slice_get, true, not, option_and_then, option_map_or}
+use Rattle.rx_audit.specs.Imports.{Terminal, Event, Connect, End, Close, same_terminal, hubs, is_open, at, IsConnectDue, is_subscriber_of}
 use Rattle.rx_audit.specs.declared.hubs.Hubs.{Hubs}
 use Rattle.rx_audit.specs.Latest.{IsLatest, last_below, IsNoted}
 use Rattle.rx_audit.specs.Marking.{forced_end}
 use Rattle.rx_audit.specs.Rules.{hub_connected_at, hub_subscribed_at, hub_ended_at, is_cut, connect_due, any_connect_due, close_due}
-use Rattle.rx_event.specs.Events.{is_subscriber_of}
 use Rattle.rx_audit.specs.declared.subscribers.Subscribers.{Subscribers}
 
 -- the lists lead from each hub to its last connection and to the last end of one, no hub but that one waits, and there are so many

@@ -1,10 +1,7 @@
 -- The last number with a key, as tables tell it: one more than the number, and 0 where there is none.
-use Rattle.std.specs.Prelude.{◌≡◌, ℕ, zero, suc, ◌+◌, ◌≤◌, ◌<◌, Bool, true, false, Option, Some}
-use Rattle.std.specs.Prelude.{None, List, length, slice_get, slice_index_or, slice_set, if◌then◌else◌}
-use Rattle.std.specs.Option.{option_and_then}
-use Rattle.rx_event.specs.declared.event.Event.{Event}
-use Rattle.rx_event.specs.Events.{inner_named}
-use Rattle.rx_event.specs.Tree.{parent, is_open}
+use Rattle.std.specs.Prelude.{◌≡◌, ◌+◌, ◌≤◌, ◌<◌, slice_index_or, slice_set, if◌then◌else◌}
+use Rattle.rx_audit.specs.Imports.{ℕ, zero, suc, Bool, true, false, Option, Some, None, List, length, slice_get, option_and_then, Event, inner_named}
+use Rattle.rx_audit.specs.Imports.{parent, is_open}
 use Rattle.rx_audit.specs.declared.children.Children.{Children}
 use Rattle.rx_audit.specs.Tables.{mark_count}
 use Rattle.rx_audit.specs.Rules.{is_key, stays_open}

@@ -1,3 +1,4 @@
+pub mod Imports
 pub mod Tables
 pub mod Rules
 pub mod Found

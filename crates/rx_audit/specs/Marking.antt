@@ -1,20 +1,10 @@
 -- What each open node remembers, as the audit keeps it.
-use Rattle.std.specs.Prelude.{◌≡◌, ℕ, Bool, true, false, ◌&&◌, ◌||◌, Option, Some, None, List, slice_index_or}
-use Rattle.std.specs.Prelude.{slice_get, slice_set, is_some, MatchOption, length, sum_by, ◌+◌, ◌<◌, [], ◌∷◌, ◌++◌, if◌then◌else◌}
-use Rattle.std.specs.Option.{option_map_or, option_and_then}
-use Rattle.std.specs.List.{list_any}
-use Rattle.rx_event.specs.Kept.{nothing_kept}
-use Rattle.rx_event.specs.Climb.{stop_at}
+use Rattle.std.specs.Prelude.{◌≡◌, ◌&&◌, ◌||◌, slice_index_or, slice_set, is_some, MatchOption, ◌+◌, ◌<◌, ◌∷◌, ◌++◌, if◌then◌else◌}
+use Rattle.rx_audit.specs.Imports.{ℕ, Bool, true, false, Option, Some, None, List, slice_get, length, sum_by, [], option_map_or, option_and_then}
+use Rattle.rx_audit.specs.Imports.{list_any, nothing_kept, stop_at, Visit, Event, Open, End, Decline, Item, Terminal, same_terminal, named_by, is_item}
+use Rattle.rx_audit.specs.Imports.{parent, is_open, shuts, marks_of, blank_marks, terminal_due, touches, after_firing}
 use Rattle.rx_audit.specs.Rules.{fired_by, projected_by, is_key}
-use Rattle.rx_audit.specs.declared.reach.Visit.{Visit}
-use Rattle.rx_event.specs.declared.event.Event.{Event}
-use Rattle.rx_event.specs.declared.event.Event.TheVariants.{Open, End, Decline, Item}
-use Rattle.rx_note.specs.declared.note.Terminal.{Terminal}
-use Rattle.rx_event.specs.Sames.{same_terminal}
 use Rattle.rx_event.specs.declared.marks.Marks.{Marks}
-use Rattle.rx_event.specs.Events.{named_by, is_item}
-use Rattle.rx_event.specs.Tree.{parent, is_open, shuts}
-use Rattle.rx_event.specs.Marks.{marks_of, blank_marks, terminal_due, touches, after_firing}
 use Rattle.rx_audit.specs.Latest.{ShutsNone, IsShutAlone, IsNoted}
 
 -- the node whose marks the event changes, if it is no item

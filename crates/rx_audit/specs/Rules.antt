@@ -1,15 +1,9 @@
 -- The rules of histories as tests that compute.
-use Rattle.std.specs.Prelude.{ℕ, Bool, true, false, ◌==◌, ◌&&◌, Option, Some, None, List, length, slice_get, drop, suc, nat_lt, if◌then◌else◌}
-use Rattle.std.proofs.Math.Bool.{not}
-use Rattle.std.specs.List.{list_all, list_any}
-use Rattle.std.specs.Option.{option_and_then, option_map_or}
-use Rattle.rx_event.specs.Kept.{nothing_kept}
-use Rattle.rx_event.specs.declared.event.Event.{Event}
-use Rattle.rx_event.specs.declared.event.Event.TheVariants.{End}
-use Rattle.rx_event.specs.Climb.{Stop, Projection, Firing}
-use Rattle.rx_event.specs.Tree.{at, places, is_open, shuts, ancestors, if_less}
-use Rattle.rx_event.specs.Events.{makes_node, parent_named}
-use Rattle.rx_event.specs.Events.{removed_of, leased_of, returned_of, taken_of, hub_connected, hub_subscribed, is_auto_hub}
+use Rattle.std.specs.Prelude.{◌==◌, ◌&&◌, drop, if◌then◌else◌}
+use Rattle.rx_audit.specs.Imports.{ℕ, Bool, true, false, Option, Some, None, List, length, slice_get, suc, nat_lt, not, list_all, list_any}
+use Rattle.rx_audit.specs.Imports.{option_and_then, option_map_or, nothing_kept, Event, End, Stop, Projection, Firing, at, places, is_open, shuts}
+use Rattle.rx_audit.specs.Imports.{ancestors, if_less, makes_node, parent_named, removed_of, leased_of, returned_of, taken_of, hub_connected}
+use Rattle.rx_audit.specs.Imports.{hub_subscribed, is_auto_hub}
 use Rattle.rx_event.specs.Moments.{owed}
 
 -- the number is the one that was named, if one was

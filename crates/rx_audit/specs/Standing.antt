@@ -1,11 +1,7 @@
 -- What is found of a history, and what is kept of its nodes and hubs. No public clause cites this module.
-use Rattle.std.specs.Prelude.{◌≡◌, ℕ, ◌≤◌, Bool, List, [], ◌∷◌, ◌++◌, length}
-use Rattle.rx_event.specs.Kept.{nothing_kept}
-use Rattle.rx_event.specs.declared.event.Event.{Event}
-use Rattle.rx_event.specs.Tree.{is_open}
-use Rattle.rx_event.specs.Lawful.{IsLawful}
+use Rattle.std.specs.Prelude.{◌≡◌, ◌≤◌, ◌∷◌, ◌++◌}
+use Rattle.rx_audit.specs.Imports.{ℕ, Bool, List, [], length, nothing_kept, Event, is_open, IsLawful, Found}
 use Rattle.rx_audit.specs.declared.advance.Nodes.{Nodes}
-use Rattle.rx_audit.specs.declared.found.Found.{Found}
 use Rattle.rx_audit.specs.Found.{IsFoundHere}
 use Rattle.rx_audit.specs.Tables.{IsMarked}
 use Rattle.rx_audit.specs.Latest.{AreChildren}

@@ -1,9 +1,7 @@
 //! One event more: what is kept of the nodes and the hubs. Each event costs what it changes.
 
-ghost use Rattle.rx_event.specs.Kept.{nothing_kept};
-ghost use Rattle.std.specs.Prelude.{◌≡◌, ◌<◌, IfOk, OnOk, Some, None, [], ◌∷◌, ◌++◌, length};
-ghost use Rattle.rx_event.specs.Tree.{is_open};
-ghost use Rattle.rx_event.specs.Lawful.{IsLawful, MayFollow};
+ghost use Rattle.std.specs.Prelude.{◌≡◌, ◌<◌, IfOk, OnOk, ◌∷◌, ◌++◌};
+ghost use Rattle.rx_audit.specs.Imports.{nothing_kept, Some, None, [], length, is_open, IsLawful, MayFollow};
 ghost use Rattle.rx_audit.specs.Tables.{IsMarked, mark_count};
 ghost use Rattle.rx_audit.specs.Latest.{AreChildren, AreClosed};
 ghost use Rattle.rx_audit.specs.Flow.{IsReached};

@@ -1,29 +1,24 @@
 //! What callers may do.
 
-ghost use Rattle.std.specs.Prelude.{◌≡◌, ◌<◌, ◌&&◌, ◌||◌, IfOk, IsTrue, false, true, Some, None, nat_lt, length, slice_get};
-ghost use Rattle.std.specs.Option.{option_and_then};
-ghost use Rattle.std.proofs.Math.Bool.{not};
-ghost use Rattle.std.specs.List.{list_any};
-ghost use Rattle.rx_event.specs.Events.{has_source, is_leaf, is_merging, is_notifier_of, is_source_of, is_until, makes_lease, makes_resource, node_of_accept};
-ghost use Rattle.rx_event.specs.Kept.{nothing_kept};
-ghost use Rattle.rx_event.specs.Marks.{marks_of};
-ghost use Rattle.rx_event.specs.Tree.{at, is_open, open_nodes};
-ghost use Rattle.rx_event.specs.Resources.{is_owned, is_out, is_leased, is_held, is_waiting};
+ghost use Rattle.std.specs.Prelude.{◌≡◌, ◌<◌, ◌&&◌, ◌||◌, IfOk};
+ghost use Rattle.rx_audit.specs.Imports.{IsTrue, false, true, Some, None, nat_lt, length, slice_get, option_and_then, not, list_any, has_source};
+ghost use Rattle.rx_audit.specs.Imports.{is_leaf, is_merging, is_notifier_of, is_source_of, is_until, makes_lease, makes_resource, node_of_accept};
+ghost use Rattle.rx_audit.specs.Imports.{nothing_kept, marks_of, at, is_open, open_nodes, is_owned, is_out, is_leased, is_held, is_waiting};
 ghost use Rattle.rx_audit.specs.Found.{IsFoundHere};
 ghost use Rattle.rx_audit.specs.Standing.{IsKnown};
 ghost use Rattle.rx_audit.specs.Marking.{IsKept};
 ghost use Rattle.rx_audit.specs.HubTables.{AreLinked, AreOpenListed};
 ghost use Rattle.rx_audit.specs.Flow.{IsReached};
 ghost use Rattle.rx_audit.specs.Rules.{is_owing, was_removed, was_taken};
-ghost use Rattle.rx_audit.specs.Allowing.{connects_later, is_in_order_at, is_in_order, is_hubbed, is_free};
-ghost use Rattle.rx_audit.specs.Allowing.{failure_allowed, end_allowed, close_allowed, connect_allowed};
-ghost use Rattle.rx_audit.specs.Allowing.{decline_allowed, allowed_simply, item_allowed, open_allowed};
+ghost use Rattle.rx_audit.specs.Allowing.{connects_later, is_in_order_at, is_in_order, is_hubbed, is_free, failure_allowed, end_allowed, close_allowed};
+ghost use Rattle.rx_audit.specs.Allowing.{connect_allowed, allowed_simply, item_allowed, open_allowed};
 
 use crate::advance::Nodes;
+use crate::children::word_at;
 use crate::event_tests::at;
 use crate::forced::is_connected;
 use crate::found::Found;
-use crate::marks::{count_of, is_marked};
+use crate::marks::is_marked;
 use crate::nodes::marks_at;
 use crate::openness::parent_of;
 use crate::reach::{Climb, reached};
@@ -204,7 +199,7 @@ fn is_leased(past: &[Event], found: &Found, r: u64) -> bool
     if !is_resource(past, r) {
         return false;
     }
-    count_of(found.leases.as_slice(), r) > 0
+    word_at(&found.leases, r) > 0
 }
 
 /// Whether resource `r` is held.
@@ -284,7 +279,7 @@ pub fn is_allowed_simply(past: &[Event], found: &Found, nodes: &Nodes, event: Ev
         Event::Use(r) => is_held(past, found, r),
         Event::Remove(r) | Event::Lease(r) => is_owned(past, found, r),
         Event::Return(l) => is_out(past, found, l),
-        Event::Decline(f) => decline_allowed(past, found, &nodes.marks, f),
+        Event::Decline(f) => owes_inner(past, found, &nodes.marks, f),
         Event::End(n, t) => end_allowed(past, found, &nodes.marks, n, t),
         Event::Close(n) => close_allowed(past, found, n),
         Event::Take(r) => is_waiting(past, found, r),
@@ -338,16 +333,6 @@ fn connect_allowed(past: &[Event], found: &Found, nodes: &Nodes, g: u64) -> bool
     at(Event::is_manual_hub, past, g)
         && !is_connected(past, found.live.as_slice(), nodes, g)
         && has_room(past, found)
-}
-
-/// Whether a caller may decline an item that was projected to `f`.
-#[tactic(auto, unfolding(crate::specs::Allowing::decline_allowed))]
-fn decline_allowed(past: &[Event], found: &Found, marks: &Vec<Marks>, f: u64) -> bool
-    requires found { IsFoundHere past.now found.now }
-    requires kept { IsKept past.now marks.now.items }
-    ensures { result ≡ decline_allowed past.now f }
-{
-    owes_inner(past, found, marks, f)
 }
 
 /// Whether a caller may emit an item of leaf `l`, and where it may, the nodes that the item visits.

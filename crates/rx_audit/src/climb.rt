@@ -1,9 +1,8 @@
 //! Where an item goes.
 
-ghost use Rattle.std.specs.Prelude.{◌≡◌, ℕ, ◌-◌, ◌<◌, false, true, [], Some, None, OnOk, length, is_some, sum_by};
-ghost use Rattle.std.specs.Option.{option_and_then, option_to_list};
-ghost use Rattle.rx_event.specs.Tree.{at, parent};
-ghost use Rattle.rx_event.specs.Climb.{stop_made, stop_at, onward_from, onward};
+ghost use Rattle.std.specs.Prelude.{◌≡◌, ◌-◌, ◌<◌, OnOk, is_some};
+ghost use Rattle.rx_audit.specs.Imports.{ℕ, false, true, [], Some, None, length, sum_by, option_and_then, option_to_list, at, parent, stop_made};
+ghost use Rattle.rx_audit.specs.Imports.{stop_at, onward_from, onward};
 ghost use Rattle.rx_audit.specs.HubTables.{AreLinked, AreOpenListed};
 ghost use Rattle.rx_audit.specs.Rules.{fired_by, projected_by};
 

@@ -1,8 +1,7 @@
 //! What an event closes, found by going down from the node that it takes away, over nothing else.
 
-ghost use Rattle.std.specs.Prelude.{◌≡◌, ℕ, ◌+◌, ◌<◌, ◌≤◌, true, false, Some, [], ◌∷◌, ◌++◌, OnOk, IfOk, MatchOption, length, ◌==◌};
-ghost use Rattle.rx_event.specs.Events.{is_switch};
-ghost use Rattle.rx_event.specs.Tree.{at, is_open, shuts, is_switched_inner};
+ghost use Rattle.std.specs.Prelude.{◌≡◌, ◌+◌, ◌<◌, ◌≤◌, ◌∷◌, ◌++◌, OnOk, IfOk, MatchOption, ◌==◌};
+ghost use Rattle.rx_audit.specs.Imports.{ℕ, true, false, Some, [], length, is_switch, at, is_open, shuts, is_switched_inner};
 ghost use Rattle.rx_audit.specs.Latest.{AreChildren, IsClosingBelow, AreClosed, ShutsNone, IsShutAlone};
 ghost use Rattle.rx_audit.specs.Tables.{IsMarked, mark_count};
 ghost use Rattle.rx_audit.specs.Rules.{stays_open};

@@ -1,11 +1,7 @@
 //! The list of the nodes that may have to end or to close.
 
-ghost use Rattle.rx_event.specs.Kept.{nothing_kept};
-ghost use Rattle.std.specs.Prelude.{◌≡◌, ℕ, ◌+◌, ◌<◌, ◌&&◌, ◌||◌, ◌↔◌, IsTrue, OnOk, true, false, Some, [], ◌∷◌, ◌++◌, length, is_some, take};
-ghost use Rattle.rx_event.specs.declared.event.Event.{Event};
-ghost use Rattle.rx_event.specs.Tree.{is_open};
-ghost use Rattle.rx_event.specs.Forced.{IsSettled};
-ghost use Rattle.rx_event.specs.Lawful.{IsLawful, MayFollow};
+ghost use Rattle.std.specs.Prelude.{◌≡◌, ◌+◌, ◌<◌, ◌&&◌, ◌||◌, ◌↔◌, OnOk, ◌∷◌, ◌++◌, is_some};
+ghost use Rattle.rx_audit.specs.Imports.{nothing_kept, ℕ, IsTrue, true, false, Some, [], length, take, Event, is_open, IsSettled, IsLawful, MayFollow};
 ghost use Rattle.rx_audit.specs.Latest.{IsNoted};
 ghost use Rattle.rx_audit.specs.Tables.{IsMarked};
 ghost use Rattle.rx_audit.specs.Marking.{IsKept, IsCovered, IsUntouched, node_due};

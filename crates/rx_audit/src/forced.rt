@@ -1,16 +1,12 @@
 //! What operators must do before a caller may go on.
 
-ghost use Rattle.rx_event.specs.Kept.{nothing_kept};
-ghost use Rattle.std.specs.Prelude.{◌≡◌, ◌-◌, ◌&&◌, ◌||◌, ◌↔◌, IsTrue, false, Some, None, nat_lt, slice_index_or};
-ghost use Rattle.std.proofs.Math.Bool.{not};
-ghost use Rattle.rx_event.specs.Tree.{at, is_open};
-ghost use Rattle.rx_event.specs.Forced.{IsForced};
-ghost use Rattle.rx_event.specs.Sames.{same_terminal};
+ghost use Rattle.std.specs.Prelude.{◌≡◌, ◌-◌, ◌&&◌, ◌||◌, ◌↔◌, slice_index_or};
+ghost use Rattle.rx_audit.specs.Imports.{nothing_kept, IsTrue, false, Some, None, nat_lt, not, at, is_open, IsForced, same_terminal};
 ghost use Rattle.rx_audit.specs.Tables.{IsMarked};
 ghost use Rattle.rx_audit.specs.Marking.{IsKept, ends_so, forced_end};
 ghost use Rattle.rx_audit.specs.HubTables.{terminal_of, terminal_of_word, ends_last_so, cut_so, ends_now, forced_now};
-ghost use Rattle.rx_audit.specs.Rules.{has_key, open_connected, open_subscribed, open_waiting};
-ghost use Rattle.rx_audit.specs.Rules.{connect_due, any_connect_due, is_left, close_due, is_cut};
+ghost use Rattle.rx_audit.specs.Rules.{has_key, open_connected, open_subscribed, open_waiting, connect_due, any_connect_due, is_left, close_due};
+ghost use Rattle.rx_audit.specs.Rules.{is_cut};
 ghost use Rattle.rx_audit.specs.Standing.{IsKnown};
 
 use crate::advance::Nodes;

@@ -1,11 +1,7 @@
 //! What was found of the events so far.
 
-ghost use Rattle.rx_event.specs.Kept.{nothing_kept};
-ghost use Rattle.std.specs.Prelude.{◌≡◌, ℕ, ◌+◌, ◌<◌, ◌≤◌, false, [], ◌∷◌, ◌++◌, IfOk, OnOk, length, replicate, slice_index_or};
-ghost use Rattle.std.specs.Option.{option_and_then};
-ghost use Rattle.rx_event.specs.Events.{returned_of};
-ghost use Rattle.rx_event.specs.Resources.{leases_of};
-ghost use Rattle.rx_event.specs.Lawful.{IsLawful, MayFollow};
+ghost use Rattle.std.specs.Prelude.{◌≡◌, ◌+◌, ◌<◌, ◌≤◌, ◌∷◌, ◌++◌, IfOk, OnOk, replicate, slice_index_or};
+ghost use Rattle.rx_audit.specs.Imports.{nothing_kept, ℕ, false, [], length, option_and_then, returned_of, leases_of, IsLawful, MayFollow};
 ghost use Rattle.rx_audit.specs.Found.{IsFound, IsClimbed};
 ghost use Rattle.rx_audit.specs.Rules.{resource_of};
 ghost use Rattle.rx_audit.specs.Standing.{IsFollowed};

@@ -23,14 +23,6 @@ pub fn mark(marks: &mut [bool], key: Option<u64>)
     }
 }
 
-/// The count of number `n`.
-pub fn count_of(counts: &[u32], n: u64) -> u32
-    ensures { result ≡ slice_index_or counts.now n 0 }
-{
-    let n = n as usize;
-    if n < counts.len() { counts[n] } else { 0 }
-}
-
 /// Makes the count of the number one more, if there is a number and the list has it.
 pub fn count(counts: &mut [u32], key: Option<u64>)
     requires { (n : ℕ) → slice_index_or counts.old n 0 + 1 < 2 ^ 32 }

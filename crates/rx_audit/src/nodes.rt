@@ -1,11 +1,7 @@
 //! What each open node remembers of what happened below it, by number.
 
-ghost use Rattle.rx_event.specs.Kept.{nothing_kept};
-ghost use Rattle.std.specs.Prelude.{◌≡◌, ◌+◌, ◌<◌, Some, [], ◌∷◌, ◌++◌, length, slice_index_or, slice_set, OnOk};
-ghost use Rattle.rx_event.specs.Events.{is_merging, is_source_of};
-ghost use Rattle.rx_event.specs.Tree.{at};
-ghost use Rattle.rx_event.specs.Marks.{marks_of, blank_marks};
-ghost use Rattle.rx_event.specs.Lawful.{IsLawful, MayFollow};
+ghost use Rattle.std.specs.Prelude.{◌≡◌, ◌+◌, ◌<◌, ◌∷◌, ◌++◌, slice_index_or, slice_set, OnOk};
+ghost use Rattle.rx_audit.specs.Imports.{nothing_kept, Some, [], length, is_merging, is_source_of, at, marks_of, blank_marks, IsLawful, MayFollow};
 ghost use Rattle.rx_audit.specs.Marking.{touched_by, IsKept, IsTop, IsUntouched, fired_marks, owed_marks, noted_with, IsVisited};
 
 use crate::climb::{fired_at, projected_at};

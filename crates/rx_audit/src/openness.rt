@@ -1,9 +1,7 @@
 //! Which nodes are open.
 
 ghost use Rattle.std.specs.Prelude.{◌≡◌};
-ghost use Rattle.std.specs.Option.{option_and_then};
-ghost use Rattle.rx_event.specs.Events.{parent_named};
-ghost use Rattle.rx_event.specs.Tree.{parent, if_less};
+ghost use Rattle.rx_audit.specs.Imports.{option_and_then, parent_named, parent, if_less};
 ghost use Rattle.rx_audit.specs.Tables.{IsMarked};
 ghost use Rattle.rx_audit.specs.Rules.{stays_open, opens};
 

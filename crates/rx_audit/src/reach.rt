@@ -9,6 +9,7 @@ ghost use Rattle.rx_event.specs.Climb.{onward, visits};
 ghost use Rattle.rx_audit.specs.HubTables.{AreLinked, AreOpenListed};
 ghost use Rattle.rx_audit.specs.Flow.{times, IsOften, IsReached};
 
+use crate::children::value_at;
 use crate::climb::onward;
 use crate::subscribers::Subscribers;
 use rx_event::{Event, MOST_VISITS};
@@ -27,7 +28,8 @@ pub struct Visit {
 /// grows.
 #[derive(Drop)]
 pub struct Climb {
-    /// By node: where in the log its last entry may be.
+    /// By node: where in the log its last entry may be. What stands there from items before does no
+    /// harm, since the entry itself is looked at.
     pub entries: Vec<u32>,
     /// The nodes that the last item visits, and how often.
     pub log: Vec<Visit>,
@@ -42,17 +44,6 @@ pub fn no_climb(alloc: Global, size: usize) -> Result<Climb, AllocError> {
         log: Vec::new(alloc),
         next: Vec::new(alloc),
     })
-}
-
-/// Where in the log the last entry of a node may be. What stands there from items before does no
-/// harm, since the entry itself is looked at.
-fn entry_of(entries: &Vec<u32>, node: u64) -> usize {
-    let n = node as usize;
-    if n < entries.len() {
-        entries[n] as usize
-    } else {
-        0
-    }
 }
 
 /// Remembers where in the log the last entry of a node is; no log is so long that this does not fit.
@@ -84,7 +75,7 @@ fn reach(
     ensures often { OnOk result (IsOften log.new.items) }
     ensures grows { OnOk result (length log.old.items ≤ length log.new.items) }
 {
-    let at = entry_of(entries, node);
+    let at = value_at(entries, node);
     if followed < at && at < log.len() && log[at].node == node {
         log[at].count += count;
         return Ok(());

@@ -1,8 +1,7 @@
 //! The open subscribers of each hub, one after another.
 
-ghost use Rattle.std.specs.Prelude.{◌≡◌, ℕ, ◌+◌, ◌<◌, true, false, Some, None, [], ◌∷◌, ◌++◌, IfOk, OnOk, length, slice_index_or, slice_set, sum_by};
-ghost use Rattle.rx_event.specs.Events.{is_subscriber_of};
-ghost use Rattle.rx_event.specs.Tree.{open_subscribers};
+ghost use Rattle.std.specs.Prelude.{◌≡◌, ◌+◌, ◌<◌, ◌∷◌, ◌++◌, IfOk, OnOk, slice_index_or, slice_set};
+ghost use Rattle.rx_audit.specs.Imports.{ℕ, true, false, Some, None, [], length, sum_by, is_subscriber_of, open_subscribers};
 ghost use Rattle.rx_audit.specs.Latest.{table_with};
 ghost use Rattle.rx_audit.specs.Rules.{hub_subscribed_at, hub_connected_at};
 ghost use Rattle.rx_audit.specs.HubTables.{number_of, hub_if_last, listed_hub, AreLinked, AreOpenListed, AreLetGo};

@@ -1,13 +1,9 @@
 //! The verdict on a list of events.
 
-ghost use Rattle.rx_event.specs.Kept.{nothing_kept};
-ghost use Rattle.std.specs.Prelude.{◌≡◌, ◌<◌, ◌≤◌, ◌&&◌, ◌↔◌, true, false, IsTrue, Err, IfOk, [], Some, None, MatchOption, length};
-ghost use Rattle.rx_event.specs.declared.event.Event.{Event};
-ghost use Rattle.rx_event.specs.Tree.{open_nodes};
-ghost use Rattle.rx_event.specs.Resources.{held_resources, waiting_resources};
+ghost use Rattle.std.specs.Prelude.{◌≡◌, ◌<◌, ◌≤◌, ◌&&◌, ◌↔◌, Err, IfOk, MatchOption};
+ghost use Rattle.rx_audit.specs.Imports.{nothing_kept, true, false, IsTrue, [], Some, None, length, Event, open_nodes, held_resources};
+ghost use Rattle.rx_audit.specs.Imports.{waiting_resources, IsSettled, MayFollow};
 ghost use Rattle.rx_event.specs.Allowed.{IsAllowed};
-ghost use Rattle.rx_event.specs.Forced.{IsSettled};
-ghost use Rattle.rx_event.specs.Lawful.{MayFollow};
 ghost use Rattle.rx_audit.specs.Allowing.{needs_connection, leaves_room, open_allowed, opens_pass, opened_with};
 ghost use Rattle.rx_audit.specs.Standing.{IsFollowed, IsKnown, IsAllFound};
 ghost use Rattle.rx_audit.specs.Found.{IsFound, IsFoundHere, IsClimbed};

@@ -1,11 +1,8 @@
 -- What a check makes of its input, said of the bytes that a reader had and has left,
 -- and of those that a writer held and holds.
-use Rattle.std.specs.Prelude.{◌≡◌, ℕ, None, Some, Option, List}
-use Rattle.serde_json.specs.Data.{Data}
-use Rattle.rx_event.specs.declared.event.Event.{Event}
-use Rattle.rx_audit.specs.declared.verdict.Verdict.{Verdict}
+use Rattle.std.specs.Prelude.{◌≡◌}
+use Rattle.rx_dump.specs.Imports.{ℕ, None, Some, Option, List, Data, Event, Verdict, GivesJson}
 use Rattle.rx_audit.specs.Verdict.{IsVerdict}
-use Rattle.rx_device.specs.Input.{GivesJson}
 use Rattle.rx_dump.specs.History.{history_of}
 use Rattle.rx_dump.specs.Verdict.{verdict_text}
 

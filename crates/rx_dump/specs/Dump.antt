@@ -1,15 +1,7 @@
 -- The dump of a history: an array of its events in serde_json's compact text, and a newline.
-use Rattle.std.specs.Prelude.{ℕ, List, [], ◌∷◌, ◌++◌, codes, flat_map}
-use Rattle.std.specs.Fmt.{decimal, signed_decimal}
-use Rattle.rx_note.specs.declared.note.Terminal.{Terminal}
-use Rattle.rx_note.specs.declared.note.Terminal.TheVariants.{Completed, Error}
-use Rattle.rx_event.specs.declared.event.Place.{Place}
-use Rattle.rx_event.specs.declared.event.Place.TheVariants.{Root, Source, Inner, Notifier}
-use Rattle.rx_event.specs.declared.event.Kind.{Kind}
-use Rattle.rx_event.specs.declared.event.Kind.TheVariants.{Leaf, Pass, Flat, Switch, Until, Sub}
-use Rattle.rx_event.specs.declared.event.Mode.{Mode}
-use Rattle.rx_event.specs.declared.event.Mode.TheVariants.{Auto, Manual}
-use Rattle.rx_event.specs.declared.event.Event.{Event}
+use Rattle.std.specs.Prelude.{◌∷◌, ◌++◌, codes}
+use Rattle.rx_dump.specs.Imports.{ℕ, List, [], flat_map, decimal, signed_decimal, Terminal, Completed, Error, Place, Root, Source, Inner, Notifier}
+use Rattle.rx_dump.specs.Imports.{Kind, Leaf, Pass, Flat, Switch, Until, Sub, Mode, Auto, Manual, Event}
 use Rattle.rx_event.specs.declared.event.Event.TheVariants.{Open, Hub, Connect, Accept, Use, Remove, Lease, Return, Item, Decline, End, Close, Take}
 
 abbrev pub place_text : Place → List ℕ

@@ -1,19 +1,9 @@
 -- The history that a JSON value is: a dump is an array of events, and an event an array: what it is, then its parts.
-use Rattle.std.specs.Prelude.{ℕ, suc, ◌+◌, ◌^◌, ◌==◌, ℤ, List, [], ◌∷◌, codes}
-use Rattle.std.specs.Prelude.{Bool, false, nat_lt, if◌then◌else◌, Option, Some, None, option_map, option_and_then}
-use Rattle.std.specs.Option.{option_map_or}
+use Rattle.std.specs.Prelude.{◌+◌, ◌^◌, ◌==◌, ◌∷◌, codes, if◌then◌else◌}
 use Rattle.std.specs.Str.{bytes_eq}
-use Rattle.serde_json.specs.Data.{Data, Items, no_items, item}
-use Rattle.serde_json.specs.Find.{at, as_str, as_number, as_u64, as_i64, as_array}
-use Rattle.rx_note.specs.declared.note.Terminal.{Terminal}
-use Rattle.rx_note.specs.declared.note.Terminal.TheVariants.{Completed, Error}
-use Rattle.rx_event.specs.declared.event.Place.{Place}
-use Rattle.rx_event.specs.declared.event.Place.TheVariants.{Root, Source, Inner, Notifier}
-use Rattle.rx_event.specs.declared.event.Kind.{Kind}
-use Rattle.rx_event.specs.declared.event.Kind.TheVariants.{Leaf, Pass, Flat, Switch, Until, Sub}
-use Rattle.rx_event.specs.declared.event.Mode.{Mode}
-use Rattle.rx_event.specs.declared.event.Mode.TheVariants.{Auto, Manual}
-use Rattle.rx_event.specs.declared.event.Event.{Event}
+use Rattle.rx_dump.specs.Imports.{ℕ, suc, ℤ, List, [], Bool, false, nat_lt, Option, Some, None, option_map, option_and_then, option_map_or, Data, Items}
+use Rattle.rx_dump.specs.Imports.{no_items, item, at, as_str, as_number, as_u64, as_i64, as_array, Terminal, Completed, Error, Place, Root, Source}
+use Rattle.rx_dump.specs.Imports.{Inner, Notifier, Kind, Leaf, Pass, Flat, Switch, Until, Sub, Mode, Auto, Manual, Event}
 use Rattle.rx_event.specs.declared.event.Event.TheVariants.{Open, Hub, Connect, Accept, Use, Remove, Lease, Return, Item, Decline, End, Close, Take}
 
 -- the parts of an event ---------------------------------------------------------------------------

@@ -1,9 +1,6 @@
 -- What the bytes of an input are.
-use Rattle.std.specs.Prelude.{◌≡◌, ℕ, None, Some, List}
-use Rattle.serde_json.specs.Data.{Data}
-use Rattle.rx_event.specs.declared.event.Event.{Event}
-use Rattle.rx_audit.specs.declared.verdict.Verdict.{Verdict}
-use Rattle.rx_device.specs.Input.{IsJsonOf}
+use Rattle.std.specs.Prelude.{◌≡◌}
+use Rattle.rx_dump.specs.Imports.{ℕ, None, Some, List, Data, Event, Verdict, IsJsonOf}
 use Rattle.rx_dump.specs.History.{history_of}
 use Rattle.rx_dump.specs.Checking.{IsVerdictOn}
 

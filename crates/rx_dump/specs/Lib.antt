@@ -1,3 +1,4 @@
+pub mod Imports
 pub mod History
 pub mod Dump
 pub mod Tokens

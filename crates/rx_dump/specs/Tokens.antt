@@ -1,10 +1,7 @@
 -- Values, the rest of an array and events, as the tokens of a text tell them.
-use Rattle.std.specs.Prelude.{◌≡◌, ℕ, List, ◌∷◌, length, Some}
-use Rattle.json.specs.Token.{Token}
+use Rattle.std.specs.Prelude.{◌≡◌, ◌∷◌}
+use Rattle.rx_dump.specs.Imports.{ℕ, List, length, Some, Token, Data, Items, of_json, of_items, read, Event}
 use Rattle.json.specs.Json.{Json, Items as JsonItems, items, value}
-use Rattle.serde_json.specs.Data.{Data, Items}
-use Rattle.serde_json.specs.Read.{of_json, of_items, read}
-use Rattle.rx_event.specs.declared.event.Event.{Event}
 use Rattle.rx_dump.specs.History.{event_of, each_event, history_of}
 
 -- a text nests 127 deep at most, of which so many are left within a dump, and within an event of it

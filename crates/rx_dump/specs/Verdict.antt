@@ -1,7 +1,6 @@
 -- The text of a verdict.
-use Rattle.std.specs.Prelude.{ℕ, Bool, true, false, List, ◌++◌, codes, flat_map}
-use Rattle.std.specs.Fmt.{decimal}
-use Rattle.rx_audit.specs.declared.verdict.Verdict.{Verdict}
+use Rattle.std.specs.Prelude.{◌++◌, codes}
+use Rattle.rx_dump.specs.Imports.{ℕ, Bool, true, false, List, flat_map, decimal, Verdict}
 use Rattle.rx_audit.specs.declared.verdict.Verdict.TheVariants.{Lawful, Unlawful, Unsettled}
 
 abbrev pub number_text : ℕ → List ℕ

@@ -1,11 +1,9 @@
 //! From a dump's bytes to the text of its verdict.
 
-ghost use Rattle.std.specs.Prelude.{◌≡◌, ◌≢◌, ◌⊎◌, false, true, IfOk, IfErr, OnOk, IsErrOf};
+ghost use Rattle.std.specs.Prelude.{◌≡◌, ◌≢◌, ◌⊎◌, IfOk, IfErr, OnOk, IsErrOf};
 ghost use Rattle.std.specs.Io.KnownBytes.{Appends};
-ghost use Rattle.serde_json.specs.Data.{Data};
-ghost use Rattle.rx_audit.specs.declared.verdict.Verdict.{Verdict};
+ghost use Rattle.rx_dump.specs.Imports.{false, true, Data, Verdict, IsJsonOf, GivesTooMuch, GivesNoJson};
 ghost use Rattle.rx_device.specs.Device.{device_of, KeepsDevice, has_failed, has_stopped, HasReadFault, HasWriteFault, IsFresh, AppendsPrefix};
-ghost use Rattle.rx_device.specs.Input.{IsJsonOf, GivesTooMuch, GivesNoJson};
 ghost use Rattle.rx_dump.specs.Verdict.{is_lawful};
 ghost use Rattle.rx_dump.specs.Checking.{Judges, GivesNoDump};
 ghost use Rattle.rx_dump.specs.Inputs.{IsDumpOf, IsVerdictOf, IsNoDump};

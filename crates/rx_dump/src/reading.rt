@@ -1,9 +1,7 @@
 //! A dump, read event by event from the tokens of its text, with no JSON value of the whole.
 
-ghost use Rattle.std.specs.Prelude.{◌≡◌, ◌∷◌, IsTrue, IfOk};
-ghost use Rattle.json.specs.Token.{begin_array};
-ghost use Rattle.serde_json.specs.Data.{array};
-ghost use Rattle.serde_json.specs.View.{items_view};
+ghost use Rattle.std.specs.Prelude.{◌≡◌, ◌∷◌, IfOk};
+ghost use Rattle.rx_dump.specs.Imports.{IsTrue, begin_array, array, items_view};
 ghost use Rattle.rx_dump.specs.History.{event_of};
 ghost use Rattle.rx_dump.specs.Tokens.{in_event, AreItems, IsEvent, AreEvents, IsTextOf};
 ghost use Rattle.rx_dump.specs.Inputs.{IsDumpOf};

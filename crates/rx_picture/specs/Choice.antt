@@ -1,7 +1,6 @@
 -- Which numbers are shown where only so many may be: first those that lead, by rising number, then the others.
-use Rattle.std.specs.Prelude.{◌≡◌, ℕ, ◌+◌, ◌<◌, Bool, false, ◌&&◌, nat_lt, if◌then◌else◌, List, length, slice_index_or, count_by}
-use Rattle.std.proofs.Math.Bool.{not}
-use Rattle.std.specs.List.{range_with_len}
+use Rattle.std.specs.Prelude.{◌≡◌, ◌+◌, ◌<◌, ◌&&◌, if◌then◌else◌, slice_index_or}
+use Rattle.rx_picture.specs.Imports.{ℕ, Bool, false, nat_lt, List, length, count_by, not, range_with_len}
 
 abbrev pub bit : Bool → ℕ
 bit b = if b then 1 else 0

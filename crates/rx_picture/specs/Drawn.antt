@@ -1,9 +1,6 @@
 -- What is drawn of a history: which rows and places are shown, and where they stand.
-use Rattle.std.specs.Prelude.{◌≡◌, ℕ, ◌+◌, ◌≤◌, Bool, false, nat_lt, List, length, filter, slice_get, slice_index_or}
-use Rattle.std.specs.Option.{option_map_or}
-use Rattle.rx_event.specs.declared.event.Event.{Event}
-use Rattle.rx_event.specs.Tree.{at, places}
-use Rattle.rx_picture.specs.declared.drawing.Drawing.{Drawing}
+use Rattle.std.specs.Prelude.{◌≡◌, ◌+◌, ◌≤◌, slice_index_or}
+use Rattle.rx_picture.specs.Imports.{ℕ, Bool, false, nat_lt, List, length, filter, slice_get, option_map_or, Event, at, places, Drawing}
 use Rattle.rx_picture.specs.Choice.{count_below, is_chosen}
 use Rattle.rx_picture.specs.Levels.{AreLevels}
 use Rattle.rx_picture.specs.Told.{marbles, ArePoints}

@@ -1,15 +1,7 @@
 -- Where a drawing shows a resource as held: by the full bar of its own row, and by the rows of its leases.
-use Rattle.std.specs.Prelude.{◌≡◌, ℕ, ◌<◌, ◌≤◌, Bool, true, false, ◌&&◌, ◌==◌, nat_lt, List, length, take}
-use Rattle.std.proofs.Math.Bool.{not}
-use Rattle.std.specs.List.{list_any}
-use Rattle.rx_event.specs.declared.event.Event.{Event}
-use Rattle.rx_event.specs.Events.{makes_resource}
-use Rattle.rx_event.specs.Tree.{at}
-use Rattle.rx_event.specs.Resources.{is_held}
-use Rattle.rx_picture.specs.declared.row.Shape.{Shape}
-use Rattle.rx_picture.specs.declared.row.Shape.TheVariants.{Resource, Loan}
-use Rattle.rx_picture.specs.declared.row.Row.{Row}
-use Rattle.rx_picture.specs.declared.drawing.Drawing.{Drawing}
+use Rattle.std.specs.Prelude.{◌≡◌, ◌<◌, ◌≤◌, ◌&&◌, ◌==◌}
+use Rattle.rx_picture.specs.Imports.{ℕ, Bool, true, false, nat_lt, List, length, take, not, list_any, Event, makes_resource, at, is_held, Shape}
+use Rattle.rx_picture.specs.Imports.{Resource, Loan, Row, Drawing}
 use Rattle.rx_picture.specs.Drawn.{is_shown, IsDrawing}
 
 -- what has number n and this shape is a full bar of resource r over the prefix of length k

@@ -1,14 +1,9 @@
 -- Which rows are drawn as leaks, and what leaks of a lawful history.
-use Rattle.std.specs.Prelude.{◌≡◌, ℕ, Bool, false, ◌||◌, ◌==◌, List, length}
-use Rattle.std.specs.List.{AllByRecursion}
-use Rattle.rx_event.specs.declared.event.Event.{Event}
+use Rattle.std.specs.Prelude.{◌≡◌, ◌||◌, ◌==◌}
+use Rattle.rx_picture.specs.Imports.{ℕ, Bool, false, List, length, AllByRecursion, Event, is_out, is_held, is_waiting, Shape, Resource, Loan, Row}
+use Rattle.rx_picture.specs.Imports.{Drawing}
 use Rattle.rx_event.specs.Kept.{nothing_kept}
-use Rattle.rx_event.specs.Resources.{is_out, is_held, is_waiting}
 use Rattle.rx_event.specs.Lawful.{IsLawful}
-use Rattle.rx_picture.specs.declared.row.Shape.{Shape}
-use Rattle.rx_picture.specs.declared.row.Shape.TheVariants.{Resource, Loan}
-use Rattle.rx_picture.specs.declared.row.Row.{Row}
-use Rattle.rx_picture.specs.declared.drawing.Drawing.{Drawing}
 use Rattle.rx_picture.specs.Rows.{leaks}
 use Rattle.rx_picture.specs.Drawn.{IsDrawing}
 

@@ -1,7 +1,6 @@
 -- How deep a node stands: itself and the nodes above it.
-use Rattle.std.specs.Prelude.{◌≡◌, ℕ, ◌+◌, ◌≤◌, ◌<◌, List, length, slice_index_or}
-use Rattle.rx_event.specs.declared.event.Event.{Event}
-use Rattle.rx_event.specs.Tree.{ancestors}
+use Rattle.std.specs.Prelude.{◌≡◌, ◌+◌, ◌≤◌, ◌<◌, slice_index_or}
+use Rattle.rx_picture.specs.Imports.{ℕ, List, length, Event, ancestors}
 
 abbrev pub level : List Event → ℕ → ℕ
 level h n = length (ancestors h n)

@@ -1,3 +1,4 @@
+pub mod Imports
 pub mod Rows
 pub mod Choice
 pub mod Levels

@@ -1,19 +1,11 @@
 -- What the rows of a picture are, in the words of the history. A prefix of length k is what had happened just before the
 -- event at place k: so a thing is drawn at the places of the events that found it so.
-use Rattle.std.specs.Prelude.{◌≡◌, ℕ, ◌≤◌, Bool, ◌&&◌, ◌||◌, ◌==◌, nat_lt, if◌then◌else◌}
-use Rattle.std.specs.Prelude.{Option, Some, None, List, length, slice_get, filter, map, take, IsTrue}
-use Rattle.std.proofs.Math.Bool.{not}
-use Rattle.std.specs.List.{AllByRecursion}
-use Rattle.rx_event.specs.declared.event.Event.{Event}
-use Rattle.rx_event.specs.declared.event.Event.TheVariants.{End, Lease}
-use Rattle.rx_event.specs.Events.{makes_node, makes_hub, makes_resource, makes_lease}
-use Rattle.rx_event.specs.Tree.{at, places, is_open}
-use Rattle.rx_event.specs.Resources.{is_owned, is_out, is_taken}
+use Rattle.std.specs.Prelude.{◌≡◌, ◌≤◌, ◌&&◌, ◌||◌, ◌==◌, if◌then◌else◌}
+use Rattle.rx_picture.specs.Imports.{ℕ, Bool, nat_lt, Option, Some, None, List, length, slice_get, filter, map, take, IsTrue, not, AllByRecursion}
+use Rattle.rx_picture.specs.Imports.{Event, End, Lease, makes_node, makes_hub, makes_resource, makes_lease, at, places, is_open, is_owned, is_out}
+use Rattle.rx_picture.specs.Imports.{is_taken, Shape, Node, Hub, Resource, Loan, Row}
 use Rattle.rx_picture.specs.declared.row.Ending.{Ending}
 use Rattle.rx_picture.specs.declared.row.Ending.TheVariants.{Lasting, Ended, Disposed}
-use Rattle.rx_picture.specs.declared.row.Shape.{Shape}
-use Rattle.rx_picture.specs.declared.row.Shape.TheVariants.{Node, Hub, Resource, Loan}
-use Rattle.rx_picture.specs.declared.row.Row.{Row}
 
 -- prefixes ----------------------------------------------------------------------------------------
 

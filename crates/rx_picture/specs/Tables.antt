@@ -1,16 +1,11 @@
 -- What the tables of a picture say, by number: the place of the event that made a test true, for the places so far. The
 -- length of the history stands where none did.
-use Rattle.std.specs.Prelude.{◌≡◌, ℕ, zero, suc, ◌≤◌, ◌<◌, Bool, true, false, ◌&&◌, ◌==◌, nat_lt, min, max}
-use Rattle.std.specs.Prelude.{if◌then◌else◌, Option, Some, None, List, length, slice_get, slice_index_or, slice_set, take, IsTrue}
+use Rattle.std.specs.Prelude.{◌≡◌, ◌≤◌, ◌<◌, ◌&&◌, ◌==◌, min, max, if◌then◌else◌, slice_index_or, slice_set}
 use Rattle.std.proofs.Math.Bool.{◌||◌}
-use Rattle.std.specs.List.{list_any}
-use Rattle.std.specs.Option.{option_and_then, option_map_or}
-use Rattle.rx_event.specs.declared.event.Event.{Event}
-use Rattle.rx_event.specs.declared.event.Event.TheVariants.{End, Close}
-use Rattle.rx_event.specs.Events.{inner_named, is_switch, is_remove_of, is_return_of, is_take_of}
-use Rattle.rx_event.specs.Tree.{at, if_less, is_shut, is_open, shuts}
+use Rattle.rx_picture.specs.Imports.{ℕ, zero, suc, Bool, true, false, nat_lt, Option, Some, None, List, length, slice_get, take, IsTrue, list_any}
+use Rattle.rx_picture.specs.Imports.{option_and_then, option_map_or, Event, End, Close, inner_named, is_switch, is_remove_of, is_return_of, is_take_of}
+use Rattle.rx_picture.specs.Imports.{at, if_less, is_shut, is_open, shuts, Row}
 use Rattle.rx_picture.specs.Rows.{Spans, IsRow}
-use Rattle.rx_picture.specs.declared.row.Row.{Row}
 use Rattle.rx_picture.specs.declared.tables.Tables.{Tables}
 
 -- the option has this number

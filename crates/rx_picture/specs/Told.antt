@@ -1,13 +1,8 @@
 -- The marbles and places of a picture: what observers were told, so far as lane and place are shown, and what happened where.
-use Rattle.std.specs.Prelude.{◌≡◌, ℕ, ℤ, ◌<◌, Bool, true, ◌&&◌, nat_lt, Some, List, [], length, filter, map, take, slice_get, slice_index_or}
-use Rattle.std.proofs.Math.Bool.{not}
-use Rattle.std.specs.List.{AllByRecursion}
-use Rattle.std.specs.Option.{option_and_then, option_map_or, option_to_list}
+use Rattle.std.specs.Prelude.{◌≡◌, ◌<◌, ◌&&◌, slice_index_or}
+use Rattle.rx_picture.specs.Imports.{ℕ, ℤ, Bool, true, nat_lt, Some, List, [], length, filter, map, take, slice_get, not, AllByRecursion}
+use Rattle.rx_picture.specs.Imports.{option_and_then, option_map_or, option_to_list, Event, is_open, places, stop_at, notes, mail_of, told}
 use Rattle.rx_event.specs.declared.mail.Mail.{Mail}
-use Rattle.rx_event.specs.declared.event.Event.{Event}
-use Rattle.rx_event.specs.Tree.{is_open, places}
-use Rattle.rx_event.specs.Climb.{stop_at}
-use Rattle.rx_event.specs.Notes.{notes, mail_of, told}
 use Rattle.rx_picture.specs.declared.points.Point.{Point}
 
 -- marbles -----------------------------------------------------------------------------------------

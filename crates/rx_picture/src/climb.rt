@@ -1,11 +1,8 @@
 //! Where an item goes, after the events before its place.
 
-ghost use Rattle.std.specs.Prelude.{◌≡◌, ◌&&◌, ◌++◌, IfOk, OnOk, is_some, length, reverse};
-ghost use Rattle.std.specs.Option.{option_and_then, option_to_list};
-ghost use Rattle.rx_event.specs.Events.{is_merging, is_subscriber_of};
-ghost use Rattle.rx_event.specs.Tree.{at, is_open, open_subscribers, parent};
-ghost use Rattle.rx_event.specs.Climb.{stop_made, stop_at, onward_from, onward, climb};
-ghost use Rattle.rx_event.specs.Notes.{told};
+ghost use Rattle.std.specs.Prelude.{◌≡◌, ◌&&◌, ◌++◌, IfOk, OnOk, is_some, reverse};
+ghost use Rattle.rx_picture.specs.Imports.{length, option_and_then, option_to_list, is_merging, is_subscriber_of, at, is_open, open_subscribers};
+ghost use Rattle.rx_picture.specs.Imports.{parent, stop_made, stop_at, onward_from, onward, climb, told};
 ghost use Rattle.rx_picture.specs.Told.{AreEndsOf};
 
 use crate::event_tests::at;

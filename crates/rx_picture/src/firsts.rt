@@ -1,9 +1,8 @@
-//! The place at which each resource is removed and taken, and at which each lease is returned.
+//! Tables of places by number, and which number an event names.
 
-ghost use Rattle.std.specs.Prelude.{◌≡◌, IfOk, length, replicate, slice_get, slice_index_or};
-ghost use Rattle.std.specs.Option.{option_and_then};
-ghost use Rattle.rx_event.specs.Events.{removed_of, returned_of, taken_of};
-ghost use Rattle.rx_picture.specs.Tables.{AreTurns, noted, was_removed, was_returned, was_taken};
+ghost use Rattle.std.specs.Prelude.{◌≡◌, IfOk, replicate, slice_index_or};
+ghost use Rattle.rx_picture.specs.Imports.{slice_get, option_and_then, removed_of, returned_of, taken_of};
+ghost use Rattle.rx_picture.specs.Tables.{noted};
 
 use rx_event::Event;
 use std::alloc::{AllocError, Global};
@@ -37,60 +36,22 @@ pub fn note(table: &mut Vec<usize>, key: Option<u64>, place: usize)
 }
 
 /// The resource that the event at the place removes.
-fn removed_at(events: &[Event], place: usize) -> Option<u64>
+pub fn removed_at(events: &[Event], place: usize) -> Option<u64>
     ensures { result ≡ option_and_then removed_of (slice_get events.now place) }
 {
     events.get(place)?.removed()
 }
 
 /// The lease that the event at the place returns.
-fn returned_at(events: &[Event], place: usize) -> Option<u64>
+pub fn returned_at(events: &[Event], place: usize) -> Option<u64>
     ensures { result ≡ option_and_then returned_of (slice_get events.now place) }
 {
     events.get(place)?.returned()
 }
 
 /// The resource that the event at the place hands out.
-fn taken_at(events: &[Event], place: usize) -> Option<u64>
+pub fn taken_at(events: &[Event], place: usize) -> Option<u64>
     ensures { result ≡ option_and_then taken_of (slice_get events.now place) }
 {
     events.get(place)?.taken()
-}
-
-/// By resource: the place of the first event that removes it, and the number of events where none
-/// does.
-pub fn removals(alloc: Global, events: &[Event]) -> Result<Vec<usize>, AllocError>
-    ensures { IfOk result (λ v. AreTurns events.now was_removed (length events.now) v.items) }
-{
-    let mut table = filled(alloc, events.len(), events.len())?;
-    for place in 0..events.len() {
-        let key = removed_at(events, place);
-        note(&mut table, key, place);
-    }
-    Ok(table)
-}
-
-/// By lease: the place of the first event that returns it, and the number of events where none does.
-pub fn returns(alloc: Global, events: &[Event]) -> Result<Vec<usize>, AllocError>
-    ensures { IfOk result (λ v. AreTurns events.now was_returned (length events.now) v.items) }
-{
-    let mut table = filled(alloc, events.len(), events.len())?;
-    for place in 0..events.len() {
-        let key = returned_at(events, place);
-        note(&mut table, key, place);
-    }
-    Ok(table)
-}
-
-/// By resource: the place of the first event that takes it, and the number of events where none
-/// does.
-pub fn takings(alloc: Global, events: &[Event]) -> Result<Vec<usize>, AllocError>
-    ensures { IfOk result (λ v. AreTurns events.now was_taken (length events.now) v.items) }
-{
-    let mut table = filled(alloc, events.len(), events.len())?;
-    for place in 0..events.len() {
-        let key = taken_at(events, place);
-        note(&mut table, key, place);
-    }
-    Ok(table)
 }

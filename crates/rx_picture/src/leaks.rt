@@ -1,8 +1,7 @@
 //! Which resources leak.
 
-ghost use Rattle.std.specs.Prelude.{◌≡◌, IfOk, filter, length};
-ghost use Rattle.rx_event.specs.Events.{makes_resource};
-ghost use Rattle.rx_event.specs.Tree.{at, places};
+ghost use Rattle.std.specs.Prelude.{◌≡◌, IfOk};
+ghost use Rattle.rx_picture.specs.Imports.{filter, length, makes_resource, at, places};
 ghost use Rattle.rx_picture.specs.Rows.{leaks};
 ghost use Rattle.rx_picture.specs.Tables.{AreTurns, was_taken};
 

@@ -1,8 +1,7 @@
 //! Where the line of each node ends.
 
-ghost use Rattle.std.specs.Prelude.{◌≡◌, ◌<◌, ◌≤◌, IfOk, length};
-ghost use Rattle.rx_event.specs.Events.{makes_node};
-ghost use Rattle.rx_event.specs.Tree.{at, is_open, parent};
+ghost use Rattle.std.specs.Prelude.{◌≡◌, ◌<◌, ◌≤◌, IfOk};
+ghost use Rattle.rx_picture.specs.Imports.{length, makes_node, at, is_open, parent};
 ghost use Rattle.rx_picture.specs.Rows.{Spans};
 ghost use Rattle.rx_picture.specs.Tables.{AreTurns, AreLines, was_shut};
 

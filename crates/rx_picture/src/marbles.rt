@@ -1,11 +1,7 @@
 //! What observers were told, so far as it is shown.
 
-ghost use Rattle.std.specs.Prelude.{◌≡◌, ◌<◌, ◌++◌, IfOk, OnOk, filter, length, flat_map};
-ghost use Rattle.std.specs.Option.{option_to_list};
-ghost use Rattle.rx_event.specs.Events.{is_root};
-ghost use Rattle.rx_event.specs.Tree.{at};
-ghost use Rattle.rx_event.specs.declared.event.Event.TheVariants.{Item, End};
-ghost use Rattle.rx_event.specs.Notes.{mail_of};
+ghost use Rattle.std.specs.Prelude.{◌≡◌, ◌<◌, ◌++◌, IfOk, OnOk};
+ghost use Rattle.rx_picture.specs.Imports.{filter, length, flat_map, option_to_list, is_root, at, Item, End, mail_of};
 ghost use Rattle.rx_picture.specs.Choice.{marked};
 ghost use Rattle.rx_picture.specs.Tables.{AreLines};
 ghost use Rattle.rx_picture.specs.Told.{AreEndsOf, mail_told, marbles, told_at};

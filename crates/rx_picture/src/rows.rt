@@ -1,13 +1,10 @@
 //! The rows of a history.
 
-ghost use Rattle.std.specs.Prelude.{◌≡◌, ◌<◌, ◌&&◌, true, false, Some, IfOk, MatchOption, length, slice_get};
-ghost use Rattle.std.specs.Option.{option_and_then};
-ghost use Rattle.rx_event.specs.Events.{makes_node, node_of_accept};
-ghost use Rattle.rx_event.specs.Tree.{at};
+ghost use Rattle.std.specs.Prelude.{◌≡◌, ◌<◌, ◌&&◌, IfOk, MatchOption};
+ghost use Rattle.rx_picture.specs.Imports.{true, false, Some, length, slice_get, option_and_then, makes_node, node_of_accept, at, Lease};
 ghost use Rattle.rx_picture.specs.Rows.{AreRows, IsShape, ending_by, has_row};
 ghost use Rattle.rx_picture.specs.Choice.{marked};
 ghost use Rattle.rx_picture.specs.Tables.{AreTurns, AreLines, AreTables, IsShownAt, owned_end, owned_start, was_returned};
-ghost use Rattle.rx_event.specs.declared.event.Event.TheVariants.{Lease};
 
 use crate::choice::is_marked;
 use crate::firsts::value_at;

@@ -1,10 +1,8 @@
 //! The place at which each node is itself taken away: by its end, its closing, or the opening of
 //! the next inner of its Switch.
 
-ghost use Rattle.std.specs.Prelude.{◌≡◌, ◌+◌, IfOk, length, slice_get};
-ghost use Rattle.std.specs.Option.{option_and_then};
-ghost use Rattle.rx_event.specs.Tree.{at, if_less};
-ghost use Rattle.rx_event.specs.Events.{is_switch, inner_named};
+ghost use Rattle.std.specs.Prelude.{◌≡◌, ◌+◌, IfOk};
+ghost use Rattle.rx_picture.specs.Imports.{length, slice_get, option_and_then, at, if_less, is_switch, inner_named};
 ghost use Rattle.rx_picture.specs.Tables.{AreTurns, was_shut, switch_of, if_switch, stopped_of, shut_key, number_before, latest_of, inner_with};
 
 use crate::event_tests::at;

@@ -7,14 +7,14 @@ ghost use Rattle.rx_picture.specs.Choice.{AreMarks};
 ghost use Rattle.rx_picture.specs.Tables.{AreTables, AreTurns, AreLines, was_taken};
 
 use crate::event_tests::at;
-use crate::firsts::{removals, returns, takings, value_at};
+use crate::firsts::{filled, note, removed_at, returned_at, taken_at, value_at};
 use crate::leaks::is_leak;
 use crate::lines::line_ends;
 use crate::shut::shuttings;
 use rx_event::Event;
 use std::alloc::{AllocError, Global};
 
-/// By number: the place of an event, and the number of events where there is none.
+/// By number: the place of the first such event, and the number of events where there is none.
 #[derive(Drop)]
 pub struct Tables {
     /// Where the resource is removed.
@@ -33,9 +33,14 @@ pub fn tables_of(alloc: Global, events: &[Event]) -> Result<Tables, AllocError>
 {
     let shut = shuttings(alloc, events)?;
     let ends = line_ends(alloc, events, &shut)?;
-    let removed = removals(alloc, events)?;
-    let returned = returns(alloc, events)?;
-    let taken = takings(alloc, events)?;
+    let mut removed = filled(alloc, events.len(), events.len())?;
+    let mut returned = filled(alloc, events.len(), events.len())?;
+    let mut taken = filled(alloc, events.len(), events.len())?;
+    for place in 0..events.len() {
+        note(&mut removed, removed_at(events, place), place);
+        note(&mut returned, returned_at(events, place), place);
+        note(&mut taken, taken_at(events, place), place);
+    }
     Ok(Tables {
         removed,
         returned,

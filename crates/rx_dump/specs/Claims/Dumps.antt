@@ -1,19 +1,9 @@
 -- Laws of dumps: the text is that of a JSON value, and the value is read as the history.
-use Rattle.std.specs.Prelude.{◌≡◌, ℕ, ◌^◌, pos, Bool, true, List, [], ◌∷◌, ◌++◌, codes, map, nat_lt, Some}
-use Rattle.std.specs.List.{list_all}
-use Rattle.serde_json.specs.Data.{Data, string, number, array, unsigned}
-use Rattle.serde_json.specs.Find.{of_integer}
-use Rattle.serde_json.specs.View.{items_of}
+use Rattle.std.specs.Prelude.{◌≡◌, ◌^◌, pos, ◌∷◌, ◌++◌, codes}
+use Rattle.rx_dump.specs.Imports.{ℕ, Bool, true, List, [], map, nat_lt, Some, list_all, Data, string, number, array, unsigned, of_integer, items_of}
+use Rattle.rx_dump.specs.Imports.{Terminal, Completed, Error, Place, Root, Source, Inner, Notifier, Kind, Leaf, Pass, Flat, Switch, Until, Sub, Mode}
+use Rattle.rx_dump.specs.Imports.{Auto, Manual, Event}
 use Rattle.serde_json.specs.Written.{compact_text}
-use Rattle.rx_note.specs.declared.note.Terminal.{Terminal}
-use Rattle.rx_note.specs.declared.note.Terminal.TheVariants.{Completed, Error}
-use Rattle.rx_event.specs.declared.event.Place.{Place}
-use Rattle.rx_event.specs.declared.event.Place.TheVariants.{Root, Source, Inner, Notifier}
-use Rattle.rx_event.specs.declared.event.Kind.{Kind}
-use Rattle.rx_event.specs.declared.event.Kind.TheVariants.{Leaf, Pass, Flat, Switch, Until, Sub}
-use Rattle.rx_event.specs.declared.event.Mode.{Mode}
-use Rattle.rx_event.specs.declared.event.Mode.TheVariants.{Auto, Manual}
-use Rattle.rx_event.specs.declared.event.Event.{Event}
 use Rattle.rx_event.specs.declared.event.Event.TheVariants.{Open, Hub, Connect, Accept, Use, Remove, Lease, Return, Item, Decline, End, Close, Take}
 use Rattle.rx_dump.specs.History.{history_of}
 use Rattle.rx_dump.specs.Dump.{dump}

@@ -1,11 +1,9 @@
 //! A part of an event from its token: a word, or a whole number.
 
-ghost use Rattle.std.specs.Prelude.{◌≡◌, true, false, Some, option_map, IfSome, IfOk};
+ghost use Rattle.std.specs.Prelude.{◌≡◌, IfSome, IfOk};
+ghost use Rattle.rx_dump.specs.Imports.{true, false, Some, option_map, number, number_of, number_from, view};
 ghost use Rattle.fast_float.specs.Text.{scan};
 ghost use Rattle.json.specs.Reads.{token_of};
-ghost use Rattle.serde_json.specs.Data.{number};
-ghost use Rattle.serde_json.specs.Read.{number_of, number_from};
-ghost use Rattle.serde_json.specs.View.{view};
 ghost use Rattle.rx_dump.specs.Tokens.{IsAlone};
 
 use fast_float::Numeral;
