@@ -2,8 +2,7 @@
 
 use super::same::same;
 use super::streams::{Narrow, Source};
-use clap::error::ErrorKind;
-use rx_cli::{Form, Order, order, serve};
+use rx_cli::serve;
 use rx_device::Watched;
 use rx_scarce::Scarce;
 use rx_script::stock;
@@ -431,35 +430,6 @@ const UNTOLD: [Row; 2] = [
 #[test]
 fn errors_that_are_not_taken_leave_the_status(rt: HostRuntime) -> Result<(), Fail> {
     assert_rows(&rt, rt.alloc(), Flaw::Deaf, &UNTOLD)
-}
-
-// Whether the words are read; where they are not, for want of memory.
-fn is_ordered(rt: &impl Abort, alloc: Global) -> bool {
-    match order(alloc, &["rxbook", "run"]) {
-        Ok(found) => {
-            same(rt, found, Order::Run(Form::Report));
-            true
-        }
-        Err(error) => {
-            same(rt, error.kind(), ErrorKind::OutOfMemory);
-            false
-        }
-    }
-}
-
-#[test]
-fn refused_memory_is_told_from_refused_words(rt: HostRuntime) -> Result<(), Fail> {
-    let mut scarce = Scarce::new(rt.alloc())?;
-    let mut refused = 0u32;
-    for _turn in 0..100_000 {
-        if is_ordered(&rt, rt.alloc()) {
-            break;
-        }
-        refused = refused.saturating_add(1);
-        assert!(rt; scarce.give_back_one());
-    }
-    assert!(rt; refused > 0);
-    Ok(())
 }
 
 // Does what the words order: whether it is done. Where it is not, it says that memory is wanted, and writes
