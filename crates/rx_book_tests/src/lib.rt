@@ -1,9 +1,9 @@
 //! What no clause says of a book, of its [`parts`] and of [`desks`], and no scenario shows.
 //!
 //! Of a book: memory that is refused, just the memory that a call needs, closings where none is left, keys that are
-//! nobody's, boxes of two kinds, many items, in which order nodes are closed, and what becomes of a book that is
-//! dropped. Of desks: worked examples with their events, that each call can succeed, threads, and storms. What
-//! operators do, over checkpoints too, and which calls are refused, stands in the scenarios that `rx_replay` compares.
+//! nobody's, boxes of two kinds, many items, and what becomes of a book that is dropped. Of desks: worked examples with
+//! their events, that each call can succeed, threads, and storms. What operators do, over checkpoints too, and which
+//! calls are refused, stands in the scenarios that `rx_replay` compares.
 //!
 //! Each test runs in a process of its own, so the memory that one test uses up is missing in no other.
 #![tactic(auto)]
@@ -14,8 +14,6 @@ mod asking;
 mod boxed;
 #[cfg(test)]
 mod caller;
-#[cfg(test)]
-mod closed;
 #[cfg(test)]
 mod desks;
 #[cfg(test)]
@@ -32,8 +30,6 @@ mod parts;
 mod probe;
 #[cfg(test)]
 mod same;
-#[cfg(test)]
-mod sharing;
 #[cfg(test)]
 mod slots;
 #[cfg(test)]

@@ -1,4 +1,4 @@
-//! Many items, nodes and resources: none of the calls searches the history.
+//! Many items and nodes: none of the calls searches the history.
 
 use super::probe::Probe;
 use super::same::same;
@@ -92,27 +92,5 @@ fn a_hundred_thousand_nodes_are_closed_with_no_memory_left(rt: HostRuntime) -> R
     let place = dispose_without(rt.alloc(), &mut book, top)?;
     same(&rt, (place, book.totals().len), (100_001, 100_002));
     same(&rt, (book.open_count(), book.open_root()), (1, Some(other)));
-    Ok(())
-}
-
-// Lets a node hold so many resources, with the tags from 0, and removes every second one.
-fn hold_many(book: &mut Probe<Sample>, node: Key, count: u64) -> Result<(), Fail> {
-    for tag in 0..count {
-        let res = book.hold(node, Sample::new(tag))?;
-        if tag % 2 == 0 {
-            book.remove(res)?;
-        }
-    }
-    Ok(())
-}
-
-#[test]
-fn ten_thousand_resources_are_taken_and_released(rt: HostRuntime) -> Result<(), Fail> {
-    let mut book = Probe::new(rt.alloc(), 100_000);
-    let root = book.open(At::Root, Kind::Pass)?.key;
-    hold_many(&mut book, root, 10_000)?;
-    same(&rt, book.totals().waiting, 5_000);
-    dispose_without(rt.alloc(), &mut book, root)?;
-    same(&rt, book.release_waiting().released, 10_000);
     Ok(())
 }

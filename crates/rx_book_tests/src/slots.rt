@@ -1,4 +1,4 @@
-//! Keys that are nobody's: old ones, whose slots are used again, and ones that were made up.
+//! Keys that are nobody's: old ones, whose slots are used again.
 
 use super::probe::{Probe, untouched};
 use super::same::same;
@@ -67,43 +67,5 @@ fn an_old_key_is_nobodys_once_its_slot_is_used_again(rt: HostRuntime) -> Result<
     assert!(rt; find_nothing(&mut book, old.key, old.res));
     let answers = [book.apply(new.res, 6), book.dispose(new.key)];
     same(&rt, answers, [Ok(6), Ok(7)]);
-    Ok(())
-}
-
-// Keys like these, of which none is its own: of another slot, of another number, of the last of both.
-fn made_up(key: Key, res: ResKey) -> [(Key, ResKey); 3] {
-    let other_slots = (
-        Key {
-            slot: key.slot.wrapping_add(1),
-            ..key
-        },
-        ResKey {
-            slot: res.slot.wrapping_add(1),
-            ..res
-        },
-    );
-    let other_numbers = (
-        Key {
-            number: key.number.wrapping_add(1),
-            ..key
-        },
-        ResKey {
-            number: res.number.wrapping_add(1),
-            ..res
-        },
-    );
-    let (slot, number) = (u64::MAX, u64::MAX);
-    let last = (Key { slot, number }, ResKey { slot, number });
-    [other_slots, other_numbers, last]
-}
-
-#[test]
-fn a_key_that_was_made_up_finds_nothing(rt: HostRuntime) -> Result<(), Fail> {
-    let mut book = Probe::new(rt.alloc(), 1000);
-    let OpenedUsing { key, res } = book.open_using(At::Root, Sample::new(1))?;
-    for (node, other) in made_up(key, res) {
-        assert!(rt; find_nothing(&mut book, node, other));
-    }
-    assert!(rt; book.is_open(key) && book.is_held(res));
     Ok(())
 }

@@ -1,17 +1,11 @@
-//! The program `rxbook` over memory: statuses and lines, storms, help, the stock, streams that fail, and refused
-//! memory.
-
-ghost use Rattle.std.specs.Prelude.{◌≡◌};
-ghost use Rattle.rx_resource.specs.declared.Life.{Life};
+//! The program `rxbook` over memory: statuses and lines, storms, help, streams that fail, and refused memory.
 
 use super::same::same;
 use super::streams::{Narrow, Source};
-use clap::error::ErrorKind;
-use rx_cli::{Form, Order, order, refuse_bytes, serve, weathered};
+use rx_cli::serve;
 use rx_device::Watched;
-use rx_resource::Resource;
 use rx_scarce::Scarce;
-use rx_script::{Faulty, Plain, ResourceKind, Tally, stock};
+use rx_script::stock;
 use std::alloc::{AllocError, Global};
 use std::io::{Read, Write};
 use std::process::Abort;
@@ -244,24 +238,6 @@ fn each_outcome_has_its_status_and_line(rt: HostRuntime) -> Result<(), Fail> {
     assert_rows(&rt, rt.alloc(), Flaw::None, &OUTCOMES)
 }
 
-#[test]
-fn options_of_a_storm_may_stand_in_any_form(rt: HostRuntime) -> Result<(), Fail> {
-    let words = ["rxbook", "storm", "--items", "0", "--sources=64"];
-    match order(rt.alloc(), &words) {
-        Ok(found) => same(
-            &rt,
-            found,
-            Order::Storm {
-                sources: 64,
-                workers: 3,
-                items: 0,
-            },
-        ),
-        Err(_) => return Err(Fail::from("the words are refused")),
-    }
-    Ok(())
-}
-
 const STORMS: [Row; 3] = [
     (
         &["rxbook", "storm"],
@@ -274,8 +250,7 @@ const STORMS: [Row; 3] = [
         &[
             "rxbook",
             "storm",
-            "--sources",
-            "64",
+            "--sources=64",
             "--workers",
             "16",
             "--items",
@@ -455,92 +430,6 @@ const UNTOLD: [Row; 2] = [
 #[test]
 fn errors_that_are_not_taken_leave_the_status(rt: HostRuntime) -> Result<(), Fail> {
     assert_rows(&rt, rt.alloc(), Flaw::Deaf, &UNTOLD)
-}
-
-// What a resource answers to 12 and then to 10, how often it was used then, and what its release answers.
-fn course_of<R: Resource>(resource: R) -> ([u64; 2], u64, Result<(), u32>)
-    requires live { R.life_of resource ≡ Life.Live }
-    requires unused { R.uses_of resource ≡ 0 }
-{
-    let mut used = resource;
-    let answers = [used.apply(12), used.apply(10)];
-    let uses = used.uses();
-    (answers, uses, used.release())
-}
-
-const KINDS: [(u64, ResourceKind); 6] = [
-    (2, ResourceKind::Plain),
-    (3, ResourceKind::Faulty),
-    (5, ResourceKind::Tally),
-    (251, ResourceKind::Faulty),
-    (253, ResourceKind::Tally),
-    (255, ResourceKind::Plain),
-];
-
-#[test]
-fn the_stock_has_its_kinds_by_tag(rt: HostRuntime) -> Result<(), Fail> {
-    same(&rt, stock(rt.alloc())?.len(), 256);
-    same(&rt, course_of(Plain::new(0)), ([12, 10], 2, Ok(())));
-    same(&rt, course_of(Tally::new(5)), ([12, 6], 2, Ok(())));
-    same(&rt, course_of(Faulty::new(3)), ([12, 10], 2, Err(2)));
-    for (tag, kind) in KINDS {
-        same(&rt, ResourceKind::by_tag(tag), kind);
-    }
-    Ok(())
-}
-
-#[test]
-fn a_storm_that_disagrees_is_a_mismatch_of_status_5(rt: HostRuntime) {
-    let mut errors = Vec::new(rt.alloc());
-    let status = weathered(&mut Watched::new(&mut errors), Ok(false));
-    same(
-        &rt,
-        (status, errors.as_slice()),
-        (5, b"rxbook: mismatch\n".as_slice()),
-    );
-}
-
-#[test]
-fn a_word_that_is_no_text_is_a_usage_error(rt: HostRuntime) {
-    let mut errors = Vec::new(rt.alloc());
-    let status = refuse_bytes(&mut Watched::new(&mut errors));
-    same(
-        &rt,
-        (status, errors.as_slice()),
-        (
-            2,
-            b"error: invalid UTF-8 was detected in one or more arguments\n\nUsage: rxbook [COMMAND] < FILE\n\nFor more information, try '--help'.\n".as_slice(),
-        ),
-    );
-}
-
-// Whether the words are read; where they are not, for want of memory.
-fn is_ordered(rt: &impl Abort, alloc: Global) -> bool {
-    match order(alloc, &["rxbook", "run"]) {
-        Ok(found) => {
-            same(rt, found, Order::Run(Form::Report));
-            true
-        }
-        Err(error) => {
-            same(rt, error.kind(), ErrorKind::OutOfMemory);
-            false
-        }
-    }
-}
-
-#[test]
-fn refused_memory_is_told_from_refused_words(rt: HostRuntime) -> Result<(), Fail> {
-    let mut scarce = Scarce::new(rt.alloc())?;
-    let mut refused = 0u32;
-    for _turn in 0..100_000 {
-        if is_ordered(&rt, rt.alloc()) {
-            break;
-        }
-        refused = refused.saturating_add(1);
-        assert!(rt; scarce.give_back_one());
-    }
-    assert!(rt; refused > 0);
-    Ok(())
 }
 
 // Does what the words order: whether it is done. Where it is not, it says that memory is wanted, and writes

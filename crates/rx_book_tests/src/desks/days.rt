@@ -1,6 +1,6 @@
 //! What a desk says at its end of its seats and of the receipts that it is shown.
 
-use super::desk_calls::{Ask, Call, Deed, Hub, NO_SLOTS, make_all};
+use super::desk_calls::{Call, Deed, NO_SLOTS, make_all};
 use super::trials::{Trial, assert_all};
 use rx_crew::Desk;
 use rx_event::{Event, Kind, Place};
@@ -42,16 +42,6 @@ pub(super) fn work<I: Ledger, A: Ledger, K: Ledger>(
 
 const CLOSES_ROOT: Receipt = Receipt {
     place: 2,
-    event: Event::Close(0),
-};
-
-const CLOSES_ANOTHER: Receipt = Receipt {
-    place: 2,
-    event: Event::Close(5),
-};
-
-const CLOSES_LATER: Receipt = Receipt {
-    place: 9,
     event: Event::Close(0),
 };
 
@@ -108,109 +98,4 @@ Closed { released: 0, faults: 0 }
 #[test]
 fn a_seat_that_was_left_out_is_missed(rt: HostRuntime) {
     assert_all(&rt, rt.alloc(), &LEFT_OUT);
-}
-
-const SECOND_IS_FALSE: &str = "\
-Ok(0)
-Ok(2)
-Some((1, 7, 0))
-(4, None)
-Err(Receipt { place: 2 })
-Some(4)
-Closed { released: 0, faults: 0 }
-";
-
-const FALSE: [(Trial, &str); 2] = [
-    (
-        Trial::Work(true, true, &[CLOSES_ANOTHER, CLOSES_LATER]),
-        SECOND_IS_FALSE,
-    ),
-    (
-        Trial::Work(true, true, &[TAKES, CLOSES_ANOTHER]),
-        SECOND_IS_FALSE,
-    ),
-];
-
-#[test]
-fn the_first_false_receipt_is_told(rt: HostRuntime) {
-    assert_all(&rt, rt.alloc(), &FALSE);
-}
-
-// Three items of a leaf, with a checkpoint before the last.
-const ITEMS: [Call; 7] = [
-    Call::Open(Place::Root, Kind::Leaf),
-    Call::At(0, Deed::Next(5)),
-    Call::At(0, Deed::Next(6)),
-    Call::Ask(Ask::Mail),
-    Call::Ask(Ask::Mail),
-    Call::Hub(Hub::Checkpoint),
-    Call::At(0, Deed::Next(7)),
-];
-
-const FIRST: Receipt = Receipt {
-    place: 1,
-    event: Event::Item(0, 5),
-};
-
-const SECOND: Receipt = Receipt {
-    place: 2,
-    event: Event::Item(0, 6),
-};
-
-const THIRD: Receipt = Receipt {
-    place: 3,
-    event: Event::Item(0, 7),
-};
-
-const AROUND: [(Trial, &str); 3] = [
-    (
-        Trial::Calls(1000, &ITEMS, &[THIRD]),
-        "\
-(0, None)
-Ok(1)
-Ok(2)
-Some(Mail { place: 1, to: 0, note: Next(5) })
-Some(Mail { place: 2, to: 0, note: Next(6) })
-Ok(3)
-Ok(3)
-Ok(Totals { items: 3, accepted: 0, taken: 0, held: 0, waiting: 0, len: 4 })
-Some(0)
-Closed { released: 0, faults: 0 }
-",
-    ),
-    (
-        Trial::Calls(1000, &ITEMS, &[THIRD, FIRST]),
-        "\
-(0, None)
-Ok(1)
-Ok(2)
-Some(Mail { place: 1, to: 0, note: Next(5) })
-Some(Mail { place: 2, to: 0, note: Next(6) })
-Ok(3)
-Ok(3)
-Err(Receipt { place: 1 })
-Some(0)
-Closed { released: 0, faults: 0 }
-",
-    ),
-    (
-        Trial::Calls(1000, &ITEMS, &[THIRD, SECOND]),
-        "\
-(0, None)
-Ok(1)
-Ok(2)
-Some(Mail { place: 1, to: 0, note: Next(5) })
-Some(Mail { place: 2, to: 0, note: Next(6) })
-Ok(3)
-Ok(3)
-Err(Receipt { place: 2 })
-Some(0)
-Closed { released: 0, faults: 0 }
-",
-    ),
-];
-
-#[test]
-fn a_receipt_of_what_came_before_a_checkpoint_stands_no_longer(rt: HostRuntime) {
-    assert_all(&rt, rt.alloc(), &AROUND);
 }

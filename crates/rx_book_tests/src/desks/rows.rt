@@ -7,66 +7,6 @@ use rx_event::{Kind, Mode, Place, Terminal};
 
 const DONE: Terminal = Terminal::Completed;
 
-// An item and an end reach the root.
-const MIRRORED: [Call; 11] = [
-    Call::Open(Place::Root, Kind::Pass),
-    Call::Open(Place::Source(0), Kind::Leaf),
-    Call::Hold(0, 4),
-    Call::At(1, Deed::Next(5)),
-    Call::At(1, Deed::End(DONE)),
-    Call::At(1, Deed::Next(6)),
-    Call::Ask(Ask::Mail),
-    Call::Ask(Ask::Mail),
-    Call::Ask(Ask::Mail),
-    Call::Ask(Ask::Event(5)),
-    Call::Ask(Ask::Sums),
-];
-
-const MIRRORED_TOLD: &str = "\
-(0, None)
-(1, None)
-Ok(2)
-Ok(3)
-Ok(4)
-Err(Gone)
-Some(Mail { place: 3, to: 0, note: Next(5) })
-Some(Mail { place: 5, to: 0, note: End(Completed) })
-None
-Some(End(0, Completed))
-[6, 1, 1, 0, 1, 0]
-Ok(Totals { items: 1, accepted: 1, taken: 0, held: 0, waiting: 1, len: 6 })
-None
-Closed { released: 1, faults: 0 }
-";
-
-// A resource is used, removed and taken once.
-const USED: [Call; 9] = [
-    Call::Using(Place::Root, 7),
-    Call::On(1, Use::Apply(1)),
-    Call::On(1, Use::Apply(2)),
-    Call::On(1, Use::Apply(3)),
-    Call::On(1, Use::Remove),
-    Call::Take,
-    Call::On(1, Use::Apply(4)),
-    Call::At(0, Deed::Dispose),
-    Call::Take,
-];
-
-const USED_TOLD: &str = "\
-Ok(0)
-Ok(1)
-Ok(3)
-Ok(0)
-Ok(5)
-Some((1, 7, 3))
-Err(NotHeld)
-Ok(7)
-None
-Ok(Totals { items: 0, accepted: 1, taken: 1, held: 0, waiting: 0, len: 8 })
-None
-Closed { released: 0, faults: 0 }
-";
-
 // A floor tells what its book has.
 const ASKED: [Call; 12] = [
     Call::Open(Place::Root, Kind::Pass),
@@ -133,38 +73,6 @@ None
 Closed { released: 0, faults: 0 }
 ";
 
-// A shared hub is connected while it has subscribers.
-const SHARED: [Call; 11] = [
-    Call::Hub(Hub::Make(Mode::Auto)),
-    Call::Open(Place::Root, Kind::Sub(0)),
-    Call::Open(Place::Root, Kind::Sub(0)),
-    Call::Ask(Ask::Manual),
-    Call::Ask(Ask::Root),
-    Call::Hub(Hub::Connect(0)),
-    Call::Hub(Hub::Disconnect(0)),
-    Call::At(1, Deed::Dispose),
-    Call::Ask(Ask::Root),
-    Call::At(3, Deed::Dispose),
-    Call::Ask(Ask::Root),
-];
-
-const SHARED_TOLD: &str = "\
-Ok(0)
-(1, Some(2))
-(3, None)
-None
-(3, Some(1))
-Err(WrongKind)
-Err(WrongKind)
-Ok(4)
-(2, Some(3))
-Ok(5)
-(0, None)
-Ok(Totals { items: 0, accepted: 0, taken: 0, held: 0, waiting: 0, len: 7 })
-None
-Closed { released: 0, faults: 0 }
-";
-
 // A hub is connected and disconnected by hand.
 const BY_HAND: [Call; 12] = [
     Call::Hub(Hub::Make(Mode::Manual)),
@@ -196,106 +104,6 @@ Err(NotConnected)
 None
 Ok(Totals { items: 0, accepted: 0, taken: 0, held: 0, waiting: 0, len: 4 })
 Some(1)
-Closed { released: 0, faults: 0 }
-";
-
-// The least hub that is connected by hand is told.
-const TWO_BY_HAND: [Call; 15] = [
-    Call::Open(Place::Root, Kind::Sub(5)),
-    Call::Hub(Hub::Connect(0)),
-    Call::Hub(Hub::Disconnect(0)),
-    Call::Hub(Hub::Make(Mode::Manual)),
-    Call::Hub(Hub::Make(Mode::Manual)),
-    Call::Hub(Hub::Connect(1)),
-    Call::Hub(Hub::Connect(0)),
-    Call::Ask(Ask::Manual),
-    Call::Hub(Hub::Disconnect(0)),
-    Call::Ask(Ask::Event(4)),
-    Call::Ask(Ask::IsOpen(3)),
-    Call::Ask(Ask::IsOpen(2)),
-    Call::Ask(Ask::Manual),
-    Call::Hub(Hub::Disconnect(1)),
-    Call::Ask(Ask::Manual),
-];
-
-const TWO_BY_HAND_TOLD: &str = "\
-NoHub
-Err(NoHub)
-Err(NoHub)
-Ok(0)
-Ok(1)
-Ok(2)
-Ok(3)
-Some(0)
-Ok(4)
-Some(Close(3))
-false
-true
-Some(1)
-Ok(5)
-None
-Ok(Totals { items: 0, accepted: 0, taken: 0, held: 0, waiting: 0, len: 6 })
-None
-Closed { released: 0, faults: 0 }
-";
-
-// A leased resource stays until its lease comes back.
-const LEASED: [Call; 13] = [
-    Call::Using(Place::Root, 7),
-    Call::On(1, Use::Lease),
-    Call::At(0, Deed::Dispose),
-    Call::Take,
-    Call::Ask(Ask::IsHeld(1)),
-    Call::On(1, Use::Apply(5)),
-    Call::On(1, Use::Lease),
-    Call::On(1, Use::Remove),
-    Call::Ask(Ask::Lease),
-    Call::On(2, Use::GiveBack),
-    Call::Take,
-    Call::On(2, Use::GiveBack),
-    Call::On(1, Use::Apply(4)),
-];
-
-const LEASED_TOLD: &str = "\
-Ok(0)
-Ok(2)
-Ok(3)
-None
-true
-Ok(5)
-Err(Leased)
-Err(Leased)
-(1, Some(2))
-Ok(5)
-Some((1, 7, 1))
-Err(NoLease)
-Err(NotHeld)
-Ok(Totals { items: 0, accepted: 1, taken: 1, held: 0, waiting: 0, len: 7 })
-None
-Closed { released: 0, faults: 0 }
-";
-
-// A lease is counted into what closing may need.
-const LEASED_IN_EIGHT: [Call; 7] = [
-    Call::Using(Place::Root, 7),
-    Call::On(1, Use::Lease),
-    Call::On(1, Use::Lease),
-    Call::At(0, Deed::Dispose),
-    Call::On(2, Use::GiveBack),
-    Call::Take,
-    Call::Ask(Ask::Sums),
-];
-
-const LEASED_IN_EIGHT_TOLD: &str = "\
-Ok(0)
-Ok(2)
-Err(Full)
-Ok(3)
-Ok(4)
-Some((1, 7, 0))
-[6, 0, 1, 0, 0, 1]
-Ok(Totals { items: 0, accepted: 1, taken: 1, held: 0, waiting: 0, len: 6 })
-None
 Closed { released: 0, faults: 0 }
 ";
 
@@ -404,16 +212,10 @@ None
 Closed { released: 0, faults: 0 }
 ";
 
-const EXAMPLES: [(Trial, &str); 12] = [
-    (Trial::Calls(1000, &MIRRORED, &[]), MIRRORED_TOLD),
-    (Trial::Calls(1000, &USED, &[]), USED_TOLD),
+const EXAMPLES: [(Trial, &str); 6] = [
     (Trial::Calls(1000, &ASKED, &[]), ASKED_TOLD),
     (Trial::Calls(1000, &PROJECTED, &[]), PROJECTED_TOLD),
-    (Trial::Calls(1000, &SHARED, &[]), SHARED_TOLD),
     (Trial::Calls(1000, &BY_HAND, &[]), BY_HAND_TOLD),
-    (Trial::Calls(1000, &TWO_BY_HAND, &[]), TWO_BY_HAND_TOLD),
-    (Trial::Calls(1000, &LEASED, &[]), LEASED_TOLD),
-    (Trial::Calls(8, &LEASED_IN_EIGHT, &[]), LEASED_IN_EIGHT_TOLD),
     (Trial::Calls(1000, &LEASED_OFTEN, &[]), LEASED_OFTEN_TOLD),
     (Trial::Calls(6, &REFILLED, &[]), REFILLED_TOLD),
     (Trial::Calls(1000, &OWED, &[]), OWED_TOLD),

@@ -38,10 +38,3 @@ fn no_request_is_met_until_blocks_are_given_back(rt: HostRuntime) -> Result<(), 
     same(&rt, sizes_had(rt.alloc()), 6);
     Ok(())
 }
-
-#[test]
-fn a_drop_frees_all_of_it(rt: HostRuntime) -> Result<(), Fail> {
-    drop(Scarce::new(rt.alloc())?);
-    same(&rt, sizes_had(rt.alloc()), 6);
-    Ok(())
-}

@@ -35,20 +35,3 @@ fn a_key_writes_its_own_value(rt: HostRuntime) {
         (Ok(own), [false, true], Some(88)),
     );
 }
-
-// Puts a value in and takes it out again, also one that may not be let go. Where memory is refused it comes back.
-fn in_and_out<T>(slots: &mut Slots<T>, number: u64, value: T) -> T
-    ensures { result ≡ value }
-{
-    match slots.insert(number, value) {
-        Ok(key) => slots.take(key).unwrap(),
-        Err(back) => back,
-    }
-}
-
-#[test]
-fn values_need_not_be_drop(rt: HostRuntime) {
-    let mut slots = Slots::new(rt.alloc());
-    same(&rt, in_and_out(&mut slots, 4, 'x'), 'x');
-    assert!(rt; slots.is_empty());
-}
