@@ -12,8 +12,9 @@
 //! often it was applied to a word. A contract sees a [`Handed`] as the pair of its number and its
 //! resource.
 //!
-//! A [`Sample`] is a resource that keeps what was done to it, for tests and measures. A [`Tracked`] one
-//! tells its [`Tracker`] what becomes of it where a test has no hold of it any more.
+//! A [`Token`] stands for a resource that its caller keeps. A [`Sample`] is one that keeps what was done to it,
+//! for tests and measures. A [`Tracked`] one tells its [`Tracker`] what becomes of it where a test has no hold
+//! of it any more.
 //!
 //! What keeps resources is generic in `R: Resource`. `Box<dyn Resource>` is itself a resource, so a
 //! caller with one kind of resource needs no box, and a caller with many hands in boxes.
@@ -33,10 +34,12 @@ ghost use Rattle.rx_resource.specs.declared.Life.{Life};
 
 mod release;
 mod sample;
+mod token;
 mod tracked;
 
 pub use release::{Handed, Released};
 pub use sample::Sample;
+pub use token::Token;
 pub use tracked::{Tracked, Tracker};
 
 /// Whether a resource was released.
