@@ -1,7 +1,11 @@
 -- What the audit says of a list of events.
-use Rattle.std.specs.Prelude.{◌≡◌}
-use Rattle.rx_audit.specs.Imports.{ℕ, Some, List, take, slice_get, nothing_kept, Event, open_nodes, held_resources, waiting_resources, IsSettled}
-use Rattle.rx_audit.specs.Imports.{IsLawful, MayFollow}
+use Rattle.std.specs.Prelude.{◌≡◌, ℕ, Some, List, take, slice_get}
+use Rattle.rx_event.specs.Kept.{nothing_kept}
+use Rattle.rx_event.specs.declared.event.Event.{Event}
+use Rattle.rx_event.specs.Tree.{open_nodes}
+use Rattle.rx_event.specs.Resources.{held_resources, waiting_resources}
+use Rattle.rx_event.specs.Forced.{IsSettled}
+use Rattle.rx_event.specs.Lawful.{IsLawful, MayFollow}
 use Rattle.rx_audit.specs.declared.verdict.Verdict.{Verdict}
 use Rattle.rx_audit.specs.declared.verdict.Verdict.TheVariants.{Lawful, Unlawful, Unsettled}
 
