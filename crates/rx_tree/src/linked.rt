@@ -363,14 +363,6 @@ impl Record {
         None
     }
 
-    // Writes its marks.
-    #[inline(always)]
-    pub(crate) fn set_marks(&mut self, marks: Marks)
-        ensures { self.new ≡ record self.old { node = with_marks marks self.old.node } }
-    {
-        self.packed.set_marks(marks);
-    }
-
     // A node below it ended.
     #[inline(always)]
     #[tactic(auto, using(crate::proofs::PackedNodes::terminal_back))]
@@ -462,7 +454,8 @@ impl Record {
     pub(crate) fn set_held_count(&mut self, count: Counts)
         ensures { self.new ≡ record self.old { held_count = count } }
     {
-        self.held_count = count;
+        self.held_count.free = count.free;
+        self.held_count.lent = count.lent;
     }
 
     // Its link among its siblings.
@@ -478,7 +471,7 @@ impl Record {
     pub(crate) fn set_sibling(&mut self, link: Link)
         ensures { self.new ≡ record self.old { sibling = link } }
     {
-        self.sibling = link;
+        self.sibling.set(link);
     }
 
     // Writes where it leads next.
@@ -527,7 +520,7 @@ impl Record {
     pub(crate) fn set_noted(&mut self, link: Link)
         ensures { self.new ≡ record self.old { noted = link } }
     {
-        self.noted = link;
+        self.noted.set(link);
     }
 
     // Writes where it leads next.
@@ -559,7 +552,7 @@ impl Record {
     pub(crate) fn set_children(&mut self, link: Link)
         ensures { self.new ≡ record self.old { children = link } }
     {
-        self.children = link;
+        self.children.set(link);
     }
 
     // Writes where it leads next.
@@ -591,7 +584,7 @@ impl Record {
     pub(crate) fn set_held(&mut self, link: Link)
         ensures { self.new ≡ record self.old { held = link } }
     {
-        self.held = link;
+        self.held.set(link);
     }
 
     // Writes where it leads next.

@@ -119,6 +119,42 @@ impl Step {
         }
     }
 
+    // The same, which is not likely: apart, so that what asks stays small.
+    #[cold]
+    #[inline(never)]
+    fn place_apart(&self) -> Place
+        ensures { result ≡ self.now }
+    {
+        self.place()
+    }
+
+    // The same where it leads along the ring of another place: first are asked for the kinds that stand on such a ring.
+    #[inline(always)]
+    pub(crate) fn place_beside(&self, other: Place) -> Place
+        ensures { result ≡ self.now }
+    {
+        let slot = (self.word / 8) as usize;
+        match other {
+            Place::Roots | Place::Children(_) | Place::Sibling(_) => match self.word % 8 {
+                0 => Place::Roots,
+                3 => Place::Children(slot),
+                5 => Place::Sibling(slot),
+                _ => self.place_apart(),
+            },
+            Place::Due | Place::Noted(_) => match self.word % 8 {
+                1 => Place::Due,
+                6 => Place::Noted(slot),
+                _ => self.place_apart(),
+            },
+            Place::Waiting | Place::Held(_) | Place::Stored(_) => match self.word % 8 {
+                2 => Place::Waiting,
+                4 => Place::Held(slot),
+                7 => Place::Stored(slot),
+                _ => self.place_apart(),
+            },
+        }
+    }
+
     // The same once more.
     #[inline(always)]
     pub(crate) fn again(&self) -> Self
@@ -168,5 +204,15 @@ impl Link {
             next: self.next.again(),
             previous: self.previous.again(),
         }
+    }
+
+    // Becomes another. It is written step by step, so that no word is put together first.
+    #[inline(always)]
+    pub(crate) fn set(&mut self, link: Link)
+        ensures { self.new ≡ link }
+    {
+        let Link { next, previous } = link;
+        self.next = next;
+        self.previous = previous;
     }
 }

@@ -144,20 +144,20 @@ impl<R: Drop> Store<R> {
         ensures rest { Relinks self.old self.new }
     {
         match place {
-            Place::Roots => self.roots = link,
-            Place::Due => self.due = link,
-            Place::Waiting => self.waiting = link,
+            Place::Roots => self.roots.set(link),
+            Place::Due => self.due.set(link),
+            Place::Waiting => self.waiting.set(link),
             Place::Children(slot) => self.nodes.at_mut(slot).set_children(link),
             Place::Held(slot) => self.nodes.at_mut(slot).set_held(link),
             Place::Sibling(slot) => self.nodes.at_mut(slot).set_sibling(link),
             Place::Noted(slot) => self.nodes.at_mut(slot).set_noted(link),
-            Place::Stored(slot) => self.resources.at_mut(slot).link = link,
+            Place::Stored(slot) => self.resources.at_mut(slot).link.set(link),
         }
     }
 
     // Writes what comes after a place.
     #[inline(always)]
-    pub(crate) fn set_next(&mut self, place: Place, to: Step)
+    fn set_next(&mut self, place: Place, to: Step)
         requires there { IsTrue (is_there self.old place) }
         ensures next { (q : _) → next_of self.new q ≡ set_step places place to (next_of self.old) q }
         ensures previous { (q : _) → previous_of self.new q ≡ previous_of self.old q }
@@ -177,7 +177,7 @@ impl<R: Drop> Store<R> {
 
     // Writes what comes before a place.
     #[inline(always)]
-    pub(crate) fn set_previous(&mut self, place: Place, to: Step)
+    fn set_previous(&mut self, place: Place, to: Step)
         requires there { IsTrue (is_there self.old place) }
         ensures next { (q : _) → next_of self.new q ≡ next_of self.old q }
         ensures previous { (q : _) → previous_of self.new q ≡ set_step places place to (previous_of self.old) q }
@@ -208,7 +208,7 @@ impl<R: Drop> Store<R> {
         let last = self.link(end).previous;
         self.fits(end);
         self.fits(place);
-        self.set_next(last.place(), Step::to(place));
+        self.set_next(last.place_beside(place), Step::to(place));
         self.set_link(
             place,
             Link {
@@ -230,9 +230,8 @@ impl<R: Drop> Store<R> {
         ensures rest { Relinks self.old self.new }
     {
         let link = self.link(place);
-        let next = link.next.place();
-        self.set_next(link.previous.place(), link.next);
-        self.set_previous(next, link.previous);
+        self.set_next(link.previous.place_beside(place), link.next.again());
+        self.set_previous(link.next.place_beside(place), link.previous);
     }
 
     // Takes a place off its ring.
@@ -251,7 +250,7 @@ impl<R: Drop> Store<R> {
     }
 
     // Puts what a ring goes over at the end of another ring.
-    #[inline(never)]
+    #[inline(always)]
     pub(crate) fn merge(&mut self, from: Place, into: Place)
         requires from { IsTrue (is_there self.old from) }
         requires into { IsTrue (is_there self.old into) }
@@ -266,11 +265,9 @@ impl<R: Drop> Store<R> {
         let last = self.link(into).previous;
         self.fits(from);
         self.fits(into);
-        let first = link.next.place();
-        let end = link.previous.place();
-        self.set_next(last.place(), link.next);
-        self.set_previous(first, last);
-        self.set_next(end, Step::to(into));
+        self.set_next(last.place_beside(into), link.next.again());
+        self.set_previous(link.next.place_beside(from), last);
+        self.set_next(link.previous.place_beside(from), Step::to(into));
         self.set_previous(into, link.previous);
         self.set_link(from, Link::alone(from));
     }

@@ -115,7 +115,7 @@ impl<R: Drop> Store<R> {
     {
         self.let_wait(key.slot);
         self.unnote(key.slot);
-        self.pass_sibling_by(key.slot);
+        self.pass_by(Place::Sibling(key.slot));
         self.take_node(key);
     }
 

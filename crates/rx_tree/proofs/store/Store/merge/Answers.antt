@@ -6,17 +6,17 @@ use Rattle.std.proofs.Common.{rules}
 pub returns-clause-merges : goal.returns-clause-merges
 returns-clause-merges g c =
     merges_of places {n1 = next_of c.set_previous.new.self} {p1 = previous_of c.set_previous.new.self} {n2 = next_of c.set_previous-2.new.self}
-    {p2 = previous_of c.set_previous-2.new.self} (c.place.ensures ∙ ap (λ k. k.previous) c.link-last.ensures)
-    (c.place-first.ensures ∙ ap (λ k. k.next) c.link-link.ensures) (c.place-end.ensures ∙ ap (λ k. k.previous) c.link-link.ensures) (record {
+    {p2 = previous_of c.set_previous-2.new.self} (c.place_beside.ensures ∙ ap (λ k. k.previous) c.link-last.ensures)
+    (c.place_beside-2.ensures ∙ ap (λ k. k.next) c.link-link.ensures) (c.place_beside-3.ensures ∙ ap (λ k. k.previous) c.link-link.ensures) (record {
       to = λ q. c.set_previous.ensures.next q ∙ c.set_next.ensures.next q ∙
-          (λ i. set_step places c.place.result (sym c.place-first.ensures i) (next_of c.args.self.now) q);
+          (λ i. set_step places c.place_beside.result ((c.again.ensures ∙ sym c.place_beside-2.ensures) i) (next_of c.args.self.now) q);
       back = λ q. c.set_previous.ensures.previous q ∙
-          (λ i. set_step places c.place-first.result (sym c.place.ensures i) (λ r. c.set_next.ensures.previous r i) q);
+          (λ i. set_step places c.place_beside-2.result (sym c.place_beside.ensures i) (λ r. c.set_next.ensures.previous r i) q);
     }) (record {
       to = λ q. c.set_previous-2.ensures.next q ∙ c.set_next-2.ensures.next q ∙
-          (λ i. set_step places c.place-end.result (c.to.ensures i) (next_of c.set_previous.new.self) q);
+          (λ i. set_step places c.place_beside-3.result (c.to.ensures i) (next_of c.set_previous.new.self) q);
       back = λ q. c.set_previous-2.ensures.previous q ∙
-          (λ i. set_step places c.args.into (sym c.place-end.ensures i) (λ r. c.set_next-2.ensures.previous r i) q);
+          (λ i. set_step places c.args.into (sym c.place_beside-3.ensures i) (λ r. c.set_next-2.ensures.previous r i) q);
     }) (record {
       to = wrote_next (link_at c.set_previous-2.new.self) (link_at c.set_link.new.self) c.args.from c.alone.result c.set_link.ensures.linked c.args.from
           (ap (λ k. k.next) c.alone.ensures);
