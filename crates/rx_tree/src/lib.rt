@@ -23,7 +23,7 @@
 //! [`Tree::get`], [`Tree::at`] and [`Tree::above`] lend a node's [`Record`], which answers one question
 //! at a time where it stands: no event and no marks are made and copied for that. Its contracts speak of
 //! its field `node`. [`Tree::mark_end`] and the other calls of that name write in place what one event
-//! changes of the marks.
+//! changes of the marks, where [`Tree::set_marks`] writes all of them.
 //!
 //! # What is promised
 //!

@@ -363,6 +363,14 @@ impl Record {
         None
     }
 
+    // Writes its marks.
+    #[inline(always)]
+    pub(crate) fn set_marks(&mut self, marks: Marks)
+        ensures { self.new ≡ record self.old { node = with_marks marks self.old.node } }
+    {
+        self.packed.set_marks(marks);
+    }
+
     // A node below it ended.
     #[inline(always)]
     #[tactic(auto, using(crate::proofs::PackedNodes::terminal_back))]

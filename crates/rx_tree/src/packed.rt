@@ -354,6 +354,30 @@ impl Packed {
         self.happened.source_completed() && self.open_children == 0 && self.owed == 0
     }
 
+    // Writes its marks.
+    #[inline(always)]
+    #[tactic(auto, using(crate::proofs::PackedNodes::terminal_back))]
+    pub(crate) fn set_marks(&mut self, marks: Marks)
+        ensures kept { self.new ≡ record self.new {
+          above = self.old.above;
+          hub = self.old.hub;
+          slot = self.old.slot;
+          place = self.old.place;
+          kind = self.old.kind;
+        } }
+        ensures written { marks_of self.new.ended self.new ≡ marks }
+    {
+        self.happened = Flags::of(
+            marks.source_opened,
+            marks.notifier_opened,
+            marks.fired,
+            marks.source_completed,
+        );
+        self.set_child_terminal(marks.child_terminal);
+        self.owed = marks.owed;
+        self.open_children = marks.open_children;
+    }
+
     // Writes how a child of it ended, which it has to pass on.
     #[inline(always)]
     pub(crate) fn set_child_terminal(&mut self, terminal: Option<Terminal>)

@@ -22,7 +22,7 @@ use crate::linked::Record;
 use crate::links::{Link, Place};
 use crate::node::{Node, Stowed};
 use crate::store::{Counts, Store, Stored};
-use rx_event::Terminal;
+use rx_event::{Marks, Terminal};
 use rx_slots::Key;
 use std::alloc::AllocError;
 
@@ -116,6 +116,20 @@ impl<R: Drop> Store<R> {
             }
             Err(refused) => Err(refused),
         }
+    }
+
+    // Writes a record's marks.
+    #[inline(always)]
+    pub(crate) fn write_marks(&mut self, key: Key, marks: Marks)
+        requires counted { IsCounted self.old }
+        requires open { IsSome (find (nodes_of self.old) key) }
+        requires countable { owed_in (nodes_of self.old) + marks.owed < 18446744073709551616 }
+        ensures { (node : Node) → find (nodes_of self.old) key ≡ Some node → IsRemarked self.old self.new key node marks }
+    {
+        let record = self.nodes.at_mut(key.slot);
+        let before = record.owed();
+        record.set_marks(marks);
+        self.owed = self.owed + marks.owed - before;
     }
 
     // A node below this one ended.

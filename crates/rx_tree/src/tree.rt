@@ -326,6 +326,22 @@ impl<R: Resource> Tree<R> {
         Ok(key)
     }
 
+    /// Gives the node these marks, and puts it last on the chain of what may be due where by them it has
+    /// to end and it is not there. Nothing changes where the key finds none. It takes no memory.
+    ///
+    /// What all nodes owe is counted as a `u64`, which the caller keeps from its end.
+    pub fn set_marks(&mut self, key: Key, marks: Marks)
+        requires countable { owed_in self.old.nodes + marks.owed < 18446744073709551616 }
+        ensures nodes { Rewrites self.old.nodes self.new.nodes key (with_marks marks) }
+        ensures chain { self.new.chain ≡ with_due self.new.nodes key self.old.chain }
+        ensures resources { self.new.resources ≡ self.old.resources }
+    {
+        if self.contains(key) {
+            self.store.write_marks(key, marks);
+            self.store.note_due(key);
+        }
+    }
+
     /// Marks the node as one below which a node ended by itself, and puts it last on the chain of what may
     /// be due where it has to end by that and it is not there. As all that marks, it takes no memory.
     #[inline(always)]
