@@ -1,8 +1,8 @@
 //! The calls of a book that ask for memory, each on what it asks.
 
-use super::probe::{Back, Probe, Totals, untouched};
+use super::probe::{Back, Probe, untouched};
 use rx_book::{At, Key, ResKey};
-use rx_event::{Event, Kind, Mode, Refusal};
+use rx_event::{Kind, Mode, Refusal};
 use rx_resource::Sample;
 
 // The tag of each resource that is handed in.
@@ -86,58 +86,5 @@ fn given_back(back: Back) -> Outcome {
         Outcome::NoMemory
     } else {
         Outcome::Other
-    }
-}
-
-// What is seen of a book before and after a call: its counts, how many nodes are open, its first root, how
-// many leases are out, the first hub that is connected by hand, the last event, and what the call names.
-#[derive(Clone, Copy, PartialEq, Eq)]
-pub(super) struct Sight {
-    totals: Totals,
-    open: u64,
-    root: Option<Key>,
-    leases: u64,
-    manual: Option<u64>,
-    last: Option<Event>,
-    named: Option<bool>,
-}
-
-pub(super) fn sight_of(book: &Probe<Sample>, asking: Asking) -> Sight {
-    let totals = book.totals();
-    Sight {
-        totals,
-        open: book.open_count(),
-        root: book.open_root(),
-        leases: book.leases(),
-        manual: book.open_manual(),
-        last: book.event(totals.len.saturating_sub(1)),
-        named: is_there(book, asking),
-    }
-}
-
-// Whether that which the call names is there, or gives up: the events of a checkpoint. None where it names
-// nothing.
-fn is_there(book: &Probe<Sample>, asking: Asking) -> Option<bool> {
-    match asking {
-        Asking::Open(at, _) => is_place(book, at),
-        Asking::OpenUsing(at) => is_place(book, at),
-        Asking::OpenHolding(at, _) => is_place(book, at),
-        Asking::Hold(node) => Some(book.is_open(node)),
-        Asking::Next(leaf) => Some(book.is_open(leaf)),
-        Asking::Apply(res) => Some(book.is_held(res)),
-        Asking::Lease(res) => Some(book.is_held(res)),
-        Asking::Connect(hub) => Some(book.event(hub) == Some(Event::Hub(Mode::Manual))),
-        Asking::Checkpoint => Some(book.event(0).is_some()),
-        Asking::Hub => None,
-    }
-}
-
-// Whether the node above is open, where there is one.
-fn is_place(book: &Probe<Sample>, at: At) -> Option<bool> {
-    match at {
-        At::Root => None,
-        At::Source(node) => Some(book.is_open(node)),
-        At::Inner(node) => Some(book.is_open(node)),
-        At::Notifier(node) => Some(book.is_open(node)),
     }
 }

@@ -2,8 +2,8 @@
 //!
 //! Of a book: memory that is refused, just the memory that a call needs, closings where none is left, keys that are
 //! nobody's, boxes of two kinds, many items, and what becomes of a book that is dropped. Of desks: worked examples with
-//! their events, that each call can succeed, threads, and storms. What operators do, over checkpoints too, and which
-//! calls are refused, stands in the scenarios that `rx_replay` compares.
+//! their events, that each call that may want memory can succeed, threads, and storms. What operators do, over
+//! checkpoints too, and which calls are refused, stands in the scenarios that `rx_replay` compares.
 //!
 //! Each test runs in a process of its own, so the memory that one test uses up is missing in no other.
 #![tactic(auto)]
@@ -18,8 +18,6 @@ mod caller;
 mod desks;
 #[cfg(test)]
 mod fates;
-#[cfg(test)]
-mod forced;
 #[cfg(test)]
 mod just;
 #[cfg(test)]

@@ -61,14 +61,6 @@ impl<R: Resource> Probe<R> {
         self.book.open(at, kind)
     }
 
-    // Subscribes to a hub to which nobody else does, and answers the key of its connection.
-    pub(super) fn subscribe_first(&mut self, at: At, hub: u64) -> Result<Key, Refusal> {
-        match self.book.open(at, Kind::Sub(hub)) {
-            Ok(opened) => opened.connected.ok_or(Refusal::NotConnected),
-            Err(why) => Err(why),
-        }
-    }
-
     pub(super) fn open_using(&mut self, at: At, resource: R) -> Result<OpenedUsing, Back> {
         match self.book.open_using(at, resource) {
             Ok(opened) => Ok(opened),
@@ -111,10 +103,6 @@ impl<R: Resource> Probe<R> {
         self.book.give_back(lease)
     }
 
-    pub(super) fn leases(&self) -> u64 {
-        self.book.leases()
-    }
-
     pub(super) fn next(&mut self, leaf: Key, value: i64) -> Result<u64, Refusal> {
         self.book.next(leaf, value)
     }
@@ -145,10 +133,6 @@ impl<R: Resource> Probe<R> {
 
     pub(super) fn disconnect(&mut self, hub: u64) -> Result<u64, Refusal> {
         self.book.disconnect(hub)
-    }
-
-    pub(super) fn open_manual(&self) -> Option<u64> {
-        self.book.open_manual()
     }
 
     pub(super) fn dispose(&mut self, root: Key) -> Result<u64, Refusal> {
@@ -248,22 +232,14 @@ pub(super) fn counts(len: u64, items: u64, [accepted, held, waiting, taken]: [u6
     }
 }
 
-// What is given where a resource was never used and its release met no fault.
-pub(super) fn unused(number: u64, tag: u64) -> Given {
-    Given {
-        number,
-        tag,
-        uses: 0,
-        fault: None,
-        life: Life::Released,
-    }
-}
-
 // What is given where a resource was used so often and its release met no fault.
 pub(super) fn used(number: u64, tag: u64, uses: u64) -> Given {
     Given {
+        number,
+        tag,
         uses,
-        ..unused(number, tag)
+        fault: None,
+        life: Life::Released,
     }
 }
 

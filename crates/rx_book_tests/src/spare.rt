@@ -91,11 +91,11 @@ fn owing_two(book: &mut Probe<Sample>) -> Result<Key, Fail> {
     Ok(flat)
 }
 
-// A root with a resource, and another below it.
-fn using_two(book: &mut Probe<Sample>) -> Result<(Key, Key, ResKey), Fail> {
+// A root with a resource, and another node below it with one: the key of that node, and of the first resource.
+fn using_two(book: &mut Probe<Sample>) -> Result<(Key, ResKey), Fail> {
     let above = book.open_using(At::Root, Sample::new(1))?;
     let below = book.open_using(At::Source(above.key), Sample::new(2))?;
-    Ok((above.key, below.key, above.res))
+    Ok((below.key, above.res))
 }
 
 // A hub that is connected by hand, and has a subscriber.
@@ -106,14 +106,24 @@ fn connected_by_hand(book: &mut Probe<Sample>) -> Result<u64, Fail> {
     Ok(hub)
 }
 
+// A root that subscribes to a hub, whose source subscribes to another one, the only subscriber of each.
+fn subscribed_twice(book: &mut Probe<Sample>) -> Result<Key, Fail> {
+    let lower = book.hub(Mode::Auto)?;
+    let upper = book.hub(Mode::Auto)?;
+    let root = book.open(At::Root, Kind::Sub(upper))?;
+    let connection = root.connected.ok_or("no connection")?;
+    book.open(At::Source(connection), Kind::Sub(lower))?;
+    Ok(root.key)
+}
+
 // Some of each kind of node, a resource that waits, and what is to be called, in turn or alone.
 pub(super) fn new_closings(book: &mut Probe<Sample>) -> Result<(Key, [Closing; CLOSINGS]), Fail> {
     let flat = owing_two(book)?;
     let hub = connected_by_hand(book)?;
     let _ = connected_by_hand(book)?;
-    let (_, lowest, removed) = using_two(book)?;
-    let (disposed, _, _) = using_two(book)?;
-    let (_, _, waiting) = using_two(book)?;
+    let (lowest, removed) = using_two(book)?;
+    let disposed = subscribed_twice(book)?;
+    let (_, waiting) = using_two(book)?;
     book.remove(waiting)?;
     let lease = book.lease(removed)?;
     let leaf = book.open(At::Root, Kind::Leaf)?.key;
@@ -171,7 +181,7 @@ fn closed_full(
 fn closings_and_handing_out_take_no_memory(rt: HostRuntime) -> Result<(), Fail> {
     let mut book = Probe::new(rt.alloc(), 1000);
     let closed = closed_full(rt.alloc(), &mut book, true)?;
-    same(&rt, closed, (Some(Refusal::NoMemory), 12, [0, 6, 6]));
+    same(&rt, closed, (Some(Refusal::NoMemory), 12, [0, 4, 4]));
     Ok(())
 }
 
@@ -179,6 +189,6 @@ fn closings_and_handing_out_take_no_memory(rt: HostRuntime) -> Result<(), Fail> 
 fn a_full_book_closes_and_hands_out_with_no_memory_left(rt: HostRuntime) -> Result<(), Fail> {
     let mut book = Probe::new(rt.alloc(), 64);
     let closed = closed_full(rt.alloc(), &mut book, false)?;
-    same(&rt, closed, (Some(Refusal::Full), 12, [0, 6, 6]));
+    same(&rt, closed, (Some(Refusal::Full), 12, [0, 4, 4]));
     Ok(())
 }
