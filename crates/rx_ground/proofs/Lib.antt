@@ -39,3 +39,4 @@ mod KeptRecords
 mod StandsAfterCheckpoint
 mod CheckpointMakesBase
 pub mod Laws
+mod NotesBeside
