@@ -40,3 +40,4 @@ mod StandsAfterCheckpoint
 mod CheckpointMakesBase
 pub mod Laws
 mod NotesBeside
+mod OwnedIsHeld
