@@ -39,3 +39,5 @@ mod KeptRecords
 mod StandsAfterCheckpoint
 mod CheckpointMakesBase
 pub mod Laws
+mod NotesBeside
+mod OwnedIsHeld

@@ -1,6 +1,6 @@
 //! What is there, counted, and room for more.
 
-ghost use Rattle.std.specs.Prelude.{◌≡◌, ◌+◌, ◌≤◌, ◌↔◌, [], length, slice_get, is_some, if◌then◌else◌, IsTrue, IsSome, IfSome, IfNone, IfErr, OnOk};
+ghost use Rattle.std.specs.Prelude.{◌≡◌, ◌+◌, ◌<◌, ◌≤◌, ◌^◌, ◌↔◌, [], length, slice_get, is_some, if◌then◌else◌, IsTrue, IsSome, IfSome, IfNone, IfErr, OnOk};
 ghost use Rattle.rx_event.specs.Kept.{nothing_kept, event_since};
 ghost use Rattle.rx_event.specs.Notes.{notes};
 ghost use Rattle.rx_event.specs.Totals.{open_count as open_count_in, held_count, waiting_count, lease_count};
@@ -22,6 +22,19 @@ use rx_register::{Load, Register};
 use rx_resource::Resource;
 use rx_tree::{Key, ResKey, Tree};
 use std::alloc::{AllocError, Global};
+
+// How many notes a call wants room for with those of closing everything; none where it tells none, since room for
+// those was gotten before.
+#[inline(always)]
+fn notes_beside(kept: u64, notes: u64) -> u64
+    requires { kept + notes < 2 ^ 64 }
+    ensures { 0 < notes → result ≡ kept + notes }
+{
+    if notes == 0 {
+        return 0;
+    }
+    kept + notes
+}
 
 impl<R: Resource> Ground<R> {
     /// With no events, and of at most `limit` since the base, which is at most 4,294,967,295. It takes no
@@ -226,7 +239,7 @@ impl<R: Resource> Ground<R> {
         let open = self.open_count();
         let rest = Wanted {
             events: 0,
-            notes: open + wanted.notes,
+            notes: notes_beside(open, wanted.notes),
             nodes: wanted.nodes,
             resources: wanted.resources,
             hubs: wanted.hubs,

@@ -346,33 +346,33 @@ impl<R: Resource> Ground<R> {
     }
 
     /// What stands first against removing the resource from its node.
-    #[tactic(auto, using(crate::proofs::Told::held_in_history, crate::proofs::Told::owned_in_history))]
+    #[tactic(auto, using(crate::proofs::Told::held_in_history, crate::proofs::Told::owned_in_history, crate::proofs::OwnedIsHeld::owned_is_held))]
     #[inline(always)]
     pub fn removing_cause(&self, res: ResKey) -> Option<Refusal>
         requires standing { IsStanding R.Resource self.now }
         ensures { result ≡ first_by_res_key self.now (is_held_at self.now.tree res) (Removing res.number) }
     {
-        if !self.holds(res) {
-            return Some(Refusal::NotHeld);
+        if self.owns(res) {
+            return None;
         }
-        if !self.owns(res) {
+        if self.holds(res) {
             return Some(Refusal::Leased);
         }
-        None
+        Some(Refusal::NotHeld)
     }
 
     /// What stands first against leasing the resource.
-    #[tactic(auto, using(crate::proofs::Told::held_in_history, crate::proofs::Told::owned_in_history))]
+    #[tactic(auto, using(crate::proofs::Told::held_in_history, crate::proofs::Told::owned_in_history, crate::proofs::OwnedIsHeld::owned_is_held))]
     #[inline(always)]
     pub fn leasing_cause(&self, res: ResKey) -> Option<Refusal>
         requires standing { IsStanding R.Resource self.now }
         ensures { result ≡ first_by_res_key self.now (is_held_at self.now.tree res) (Leasing res.number) }
     {
-        if !self.holds(res) {
-            return Some(Refusal::NotHeld);
-        }
         if !self.owns(res) {
-            return Some(Refusal::Leased);
+            if self.holds(res) {
+                return Some(Refusal::Leased);
+            }
+            return Some(Refusal::NotHeld);
         }
         if self.is_over(Wanted::of_leasing().events) {
             return Some(Refusal::Full);

@@ -21,7 +21,7 @@ ghost use Rattle.rx_ground.specs.Ties.{Remarks, Cuts, Moves, left_inside};
 ghost use Rattle.rx_hub.specs.After.{end_by};
 ghost use Rattle.rx_ground.specs.Memory.{TakesNoMemory};
 
-use crate::base::{Ground, parent};
+use crate::base::Ground;
 use crate::route::{Way, pass};
 use rx_event::{Event, Mail, Terminal};
 use rx_hub::LastEnd;
@@ -262,26 +262,15 @@ impl<R: Resource> Ground<R> {
     {
         self.register.promise();
         self.tree.promise();
-        let Some(record) = self.record(node) else {
-            unreachable!()
-        };
-        let above = parent(&self.tree, node);
-        tell_end(
-            &mut self.register,
-            node.number,
-            terminal,
-            record.made.is_root(),
-        );
+        let record = self.tree.at(node.slot);
+        let above = record.parent();
+        let is_source = record.is_source();
+        tell_end(&mut self.register, node.number, terminal, record.is_root());
         let place = self.register.len();
         self.cut(node, Some(LastEnd { place, terminal }));
         self.register.write(Event::End(node.number, terminal));
         self.tree.promise();
-        mark_end(
-            &mut self.tree,
-            above,
-            record.made.source_of().is_some(),
-            terminal,
-        );
+        mark_end(&mut self.tree, above, is_source, terminal);
     }
 
     /// Closes an open root, and all below it.

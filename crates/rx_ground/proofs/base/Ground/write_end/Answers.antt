@@ -1,4 +1,4 @@
-use Rattle.rx_ground.proofs.Common.{◌≡◌, ◌∷◌, [], refl, sym, ap, ◌∙◌, arith, Option, Some, option_map, false, ◌+◌, ◌-◌, vec_capacity, length, Event}
+use Rattle.rx_ground.proofs.Common.{◌≡◌, ◌∷◌, [], refl, sym, ap, ◌∙◌, arith, Option, option_map, false, ◌+◌, ◌-◌, vec_capacity, length, Event}
 use Rattle.rx_ground.proofs.Common.{option_map_or, End, is_root, find, Slots, Writes, Stowed, is_inside, end_by, Hubs, hubs_ended, is_open_outside-end}
 use Rattle.rx_ground.proofs.Common.{Ground, AreLeased, IsTied, AreTied, record_of, left_inside}
 use Rattle.rx_ground.proofs.MovedHaveGone.{gathers_closed}
@@ -10,25 +10,28 @@ use Rattle.rx_ground.proofs.LeasesAfterEvent.{leased_quiet}
 use Rattle.rx_ground.proofs.base.Ground.write_end.Given.{Over}
 use Rattle.rx_ground.proofs.base.Ground.write_end.Goals as goal
 use Rattle.rx_ground.proofs.base.Ground.write_end.Goals.{After-write}
+use Rattle.rx_slots.proofs.Laws.EntryByNumber.{find-value_at}
+use Rattle.rx_ground.proofs.Common.{IsSome, IfSome, Key, subst}
+use Rattle.rx_ground.proofs.InsideConnections.{parent_read}
 use Rattle.std.proofs.Common.{rules}
 
 pub tell_end-requires-clause-root : goal.tell_end-requires-clause-root
 tell_end-requires-clause-root g c =
     let tied : IsTied c.self.inside.register.base g.R.Resource c.self.inside.register.history c.self.inside.tree =
     rw (← c.self.view_is) at c.requires.tied.of_tree in
-    let told : option_map record_of (find c.self.inside.tree.nodes c.args.node) ≡ Some c.in-Some.record =
-    rw (← c.self.view_is) at (sym c.record.ensures ∙ c.in-Some.is) in
+    let there : IsSome (find c.self.inside.tree.nodes c.args.node) = rw (← c.self.view_is) at c.requires.«open» in
+    let told = ap (option_map record_of) (find-value_at c.self.inside.tree.nodes c.args.node there ∙ c.at-record.ensures.value) in
     c.is_root.ensures ∙ sym (ap (λ (o : Option Event). option_map_or is_root o false) (record_read tied told).made)
 
 -- the cut leaves all ready for the end
 ready : (g : Over) (c : After-write g) → IsReadyToEnd c.self.inside.register.base g.R.Resource c.self.inside.register.history c.args.node.number
-    c.args.terminal c.in-Some.record.made c.parent-above.result c.self.inside.tree c.self-2.inside.tree
+    c.args.terminal c.at-record.result.now.node.made c.parent-above.result c.self.inside.tree c.self-2.inside.tree
 ready g c =
     let tied : IsTied c.self.inside.register.base g.R.Resource c.self.inside.register.history c.self.inside.tree =
     rw (← c.self.view_is) at c.requires.tied.of_tree in
-    let told : option_map record_of (find c.self.inside.tree.nodes c.args.node) ≡ Some c.in-Some.record =
-    rw (← c.self.view_is) at (sym c.record.ensures ∙ c.in-Some.is) in
-    let read = record_read tied told in
+    let there : IsSome (find c.self.inside.tree.nodes c.args.node) = rw (← c.self.view_is) at c.requires.«open» in
+    let found = find-value_at c.self.inside.tree.nodes c.args.node there ∙ c.at-record.ensures.value in
+    let read = record_read tied (ap (option_map record_of) found) in
     record {
       law = c.promise.ensures.lawful;
       next = rw (← c.self.view_is) at c.requires.ready.next;
@@ -37,8 +40,9 @@ ready g c =
       cuts = rw (← c.self-2.view_is) at c.cut.ensures.cut;
       alive = read.alive;
       at_n = read.made;
-      named = c.parent-above.ensures.number ∙ read.parent;
-      there = c.parent-above.ensures.found;
+      named = ap (option_map (λ (k : Key). k.number)) c.parent-above.ensures ∙
+          parent_read c.self.inside.tree.nodes c.args.node c.at-record.result.now.node found c.promise-2.ensures.sound ∙ read.parent;
+      there = subst (λ (o : Option Key). IfSome o (λ up. IsSome (find c.self.inside.tree.nodes up))) (sym c.parent-above.ensures) c.at-record.ensures.above;
     }
 
 pub mark_end-requires-clause-found : goal.mark_end-requires-clause-found
@@ -55,7 +59,7 @@ written g c = search (rules, writes_told, registered)
 ended : (g : Over) (c : goal.After-mark_end g) → IsEnded c.self.inside.register.base g.R.Resource c.write.new.self.history
     c.self.inside.tree c.self-2.inside.tree c.mark_end.new.tree
 ended g c = rw (written g c).history (ended_tied c.parent-above.result (ready g (goal.at.returns-clause-kept g c).After-write)
-    c.promise-3.ensures.sound.apart (rw (c.is_some.ensures, c.source_of.ensures) at c.mark_end.ensures.marked) c.mark_end.ensures.none)
+    c.promise-3.ensures.sound.apart (rw c.is_source-is_source.ensures at c.mark_end.ensures.marked) c.mark_end.ensures.none)
 
 pub invariant_of-self-2 : goal.invariant_of-self-2
 invariant_of-self-2 g c = let count = (ended g c).count in ((let room = c.self-2.invariant.0 in omega arith), c.self-2.invariant.1)
