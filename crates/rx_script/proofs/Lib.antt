@@ -36,4 +36,3 @@ pub mod EachCourse
 pub mod PossibleCourse
 pub mod WholeReport
 mod Examples
-pub mod StockGrowsByOne
