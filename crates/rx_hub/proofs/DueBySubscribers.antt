@@ -1,8 +1,8 @@
 -- What a hub has to do is told by its oldest and its youngest subscriber.
 use Rattle.rx_hub.proofs.Common.{◌≡◌, ℕ, ◌<◌, ◌≤◌, ◌==◌, ◌||◌, cond, Bool, true, false, List, [], ◌∷◌, length, slice_get, Option, Some, None, sym, option_map}
 use Rattle.rx_hub.proofs.Common.{is_some, refl, ap, ◌∙◌, arith, true≢false, IfSome, list_any, option_map_or, option_and_then, not, nat_tests}
-use Rattle.rx_hub.proofs.Common.{same_Some, none-some, Key, first_of, is_key, HubDue, LastEnd, Published, Hub, Rule, IsCalm, IsChain, IsAt, IsDueIn, IsQuiet}
-use Rattle.rx_hub.proofs.Common.{NoneWaits, connects, acts, is_cut, connect_of, due_of, Hubs, IsPromised, AreAbove, Rises, published_of, last_from, subscribed}
+use Rattle.rx_hub.proofs.Common.{same_Some, none-some, Key, first_of, is_key, HubDue, LastEnd, Published, Hub, Rule, IsCalm, IsChain, IsAt, IsDueIn, IsQuiet, IsSteady}
+use Rattle.rx_hub.proofs.Common.{NoneWaits, connects, acts, is_cut, cut_of, left_of, is_auto, ◌++◌, option_or, connect_of, due_of, Hubs, IsPromised, AreAbove, Rises, published_of, last_from, subscribed}
 use Rattle.rx_hub.proofs.Common.{unsubscribed, without_key, Lists, list_at, is_in, take_out, head_of, connect_by, cut_by, due_by, given_by}
 use Rattle.std.specs.List.{filter}
 use Rattle.rx_hub.specs.declared.forcing.Rule.TheVariants.{Connect, Other}
@@ -80,13 +80,18 @@ any_fewer p q (k ∷ ks) none = search (rules, true≢false, any_fewer p q ks)
 pub wait_left : (key : Key) (hub : Hub) → connect_of hub ≡ None → connect_of (unsubscribed key hub) ≡ None
 wait_left key hub none = search (rules, stays_on, any_fewer, none-some)
 
--- a hub that has a connection waits for none
-pub connected_there : (o : Option Hub) (p : Published) → option_map published_of o ≡ Some p → is_some p.connection ≡ true →
-    IfSome o (λ hub. is_some hub.connection ≡ true)
-connected_there x0 p e there = search (rules, same_Some)
+-- a hub that has a connection and keeps no end waits for none by one that comes, and nothing else is due at it
+pub steady_waits_not : (key : Key) (hub : Hub) → IsSteady (published_of hub) → connect_of (subscribed key hub) ≡ None
+steady_waits_not key hub steady = search (rules, stays_on, true≢false)
 
-pub connected_waits_not : (o : Option Hub) → IfSome o (λ hub. is_some hub.connection ≡ true) → option_and_then connect_of o ≡ None
-connected_waits_not x0 there = search (rules, stays_on, true≢false)
+none_left_of : (auto : Bool) (connection : Option Key) (ks : List Key) (key : Key) → left_of auto connection (ks ++ key ∷ []) ≡ None
+none_left_of auto connection [] key = refl
+none_left_of auto connection (k ∷ ks) key = refl
+
+pub steady_due_not : (key : Key) (hub : Hub) → IsSteady (published_of hub) → due_of (subscribed key hub) ≡ None
+steady_due_not key hub steady =
+    ap (λ (o : Option LastEnd). option_or (cut_of o (hub.subscribers ++ key ∷ [])) (left_of (is_auto hub.mode) hub.connection (hub.subscribers ++ key ∷ [])))
+    steady.1 ∙ none_left_of (is_auto hub.mode) hub.connection hub.subscribers key
 
 -- at an index
 pub at_none : (rule : Rule) (hubs : List Hub) (index : ℕ) → option_map published_of (slice_get hubs index) ≡ None →

@@ -1,7 +1,7 @@
 -- Hubs by their numbers, and what is known of those off a chain.
 use Rattle.rx_hub.proofs.Common.{◌≡◌, ◌≢◌, ℕ, zero, suc, ◌<◌, ◌==◌, ◌++◌, cond, map, Bool, true, false, List, [], ◌∷◌, length, slice_get, Option, Some, None}
 use Rattle.rx_hub.proofs.Common.{option_map, is_some, IsSome, IfSome, refl, sym, ap, subst, ◌∙◌, arith, true≢false, cases_lt, nat_tests, Mode}
-use Rattle.rx_hub.proofs.Common.{same_Some, none-some, option_and_then, Key, first_of, HubDue, IsCalm, IsChain, Notes, IsLinked, connect_of}
+use Rattle.rx_hub.proofs.Common.{same_Some, none-some, option_and_then, Key, first_of, HubDue, IsCalm, IsChain, Notes, IsLinked, AreEmpty, connect_of}
 use Rattle.rx_hub.proofs.Common.{due_of, Hub, Hubs, IsPromised, find_hub, at_hub, new_hub, Lists, list_at, is_in}
 use Rattle.rx_hub.proofs.Laws.Walks.{hub_at}
 use Rattle.std.proofs.lemmas.Bool.{cases_Bool}
@@ -122,11 +122,12 @@ pub not_found : (hubs : List Hub) (n : ℕ) → ((i : ℕ) (hub : Hub) → slice
 not_found hubs n none there = true≢false (sym there ∙ ap is_some (find_none hubs n none))
 
 -- one hub changed and was put on both chains
-pub linked_changed : {s new : Hubs} {w d w' d' : Lists} {index : ℕ} (n : ℕ) (change : Hub → Hub) → IsPromised s →
+pub linked_changed : {s new : Hubs} {w d w' d' : Lists} {index : ℕ} {b b' : Bool} (n : ℕ) (change : Hub → Hub) → IsPromised s →
     option_map (λ (hub : Hub). hub.number) (slice_get s.hubs index) ≡ Some n →
     ((hub : Hub) → slice_get s.hubs index ≡ Some hub → new ≡ record s { hubs = at_hub hub.number change s.hubs }) →
-    Notes (due_in connect_of new.hubs index) w w' index → Notes (due_in due_of new.hubs index) d d' index → IsLinked s w d → IsLinked new w' d'
-linked_changed {s} {new} {w} {d} {w'} {d'} {index} n change p named is notes_w notes_d linked =
+    Notes (due_in connect_of new.hubs index) w w' index → Notes (due_in due_of new.hubs index) d d' index → (b' ≡ false → AreEmpty w' d') →
+    IsLinked s w d b → IsLinked new w' d' b'
+linked_changed {s} {new} {w} {d} {w'} {d'} {index} {b} {b'} n change p named is notes_w notes_d empty linked =
     let own = hub_at s.hubs index n named in
     let new_is : new ≡ record s { hubs = at_hub n change s.hubs } = is own.0 own.1.0 ∙ ap (λ k. record s { hubs = at_hub k change s.hubs }) own.1.1 in
     let count = count_at n change s.hubs in
@@ -135,7 +136,7 @@ linked_changed {s} {new} {w} {d} {w'} {d'} {index} n change p named is notes_w n
     let fit = linked.fit in
     let both = linked.both in
     let room = linked.room in
-    subst (λ (t : Hubs). IsLinked t w' d') (sym new_is) (record {
+    subst (λ (t : Hubs). IsLinked t w' d' b') (sym new_is) (record {
       waits = calm_changed w' index n change p named (subst (λ (t : Hubs). Notes (due_in connect_of t.hubs index) w w' index) new_is notes_w) linked.waits;
       acts = calm_changed d' index n change p named (subst (λ (t : Hubs). Notes (due_in due_of t.hubs index) d d' index) new_is notes_d) linked.acts;
       waiting_chain = notes_w.chain;
@@ -143,6 +144,7 @@ linked_changed {s} {new} {w} {d} {w'} {d'} {index} n change p named is notes_w n
       fit = omega (arith, count, w_same, fit);
       both = omega (arith, w_same, d_same, both);
       room = omega (arith, count, w_same, room);
+      empty = empty;
     })
 
 pub nothing_new_waits : (n : ℕ) (mode : Mode) → connect_of (new_hub n mode) ≡ None

@@ -45,9 +45,9 @@ pub calm_forgot : (due : Hub → Option HubDue) (hubs : List Hub) (chain : Lists
     ((i : ℕ) (hub : Hub) → slice_get hubs i ≡ Some hub → due (without_end hub) ≡ None) → IsCalm due (map without_end hubs) chain
 calm_forgot due hubs chain none = search (rules, forgot_get)
 
-pub linked_forgot : (s : Hubs) (waiting due : Lists) → IsQuiet s.hubs → IsLinked s waiting due →
-    IsLinked (record s { hubs = map without_end s.hubs }) waiting due
-linked_forgot s waiting due quiet linked =
+pub linked_forgot : (s : Hubs) (waiting due : Lists) (noted : Bool) → IsQuiet s.hubs → IsLinked s waiting due noted →
+    IsLinked (record s { hubs = map without_end s.hubs }) waiting due noted
+linked_forgot s waiting due noted quiet linked =
     let long = length-map s.hubs without_end in
     let fit = linked.fit in
     let room = linked.room in
@@ -59,6 +59,7 @@ linked_forgot s waiting due quiet linked =
       fit = omega (arith, fit, long);
       both = linked.both;
       room = omega (arith, room, long);
+      empty = linked.empty;
     }
 
 -- and all that callers see of them

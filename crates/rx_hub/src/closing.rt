@@ -23,20 +23,20 @@ impl Hubs {
             return;
         }
         for one in closed {
-            self.leave_one(one, ended);
+            self.leave_one(one, &ended);
         }
     }
 
     // Lets one closed node leave the hub that it subscribed to, or connected.
     #[inline(always)]
-    fn leave_one(&mut self, closed: &Closed, ended: Option<LastEnd>)
+    fn leave_one(&mut self, closed: &Closed, ended: &Option<LastEnd>)
         requires known { IsKnown self.old.hubs closed.now }
-        ensures { self.new ≡ record self.old { hubs = map (after_closing (closed.now ∷ []) ended) self.old.hubs } }
+        ensures { self.new ≡ record self.old { hubs = map (after_closing (closed.now ∷ []) ended.now) self.old.hubs } }
     {
         if let Some(hub) = closed.subscribes_to() {
             self.leave(hub, closed.key());
         } else if let Some(hub) = closed.connects() {
-            self.disconnect(hub, ended);
+            self.disconnect(hub, *ended);
         }
     }
 }

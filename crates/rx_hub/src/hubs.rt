@@ -3,7 +3,7 @@
 ghost use Rattle.std.specs.Prelude.{◌≡◌, ◌+◌, ◌<◌, ◌≤◌, ◌++◌, ◌∷◌, [], length, option_map, max, slice_get};
 ghost use Rattle.std.specs.Prelude.{OnOk, OnErr, IsOk, IsTrue, IfSome, IfNone, IsSome, Some, None, true, false};
 ghost use Rattle.std.specs.Option.{option_and_then};
-ghost use Rattle.rx_hub.specs.Chains.{IsChain, Notes, Puts};
+ghost use Rattle.rx_hub.specs.Chains.{AreEmpty, IsChain, IsSteady, Notes, Puts};
 ghost use Rattle.rx_hub.specs.Due.{connect_of, due_of};
 ghost use Rattle.rx_hub.specs.Rules.{given_by};
 ghost use Rattle.rx_slots.specs.Lists.{list_at, is_in};
@@ -24,6 +24,8 @@ pub struct Hubs {
     // The hubs that may wait for a connection, and those at which something else may be due.
     waiting: Rings,
     due: Rings,
+    // Whether there is one of them.
+    noted: bool,
 }
 
 impl Model for Hubs {
@@ -36,7 +38,7 @@ impl Model for Hubs {
 
     ghost view = { λ s. record s.store { room = s.waiting.members - length s.store.hubs } };
 
-    ghost invariant = { λ s. IsLinked s.store s.waiting s.due };
+    ghost invariant = { λ s. IsLinked s.store s.waiting s.due s.noted };
 }
 
 // Lets indices below this one stand on a chain.
@@ -72,9 +74,7 @@ fn put(chain: &mut Rings, index: usize)
 }
 
 // Puts an index on a chain where the rule gives something there.
-#[cold]
-#[inline(never)]
-fn note(store: &Store, chain: &mut Rings, rule: Rule, index: usize)
+fn note_at(store: &Store, chain: &mut Rings, rule: Rule, index: usize)
     requires chain { IsChain chain.old }
     requires index { index < chain.old.members }
     ensures { Notes (option_and_then (given_by rule) (slice_get store.now.hubs index)) chain.old chain.new index }
@@ -84,32 +84,71 @@ fn note(store: &Store, chain: &mut Rings, rule: Rule, index: usize)
     }
 }
 
-// The same of a hub that waits for a connection: one that has a connection does not.
-#[inline(always)]
-fn note_waiting(store: &Store, chain: &mut Rings, index: usize)
-    requires chain { IsChain chain.old }
-    requires index { index < chain.old.members }
-    ensures { Notes (option_and_then connect_of (slice_get store.now.hubs index)) chain.old chain.new index }
+// Whether something stands on one of the chains.
+fn is_noted(waiting: &Rings, due: &Rings) -> bool
+    ensures { result ≡ false → AreEmpty waiting.now due.now }
 {
-    if store.is_connected(index) {
-        return;
+    if waiting.first(0).is_some() {
+        return true;
     }
-    note(store, chain, Rule::Connect, index);
+    due.first(0).is_some()
 }
 
-// The same of what else is due, where a subscriber came or left: nothing is by that while there are others.
-#[inline(always)]
-fn note_other(store: &Store, chain: &mut Rings, has_others: bool, index: usize)
-    requires chain { IsChain chain.old }
-    requires index { index < chain.old.members }
-    requires among { has_others ≡ true → is_in index (list_at chain.old 0) ≡ false →
-        option_and_then due_of (slice_get store.now.hubs index) ≡ None }
-    ensures { Notes (option_and_then due_of (slice_get store.now.hubs index)) chain.old chain.new index }
+// Puts an index on each chain where its rule gives something there. Whether something stands on one of them then.
+#[cold]
+#[inline(never)]
+fn note(store: &Store, waiting: &mut Rings, due: &mut Rings, index: usize) -> bool
+    requires waiting { IsChain waiting.old }
+    requires due { IsChain due.old }
+    requires index { index < waiting.old.members }
+    requires both { waiting.old.members ≤ due.old.members }
+    ensures waits { Notes (option_and_then connect_of (slice_get store.now.hubs index)) waiting.old waiting.new index }
+    ensures acts { Notes (option_and_then due_of (slice_get store.now.hubs index)) due.old due.new index }
+    ensures empty { result ≡ false → AreEmpty waiting.new due.new }
 {
-    if has_others {
-        return;
+    note_at(store, waiting, Rule::Connect, index);
+    note_at(store, due, Rule::Other, index);
+    is_noted(waiting, due)
+}
+
+// The same where a subscriber came or left: the chains stay as they are where nothing is due by that.
+#[inline(always)]
+fn note_unless(
+    is_quiet: bool,
+    noted: bool,
+    store: &Store,
+    waiting: &mut Rings,
+    due: &mut Rings,
+    index: usize,
+) -> bool
+    requires waiting { IsChain waiting.old }
+    requires due { IsChain due.old }
+    requires index { index < waiting.old.members }
+    requires both { waiting.old.members ≤ due.old.members }
+    requires empty { noted ≡ false → AreEmpty waiting.old due.old }
+    requires unmet { is_quiet ≡ true → is_in index (list_at waiting.old 0) ≡ false →
+        option_and_then connect_of (slice_get store.now.hubs index) ≡ None }
+    requires undue { is_quiet ≡ true → is_in index (list_at due.old 0) ≡ false →
+        option_and_then due_of (slice_get store.now.hubs index) ≡ None }
+    ensures waits { Notes (option_and_then connect_of (slice_get store.now.hubs index)) waiting.old waiting.new index }
+    ensures acts { Notes (option_and_then due_of (slice_get store.now.hubs index)) due.old due.new index }
+    ensures empty { result ≡ false → AreEmpty waiting.new due.new }
+{
+    if is_quiet {
+        return noted;
     }
-    note(store, chain, Rule::Other, index);
+    note(store, waiting, due, index)
+}
+
+// Whether nothing is due at a hub by a subscriber that comes: it has a connection, and keeps no end.
+#[inline(always)]
+fn is_steady(hub: Published) -> bool
+    ensures { result ≡ true → IsSteady hub }
+{
+    if hub.connection.is_none() {
+        return false;
+    }
+    hub.last_end.is_none()
 }
 
 impl Hubs {
@@ -128,6 +167,7 @@ impl Hubs {
             store: Store::new(alloc),
             waiting: Rings::new(alloc),
             due: Rings::new(alloc),
+            noted: false,
         }
     }
 
@@ -255,10 +295,16 @@ impl Hubs {
     {
         self.store.promise();
         let _ = hub;
-        let has_others = self.store.first(index).is_some();
+        let is_quiet = is_steady(self.store.at(index));
         self.store.subscribe(index, key);
-        note_waiting(&self.store, &mut self.waiting, index);
-        note_other(&self.store, &mut self.due, has_others, index);
+        self.noted = note_unless(
+            is_quiet,
+            self.noted,
+            &self.store,
+            &mut self.waiting,
+            &mut self.due,
+            index,
+        );
     }
 
     /// Takes a subscriber away from its hub, when its node is closed. It takes the same time however
@@ -274,8 +320,15 @@ impl Hubs {
             unreachable!()
         };
         self.store.unsubscribe(index, key);
-        let has_others = self.store.first(index).is_some();
-        note_other(&self.store, &mut self.due, has_others, index);
+        let is_quiet = self.store.first(index).is_some();
+        self.noted = note_unless(
+            is_quiet,
+            self.noted,
+            &self.store,
+            &mut self.waiting,
+            &mut self.due,
+            index,
+        );
     }
 
     /// Gives the hub its open connection. It has none: a connection is never replaced.
@@ -289,8 +342,7 @@ impl Hubs {
             unreachable!()
         };
         self.store.connect(index, key);
-        note(&self.store, &mut self.waiting, Rule::Connect, index);
-        note(&self.store, &mut self.due, Rule::Other, index);
+        self.noted = note(&self.store, &mut self.waiting, &mut self.due, index);
     }
 
     /// Takes the hub's connection away, when its node is closed. Where it ended by itself, that end is
@@ -306,8 +358,7 @@ impl Hubs {
             unreachable!()
         };
         self.store.disconnect(index, ended);
-        note(&self.store, &mut self.waiting, Rule::Connect, index);
-        note(&self.store, &mut self.due, Rule::Other, index);
+        self.noted = note(&self.store, &mut self.waiting, &mut self.due, index);
     }
 
     /// Whether no hub was changed so that something may be due there: then nothing is due at any.
@@ -315,13 +366,10 @@ impl Hubs {
     pub fn is_calm(&self) -> bool
         ensures { result ≡ true → IsQuiet self.now.hubs }
     {
-        if self.store.len() == 0 {
-            return true;
-        }
-        if self.waiting.first(0).is_some() {
+        if self.noted {
             return false;
         }
-        self.due.first(0).is_none()
+        true
     }
 
     /// What a hub has to do next: connect, before anything else, where a hub with RefCount has a
@@ -341,8 +389,11 @@ impl Hubs {
         self.store.promise();
         let connect = next_at(&self.store, &mut self.waiting, Rule::Connect);
         if connect.is_some() {
+            self.noted = true;
             return connect;
         }
-        next_at(&self.store, &mut self.due, Rule::Other)
+        let other = next_at(&self.store, &mut self.due, Rule::Other);
+        self.noted = is_noted(&self.waiting, &self.due);
+        other
     }
 }

@@ -1,7 +1,7 @@
 //! The hubs with their subscribers, before anything is due.
 
 ghost use Rattle.std.specs.Prelude.{◌≡◌, ◌+◌, ◌<◌, ◌≤◌, ◌++◌, ◌∷◌, ◌^◌, [], length, map, option_map, slice_get, vec_capacity};
-ghost use Rattle.std.specs.Prelude.{slice_index_or, OnOk, OnErr, IsOk, IsTrue, IfSome, IfNone, IsSome, Some, None, ◌≢◌, is_some, true};
+ghost use Rattle.std.specs.Prelude.{slice_index_or, OnOk, OnErr, IsOk, IsTrue, IfSome, IfNone, IsSome, Some, None, ◌≢◌};
 ghost use Rattle.rx_hub.specs.Hubs.{ended_never};
 ghost use Rattle.rx_hub.specs.Store.{key_in};
 
@@ -181,17 +181,6 @@ impl Store {
         ensures { option_map published_of (slice_get self.now.hubs index) ≡ Some result }
     {
         self.records[index]
-    }
-
-    // Whether a hub has a connection.
-    #[inline(always)]
-    pub(crate) fn is_connected(&self, index: usize) -> bool
-        ensures { result ≡ true → IfSome (slice_get self.now.hubs index) (λ hub. is_some hub.connection ≡ true) }
-    {
-        match self.published(index) {
-            Some(hub) => hub.connection.is_some(),
-            None => false,
-        }
     }
 
     // Changes what a hub has beside its subscribers.

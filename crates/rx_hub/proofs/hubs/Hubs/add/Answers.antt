@@ -28,4 +28,5 @@ invariant_of-self c =
       fit = omega (arith, more, had, fit);
       both = linked.both;
       room = omega (arith, more, room, most);
+      empty = linked.empty;
     }

@@ -6,12 +6,9 @@ use Rattle.std.proofs.Common.{rules}
 pub unreachable-requires : goal.unreachable-requires
 unreachable-requires c = search (rules, not_found)
 
-pub note-requires-clause-index : goal.note-requires-clause-index
-note-requires-clause-index c = search (rules, index_below)
-
-pub note-requires-2-clause-index : goal.note-requires-2-clause-index
-note-requires-2-clause-index c = search (rules, index_below)
+pub note-self-inside-requires-clause-index : goal.note-self-inside-requires-clause-index
+note-self-inside-requires-clause-index c = search (rules, index_below)
 
 pub invariant_of-self : goal.invariant_of-self
 invariant_of-self c = let s = c.self.inside in linked_changed _ (disconnected _) c.promise.ensures c.in-Some.ensures.some c.disconnect.ensures
-    c.note.ensures c.note-2.ensures c.self.invariant
+    c.note-self-inside.ensures.waits c.note-self-inside.ensures.acts c.note-self-inside.ensures.empty c.self.invariant

@@ -6,8 +6,8 @@ use Rattle.std.proofs.Common.{rules}
 pub invariant_of-self : goal.invariant_of-self
 invariant_of-self c =
     let s = c.self.inside in
-    subst (λ (t : Hubs). IsLinked t s.waiting s.due) (sym c.forget_ends.ensures)
-    (linked_forgot s.store s.waiting s.due (subst (λ (v : Hubs). IsQuiet v.hubs) (sym c.self.view_is) c.requires) c.self.invariant)
+    subst (λ (t : Hubs). IsLinked t s.waiting s.due s.noted) (sym c.forget_ends.ensures)
+    (linked_forgot s.store s.waiting s.due s.noted (subst (λ (v : Hubs). IsQuiet v.hubs) (sym c.self.view_is) c.requires) c.self.invariant)
 
 pub returns : goal.returns
 returns c = search (rules, shown_forgot)
