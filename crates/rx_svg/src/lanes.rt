@@ -5,12 +5,12 @@ ghost use Rattle.rx_picture.specs.Rows.{lane_of};
 ghost use Rattle.rx_picture.specs.Leaks.{is_leaking};
 ghost use Rattle.serde_json.specs.View.{view};
 ghost use Rattle.rx_svg.specs.Name.{name_of};
-ghost use Rattle.rx_svg.specs.Lane.{x_of, y_of, has_lane, steps_of, label_front, label_text, ending_text, life_text, stretch_text};
+ghost use Rattle.rx_svg.specs.Lane.{x_of, y_of, has_lane, steps_of, label_text, ending_text, life_text, stretch_text};
 ghost use Rattle.rx_svg.specs.Lane.{held_class, wait_class, owned_text, loan_text, wait_text, release_text, shape_text, name_text, row_text, use_text, tick_text, told_text};
 
 use crate::labels::push_event;
 use crate::names::{Names, push_named};
-use crate::pieces::{Piece, push_pieces};
+use crate::pieces::put;
 use crate::strokes::{push_bar, push_code, push_leak, push_line, push_marble, push_mark};
 use rx_event::{Event, Mail, Terminal};
 use rx_picture::{Drawing, Ending, Point, Row, Shape};
@@ -58,26 +58,8 @@ fn steps_of(drawing: &Drawing, n: u64, made: Event) -> u64
     }
 }
 
-/// The front of what a lane shows, up to what was made.
-#[tactic(auto, unfolding(crate::specs::Lane::label_front, crate::specs::Parts::text_of))]
-fn push_label_front(text: &mut String, x: u64, y: u64, n: u64) -> Result<(), AllocError>
-    ensures { OnOk result (string_bytes text.new ≡ string_bytes text.old ++ label_front x y n) }
-{
-    push_pieces(
-        text,
-        &[
-            Piece::Words("<text x=\""),
-            Piece::Number(x),
-            Piece::Words("\" y=\""),
-            Piece::Number(y),
-            Piece::Words("\" dy=\"4\">"),
-            Piece::Number(n),
-        ],
-    )
-}
-
 /// What a lane shows.
-#[tactic(auto, unfolding(crate::specs::Lane::label_text))]
+#[tactic(auto, unfolding(crate::specs::Lane::label_text, crate::specs::Lane::label_front, crate::specs::Parts::text_of))]
 fn push_label(
     text: &mut String,
     names: Names<'_>,
@@ -89,7 +71,7 @@ fn push_label(
     ensures { OnOk result (string_bytes text.new ≡ string_bytes text.old
         ++ label_text x y n (name_of (view names.entry.object.now) n) made) }
 {
-    push_label_front(text, x, y, n)?;
+    put!(text; "<text x=\"" [x] "\" y=\"" [y] "\" dy=\"4\">" [n])?;
     push_named(text, names, n)?;
     push_event(text, made)?;
     text.push_str("</text>\n")

@@ -35,3 +35,16 @@ pub fn push_pieces(text: &mut String, pieces: &[Piece]) -> Result<(), AllocError
     }
     Ok(())
 }
+
+/// Puts pieces behind a text. Words stand as they are, a number in brackets, one with its sign in
+/// parentheses.
+macro_rules! put {
+    (@piece [$number:expr]) => { $crate::pieces::Piece::Number($number) };
+    (@piece ($number:expr)) => { $crate::pieces::Piece::Signed($number) };
+    (@piece $words:expr) => { $crate::pieces::Piece::Words($words) };
+    ($text:expr; $($piece:tt)*) => {
+        $crate::pieces::push_pieces($text, &[$(put!(@piece $piece)),*])
+    };
+}
+
+pub(crate) use put;

@@ -5,13 +5,13 @@ ghost use Rattle.serde_json.specs.Data.{null};
 ghost use Rattle.serde_json.specs.View.{view};
 ghost use Rattle.rx_svg.specs.Name.{name_of};
 ghost use Rattle.rx_svg.specs.Lane.{row_text, tick_text, told_text};
-ghost use Rattle.rx_svg.specs.Page.{lanes_shown, places_shown, head_text, point_text, below_text, listed_text, list_text, untaken_text, lawful_text};
-ghost use Rattle.rx_svg.specs.Page.{unlawful_text, verdict_text, leak_words, count_text, entry_text, leaking_text, leaks_text, leaks_class};
-ghost use Rattle.rx_svg.specs.Page.{break_text, shares_text, verdict_line, leaks_line, shares_line, under_text, lanes_text, svg_text, IsPicture};
+ghost use Rattle.rx_svg.specs.Page.{lanes_shown, places_shown, head_text, point_text, below_text, listed_text, list_text, lawful_text};
+ghost use Rattle.rx_svg.specs.Page.{verdict_text, leak_words, entry_text, leaking_text, leaks_text, leaks_class};
+ghost use Rattle.rx_svg.specs.Page.{break_text, verdict_line, leaks_line, shares_line, under_text, lanes_text, svg_text, IsPicture};
 
 use crate::lanes::{push_row, push_tick, push_told, value_at, x_of};
 use crate::names::{Names, push_named};
-use crate::pieces::{Piece, push_pieces};
+use crate::pieces::put;
 use crate::strokes::{push_broken, push_column};
 use rx_audit::{Verdict, audit};
 use rx_event::{Event, Mail};
@@ -51,20 +51,9 @@ fn places_shown(drawing: &Drawing, end: u64) -> u64
 fn push_head(text: &mut String, width: u64, height: u64) -> Result<(), AllocError>
     ensures { OnOk result (string_bytes text.new ≡ string_bytes text.old ++ head_text width height) }
 {
-    push_pieces(
-        text,
-        &[
-            Piece::Words("<svg xmlns=\"http://www.w3.org/2000/svg\" width=\""),
-            Piece::Number(width),
-            Piece::Words("\" height=\""),
-            Piece::Number(height),
-            Piece::Words("\" viewBox=\"0 0 "),
-            Piece::Number(width),
-            Piece::Words(" "),
-            Piece::Number(height),
-            Piece::Words("\">\n"),
-            Piece::Words(STYLE),
-        ],
+    put!(text;
+        "<svg xmlns=\"http://www.w3.org/2000/svg\" width=\"" [width] "\" height=\"" [height]
+        "\" viewBox=\"0 0 " [width] " " [height] "\">\n" STYLE
     )
 }
 
@@ -139,16 +128,7 @@ fn push_marbles(text: &mut String, drawing: &Drawing, marbles: &[Mail]) -> Resul
 fn push_below(text: &mut String, class: &'static str, y: u64) -> Result<(), AllocError>
     ensures { OnOk result (string_bytes text.new ≡ string_bytes text.old ++ below_text class.now y) }
 {
-    push_pieces(
-        text,
-        &[
-            Piece::Words("<text class=\""),
-            Piece::Words(class),
-            Piece::Words("\" x=\"10\" y=\""),
-            Piece::Number(y),
-            Piece::Words("\">"),
-        ],
-    )
+    put!(text; "<text class=\"" class "\" x=\"10\" y=\"" [y] "\">")
 }
 
 /// One number after a space.
@@ -156,7 +136,7 @@ fn push_below(text: &mut String, class: &'static str, y: u64) -> Result<(), Allo
 fn push_one(text: &mut String, n: u64) -> Result<(), AllocError>
     ensures { OnOk result (string_bytes text.new ≡ string_bytes text.old ++ listed_text n) }
 {
-    push_pieces(text, &[Piece::Words(" "), Piece::Number(n)])
+    put!(text; " " [n])
 }
 
 /// Each number after a space.
@@ -178,17 +158,8 @@ fn push_list(text: &mut String, name: &'static str, numbers: &[u64]) -> Result<(
     push_listed(text, numbers)
 }
 
-/// Which resources were not handed out.
-#[tactic(auto, unfolding(crate::specs::Page::untaken_text))]
-fn push_untaken(text: &mut String, held: &[u64], waiting: &[u64]) -> Result<(), AllocError>
-    ensures { OnOk result (string_bytes text.new ≡ string_bytes text.old ++ untaken_text held.now waiting.now) }
-{
-    push_list(text, "; held:", held)?;
-    push_list(text, "; waiting:", waiting)
-}
-
 /// What is left of a lawful history.
-#[tactic(auto, unfolding(crate::specs::Page::lawful_text))]
+#[tactic(auto, unfolding(crate::specs::Page::lawful_text, crate::specs::Page::untaken_text))]
 fn push_lawful(
     text: &mut String,
     live: &[u64],
@@ -199,26 +170,12 @@ fn push_lawful(
 {
     text.push_str("lawful")?;
     push_list(text, "; open:", live)?;
-    push_untaken(text, held, waiting)
-}
-
-/// Which event may not stand where it does.
-#[tactic(auto, unfolding(crate::specs::Page::unlawful_text, crate::specs::Parts::text_of))]
-fn push_unlawful(text: &mut String, place: u64) -> Result<(), AllocError>
-    ensures { OnOk result (string_bytes text.new ≡ string_bytes text.old ++ unlawful_text place) }
-{
-    push_pieces(
-        text,
-        &[
-            Piece::Words("unlawful: event "),
-            Piece::Number(place),
-            Piece::Words(" may not follow those before it"),
-        ],
-    )
+    push_list(text, "; held:", held)?;
+    push_list(text, "; waiting:", waiting)
 }
 
 /// The verdict.
-#[tactic(auto, unfolding(crate::specs::Page::unsettled_text))]
+#[tactic(auto, unfolding(crate::specs::Page::unsettled_text, crate::specs::Page::unlawful_text, crate::specs::Parts::text_of))]
 fn push_verdict(text: &mut String, verdict: &Verdict) -> Result<(), AllocError>
     ensures { OnOk result (string_bytes text.new ≡ string_bytes text.old ++ verdict_text verdict.now) }
 {
@@ -228,7 +185,9 @@ fn push_verdict(text: &mut String, verdict: &Verdict) -> Result<(), AllocError>
             held,
             waiting,
         } => push_lawful(text, live.as_slice(), held.as_slice(), waiting.as_slice()),
-        Verdict::Unlawful { place } => push_unlawful(text, *place),
+        Verdict::Unlawful { place } => {
+            put!(text; "unlawful: event " [*place] " may not follow those before it")
+        }
         Verdict::Unsettled => text.push_str("unsettled: an operator has something left to do"),
     }
 }
@@ -242,14 +201,6 @@ fn leak_words(n: u64) -> &'static str
     } else {
         " resources leak:"
     }
-}
-
-/// The number of resources that leak, and these words.
-#[tactic(auto, unfolding(crate::specs::Page::count_text, crate::specs::Parts::text_of))]
-fn push_count(text: &mut String, n: u64, ending: &'static str) -> Result<(), AllocError>
-    ensures { OnOk result (string_bytes text.new ≡ string_bytes text.old ++ count_text n ending.now) }
-{
-    push_pieces(text, &[Piece::Number(n), Piece::Words(ending)])
 }
 
 /// One number after a space, and its name.
@@ -273,13 +224,14 @@ fn push_entries(text: &mut String, names: Names<'_>, numbers: &[u64]) -> Result<
 }
 
 /// How many resources leak, and which.
-#[tactic(auto, unfolding(crate::specs::Page::leaking_text))]
+#[tactic(auto, unfolding(crate::specs::Page::leaking_text, crate::specs::Page::count_text, crate::specs::Parts::text_of))]
 fn push_leaking(text: &mut String, names: Names<'_>, leaks: &[u64]) -> Result<(), AllocError>
     ensures { OnOk result (string_bytes text.new ≡ string_bytes text.old
         ++ leaking_text (name_of (view names.entry.object.now)) leaks.now) }
 {
     let count = leaks.len() as u64;
-    push_count(text, count, leak_words(count))?;
+    let words = leak_words(count);
+    put!(text; [count] words)?;
     push_entries(text, names, leaks)
 }
 
@@ -316,28 +268,6 @@ fn push_break(
     }
 }
 
-/// How much of the history is drawn.
-#[tactic(auto, unfolding(crate::specs::Page::shares_text, crate::specs::Parts::text_of))]
-fn push_shares(text: &mut String, drawing: &Drawing, end: u64) -> Result<(), AllocError>
-    ensures { OnOk result (string_bytes text.new ≡ string_bytes text.old ++ shares_text drawing.now end) }
-{
-    let lanes = lanes_shown(drawing, end);
-    let places = places_shown(drawing, end);
-    push_pieces(
-        text,
-        &[
-            Piece::Number(lanes),
-            Piece::Words(" of "),
-            Piece::Number(drawing.all as u64),
-            Piece::Words(" lanes and "),
-            Piece::Number(places),
-            Piece::Words(" of "),
-            Piece::Number(end),
-            Piece::Words(" places are drawn"),
-        ],
-    )
-}
-
 /// The line of the verdict under the lanes, which are so high.
 #[tactic(auto, unfolding(crate::specs::Page::verdict_line))]
 fn push_verdict_line(text: &mut String, height: u64, verdict: &Verdict) -> Result<(), AllocError>
@@ -367,7 +297,7 @@ fn push_leaks_line(
 }
 
 /// The line about how much is drawn.
-#[tactic(auto, unfolding(crate::specs::Page::shares_line))]
+#[tactic(auto, unfolding(crate::specs::Page::shares_line, crate::specs::Page::shares_text, crate::specs::Parts::text_of))]
 fn push_shares_line(
     text: &mut String,
     drawing: &Drawing,
@@ -378,7 +308,11 @@ fn push_shares_line(
     ensures { OnOk result (string_bytes text.new ≡ string_bytes text.old ++ shares_line drawing.now end height) }
 {
     push_below(text, "under", height + 96)?;
-    push_shares(text, drawing, end)?;
+    let lanes = lanes_shown(drawing, end);
+    let places = places_shown(drawing, end);
+    put!(text;
+        [lanes] " of " [drawing.all as u64] " lanes and " [places] " of " [end] " places are drawn"
+    )?;
     text.push_str("</text>\n")
 }
 
