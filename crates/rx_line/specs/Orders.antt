@@ -31,17 +31,13 @@ pub data Order : Type 0 where
 unfoldable pub does : (word : List ℕ) → Data → Bool
 does word d = option_map_or (λ w. bytes_eq w word) (option_and_then as_str (get (codes "do") d)) false
 
--- an object that has `do` alone, with this word
-unfoldable pub is_word : List ℕ → Data → Bool
-is_word word d = is_object_of (codes "do" ∷ []) d && does word d
-
--- an object that has `do`, with the word `is`, and `node` alone
-unfoldable pub is_query : Data → Bool
-is_query d = is_object_of (codes "do" ∷ codes "node" ∷ []) d && does (codes "is") d
+-- an object that has these members alone, and `do` with this word
+unfoldable pub says : (members : List (List ℕ)) → (word : List ℕ) → Data → Bool
+says members word d = is_object_of members d && does word d
 
 -- the node that is asked about
 unfoldable pub query_in : Data → Option Name
-query_in d = if is_query d then name_in (codes "node") d else None
+query_in d = if says (codes "do" ∷ codes "node" ∷ []) (codes "is") d then name_in (codes "node") d else None
 
 -- a member that steps of a scenario may have, and lines have not
 unfoldable pub is_timed : Data → Bool
@@ -58,9 +54,9 @@ command_in d = if is_timed d then None else option_and_then only_command (action
 -- an `open` that may have the member `res`, and has none that only steps have
 unfoldable pub is_opening : Data → Bool
 is_opening d =
-    is_object_of
-    (codes "do" ∷ codes "name" ∷ codes "place" ∷ codes "of" ∷ codes "kind" ∷ codes "hub" ∷ codes "connection" ∷ codes "res" ∷ []) d
-    && does (codes "open") d
+    says
+    (codes "do" ∷ codes "name" ∷ codes "place" ∷ codes "of" ∷ codes "kind" ∷ codes "hub" ∷ codes "connection" ∷ codes "res" ∷ [])
+    (codes "open") d
 
 -- the members of a command that opens a node, and the resource that this holds
 unfoldable pub holding_in : Data → Option Task
@@ -77,8 +73,8 @@ task_in d = option_or (option_map plain (command_in d)) (holding_in d)
 
 unfoldable pub order_in : Data → Option Order
 order_in d =
-    if is_word (codes "list") d then Some list
-    else if is_word (codes "dump") d then Some dump
+    if says (codes "do" ∷ []) (codes "list") d then Some list
+    else if says (codes "do" ∷ []) (codes "dump") d then Some dump
     else option_or (option_map task (task_in d)) (option_map query (query_in d))
 
 -- what the code's values stand for

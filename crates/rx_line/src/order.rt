@@ -1,14 +1,14 @@
 //! What a line says.
 
-ghost use Rattle.std.specs.Prelude.{◌≡◌, None, Some, option_map, string_bytes, IfOk, IfErr};
+ghost use Rattle.std.specs.Prelude.{◌≡◌, None, Some, map, string_bytes, IfOk, IfErr};
 ghost use Rattle.json.specs.Value.{value_view};
 ghost use Rattle.serde_json.specs.Data.{Data};
 ghost use Rattle.rx_scenario.specs.Scenario.{command_of};
 ghost use Rattle.rx_device.specs.Input.{IsJsonOf};
 ghost use Rattle.rx_device.specs.Part.{data_of, part_data};
 ghost use Rattle.rx_device.specs.Gives.{Gives};
-ghost use Rattle.rx_line.specs.Orders.{query, does, is_word, is_query, query_in, is_timed, command_in};
-ghost use Rattle.rx_line.specs.Orders.{is_opening, holding_in, task_in, task_of, order_in, order_of, IsUnread};
+ghost use Rattle.rx_line.specs.Orders.{does, says, query_in, is_timed, command_in, is_opening, holding_in, task_in};
+ghost use Rattle.rx_line.specs.Orders.{task_of, order_in, order_of, IsUnread};
 
 use crate::wanted::fault_of;
 use json::{Scratch, Value};
@@ -91,35 +91,23 @@ fn does(value: Part<'_, '_>, word: &str) -> bool
     value.get("do").and_then(Part::as_str) == Some(word)
 }
 
-// Whether a value is an object that has `do` alone, with this word.
-#[tactic(auto, unfolding(crate::specs::Orders::is_word))]
-fn is_word(value: Part<'_, '_>, word: &str) -> bool
-    ensures { result ≡ is_word word.now (part_data value.entry) }
+// Whether a value is an object that has these members alone, and `do` with this word.
+#[tactic(auto, unfolding(crate::specs::Orders::says))]
+fn says(value: Part<'_, '_>, members: &[&str], word: &str) -> bool
+    ensures { result ≡ says (map (λ s. s.now) members.now) word.now (part_data value.entry) }
 {
-    is_object_of(value, &["do"]) && does(value, word)
-}
-
-// Whether a value is an object that has `do`, with the word `is`, and `node` alone.
-#[tactic(auto, unfolding(crate::specs::Orders::is_query))]
-fn is_query(value: Part<'_, '_>) -> bool
-    ensures { result ≡ is_query (part_data value.entry) }
-{
-    is_object_of(value, &["do", "node"]) && does(value, "is")
+    is_object_of(value, members) && does(value, word)
 }
 
 // The node that a value asks about.
 #[tactic(auto, unfolding(crate::specs::Orders::query_in))]
-fn query_in(alloc: Global, value: Part<'_, '_>) -> Result<Option<String>, AllocError>
-    ensures { IfOk result (λ n. option_map string_bytes n ≡ query_in (part_data value.entry)) }
+fn query_in(alloc: Global, value: Part<'_, '_>) -> Result<String, ShapeError>
+    ensures { Gives string_bytes result (query_in (part_data value.entry)) }
 {
-    if !is_query(value) {
-        return Ok(None);
+    if !says(value, &["do", "node"], "is") {
+        return Err(ShapeError::Shape);
     }
-    match name_in(alloc, value, "node") {
-        Ok(node) => Ok(Some(node)),
-        Err(ShapeError::Shape) => Ok(None),
-        Err(ShapeError::Memory) => Err(AllocError),
-    }
+    name_in(alloc, value, "node")
 }
 
 // Whether a member is one of a step, and of no line.
@@ -135,17 +123,15 @@ fn is_timed(value: Part<'_, '_>) -> bool
 
 // The command that a value is.
 #[tactic(auto, unfolding(crate::specs::Orders::command_in))]
-fn command_in(alloc: Global, value: Part<'_, '_>) -> Result<Option<Command>, AllocError>
-    ensures { IfOk result (λ c. option_map command_of c ≡ command_in (part_data value.entry)) }
+fn command_in(alloc: Global, value: Part<'_, '_>) -> Result<Command, ShapeError>
+    ensures { Gives command_of result (command_in (part_data value.entry)) }
 {
     if is_timed(value) {
-        return Ok(None);
+        return Err(ShapeError::Shape);
     }
-    match action_in(alloc, value) {
-        Ok(Action::Command(command)) => Ok(Some(command)),
-        Ok(Action::Cancel(_)) => Ok(None),
-        Err(ShapeError::Shape) => Ok(None),
-        Err(ShapeError::Memory) => Err(AllocError),
+    match action_in(alloc, value)? {
+        Action::Command(command) => Ok(command),
+        Action::Cancel(_) => Err(ShapeError::Shape),
     }
 }
 
@@ -154,24 +140,22 @@ fn command_in(alloc: Global, value: Part<'_, '_>) -> Result<Option<Command>, All
 fn is_opening(value: Part<'_, '_>) -> bool
     ensures { result ≡ is_opening (part_data value.entry) }
 {
-    is_object_of(
-        value,
-        &[
-            "do",
-            "name",
-            "place",
-            "of",
-            "kind",
-            "hub",
-            "connection",
-            "res",
-        ],
-    ) && does(value, "open")
+    let members = &[
+        "do",
+        "name",
+        "place",
+        "of",
+        "kind",
+        "hub",
+        "connection",
+        "res",
+    ];
+    says(value, members, "open")
 }
 
-// The opening of a node that holds a resource, from its members.
+// The opening of a node that holds a resource, which a value is.
 #[tactic(auto, unfolding(crate::specs::Orders::holding_in))]
-fn holding_of(alloc: Global, value: Part<'_, '_>) -> Result<Task, ShapeError>
+fn holding_in(alloc: Global, value: Part<'_, '_>) -> Result<Task, ShapeError>
     ensures { Gives task_of result (holding_in (part_data value.entry)) }
 {
     if !is_opening(value) {
@@ -189,52 +173,33 @@ fn holding_of(alloc: Global, value: Part<'_, '_>) -> Result<Task, ShapeError>
     })
 }
 
-// The opening of a node that holds a resource, which a value is.
-fn holding_in(alloc: Global, value: Part<'_, '_>) -> Result<Option<Task>, AllocError>
-    ensures { IfOk result (λ t. option_map task_of t ≡ holding_in (part_data value.entry)) }
-{
-    match holding_of(alloc, value) {
-        Ok(task) => Ok(Some(task)),
-        Err(ShapeError::Shape) => Ok(None),
-        Err(ShapeError::Memory) => Err(AllocError),
-    }
-}
-
 // The task that a value is.
 #[tactic(auto, unfolding(crate::specs::Orders::task_in))]
-fn task_in(alloc: Global, value: Part<'_, '_>) -> Result<Option<Task>, AllocError>
-    ensures { IfOk result (λ t. option_map task_of t ≡ task_in (part_data value.entry)) }
+fn task_in(alloc: Global, value: Part<'_, '_>) -> Result<Task, ShapeError>
+    ensures { Gives task_of result (task_in (part_data value.entry)) }
 {
-    match command_in(alloc, value)? {
-        Some(command) => Ok(Some(Task::Command(command))),
-        None => holding_in(alloc, value),
-    }
-}
-
-// What a value asks for that is no task.
-fn query_order(alloc: Global, value: Part<'_, '_>) -> Result<Option<Order>, AllocError>
-    ensures { IfOk result (λ o. option_map order_of o ≡ option_map query (query_in (part_data value.entry))) }
-{
-    match query_in(alloc, value)? {
-        Some(node) => Ok(Some(Order::Query(node))),
-        None => Ok(None),
+    match command_in(alloc, value) {
+        Ok(command) => Ok(Task::Command(command)),
+        Err(ShapeError::Shape) => holding_in(alloc, value),
+        Err(ShapeError::Memory) => Err(ShapeError::Memory),
     }
 }
 
 // What a value asks for.
 #[tactic(auto, unfolding(crate::specs::Orders::order_in))]
-fn order_in(alloc: Global, value: Part<'_, '_>) -> Result<Option<Order>, AllocError>
-    ensures { IfOk result (λ o. option_map order_of o ≡ order_in (part_data value.entry)) }
+fn order_in(alloc: Global, value: Part<'_, '_>) -> Result<Order, ShapeError>
+    ensures { Gives order_of result (order_in (part_data value.entry)) }
 {
-    if is_word(value, "list") {
-        return Ok(Some(Order::List));
+    if says(value, &["do"], "list") {
+        return Ok(Order::List);
     }
-    if is_word(value, "dump") {
-        return Ok(Some(Order::Dump));
+    if says(value, &["do"], "dump") {
+        return Ok(Order::Dump);
     }
-    match task_in(alloc, value)? {
-        Some(task) => Ok(Some(Order::Task(task))),
-        None => query_order(alloc, value),
+    match task_in(alloc, value) {
+        Ok(task) => Ok(Order::Task(task)),
+        Err(ShapeError::Shape) => Ok(Order::Query(query_in(alloc, value)?)),
+        Err(ShapeError::Memory) => Err(ShapeError::Memory),
     }
 }
 
@@ -269,8 +234,9 @@ pub fn order_of(alloc: Global, value: Part<'_, '_>) -> Result<Order, Unread>
     ensures ok { IfOk result (λ o. order_in (part_data value.entry) ≡ Some (order_of o)) }
     ensures err { IfErr result (IsUnread (order_in (part_data value.entry) ≡ None)) }
 {
-    match order_in(alloc, value)? {
-        Some(order) => Ok(order),
-        None => Err(Unread::Faulty(fault_of(alloc, value)?)),
+    match order_in(alloc, value) {
+        Ok(order) => Ok(order),
+        Err(ShapeError::Shape) => Err(Unread::Faulty(fault_of(alloc, value)?)),
+        Err(ShapeError::Memory) => Err(Unread::Memory),
     }
 }

@@ -92,15 +92,18 @@ fn code_fault(object: Part<'_, '_>, may: bool) -> Option<&'static str> {
     }
 }
 
+// What is said of a member that is not right.
+fn fault(is_right: bool, told: &'static str) -> Option<&'static str> {
+    if is_right { None } else { Some(told) }
+}
+
 // What is wrong with the node above.
 fn of_fault(object: Part<'_, '_>) -> Option<&'static str> {
     if !is_word(object, "place", "root") {
         return name_fault(object, "of", false);
     }
-    match object.get("of") {
-        Some(_) => Some("not allowed here: a root has no node above it"),
-        None => None,
-    }
+    let told = "not allowed here: a root has no node above it";
+    fault(object.get("of").is_none(), told)
 }
 
 // What is wrong with a member that a subscriber alone has.
@@ -108,24 +111,18 @@ fn sub_fault(object: Part<'_, '_>, member: &str, may: bool) -> Option<&'static s
     if is_word(object, "kind", "sub") {
         return name_fault(object, member, may);
     }
-    match object.get(member) {
-        Some(_) => Some("not allowed here: the kind is not sub"),
-        None => None,
-    }
+    let told = "not allowed here: the kind is not sub";
+    fault(object.get(member).is_none(), told)
 }
 
-fn value_fault(object: Part<'_, '_>) -> Option<&'static str> {
-    match object.get("value").and_then(Part::as_i64) {
-        Some(_) => None,
-        None => Some("a whole number from -2^63 to 2^63 - 1 is expected"),
+fn number_fault(object: Part<'_, '_>, member: &str) -> Option<&'static str> {
+    let number = object.get(member);
+    if member == "value" {
+        let told = "a whole number from -2^63 to 2^63 - 1 is expected";
+        return fault(number.and_then(Part::as_i64).is_some(), told);
     }
-}
-
-fn word_fault(object: Part<'_, '_>) -> Option<&'static str> {
-    match object.get("word").and_then(Part::as_u64) {
-        Some(_) => None,
-        None => Some("a whole number from 0 to 2^64 - 1 is expected"),
-    }
+    let told = "a whole number from 0 to 2^64 - 1 is expected";
+    fault(number.and_then(Part::as_u64).is_some(), told)
 }
 
 fn words_fault(object: Part<'_, '_>, member: &str) -> Option<&'static str> {
@@ -140,18 +137,13 @@ fn words_fault(object: Part<'_, '_>, member: &str) -> Option<&'static str> {
         ),
         _ => ("auto, manual", "auto or manual is expected"),
     };
-    if is_one_of(object, member, words) {
-        None
-    } else {
-        Some(told)
-    }
+    fault(is_one_of(object, member, words), told)
 }
 
 // What is wrong with a member of a command.
 fn member_fault(object: Part<'_, '_>, command: &str, member: &str) -> Option<&'static str> {
     match member {
-        "value" => value_fault(object),
-        "word" => word_fault(object),
+        "value" | "word" => number_fault(object, member),
         "error" => code_fault(object, command == "end"),
         "of" => of_fault(object),
         "place" | "kind" | "mode" => words_fault(object, member),
