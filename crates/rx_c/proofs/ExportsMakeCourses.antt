@@ -3,7 +3,7 @@ use Rattle.std.proofs.Common.{◌≡◌, ℕ, List, [], ◌++◌, Option, Some, 
 use Rattle.std.proofs.lemmas.Option.{same_Some}
 use Rattle.rx_resource.specs.declared.Resource.{Ghosts}
 use Rattle.rx_book.specs.State.{State, IsPromised}
-use Rattle.rx_typed.specs.declared.token.Token.{Token}
+use Rattle.rx_resource.specs.declared.token.Token.{Token}
 use Rattle.rx_typed.specs.Codes.{asked_of, place_at, terminal_of, mode_of}
 use Rattle.rx_typed.specs.Events.{IsEventTold}
 use Rattle.rx_typed.specs.Events.{tells_event as is_event, has_no_event}

@@ -2,7 +2,7 @@
 use Rattle.std.specs.Prelude.{◌≡◌, ℕ, ℤ, ◌++◌, List, [], Some, None}
 use Rattle.rx_resource.specs.declared.Resource.{Ghosts}
 use Rattle.rx_book.specs.State.{State}
-use Rattle.rx_typed.specs.declared.token.Token.{Token}
+use Rattle.rx_resource.specs.declared.token.Token.{Token}
 use Rattle.rx_typed.specs.Drained.{IsDrainedCall, no_drained}
 use Rattle.rx_typed.specs.Events.{IsEventTold, no_event}
 use Rattle.rx_typed.specs.declared.shapes.RxMail.{RxMail}

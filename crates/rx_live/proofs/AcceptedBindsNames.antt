@@ -6,8 +6,8 @@ use Rattle.rx_live.proofs.Common.{is_out_past, Name, LeaseKey, State, IsPromised
 use Rattle.rx_live.proofs.Common.{spot_of, name_of, IsPaired, AreSame, Binds, Forgets, Book, Outcome, Accepted, Refused, Session, IsSound, IsPlaced, lease_of}
 use Rattle.rx_live.proofs.Common.{has_resource, lease_key_at, AreOpenSame, IsAlike, GivesBy, GivesNames, IsUnchanged, BindsResource, BindsLease, BindsHub}
 use Rattle.rx_live.proofs.Common.{keeps_resources, keeps_leases, kept_same, out_same, kept_held, kept_past, out_leased, out_returned}
-use Rattle.rx_resource.specs.declared.Life.{Life}
 use Rattle.rx_resource.specs.declared.Life.TheVariants.{Live}
+use Rattle.rx_resource.specs.declared.token.Token.{Token}
 use Rattle.rx_live.proofs.Soundness.{accepted_longer}
 use Rattle.std.proofs.Common.{rules}
 
@@ -190,5 +190,8 @@ pub lease_named : (s : Session) (name : Name) (k : LeaseKey) → IsSound s → l
 lease_named s name k sound found = by_spot s name k (spot_of s.leases name) sound refl found
 
 -- a token that is new
-pub is_new : (state : Life) (count : ℕ) → state ≡ Live → count ≡ 0 → (is_live state && count == 0) ≡ true
-is_new state count live unused = rw (live, unused) refl
+pub is_new : {tag : ℕ} {t : Token} → t ≡ record { tag = tag; life = Live; uses = 0 } → (is_live t.life && t.uses == 0) ≡ true
+is_new made = ap (λ (t : Token). is_live t.life && t.uses == 0) made
+
+pub tag_of_new : {tag : ℕ} {t : Token} → t ≡ record { tag = tag; life = Live; uses = 0 } → t.tag ≡ tag
+tag_of_new made = ap (λ (t : Token). t.tag) made

@@ -5,10 +5,10 @@ ghost use Rattle.rx_book.specs.State.{IsPromised};
 ghost use Rattle.rx_live.specs.Lines.{IsFresh};
 ghost use Rattle.rx_live.specs.Session.{session_of, node_of, resource_of, lease_of, hub_of, has_resource, IsSound};
 
-use crate::token::Token;
 use rx_book::{Book, Key, LeaseKey, Mail, ResKey};
 use rx_line::Names;
 use rx_listing::Past;
+use rx_resource::Token;
 use std::alloc::Global;
 
 /// A book, and the names of its nodes, of its hubs, of its resources and of its leases.

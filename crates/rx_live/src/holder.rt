@@ -12,10 +12,10 @@ ghost use Rattle.rx_live.specs.Openings.{connection_of, holder_at, holder_asked,
 use crate::calls::answered;
 use crate::engine::Engine;
 use crate::opening::{are_taken, bind_made, connection_name, kind_of, place_at, spot_of, twice};
-use crate::token::Token;
 use rx_book::{At, OpenedHolding};
 use rx_event::Kind;
 use rx_line::{Cause, Outcome, Spot, Twice};
+use rx_resource::Token;
 use rx_scenario::{Site, Sort};
 use std::alloc::AllocError;
 

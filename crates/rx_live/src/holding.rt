@@ -10,10 +10,10 @@ ghost use Rattle.rx_live.specs.Given.{GivesNames, IsUnchanged, BindsResource, Bi
 
 use crate::calls::answered;
 use crate::engine::Engine;
-use crate::token::Token;
 use rx_book::{LeaseKey, ResKey};
 use rx_event::Mode;
 use rx_line::{Cause, Outcome, Spot, Twice};
+use rx_resource::Token;
 use std::alloc::AllocError;
 
 /// A node holds a resource of the caller's.

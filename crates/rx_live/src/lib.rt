@@ -57,7 +57,6 @@ mod running;
 mod sending;
 mod telling;
 mod theorems;
-mod token;
 
 pub use live::Live;
 pub use rx_line::faulty_text;

@@ -16,10 +16,10 @@ ghost use Rattle.rx_live.specs.Openings.{BindsMade, BindsNode, BindsUsing, Binds
 
 use crate::calls::answered;
 use crate::engine::Engine;
-use crate::token::Token;
 use rx_book::{At, Book, Key, Mail, Opened, OpenedUsing};
 use rx_event::Kind;
 use rx_line::{Cause, Names, Outcome, Spot, Twice};
+use rx_resource::Token;
 use rx_scenario::{Site, Sort};
 use std::alloc::AllocError;
 

@@ -14,9 +14,9 @@ ghost use Rattle.rx_live.specs.Renewals.{AreOpen, Renewing};
 use crate::calls::answered;
 use crate::engine::Engine;
 use crate::listing::past_of;
-use crate::token::Token;
 use rx_book::{Book, Key, Refusal};
 use rx_line::{Cause, Names, Outcome, Spot};
+use rx_resource::Token;
 use std::alloc::AllocError;
 
 // Where what has this number lies, if it has a name.

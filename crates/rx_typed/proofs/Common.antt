@@ -13,7 +13,7 @@ pub use Rattle.rx_event.proofs.Laws.{Lawful.shown_within, Places.at_within, Plac
 pub use Rattle.rx_event.specs.{Calls.outside_of, Causes.checkpoint_causes, declared.event.Event.Event, declared.event.Kind.TheVariants.Pass}
 pub use Rattle.rx_event.specs.declared.{event.Event.TheVariants.Accept, event.Event.TheVariants.Open, mail.Mail.Mail, refusal.Refusal.Refusal}
 pub use Rattle.rx_ground.{proofs.Laws.Members.Contains-map, specs.Shown.Label, specs.Shown.label_of}
-pub use Rattle.rx_resource.specs.declared.Resource.{Ghosts}
-pub use Rattle.rx_typed.specs.{Calls.takes, Calls.IsTakenWhole, Calls.tells, Courses.notes_left, Events.tells_event, Tokens.fresh, declared.token.Token.Token}
+pub use Rattle.rx_resource.specs.declared.{Resource.Ghosts, token.Token.Token}
+pub use Rattle.rx_typed.specs.{Calls.takes, Calls.IsTakenWhole, Calls.tells, Courses.notes_left, Events.tells_event, Tokens.fresh}
 pub use Rattle.rx_typed.specs.Drained.{AreMailsTaken, AreTaken, mail_taken, no_mail_taken, none_taken, one_taken}
 pub use Rattle.rx_typed.specs.declared.shapes.{RxMail.RxMail, RxNode.RxNode, RxRes.RxRes, RxTaken.RxTaken, RxUsing.RxUsing}

@@ -29,7 +29,7 @@ use Rattle.rx_book.specs.Requests.{apply_request, remove_request, lease_request,
 use Rattle.rx_book.specs.Answers.{AnswersPlace, AnswersPlaceOrWant, AnswersWord, AnswersKey, AnswersResKey, AnswersLeaseKey}
 use Rattle.rx_book.specs.Answers.{AnswersOpened, AnswersOpenedUsing, AnswersHanded}
 use Rattle.rx_typed.specs.declared.typed.Typed.{Typed}
-use Rattle.rx_typed.specs.declared.token.Token.{Token}
+use Rattle.rx_resource.specs.declared.token.Token.{Token}
 use Rattle.rx_typed.specs.declared.shapes.RxMail.{RxMail}
 use Rattle.rx_typed.specs.declared.shapes.RxTaken.{RxTaken}
 use Rattle.rx_typed.specs.declared.shapes.RxNode.{RxNode}

@@ -8,7 +8,7 @@ use Rattle.rx_event.specs.Resources.{accepted_by}
 use Rattle.rx_event.specs.Notes.{notes}
 use Rattle.rx_book.specs.State.{State, IsPromised, accepted_tag, is_kept}
 use Rattle.rx_book.specs.declared.answer.At.{At}
-use Rattle.rx_typed.specs.declared.token.Token.{Token}
+use Rattle.rx_resource.specs.declared.token.Token.{Token}
 use Rattle.rx_typed.specs.Codes.{mail_of}
 use Rattle.rx_typed.specs.Calls.{IsClosed, IsCheckpoint, IsTakenWhole}
 use Rattle.rx_typed.specs.Drained.{IsDrainedCall}

@@ -3,7 +3,7 @@ use Rattle.std.specs.Prelude.{◌≡◌, ℕ, ◌<◌, ◌≤◌, ◌++◌, ◌�
 use Rattle.rx_resource.specs.declared.Resource.{Ghosts}
 use Rattle.rx_event.specs.Notes.{notes}
 use Rattle.rx_book.specs.State.{State, IsPromised}
-use Rattle.rx_typed.specs.declared.token.Token.{Token}
+use Rattle.rx_resource.specs.declared.token.Token.{Token}
 use Rattle.rx_typed.specs.Calls.{IsMailTaken, IsTaken}
 use Rattle.rx_typed.specs.declared.shapes.RxMail.{RxMail}
 use Rattle.rx_typed.specs.declared.shapes.RxTaken.{RxTaken}

@@ -2,7 +2,7 @@
 use Rattle.std.specs.Prelude.{◌≡◌, ℕ}
 use Rattle.rx_resource.specs.declared.Resource.{Ghosts}
 use Rattle.rx_book.specs.State.{State, IsPromised}
-use Rattle.rx_typed.specs.declared.token.Token.{Token}
+use Rattle.rx_resource.specs.declared.token.Token.{Token}
 use Rattle.rx_typed.specs.Drained.{IsDrainedCall}
 use Rattle.rx_typed.specs.declared.shapes.RxDrained.{RxDrained}
 use Rattle.rx_typed.specs.declared.shapes.RxTold.{RxTold}

@@ -2,8 +2,8 @@
 
 ghost use Rattle.rx_typed.specs.Courses.{AreHandedBackOnce, AreNotesToldOnce};
 
-use crate::token::Token;
 use rx_book::Resource;
+use rx_resource::Token;
 
 /// Of any calls on one book, from a new one until each resource was taken: each tag that `using` or `hold`
 /// took in with the status 0 is told once behind that, by `take`, a draining or a call that tells, under the

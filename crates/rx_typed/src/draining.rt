@@ -3,8 +3,8 @@
 ghost use Rattle.rx_typed.specs.Drained.{IsDrained, AreMailsTaken, AreTaken, IsDrainedCall, HasNoMail, HasNone};
 
 use crate::shapes::{RxDrained, RxMail, RxTaken, mail_of};
-use crate::token::Token;
 use rx_book::{Book, Resource};
+use rx_resource::Token;
 
 // Hands out notes to the front of the array, until it is full or none is left.
 fn drain_mails(book: &mut Book<Token>, mails: &mut [RxMail]) -> usize

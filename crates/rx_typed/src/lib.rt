@@ -32,7 +32,6 @@ mod dumping;
 mod shapes;
 mod status;
 mod telling;
-mod token;
 mod told;
 mod typed;
 
@@ -40,6 +39,7 @@ pub use codes::{asked, kind_of, mode_of, place_at, terminal_of};
 pub use course_laws::{notes_are_told_once, resources_are_handed_back_once};
 pub use draining::drain;
 pub use dumping::no_event;
+pub use rx_resource::Token;
 pub use shapes::{
     RxCounts, RxDrained, RxEvent, RxLease, RxMail, RxNode, RxOpened, RxRes, RxTaken, RxTold,
     RxUsing, no_lease, no_mail, no_node, no_opened, no_res, no_taken, no_used,
@@ -47,5 +47,4 @@ pub use shapes::{
 pub use status::{
     CUT, DONE, HELD, NO_MEMORY, NO_SUCH_CODE, NOTHING_KEPT, NOTHING_WAITS, SMALL, UNTAKEN,
 };
-pub use token::Token;
 pub use typed::Typed;

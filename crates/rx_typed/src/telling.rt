@@ -9,8 +9,8 @@ ghost use Rattle.rx_typed.specs.Calls.{IsOpen, IsUsing};
 use crate::Typed;
 use crate::draining::drain;
 use crate::shapes::{RxLease, RxNode, RxOpened, RxRes, RxTold, RxUsing};
-use crate::token::Token;
 use rx_book::{At, Kind, Resource, Terminal};
+use rx_resource::Token;
 
 impl RxTold {
     /// Nothing was told: the arrays stay as they are.

@@ -12,9 +12,9 @@ use crate::shapes::{
     res_key_of, res_of,
 };
 use crate::status::{DONE, NOTHING_WAITS, status_of};
-use crate::token::Token;
 use crate::told::place_told;
 use rx_book::{At, Book, Kind, Mode, Resource, Terminal};
+use rx_resource::Token;
 use std::alloc::Global;
 
 /// A book whose resources are tokens.

@@ -1,4 +1,4 @@
-use Rattle.rx_typed.specs.contracts.token.TokenResource.TheImpl.{ghosts}
+use Rattle.rx_resource.specs.contracts.token.TokenResource.TheImpl.{ghosts}
 use Rattle.rx_c.proofs.ExportsMakeCourses.{tags_told_once}
 use Rattle.rx_c.proofs.laws.tags_are_told_once.Goals as goal
 

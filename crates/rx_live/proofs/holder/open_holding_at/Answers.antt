@@ -3,7 +3,7 @@ use Rattle.rx_live.proofs.Common.{IfSome, bytes_eq, option_map_or, Accept, Refus
 use Rattle.rx_live.proofs.Common.{open_request, Spot, spot_of, name_of, Binds, session_of, has_resource, NamesOne, holder_at, holder_causes, is_open_taken}
 use Rattle.rx_live.proofs.Common.{is_holder_taken, OpensHolder, BindsMade, BindsHolder}
 use Rattle.rx_live.proofs.Soundness.{accepted_longer}
-use Rattle.rx_live.proofs.AcceptedBindsNames.{none_of, or_false, is_new, accepted_by, refused_by}
+use Rattle.rx_live.proofs.AcceptedBindsNames.{none_of, or_false, is_new, tag_of_new, accepted_by, refused_by}
 use Rattle.rx_live.proofs.OpenedNodesGetNames.{placed, unchanged_room, unchanged_rooms, connection_free, made_unnamed, unnamed_past, on_err, with_book}
 use Rattle.rx_live.proofs.OpenedNodesHold.{causes_of, holder_bound, holder_sound}
 use Rattle.rx_live.proofs.holder.open_holding_at.Goals as goal
@@ -39,8 +39,7 @@ returns-in-Err-clause-ok c =
     let no_node : is_open_taken s name connection ≡ false =
     ap (λ (n : Name). is_open_taken s n connection) (sym c.as_str-2.ensures.value) ∙ sym c.are_taken.ensures.answer ∙ c.if-are_taken.false in
     let free : has_resource s res ≡ false = ap (has_resource s) (sym c.as_str.ensures.value) ∙ sym c.has_resource.ensures ∙ c.if-has_resource.false in
-    let token = c.new-token.result in
-    let fresh = is_new token.life token.uses c.new-token.ensures.live c.new-token.ensures.unused in
+    let fresh = is_new c.new-token.ensures in
     let cause : IsRefusal (holder_causes s.book (holder_at place kind)) c.in-Err.unheld.why =
     subst (λ (stand : Refusal → Bool). IsRefusal stand c.in-Err.unheld.why) (causes_of s.book place kind fresh) c.in-Err.ensures.refused in
     refused_by holder_causes OpensHolder (BindsHolder s name connection res) c.in-Err.unheld.why c.answered.result refl (λ i. no_node i || free i) cause
@@ -69,11 +68,10 @@ returns-in-Ok-clause-ok c =
     let no_node : is_open_taken s name connection ≡ false =
     ap (λ (n : Name). is_open_taken s n connection) (sym c.as_str-2.ensures.value) ∙ sym c.are_taken.ensures.answer ∙ c.if-are_taken.false in
     let free : has_resource s res ≡ false = ap (has_resource s) (sym c.as_str.ensures.value) ∙ sym c.has_resource.ensures ∙ c.if-has_resource.false in
-    let token = c.new-token.result in
-    let fresh = is_new token.life token.uses c.new-token.ensures.live c.new-token.ensures.unused in
+    let fresh = is_new c.new-token.ensures in
     let did = c.in-Ok.ensures.ok in
     let middle = did.middle in
-    let tag : token.tag ≡ key.number = c.new-token.ensures.tag ∙ c.len.ensures ∙ sym did.opened.key.number in
+    let tag : c.new-token.result.tag ≡ key.number = tag_of_new c.new-token.ensures ∙ c.len.ensures ∙ sym did.opened.key.number in
     let asked : ℕ → Bool → Request = λ n b. record { call = Holding key.number n; is_known = has_key middle.keys key; is_fresh = b } in
     let o : OpensHolder s.book (holder_at place kind) book = record {
       none = subst (λ (stand : Refusal → Bool). first_cause stand ≡ None) (causes_of s.book place kind fresh) c.in-Ok.ensures.no_cause;

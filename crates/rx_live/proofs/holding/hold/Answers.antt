@@ -1,6 +1,6 @@
 use Rattle.rx_live.proofs.Common.{◌≡◌, ℕ, Bool, false, Some, length, sym, ap, ◌∙◌, subst, option_map, string_bytes, Holding, Request, Name, has_key, Accepts}
 use Rattle.rx_live.proofs.Common.{Spot, name_of, Binds, Session, session_of, node_of, has_resource, hold_asked, BindsResource}
-use Rattle.rx_live.proofs.AcceptedBindsNames.{unnamed_resource, is_new, given_accepted, held_bound, held_sound}
+use Rattle.rx_live.proofs.AcceptedBindsNames.{unnamed_resource, is_new, tag_of_new, given_accepted, held_bound, held_sound}
 use Rattle.rx_live.proofs.holding.hold.Goals as goal
 
 pub bind-requires-clause-unnamed : goal.bind-requires-clause-unnamed
@@ -22,9 +22,8 @@ returns-in-Ok-clause-ok c =
     let found : node_of s c.args.node.now ≡ Some key = sym c.node.ensures ∙ c.in-Some.is in
     let free : has_resource s name ≡ false = ap (has_resource s) (sym c.as_str.ensures.value) ∙ sym c.has_resource.ensures ∙ c.if-has_resource.false in
     let binds : Binds mid name spot new = subst (λ (n : Name). Binds mid n spot new) c.in_ok-res.ensures c.bind.ensures.binds in
-    let token = c.new-token.result in
-    let fresh = is_new token.life token.uses c.new-token.ensures.live c.new-token.ensures.unused in
-    let tag : token.tag ≡ length s.book.history = c.new-token.ensures.tag ∙ c.len.ensures in
+    let fresh = is_new c.new-token.ensures in
+    let tag : c.new-token.result.tag ≡ length s.book.history = tag_of_new c.new-token.ensures ∙ c.len.ensures in
     let asked : ℕ → Bool → Request = λ n b. record { call = Holding key.number n; is_known = has_key s.book.keys key; is_fresh = b } in
     let accepts : Accepts s.book (hold_asked s.book key) book =
     subst (λ (r : Request). Accepts s.book r book) (λ i. asked (tag i) (fresh i)) c.in-Ok.ensures.accepted in

@@ -1,7 +1,7 @@
 use Rattle.rx_live.proofs.Common.{arith, ◌≡◌, ℕ, ◌+◌, Bool, false, Some, length, sym, ap, ◌∙◌, subst, option_map, string_bytes, ◌||◌, OpeningUsing, Name, At}
 use Rattle.rx_live.proofs.Common.{site_of, State, Request, place_of, is_known_place, Accepts, IsCauseOrWant, Spot, name_of, Binds, session_of, has_resource}
 use Rattle.rx_live.proofs.Common.{NamesOne, place_at, using_asked, using_at, is_node, is_using_taken, BindsUsing}
-use Rattle.rx_live.proofs.AcceptedBindsNames.{is_new, given_accepted, given_refused}
+use Rattle.rx_live.proofs.AcceptedBindsNames.{is_new, tag_of_new, given_accepted, given_refused}
 use Rattle.rx_live.proofs.OpenedNodesGetNames.{unchanged_room, unchanged_rooms, unnamed_past, on_err, with_book, used_bound, used_sound}
 use Rattle.rx_live.proofs.opening.using.Goals as goal
 
@@ -45,9 +45,8 @@ returns-in-Err-clause-ok c =
     let found : place_at s site ≡ Some place = sym c.place_at.ensures ∙ c.in-Some.is in
     let no_node : is_node s name ≡ false = ap (is_node s) (sym c.as_str-2.ensures.value) ∙ sym c.is_taken.ensures.answer ∙ c.if-is_taken.false in
     let free : has_resource s res ≡ false = ap (has_resource s) (sym c.as_str.ensures.value) ∙ sym c.has_resource.ensures ∙ c.if-has_resource.false in
-    let token = c.new-token.result in
-    let fresh = is_new token.life token.uses c.new-token.ensures.live c.new-token.ensures.unused in
-    let tag : token.tag ≡ length s.book.history + 1 = c.new-token.ensures.tag ∙ c.place_behind.ensures in
+    let fresh = is_new c.new-token.ensures in
+    let tag : c.new-token.result.tag ≡ length s.book.history + 1 = tag_of_new c.new-token.ensures ∙ c.place_behind.ensures in
     let cause : IsCauseOrWant s.book (using_at s.book place) c.in-Err.unheld.why =
     subst (λ (r : Request). IsCauseOrWant s.book r c.in-Err.unheld.why) (λ i. asked s.book place (tag i) (fresh i)) c.in-Err.ensures.refused.why in
     given_refused (BindsUsing s name res) c.in-Err.unheld.why c.answered.result (ap (option_map (using_at s.book)) found) (λ i. no_node i || free i) cause
@@ -72,9 +71,8 @@ returns-in-Ok-clause-ok c =
     let found : place_at s site ≡ Some place = sym c.place_at.ensures ∙ c.in-Some.is in
     let no_node : is_node s name ≡ false = ap (is_node s) (sym c.as_str-2.ensures.value) ∙ sym c.is_taken.ensures.answer ∙ c.if-is_taken.false in
     let free : has_resource s res ≡ false = ap (has_resource s) (sym c.as_str.ensures.value) ∙ sym c.has_resource.ensures ∙ c.if-has_resource.false in
-    let token = c.new-token.result in
-    let fresh = is_new token.life token.uses c.new-token.ensures.live c.new-token.ensures.unused in
-    let tag : token.tag ≡ length s.book.history + 1 = c.new-token.ensures.tag ∙ c.place_behind.ensures in
+    let fresh = is_new c.new-token.ensures in
+    let tag : c.new-token.result.tag ≡ length s.book.history + 1 = tag_of_new c.new-token.ensures ∙ c.place_behind.ensures in
     let accepts : Accepts s.book (using_at s.book place) book =
     subst (λ (r : Request). Accepts s.book r book) (λ i. asked s.book place (tag i) (fresh i)) c.in-Ok.ensures.accepted in
     let number : spot.number ≡ length s.book.history = ap (λ (p : Spot). p.number) c.spot_of.ensures ∙ c.in-Ok.ensures.ok.key.number in

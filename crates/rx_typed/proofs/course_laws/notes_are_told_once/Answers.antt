@@ -1,4 +1,4 @@
-use Rattle.rx_typed.specs.contracts.token.TokenResource.TheImpl.{ghosts}
+use Rattle.rx_resource.specs.contracts.token.TokenResource.TheImpl.{ghosts}
 use Rattle.rx_typed.proofs.NotesToldOnce.{notes_told_once}
 use Rattle.rx_typed.proofs.course_laws.notes_are_told_once.Goals as goal
 

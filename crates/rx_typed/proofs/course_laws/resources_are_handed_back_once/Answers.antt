@@ -1,5 +1,5 @@
 use Rattle.std.proofs.Common.{refl}
-use Rattle.rx_typed.specs.contracts.token.TokenResource.TheImpl.{ghosts}
+use Rattle.rx_resource.specs.contracts.token.TokenResource.TheImpl.{ghosts}
 use Rattle.rx_typed.proofs.HandedBackOnce.{handed_back_once}
 use Rattle.rx_typed.proofs.course_laws.resources_are_handed_back_once.Goals as goal
 

@@ -1,6 +1,6 @@
 -- So far these resources were taken, to the front of the array.
 use Rattle.rx_typed.proofs.Common.{length, ◌-◌, ◌≡◌, ◌≤◌, ℕ, take, drop, AreTaken}
-use Rattle.rx_typed.specs.contracts.token.TokenResource.TheImpl.{ghosts}
+use Rattle.rx_resource.specs.contracts.token.TokenResource.TheImpl.{ghosts}
 use Rattle.rx_typed.proofs.draining.drain_resources.Given as goal
 
 abbrev pub invariant-loop-count : goal.invariant-loop-count
