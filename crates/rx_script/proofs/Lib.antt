@@ -1,4 +1,5 @@
 pub mod Common
+pub mod StockIsUnused
 pub mod KeysByNumber
 pub mod MadeOfOptions
 pub mod Texts

@@ -1,7 +1,7 @@
 //! The resources that the program has in its stock.
 
 ghost use Rattle.std.specs.Prelude.{◌≡◌, ◌+◌, ◌<◌, ◌^◌, IfOk, map, vec_len, bit_xor};
-ghost use Rattle.std.specs.List.{range_with_len};
+ghost use Rattle.std.specs.List.{All, range_with_len};
 ghost use Rattle.rx_resource.specs.declared.Life.{Life};
 ghost use Rattle.rx_script.specs.Boxes.{Box, kind_by, fresh_by, word_of, release_of};
 
@@ -115,13 +115,25 @@ impl Resource for Stocked {
     }
 }
 
-/// The program's stock: a fresh resource for each tag from 0 up to 255, in order, each of the kind of
-/// its tag.
-///
-/// Err comes where memory is refused for the list.
-pub fn stock(alloc: Global) -> Result<Vec<Stocked>, AllocError>
+// A fresh resource for each tag from 0 up to 255, in order.
+fn fresh_ones(alloc: Global) -> Result<Vec<Stocked>, AllocError>
     ensures fresh { IfOk result (λ v. v.items ≡ map fresh_by (range_with_len 0 256)) }
     ensures count { IfOk result (λ v. vec_len v ≡ 256) }
 {
     (0..STOCK).map(Stocked::by_tag).collect(alloc)
+}
+
+/// The program's stock: a fresh resource for each tag from 0 up to 255, in order, each of the kind of
+/// its tag.
+///
+/// Err comes where memory is refused for the list.
+#[tactic(auto, using(crate::proofs::StockIsUnused::all_live, crate::proofs::StockIsUnused::all_unused))]
+pub fn stock(alloc: Global) -> Result<Vec<Stocked>, AllocError>
+    ensures fresh { IfOk result (λ v. v.items ≡ map fresh_by (range_with_len 0 256)) }
+    ensures count { IfOk result (λ v. vec_len v ≡ 256) }
+    ensures live { IfOk result (λ v. All (λ s. s.life ≡ Life.Live) v.items) }
+    ensures unused { IfOk result (λ v. All (λ s. s.uses ≡ 0) v.items) }
+{
+    let made = fresh_ones(alloc)?;
+    Ok(made)
 }
