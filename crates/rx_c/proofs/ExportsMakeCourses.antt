@@ -1,27 +1,25 @@
 -- The calls on a handle that keeps a book are a course of calls of the book.
-use Rattle.std.proofs.Common.{◌≡◌, ℕ, List, [], ◌++◌, Option, Some, None, sym, subst, append-nil, append_assoc}
+use Rattle.std.proofs.Common.{◌≡◌, ℕ, List, [], ◌++◌, Option, Some, None, Result, sym, subst, append-nil, append_assoc}
 use Rattle.std.proofs.lemmas.Option.{same_Some}
 use Rattle.rx_resource.specs.declared.Resource.{Ghosts}
 use Rattle.rx_book.specs.State.{State, IsPromised}
+use Rattle.rx_book.specs.declared.answer.Answer.{Answer}
+use Rattle.rx_book.specs.declared.call.Call.{Call}
 use Rattle.rx_typed.specs.declared.token.Token.{Token}
-use Rattle.rx_typed.specs.Codes.{asked_of, place_at, terminal_of, mode_of}
-use Rattle.rx_typed.specs.Events.{IsEventTold}
-use Rattle.rx_typed.specs.Events.{tells_event as is_event, has_no_event}
-use Rattle.rx_typed.specs.Told.{IsThenTold}
-use Rattle.rx_typed.specs.Courses.{AreHandedBackOnce, AreNotesToldOnce}
+use Rattle.rx_typed.specs.Codes.{place_at}
+use Rattle.rx_typed.specs.Events.{IsEventTold, tells_event as is_event, has_no_event}
+use Rattle.rx_typed.specs.Drained.{IsThenTold}
 use Rattle.rx_typed.specs.declared.shapes.RxNode.{RxNode}
 use Rattle.rx_typed.specs.declared.shapes.RxEvent.{RxEvent}
 use Rattle.rx_typed.specs.declared.shapes.RxTold.{RxTold}
-use Rattle.rx_typed.specs.Calls.{IsCalled, calls, has_none, IsDecoded, decodes, means_nothing, IsOwed, owes, is_none, new_book}
-use Rattle.rx_typed.specs.Calls.{IsMade, makes as is_made, is_starved, is_held, IsFinished, finishes as is_finished, is_untaken, is_absent, IsTakenWhole}
+use Rattle.rx_typed.specs.Calls.{IsCalled, calls, has_none, IsDecoded, decodes, means_nothing, IsAsked, asks as asks_it, has_no_book, is_no_call}
+use Rattle.rx_typed.specs.Calls.{IsOwed, owes, is_none, new_book, IsMade, makes as is_made, is_starved, is_held, IsFinished, finishes as is_finished}
+use Rattle.rx_typed.specs.Calls.{is_untaken, is_absent, IsTakenWhole}
 use Rattle.rx_typed.specs.Courses.{Act, Course, no_call, calls as then_calls, drains as then_drains, checkpoints as then_checkpoints, taken_in}
-use Rattle.rx_typed.specs.Courses.{IsCall, next as a_next, next_all as a_next_all, end, abort, fail, decline, dispose, open_node, using, hold, hub as a_hub}
-use Rattle.rx_typed.specs.Courses.{connect, disconnect, apply, remove, lease, give_back, take_one, take_mail, close}
-use Rattle.rx_c.specs.BookCourses.{IsExport, opens, opens_using, holds, next, next_all, ends, aborts, fails, declines, disposes, makes_hub, connects}
-use Rattle.rx_c.specs.BookCourses.{disconnects, applies, removes, leases, gives_back, takes, takes_mail, drains, checkpoints, closes, opens_told}
-use Rattle.rx_c.specs.BookCourses.{opens_using_told, next_told, ends_told, aborts_told, fails_told, declines_told, disposes_told, disconnects_told}
-use Rattle.rx_c.specs.BookCourses.{removes_told, gives_back_told, asks_open, asks_held, asks_owed, counts, tells_event, dumps, makes, finishes}
-use Rattle.rx_c.specs.BookCourses.{all_told, BookCourse, no_export, exports, AreTagsToldOnce, AreBookNotesToldOnce}
+use Rattle.rx_typed.specs.Courses.{AreHandedBackOnce, AreNotesToldOnce, IsCall, a_call, next_all as a_next_all, using, hold, take_one, take_mail, close}
+use Rattle.rx_c.specs.BookCourses.{IsExport, asks, asks_told, opens_using, holds, next_all, takes, takes_mail, drains, checkpoints, closes, opens_using_told}
+use Rattle.rx_c.specs.BookCourses.{asks_open, asks_held, asks_owed, counts, tells_event, dumps, makes, finishes, all_told, BookCourse, no_export, exports}
+use Rattle.rx_c.specs.BookCourses.{AreTagsToldOnce, AreBookNotesToldOnce}
 
 -- one call ----------------------------------------------------------------------------------------
 
@@ -39,6 +37,16 @@ by_code : {C : Type 0} {Says : C → ℕ → Type 0} {IsKept : Type 0} {R : Type
 by_code code status (decodes {c = c} is says) does refuses = does c says
 by_code code status (means_nothing none kept done) does refuses = refuses kept done
 
+-- what a call by value said
+by_ask : {Says : Call → State → State → Result Answer ℕ → Type 0} {IsBlank : Type 0} {R : Type 0} (call : Option Call) (s t : State) (answer : Result Answer ℕ)
+    → IsAsked Says IsBlank call (Some s) (Some t) answer → ((c : Call) → Says c s t answer → IsPromised t → R) → (Some t ≡ Some s → IsBlank → R) → R
+by_ask {Says} call s t answer (asks_it {c = c} {s = a} {t = b} is was now kept says) does refuses =
+    let from : s ≡ a = same_Some s a was in
+    let to : t ≡ b = same_Some t b now in
+    does c (subst (λ (x : State). Says c x t answer) (sym from) (subst (λ (y : State). Says c a y answer) (sym to) says)) (subst IsPromised (sym to) kept)
+by_ask call s t answer (has_no_book is was now blank fails) does refuses = absurd (cc)
+by_ask call s t answer (is_no_call none same blank fails) does refuses = refuses same blank
+
 owed_stays : (merging : RxNode) (count : ℕ) (s t : State) (status : ℕ) → IsOwed merging count s t status → t ≡ s
 owed_stays merging count s t status (owes says same done) = same
 owed_stays merging count s t status (is_none none zero same done) = same
@@ -54,8 +62,8 @@ module _ (g : Ghosts Token) where
   stays : (s t : State) → t ≡ s → Course g s [] t
   stays s t same = subst (λ (u : State). Course g s [] u) (sym same) no_call
 
-  tell : {s t : State} {acts : List Act} {Says : State → State → ℕ → Type 0} {told told' : RxTold} {status : ℕ} → IsPromised t
-      → (k : IsThenTold g Says told told' s t status) → IsCall g s acts k.mid → Course g s (acts ++ all_told told') t
+  tell : {s t : State} {acts : List Act} {A : Type 0} {Says : State → State → A → Type 0} {told told' : RxTold} {answer : A} → IsPromised t
+      → (k : IsThenTold g Says told told' s t answer) → IsCall g s acts k.mid → Course g s (acts ++ all_told told') t
   tell kept k call = then_drains (one k.promised call) k.drains kept
 
   stays_untold : (s t : State) (told told' : RxTold) → Some t ≡ Some s → told' ≡ record told { place = 0; mails = 0; resources = 0 }
@@ -64,54 +72,24 @@ module _ (g : Ghosts Token) where
       subst (λ (x : RxTold). Course g s (all_told x) t) (sym none) (stays s t (same_Some t s same))
 
   by_export : {s t : State} {acts : List Act} → IsExport g s acts t → Course g s acts t
-  by_export {s} {t} (opens {status = status} place above kind hub c) =
-      by_code (asked_of place above kind hub) status c
-      (λ asked o. let p = said s t status o in one p.1 (open_node asked.0 asked.1 p.0)) (λ k done. stays s t (same_Some t s k.0))
+  by_export {s} {t} (asks {answer = answer} call c) =
+      by_ask call s t answer c (λ made says kept. one kept (a_call made says)) (λ same blank. stays s t (same_Some t s same))
+  by_export {s} {t} (asks_told {answer = answer} call told told' c) =
+      by_ask call s t answer c (λ made says kept. tell kept says (a_call made says.says)) (λ same blank. stays_untold s t told told' same blank)
   by_export {s} {t} (opens_using {used = used} {status = status} place above tag c) =
       by_code (place_at place above) status c (λ at o. let p = said s t status o in one p.1 (using at tag p.0))
       (λ k done. subst (λ (n : ℕ). Course g s (taken_in n used.res.number tag) t) (sym done) (stays s t (same_Some t s k.0)))
   by_export {s} {t} (holds {status = status} node tag c) = let p = said s t status c in one p.1 (hold node tag p.0)
-  by_export {s} {t} (next {status = status} leaf value c) = let p = said s t status c in one p.1 (a_next leaf value p.0)
   by_export {s} {t} (next_all {status = status} leaf values c) = let p = said s t status c in one p.1 (a_next_all leaf values p.0)
-  by_export {s} {t} (ends {status = status} leaf how error c) =
-      by_code (terminal_of how error) status c (λ terminal o. let p = said s t status o in one p.1 (end leaf terminal p.0))
-      (λ k done. stays s t (same_Some t s k.0))
-  by_export {s} {t} (aborts {status = status} node error c) = let p = said s t status c in one p.1 (abort node error p.0)
-  by_export {s} {t} (fails {status = status} merging error c) = let p = said s t status c in one p.1 (fail merging error p.0)
-  by_export {s} {t} (declines {status = status} merging c) = let p = said s t status c in one p.1 (decline merging p.0)
-  by_export {s} {t} (disposes {status = status} root c) = let p = said s t status c in one p.1 (dispose root p.0)
-  by_export {s} {t} (makes_hub {status = status} mode c) =
-      by_code (mode_of mode) status c (λ m o. let p = said s t status o in one p.1 (a_hub m p.0)) (λ k done. stays s t (same_Some t s k.0))
-  by_export {s} {t} (connects {status = status} hub c) = let p = said s t status c in one p.1 (connect hub p.0)
-  by_export {s} {t} (disconnects {status = status} hub c) = let p = said s t status c in one p.1 (disconnect hub p.0)
-  by_export {s} {t} (applies {status = status} res c) = let p = said s t status c in one p.1 (apply res p.0)
-  by_export {s} {t} (removes {status = status} res c) = let p = said s t status c in one p.1 (remove res p.0)
-  by_export {s} {t} (leases {status = status} res c) = let p = said s t status c in one p.1 (lease res p.0)
-  by_export {s} {t} (gives_back {status = status} key c) = let p = said s t status c in one p.1 (give_back key p.0)
   by_export {s} {t} (takes {status = status} c) = let p = said s t status c in one p.1 (take_one p.0)
   by_export {s} {t} (takes_mail {status = status} c) = let p = said s t status c in one p.1 (take_mail p.0)
   by_export {s} {t} (drains {status = status} c) = let p = said s t status c in then_drains no_call p.0.0 p.1
   by_export {s} {t} (checkpoints {status = status} c) = let p = said s t status c in then_checkpoints no_call p.0 p.1
   by_export {s} {t} (closes {status = status} c) = let p = said s t status c in one p.1 (close p.0)
-  by_export {s} {t} (opens_told {status = status} place above kind hub told told' c) =
-      by_code (asked_of place above kind hub) status c
-      (λ asked o. let p = said s t status o in tell p.1 p.0 (open_node asked.0 asked.1 p.0.says)) (λ k done. stays_untold s t told told' k.0 k.2)
   by_export {s} {t} (opens_using_told {used = used} {status = status} place above tag told told' c) =
       by_code (place_at place above) status c (λ at o. let p = said s t status o in tell p.1 p.0 (using at tag p.0.says))
       (λ k done. subst (λ (n : ℕ). Course g s (taken_in n used.res.number tag ++ all_told told') t) (sym done)
       (stays_untold s t told told' k.0 k.2))
-  by_export {s} {t} (next_told {status = status} leaf value told told' c) = let p = said s t status c in tell p.1 p.0 (a_next leaf value p.0.says)
-  by_export {s} {t} (ends_told {status = status} leaf how error told told' c) =
-      by_code (terminal_of how error) status c (λ terminal o. let p = said s t status o in tell p.1 p.0 (end leaf terminal p.0.says))
-      (λ k done. stays_untold s t told told' k.0 k.1)
-  by_export {s} {t} (aborts_told {status = status} node error told told' c) = let p = said s t status c in tell p.1 p.0 (abort node error p.0.says)
-  by_export {s} {t} (fails_told {status = status} merging error told told' c) =
-      let p = said s t status c in tell p.1 p.0 (fail merging error p.0.says)
-  by_export {s} {t} (declines_told {status = status} merging told told' c) = let p = said s t status c in tell p.1 p.0 (decline merging p.0.says)
-  by_export {s} {t} (disposes_told {status = status} root told told' c) = let p = said s t status c in tell p.1 p.0 (dispose root p.0.says)
-  by_export {s} {t} (disconnects_told {status = status} hub told told' c) = let p = said s t status c in tell p.1 p.0 (disconnect hub p.0.says)
-  by_export {s} {t} (removes_told {status = status} res told told' c) = let p = said s t status c in tell p.1 p.0 (remove res p.0.says)
-  by_export {s} {t} (gives_back_told {status = status} key told told' c) = let p = said s t status c in tell p.1 p.0 (give_back key p.0.says)
   by_export {s} {t} (asks_open {status = status} node c) = stays s t (said s t status c).0.kept
   by_export {s} {t} (asks_held {status = status} res c) = stays s t (said s t status c).0.kept
   by_export {s} {t} (asks_owed {count = count} {status = status} merging c) =

@@ -1,26 +1,22 @@
--- What the calls on one handle come to while it keeps a book: each constructor is the clause of one export, and what it hands over.
-use Rattle.std.specs.Prelude.{◌≡◌, ℕ, ℤ, ◌++◌, List, [], Some, None}
-use Rattle.rx_resource.specs.declared.Resource.{Ghosts}
-use Rattle.rx_book.specs.State.{State}
+-- What the calls on one handle come to while it keeps a book: each constructor is the clause of one export, or of all that make a call as
+-- a value, and what it hands over.
+use Rattle.std.specs.Prelude.{◌≡◌, ℕ, ℤ, ◌++◌, List, [], Option, Some, None, Result}
+use Rattle.rx_typed.specs.Imports.{Ghosts, State, Answer, Call}
 use Rattle.rx_typed.specs.declared.token.Token.{Token}
-use Rattle.rx_typed.specs.Drained.{IsDrainedCall, no_drained}
-use Rattle.rx_typed.specs.Events.{IsEventTold, no_event}
 use Rattle.rx_typed.specs.declared.shapes.RxMail.{RxMail}
 use Rattle.rx_typed.specs.declared.shapes.RxTaken.{RxTaken}
 use Rattle.rx_typed.specs.declared.shapes.RxDrained.{RxDrained}
 use Rattle.rx_typed.specs.declared.shapes.RxNode.{RxNode}
 use Rattle.rx_typed.specs.declared.shapes.RxRes.{RxRes}
-use Rattle.rx_typed.specs.declared.shapes.RxLease.{RxLease}
-use Rattle.rx_typed.specs.declared.shapes.RxOpened.{RxOpened}
 use Rattle.rx_typed.specs.declared.shapes.RxUsing.{RxUsing}
 use Rattle.rx_typed.specs.declared.shapes.RxCounts.{RxCounts}
 use Rattle.rx_typed.specs.declared.shapes.RxEvent.{RxEvent}
 use Rattle.rx_typed.specs.declared.shapes.RxTold.{RxTold}
-use Rattle.rx_typed.specs.Codes.{asked_of, place_at, terminal_of, mode_of, no_node, no_res, no_lease, no_opened, no_used, no_taken, no_mail}
-use Rattle.rx_typed.specs.Calls.{IsCalled, IsDecoded, IsNext, IsNextAll, IsEnd, IsAbort, IsFail, IsDecline, IsDispose, IsOpen, IsUsing}
-use Rattle.rx_typed.specs.Calls.{IsHold, IsHub, IsConnect, IsDisconnect, IsApply, IsRemove, IsLease, IsGiveBack, IsTaken, IsMailTaken}
-use Rattle.rx_typed.specs.Calls.{new_book, IsMade, IsClosed, IsFinished, IsCheckpoint, IsAsked, IsAskedHeld, IsOwed, IsCounted, no_counts}
-use Rattle.rx_typed.specs.Told.{IsThenTold, no_told, drained_of}
+use Rattle.rx_typed.specs.Drained.{IsDrainedCall, no_drained, IsThenTold, IsAskedTold, no_told, drained_of}
+use Rattle.rx_typed.specs.Events.{IsEventTold, no_event}
+use Rattle.rx_typed.specs.Codes.{place_at, no_res, no_used, no_taken, no_mail}
+use Rattle.rx_typed.specs.Calls.{IsCalled, IsDecoded, IsAsked, IsAnswerOf, IsNextAll, IsUsing, IsHold, IsTaken, IsMailTaken, new_book, IsMade, IsClosed}
+use Rattle.rx_typed.specs.Calls.{IsFinished, IsCheckpoint, IsAskedOpen, IsAskedHeld, IsOwed, IsCounted, no_counts}
 use Rattle.rx_typed.specs.Courses.{Act, Course, taken_in, given_back, note_told, all_drained, Leads, notes_made, notes_told, notes_left}
 use Rattle.rx_c.specs.Answers.{IsSilent}
 use Rattle.rx_c.specs.Dumped.{IsDumped}
@@ -34,33 +30,16 @@ abbrev pub all_told : RxTold → List Act
 all_told told = all_drained told.mail told.resource (drained_of told)
 
 pub data IsExport (g : Ghosts Token) (s : State) : List Act → State → Type 0 where
-  opens : {t : State} {opened : RxOpened} {status : ℕ} (place : ℕ) (above : RxNode) (kind hub : ℕ)
-      → IsDecoded (asked_of place above kind hub) (λ asked. On (IsOpen asked.0 asked.1 opened) (opened ≡ no_opened) s t)
-      ((Some t ≡ Some s) × (opened ≡ no_opened)) status → IsExport g s [] t
+  asks : {t : State} {answer : Result Answer ℕ} (call : Option Call) → IsAsked IsAnswerOf Unit call (Some s) (Some t) answer → IsExport g s [] t
+  asks_told : {t : State} {answer : Result Answer ℕ} (call : Option Call) (told told' : RxTold)
+      → IsAskedTold g call told told' (Some s) (Some t) answer → IsExport g s (all_told told') t
   opens_using : {t : State} {used : RxUsing} {status : ℕ} (place : ℕ) (above : RxNode) (tag : ℕ)
       → IsDecoded (place_at place above) (λ at. On (IsUsing g at tag used) (used ≡ no_used) s t)
       ((Some t ≡ Some s) × (used ≡ no_used)) status → IsExport g s (taken_in status used.res.number tag) t
   holds : {t : State} {held : RxRes} {status : ℕ} (node : RxNode) (tag : ℕ) → On (IsHold g node tag held) (held ≡ no_res) s t status
       → IsExport g s (taken_in status held.number tag) t
-  next : {t : State} {place status : ℕ} (leaf : RxNode) (value : ℤ) → On (IsNext leaf value place) (place ≡ 0) s t status → IsExport g s [] t
   next_all : {t : State} {count status : ℕ} (leaf : RxNode) (values : List ℤ) → On (IsNextAll leaf values count) (count ≡ 0) s t status
       → IsExport g s [] t
-  ends : {t : State} {place status : ℕ} (leaf : RxNode) (how error : ℕ)
-      → IsDecoded (terminal_of how error) (λ terminal. On (IsEnd leaf terminal place) (place ≡ 0) s t) ((Some t ≡ Some s) × (place ≡ 0)) status
-      → IsExport g s [] t
-  aborts : {t : State} {place status : ℕ} (node : RxNode) (error : ℕ) → On (IsAbort node error place) (place ≡ 0) s t status → IsExport g s [] t
-  fails : {t : State} {place status : ℕ} (merging : RxNode) (error : ℕ) → On (IsFail merging error place) (place ≡ 0) s t status → IsExport g s [] t
-  declines : {t : State} {place status : ℕ} (merging : RxNode) → On (IsDecline merging place) (place ≡ 0) s t status → IsExport g s [] t
-  disposes : {t : State} {place status : ℕ} (root : RxNode) → On (IsDispose root place) (place ≡ 0) s t status → IsExport g s [] t
-  makes_hub : {t : State} {hub status : ℕ} (mode : ℕ)
-      → IsDecoded (mode_of mode) (λ m. On (IsHub m hub) (hub ≡ 0) s t) ((Some t ≡ Some s) × (hub ≡ 0)) status → IsExport g s [] t
-  connects : {t : State} {connection : RxNode} {status : ℕ} (hub : ℕ) → On (IsConnect hub connection) (connection ≡ no_node) s t status
-      → IsExport g s [] t
-  disconnects : {t : State} {place status : ℕ} (hub : ℕ) → On (IsDisconnect hub place) (place ≡ 0) s t status → IsExport g s [] t
-  applies : {t : State} {answer status : ℕ} (res : RxRes) → On (IsApply res answer) (answer ≡ 0) s t status → IsExport g s [] t
-  removes : {t : State} {place status : ℕ} (res : RxRes) → On (IsRemove res place) (place ≡ 0) s t status → IsExport g s [] t
-  leases : {t : State} {lease : RxLease} {status : ℕ} (res : RxRes) → On (IsLease res lease) (lease ≡ no_lease) s t status → IsExport g s [] t
-  gives_back : {t : State} {place status : ℕ} (lease : RxLease) → On (IsGiveBack lease place) (place ≡ 0) s t status → IsExport g s [] t
   takes : {t : State} {taken : RxTaken} {status : ℕ} → On (IsTaken g taken) (taken ≡ no_taken) s t status
       → IsExport g s (given_back status taken) t
   takes_mail : {t : State} {mail : RxMail} {status : ℕ} → On (IsMailTaken mail) (mail ≡ no_mail) s t status → IsExport g s (note_told status mail) t
@@ -69,36 +48,12 @@ pub data IsExport (g : Ghosts Token) (s : State) : List Act → State → Type 0
       ((drained ≡ no_drained) × (mails' ≡ mails) × (takens' ≡ takens)) s t status → IsExport g s (all_drained mails' takens' drained) t
   checkpoints : {t : State} {place status : ℕ} → On (IsCheckpoint place) (place ≡ 0) s t status → IsExport g s [] t
   closes : {t : State} {status : ℕ} → On IsClosed Unit s t status → IsExport g s [] t
-  -- calls that tell
-  opens_told : {t : State} {opened : RxOpened} {status : ℕ} (place : ℕ) (above : RxNode) (kind hub : ℕ) (told told' : RxTold)
-      → IsDecoded (asked_of place above kind hub) (λ asked. On (IsThenTold g (IsOpen asked.0 asked.1 opened) told told')
-      ((opened ≡ no_opened) × (told' ≡ no_told told)) s t) ((Some t ≡ Some s) × (opened ≡ no_opened) × (told' ≡ no_told told)) status
-      → IsExport g s (all_told told') t
   opens_using_told : {t : State} {used : RxUsing} {status : ℕ} (place : ℕ) (above : RxNode) (tag : ℕ) (told told' : RxTold)
       → IsDecoded (place_at place above) (λ at. On (IsThenTold g (IsUsing g at tag used) told told')
       ((used ≡ no_used) × (told' ≡ no_told told)) s t) ((Some t ≡ Some s) × (used ≡ no_used) × (told' ≡ no_told told)) status
       → IsExport g s (taken_in status used.res.number tag ++ all_told told') t
-  next_told : {t : State} {status : ℕ} (leaf : RxNode) (value : ℤ) (told told' : RxTold)
-      → On (IsThenTold g (IsNext leaf value told'.place) told told') (told' ≡ no_told told) s t status → IsExport g s (all_told told') t
-  ends_told : {t : State} {status : ℕ} (leaf : RxNode) (how error : ℕ) (told told' : RxTold)
-      → IsDecoded (terminal_of how error) (λ terminal. On (IsThenTold g (IsEnd leaf terminal told'.place) told told')
-      (told' ≡ no_told told) s t) ((Some t ≡ Some s) × (told' ≡ no_told told)) status → IsExport g s (all_told told') t
-  aborts_told : {t : State} {status : ℕ} (node : RxNode) (error : ℕ) (told told' : RxTold)
-      → On (IsThenTold g (IsAbort node error told'.place) told told') (told' ≡ no_told told) s t status → IsExport g s (all_told told') t
-  fails_told : {t : State} {status : ℕ} (merging : RxNode) (error : ℕ) (told told' : RxTold)
-      → On (IsThenTold g (IsFail merging error told'.place) told told') (told' ≡ no_told told) s t status → IsExport g s (all_told told') t
-  declines_told : {t : State} {status : ℕ} (merging : RxNode) (told told' : RxTold)
-      → On (IsThenTold g (IsDecline merging told'.place) told told') (told' ≡ no_told told) s t status → IsExport g s (all_told told') t
-  disposes_told : {t : State} {status : ℕ} (root : RxNode) (told told' : RxTold)
-      → On (IsThenTold g (IsDispose root told'.place) told told') (told' ≡ no_told told) s t status → IsExport g s (all_told told') t
-  disconnects_told : {t : State} {status : ℕ} (hub : ℕ) (told told' : RxTold)
-      → On (IsThenTold g (IsDisconnect hub told'.place) told told') (told' ≡ no_told told) s t status → IsExport g s (all_told told') t
-  removes_told : {t : State} {status : ℕ} (res : RxRes) (told told' : RxTold)
-      → On (IsThenTold g (IsRemove res told'.place) told told') (told' ≡ no_told told) s t status → IsExport g s (all_told told') t
-  gives_back_told : {t : State} {status : ℕ} (lease : RxLease) (told told' : RxTold)
-      → On (IsThenTold g (IsGiveBack lease told'.place) told told') (told' ≡ no_told told) s t status → IsExport g s (all_told told') t
   -- questions, and calls that are refused because the handle keeps a book
-  asks_open : {t : State} {is_open status : ℕ} (node : RxNode) → On (IsAsked node is_open) (is_open ≡ 0) s t status → IsExport g s [] t
+  asks_open : {t : State} {is_open status : ℕ} (node : RxNode) → On (IsAskedOpen node is_open) (is_open ≡ 0) s t status → IsExport g s [] t
   asks_held : {t : State} {is_held status : ℕ} (res : RxRes) → On (IsAskedHeld res is_held) (is_held ≡ 0) s t status → IsExport g s [] t
   asks_owed : {t : State} {count status : ℕ} (merging : RxNode) → On (IsOwed merging count) (count ≡ 0) s t status → IsExport g s [] t
   counts : {t : State} {all : RxCounts} {status : ℕ} → On (IsCounted all) (all ≡ no_counts) s t status → IsExport g s [] t

@@ -25,30 +25,13 @@ macro_rules! on_book {
 use handle::BookHandle;
 pub(crate) use on_book;
 
-mod asking;
-mod draining;
-mod dumping;
-mod events;
+pub mod asking;
+mod call;
+pub mod draining;
+pub mod dumping;
+pub mod events;
 pub mod handle;
-mod holding;
-mod hubs;
-mod making;
-mod opening;
-mod telling;
-
-pub use asking::{rx_book_counts, rx_book_is_held, rx_book_is_open, rx_book_owed};
-pub use draining::{rx_book_drain, rx_book_take, rx_book_take_mail};
-pub use dumping::{rx_book_dump, rx_book_event};
-pub use events::{
-    rx_book_abort, rx_book_decline, rx_book_dispose, rx_book_end, rx_book_fail, rx_book_next,
-    rx_book_next_all,
-};
-pub use holding::{rx_book_apply, rx_book_give_back, rx_book_hold, rx_book_lease, rx_book_remove};
-pub use hubs::{rx_book_connect, rx_book_disconnect, rx_book_hub};
-pub use making::{rx_book_checkpoint, rx_book_close, rx_book_drop, rx_book_finish, rx_book_new};
-pub use opening::{rx_book_open, rx_book_using};
-pub use telling::{
-    rx_book_abort_told, rx_book_decline_told, rx_book_disconnect_told, rx_book_dispose_told,
-    rx_book_end_told, rx_book_fail_told, rx_book_give_back_told, rx_book_next_told,
-    rx_book_open_told, rx_book_remove_told, rx_book_using_told,
-};
+pub mod holding;
+pub mod hubs;
+pub mod making;
+pub mod opening;

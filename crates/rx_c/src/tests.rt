@@ -1,10 +1,10 @@
 //! What no clause says: that each call can succeed, with the texts of a worked example, and that a fault
 //! of the stock is told.
 
-mod book;
+mod bench;
 mod live;
+mod refusals;
 mod starved;
-mod telling;
 
 use crate::{rx_audit, rx_run, rx_run_dump};
 use std::alloc::Global;

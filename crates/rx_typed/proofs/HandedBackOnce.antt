@@ -15,8 +15,10 @@ use Rattle.rx_book.proofs.Laws.NotesGoOn.{goes_forced, same_event}
 use Rattle.rx_typed.specs.Codes.{key_of, refusal_status, status_given_back, res_told}
 use Rattle.rx_typed.specs.Calls.{IsTaken, none_waits, IsMailTaken, tells as tells_mail, has_no_mail, IsCheckpoint, IsUsing, IsHold}
 use Rattle.rx_typed.specs.Courses.{Act, handed_in, handed_back, told, Leads, no_act, comes, goes, tells, with_entry, tag_in, taken_in, given_back, note_told}
-use Rattle.rx_typed.specs.Courses.{Course, no_call, calls, drains, checkpoints, AreHandedBackOnce, IsCall, next, next_all, end, abort, fail, decline, dispose}
-use Rattle.rx_typed.specs.Courses.{open_node, using, hold, hub, connect, disconnect, apply, remove, lease, give_back, take_one, take_mail, close, asks}
+use Rattle.rx_typed.specs.Courses.{Course, no_call, calls, drains, checkpoints, AreHandedBackOnce, IsCall, a_call, next_all, using, hold, take_one}
+use Rattle.rx_typed.specs.Courses.{take_mail, close, asks_only}
+use Rattle.rx_book.specs.declared.call.Call.{Call as AnyCall}
+use Rattle.rx_book.specs.Asks.{request_of}
 use Rattle.std.proofs.Common.{rules}
 
 -- tables ------------------------------------------------------------------------------------------
@@ -61,6 +63,9 @@ unchanged s t same = no_act (λ r. ap (λ (u : State). tag_in u r) same)
 answered : {A E : Type 0} {gives : A → Type 0} {refuses : E → Type 0} (s t : State) (asked : Request) (answer : Result A E) →
     Answers gives refuses s asked t answer → keeps_resources asked.call ≡ true → Leads (tag_in s) [] (tag_in t)
 answered s t asked x3 says keeps = search (rules, kept_call, unchanged)
+
+call_keeps : (s : State) (call : AnyCall) → keeps_resources (request_of s call).call ≡ true
+call_keeps s x1 = search rules
 
 -- many calls in one -------------------------------------------------------------------------------
 
@@ -251,27 +256,14 @@ taken_unkept h r taken = search (rules, list_any, Bool, not)
 
 module _ (g : Ghosts Token) (names : (tag : ℕ) → g.tag_of (fresh tag) ≡ tag) where
   by_call : {s t : State} {acts : List Act} → IsPromised s → IsCall g s acts t → Leads (tag_in s) acts (tag_in t)
-  by_call {s} {t} kept (next leaf value says) = answered s t _ says.answer says.says refl
+  by_call {s} {t} kept (a_call call says) = answered s t (request_of s call) says.given says.says (call_keeps s call)
   by_call {s} {t} kept (next_all leaf values says) = emits says.says.emits
-  by_call {s} {t} kept (end leaf terminal says) = answered s t _ says.answer says.says refl
-  by_call {s} {t} kept (abort node error says) = answered s t _ says.answer says.says refl
-  by_call {s} {t} kept (fail merging error says) = answered s t _ says.answer says.says refl
-  by_call {s} {t} kept (decline merging says) = answered s t _ says.answer says.says refl
-  by_call {s} {t} kept (dispose root says) = answered s t _ says.answer says.says refl
-  by_call {s} {t} kept (open_node place kind says) = answered s t _ says.answer says.says refl
   by_call {s} {t} kept (using {used = used} {status = status} place tag says) = by_using g names s t place tag used status kept says
   by_call {s} {t} kept (hold {held = held} {status = status} node tag says) = by_hold g names s t node tag held status kept says
-  by_call {s} {t} kept (hub mode says) = answered s t _ says.answer says.says refl
-  by_call {s} {t} kept (connect number says) = answered s t _ says.answer says.says refl
-  by_call {s} {t} kept (disconnect number says) = answered s t _ says.answer says.says refl
-  by_call {s} {t} kept (apply res says) = answered s t _ says.answer says.says refl
-  by_call {s} {t} kept (remove res says) = answered s t _ says.answer says.says refl
-  by_call {s} {t} kept (lease res says) = answered s t _ says.answer says.says refl
-  by_call {s} {t} kept (give_back key says) = answered s t _ says.answer says.says refl
   by_call {s} {t} kept (take_one {taken = taken} {status = status} says) = by_take g s t taken status kept says
   by_call {s} {t} kept (take_mail {mail = mail} {status = status} says) = by_mail s t mail status says
   by_call {s} {t} kept (close says) = let_go says.lets_go
-  by_call {s} kept asks = unchanged s s refl
+  by_call {s} kept asks_only = unchanged s s refl
 
   promised : {s t : State} {acts : List Act} → IsPromised s → Course g s acts t → IsPromised t
   promised kept no_call = kept

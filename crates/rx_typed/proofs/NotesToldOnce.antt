@@ -13,8 +13,9 @@ use Rattle.rx_book.specs.Courses.{LetsGo, none_let_go, next_let_go, Emits, none_
 use Rattle.rx_typed.specs.Codes.{mail_of}
 use Rattle.rx_typed.specs.Calls.{IsTaken, none_waits, IsMailTaken, tells as tells_mail, has_no_mail, new_book, IsCheckpoint}
 use Rattle.rx_typed.specs.Courses.{Act, handed_in, handed_back, told, given_back, taken_in, note_told, notes_told, notes_between, notes_made}
-use Rattle.rx_typed.specs.Courses.{Course, no_call, calls, drains, checkpoints, AreNotesToldOnce, IsCall, next, next_all, end, abort, fail, decline, dispose}
-use Rattle.rx_typed.specs.Courses.{open_node, using, hold, hub, connect, disconnect, apply, remove, lease, give_back, take_one, take_mail, close, asks}
+use Rattle.rx_typed.specs.Courses.{Course, no_call, calls, drains, checkpoints, AreNotesToldOnce, IsCall, a_call, next_all, using, hold, take_one}
+use Rattle.rx_typed.specs.Courses.{take_mail, close, asks_only}
+use Rattle.rx_book.specs.Asks.{request_of}
 
 notes_told-append : (xs ys : List Act) → notes_told (xs ++ ys) ≡ notes_told xs ++ notes_told ys
 notes_told-append [] ys = refl
@@ -148,28 +149,15 @@ by_checkpoint s t place status after says = by_answer says.answer says.says wher
 
 module _ (g : Ghosts Token) where
   by_call : {s t : State} {acts : List Act} → IsPromised s → IsCall g s acts t → Does s t acts
-  by_call {s} {t} kept (next leaf value says) = answered s t _ says.answer says.says kept.given
+  by_call {s} {t} kept (a_call call says) = answered s t (request_of s call) says.given says.says kept.given
   by_call {s} {t} kept (next_all leaf values says) = emits says.says.emits
-  by_call {s} {t} kept (end leaf terminal says) = answered s t _ says.answer says.says kept.given
-  by_call {s} {t} kept (abort node error says) = answered s t _ says.answer says.says kept.given
-  by_call {s} {t} kept (fail merging error says) = answered s t _ says.answer says.says kept.given
-  by_call {s} {t} kept (decline merging says) = answered s t _ says.answer says.says kept.given
-  by_call {s} {t} kept (dispose root says) = answered s t _ says.answer says.says kept.given
-  by_call {s} {t} kept (open_node place kind says) = answered s t _ says.answer says.says kept.given
   by_call {s} {t} kept (using {used = used} {status = status} place tag says) =
       handed_over s t _ says.answer status used.res.number tag says.says kept.given
   by_call {s} {t} kept (hold {held = held} {status = status} node tag says) = handed_over s t _ says.answer status held.number tag says.says kept.given
-  by_call {s} {t} kept (hub mode says) = answered s t _ says.answer says.says kept.given
-  by_call {s} {t} kept (connect number says) = answered s t _ says.answer says.says kept.given
-  by_call {s} {t} kept (disconnect number says) = answered s t _ says.answer says.says kept.given
-  by_call {s} {t} kept (apply res says) = answered s t _ says.answer says.says kept.given
-  by_call {s} {t} kept (remove res says) = answered s t _ says.answer says.says kept.given
-  by_call {s} {t} kept (lease res says) = answered s t _ says.answer says.says kept.given
-  by_call {s} {t} kept (give_back key says) = answered s t _ says.answer says.says kept.given
   by_call {s} {t} kept (take_one {taken = taken} {status = status} says) = by_take g s t taken status kept.given says
   by_call {s} {t} kept (take_mail {mail = mail} {status = status} says) = by_mail s t mail status says
   by_call {s} {t} kept (close says) = let_go says.lets_go
-  by_call {s} kept asks = does_nothing s s [] refl refl
+  by_call {s} kept asks_only = does_nothing s s [] refl refl
 
   promised : {s t : State} {acts : List Act} → IsPromised s → Course g s acts t → IsPromised t
   promised kept no_call = kept

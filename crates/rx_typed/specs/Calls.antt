@@ -3,43 +3,13 @@
 --     0 done        1 the handle keeps nothing        2 nothing waits        3 the handle keeps a book already
 --     4 memory was refused        5 a number that stands for nothing        6 a resource is not taken yet        16 and up: the refusals of the book
 -- A call of a book is what `rx_book` says of the call of the same name, by the same definitions.
-use Rattle.std.specs.Prelude.{◌≡◌, ◌≢◌, ℕ, ◌+◌, ◌&&◌, ℤ, List, Option, Some, None, Result, slice_get, [], length, true, if◌then◌else◌}
-use Rattle.rx_resource.specs.declared.Resource.{Ghosts}
-use Rattle.rx_event.specs.declared.refusal.Refusal.{Refusal}
-use Rattle.rx_event.specs.declared.mail.Mail.{Mail}
-use Rattle.rx_event.specs.Kept.{nothing_kept}
-use Rattle.rx_event.specs.Events.{is_merging, makes_resource}
-use Rattle.rx_event.specs.Resources.{is_taken}
-use Rattle.rx_event.specs.Tree.{at}
-use Rattle.rx_event.specs.Moments.{owed}
-use Rattle.rx_event.specs.Notes.{notes}
-use Rattle.rx_event.specs.Totals.{open_count, held_count, waiting_count, lease_count, accepted_count, taken_count}
-use Rattle.rx_book.specs.State.{State, IsPromised, has_key, has_res_key}
-use Rattle.rx_book.specs.Requests.{open_request, using_request}
-use Rattle.rx_book.specs.Requests.{hold_request}
-use Rattle.rx_book.specs.Courses.{LetsGo, EmitsAll}
-use Rattle.rx_book.specs.Checkpoints.{AnswersCheckpoint}
-use Rattle.rx_note.specs.declared.note.Terminal.{Terminal}
-use Rattle.rx_event.specs.declared.event.Kind.{Kind}
-use Rattle.rx_event.specs.declared.event.Mode.{Mode}
-use Rattle.rx_book.specs.declared.answer.At.{At}
-use Rattle.rx_book.specs.declared.ending.Emitted.{Emitted}
-use Rattle.rx_book.specs.Requests.{next_request, end_request, dispose_request, abort_request, fail_request, decline_request}
-use Rattle.rx_book.specs.Requests.{apply_request, remove_request, lease_request, give_back_request, hub_request, connect_request, disconnect_request}
-use Rattle.rx_book.specs.Answers.{AnswersPlace, AnswersPlaceOrWant, AnswersWord, AnswersKey, AnswersResKey, AnswersLeaseKey}
-use Rattle.rx_book.specs.Answers.{AnswersOpened, AnswersOpenedUsing, AnswersHanded}
-use Rattle.rx_typed.specs.declared.typed.Typed.{Typed}
-use Rattle.rx_typed.specs.declared.token.Token.{Token}
-use Rattle.rx_typed.specs.declared.shapes.RxMail.{RxMail}
-use Rattle.rx_typed.specs.declared.shapes.RxTaken.{RxTaken}
-use Rattle.rx_typed.specs.declared.shapes.RxNode.{RxNode}
-use Rattle.rx_typed.specs.declared.shapes.RxRes.{RxRes}
-use Rattle.rx_typed.specs.declared.shapes.RxLease.{RxLease}
-use Rattle.rx_typed.specs.declared.shapes.RxOpened.{RxOpened}
-use Rattle.rx_typed.specs.declared.shapes.RxUsing.{RxUsing}
-use Rattle.rx_typed.specs.declared.shapes.RxCounts.{RxCounts}
-use Rattle.rx_typed.specs.Codes.{key_of, res_key_of, lease_key_of, mail_of, no_mail, no_taken, status_told, status_given_back}
-use Rattle.rx_typed.specs.Codes.{place_told, opened_told, refused_told, used_told, res_told, node_told, lease_told}
+use Rattle.std.specs.Prelude.{◌≡◌, ◌≢◌, ℕ, ◌+◌, ◌&&◌, ℤ, Bool, List, Option, Some, None, Result, Err, slice_get, [], length, true, if◌then◌else◌}
+use Rattle.rx_typed.specs.Imports.{Ghosts, Refusal, Mail, nothing_kept, is_merging, makes_resource, is_taken, at, owed, notes, open_count, held_count}
+use Rattle.rx_typed.specs.Imports.{waiting_count, lease_count, accepted_count, taken_count, State, IsPromised, has_key, has_res_key, using_request}
+use Rattle.rx_typed.specs.Imports.{hold_request, LetsGo, EmitsAll, AnswersCheckpoint, AnswersResKey, AnswersOpenedUsing, AnswersHanded, Asks, Answer, At, Call}
+use Rattle.rx_typed.specs.Imports.{Emitted, Typed, Token, RxMail, RxTaken, RxNode, RxRes, RxUsing, RxCounts}
+use Rattle.rx_typed.specs.Codes.{key_of, res_key_of, mail_of, no_mail, no_taken, status_told, status_given_back, place_told, refused_told}
+use Rattle.rx_typed.specs.Codes.{used_told, res_told, coded, status_given}
 use Rattle.rx_typed.specs.Tokens.{fresh}
 
 -- the book that is kept
@@ -88,14 +58,31 @@ pub data IsTaken (g : Ghosts Token) (taken : RxTaken) (s t : State) (status : �
       → status ≡ 0 → IsTaken g taken s t status
   none_waits : AnswersHanded g s t None → taken ≡ no_taken → status ≡ 2 → IsTaken g taken s t status
 
--- calls that answer a place -----------------------------------------------------------------------
+-- calls as values -------------------------------------------------------------------------------
 
-abbrev pub IsPlaced : (Result ℕ Refusal → Type 0) → (place status : ℕ) → Type 0
-IsPlaced Answers place status = IsAnswered Answers place_told status_told place status
+-- what the book answers, by `rx_book`, with a refusal by its status
+pub record IsAnswerOf (call : Call) (s t : State) (answer : Result Answer ℕ) : Type 0 where
+  pub given : Result Answer Refusal
+  pub says : Asks s call t given
+  pub tells : answer ≡ coded given
 
--- the leaf emits the value
-abbrev pub IsNext : RxNode → ℤ → (place : ℕ) → State → State → (status : ℕ) → Type 0
-IsNext leaf value place s t status = IsPlaced (AnswersPlaceOrWant s (next_request s (key_of leaf) value) t) place status
+-- a call on the book that the handle keeps, whose promise stands behind it too; or the handle keeps none, or the call's numbers stand for
+-- nothing, and nothing was done
+pub data IsAsked (Says : Call → State → State → Result Answer ℕ → Type 0) (IsBlank : Type 0) (call : Option Call) (old new : Option State)
+    (answer : Result Answer ℕ) : Type 0 where
+  asks : {c : Call} {s t : State} → call ≡ Some c → old ≡ Some s → new ≡ Some t → IsPromised t → Says c s t answer
+      → IsAsked Says IsBlank call old new answer
+  has_no_book : {c : Call} → call ≡ Some c → old ≡ None → new ≡ None → IsBlank → answer ≡ Err 1 → IsAsked Says IsBlank call old new answer
+  is_no_call : call ≡ None → new ≡ old → IsBlank → answer ≡ Err 5 → IsAsked Says IsBlank call old new answer
+
+-- what is shown of the answer, and its status
+pub record Tells {B : Type 0} (shown : Result Answer ℕ → B) (call : Option Call) (told : B) (old new : Option Typed) (status : ℕ) : Type 0 where
+  pub answer : Result Answer ℕ
+  pub asked : IsAsked IsAnswerOf Unit call (book_of old) (book_of new) answer
+  pub shows : told ≡ shown answer
+  pub means : status ≡ status_given answer
+
+-- calls with items, resources and checkpoints ------------------------------------------------------
 
 -- the leaf emits the values, up to the first that is refused, whose status is answered
 pub record IsNextAll (leaf : RxNode) (values : List ℤ) (count : ℕ) (s t : State) (status : ℕ) : Type 0 where
@@ -104,56 +91,11 @@ pub record IsNextAll (leaf : RxNode) (values : List ℤ) (count : ℕ) (s t : St
   pub tells : count ≡ answer.count
   pub means : status ≡ refused_told answer.refused
 
--- the leaf ends
-abbrev pub IsEnd : RxNode → Terminal → (place : ℕ) → State → State → (status : ℕ) → Type 0
-IsEnd leaf terminal place s t status = IsPlaced (AnswersPlace s (end_request s (key_of leaf) terminal) t) place status
-
--- the root is unsubscribed
-abbrev pub IsDispose : RxNode → (place : ℕ) → State → State → (status : ℕ) → Type 0
-IsDispose root place s t status = IsPlaced (AnswersPlace s (dispose_request s (key_of root)) t) place status
-
--- a node that is no leaf ends with an error
-abbrev pub IsAbort : RxNode → (error : ℕ) → (place : ℕ) → State → State → (status : ℕ) → Type 0
-IsAbort node error place s t status = IsPlaced (AnswersPlace s (abort_request s (key_of node) error) t) place status
-
--- a FlatMap or a Switch ends with an error
-abbrev pub IsFail : RxNode → (error : ℕ) → (place : ℕ) → State → State → (status : ℕ) → Type 0
-IsFail merging error place s t status = IsPlaced (AnswersPlace s (fail_request s (key_of merging) error) t) place status
-
--- an item that was projected is declined
-abbrev pub IsDecline : RxNode → (place : ℕ) → State → State → (status : ℕ) → Type 0
-IsDecline merging place s t status = IsPlaced (AnswersPlace s (decline_request s (key_of merging)) t) place status
-
--- a resource is taken away from its node
-abbrev pub IsRemove : RxRes → (place : ℕ) → State → State → (status : ℕ) → Type 0
-IsRemove res place s t status = IsPlaced (AnswersPlace s (remove_request s (res_key_of res)) t) place status
-
--- a lease is given back
-abbrev pub IsGiveBack : RxLease → (place : ℕ) → State → State → (status : ℕ) → Type 0
-IsGiveBack lease place s t status = IsPlaced (AnswersPlace s (give_back_request s (lease_key_of lease)) t) place status
-
--- a hub is disconnected by hand
-abbrev pub IsDisconnect : (hub : ℕ) → (place : ℕ) → State → State → (status : ℕ) → Type 0
-IsDisconnect hub place s t status = IsPlaced (AnswersPlace s (disconnect_request hub) t) place status
-
--- a hub is made, whose number is the place
-abbrev pub IsHub : Mode → (place : ℕ) → State → State → (status : ℕ) → Type 0
-IsHub mode place s t status = IsPlaced (AnswersPlaceOrWant s (hub_request mode) t) place status
-
--- a resource is used, and its word is told
-abbrev pub IsApply : RxRes → (word : ℕ) → State → State → (status : ℕ) → Type 0
-IsApply res word s t status = IsPlaced (AnswersWord s (apply_request s (res_key_of res)) t) word status
-
 -- what the history leaves stands in its place
 abbrev pub IsCheckpoint : (place : ℕ) → State → State → (status : ℕ) → Type 0
-IsCheckpoint place s t status = IsPlaced (AnswersCheckpoint s t) place status
+IsCheckpoint place s t status = IsAnswered (AnswersCheckpoint s t) place_told status_told place status
 
--- openings ----------------------------------------------------------------------------------------
-
-abbrev pub IsOpen : At → Kind → (opened : RxOpened) → State → State → (status : ℕ) → Type 0
-IsOpen at kind opened s t status = IsAnswered (AnswersOpened s (open_request s at kind) t) opened_told status_told opened status
-
--- with a token of this tag
+-- a mirroring node is opened with a token of this tag
 abbrev pub IsUsing : Ghosts Token → At → (tag : ℕ) → (used : RxUsing) → State → State → (status : ℕ) → Type 0
 IsUsing g at tag used s t status = IsAnswered (AnswersOpenedUsing s (using_request g s at (fresh tag)) (fresh tag) t) used_told status_given_back used status
 
@@ -161,14 +103,6 @@ IsUsing g at tag used s t status = IsAnswered (AnswersOpenedUsing s (using_reque
 abbrev pub IsHold : Ghosts Token → RxNode → (tag : ℕ) → (held : RxRes) → State → State → (status : ℕ) → Type 0
 IsHold g node tag held s t status =
     IsAnswered (AnswersResKey s (hold_request g s (key_of node) (fresh tag)) (fresh tag) t) res_told status_given_back held status
-
--- a hub is connected by hand
-abbrev pub IsConnect : (hub : ℕ) → (connection : RxNode) → State → State → (status : ℕ) → Type 0
-IsConnect hub connection s t status = IsAnswered (AnswersKey s (connect_request hub) t) node_told status_told connection status
-
--- a lease is given out
-abbrev pub IsLease : RxRes → (lease : RxLease) → State → State → (status : ℕ) → Type 0
-IsLease res lease s t status = IsAnswered (AnswersLeaseKey s (lease_request s (res_key_of res)) t) lease_told status_told lease status
 
 -- the end -----------------------------------------------------------------------------------------
 
@@ -200,11 +134,19 @@ pub data IsFinished (old new : Option State) (status : ℕ) : Type 0 where
 
 -- questions ---------------------------------------------------------------------------------------
 
--- whether the key is an open node's
-pub record IsAsked (node : RxNode) (is_open : ℕ) (s t : State) (status : ℕ) : Type 0 where
-  pub says : is_open ≡ if has_key s.keys (key_of node) then 1 else 0
+-- whether something is so
+pub record IsWhether (holds : Bool) (answer : ℕ) (s t : State) (status : ℕ) : Type 0 where
+  pub says : answer ≡ if holds then 1 else 0
   pub kept : t ≡ s
   pub done : status ≡ 0
+
+-- whether the key is an open node's
+abbrev pub IsAskedOpen : RxNode → (is_open : ℕ) → State → State → (status : ℕ) → Type 0
+IsAskedOpen node is_open s = IsWhether (has_key s.keys (key_of node)) is_open s
+
+-- whether it is a held resource's
+abbrev pub IsAskedHeld : RxRes → (holds : ℕ) → State → State → (status : ℕ) → Type 0
+IsAskedHeld res holds s = IsWhether (has_res_key s.res_keys (res_key_of res)) holds s
 
 -- what there is
 pub record IsCounted (counts : RxCounts) (s t : State) (status : ℕ) : Type 0 where
@@ -220,12 +162,6 @@ pub record IsCounted (counts : RxCounts) (s t : State) (status : ℕ) : Type 0 w
 
 abbrev pub no_counts : RxCounts
 no_counts = record { nodes = 0; held = 0; waiting = 0; leases = 0; accepted = 0; taken = 0; events = 0 }
-
--- whether the key is a held resource's
-pub record IsAskedHeld (res : RxRes) (is_held : ℕ) (s t : State) (status : ℕ) : Type 0 where
-  pub says : is_held ≡ if has_res_key s.res_keys (res_key_of res) then 1 else 0
-  pub kept : t ≡ s
-  pub done : status ≡ 0
 
 -- how many items an open FlatMap or Switch owes an inner, or that the key is of none
 abbrev pub owed_in : State → RxNode → Option ℕ

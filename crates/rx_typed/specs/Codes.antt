@@ -1,33 +1,17 @@
 -- What the numbers of the calls stand for.
 use Rattle.std.specs.Prelude.{ℕ, pos, ◌==◌, Option, Some, None, option_map, Result, Ok, Err, if◌then◌else◌}
 use Rattle.std.specs.Option.{option_and_then}
-use Rattle.rx_note.specs.declared.note.Terminal.{Terminal}
+use Rattle.rx_typed.specs.Imports.{Note, Mail, Refusal, Kind, Key, ResKey, LeaseKey, At, Answer, Opened, OpenedUsing, Refused, Call, RxNode, RxRes, RxLease}
+use Rattle.rx_typed.specs.Imports.{RxMail, RxUsing, RxTaken, RxOpened}
 use Rattle.rx_note.specs.declared.note.Terminal.TheVariants.{Completed, Error}
-use Rattle.rx_note.specs.declared.note.Note.{Note}
 use Rattle.rx_note.specs.declared.note.Note.TheVariants.{Next, Project, End}
-use Rattle.rx_event.specs.declared.mail.Mail.{Mail}
-use Rattle.rx_event.specs.declared.refusal.Refusal.{Refusal}
-use Rattle.rx_event.specs.declared.event.Kind.{Kind}
-use Rattle.rx_event.specs.declared.event.Mode.{Mode}
 use Rattle.rx_event.specs.declared.event.Mode.TheVariants.{Auto, Manual}
 use Rattle.rx_event.specs.declared.event.Kind.TheVariants.{Leaf, Pass, Flat, Switch, Until, Sub}
 use Rattle.rx_event.specs.declared.refusal.Refusal.TheVariants.{NoMemory, Full, Gone, WrongKind, PlaceTaken, NothingOwed, NotRoot, NoHub, HubOrder}
 use Rattle.rx_event.specs.declared.refusal.Refusal.TheVariants.{Connected, NotConnected, NotFresh, NotHeld, HasChild, TooMany, NoLease, Leased, MailLeft}
-use Rattle.rx_book.specs.declared.key.Key.{Key}
-use Rattle.rx_book.specs.declared.key.ResKey.{ResKey}
-use Rattle.rx_book.specs.declared.key.LeaseKey.{LeaseKey}
-use Rattle.rx_book.specs.declared.answer.At.{At}
-use Rattle.rx_book.specs.declared.answer.Opened.{Opened}
-use Rattle.rx_book.specs.declared.answer.OpenedUsing.{OpenedUsing}
-use Rattle.rx_book.specs.declared.answer.Refused.{Refused}
+use Rattle.rx_book.specs.declared.answer.Answer.TheVariants.{Place, Word, Opened as ToNode, Connected as ToConnection, Leased as ToLease}
 use Rattle.rx_book.specs.declared.answer.At.TheVariants.{Root, Source, Inner, Notifier}
-use Rattle.rx_typed.specs.declared.shapes.RxNode.{RxNode}
-use Rattle.rx_typed.specs.declared.shapes.RxRes.{RxRes}
-use Rattle.rx_typed.specs.declared.shapes.RxLease.{RxLease}
-use Rattle.rx_typed.specs.declared.shapes.RxMail.{RxMail}
-use Rattle.rx_typed.specs.declared.shapes.RxUsing.{RxUsing}
-use Rattle.rx_typed.specs.declared.shapes.RxTaken.{RxTaken}
-use Rattle.rx_typed.specs.declared.shapes.RxOpened.{RxOpened}
+use Rattle.rx_book.specs.declared.call.Call.TheVariants.{Open, End as Ending, Hub}
 
 -- each refusal has a status of its own
 abbrev pub refusal_status : Refusal → ℕ
@@ -92,15 +76,15 @@ abbrev pub place_at : ℕ → RxNode → Option At
 place_at code above = if code == 0 then Some Root else if code == 1 then Some (Source (key_of above)) else if code == 2 then Some (Inner (key_of above))
     else if code == 3 then Some (Notifier (key_of above)) else None
 
--- what is asked of an opening
-abbrev pub asked_of : ℕ → RxNode → ℕ → ℕ → Option (At × Kind)
-asked_of place above kind hub = option_and_then (λ at. option_map (λ k. (at, k)) (kind_of kind hub)) (place_at place above)
+-- calls whose numbers may stand for nothing
+abbrev pub open_call : ℕ → RxNode → ℕ → ℕ → Option Call
+open_call place above kind hub = option_and_then (λ at. option_map (λ k. Open at k) (kind_of kind hub)) (place_at place above)
 
-abbrev pub terminal_of : ℕ → ℕ → Option Terminal
-terminal_of code error = if code == 0 then Some Completed else if code == 1 then Some (Error error) else None
+abbrev pub end_call : RxNode → ℕ → ℕ → Option Call
+end_call leaf how error = if how == 0 then Some (Ending (key_of leaf) Completed) else if how == 1 then Some (Ending (key_of leaf) (Error error)) else None
 
-abbrev pub mode_of : ℕ → Option Mode
-mode_of code = if code == 0 then Some Auto else if code == 1 then Some Manual else None
+abbrev pub hub_call : ℕ → Option Call
+hub_call mode = if mode == 0 then Some (Hub Auto) else if mode == 1 then Some (Hub Manual) else None
 
 -- what is told ------------------------------------------------------------------------------------
 
@@ -135,10 +119,6 @@ abbrev pub place_told : Result ℕ Refusal → ℕ
 place_told (Ok place) = place
 place_told (Err why) = 0
 
-abbrev pub opened_told : Result Opened Refusal → RxOpened
-opened_told (Ok o) = opened_of o
-opened_told (Err why) = no_opened
-
 abbrev pub used_told : {T : Type 0} → Result OpenedUsing (Refused T) → RxUsing
 used_told (Ok o) = record { node = node_of o.key; res = res_of o.res }
 used_told (Err refused) = no_used
@@ -155,14 +135,37 @@ abbrev pub refused_told : Option Refusal → ℕ
 refused_told None = 0
 refused_told (Some why) = refusal_status why
 
-abbrev pub node_told : Result Key Refusal → RxNode
-node_told (Ok k) = node_of k
-node_told (Err why) = no_node
-
-abbrev pub lease_told : Result LeaseKey Refusal → RxLease
-lease_told (Ok k) = lease_of k
-lease_told (Err why) = no_lease
-
 abbrev pub res_told : {T : Type 0} → Result ResKey (Refused T) → RxRes
 res_told (Ok k) = res_of k
 res_told (Err refused) = no_res
+
+-- what is answered of a call as a value ------------------------------------------------------------
+
+abbrev pub coded : Result Answer Refusal → Result Answer ℕ
+coded (Ok given) = Ok given
+coded (Err why) = Err (refusal_status why)
+
+abbrev pub status_given : Result Answer ℕ → ℕ
+status_given (Ok given) = 0
+status_given (Err status) = status
+
+-- the number of the call's own event, or the resource's word
+abbrev pub number_given : Result Answer ℕ → ℕ
+number_given (Ok (Place place)) = place
+number_given (Ok (Word word)) = word
+number_given (Ok (ToNode o)) = o.key.number
+number_given (Ok (ToConnection k)) = k.number
+number_given (Ok (ToLease k)) = k.number
+number_given (Err status) = 0
+
+abbrev pub opened_given : Result Answer ℕ → RxOpened
+opened_given (Ok (ToNode o)) = opened_of o
+opened_given _ = no_opened
+
+abbrev pub node_given : Result Answer ℕ → RxNode
+node_given (Ok (ToConnection k)) = node_of k
+node_given _ = no_node
+
+abbrev pub lease_given : Result Answer ℕ → RxLease
+lease_given (Ok (ToLease k)) = lease_of k
+lease_given _ = no_lease

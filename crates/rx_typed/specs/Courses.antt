@@ -1,27 +1,10 @@
 -- What the calls on one book come to, by what a caller sees of them: resources are handed in and handed back, notes are told.
-use Rattle.std.specs.Prelude.{◌≡◌, ℕ, ℤ, ◌==◌, ◌++◌, ◌∷◌, List, [], Option, Some, None, map, take, drop, length, option_and_then, if◌then◌else◌}
-use Rattle.rx_resource.specs.declared.Resource.{Ghosts}
-use Rattle.rx_note.specs.declared.note.Terminal.{Terminal}
-use Rattle.rx_event.specs.declared.event.Kind.{Kind}
-use Rattle.rx_event.specs.declared.event.Mode.{Mode}
-use Rattle.rx_event.specs.Resources.{accepted_by}
-use Rattle.rx_event.specs.Notes.{notes}
-use Rattle.rx_book.specs.State.{State, IsPromised, accepted_tag, is_kept}
-use Rattle.rx_book.specs.declared.answer.At.{At}
-use Rattle.rx_typed.specs.declared.token.Token.{Token}
+use Rattle.std.specs.Prelude.{◌≡◌, ℕ, ℤ, ◌==◌, ◌++◌, ◌∷◌, List, [], Option, Some, None, Result, map, take, drop, length, option_and_then, if◌then◌else◌}
+use Rattle.rx_typed.specs.Imports.{Ghosts, accepted_by, notes, State, IsPromised, accepted_tag, is_kept, Answer, At, Call, Token, RxMail, RxTaken, RxNode}
+use Rattle.rx_typed.specs.Imports.{RxRes, RxUsing, RxDrained}
 use Rattle.rx_typed.specs.Codes.{mail_of}
-use Rattle.rx_typed.specs.Calls.{IsClosed, IsCheckpoint, IsTakenWhole}
+use Rattle.rx_typed.specs.Calls.{new_book, IsAnswerOf, IsNextAll, IsUsing, IsHold, IsTaken, IsMailTaken, IsClosed, IsCheckpoint, IsTakenWhole}
 use Rattle.rx_typed.specs.Drained.{IsDrainedCall}
-use Rattle.rx_typed.specs.declared.shapes.RxMail.{RxMail}
-use Rattle.rx_typed.specs.declared.shapes.RxTaken.{RxTaken}
-use Rattle.rx_typed.specs.declared.shapes.RxNode.{RxNode}
-use Rattle.rx_typed.specs.declared.shapes.RxRes.{RxRes}
-use Rattle.rx_typed.specs.declared.shapes.RxLease.{RxLease}
-use Rattle.rx_typed.specs.declared.shapes.RxOpened.{RxOpened}
-use Rattle.rx_typed.specs.declared.shapes.RxUsing.{RxUsing}
-use Rattle.rx_typed.specs.declared.shapes.RxDrained.{RxDrained}
-use Rattle.rx_typed.specs.Calls.{new_book, IsNext, IsNextAll, IsEnd, IsAbort, IsFail, IsDecline, IsDispose, IsOpen, IsUsing, IsHold}
-use Rattle.rx_typed.specs.Calls.{IsHub, IsConnect, IsDisconnect, IsApply, IsRemove, IsLease, IsGiveBack, IsTaken, IsMailTaken}
 
 -- what is handed over -----------------------------------------------------------------------------
 
@@ -49,30 +32,17 @@ all_drained mails takens drained = map told (take drained.mails mails) ++ map ha
 
 -- a call on the book, by the definition that its contract cites, and what it hands over
 pub data IsCall (g : Ghosts Token) (s : State) : List Act → State → Type 0 where
-  next : {t : State} {place status : ℕ} (leaf : RxNode) (value : ℤ) → IsNext leaf value place s t status → IsCall g s [] t
+  a_call : {t : State} {answer : Result Answer ℕ} (call : Call) → IsAnswerOf call s t answer → IsCall g s [] t
   next_all : {t : State} {count status : ℕ} (leaf : RxNode) (values : List ℤ) → IsNextAll leaf values count s t status → IsCall g s [] t
-  end : {t : State} {place status : ℕ} (leaf : RxNode) (terminal : Terminal) → IsEnd leaf terminal place s t status → IsCall g s [] t
-  abort : {t : State} {place status : ℕ} (node : RxNode) (error : ℕ) → IsAbort node error place s t status → IsCall g s [] t
-  fail : {t : State} {place status : ℕ} (merging : RxNode) (error : ℕ) → IsFail merging error place s t status → IsCall g s [] t
-  decline : {t : State} {place status : ℕ} (merging : RxNode) → IsDecline merging place s t status → IsCall g s [] t
-  dispose : {t : State} {place status : ℕ} (root : RxNode) → IsDispose root place s t status → IsCall g s [] t
-  open_node : {t : State} {opened : RxOpened} {status : ℕ} (at : At) (kind : Kind) → IsOpen at kind opened s t status → IsCall g s [] t
   using : {t : State} {used : RxUsing} {status : ℕ} (at : At) (tag : ℕ) → IsUsing g at tag used s t status
       → IsCall g s (taken_in status used.res.number tag) t
   hold : {t : State} {held : RxRes} {status : ℕ} (node : RxNode) (tag : ℕ) → IsHold g node tag held s t status
       → IsCall g s (taken_in status held.number tag) t
-  hub : {t : State} {place status : ℕ} (mode : Mode) → IsHub mode place s t status → IsCall g s [] t
-  connect : {t : State} {connection : RxNode} {status : ℕ} (number : ℕ) → IsConnect number connection s t status → IsCall g s [] t
-  disconnect : {t : State} {place status : ℕ} (number : ℕ) → IsDisconnect number place s t status → IsCall g s [] t
-  apply : {t : State} {word status : ℕ} (res : RxRes) → IsApply res word s t status → IsCall g s [] t
-  remove : {t : State} {place status : ℕ} (res : RxRes) → IsRemove res place s t status → IsCall g s [] t
-  lease : {t : State} {given : RxLease} {status : ℕ} (res : RxRes) → IsLease res given s t status → IsCall g s [] t
-  give_back : {t : State} {place status : ℕ} (key : RxLease) → IsGiveBack key place s t status → IsCall g s [] t
   take_one : {t : State} {taken : RxTaken} {status : ℕ} → IsTaken g taken s t status → IsCall g s (given_back status taken) t
   take_mail : {t : State} {mail : RxMail} {status : ℕ} → IsMailTaken mail s t status → IsCall g s (note_told status mail) t
   close : {t : State} {status : ℕ} → IsClosed s t status → IsCall g s [] t
   -- a call that changes nothing
-  asks : IsCall g s [] s
+  asks_only : IsCall g s [] s
 
 -- from s one call after another was made, and the book's promise stood behind each; a draining by itself, or behind another call,
 -- as those that tell at once have it; and checkpoints

@@ -1,17 +1,11 @@
 -- An event as the caller has it: what it is, and its parts by number.
 use Rattle.std.specs.Prelude.{◌≡◌, ℕ, pos, Some, None}
-use Rattle.rx_note.specs.declared.note.Terminal.{Terminal}
+use Rattle.rx_typed.specs.Imports.{Terminal, Place, Kind, Event, event_since, State, RxEvent}
 use Rattle.rx_note.specs.declared.note.Terminal.TheVariants.{Completed, Error}
-use Rattle.rx_event.specs.declared.event.Place.{Place}
-use Rattle.rx_event.specs.declared.event.Kind.{Kind}
 use Rattle.rx_event.specs.declared.event.Mode.TheVariants.{Auto, Manual}
-use Rattle.rx_event.specs.declared.event.Event.{Event}
 use Rattle.rx_event.specs.declared.event.Place.TheVariants.{Root, Source, Inner, Notifier}
 use Rattle.rx_event.specs.declared.event.Kind.TheVariants.{Leaf, Pass, Flat, Switch, Until, Sub}
 use Rattle.rx_event.specs.declared.event.Event.TheVariants.{Open, Hub, Connect, Accept, Use, Remove, Lease, Return, Item, Decline, End, Close, Take}
-use Rattle.rx_event.specs.Kept.{event_since}
-use Rattle.rx_book.specs.State.{State}
-use Rattle.rx_typed.specs.declared.shapes.RxEvent.{RxEvent}
 
 abbrev pub no_event : RxEvent
 no_event = record { what = 0; place = 0; kind = 0; how = 0; of = 0; other = 0; value = pos 0 }

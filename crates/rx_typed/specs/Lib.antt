@@ -3,5 +3,5 @@ pub mod Codes
 pub mod Courses
 pub mod Drained
 pub mod Events
-pub mod Told
+pub mod Imports
 pub mod Tokens

@@ -1,10 +1,10 @@
 //! What a number of a call stands for.
 
 ghost use Rattle.std.specs.Prelude.{◌≡◌};
-ghost use Rattle.rx_typed.specs.Codes.{asked_of, kind_of, place_at, terminal_of, mode_of};
+ghost use Rattle.rx_typed.specs.Codes.{kind_of, place_at, open_call, end_call, hub_call};
 
 use crate::shapes::{RxNode, key_of};
-use rx_book::{At, Kind, Mode, Terminal};
+use rx_book::{At, Call, Kind, Mode, Terminal};
 
 /// The kind of this code: 0 leaf, 1 pass, 2 flat, 3 switch, 4 until, 5 a subscriber of the hub.
 pub fn kind_of(code: u8, hub: u64) -> Option<Kind>
@@ -34,33 +34,33 @@ pub fn place_at(code: u8, above: RxNode) -> Option<At>
     }
 }
 
-/// How a leaf ends: 0 completed, 1 with the error of this code.
-pub fn terminal_of(code: u8, error: u32) -> Option<Terminal>
-    ensures { result ≡ terminal_of code error }
-{
-    match code {
-        0 => Some(Terminal::Completed),
-        1 => Some(Terminal::Error(error)),
-        _ => None,
-    }
-}
-
-/// How a hub is connected: 0 by its subscribers, 1 by hand.
-pub fn mode_of(code: u8) -> Option<Mode>
-    ensures { result ≡ mode_of code }
-{
-    match code {
-        0 => Some(Mode::Auto),
-        1 => Some(Mode::Manual),
-        _ => None,
-    }
-}
-
-/// A place and a kind, by their codes.
-pub fn asked(place: u8, above: RxNode, kind: u8, hub: u64) -> Option<(At, Kind)>
-    ensures { result ≡ asked_of place above kind hub }
+/// The opening of a node at a place of this code, of a kind of this code.
+pub fn open_call(place: u8, above: RxNode, kind: u8, hub: u64) -> Option<Call>
+    ensures { result ≡ open_call place above kind hub }
 {
     let at = place_at(place, above)?;
     let kind = kind_of(kind, hub)?;
-    Some((at, kind))
+    Some(Call::Open(at, kind))
+}
+
+/// The end of a leaf: 0 completed, 1 with the error of this code.
+pub fn end_call(leaf: RxNode, how: u8, error: u32) -> Option<Call>
+    ensures { result ≡ end_call leaf how error }
+{
+    match how {
+        0 => Some(Call::End(key_of(leaf), Terminal::Completed)),
+        1 => Some(Call::End(key_of(leaf), Terminal::Error(error))),
+        _ => None,
+    }
+}
+
+/// The making of a hub that is connected 0 by its subscribers, 1 by hand.
+pub fn hub_call(mode: u8) -> Option<Call>
+    ensures { result ≡ hub_call mode }
+{
+    match mode {
+        0 => Some(Call::Hub(Mode::Auto)),
+        1 => Some(Call::Hub(Mode::Manual)),
+        _ => None,
+    }
 }

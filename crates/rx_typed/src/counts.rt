@@ -1,6 +1,6 @@
 //! Questions.
 
-ghost use Rattle.rx_typed.specs.Calls.{IsAsked, IsAskedHeld, IsOwed, IsCounted};
+ghost use Rattle.rx_typed.specs.Calls.{IsAskedOpen, IsAskedHeld, IsOwed, IsCounted};
 
 use crate::Typed;
 use crate::shapes::{RxCounts, RxNode, RxRes, key_of, res_key_of};
@@ -8,14 +8,11 @@ use crate::status::{DONE, NOTHING_WAITS};
 
 impl Typed {
     /// Whether the key is an open node's.
-    pub fn ask(&mut self, node: RxNode, is_open: &mut u8) -> u8
-        ensures { IsAsked node is_open.new self.old.book self.new.book result }
+    pub fn ask_open(&mut self, node: RxNode, is_open: &mut u8) -> u8
+        ensures { IsAskedOpen node is_open.new self.old.book self.new.book result }
     {
-        *is_open = if self.book.is_open(key_of(node)) {
-            1
-        } else {
-            0
-        };
+        let holds = self.book.is_open(key_of(node));
+        *is_open = if holds { 1 } else { 0 };
         DONE
     }
 
@@ -23,11 +20,8 @@ impl Typed {
     pub fn ask_held(&mut self, res: RxRes, is_held: &mut u8) -> u8
         ensures { IsAskedHeld res is_held.new self.old.book self.new.book result }
     {
-        *is_held = if self.book.is_held(res_key_of(res)) {
-            1
-        } else {
-            0
-        };
+        let holds = self.book.is_held(res_key_of(res));
+        *is_held = if holds { 1 } else { 0 };
         DONE
     }
 

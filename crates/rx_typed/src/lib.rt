@@ -31,21 +31,22 @@ mod draining;
 mod dumping;
 mod shapes;
 mod status;
-mod telling;
 mod token;
 mod told;
 mod typed;
 
-pub use codes::{asked, kind_of, mode_of, place_at, terminal_of};
+pub use codes::{end_call, hub_call, kind_of, open_call, place_at};
 pub use course_laws::{notes_are_told_once, resources_are_handed_back_once};
 pub use draining::drain;
 pub use dumping::no_event;
 pub use shapes::{
     RxCounts, RxDrained, RxEvent, RxLease, RxMail, RxNode, RxOpened, RxRes, RxTaken, RxTold,
-    RxUsing, no_lease, no_mail, no_node, no_opened, no_res, no_taken, no_used,
+    RxUsing, key_of, lease_key_of, no_lease, no_mail, no_node, no_opened, no_res, no_taken,
+    no_used, res_key_of,
 };
 pub use status::{
     CUT, DONE, HELD, NO_MEMORY, NO_SUCH_CODE, NOTHING_KEPT, NOTHING_WAITS, SMALL, UNTAKEN,
 };
 pub use token::Token;
+pub use told::{lease_given, node_given, number_given, opened_given, status_given};
 pub use typed::Typed;

@@ -187,77 +187,63 @@ pub fn no_mail() -> RxMail
 pub fn key_of(node: RxNode) -> Key
     ensures { result ≡ key_of node }
 {
-    Key {
-        slot: node.slot,
-        number: node.number,
-    }
+    let RxNode { slot, number } = node;
+    Key { slot, number }
 }
 
 /// The key for the caller.
 pub fn node_of(key: Key) -> RxNode
     ensures { result ≡ node_of key }
 {
-    RxNode {
-        slot: key.slot,
-        number: key.number,
-    }
+    let Key { slot, number } = key;
+    RxNode { slot, number }
 }
 
 /// The resource's key for the caller.
 pub fn res_of(res: ResKey) -> RxRes
     ensures { result ≡ res_of res }
 {
-    RxRes {
-        slot: res.slot,
-        number: res.number,
-    }
+    let ResKey { slot, number } = res;
+    RxRes { slot, number }
 }
 
 /// The book's key of a resource.
 pub fn res_key_of(res: RxRes) -> ResKey
     ensures { result ≡ res_key_of res }
 {
-    ResKey {
-        slot: res.slot,
-        number: res.number,
-    }
+    let RxRes { slot, number } = res;
+    ResKey { slot, number }
 }
 
 /// The lease's key for the caller.
 pub fn lease_of(lease: LeaseKey) -> RxLease
     ensures { result ≡ lease_of lease }
 {
-    RxLease {
-        slot: lease.slot,
-        number: lease.number,
-    }
+    let LeaseKey { slot, number } = lease;
+    RxLease { slot, number }
 }
 
 /// The book's key of a lease.
 pub fn lease_key_of(lease: RxLease) -> LeaseKey
     ensures { result ≡ lease_key_of lease }
 {
-    LeaseKey {
-        slot: lease.slot,
-        number: lease.number,
-    }
+    let RxLease { slot, number } = lease;
+    LeaseKey { slot, number }
 }
 
 /// What was opened, for the caller.
 pub fn opened_of(opened: Opened) -> RxOpened
     ensures { result ≡ opened_of opened }
 {
-    match opened.connected {
-        Some(connection) => RxOpened {
-            node: node_of(opened.key),
-            connection: node_of(connection),
-            is_connected: 1,
-        },
-        None => RxOpened {
-            node: node_of(opened.key),
-            connection: no_node(),
-            is_connected: 0,
-        },
+    let node = node_of(opened.key);
+    let (connection, is_connected) = match opened.connected {
+        Some(connection) => (node_of(connection), 1),
+        None => (no_node(), 0),
+    };
+    RxOpened {
+        node,
+        connection,
+        is_connected,
     }
 }
 

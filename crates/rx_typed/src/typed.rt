@@ -2,19 +2,17 @@
 
 ghost use Rattle.std.specs.Prelude.{◌≡◌, ◌≤◌, false, IsTrue};
 ghost use Rattle.rx_book.specs.State.{IsPromised};
-ghost use Rattle.rx_typed.specs.Calls.{new_book, IsNextAll, IsClosed, IsTakenWhole, IsUntaken};
-ghost use Rattle.rx_typed.specs.Calls.{IsNext, IsEnd, IsDispose, IsAbort, IsFail, IsDecline, IsMailTaken, IsTaken, IsCheckpoint};
-ghost use Rattle.rx_typed.specs.Calls.{IsOpen, IsUsing, IsHold, IsHub, IsConnect, IsDisconnect, IsApply, IsRemove, IsLease, IsGiveBack};
+ghost use Rattle.rx_typed.specs.Calls.{new_book, IsAnswerOf, IsNextAll, IsUsing, IsHold, IsMailTaken, IsTaken};
+ghost use Rattle.rx_typed.specs.Calls.{IsCheckpoint, IsClosed, IsTakenWhole, IsUntaken};
 
 use crate::shapes::{
-    RxLease, RxMail, RxNode, RxOpened, RxRes, RxTaken, RxUsing, key_of, lease_key_of, lease_of,
-    mail_of, no_lease, no_mail, no_node, no_opened, no_res, no_taken, no_used, node_of, opened_of,
-    res_key_of, res_of,
+    RxMail, RxNode, RxRes, RxTaken, RxUsing, key_of, mail_of, no_mail, no_res, no_taken, no_used,
+    node_of, res_of,
 };
 use crate::status::{DONE, NOTHING_WAITS, status_of};
 use crate::token::Token;
-use crate::told::place_told;
-use rx_book::{At, Book, Kind, Mode, Resource, Terminal};
+use crate::told::{coded, place_told};
+use rx_book::{Answer, At, Book, Call, Resource};
 use std::alloc::Global;
 
 /// A book whose resources are tokens.
@@ -41,11 +39,12 @@ impl Typed {
         self.book.promise();
     }
 
-    /// A leaf emits an item.
-    pub fn next(&mut self, leaf: RxNode, value: i64, place: &mut u64) -> u8
-        ensures { IsNext leaf value place.new self.old.book self.new.book result }
+    /// Makes a call.
+    #[inline(always)]
+    pub fn ask(&mut self, call: Call) -> Result<Answer, u8>
+        ensures { IsAnswerOf call self.old.book self.new.book result }
     {
-        place_told(self.book.next(key_of(leaf), value), place)
+        coded(self.book.ask(call))
     }
 
     /// A leaf emits several items, up to the first that is refused, whose status is answered.
@@ -57,36 +56,6 @@ impl Typed {
         match emitted.refused {
             Some(why) => status_of(why),
             None => DONE,
-        }
-    }
-
-    /// A leaf ends.
-    pub fn end(&mut self, leaf: RxNode, terminal: Terminal, place: &mut u64) -> u8
-        ensures { IsEnd leaf terminal place.new self.old.book self.new.book result }
-    {
-        place_told(self.book.end(key_of(leaf), terminal), place)
-    }
-
-    /// A root is unsubscribed.
-    pub fn dispose(&mut self, root: RxNode, place: &mut u64) -> u8
-        ensures { IsDispose root place.new self.old.book self.new.book result }
-    {
-        place_told(self.book.dispose(key_of(root)), place)
-    }
-
-    /// A node is opened.
-    pub fn open(&mut self, at: At, kind: Kind, opened: &mut RxOpened) -> u8
-        ensures { IsOpen at kind opened.new self.old.book self.new.book result }
-    {
-        match self.book.open(at, kind) {
-            Ok(made) => {
-                *opened = opened_of(made);
-                DONE
-            }
-            Err(why) => {
-                *opened = no_opened();
-                status_of(why)
-            }
         }
     }
 
@@ -159,94 +128,6 @@ impl Typed {
                 status_of(refused.why)
             }
         }
-    }
-
-    /// A node that is no leaf ends with an error.
-    pub fn abort(&mut self, node: RxNode, error: u32, place: &mut u64) -> u8
-        ensures { IsAbort node error place.new self.old.book self.new.book result }
-    {
-        place_told(self.book.abort(key_of(node), error), place)
-    }
-
-    /// A FlatMap or a Switch ends with an error.
-    pub fn fail(&mut self, merging: RxNode, error: u32, place: &mut u64) -> u8
-        ensures { IsFail merging error place.new self.old.book self.new.book result }
-    {
-        place_told(self.book.fail(key_of(merging), error), place)
-    }
-
-    /// An item that was projected is declined.
-    pub fn decline(&mut self, merging: RxNode, place: &mut u64) -> u8
-        ensures { IsDecline merging place.new self.old.book self.new.book result }
-    {
-        place_told(self.book.decline(key_of(merging)), place)
-    }
-
-    /// A hub is made.
-    pub fn hub(&mut self, mode: Mode, hub: &mut u64) -> u8
-        ensures { IsHub mode hub.new self.old.book self.new.book result }
-    {
-        place_told(self.book.hub(mode), hub)
-    }
-
-    /// A hub is connected by hand.
-    pub fn connect(&mut self, hub: u64, connection: &mut RxNode) -> u8
-        ensures { IsConnect hub connection.new self.old.book self.new.book result }
-    {
-        match self.book.connect(hub) {
-            Ok(key) => {
-                *connection = node_of(key);
-                DONE
-            }
-            Err(why) => {
-                *connection = no_node();
-                status_of(why)
-            }
-        }
-    }
-
-    /// A hub is disconnected by hand.
-    pub fn disconnect(&mut self, hub: u64, place: &mut u64) -> u8
-        ensures { IsDisconnect hub place.new self.old.book self.new.book result }
-    {
-        place_told(self.book.disconnect(hub), place)
-    }
-
-    /// A resource is used on a word.
-    pub fn apply(&mut self, res: RxRes, word: u64, answer: &mut u64) -> u8
-        ensures { IsApply res answer.new self.old.book self.new.book result }
-    {
-        place_told(self.book.apply(res_key_of(res), word), answer)
-    }
-
-    /// A resource is taken away from its node.
-    pub fn remove(&mut self, res: RxRes, place: &mut u64) -> u8
-        ensures { IsRemove res place.new self.old.book self.new.book result }
-    {
-        place_told(self.book.remove(res_key_of(res)), place)
-    }
-
-    /// A lease is given out.
-    pub fn lease(&mut self, res: RxRes, lease: &mut RxLease) -> u8
-        ensures { IsLease res lease.new self.old.book self.new.book result }
-    {
-        match self.book.lease(res_key_of(res)) {
-            Ok(key) => {
-                *lease = lease_of(key);
-                DONE
-            }
-            Err(why) => {
-                *lease = no_lease();
-                status_of(why)
-            }
-        }
-    }
-
-    /// A lease is given back.
-    pub fn give_back(&mut self, lease: RxLease, place: &mut u64) -> u8
-        ensures { IsGiveBack lease place.new self.old.book self.new.book result }
-    {
-        place_told(self.book.give_back(lease_key_of(lease)), place)
     }
 
     /// All leases are given back, all roots unsubscribed and all hubs disconnected.

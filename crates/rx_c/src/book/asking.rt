@@ -1,7 +1,7 @@
 //! Questions.
 
 ghost use Rattle.std.specs.Prelude.{◌≡◌};
-ghost use Rattle.rx_typed.specs.Calls.{IsCalled, IsAsked, IsAskedHeld, IsOwed, IsCounted, no_counts, book_of};
+ghost use Rattle.rx_typed.specs.Calls.{IsCalled, IsAskedOpen, IsAskedHeld, IsOwed, IsCounted, no_counts, book_of};
 
 use super::{BookHandle, on_book};
 use rx_typed::{RxCounts, RxNode, RxRes};
@@ -15,10 +15,10 @@ pub extern "C" fn rx_book_is_open(
     node: RxNode,
     is_open: &mut u8,
 ) -> u8
-    ensures { IsCalled (IsAsked node is_open.new) (is_open.new ≡ 0)
+    ensures { IsCalled (IsAskedOpen node is_open.new) (is_open.new ≡ 0)
         (book_of handle.old.kept) (book_of handle.new.kept) result }
 {
-    on_book!(alloc, handle: ask(node, is_open) else *is_open = 0)
+    on_book!(alloc, handle: ask_open(node, is_open) else *is_open = 0)
 }
 
 /// Whether the key is a held resource's: 1 where it is, else 0.

@@ -1,12 +1,24 @@
 //! Hubs.
 
-ghost use Rattle.std.specs.Prelude.{◌≡◌};
-ghost use Rattle.rx_typed.specs.Calls.{IsCalled, IsDecoded, IsHub, IsConnect, IsDisconnect, book_of};
-ghost use Rattle.rx_typed.specs.Codes.{mode_of, no_node};
+ghost use Rattle.std.specs.Prelude.{Some};
+ghost use Rattle.rx_book.specs.declared.call.Call.{Call};
+ghost use Rattle.rx_typed.specs.Calls.{Tells};
+ghost use Rattle.rx_typed.specs.Codes.{hub_call, node_given, number_given};
+ghost use Rattle.rx_typed.specs.Drained.{ThenTells};
 
-use super::{BookHandle, on_book};
-use rx_typed::{RxNode, mode_of, no_node};
+use super::BookHandle;
+use super::call::{ask, tell, then_tell};
+use rx_book::{Call, Resource};
+use rx_typed::{RxNode, RxTold, Token, hub_call, node_given, status_given};
 use std::alloc::Global;
+
+/// Makes a hub: its subscribers connect it where `mode` is 0, a caller does where it is 1. Its number is told.
+#[unsafe(no_mangle)]
+pub extern "C" fn rx_book_hub(alloc: Global, handle: &mut BookHandle, mode: u8, hub: &mut u64) -> u8
+    ensures { Tells number_given (hub_call mode) hub.new handle.old.kept handle.new.kept result }
+{
+    tell(alloc, handle, hub_call(mode), hub)
+}
 
 /// Connects a hub by hand.
 #[unsafe(no_mangle)]
@@ -16,10 +28,11 @@ pub extern "C" fn rx_book_connect(
     hub: u64,
     connection: &mut RxNode,
 ) -> u8
-    ensures { IsCalled (IsConnect hub connection.new) (connection.new ≡ no_node)
-        (book_of handle.old.kept) (book_of handle.new.kept) result }
+    ensures { Tells node_given (Some (Call.Connect hub)) connection.new handle.old.kept handle.new.kept result }
 {
-    on_book!(alloc, handle: connect(hub, connection) else *connection = no_node())
+    let answer = ask(alloc, handle, Some(Call::Connect(hub)));
+    *connection = node_given(answer);
+    status_given(answer)
 }
 
 /// Disconnects a hub by hand.
@@ -30,18 +43,21 @@ pub extern "C" fn rx_book_disconnect(
     hub: u64,
     place: &mut u64,
 ) -> u8
-    ensures { IsCalled (IsDisconnect hub place.new) (place.new ≡ 0)
-        (book_of handle.old.kept) (book_of handle.new.kept) result }
+    ensures { Tells number_given (Some (Call.Disconnect hub)) place.new handle.old.kept handle.new.kept result }
 {
-    on_book!(alloc, handle: disconnect(hub, place) else *place = 0)
+    tell(alloc, handle, Some(Call::Disconnect(hub)), place)
 }
 
-/// Makes a hub: its subscribers connect it where `mode` is 0, a caller does where it is 1. Its number is told.
+/// A hub is disconnected by hand, and what waits is told.
 #[unsafe(no_mangle)]
-pub extern "C" fn rx_book_hub(alloc: Global, handle: &mut BookHandle, mode: u8, hub: &mut u64) -> u8
-    ensures { IsDecoded (mode_of mode)
-        (λ m. IsCalled (IsHub m hub.new) (hub.new ≡ 0) (book_of handle.old.kept) (book_of handle.new.kept))
-        ((book_of handle.new.kept ≡ book_of handle.old.kept) × (hub.new ≡ 0)) result }
+pub extern "C" fn rx_book_disconnect_told(
+    alloc: Global,
+    handle: &mut BookHandle,
+    hub: u64,
+    told: &mut RxTold,
+) -> u8
+    ensures { ThenTells ⟦<Token as Resource>⟧ number_given (Some (Call.Disconnect hub))
+        told.new.place told.old told.new handle.old.kept handle.new.kept result }
 {
-    on_book!(alloc, handle: mode = mode_of(mode); hub(mode, hub) else *hub = 0)
+    then_tell(alloc, handle, Some(Call::Disconnect(hub)), told)
 }

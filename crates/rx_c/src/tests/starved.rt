@@ -1,8 +1,8 @@
 //! Each request of a call for memory is refused in turn: the call answers so, nothing changes, and the same
 //! call goes through once there is memory.
 
-use super::book::{Bench, Call, Step};
-use crate::book::rx_book_counts;
+use super::bench::{Bench, Call, Step};
+use crate::book::asking::rx_book_counts;
 use rx_scarce::{MOST_BLOCKS, Scarce};
 use rx_typed::RxCounts;
 use std::test::Fail;
@@ -14,14 +14,14 @@ const TAKERS: [Step; 12] = [
     (Call::Hub, 0, 0, 0),
     (Call::Open, 0, 0, 5),
     (Call::Using, 0, 0, 7),
-    (Call::Hold, 0, 2, 8),
+    (Call::Hold, 0, 3, 8),
     (Call::Apply, 0, 0, 0),
     (Call::Lease, 0, 0, 0),
-    (Call::Open, 1, 2, 2),
-    (Call::Open, 1, 3, 0),
-    (Call::Next, 0, 4, 0),
-    (Call::Using, 2, 3, 9),
-    (Call::Open, 1, 5, 4),
+    (Call::Open, 1, 3, 2),
+    (Call::Open, 1, 4, 0),
+    (Call::Next, 0, 5, 0),
+    (Call::Using, 2, 4, 9),
+    (Call::Open, 1, 6, 4),
 ];
 
 fn is_same(a: RxCounts, b: RxCounts) -> bool {

@@ -1,7 +1,7 @@
 use Rattle.std.proofs.Common.{◌∙◌, refl, sym, ap}
 use Rattle.rx_typed.specs.Calls.{has_none, decodes, book_of}
 use Rattle.rx_c.proofs.CallOnBook.{called}
-use Rattle.rx_c.proofs.book.telling.rx_book_using_told.Goals as goal
+use Rattle.rx_c.proofs.book.opening.rx_book_using_told.Goals as goal
 
 pub returns-in_default-take : goal.returns-in_default-take
 returns-in_default-take c =

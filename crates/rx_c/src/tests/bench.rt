@@ -1,19 +1,29 @@
-//! A book by numbers: each call with each of its refusals, by tables of calls and one text of what they answered.
+//! The calls by numbers on one handle, each as a row of a table.
 
 use crate::BookHandle;
-use crate::book::{
-    rx_book_abort, rx_book_apply, rx_book_checkpoint, rx_book_close, rx_book_connect,
-    rx_book_decline, rx_book_disconnect, rx_book_dispose, rx_book_drain, rx_book_drop,
-    rx_book_dump, rx_book_end, rx_book_event, rx_book_fail, rx_book_finish, rx_book_give_back,
-    rx_book_hold, rx_book_hub, rx_book_lease, rx_book_new, rx_book_next, rx_book_next_all,
-    rx_book_open, rx_book_remove, rx_book_take, rx_book_take_mail, rx_book_using,
+use crate::book::draining::{rx_book_drain, rx_book_take, rx_book_take_mail};
+use crate::book::dumping::{rx_book_dump, rx_book_event};
+use crate::book::events::{
+    rx_book_abort, rx_book_abort_told, rx_book_decline, rx_book_decline_told, rx_book_dispose,
+    rx_book_dispose_told, rx_book_end, rx_book_end_told, rx_book_fail, rx_book_fail_told,
+    rx_book_next, rx_book_next_all, rx_book_next_told,
 };
+use crate::book::holding::{
+    rx_book_apply, rx_book_give_back, rx_book_give_back_told, rx_book_hold, rx_book_lease,
+    rx_book_remove, rx_book_remove_told,
+};
+use crate::book::hubs::{
+    rx_book_connect, rx_book_disconnect, rx_book_disconnect_told, rx_book_hub,
+};
+use crate::book::making::{
+    rx_book_checkpoint, rx_book_close, rx_book_drop, rx_book_finish, rx_book_new,
+};
+use crate::book::opening::{rx_book_open, rx_book_open_told, rx_book_using, rx_book_using_told};
 use rx_typed::{
-    RxDrained, RxLease, RxNode, RxRes, no_event, no_lease, no_mail, no_node, no_opened, no_res,
-    no_taken, no_used,
+    RxDrained, RxLease, RxNode, RxRes, RxTold, no_event, no_lease, no_mail, no_node, no_opened,
+    no_res, no_taken, no_used,
 };
 use std::alloc::{AllocError, Global};
-use std::test::Fail;
 
 // What is called.
 #[derive(Clone, Copy)]
@@ -44,19 +54,35 @@ pub(super) enum Call {
     Checkpoint,
     Close,
     Finish,
+    // The forms that tell.
+    OpenTold,
+    UsingTold,
+    NextTold,
+    EndTold,
+    AbortTold,
+    FailTold,
+    DeclineTold,
+    DisposeTold,
+    DisconnectTold,
+    RemoveTold,
+    GiveBackTold,
 }
 
 // A call with a place or another code, which of the keys so far, and a kind, a tag or a value.
 pub(super) type Step = (Call, u8, usize, u64);
 
-// A handle, the keys that its calls gave last, and what they answered.
+// The same, and what it answers: its status, and how many notes and resources it tells.
+pub(super) type Row = (Call, u8, usize, u64, (u8, u64, u64));
+
+// A handle, the keys that its calls gave last, and what the last of them told.
 pub(super) struct Bench {
     pub(super) alloc: Global,
     pub(super) handle: BookHandle,
-    pub(super) nodes: Vec<RxNode>,
-    pub(super) hub: u64,
-    pub(super) res: RxRes,
-    pub(super) lease: RxLease,
+    nodes: Vec<RxNode>,
+    hub: u64,
+    res: RxRes,
+    lease: RxLease,
+    told: RxTold,
 }
 
 impl Bench {
@@ -69,53 +95,56 @@ impl Bench {
             hub: 0,
             res: no_res(),
             lease: no_lease(),
+            told: RxTold {
+                place: 0,
+                mails: 0,
+                resources: 0,
+                mail: [no_mail(); 4],
+                resource: [no_taken(); 4],
+            },
         }
     }
 
     // The node of this number among those so far; none is 0.
-    pub(super) fn node(&self, which: usize) -> RxNode {
+    fn node(&self, which: usize) -> RxNode {
         match which {
             0 => no_node(),
             _ => self.nodes.get(which - 1).copied().unwrap_or(no_node()),
         }
     }
 
-    // Opens a node, and keeps its key.
+    // Opens a node, and keeps its key, and behind it that of a connection.
     fn open(&mut self, step: Step) -> Result<u8, AllocError> {
-        let (_, place, which, number) = step;
-        let above = self.node(which);
+        let (call, place, which, number) = step;
+        let (above, hub) = (self.node(which), self.hub);
         let kind = u8::try_from(number).unwrap_or(255);
         let mut opened = no_opened();
-        self.nodes.reserve(1)?;
-        let status = rx_book_open(
-            self.alloc,
-            &mut self.handle,
-            place,
-            above,
-            kind,
-            self.hub,
-            &mut opened,
-        );
+        self.nodes.reserve(2)?;
+        let (alloc, handle, told) = (self.alloc, &mut self.handle, &mut self.told);
+        let status = match call {
+            Call::Open => rx_book_open(alloc, handle, place, above, kind, hub, &mut opened),
+            _ => rx_book_open_told(alloc, handle, place, above, kind, hub, &mut opened, told),
+        };
         if status == 0 {
             self.nodes.push(opened.node)?;
+        }
+        if opened.is_connected == 1 {
+            self.nodes.push(opened.connection)?;
         }
         Ok(status)
     }
 
     // Opens a node that holds a resource, and keeps both keys.
     fn using(&mut self, step: Step) -> Result<u8, AllocError> {
-        let (_, place, which, number) = step;
+        let (call, place, which, number) = step;
         let above = self.node(which);
         let mut used = no_used();
         self.nodes.reserve(1)?;
-        let status = rx_book_using(
-            self.alloc,
-            &mut self.handle,
-            place,
-            above,
-            number,
-            &mut used,
-        );
+        let (alloc, handle, told) = (self.alloc, &mut self.handle, &mut self.told);
+        let status = match call {
+            Call::Using => rx_book_using(alloc, handle, place, above, number, &mut used),
+            _ => rx_book_using_told(alloc, handle, place, above, number, &mut used, told),
+        };
         if status == 0 {
             self.nodes.push(used.node)?;
             self.res = used.res;
@@ -144,7 +173,24 @@ impl Bench {
             Call::Abort => rx_book_abort(alloc, handle, node, 5, &mut place),
             Call::Fail => rx_book_fail(alloc, handle, node, 5, &mut place),
             Call::Decline => rx_book_decline(alloc, handle, node, &mut place),
-            _ => rx_book_dispose(alloc, handle, node, &mut place),
+            Call::Dispose => rx_book_dispose(alloc, handle, node, &mut place),
+            _ => self.on_node_told(step),
+        }
+    }
+
+    // Calls on a node that tell.
+    fn on_node_told(&mut self, step: Step) -> u8 {
+        let (call, how, which, _) = step;
+        let node = self.node(which);
+        let (alloc, handle, told) = (self.alloc, &mut self.handle, &mut self.told);
+        match call {
+            Call::NextTold => rx_book_next_told(alloc, handle, node, -7, told),
+            Call::EndTold => rx_book_end_told(alloc, handle, node, how, 5, told),
+            Call::AbortTold => rx_book_abort_told(alloc, handle, node, 5, told),
+            Call::FailTold => rx_book_fail_told(alloc, handle, node, 5, told),
+            Call::DeclineTold => rx_book_decline_told(alloc, handle, node, told),
+            Call::DisposeTold => rx_book_dispose_told(alloc, handle, node, told),
+            _ => self.on_key(step),
         }
     }
 
@@ -168,7 +214,19 @@ impl Bench {
                 }
                 status
             }
-            _ => rx_book_give_back(alloc, handle, self.lease, &mut place),
+            Call::GiveBack => rx_book_give_back(alloc, handle, self.lease, &mut place),
+            _ => self.on_key_told(step),
+        }
+    }
+
+    // Calls on the last hub, the last resource and the last lease, that tell.
+    fn on_key_told(&mut self, step: Step) -> u8 {
+        let (alloc, handle, told) = (self.alloc, &mut self.handle, &mut self.told);
+        match step.0 {
+            Call::DisconnectTold => rx_book_disconnect_told(alloc, handle, self.hub, told),
+            Call::RemoveTold => rx_book_remove_told(alloc, handle, self.res, told),
+            Call::GiveBackTold => rx_book_give_back_told(alloc, handle, self.lease, told),
+            _ => self.on_book(step),
         }
     }
 
@@ -215,44 +273,25 @@ impl Bench {
 
     // Makes the call.
     pub(super) fn step(&mut self, step: Step) -> Result<u8, AllocError> {
-        Ok(match step.0 {
-            Call::Open => self.open(step)?,
-            Call::Using => self.using(step)?,
-            Call::Hold
-            | Call::Next
-            | Call::NextAll
-            | Call::End
-            | Call::Abort
-            | Call::Fail
-            | Call::Decline
-            | Call::Dispose => self.on_node(step),
-            Call::Hub
-            | Call::Connect
-            | Call::Disconnect
-            | Call::Apply
-            | Call::Remove
-            | Call::Lease
-            | Call::GiveBack => self.on_key(step),
-            _ => self.on_book(step),
-        })
-    }
-
-    // Makes all calls, and writes what each answered.
-    fn run(&mut self, steps: &[Step], text: &mut String) -> Result<(), AllocError> {
-        for step in steps {
-            let status = self.step(*step)?;
-            write!(text, "{status} ")?;
+        match step.0 {
+            Call::Open | Call::OpenTold => self.open(step),
+            Call::Using | Call::UsingTold => self.using(step),
+            _ => Ok(self.on_node(step)),
         }
-        Ok(())
     }
 
-    // The tables, a line each.
-    fn run_all(&mut self, text: &mut String) -> Result<(), AllocError> {
-        self.run(&NOTHING_KEPT, text)?;
-        text.push_str("\n")?;
-        self.run(&REFUSED, text)?;
-        text.push_str("\n")?;
-        self.run(&ENDED, text)
+    // The number of the first of these that is answered otherwise.
+    pub(super) fn first_other(&mut self, rows: &[Row]) -> Result<Option<usize>, AllocError> {
+        for (at, row) in rows.iter().enumerate() {
+            let (call, how, which, number, wanted) = *row;
+            self.told.clear();
+            let status = self.step((call, how, which, number))?;
+            let (mails, resources) = (self.told.mails, self.told.resources);
+            if status != wanted.0 || mails != wanted.1 || resources != wanted.2 {
+                return Ok(Some(at));
+            }
+        }
+        Ok(None)
     }
 
     // Drops what the handle keeps.
@@ -264,108 +303,11 @@ impl Bench {
             hub: _,
             res: _,
             lease: _,
+            told: _,
         } = self;
         rx_book_drop(alloc, &mut handle);
         if let Some(loose) = handle.into_loose(alloc) {
             drop(loose.into_box());
         }
     }
-}
-
-// Without a book.
-const NOTHING_KEPT: [Step; 26] = [
-    (Call::Open, 0, 0, 0),
-    (Call::Using, 0, 0, 0),
-    (Call::Hold, 0, 0, 0),
-    (Call::Next, 0, 0, 0),
-    (Call::NextAll, 0, 0, 0),
-    (Call::End, 0, 0, 0),
-    (Call::Abort, 0, 0, 0),
-    (Call::Fail, 0, 0, 0),
-    (Call::Decline, 0, 0, 0),
-    (Call::Dispose, 0, 0, 0),
-    (Call::Hub, 0, 0, 0),
-    (Call::Connect, 0, 0, 0),
-    (Call::Disconnect, 0, 0, 0),
-    (Call::Apply, 0, 0, 0),
-    (Call::Remove, 0, 0, 0),
-    (Call::Lease, 0, 0, 0),
-    (Call::GiveBack, 0, 0, 0),
-    (Call::Take, 0, 0, 0),
-    (Call::TakeMail, 0, 0, 0),
-    (Call::Drain, 0, 0, 0),
-    (Call::Event, 0, 0, 0),
-    (Call::Dump, 0, 0, 0),
-    (Call::Checkpoint, 0, 0, 0),
-    (Call::Close, 0, 0, 0),
-    (Call::Finish, 0, 0, 0),
-    (Call::Make, 0, 0, 40),
-];
-
-// Codes that are none, and keys that were made up.
-const REFUSED: [Step; 24] = [
-    (Call::Make, 0, 0, 40),
-    (Call::Open, 4, 0, 0),
-    (Call::Open, 0, 0, 6),
-    (Call::Using, 9, 0, 0),
-    (Call::End, 2, 0, 0),
-    (Call::Hub, 2, 0, 0),
-    (Call::Next, 0, 1, 0),
-    (Call::Open, 0, 0, 5),
-    (Call::Hub, 1, 0, 0),
-    (Call::Open, 0, 0, 5),
-    (Call::Disconnect, 0, 0, 0),
-    (Call::Connect, 0, 0, 0),
-    (Call::Connect, 0, 0, 0),
-    (Call::Using, 0, 0, 70),
-    (Call::Next, 0, 2, 0),
-    (Call::Open, 1, 2, 0),
-    (Call::Open, 1, 2, 0),
-    (Call::Abort, 0, 2, 0),
-    (Call::Dispose, 0, 3, 0),
-    (Call::Decline, 0, 2, 0),
-    (Call::GiveBack, 0, 0, 0),
-    (Call::Lease, 0, 0, 0),
-    (Call::Dispose, 0, 2, 0),
-    (Call::Lease, 0, 0, 0),
-];
-
-// To the end of that book, and of one that is full.
-const ENDED: [Step; 21] = [
-    (Call::Remove, 0, 0, 0),
-    (Call::GiveBack, 0, 0, 0),
-    (Call::Remove, 0, 0, 0),
-    (Call::Open, 0, 0, 2),
-    (Call::Open, 1, 4, 0),
-    (Call::Decline, 0, 4, 0),
-    (Call::NextAll, 0, 5, 0),
-    (Call::Event, 0, 0, 900),
-    (Call::Dump, 0, 0, 0),
-    (Call::Checkpoint, 0, 0, 0),
-    (Call::Drain, 0, 0, 0),
-    (Call::Drain, 0, 0, 0),
-    (Call::Checkpoint, 0, 0, 0),
-    (Call::Dump, 0, 0, 0),
-    (Call::Using, 2, 4, 71),
-    (Call::Finish, 0, 0, 0),
-    (Call::Close, 0, 0, 0),
-    (Call::Finish, 0, 0, 0),
-    (Call::Take, 0, 0, 0),
-    (Call::Take, 0, 0, 0),
-    (Call::Finish, 0, 0, 0),
-];
-
-const ANSWERED: &str = "1 1 1 1 1 1 1 1 1 1 1 1 1 1 1 1 1 1 1 1 1 1 1 1 1 0 \n\
-        3 5 5 5 5 5 17 22 0 0 25 0 24 0 18 0 19 28 21 18 30 0 0 31 \n\
-        31 0 27 0 0 20 0 2 7 32 2 0 0 8 0 6 0 6 71 2 0 ";
-
-#[test]
-fn each_call_has_a_status_for_each_refusal(rt: HostRuntime) -> Result<(), Fail> {
-    let mut bench = Bench::new(rt.alloc());
-    let mut text = String::new(rt.alloc());
-    let done = bench.run_all(&mut text);
-    bench.close();
-    done?;
-    assert_eq!(rt; text.as_str(), ANSWERED);
-    Ok(())
 }
