@@ -1,3 +1,4 @@
+pub mod Imports
 pub mod Text
 pub mod Listed
 pub mod Recalled

@@ -1,12 +1,6 @@
 -- Names that are listed.
 use Rattle.std.specs.Prelude.{◌≡◌, ℕ, ◌≤◌, Bool, false, Option, Some, None, option_and_then, if◌then◌else◌}
-use Rattle.std.specs.Option.{option_map_or}
-use Rattle.rx_scenario.specs.Scenario.{Name}
-use Rattle.rx_book.specs.declared.key.Key.{Key}
-use Rattle.rx_book.specs.State.{State, has_key}
-use Rattle.rx_line.specs.declared.names.Spot.{Spot}
-use Rattle.rx_line.specs.declared.names.Names.{Names}
-use Rattle.rx_line.specs.Names.{spot_of, name_of}
+use Rattle.rx_listing.specs.Imports.{option_map_or, Name, Key, State, has_key, Spot, Names, spot_of, name_of}
 
 abbrev pub key_of : Spot → Key
 key_of s = record { slot = s.slot; number = s.number }

@@ -1,10 +1,7 @@
 -- The parts of a text, of the values that the code has. No public clause cites this module.
-use Rattle.std.specs.Prelude.{◌≡◌, ℕ, ◌++◌, Bool, true, false, cond, List, [], ◌∷◌, codes, Option, Some, None, unwrap_or}
-use Rattle.std.specs.Bool.{nat_eq}
-use Rattle.std.specs.List.{list_any}
-use Rattle.std.specs.HashMap.{get, values}
-use Rattle.rx_book.specs.State.{State}
-use Rattle.rx_line.specs.declared.names.Names.{Names}
+use Rattle.std.specs.Prelude.{◌≡◌, ℕ, true, cond, List, codes, Option, Some, None, unwrap_or}
+use Rattle.rx_listing.specs.Imports.{nat_eq, list_any, get, values, State, Names}
+pub use Rattle.rx_line.specs.Pieces.{is_nil, led_text}
 use Rattle.rx_listing.specs.declared.known.Known.{Known}
 use Rattle.rx_listing.specs.declared.list.Part.{Part}
 use Rattle.rx_listing.specs.declared.list.Sight.{Sight}
@@ -54,12 +51,3 @@ part_object book known c Nodes = node_object book known
 part_object book known c Resources = resource_object book known c.uses
 part_object book known c Leases = lease_object book known
 part_object book known c Hubs = hub_object book known c
-
-abbrev pub is_nil : List (List ℕ) → Bool
-is_nil [] = true
-is_nil (object ∷ objects) = false
-
--- an object behind those before it
-abbrev pub led_text : (is_first : Bool) → List ℕ → List ℕ
-led_text true object = object
-led_text false object = codes "," ++ object

@@ -1,15 +1,7 @@
 -- What is known of events that are gone.
 use Rattle.std.specs.Prelude.{◌≡◌, ℕ, zero, suc, ◌+◌, ◌<◌, true, false, cond, Option, Some, None, length, is_some, unwrap_or}
-use Rattle.std.specs.Bool.{nat_eq}
-use Rattle.std.specs.HashMap.{get}
-use Rattle.std.specs.Option.{option_map_or}
-use Rattle.rx_event.specs.declared.event.Event.{Event}
-use Rattle.rx_event.specs.declared.event.Event.TheVariants.{Connect, End, Close}
+use Rattle.rx_listing.specs.Imports.{nat_eq, get, option_map_or, Event, Connect, End, Close, node_of_accept, is_use_of, State, Names, name_of}
 use Rattle.rx_event.specs.Kept.{event_since}
-use Rattle.rx_event.specs.Events.{node_of_accept, is_use_of}
-use Rattle.rx_book.specs.State.{State}
-use Rattle.rx_line.specs.declared.names.Names.{Names}
-use Rattle.rx_line.specs.Names.{name_of}
 use Rattle.rx_listing.specs.declared.known.Known.{Known}
 use Rattle.rx_listing.specs.declared.past.Past.{Past}
 use Rattle.rx_listing.specs.Listed.{IsPlaced}

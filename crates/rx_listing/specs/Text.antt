@@ -1,47 +1,37 @@
 -- What is said of one number, in JSON.
 use Rattle.std.specs.Prelude.{ℕ, Bool, List, [], ◌++◌, codes, Option, Some, None, if◌then◌else◌}
-use Rattle.std.specs.Fmt.{decimal}
-use Rattle.rx_event.specs.declared.event.Place.{Place}
-use Rattle.rx_event.specs.declared.event.Place.TheVariants.{Root, Source, Inner, Notifier}
-use Rattle.rx_event.specs.declared.event.Kind.{Kind}
+use Rattle.rx_listing.specs.Imports.{decimal, Place, Root, Source, Inner, Notifier, Kind, Event, Open, Connect, Name, Names, name_of}
 use Rattle.rx_event.specs.declared.event.Kind.TheVariants.{Leaf, Pass, Flat, Switch, Until, Sub}
-use Rattle.rx_event.specs.declared.event.Event.{Event}
-use Rattle.rx_event.specs.declared.event.Event.TheVariants.{Open, Connect}
-use Rattle.rx_scenario.specs.Scenario.{Name}
-use Rattle.rx_line.specs.declared.names.Names.{Names}
-use Rattle.rx_line.specs.Names.{name_of}
 
 -- a member whose value is a name; it is left out where there is none
 unfoldable pub member_of : (member : List ℕ) → Option Name → List ℕ
 member_of member None = []
 member_of member (Some name) = codes ",\"" ++ member ++ codes "\":\"" ++ name ++ codes "\""
 
--- where a node stands, and what it is below
-unfoldable pub below_text : Names → (word : List ℕ) → (above : ℕ) → List ℕ
-below_text nodes word above = member_of (codes "place") (Some word) ++ member_of (codes "of") (name_of nodes above)
+-- a word, and a name where there is one
+unfoldable pub pair_of : (member word other : List ℕ) → Option Name → List ℕ
+pair_of member word other name = member_of member (Some word) ++ member_of other name
 
+-- where a node stands, and what it is below
 abbrev pub place_text : Names → Place → List ℕ
 place_text nodes Root = member_of (codes "place") (Some (codes "root"))
-place_text nodes (Source n) = below_text nodes (codes "source") n
-place_text nodes (Inner n) = below_text nodes (codes "inner") n
-place_text nodes (Notifier n) = below_text nodes (codes "notifier") n
+place_text nodes (Source n) = pair_of (codes "place") (codes "source") (codes "of") (name_of nodes n)
+place_text nodes (Inner n) = pair_of (codes "place") (codes "inner") (codes "of") (name_of nodes n)
+place_text nodes (Notifier n) = pair_of (codes "place") (codes "notifier") (codes "of") (name_of nodes n)
 
 -- a kind, and the hub where there is one
-unfoldable pub of_hub_text : Names → (word : List ℕ) → (hub : ℕ) → List ℕ
-of_hub_text hubs word hub = member_of (codes "kind") (Some word) ++ member_of (codes "hub") (name_of hubs hub)
-
 abbrev pub kind_text : Names → Kind → List ℕ
 kind_text hubs Leaf = member_of (codes "kind") (Some (codes "leaf"))
 kind_text hubs Pass = member_of (codes "kind") (Some (codes "pass"))
 kind_text hubs Flat = member_of (codes "kind") (Some (codes "flat"))
 kind_text hubs Switch = member_of (codes "kind") (Some (codes "switch"))
 kind_text hubs Until = member_of (codes "kind") (Some (codes "until"))
-kind_text hubs (Sub g) = of_hub_text hubs (codes "sub") g
+kind_text hubs (Sub g) = pair_of (codes "kind") (codes "sub") (codes "hub") (name_of hubs g)
 
 -- what a node is, by the event that made it
 abbrev pub made_text : (nodes hubs : Names) → Option Event → List ℕ
 made_text nodes hubs (Some (Open place kind)) = kind_text hubs kind ++ place_text nodes place
-made_text nodes hubs (Some (Connect hub)) = of_hub_text hubs (codes "connection") hub
+made_text nodes hubs (Some (Connect hub)) = pair_of (codes "kind") (codes "connection") (codes "hub") (name_of hubs hub)
 made_text nodes hubs _ = []
 
 -- how a hub is connected

@@ -1,12 +1,7 @@
 -- The whole text, by what book and past tell.
-use Rattle.std.specs.Prelude.{◌≡◌, ◌↔◌, ℕ, ◌++◌, Bool, false, List, codes, length, Option, Some, option_map, option_and_then, IsTrue, count_by, filter_map}
-use Rattle.std.specs.Bool.{nat_eq}
-use Rattle.std.specs.List.{range_with_len}
-use Rattle.std.specs.Option.{option_map_or}
-use Rattle.rx_event.specs.Events.{hub_subscribed, is_manual_hub, leased_of}
-use Rattle.rx_scenario.specs.Scenario.{Name}
-use Rattle.rx_book.specs.State.{State}
-use Rattle.rx_line.specs.Names.{name_of}
+use Rattle.std.specs.Prelude.{◌≡◌, ◌↔◌, ℕ, ◌++◌, Bool, false, List, codes, length, Option, Some, option_map, option_and_then, IsTrue, count_by}
+use Rattle.std.specs.Prelude.{filter_map}
+use Rattle.rx_listing.specs.Imports.{nat_eq, range_with_len, option_map_or, hub_subscribed, is_manual_hub, leased_of, Name, State, name_of}
 use Rattle.rx_line.specs.Pieces.{joined, ok_text}
 use Rattle.rx_listing.specs.declared.known.Known.{Known}
 use Rattle.rx_listing.specs.Listed.{open_name}

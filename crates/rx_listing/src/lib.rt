@@ -30,7 +30,7 @@ mod recent;
 mod seen;
 mod text;
 
-pub use known::Known;
+pub use known::{Known, open_name};
 pub use list::list_text;
 pub use numbers::rising;
 pub use past::{Past, past_of};

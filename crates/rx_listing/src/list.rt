@@ -6,7 +6,7 @@ ghost use Rattle.std.specs.HashMap.{get};
 ghost use Rattle.std.specs.List.{range_with_len};
 ghost use Rattle.rx_listing.specs.Listed.{IsPlaced};
 ghost use Rattle.rx_listing.specs.Recalled.{ArePlaced};
-ghost use Rattle.rx_listing.specs.Parts.{names_of, lead_of, led_text, counted_of, part_object};
+ghost use Rattle.rx_listing.specs.Parts.{names_of, lead_of, counted_of, part_object};
 ghost use Rattle.rx_listing.specs.Whole.{hub_by, subscribes, holder_name, leased_name, IsCounted, IsList, part_text};
 ghost use Rattle.rx_listing.specs.Whole.{node_object, resource_object, lease_object, hub_object};
 
@@ -16,7 +16,7 @@ use crate::numbers::rising;
 use crate::object::{hub_object, lease_object, node_object, resource_object};
 use crate::seen::{Seen, seen_of};
 use rx_book::{Book, Resource};
-use rx_line::{Names, ok_text};
+use rx_line::{Names, ok_text, push_led};
 use std::alloc::{AllocError, Global};
 use std::collections::HashMap;
 
@@ -197,16 +197,6 @@ fn names_of<'a>(known: &Known<'a>, part: Part) -> &'a Names
     }
 }
 
-// Writes an object behind those before it.
-fn push_object(text: &mut String, is_first: bool, object: &str) -> Result<(), AllocError>
-    ensures { OnOk result (string_bytes text.new ≡ string_bytes text.old ++ led_text is_first object.now) }
-{
-    if !is_first {
-        text.push_str(",")?;
-    }
-    text.push_str(object)
-}
-
 // Writes the objects of a part.
 fn push_part<R: Resource>(
     alloc: Global,
@@ -223,7 +213,7 @@ fn push_part<R: Resource>(
     let mut is_first = true;
     'numbers: for number in &numbers {
         if let Some(object) = object_at(alloc, book, known, sight, part, *number)? {
-            push_object(text, is_first, object.as_str())?;
+            push_led(text, is_first, object.as_str())?;
             is_first = false;
         }
     }
@@ -231,7 +221,7 @@ fn push_part<R: Resource>(
 }
 
 // Writes a part, and what leads to it.
-fn push_led<R: Resource>(
+fn push_headed<R: Resource>(
     alloc: Global,
     text: &mut String,
     book: &Book<R>,
@@ -269,10 +259,10 @@ pub fn list_text<R: Resource>(
 {
     let sight = sight_of(alloc, book, known)?;
     let mut text = ok_text(alloc, book.len())?;
-    push_led(alloc, &mut text, book, known, &sight, Part::Nodes)?;
-    push_led(alloc, &mut text, book, known, &sight, Part::Resources)?;
-    push_led(alloc, &mut text, book, known, &sight, Part::Leases)?;
-    push_led(alloc, &mut text, book, known, &sight, Part::Hubs)?;
+    push_headed(alloc, &mut text, book, known, &sight, Part::Nodes)?;
+    push_headed(alloc, &mut text, book, known, &sight, Part::Resources)?;
+    push_headed(alloc, &mut text, book, known, &sight, Part::Leases)?;
+    push_headed(alloc, &mut text, book, known, &sight, Part::Hubs)?;
     text.push_str("]}")?;
     Ok(text)
 }

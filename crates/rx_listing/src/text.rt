@@ -1,8 +1,7 @@
 //! The members of an object.
 
 ghost use Rattle.std.specs.Prelude.{◌≡◌, ◌++◌, option_map, string_bytes, Some, OnOk};
-ghost use Rattle.rx_line.specs.Names.{name_of};
-ghost use Rattle.rx_listing.specs.Text.{member_of, below_text, place_text, of_hub_text, kind_text, made_text, mode_word};
+ghost use Rattle.rx_listing.specs.Text.{member_of, pair_of, place_text, kind_text, made_text, mode_word};
 
 use rx_event::{Event, Kind, Place};
 use rx_line::Names;
@@ -20,13 +19,20 @@ pub fn push_member(text: &mut String, member: &str, name: Option<&str>) -> Resul
     }
 }
 
-// Writes where a node stands, and what it is below.
-#[tactic(auto, unfolding(crate::specs::Text::below_text))]
-fn push_below(text: &mut String, nodes: &Names, word: &str, above: u64) -> Result<(), AllocError>
-    ensures { OnOk result (string_bytes text.new ≡ string_bytes text.old ++ below_text nodes.now word.now above) }
+// Writes a word, and a name where there is one.
+#[tactic(auto, unfolding(crate::specs::Text::pair_of))]
+fn push_pair(
+    text: &mut String,
+    member: &str,
+    word: &str,
+    other: &str,
+    name: Option<&str>,
+) -> Result<(), AllocError>
+    ensures { OnOk result (string_bytes text.new ≡ string_bytes text.old
+        ++ pair_of member.now word.now other.now (option_map (λ s. s.now) name.entry)) }
 {
-    push_member(text, "place", Some(word))?;
-    push_member(text, "of", nodes.name_of(above))
+    push_member(text, member, Some(word))?;
+    push_member(text, other, name)
 }
 
 fn push_place(text: &mut String, nodes: &Names, place: Place) -> Result<(), AllocError>
@@ -34,19 +40,10 @@ fn push_place(text: &mut String, nodes: &Names, place: Place) -> Result<(), Allo
 {
     match place {
         Place::Root => push_member(text, "place", Some("root")),
-        Place::Source(above) => push_below(text, nodes, "source", above),
-        Place::Inner(above) => push_below(text, nodes, "inner", above),
-        Place::Notifier(above) => push_below(text, nodes, "notifier", above),
+        Place::Source(above) => push_pair(text, "place", "source", "of", nodes.name_of(above)),
+        Place::Inner(above) => push_pair(text, "place", "inner", "of", nodes.name_of(above)),
+        Place::Notifier(above) => push_pair(text, "place", "notifier", "of", nodes.name_of(above)),
     }
-}
-
-// Writes a kind, and the hub where there is one.
-#[tactic(auto, unfolding(crate::specs::Text::of_hub_text))]
-fn push_of_hub(text: &mut String, hubs: &Names, word: &str, hub: u64) -> Result<(), AllocError>
-    ensures { OnOk result (string_bytes text.new ≡ string_bytes text.old ++ of_hub_text hubs.now word.now hub) }
-{
-    push_member(text, "kind", Some(word))?;
-    push_member(text, "hub", hubs.name_of(hub))
 }
 
 fn push_kind(text: &mut String, hubs: &Names, kind: Kind) -> Result<(), AllocError>
@@ -58,7 +55,7 @@ fn push_kind(text: &mut String, hubs: &Names, kind: Kind) -> Result<(), AllocErr
         Kind::Flat => push_member(text, "kind", Some("flat")),
         Kind::Switch => push_member(text, "kind", Some("switch")),
         Kind::Until => push_member(text, "kind", Some("until")),
-        Kind::Sub(hub) => push_of_hub(text, hubs, "sub", hub),
+        Kind::Sub(hub) => push_pair(text, "kind", "sub", "hub", hubs.name_of(hub)),
     }
 }
 
@@ -76,7 +73,9 @@ pub fn push_made(
             push_kind(text, hubs, kind)?;
             push_place(text, nodes, place)
         }
-        Some(Event::Connect(hub)) => push_of_hub(text, hubs, "connection", hub),
+        Some(Event::Connect(hub)) => {
+            push_pair(text, "kind", "connection", "hub", hubs.name_of(hub))
+        }
         _ => Ok(()),
     }
 }

@@ -14,9 +14,9 @@ returns g c = λ placed.
     record {
       counted = counted;
       is = c.in_ok-sight.ensures placed.nodes;
-      written = c.in_ok-push_str.ensures.bytes ∙ ap (λ (t : List ℕ). t ++ codes "]}") (c.in_ok-push_led-4.ensures placed
-          ∙ ap (λ (t : List ℕ). t ++ codes "],\"hubs\":[" ++ text Hubs) (c.in_ok-push_led-3.ensures placed
-          ∙ ap (λ (t : List ℕ). t ++ codes "],\"leases\":[" ++ text Leases) (c.in_ok-push_led-2.ensures placed
-          ∙ ap (λ (t : List ℕ). t ++ codes "],\"resources\":[" ++ text Resources) (c.in_ok-push_led.ensures placed
+      written = c.in_ok-push_str.ensures.bytes ∙ ap (λ (t : List ℕ). t ++ codes "]}") (c.in_ok-push_headed-4.ensures placed
+          ∙ ap (λ (t : List ℕ). t ++ codes "],\"hubs\":[" ++ text Hubs) (c.in_ok-push_headed-3.ensures placed
+          ∙ ap (λ (t : List ℕ). t ++ codes "],\"leases\":[" ++ text Leases) (c.in_ok-push_headed-2.ensures placed
+          ∙ ap (λ (t : List ℕ). t ++ codes "],\"resources\":[" ++ text Resources) (c.in_ok-push_headed.ensures placed
           ∙ ap (λ (t : List ℕ). t ++ codes ",\"nodes\":[" ++ text Nodes) (c.in_ok-text.ensures ∙ ap ok_text c.len.ensures)))));
     }

@@ -1,7 +1,7 @@
 use Rattle.rx_listing.proofs.Common.{◌≡◌, ℕ, ◌++◌, ◌<◌, List, Option, Some, option_map, length, string_bytes, slice_index_or, sym, ap, ◌∙◌, is_some, name_of}
 use Rattle.rx_listing.proofs.Common.{joined, counted_of, is_nil, led_text, names_of, part_object}
 use Rattle.rx_listing.proofs.Objects.{object_same, object_nil, object_text, objects_all, no_object, placed_part}
-use Rattle.rx_listing.proofs.list.push_part.Goals.{in-Some+in_ok-push_object, in_default}
+use Rattle.rx_listing.proofs.list.push_part.Goals.{in-Some+in_ok-push_led, in_default}
 use Rattle.rx_listing.proofs.list.push_part.Goals as goal
 
 pub numbers-preserved : goal.numbers-preserved
@@ -12,14 +12,14 @@ numbers-preserved g c =
     let begun = string_bytes c.args.text.now in
     let within : i < length ns = c.numbers-test.true in
     elim c.match-branch-3.branch [
-      | in-Some+in_ok-push_object w ↦
+      | in-Some+in_ok-push_led w ↦
           let there : object (slice_index_or ns i 0) ≡ Some (string_bytes w.in-Some.object) =
           sym c.in_ok-object.ensures ∙ ap (option_map string_bytes) w.in-Some.is in
           record {
             first = w.is_first-is ∙ object_nil object ns i 0 within there;
             written = ap string_bytes w.text-is ∙ object_text object ns i 0 within c.numbers.is_first begun there
                 c.numbers.invariant.first c.numbers.invariant.written
-                (w.in_ok-push_object.ensures ∙ ap (λ (o : List ℕ). string_bytes c.numbers.text ++ led_text c.numbers.is_first o) w.as_str.ensures.value);
+                (w.in_ok-push_led.ensures ∙ ap (λ (o : List ℕ). string_bytes c.numbers.text ++ led_text c.numbers.is_first o) w.as_str.ensures.value);
           }
       | in_default w ↦
           let same = object_same object ns i 0 within (sym c.in_ok-object.ensures ∙ ap (option_map string_bytes) w.in_default.is) in
