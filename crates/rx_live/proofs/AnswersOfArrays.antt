@@ -4,7 +4,7 @@ use Rattle.rx_live.proofs.Common.{Ok, Err, String, Global, string_bytes, IfOk, O
 use Rattle.rx_live.proofs.Common.{as_array, IsJsonOf, NoMemory, order_in, IsOrderOf, refused_text, faulty_text, joined, Book, Session, IsSound, has_resource}
 use Rattle.rx_live.proofs.Common.{Act, Leads, no_act, as_it_was, WaitsFor, is_put_off, IsPutOff, Writes, AnsweredOne, AreAnswering}
 use Rattle.rx_live.specs.Lines.{AnswersAsked, AnswersOne, is_taken, AnswersEach, none_left, one_more, one_asked, many_asked, no_json, is_json, Sends}
-use Rattle.rx_live.specs.Listed.{is_nil}
+use Rattle.rx_live.proofs.Common.{is_nil}
 use Rattle.rx_live.specs.Taken.{WritesEach, comma_if, AnsweredArray, AnsweredValue}
 use Rattle.rx_live.proofs.Laws.HeldStaysHeld.{leads_on, waits_held}
 use Rattle.rx_live.proofs.AcceptedBindsNames.{alike_same}

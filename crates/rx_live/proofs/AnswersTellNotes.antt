@@ -7,8 +7,7 @@ use Rattle.rx_live.proofs.Common.{hub_of, Carries, IsAlike, Gives, BindsHub, to_
 use Rattle.rx_live.proofs.Common.{Does, IsCarried, GoesOn, no_line, one_line, IsFresh, IsAged, as_it_was, renewed, is_put_off, Act}
 use Rattle.rx_live.specs.Lines.{IsAnswer, is_faulty, is_refused, is_carried, is_queried, is_listed, is_dumped, AnswersAsked, AnswersOne, is_taken, none_left}
 use Rattle.rx_live.specs.Lines.{AnswersEach, one_more, AnswersValue, one_asked, many_asked, IsAnswered, no_json, is_json}
-use Rattle.rx_live.specs.Sessions.{told_by, written_of, written_by, told_one, written_one, told_each, written_each, told_value, written_value, told_line}
-use Rattle.rx_live.specs.Sessions.{written_line, told_in, written_in}
+use Rattle.rx_live.specs.Sessions.{told_by, written_of, written_by, of_one, of_each, of_value, of_line, of_lines}
 use Rattle.rx_live.proofs.Acts.{gave, gave_by, refused_alike}
 use Rattle.rx_live.proofs.OpenedNodesHold.{opening, holding}
 use Rattle.std.proofs.Common.{rules}
@@ -217,7 +216,7 @@ alike_behind : (old new : Session) → IsAlike old new → IsBehind old → IsBe
 alike_behind old new alike behind = subst (λ (b : State). b.given ≤ length (notes b.history)) (sym alike.book) behind
 
 one_balances : {old new : Session} {asked : Option Order} {text : List ℕ} {acts : List Act} → IsBehind old → (one : AnswersOne old asked text acts new) →
-    BalancesOn old new (written_one one) (told_one one)
+    BalancesOn old new (of_one written_by one) (of_one told_by one)
 one_balances {old} {new} {asked} {text} behind (is_taken one) = record { balances = balances_aged old new text behind one; behind = one.sound.kept.given }
 one_balances {old} {new} {asked} behind (is_put_off waits) = record {
   balances = idle old new (alike_tells waits.aged new waits.alike ∙ aged_tells old waits.aged waits.ages);
@@ -231,42 +230,45 @@ both_balance a b c xs ys us vs p q = record {
 }
 
 each_balances : {old new : Session} {ds : Items} {texts : List (List ℕ)} {acts : List Act} → IsBehind old → (each : AnswersEach old ds texts acts new) →
-    BalancesOn old new (written_each each) (told_each each)
+    BalancesOn old new (of_each written_by each) (of_each told_by each)
 each_balances {old} behind none_left = record { balances = idle old old refl; behind = behind }
 each_balances {old} {new} behind (one_more mid one rest) =
-    let first : BalancesOn old mid (written_one one) (told_one one) = one_balances behind one in
-    let later : BalancesOn mid new (written_each rest) (told_each rest) = each_balances first.behind rest in
+    let first : BalancesOn old mid (of_one written_by one) (of_one told_by one) = one_balances behind one in
+    let later : BalancesOn mid new (of_each written_by rest) (of_each told_by rest) = each_balances first.behind rest in
     record {
-      balances = both_balance old mid new (written_one one) (written_each rest) (told_one one) (told_each rest) first.balances later.balances;
+      balances = both_balance old mid new (of_one written_by one) (of_each written_by rest) (of_one told_by one) (of_each told_by rest)
+          first.balances later.balances;
       behind = later.behind;
     }
 
 -- a line
 value_balances : {old new : Session} {d : Data} {text : List ℕ} {acts : List Act} → IsBehind old → (answers : AnswersValue old d text acts new) →
-    Balances old new (written_value answers) (told_value answers)
+    Balances old new (of_value written_by answers) (of_value told_by answers)
 value_balances {old} {new} {d} {text} behind (one_asked single one) = balances_aged old new text behind one
 value_balances behind (many_asked ds texts several each is) = (each_balances behind each).balances
 
 line_balances : {old new : Session} {line text : List ℕ} {acts : List Act} → IsBehind old → (answer : IsAnswered old line text acts new) →
-    Balances old new (written_line answer) (told_line answer)
+    Balances old new (of_line written_by answer) (of_line told_by answer)
 line_balances {old} behind (no_json told none is) = idle old old refl
 line_balances behind (is_json d json answers) = value_balances behind answers
 
 -- many lines ------------------------------------------------------------------------------------------
 
-all_balance : {first last : Session} {acts : List Act} → IsBehind first → (goes : GoesOn first acts last) → Balances first last (written_in goes) (told_in goes)
+all_balance : {first last : Session} {acts : List Act} → IsBehind first → (goes : GoesOn first acts last) →
+    Balances first last (of_lines written_by goes) (of_lines told_by goes)
 all_balance {first} behind no_line = idle first first refl
 all_balance {first} {last} behind (one_line line text new sent rest) =
-    both_balance first new last (written_line sent.answer) (written_in rest) (told_line sent.answer) (told_in rest)
+    both_balance first new last (of_line written_by sent.answer) (of_lines written_by rest) (of_line told_by sent.answer) (of_lines told_by rest)
     (line_balances behind sent.answer) (all_balance sent.sound.kept.given rest)
 
 no_notes : notes [] ≡ []
 unfolding notes moments
 no_notes = refl
 
-pub session_told : (first last : Session) (acts : List Act) → IsFresh first → (goes : GoesOn first acts last) → written_in goes ≡ told_in goes ++ to_tell last
+pub session_told : (first last : Session) (acts : List Act) → IsFresh first → (goes : GoesOn first acts last) →
+    of_lines written_by goes ≡ of_lines told_by goes ++ to_tell last
 session_told first last acts fresh goes =
     let silent : notes first.book.history ≡ [] = ap notes fresh.history ∙ no_notes in
     let behind : IsBehind first = let g = fresh.given in omega (arith, g) in
     let nothing : to_tell first ≡ [] = λ i. option_to_list (fresh.untold i) ++ drop (fresh.given i) (silent i) in
-    ap (λ (ms : List Mail). ms ++ written_in goes) (sym nothing) ∙ (all_balance behind goes).is
+    ap (λ (ms : List Mail). ms ++ of_lines written_by goes) (sym nothing) ∙ (all_balance behind goes).is

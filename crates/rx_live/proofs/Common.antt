@@ -27,20 +27,21 @@ pub use Rattle.rx_event.{proofs.Laws.Resources.held_not_taken, proofs.Laws.Resou
 pub use Rattle.rx_event.specs.{Causes.by_key, Causes.checkpoint_causes, Causes.most_places, Refusals.IsRefusal, Refusals.first_cause, declared.mail.Mail.Mail}
 pub use Rattle.rx_event.specs.declared.{event.Event.TheVariants.Accept, event.Kind.Kind, event.Place.Place, refusal.Refusal.Refusal}
 pub use Rattle.rx_event.specs.declared.refusal.Refusal.TheVariants.{Full, MailLeft, NoMemory, TooMany}
-pub use Rattle.rx_line.specs.{Names.name_of, Names.spot_of, Names.Binds, Names.IsPaired, Names.AreSame, Names.Forgets, Pieces.joined, Pieces.member_text}
+pub use Rattle.rx_line.specs.Names.{name_of, spot_of, Binds, IsPaired, AreSame, Forgets}
+pub use Rattle.rx_line.specs.Pieces.{joined, is_nil, led_text, member_text}
 pub use Rattle.rx_line.specs.Orders.{Task, Order, open_holding, plain, IsUnread, dump, list, query, task, task_of, IsOrderOf, order_of}
 pub use Rattle.rx_line.specs.declared.{names.Names.Names, names.Spot.Spot, order.Unread.Unread, outcome.Cause.Cause, outcome.Outcome.Outcome}
 pub use Rattle.rx_line.specs.declared.outcome.Cause.TheVariants.{Book, NameTaken, NoName}
 pub use Rattle.rx_line.specs.declared.outcome.Outcome.TheVariants.{Accepted, Refused}
 unfoldable pub use Rattle.rx_line.specs.{Orders.order_in, Pieces.name_text, Pieces.faulty_text, Pieces.ok_text, Pieces.refused_text}
-pub use Rattle.rx_listing.{proofs.Laws.Texts.more_nil, proofs.Laws.Texts.more_text, proofs.Laws.Texts.same_texts, specs.Parts.is_nil, specs.Parts.led_text}
+pub use Rattle.rx_listing.{proofs.Laws.Texts.more_nil, proofs.Laws.Texts.more_text, proofs.Laws.Texts.same_texts}
 pub use Rattle.rx_live.specs.Given.{AreOpenSame, IsAlike, NamesOne, BindsHub, BindsLease, BindsResource, Gives, IsUnchanged, FreesLease, GivesBy, GivesNames}
 pub use Rattle.rx_live.specs.Given.{hold_asked, hold_tagged}
 pub use Rattle.rx_live.specs.Lines.{Does, as_it_was, IsFresh, renewed, IsClosed, Runs, Ends, FindsFull, GoesOn, IsAged, IsCarried, IsPutOff, TellsAll}
 pub use Rattle.rx_live.specs.Lines.{WaitsFor, handed_by, is_put_off, no_line, one_line}
 pub use Rattle.rx_live.specs.Openings.{BindsMade, OpensHolder, holder_causes, front_text, is_node, is_open_taken, BindsConnection, BindsHolder, BindsNode}
 pub use Rattle.rx_live.specs.Openings.{BindsUsing, holder_at, said_if, using_at, connected_by, is_holder_taken, is_using_taken, place_at, using_asked}
-pub use Rattle.rx_live.specs.Session.{session_of, Session, IsSound, has_resource, hub_of, IsPlaced, lease_of, node_of, resource_of, key_at, IsTied, if_open}
+pub use Rattle.rx_live.specs.Session.{session_of, Session, IsSound, has_resource, hub_of, IsPlaced, lease_of, node_of, resource_of, key_at, if_open}
 pub use Rattle.rx_live.specs.Session.{is_node_in, lease_key_at}
 pub use Rattle.rx_live.specs.Answers.{to_tell, WritesNotes, Takes, WritesNames, late_text, none_taken, one_taken, told_text, is_late}
 pub use Rattle.rx_live.specs.{Carried.Goes, Carried.Carries, Carried.outcome_of, ClosedAt.closed_texts, ClosedAt.closed_at, Room.HasRoom}

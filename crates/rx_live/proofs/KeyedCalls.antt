@@ -1,12 +1,11 @@
 -- What a command comes to that makes a call as a value.
 use Rattle.rx_live.proofs.Common.{◌≡◌, true, Bool, Option, None, Some, option_map, Result, IfOk, IfErr, refl, sym, subst, AllocError, Refusal, Call}
 use Rattle.rx_live.proofs.Common.{keeps_resources, keeps_leases, IsRefusal, stands, State, IsPromised, Command, Outcome, Refused, NoName, Session, IsSound}
-use Rattle.rx_live.proofs.Common.{apply, remove, next, end, abort, decline, fail, dispose, disconnect, node_of, resource_of, hub_of, Goes, outcome_of, Runs}
+use Rattle.rx_live.proofs.Common.{using, open_node, hold, lease, give_back, make_hub, connect, drain, checkpoint, Goes, outcome_of, Runs}
 use Rattle.rx_book.specs.Answers.{IsRefusalOf}
 use Rattle.rx_book.specs.Asks.{request_of, takes_memory, Asks}
 use Rattle.rx_book.specs.declared.answer.Answer.{Answer}
 use Rattle.rx_book.specs.declared.call.Call.{Call as Asked}
-use Rattle.rx_book.specs.declared.call.Call.TheVariants.{Next, End, Abort, Decline, Fail, Dispose, Apply, Remove, Disconnect}
 use Rattle.rx_live.specs.KeyedCalls.{is_asked, keyed_call}
 use Rattle.rx_live.proofs.Soundness.{Called, goes_on}
 use Rattle.std.proofs.Common.{rules}
@@ -22,21 +21,21 @@ Comes s (Some call) o t = KeepsNames (request_of s.book call).call → Goes s (S
 
 -- of a command that uses one name
 by_name : {K : Type 0} (s : Session) (f : K → Asked) (key : Option K) (o : Outcome) (t : Session) → IsSound s
-    → ((k : K) → KeepsNames (request_of s.book (f k)).call) → Comes s (option_map f key) o t
-    → Goes s (option_map (λ k. request_of s.book (f k)) key) o t × IsSound t
-by_name s f x2 o t sound keeps comes = search rules
+    → Comes s (option_map f key) o t → ((k : K) → KeepsNames (request_of s.book (f k)).call)
+    → Goes s (option_map (request_of s.book) (option_map f key)) o t × IsSound t
+by_name s f x2 o t sound comes keeps = search rules
 
 pub runs : (s : Session) (c : Command) (o : Outcome) (t : Session) → IsSound s → is_asked c ≡ true → Comes s (keyed_call s c) o t → Runs s c o t × IsSound t
-runs s (apply res word) o t sound asked comes = by_name s (λ k. Apply k word) (resource_of s res) o t sound (λ k. (refl, refl)) comes
-runs s (remove res) o t sound asked comes = by_name s Remove (resource_of s res) o t sound (λ k. (refl, refl)) comes
-runs s (next node value) o t sound asked comes = by_name s (λ k. Next k value) (node_of s node) o t sound (λ k. (refl, refl)) comes
-runs s (end node terminal) o t sound asked comes = by_name s (λ k. End k terminal) (node_of s node) o t sound (λ k. (refl, refl)) comes
-runs s (abort node code) o t sound asked comes = by_name s (λ k. Abort k code) (node_of s node) o t sound (λ k. (refl, refl)) comes
-runs s (decline node) o t sound asked comes = by_name s Decline (node_of s node) o t sound (λ k. (refl, refl)) comes
-runs s (fail node code) o t sound asked comes = by_name s (λ k. Fail k code) (node_of s node) o t sound (λ k. (refl, refl)) comes
-runs s (dispose node) o t sound asked comes = by_name s Dispose (node_of s node) o t sound (λ k. (refl, refl)) comes
-runs s (disconnect hub) o t sound asked comes = by_name s Disconnect (hub_of s hub) o t sound (λ k. (refl, refl)) comes
-runs s _ o t sound asked comes = absurd (cc)
+runs s (using name site res) o t sound asked comes = absurd (cc)
+runs s (open_node name site sort) o t sound asked comes = absurd (cc)
+runs s (hold node res) o t sound asked comes = absurd (cc)
+runs s (lease res name) o t sound asked comes = absurd (cc)
+runs s (give_back name) o t sound asked comes = absurd (cc)
+runs s (make_hub name mode) o t sound asked comes = absurd (cc)
+runs s (connect hub name) o t sound asked comes = absurd (cc)
+runs s drain o t sound asked comes = absurd (cc)
+runs s checkpoint o t sound asked comes = absurd (cc)
+runs s _ o t sound asked comes = by_name s _ _ o t sound comes (λ k. (refl, refl))
 
 -- a call is refused for its first cause, or one that takes memory for want of it
 cause_or_want : (may_want : Bool) (stand : Refusal → Bool) (answer : Result Answer Refusal) → IfErr answer (IsRefusalOf may_want stand)

@@ -19,4 +19,3 @@ pub mod ClosedSessionIsSound
 pub mod ConnectionAnswered
 pub mod AnswerToEachLine
 pub mod AnswersOfArrays
-pub mod Ties

@@ -4,8 +4,8 @@ use Rattle.rx_live.proofs.Common.{Option, Some, None, option_map, refl, sym, ap,
 use Rattle.rx_live.proofs.Common.{not, ◌&&◌, filter_map, cons_option, range_with_len, bytes_eq, option_map_or, option_to_list, lt-ltb, ltb-false, le-ltb}
 use Rattle.rx_live.proofs.Common.{cases_order, append-nil, map-append, take_more, take_all, filter_map-append, none-some, same_Some, bytes_eq-Decides, Name}
 use Rattle.rx_live.proofs.Common.{Spot, spot_of, name_of, name_text, joined, is_kept, Session, IsSound, has_resource, released, with_held, Leads, no_act}
-use Rattle.rx_live.proofs.Common.{releases, all_names, kept_past}
-use Rattle.rx_live.specs.Listed.{names_below, is_nil, led_text, open_text}
+use Rattle.rx_live.proofs.Common.{releases, all_names, kept_past, is_nil}
+use Rattle.rx_live.specs.Listed.{names_below, led_text, open_text}
 use Rattle.rx_live.proofs.AcceptedBindsNames.{none_of}
 use Rattle.rx_live.proofs.Tellings.{joined_more}
 use Rattle.rx_live.proofs.Laws.HeldStaysHeld.{leads_on, leads_same}

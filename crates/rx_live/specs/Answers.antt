@@ -1,15 +1,7 @@
 -- What an answer tells beside its outcome: notes, and names to be released.
 use Rattle.std.specs.Prelude.{◌≡◌, ℕ, ◌||◌, Bool, true, false, None, List, [], ◌++◌, codes, map, drop, is_some}
-use Rattle.std.specs.Option.{option_map_or, option_to_list}
-use Rattle.rx_note.specs.declared.note.Note.{Note}
-use Rattle.rx_event.specs.declared.mail.Mail.{Mail}
+use Rattle.rx_live.specs.Imports.{option_map_or, option_to_list, Note, Mail, Name, State, take_request, Accepts, Names, name_of}
 use Rattle.rx_event.specs.Notes.{notes}
-use Rattle.rx_scenario.specs.Scenario.{Name}
-use Rattle.rx_book.specs.State.{State}
-use Rattle.rx_book.specs.Requests.{take_request}
-use Rattle.rx_book.specs.Answers.{Accepts}
-use Rattle.rx_line.specs.declared.names.Names.{Names}
-use Rattle.rx_line.specs.Names.{name_of}
 use Rattle.rx_line.specs.Pieces.{note_text, name_text, member_text}
 use Rattle.rx_live.specs.Session.{Session, has_resource}
 use Rattle.rx_live.specs.Promise.{released, Leads}

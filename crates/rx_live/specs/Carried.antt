@@ -1,11 +1,6 @@
 -- What a command that gives no name does: a call of the book, or nothing.
 use Rattle.std.specs.Prelude.{◌≡◌, Option, Some, None, Result, Ok, Err}
-use Rattle.rx_event.specs.declared.refusal.Refusal.{Refusal}
-use Rattle.rx_book.specs.Requests.{Request}
-use Rattle.rx_book.specs.Answers.{Accepts, IsCauseOrWant}
-use Rattle.rx_line.specs.declared.outcome.Cause.TheVariants.{NoName, NameTaken, Book}
-use Rattle.rx_line.specs.declared.outcome.Outcome.{Outcome}
-use Rattle.rx_line.specs.declared.outcome.Outcome.TheVariants.{Accepted, Refused}
+use Rattle.rx_live.specs.Imports.{Refusal, Request, Accepts, IsCauseOrWant, NoName, NameTaken, Book, Outcome, Accepted, Refused}
 use Rattle.rx_live.specs.Session.{Session, IsSound}
 
 -- what the book's answer comes to

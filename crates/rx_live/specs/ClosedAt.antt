@@ -1,7 +1,6 @@
 -- What was closed, place by place of the book's list. No public clause cites this module.
 use Rattle.std.specs.Prelude.{ℕ, List, Option, filter_map, option_map, option_and_then, slice_get}
-use Rattle.std.specs.List.{range_with_len}
-use Rattle.rx_scenario.specs.Scenario.{Name}
+use Rattle.rx_live.specs.Imports.{range_with_len, Name}
 use Rattle.rx_line.specs.Pieces.{name_text}
 use Rattle.rx_live.specs.Session.{Session}
 use Rattle.rx_live.specs.Closings.{name_beside}

@@ -1,11 +1,6 @@
 -- Which nodes an answer names as closed.
 use Rattle.std.specs.Prelude.{◌≡◌, ℕ, ◌==◌, ◌++◌, Bool, true, false, List, [], codes, map, filter_map, Option, None, option_map, if◌then◌else◌}
-use Rattle.std.specs.Option.{option_map_or}
-use Rattle.rx_scenario.specs.Scenario.{Name, end, abort, fail, dispose, drain, checkpoint}
-use Rattle.rx_book.specs.declared.key.Key.{Key}
-use Rattle.rx_line.specs.declared.names.Names.{Names}
-use Rattle.rx_line.specs.Names.{name_of}
-use Rattle.rx_line.specs.Orders.{Task, plain}
+use Rattle.rx_live.specs.Imports.{option_map_or, Name, end, abort, fail, dispose, drain, checkpoint, Key, Names, name_of, Task, plain}
 use Rattle.rx_line.specs.Pieces.{name_text, member_text}
 use Rattle.rx_live.specs.Session.{Session, node_of}
 

@@ -1,16 +1,10 @@
 -- What `is` and `dump` are answered.
-use Rattle.std.specs.Prelude.{ℕ, ◌==◌, Bool, true, false, List, ◌++◌, codes, length, Option, Some, None, is_some, filter_map}
-use Rattle.std.specs.Prelude.{option_map, option_and_then, if◌then◌else◌}
-use Rattle.std.specs.Fmt.{decimal}
-use Rattle.std.specs.List.{range_with_len}
-use Rattle.std.specs.Str.{trim}
-use Rattle.rx_event.specs.declared.event.Event.{Event}
-use Rattle.rx_event.specs.declared.event.Event.TheVariants.{Open, Connect, Hub, Accept, Lease}
-use Rattle.rx_event.specs.Kept.{event_since}
+use Rattle.std.specs.Prelude.{ℕ, ◌==◌, Bool, true, false, List, ◌++◌, codes, length, Option, None, is_some, filter_map, option_map, option_and_then}
+use Rattle.std.specs.Prelude.{if◌then◌else◌}
+use Rattle.rx_live.specs.Imports.{decimal, range_with_len, trim, Event, Open, Connect, Hub, Accept, Lease, event_since, Name, name_of}
 use Rattle.rx_dump.specs.Dump.{dump}
-use Rattle.rx_scenario.specs.Scenario.{Name}
-use Rattle.rx_line.specs.Names.{name_of}
 use Rattle.rx_line.specs.Pieces.{name_text, joined, ok_text}
+use Rattle.rx_listing.specs.Listed.{open_name}
 use Rattle.rx_live.specs.Session.{Session, node_of}
 
 -- the member that says whether a node is open, and the end of the answer
@@ -24,17 +18,10 @@ query_text s node = ok_text (length s.book.history) ++ open_member (is_some (nod
 
 -- names ------------------------------------------------------------------------------------------------
 
-abbrev pub if_open : Session → Name → Option Name
-if_open s name = if is_some (node_of s name) then Some name else None
-
--- the name of an open node
-unfoldable pub open_name : Session → ℕ → Option Name
-open_name s n = option_and_then (if_open s) (name_of s.nodes n)
-
 -- what is called so that this event made: a node while it is open, a resource and a lease until they are gone, and a hub
 abbrev pub name_made : Session → ℕ → Event → Option Name
-name_made s n (Open place kind) = open_name s n
-name_made s n (Connect hub) = open_name s n
+name_made s n (Open place kind) = open_name s.book s.nodes n
+name_made s n (Connect hub) = open_name s.book s.nodes n
 name_made s n (Hub mode) = name_of s.hubs n
 name_made s n (Accept node tag) = name_of s.resources n
 name_made s n (Lease resource) = name_of s.leases n

@@ -1,21 +1,8 @@
 -- What a command that gives names does: nothing, where a name that it uses is not bound or one that it gives is; else what the book
 -- answers, and where that accepts it the names are bound.
 use Rattle.std.specs.Prelude.{◌≡◌, ℕ, ◌⊎◌, Bool, true, false, Option, Some, None, length, is_some}
-use Rattle.rx_event.specs.declared.mail.Mail.{Mail}
-use Rattle.rx_event.specs.declared.refusal.Refusal.{Refusal}
-use Rattle.rx_event.specs.Calls.{Holding}
-use Rattle.rx_event.specs.Refusals.{IsRefusal}
-use Rattle.rx_scenario.specs.Scenario.{Name}
-use Rattle.rx_book.specs.declared.key.Key.{Key}
-use Rattle.rx_book.specs.State.{State, has_key}
-use Rattle.rx_book.specs.Requests.{Request, stands}
-use Rattle.rx_book.specs.Answers.{Accepts}
-use Rattle.rx_line.specs.declared.names.Spot.{Spot}
-use Rattle.rx_line.specs.declared.names.Names.{Names}
-use Rattle.rx_line.specs.Names.{spot_of, name_of, AreSame, Binds, Forgets}
-use Rattle.rx_line.specs.declared.outcome.Cause.TheVariants.{NoName, NameTaken, Book}
-use Rattle.rx_line.specs.declared.outcome.Outcome.{Outcome}
-use Rattle.rx_line.specs.declared.outcome.Outcome.TheVariants.{Accepted, Refused}
+use Rattle.rx_live.specs.Imports.{Mail, Refusal, Holding, IsRefusal, Name, Key, State, has_key, Request, stands, Accepts, Spot, Names, spot_of, name_of}
+use Rattle.rx_live.specs.Imports.{AreSame, Binds, Forgets, NoName, NameTaken, Book, Outcome, Accepted, Refused}
 use Rattle.rx_live.specs.Session.{Session, node_in, IsSound}
 
 -- the same nodes have names; what names of closed nodes are kept is not told, but for that none is forgotten while something is still to

@@ -1,9 +1,8 @@
--- The calls that commands make as values, where no name is given or freed. No public clause cites this module.
+-- The calls that commands make as values, where no name is given or freed.
 use Rattle.std.specs.Prelude.{Bool, true, false, Option, None, option_map}
-use Rattle.rx_book.specs.declared.call.Call.{Call}
+use Rattle.rx_live.specs.Imports.{Call, Command, apply, remove, next, end, abort, decline, fail, dispose, disconnect, using, open_node, hold, lease}
+use Rattle.rx_live.specs.Imports.{give_back, make_hub, connect, drain, checkpoint}
 use Rattle.rx_book.specs.declared.call.Call.TheVariants.{Next, End, Abort, Decline, Fail, Dispose, Apply, Remove, Disconnect}
-use Rattle.rx_scenario.specs.Scenario.{Command, apply, remove, next, end, abort, decline, fail, dispose, disconnect}
-use Rattle.rx_scenario.specs.Scenario.{using, open_node, hold, lease, give_back, make_hub, connect, drain, checkpoint}
 use Rattle.rx_live.specs.Session.{Session, node_of, resource_of, hub_of}
 
 -- it makes a call that leaves all names bound as they are

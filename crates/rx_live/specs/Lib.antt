@@ -1,3 +1,4 @@
+pub mod Imports
 pub mod Session
 pub mod Carried
 pub mod ClosedAt

@@ -1,26 +1,17 @@
 -- What a line is answered, and what the last line says.
 use Rattle.std.specs.Prelude.{◌≡◌, ℕ, true, false, List, [], ◌∷◌, ◌++◌, codes, map, Option, Some, None, is_some, option_map}
-use Rattle.std.specs.Option.{option_map_or}
-use Rattle.rx_scenario.specs.Scenario.{Name, Command, using, open_node, hold, apply, remove, lease, give_back, next, end}
-use Rattle.rx_scenario.specs.Scenario.{abort, decline, fail, dispose, make_hub, connect, disconnect, drain, checkpoint}
-use Rattle.rx_book.specs.Requests.{apply_request, remove_request, lease_request, give_back_request, next_request, end_request, abort_request}
-use Rattle.rx_book.specs.Requests.{decline_request, fail_request, dispose_request, hub_request, connect_request, disconnect_request}
-use Rattle.serde_json.specs.Data.{Data, Items, no_items, item}
-use Rattle.serde_json.specs.Find.{as_array}
-use Rattle.rx_device.specs.Input.{IsJsonOf}
-use Rattle.rx_line.specs.Orders.{Task, plain, open_holding, Order, task, query, list, dump, order_in, IsOrderOf}
-use Rattle.rx_line.specs.Names.{AreNone}
+use Rattle.rx_live.specs.Imports.{option_map_or, Name, Command, using, open_node, hold, lease, give_back, make_hub, connect, drain, checkpoint}
+use Rattle.rx_live.specs.Imports.{request_of, lease_request, give_back_request, hub_request, connect_request, Data, Items, no_items, item, as_array}
+use Rattle.rx_live.specs.Imports.{IsJsonOf, Task, plain, open_holding, Order, task, query, list, dump, IsOrderOf, AreNone, Cause, Outcome, Accepted}
+use Rattle.rx_live.specs.Imports.{Refused, Full, NoMemory, Book}
+use Rattle.rx_line.specs.Orders.{order_in}
 use Rattle.rx_line.specs.Pieces.{refused_text, faulty_text, name_text, member_text, joined}
-use Rattle.rx_line.specs.declared.outcome.Cause.{Cause}
-use Rattle.rx_line.specs.declared.outcome.Outcome.{Outcome}
-use Rattle.rx_line.specs.declared.outcome.Outcome.TheVariants.{Accepted, Refused}
 use Rattle.rx_live.specs.Session.{Session, node_of, resource_of, lease_of, hub_of, has_resource, IsSound}
 use Rattle.rx_live.specs.Carried.{Goes}
+use Rattle.rx_live.specs.KeyedCalls.{keyed_call}
 use Rattle.rx_live.specs.Given.{IsAlike, GivesNames, BindsResource, BindsLease, BindsHub, FreesLease, hold_asked}
 use Rattle.rx_live.specs.Openings.{open_asked, using_asked, connection_of, is_node, is_open_taken, is_using_taken, BindsNode, BindsUsing, BindsConnection}
 use Rattle.rx_live.specs.Openings.{GivesHolder, holder_asked, is_holder_taken, BindsHolder, front_text}
-use Rattle.rx_event.specs.declared.refusal.Refusal.TheVariants.{Full, NoMemory}
-use Rattle.rx_line.specs.declared.outcome.Cause.TheVariants.{Book}
 use Rattle.rx_live.specs.Renewals.{Renews, Renewing, IsFullByOpen, may_renew}
 use Rattle.rx_live.specs.Promise.{Act, handed_in, released, Leads}
 use Rattle.rx_live.specs.Closings.{closed_names, SaysClosed}
@@ -35,24 +26,17 @@ Runs old (using name site res) o new = GivesNames old (using_asked old site) (is
 Runs old (open_node name site sort) o new =
     GivesNames old (open_asked old site sort) (is_open_taken old name (connection_of sort)) (BindsNode old name (connection_of sort)) o new
 Runs old (hold node res) o new = GivesNames old (option_map (hold_asked old.book) (node_of old node)) (has_resource old res) (BindsResource old res) o new
-Runs old (apply res word) o new = Goes old (option_map (apply_request old.book) (resource_of old res)) o new
-Runs old (remove res) o new = Goes old (option_map (remove_request old.book) (resource_of old res)) o new
 Runs old (lease res name) o new =
     GivesNames old (option_map (lease_request old.book) (resource_of old res)) (is_some (lease_of old name)) (BindsLease old name) o new
 Runs old (give_back name) o new = GivesNames old (option_map (give_back_request old.book) (lease_of old name)) false (FreesLease old name) o new
-Runs old (next node value) o new = Goes old (option_map (λ k. next_request old.book k value) (node_of old node)) o new
-Runs old (end node terminal) o new = Goes old (option_map (λ k. end_request old.book k terminal) (node_of old node)) o new
-Runs old (abort node code) o new = Goes old (option_map (λ k. abort_request old.book k code) (node_of old node)) o new
-Runs old (decline node) o new = Goes old (option_map (λ k. decline_request old.book k) (node_of old node)) o new
-Runs old (fail node code) o new = Goes old (option_map (λ k. fail_request old.book k code) (node_of old node)) o new
-Runs old (dispose node) o new = Goes old (option_map (λ k. dispose_request old.book k) (node_of old node)) o new
 Runs old (make_hub name mode) o new = GivesNames old (Some (hub_request mode)) (is_some (hub_of old name)) (BindsHub old name) o new
 Runs old (connect hub name) o new =
     GivesNames old (option_map connect_request (hub_of old hub)) (option_map_or (is_node old) name false) (BindsConnection old name) o new
-Runs old (disconnect hub) o new = Goes old (option_map (λ g. disconnect_request g) (hub_of old hub)) o new
 -- nothing waits between two lines
 Runs old drain o new = (o ≡ Accepted) × (new ≡ old)
 Runs old checkpoint o new = Renewing old o new
+-- by one call
+Runs old c o new = Goes old (option_map (request_of old.book) (keyed_call old c)) o new
 
 -- what a task comes to
 abbrev pub Does : Session → Task → Outcome → Session → Type 0

@@ -1,8 +1,6 @@
 -- The names that are left to be released when a session ends.
 use Rattle.std.specs.Prelude.{ℕ, zero, suc, Bool, true, false, List, [], ◌∷◌, ◌++◌, codes, map, length, Option, Some, None}
-use Rattle.std.specs.Option.{option_to_list}
-use Rattle.rx_scenario.specs.Scenario.{Name}
-use Rattle.rx_line.specs.Names.{name_of}
+use Rattle.rx_live.specs.Imports.{option_to_list, Name, name_of}
 use Rattle.rx_line.specs.Pieces.{name_text, joined}
 use Rattle.rx_live.specs.Session.{Session}
 
@@ -14,10 +12,6 @@ names_below s (suc k) = names_below s k ++ option_to_list (name_of s.resources k
 -- the one that was taken and is still to be told, and all that are bound
 abbrev pub all_names : Session → List Name
 all_names s = option_to_list s.unnamed ++ names_below s (length s.book.history)
-
-abbrev pub is_nil : List Name → Bool
-is_nil [] = true
-is_nil (name ∷ names) = false
 
 -- what leads to a name
 abbrev pub lead_of : (is_first : Bool) → List ℕ

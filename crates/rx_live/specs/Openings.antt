@@ -1,29 +1,11 @@
 -- What a command asks that opens a node or connects a hub, and which names it gives.
-use Rattle.std.specs.Prelude.{◌≡◌, ℕ, ◌+◌, ◌-◌, ◌++◌, ◌||◌, Bool, false, true, List, [], ◌∷◌, codes, map, Option, Some, None, length, is_some}
-use Rattle.std.specs.Prelude.{option_map, option_and_then}
-use Rattle.std.specs.Str.{bytes_eq}
-use Rattle.std.specs.Option.{option_map_or}
-use Rattle.rx_event.specs.declared.event.Kind.{Kind}
-use Rattle.rx_event.specs.declared.event.Kind.TheVariants.{Leaf, Pass, Flat, Switch, Until, Sub}
-use Rattle.rx_event.specs.declared.event.Event.TheVariants.{Accept}
-use Rattle.rx_event.specs.declared.event.Place.{Place}
-use Rattle.rx_event.specs.declared.refusal.Refusal.{Refusal}
-use Rattle.rx_event.specs.declared.refusal.Refusal.TheVariants.{Full}
-use Rattle.rx_event.specs.Calls.{Opening, OpeningUsing, Holding}
-use Rattle.rx_event.specs.Causes.{is_over, added_by, opening_causes, by_key}
-use Rattle.rx_event.specs.Refusals.{first_cause}
-use Rattle.rx_scenario.specs.Scenario.{Name, Site, root, source, inner, notifier, Sort, leaf, pass, flat, switch, until, sub}
-use Rattle.rx_scenario.specs.Scenario.{open_node}
-use Rattle.rx_book.specs.declared.key.Key.{Key}
-use Rattle.rx_book.specs.declared.answer.At.{At}
+use Rattle.std.specs.Prelude.{◌≡◌, ℕ, ◌+◌, ◌-◌, ◌++◌, ◌||◌, Bool, false, true, List, [], ◌∷◌, codes, map, Option, Some, None, length, is_some, option_map}
+use Rattle.std.specs.Prelude.{option_and_then}
+use Rattle.rx_live.specs.Imports.{bytes_eq, option_map_or, Kind, Leaf, Pass, Flat, Switch, Until, Sub, Accept, Place, Refusal, Full, Opening}
+use Rattle.rx_live.specs.Imports.{OpeningUsing, Holding, is_over, added_by, opening_causes, by_key, first_cause, Name, Site, root, source, inner}
+use Rattle.rx_live.specs.Imports.{notifier, Sort, leaf, pass, flat, switch, until, sub, open_node, Key, At, goes, State, AreJust, Request, open_request}
+use Rattle.rx_live.specs.Imports.{place_of, is_known_place, Accepts, connection_made, Names, Outcome, Task, plain, open_holding}
 use Rattle.rx_book.specs.declared.answer.At.TheVariants.{Root as AtRoot, Source as AtSource, Inner as AtInner, Notifier as AtNotifier}
-use Rattle.rx_ground.specs.Gone.{goes}
-use Rattle.rx_book.specs.State.{State, AreJust}
-use Rattle.rx_book.specs.Requests.{Request, open_request, place_of, is_known_place}
-use Rattle.rx_book.specs.Answers.{Accepts, connection_made}
-use Rattle.rx_line.specs.declared.names.Names.{Names}
-use Rattle.rx_line.specs.declared.outcome.Outcome.{Outcome}
-use Rattle.rx_line.specs.Orders.{Task, plain, open_holding}
 use Rattle.rx_line.specs.Pieces.{ok_text}
 use Rattle.rx_live.specs.Session.{Session, is_node_in, node_of, hub_of, has_resource}
 use Rattle.rx_live.specs.Given.{IsAlike, NamesOne, GivesBy, hold_tagged}
@@ -46,12 +28,8 @@ kind_of s (sub hub connection) = option_map Sub (hub_of s hub)
 
 -- the name for the connection that a subscriber's opening may make
 abbrev pub connection_of : Sort → Option Name
-connection_of leaf = None
-connection_of pass = None
-connection_of flat = None
-connection_of switch = None
-connection_of until = None
 connection_of (sub hub connection) = connection
+connection_of _ = None
 
 -- what is asked ---------------------------------------------------------------------------------------
 
@@ -158,12 +136,8 @@ connected_text None = codes ",\"connected\":true"
 connected_text (Some name) = codes ",\"connected\":true,\"connection\":\"" ++ name ++ codes "\""
 
 abbrev pub connected_as : Sort → List ℕ
-connected_as leaf = []
-connected_as pass = []
-connected_as flat = []
-connected_as switch = []
-connected_as until = []
 connected_as (sub hub connection) = connected_text connection
+connected_as _ = []
 
 -- what is answered to the opening of a subscriber that made a connection
 abbrev pub connected_by : Task → List ℕ

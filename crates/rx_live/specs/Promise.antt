@@ -1,8 +1,7 @@
 -- What a session promises of the names of resources: each that was handed in stands in exactly one `release` behind that, before it is
 -- handed in again, and no other name does.
 use Rattle.std.specs.Prelude.{◌≡◌, Bool, true, false, cond, List, [], ◌∷◌}
-use Rattle.std.specs.Str.{bytes_eq}
-use Rattle.rx_scenario.specs.Scenario.{Name}
+use Rattle.rx_live.specs.Imports.{bytes_eq, Name}
 
 -- a `using`, a `hold` or an `open` was answered `ok` and names it as its resource; it stands in a `release`
 pub data Act : Type 0 where

@@ -1,19 +1,7 @@
 -- A checkpoint of a live book: the book makes one, and the names of closed nodes are forgotten.
 use Rattle.std.specs.Prelude.{◌≡◌, ◌<◌, ◌⊎◌, ◌&&◌, Bool, false, nat_lt, [], length, is_some}
-use Rattle.std.proofs.Math.Bool.{not}
-use Rattle.rx_event.specs.declared.refusal.Refusal.{Refusal}
-use Rattle.rx_event.specs.declared.refusal.Refusal.TheVariants.{Full, MailLeft, TooMany}
-use Rattle.rx_event.specs.Refusals.{IsRefusal}
-use Rattle.rx_event.specs.Causes.{most_places}
-use Rattle.rx_scenario.specs.Scenario.{Name}
-use Rattle.rx_book.specs.State.{State}
-use Rattle.rx_book.specs.Checkpoints.{Checkpoints}
-use Rattle.rx_line.specs.declared.names.Names.{Names}
-use Rattle.rx_line.specs.declared.outcome.Cause.{Cause}
-use Rattle.rx_line.specs.declared.outcome.Cause.TheVariants.{NoName, NameTaken, Book}
-use Rattle.rx_line.specs.declared.outcome.Outcome.{Outcome}
-use Rattle.rx_line.specs.declared.outcome.Outcome.TheVariants.{Accepted, Refused}
-use Rattle.rx_line.specs.Names.{spot_of}
+use Rattle.rx_live.specs.Imports.{not, Refusal, Full, MailLeft, TooMany, IsRefusal, most_places, Name, State, Checkpoints, Names, Cause, NoName}
+use Rattle.rx_live.specs.Imports.{NameTaken, Book, Outcome, Accepted, Refused, spot_of}
 use Rattle.rx_live.specs.Session.{Session, node_in}
 use Rattle.rx_live.specs.Given.{AreOpenSame}
 use Rattle.rx_live.specs.Answers.{to_tell}

@@ -1,7 +1,6 @@
 -- Room in a text for what closes an answer. No public clause cites this module.
 use Rattle.std.specs.Prelude.{ℕ, ◌+◌, ◌≤◌, String}
-use Rattle.std.specs.String.{string_len, string_capacity}
-use Rattle.std.specs.declared.alloc.Global.{Global}
+use Rattle.rx_live.specs.Imports.{string_len, string_capacity, Global}
 
 -- so many bytes may still be put behind it without any memory being asked for
 abbrev pub HasRoom : ℕ → String Global → Type 0

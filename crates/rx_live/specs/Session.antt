@@ -1,19 +1,11 @@
 -- What a live book is: its book, and which names are bound.
-use Rattle.std.specs.Prelude.{◌≡◌, ℕ, ◌≤◌, ◌&&◌, ◌||◌, Bool, false, Option, Some, None, List, length}
-use Rattle.std.specs.Prelude.{is_some, option_map, option_and_then, string_bytes, if◌then◌else◌}
-use Rattle.std.specs.Str.{bytes_eq}
-use Rattle.std.specs.Option.{option_map_or}
-use Rattle.rx_event.specs.declared.event.Event.{Event}
-use Rattle.rx_event.specs.declared.mail.Mail.{Mail}
+use Rattle.std.specs.Prelude.{◌≡◌, ℕ, ◌≤◌, ◌&&◌, ◌||◌, Bool, false, Option, Some, None, List, length, is_some, option_map, option_and_then, string_bytes}
+use Rattle.std.specs.Prelude.{if◌then◌else◌}
+use Rattle.rx_live.specs.Imports.{bytes_eq, option_map_or, Event, Mail, Name, Key, State, has_key, IsPromised, Spot, Names, spot_of, name_of, IsPaired}
 use Rattle.rx_event.specs.Resources.{is_out}
-use Rattle.rx_scenario.specs.Scenario.{Name}
-use Rattle.rx_book.specs.declared.key.Key.{Key}
 use Rattle.rx_book.specs.declared.key.ResKey.{ResKey}
 use Rattle.rx_book.specs.declared.key.LeaseKey.{LeaseKey}
-use Rattle.rx_book.specs.State.{State, has_key, is_kept, IsPromised}
-use Rattle.rx_line.specs.declared.names.Spot.{Spot}
-use Rattle.rx_line.specs.declared.names.Names.{Names}
-use Rattle.rx_line.specs.Names.{spot_of, name_of, IsPaired}
+use Rattle.rx_book.specs.State.{is_kept}
 use Rattle.rx_live.specs.declared.engine.Engine.{Engine}
 
 -- its book, its names, and what was taken from the book and, in want of memory, is still to be told: a note, a resource's name
@@ -97,16 +89,4 @@ pub record IsSound (s : Session) : Type 0 where
   pub resources : (r : ℕ) → is_some (name_of s.resources r) ≡ is_kept s.book.history r
   pub leases : (l : ℕ) → is_some (name_of s.leases l) ≡ is_out s.book.history l
   -- a name that is still to be told is not given again
-  pub unnamed : (name : Name) → s.unnamed ≡ Some name → spot_of s.resources name ≡ None
-
--- how names are tied to the history, without what the book promises by itself
-pub record IsTied (s : Session) : Type 0 where
-  pub node_pairs : IsPaired s.nodes
-  pub hub_pairs : IsPaired s.hubs
-  pub resource_pairs : IsPaired s.resources
-  pub lease_pairs : IsPaired s.leases
-  pub nodes : IsPlaced s.book.history s.nodes
-  pub hubs : IsPlaced s.book.history s.hubs
-  pub resources : (r : ℕ) → is_some (name_of s.resources r) ≡ is_kept s.book.history r
-  pub leases : (l : ℕ) → is_some (name_of s.leases l) ≡ is_out s.book.history l
   pub unnamed : (name : Name) → s.unnamed ≡ Some name → spot_of s.resources name ≡ None

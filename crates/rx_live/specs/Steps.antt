@@ -1,11 +1,6 @@
 -- One step of a telling. No public clause cites this module.
 use Rattle.std.specs.Prelude.{◌≡◌, ℕ, ◌+◌, ◌<◌, Bool, true, false, List, ◌∷◌, ◌++◌, codes, map, length, Some, None}
-use Rattle.std.specs.Option.{option_map_or}
-use Rattle.rx_event.specs.declared.mail.Mail.{Mail}
-use Rattle.rx_scenario.specs.Scenario.{Name}
-use Rattle.rx_book.specs.Requests.{take_request}
-use Rattle.rx_book.specs.Answers.{Accepts}
-use Rattle.rx_line.specs.Names.{spot_of, name_of, Forgets}
+use Rattle.rx_live.specs.Imports.{option_map_or, Mail, Name, take_request, Accepts, spot_of, name_of, Forgets}
 use Rattle.rx_line.specs.Pieces.{name_text, joined}
 use Rattle.rx_live.specs.Session.{Session, has_resource}
 use Rattle.rx_live.specs.Promise.{with_held}

@@ -1,19 +1,10 @@
 -- One attempt at what is asked. No public clause cites this module.
 use Rattle.std.specs.Prelude.{◌≡◌, ℕ, Bool, true, false, List, [], ◌++◌, codes, Option, Some}
-use Rattle.std.specs.Option.{option_map_or}
-use Rattle.rx_event.specs.Kept.{event_since}
-use Rattle.rx_event.specs.declared.refusal.Refusal.TheVariants.{Full}
-use Rattle.rx_book.specs.State.{State}
-use Rattle.rx_book.specs.Answers.{makes_connection}
-use Rattle.serde_json.specs.Data.{Data, Items}
-use Rattle.rx_line.specs.Orders.{Task, Order, task}
-use Rattle.rx_line.specs.Pieces.{joined}
-use Rattle.rx_line.specs.declared.outcome.Cause.{Cause}
-use Rattle.rx_line.specs.declared.outcome.Cause.TheVariants.{Book}
+use Rattle.rx_live.specs.Imports.{option_map_or, event_since, Full, State, makes_connection, Data, Items, Task, Order, task, Cause, Book}
+use Rattle.rx_line.specs.Pieces.{joined, is_nil}
 use Rattle.rx_live.specs.Session.{Session, has_resource}
 use Rattle.rx_live.specs.Promise.{Act, Leads}
 use Rattle.rx_live.specs.Lines.{IsAnswer, FindsFull, AnswersOne, AnswersEach, array_text, AnswersValue}
-use Rattle.rx_live.specs.Listed.{is_nil}
 
 abbrev pub is_full : Cause → Bool
 is_full (Book Full) = true

@@ -1,10 +1,8 @@
 //! Commands that make a call of the book as a value, and give or free no name.
 
-ghost use Rattle.std.specs.Prelude.{◌≡◌, ◌≢◌, true, Err, IfOk, OnErr};
+ghost use Rattle.std.specs.Prelude.{◌≡◌, true, Err, IfOk, OnErr};
 ghost use Rattle.rx_event.specs.declared.refusal.Refusal.{Refusal};
 ghost use Rattle.rx_scenario.specs.Scenario.{command_of};
-ghost use Rattle.rx_line.specs.declared.outcome.Cause.TheVariants.{Book};
-ghost use Rattle.rx_line.specs.declared.outcome.Outcome.TheVariants.{Refused};
 ghost use Rattle.rx_live.specs.Session.{session_of, IsSound};
 ghost use Rattle.rx_live.specs.Carried.{outcome_of};
 ghost use Rattle.rx_live.specs.KeyedCalls.{is_asked, keyed_call};
@@ -20,7 +18,6 @@ use std::alloc::AllocError;
 pub fn answered<T: Drop>(answer: Result<T, Refusal>) -> Result<Outcome, AllocError>
     ensures ok { IfOk result (λ o. o ≡ outcome_of answer) }
     ensures err { OnErr result (answer ≡ Err Refusal.NoMemory) }
-    ensures want { IfOk result (λ o. o ≢ Refused (Book Refusal.NoMemory)) }
 {
     match answer {
         Ok(_) => Ok(Outcome::Accepted),
@@ -57,7 +54,6 @@ pub fn ask(engine: &mut Engine, command: &Command) -> Result<Outcome, AllocError
     ensures ok { IfOk result (λ o. Runs (session_of engine.old) (command_of command.now) o (session_of engine.new)) }
     ensures err { OnErr result (session_of engine.new ≡ session_of engine.old) }
     ensures sound { IsSound (session_of engine.new) }
-    ensures want { IfOk result (λ o. o ≢ Refused (Book Refusal.NoMemory)) }
 {
     let Some(call) = keyed_call(engine, command) else {
         return Ok(Outcome::Refused(Cause::NoName));

@@ -3,15 +3,14 @@
 ghost use Rattle.std.specs.Prelude.{◌≡◌, ◌+◌, ◌++◌, [], codes, length, map, option_map, string_bytes, if◌then◌else◌, IfOk, OnOk, OnErr};
 ghost use Rattle.rx_scenario.specs.Scenario.{command_of};
 ghost use Rattle.rx_line.specs.Orders.{plain, task_of};
-ghost use Rattle.rx_line.specs.Pieces.{name_text, member_text, joined};
-ghost use Rattle.rx_listing.specs.Parts.{is_nil, led_text};
+ghost use Rattle.rx_line.specs.Pieces.{name_text, is_nil, led_text, member_text, joined};
 ghost use Rattle.rx_live.specs.Session.{session_of, node_of};
 ghost use Rattle.rx_live.specs.Closings.{asked_node, is_call, names_closed, WritesClosed};
 ghost use Rattle.rx_live.specs.ClosedAt.{closed_at, closed_texts};
 ghost use Rattle.rx_live.specs.Room.{HasRoom, KeepsRoom};
 
 use crate::engine::Engine;
-use crate::telling::push_piece;
+use crate::telling::{push_piece, push_quoted};
 use rx_line::{Task, put};
 use rx_scenario::Command;
 use std::alloc::AllocError;
@@ -37,9 +36,9 @@ fn asked_plain(engine: &Engine, command: &Command) -> Option<u64>
     ensures { result ≡ asked_node (session_of engine.now) (plain (command_of command.now)) }
 {
     match command {
-        Command::End { node, terminal: _ } => number_of(engine, node.as_str()),
-        Command::Abort { node, code: _ } => number_of(engine, node.as_str()),
-        Command::Fail { node, code: _ } => number_of(engine, node.as_str()),
+        Command::End { node, .. } => number_of(engine, node.as_str()),
+        Command::Abort { node, .. } => number_of(engine, node.as_str()),
+        Command::Fail { node, .. } => number_of(engine, node.as_str()),
         Command::Dispose { node } => number_of(engine, node.as_str()),
         _ => None,
     }
@@ -65,12 +64,7 @@ pub fn closing_of(engine: &Engine, task: &Task) -> Closing
             is_call: is_call_plain(command),
             asked: asked_plain(engine, command),
         },
-        Task::OpenHolding {
-            name: _,
-            place: _,
-            kind: _,
-            res: _,
-        } => Closing {
+        Task::OpenHolding { .. } => Closing {
             is_call: true,
             asked: None,
         },
@@ -88,22 +82,14 @@ fn closed_at(engine: &Engine, asked: Option<u64>, place: usize) -> Option<&str>
     engine.nodes.name_of(key.number)
 }
 
-// Writes a name between quotes.
-#[tactic(auto, unfolding(rx_line::specs::Pieces::name_text))]
-fn push_quote(text: &mut String, name: &str) -> Result<(), AllocError>
-    ensures { OnOk result (string_bytes text.new ≡ string_bytes text.old ++ name_text name.now) }
-{
-    write!(text, "\"{name}\"")
-}
-
 // Writes a name behind those before it.
 fn push_led(text: &mut String, is_first: bool, name: &str) -> Result<(), AllocError>
     ensures { OnOk result (string_bytes text.new ≡ string_bytes text.old ++ led_text is_first (name_text name.now)) }
 {
-    if !is_first {
-        text.push_str(",")?;
+    if is_first {
+        return push_quoted(text, "", name, 0);
     }
-    push_quote(text, name)
+    push_quoted(text, ",", name, 0)
 }
 
 // Writes the names of what was closed. Answers whether there are none.

@@ -4,10 +4,10 @@ ghost use Rattle.std.specs.Prelude.{◌≡◌, ◌++◌, ◌&&◌, codes, map, o
 ghost use Rattle.std.proofs.Math.Bool.{not};
 ghost use Rattle.std.specs.Option.{option_to_list};
 ghost use Rattle.rx_line.specs.Names.{name_of};
-ghost use Rattle.rx_line.specs.Pieces.{name_text, member_text};
+ghost use Rattle.rx_line.specs.Pieces.{name_text, is_nil, member_text};
 ghost use Rattle.rx_live.specs.Session.{session_of, IsSound};
 ghost use Rattle.rx_live.specs.Lines.{IsClosed};
-ghost use Rattle.rx_live.specs.Listed.{all_names, is_nil, lead_of, led_text, open_text};
+ghost use Rattle.rx_live.specs.Listed.{all_names, lead_of, led_text, open_text};
 
 use crate::engine::Engine;
 use crate::telling::push_quoted;

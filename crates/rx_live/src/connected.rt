@@ -27,12 +27,8 @@ fn connected_as(alloc: Global, kind: &Sort) -> Result<String, AllocError>
     ensures { IfOk result (λ s. string_bytes s ≡ connected_as (sort_of kind.now)) }
 {
     match kind {
-        Sort::Sub { hub: _, connection } => connected_text(alloc, connection),
-        Sort::Leaf => Ok(String::new(alloc)),
-        Sort::Pass => Ok(String::new(alloc)),
-        Sort::Flat => Ok(String::new(alloc)),
-        Sort::Switch => Ok(String::new(alloc)),
-        Sort::Until => Ok(String::new(alloc)),
+        Sort::Sub { connection, .. } => connected_text(alloc, connection),
+        _ => Ok(String::new(alloc)),
     }
 }
 
@@ -41,11 +37,7 @@ fn connected_plain(alloc: Global, command: &Command) -> Result<String, AllocErro
     ensures { IfOk result (λ s. string_bytes s ≡ connected_by (plain (command_of command.now))) }
 {
     match command {
-        Command::Open {
-            name: _,
-            place: _,
-            kind,
-        } => connected_as(alloc, kind),
+        Command::Open { kind, .. } => connected_as(alloc, kind),
         _ => Ok(String::new(alloc)),
     }
 }
@@ -57,12 +49,7 @@ pub fn connected_by(alloc: Global, task: &Task) -> Result<String, AllocError>
 {
     match task {
         Task::Command(command) => connected_plain(alloc, command),
-        Task::OpenHolding {
-            name: _,
-            place: _,
-            kind,
-            res: _,
-        } => connected_as(alloc, kind),
+        Task::OpenHolding { kind, .. } => connected_as(alloc, kind),
     }
 }
 

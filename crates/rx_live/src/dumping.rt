@@ -3,17 +3,16 @@
 ghost use Rattle.std.specs.Prelude.{◌≡◌, ◌++◌, length, option_map, string_bytes, IfOk, OnOk};
 ghost use Rattle.std.specs.Fmt.{decimal};
 ghost use Rattle.rx_line.specs.Pieces.{name_text, joined};
-ghost use Rattle.rx_listing.specs.Parts.{led_text};
 ghost use Rattle.rx_live.specs.Session.{session_of};
-ghost use Rattle.rx_live.specs.Dumps.{open_name, name_made, name_at, entry_text, entry_at, entries};
+ghost use Rattle.rx_live.specs.Dumps.{name_made, name_at, entry_text, entry_at, entries};
 ghost use Rattle.rx_live.specs.Dumps.{whole_text, since_text, dump_text};
 
 use crate::engine::Engine;
 use crate::telling::push_quoted;
 use rx_book::Event;
 use rx_dump::push_dump;
-use rx_line::ok_text;
-use rx_listing::since;
+use rx_line::{ok_text, push_led};
+use rx_listing::{open_name, since};
 use std::alloc::{AllocError, Global};
 
 // All events, oldest first, where there was no checkpoint.
@@ -30,26 +29,13 @@ fn events_of(engine: &Engine) -> Result<Vec<Event>, AllocError>
     Ok(events)
 }
 
-// The name of an open node.
-#[tactic(auto, unfolding(crate::specs::Dumps::open_name))]
-fn open_name(engine: &Engine, number: u64) -> Option<&str>
-    ensures { option_map (λ s. s.now) result ≡ open_name (session_of engine.now) number }
-{
-    let name = engine.nodes.name_of(number)?;
-    if engine.node(name).is_some() {
-        Some(name)
-    } else {
-        None
-    }
-}
-
 // The name of what this event made, at the place that is its number.
 fn name_made(engine: &Engine, number: u64, event: Event) -> Option<&str>
     ensures { option_map (λ s. s.now) result ≡ name_made (session_of engine.now) number event }
 {
     match event {
-        Event::Open { place: _, kind: _ } => open_name(engine, number),
-        Event::Connect(_) => open_name(engine, number),
+        Event::Open { .. } => open_name(&engine.book, &engine.nodes, number),
+        Event::Connect(_) => open_name(&engine.book, &engine.nodes, number),
         Event::Hub(_) => engine.hubs.name_of(number),
         Event::Accept(_, _) => engine.resources.name_of(number),
         Event::Lease(_) => engine.leases.name_of(number),
@@ -93,16 +79,6 @@ fn entry_at(engine: &Engine, number: u64) -> Result<Option<String>, AllocError>
     Ok(Some(entry))
 }
 
-// Writes an entry behind those before it.
-fn push_entry(text: &mut String, is_first: bool, entry: &str) -> Result<(), AllocError>
-    ensures { OnOk result (string_bytes text.new ≡ string_bytes text.old ++ led_text is_first entry.now) }
-{
-    if !is_first {
-        text.push_str(",")?;
-    }
-    text.push_str(entry)
-}
-
 // Writes the numbers that have names, with those.
 fn push_entries(engine: &Engine, text: &mut String) -> Result<(), AllocError>
     ensures { OnOk result (string_bytes text.new ≡ string_bytes text.old
@@ -111,7 +87,7 @@ fn push_entries(engine: &Engine, text: &mut String) -> Result<(), AllocError>
     let mut is_first = true;
     'places: for place in 0..engine.book.len() {
         if let Some(entry) = entry_at(engine, place)? {
-            push_entry(text, is_first, entry.as_str())?;
+            push_led(text, is_first, entry.as_str())?;
             is_first = false;
         }
     }

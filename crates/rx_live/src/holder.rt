@@ -1,10 +1,7 @@
 //! Opening a node that holds a resource from then on.
 
-ghost use Rattle.std.specs.Prelude.{◌≢◌, Some, option_map, string_bytes, IfOk, OnErr};
+ghost use Rattle.std.specs.Prelude.{Some, option_map, string_bytes, IfOk, OnErr};
 ghost use Rattle.rx_scenario.specs.Scenario.{site_of, sort_of};
-ghost use Rattle.rx_event.specs.declared.refusal.Refusal.TheVariants.{NoMemory};
-ghost use Rattle.rx_line.specs.declared.outcome.Cause.{Cause as CauseOf};
-ghost use Rattle.rx_line.specs.declared.outcome.Outcome.TheVariants.{Refused};
 ghost use Rattle.rx_live.specs.Session.{session_of, IsSound};
 ghost use Rattle.rx_live.specs.Given.{IsUnchanged};
 ghost use Rattle.rx_live.specs.Openings.{connection_of, holder_at, holder_asked, is_holder_taken, GivesHolder, BindsHolder};
@@ -33,7 +30,6 @@ fn open_holding_at(
         (is_holder_taken (session_of engine.old) (string_bytes name) (option_map string_bytes connection) (string_bytes res))
         (BindsHolder (session_of engine.old) (string_bytes name) (option_map string_bytes connection) (string_bytes res)) o (session_of engine.new)) }
     ensures err { OnErr result (IsUnchanged (session_of engine.old) (session_of engine.new)) }
-    ensures want { IfOk result (λ o. o ≢ Refused (CauseOf.Book NoMemory)) }
 {
     if engine.has_resource(res.as_str()) {
         return Ok(Outcome::Refused(Cause::NameTaken));
@@ -84,7 +80,6 @@ pub fn open_holding(
         (is_holder_taken (session_of engine.old) (string_bytes name) (connection_of (sort_of sort)) (string_bytes res))
         (BindsHolder (session_of engine.old) (string_bytes name) (connection_of (sort_of sort)) (string_bytes res)) o (session_of engine.new)) }
     ensures err { OnErr result (IsUnchanged (session_of engine.old) (session_of engine.new)) }
-    ensures want { IfOk result (λ o. o ≢ Refused (CauseOf.Book NoMemory)) }
 {
     let Some(place) = place_at(engine, site) else {
         return Ok(Outcome::Refused(Cause::NoName));

@@ -1,10 +1,7 @@
 //! Commands that give a name to a resource, a lease or a hub, and the one that gives a lease back.
 
-ghost use Rattle.std.specs.Prelude.{◌≢◌, Some, false, is_some, option_map, string_bytes, IfOk, OnErr};
+ghost use Rattle.std.specs.Prelude.{Some, false, is_some, option_map, string_bytes, IfOk, OnErr};
 ghost use Rattle.rx_book.specs.Requests.{lease_request, give_back_request, hub_request};
-ghost use Rattle.rx_event.specs.declared.refusal.Refusal.{Refusal};
-ghost use Rattle.rx_line.specs.declared.outcome.Cause.TheVariants.{Book};
-ghost use Rattle.rx_line.specs.declared.outcome.Outcome.TheVariants.{Refused};
 ghost use Rattle.rx_live.specs.Session.{session_of, node_of, resource_of, lease_of, hub_of, has_resource, IsSound};
 ghost use Rattle.rx_live.specs.Given.{GivesNames, IsUnchanged, BindsResource, BindsLease, BindsHub, FreesLease, hold_asked};
 
@@ -24,7 +21,6 @@ pub fn hold(engine: &mut Engine, node: &str, res: String) -> Result<Outcome, All
         (has_resource (session_of engine.old) (string_bytes res))
         (BindsResource (session_of engine.old) (string_bytes res)) o (session_of engine.new)) }
     ensures err { OnErr result (IsUnchanged (session_of engine.old) (session_of engine.new)) }
-    ensures want { IfOk result (λ o. o ≢ Refused (Book Refusal.NoMemory)) }
 {
     let Some(key) = engine.node(node) else {
         return Ok(Outcome::Refused(Cause::NoName));
@@ -57,7 +53,6 @@ pub fn lease(engine: &mut Engine, res: &str, name: String) -> Result<Outcome, Al
         (is_some (lease_of (session_of engine.old) (string_bytes name)))
         (BindsLease (session_of engine.old) (string_bytes name)) o (session_of engine.new)) }
     ensures err { OnErr result (IsUnchanged (session_of engine.old) (session_of engine.new)) }
-    ensures want { IfOk result (λ o. o ≢ Refused (Book Refusal.NoMemory)) }
 {
     let Some(key) = engine.resource(res) else {
         return Ok(Outcome::Refused(Cause::NoName));
@@ -88,7 +83,6 @@ pub fn give_back(engine: &mut Engine, lease: &str) -> Result<Outcome, AllocError
         (option_map (give_back_request engine.old.book) (lease_of (session_of engine.old) lease.now))
         false (FreesLease (session_of engine.old) lease.now) o (session_of engine.new)) }
     ensures err { OnErr result (IsUnchanged (session_of engine.old) (session_of engine.new)) }
-    ensures want { IfOk result (λ o. o ≢ Refused (Book Refusal.NoMemory)) }
 {
     let Some(key) = engine.lease_of(lease) else {
         return Ok(Outcome::Refused(Cause::NoName));
@@ -110,7 +104,6 @@ pub fn hub(engine: &mut Engine, name: String, mode: Mode) -> Result<Outcome, All
         (is_some (hub_of (session_of engine.old) (string_bytes name)))
         (BindsHub (session_of engine.old) (string_bytes name)) o (session_of engine.new)) }
     ensures err { OnErr result (IsUnchanged (session_of engine.old) (session_of engine.new)) }
-    ensures want { IfOk result (λ o. o ≢ Refused (Book Refusal.NoMemory)) }
 {
     if engine.hub_of(name.as_str()).is_some() {
         return Ok(Outcome::Refused(Cause::NameTaken));

@@ -1,6 +1,7 @@
 //! What a live book is.
 
-ghost use Rattle.rx_live.specs.Session.{session_of, IsTied};
+ghost use Rattle.rx_book.specs.State.{IsPromised};
+ghost use Rattle.rx_live.specs.Session.{session_of, IsSound};
 
 use crate::engine::Engine;
 use json::Scratch;
@@ -16,5 +17,5 @@ pub struct Live {
     pub(crate) engine: Engine,
     /// What reading a line needs, kept from line to line.
     pub(crate) scratch: Scratch,
-    ghost tied: { IsTied (session_of engine) },
+    ghost tied: { IsPromised engine.book → IsSound (session_of engine) },
 }

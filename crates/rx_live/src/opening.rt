@@ -1,14 +1,11 @@
 //! Commands that open a node.
 
-ghost use Rattle.std.specs.Prelude.{◌≢◌, ◌≡◌, ◌<◌, ◌||◌, Some, None, false, option_map, string_bytes, IfOk, IfSome, OnErr};
+ghost use Rattle.std.specs.Prelude.{◌≡◌, ◌<◌, ◌||◌, Some, None, false, option_map, string_bytes, IfOk, IfSome, OnErr};
 ghost use Rattle.std.specs.Str.{bytes_eq};
 ghost use Rattle.std.specs.Option.{option_map_or};
 ghost use Rattle.rx_scenario.specs.Scenario.{site_of, sort_of};
 ghost use Rattle.rx_book.specs.Requests.{open_request, connect_request};
 ghost use Rattle.rx_line.specs.Names.{spot_of, name_of, room_of, IsPaired};
-ghost use Rattle.rx_event.specs.declared.refusal.Refusal.TheVariants.{NoMemory};
-ghost use Rattle.rx_line.specs.declared.outcome.Cause.{Cause as CauseOf};
-ghost use Rattle.rx_line.specs.declared.outcome.Outcome.TheVariants.{Refused};
 ghost use Rattle.rx_live.specs.Session.{session_of, is_node_in, hub_of, IsSound};
 ghost use Rattle.rx_live.specs.Given.{AreOpenSame, GivesNames, IsUnchanged};
 ghost use Rattle.rx_live.specs.Openings.{place_at, kind_of, connection_of, open_asked, using_asked, is_node, is_open_taken, is_using_taken};
@@ -45,7 +42,7 @@ pub fn kind_of(engine: &Engine, sort: &Sort) -> Option<Kind>
         Sort::Flat => Some(Kind::Flat),
         Sort::Switch => Some(Kind::Switch),
         Sort::Until => Some(Kind::Until),
-        Sort::Sub { hub, connection: _ } => Some(Kind::Sub(engine.hub_of(hub.as_str())?)),
+        Sort::Sub { hub, .. } => Some(Kind::Sub(engine.hub_of(hub.as_str())?)),
     }
 }
 
@@ -54,12 +51,8 @@ pub fn connection_name(sort: Sort) -> Option<String>
     ensures { option_map string_bytes result ≡ connection_of (sort_of sort) }
 {
     match sort {
-        Sort::Sub { hub: _, connection } => connection,
-        Sort::Leaf => None,
-        Sort::Pass => None,
-        Sort::Flat => None,
-        Sort::Switch => None,
-        Sort::Until => None,
+        Sort::Sub { connection, .. } => connection,
+        _ => None,
     }
 }
 
@@ -194,7 +187,6 @@ fn open_at(
         (is_open_taken (session_of engine.old) (string_bytes name) (option_map string_bytes connection))
         (BindsNode (session_of engine.old) (string_bytes name) (option_map string_bytes connection)) o (session_of engine.new)) }
     ensures err { OnErr result (IsUnchanged (session_of engine.old) (session_of engine.new)) }
-    ensures want { IfOk result (λ o. o ≢ Refused (CauseOf.Book NoMemory)) }
 {
     if are_taken(
         &engine.book,
@@ -233,7 +225,6 @@ pub fn open(
         (is_open_taken (session_of engine.old) (string_bytes name) (connection_of (sort_of sort)))
         (BindsNode (session_of engine.old) (string_bytes name) (connection_of (sort_of sort))) o (session_of engine.new)) }
     ensures err { OnErr result (IsUnchanged (session_of engine.old) (session_of engine.new)) }
-    ensures want { IfOk result (λ o. o ≢ Refused (CauseOf.Book NoMemory)) }
 {
     let Some(place) = place_at(engine, site) else {
         return Ok(Outcome::Refused(Cause::NoName));
@@ -257,7 +248,6 @@ pub fn using(
         (is_using_taken (session_of engine.old) (string_bytes name) (string_bytes res))
         (BindsUsing (session_of engine.old) (string_bytes name) (string_bytes res)) o (session_of engine.new)) }
     ensures err { OnErr result (IsUnchanged (session_of engine.old) (session_of engine.new)) }
-    ensures want { IfOk result (λ o. o ≢ Refused (CauseOf.Book NoMemory)) }
 {
     let Some(place) = place_at(engine, site) else {
         return Ok(Outcome::Refused(Cause::NoName));
@@ -301,7 +291,6 @@ pub fn connect(engine: &mut Engine, hub: &str, name: Option<String>) -> Result<O
         (option_map_or (is_node (session_of engine.old)) (option_map string_bytes name) false)
         (BindsConnection (session_of engine.old) (option_map string_bytes name)) o (session_of engine.new)) }
     ensures err { OnErr result (IsUnchanged (session_of engine.old) (session_of engine.new)) }
-    ensures want { IfOk result (λ o. o ≢ Refused (CauseOf.Book NoMemory)) }
 {
     let Some(number) = engine.hub_of(hub) else {
         return Ok(Outcome::Refused(Cause::NoName));

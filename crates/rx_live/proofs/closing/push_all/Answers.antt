@@ -1,5 +1,5 @@
-use Rattle.rx_live.proofs.Common.{◌++◌, ◌+◌, ℕ, List, take, option_map, string_bytes, arith, ap, ◌∙◌, option_to_list, Name, session_of}
-use Rattle.rx_live.specs.Listed.{is_nil, open_text}
+use Rattle.rx_live.proofs.Common.{◌++◌, ◌+◌, ℕ, List, take, option_map, string_bytes, arith, ap, ◌∙◌, option_to_list, Name, session_of, is_nil}
+use Rattle.rx_live.specs.Listed.{open_text}
 use Rattle.rx_live.proofs.Listings.{names_at, names_more, names_all, first_step, text_step}
 use Rattle.rx_live.proofs.closing.push_all.Goals as goal
 

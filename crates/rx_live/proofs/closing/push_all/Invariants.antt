@@ -1,5 +1,5 @@
-use Rattle.rx_live.proofs.Common.{◌≡◌, ◌++◌, take, option_map, string_bytes, option_to_list, session_of}
-use Rattle.rx_live.specs.Listed.{is_nil, open_text}
+use Rattle.rx_live.proofs.Common.{◌≡◌, ◌++◌, take, option_map, string_bytes, option_to_list, session_of, is_nil}
+use Rattle.rx_live.specs.Listed.{open_text}
 use Rattle.rx_live.proofs.Listings.{names_at}
 use Rattle.rx_live.proofs.closing.push_all.Given as goal
 
