@@ -1,4 +1,5 @@
 pub mod Common
+pub mod StockIsUnused
 pub mod KeysByNumber
 pub mod MadeOfOptions
 pub mod Texts
@@ -36,4 +37,3 @@ pub mod EachCourse
 pub mod PossibleCourse
 pub mod WholeReport
 mod Examples
-pub mod StockGrowsByOne

@@ -1,5 +1,4 @@
 pub mod Boxes
-pub mod Marks
 pub mod Text
 pub mod Keys
 pub mod Lines

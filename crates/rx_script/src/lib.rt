@@ -13,8 +13,8 @@
 //!   is given. Nodes, hubs, resources and leases have a space of names each. A **connection** is a node; it
 //!   is named where a step gives a name for it and makes it. A step that is **refused** changes nothing and
 //!   binds nothing, and its resource goes back to the front of the stock.
-//! - The programs have one stock of their own, which [`stock`] makes: [`STOCK`] resources of the kinds [`Plain`],
-//!   [`Tally`] and [`Faulty`], by [`ResourceKind::by_tag`], each a [`Stocked`].
+//! - The programs have one stock of their own, which [`stock`] makes: [`STOCK`] resources, each a [`Stocked`] of the
+//!   kind, `Plain`, `Tally` or `Faulty`, that [`ResourceKind::by_tag`] says.
 //! - Steps come in virtual time (`rx_time`): each at the time that it waits for, those of one time in the
 //!   order in which they were scheduled. The one that is due begins a **turn**, in which the steps that
 //!   follow it without a delay come behind each other, and the next turn begins when this one is over.
@@ -80,7 +80,7 @@ mod shelf;
 mod tallies;
 mod text;
 
-pub use boxes::{Faulty, Plain, ResourceKind, STOCK, Stocked, Tally, stock};
+pub use boxes::{ResourceKind, STOCK, Stocked, stock};
 pub use closing::close;
 pub use laws::{courses_are_reported_alike, each_scenario_has_one_canonical_course};
 pub use running::run;
