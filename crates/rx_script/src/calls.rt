@@ -1,21 +1,20 @@
-//! Commands that make a call of the book as a value.
+//! One command of a scenario, carried out; most make a call of the book as a value.
 
 ghost use Rattle.std.specs.Prelude.{◌≡◌, true, false, IfOk, OnOk};
 ghost use Rattle.rx_scenario.specs.Scenario.{command_of};
 ghost use Rattle.rx_script.specs.KeyedCalls.{is_asked, keyed_call, rebinds, with_given};
 ghost use Rattle.rx_script.specs.Engine.{IsSound, Carries};
 
-use crate::connection::{bind_connection, is_taken};
-use crate::engine::{Engine, place_of, refused};
-use crate::opening::{connection_name, is_named_twice, kind_of};
+use crate::engine::{Engine, checkpoint, drain, hold, place_of, refused, using};
+use crate::opening::{bind_connection, connection_name, is_named_twice, is_taken, kind_of};
 use rx_agenda::{Answer, Cause};
 use rx_book::{Answer as Given, Call};
 use rx_resource::Resource;
 use rx_scenario::Command;
 use std::alloc::AllocError;
 
-/// The call that a command makes, with keys in place of names; None where a name is not bound, and of a command
-/// that makes none, or hands a resource in.
+// The call that a command makes, with keys in place of names; None where a name is not bound, and of a command
+// that makes none, or hands a resource in.
 fn keyed_call<R: Resource>(engine: &Engine<R>, command: &Command) -> Option<Call>
     ensures { result ≡ keyed_call engine.now (command_of command.now) }
 {
@@ -44,7 +43,7 @@ fn keyed_call<R: Resource>(engine: &Engine<R>, command: &Command) -> Option<Call
     }
 }
 
-/// Whether a command would bind a name that is bound, or one name twice.
+// Whether a command would bind a name that is bound, or one name twice.
 fn rebinds<R: Resource>(engine: &Engine<R>, command: &Command) -> bool
     ensures { result ≡ rebinds engine.now.nodes engine.now.hubs engine.now.leases (command_of command.now) }
 {
@@ -64,8 +63,8 @@ fn rebinds<R: Resource>(engine: &Engine<R>, command: &Command) -> bool
     }
 }
 
-/// Binds the name that a command gives to what its call gave: where it opens a subscriber for which its hub is
-/// connected, the connection gets a name too, if the step gives it one. Err where memory is refused.
+// Binds the name that a command gives to what its call gave: where it opens a subscriber for which its hub is
+// connected, the connection gets a name too, if the step gives it one. Err where memory is refused.
 fn bind<R: Resource>(
     engine: &mut Engine<R>,
     command: Command,
@@ -106,8 +105,8 @@ fn bind<R: Resource>(
     }
 }
 
-/// Makes the call of a command.
-pub fn ask<R: Resource>(engine: &mut Engine<R>, command: Command) -> Result<Answer, AllocError>
+// Makes the call of a command.
+fn ask<R: Resource>(engine: &mut Engine<R>, command: Command) -> Result<Answer, AllocError>
     requires sound { IsSound engine.old }
     requires asked { is_asked (command_of command) ≡ true }
     ensures { IfOk result (λ a. Carries engine.old (command_of command) a engine.new) }
@@ -125,5 +124,22 @@ pub fn ask<R: Resource>(engine: &mut Engine<R>, command: Command) -> Result<Answ
             Ok(Answer::Accepted)
         }
         Err(why) => refused(why),
+    }
+}
+
+/// Carries out one command. Err where memory was refused; then the scenario goes no further.
+pub fn execute<R: Resource>(engine: &mut Engine<R>, command: Command) -> Result<Answer, AllocError>
+    requires { IsSound engine.old }
+    ensures { IfOk result (λ a. Carries engine.old (command_of command) a engine.new) }
+{
+    match command {
+        Command::Using { name, place, res } => using(engine, name, &place, res),
+        Command::Hold { node, res } => hold(engine, node.as_str(), res),
+        Command::Drain => {
+            drain(engine);
+            Ok(Answer::Accepted)
+        }
+        Command::Checkpoint => checkpoint(engine),
+        other => ask(engine, other),
     }
 }

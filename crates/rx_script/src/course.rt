@@ -8,8 +8,8 @@ ghost use Rattle.rx_agenda.specs.Agenda.{with_steps, empty_agenda};
 ghost use Rattle.rx_agenda.specs.Shown.{agenda_of};
 ghost use Rattle.rx_script.specs.Engine.{MovesOn, IsSound, Performed, Followed};
 
+use crate::calls::execute;
 use crate::engine::Engine;
-use crate::execute::execute;
 use rx_agenda::{Agenda, Answer, add_all, cancel, empty_agenda, follow, next_step};
 use rx_resource::Resource;
 use rx_scenario::{Action, Step};

@@ -64,11 +64,9 @@
 mod boxes;
 mod calls;
 mod closing;
-mod connection;
 mod counting;
 mod course;
 mod engine;
-mod execute;
 mod gathering;
 mod laws;
 mod line;

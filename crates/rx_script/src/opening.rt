@@ -1,16 +1,16 @@
-//! The sorts of nodes that are to be opened.
+//! The sorts of nodes that are to be opened, and names for connections, which a step may give and may leave out.
 
-ghost use Rattle.std.specs.Prelude.{◌≡◌};
+ghost use Rattle.std.specs.Prelude.{◌≡◌, false, option_map, string_bytes, OnOk};
 ghost use Rattle.rx_scenario.specs.Scenario.{sort_of};
 ghost use Rattle.rx_script.specs.Stage.{connection_name};
-ghost use Rattle.rx_script.specs.Engine.{kind_of, is_taken_beside};
+ghost use Rattle.rx_script.specs.Engine.{kind_of, is_taken, is_taken_beside, with_named};
 ghost use Rattle.rx_script.specs.KeyedCalls.{connection_of};
 
-use crate::connection::is_taken_beside;
 use rx_agenda::Names;
 use rx_book::Key;
 use rx_event::Kind;
 use rx_scenario::Sort;
+use std::alloc::AllocError;
 
 /// The kind that a sort stands for; None where the name of a subscriber's hub is not bound.
 pub fn kind_of(hubs: &Names<u64>, sort: &Sort) -> Option<Kind>
@@ -36,12 +36,43 @@ pub fn connection_name(sort: Sort) -> Option<String>
     }
 }
 
-/// Whether that name is bound, or is this one of the node itself.
+/// Whether the name, where there is one, is bound.
+pub fn is_taken(nodes: &Names<Key>, name: &Option<String>) -> bool
+    ensures { result ≡ is_taken nodes.now (option_map string_bytes name.now) }
+{
+    match name {
+        Some(name) => nodes.is_bound(name.as_str()),
+        None => false,
+    }
+}
+
+/// Whether the name for the connection, where there is one, is bound, or is this one of the node itself.
 pub fn is_named_twice(nodes: &Names<Key>, node: &str, sort: &Sort) -> bool
     ensures { result ≡ is_taken_beside nodes.now node.now (connection_name (sort_of sort.now)) }
 {
     match sort {
-        Sort::Sub { hub: _, connection } => is_taken_beside(nodes, node, connection),
+        Sort::Sub { hub: _, connection } => match connection {
+            Some(name) => nodes.is_bound(name.as_str()) || node == name.as_str(),
+            None => false,
+        },
         Sort::Leaf | Sort::Pass | Sort::Flat | Sort::Switch | Sort::Until => false,
     }
+}
+
+/// Binds the name to the connection that was made, where there are both. Err where memory is refused.
+pub fn bind_connection(
+    nodes: &mut Names<Key>,
+    name: Option<String>,
+    made: Option<Key>,
+) -> Result<(), AllocError>
+    requires { is_taken nodes.old (option_map string_bytes name) ≡ false }
+    ensures { OnOk result (nodes.new ≡ with_named nodes.old name made) }
+{
+    let Some(name) = name else {
+        return Ok(());
+    };
+    let Some(key) = made else {
+        return Ok(());
+    };
+    nodes.bind(name, key)
 }
