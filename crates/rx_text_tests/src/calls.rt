@@ -11,7 +11,7 @@ use rx_cli::{Form, Order, order, refuse_bytes, serve, weathered};
 use rx_device::Watched;
 use rx_resource::Resource;
 use rx_scarce::Scarce;
-use rx_script::{Faulty, Plain, ResourceKind, Tally, stock};
+use rx_script::{ResourceKind, Stocked, stock};
 use std::alloc::{AllocError, Global};
 use std::io::{Read, Write};
 use std::process::Abort;
@@ -480,9 +480,9 @@ const KINDS: [(u64, ResourceKind); 6] = [
 #[test]
 fn the_stock_has_its_kinds_by_tag(rt: HostRuntime) -> Result<(), Fail> {
     same(&rt, stock(rt.alloc())?.len(), 256);
-    same(&rt, course_of(Plain::new(0)), ([12, 10], 2, Ok(())));
-    same(&rt, course_of(Tally::new(5)), ([12, 6], 2, Ok(())));
-    same(&rt, course_of(Faulty::new(3)), ([12, 10], 2, Err(2)));
+    same(&rt, course_of(Stocked::by_tag(0)), ([12, 10], 2, Ok(())));
+    same(&rt, course_of(Stocked::by_tag(5)), ([12, 6], 2, Ok(())));
+    same(&rt, course_of(Stocked::by_tag(3)), ([12, 10], 2, Err(2)));
     for (tag, kind) in KINDS {
         same(&rt, ResourceKind::by_tag(tag), kind);
     }
