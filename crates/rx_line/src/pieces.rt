@@ -2,12 +2,13 @@
 
 ghost use Rattle.std.specs.Prelude.{◌≡◌, ◌++◌, ◌+◌, ◌≤◌, length, string_bytes, IfOk};
 ghost use Rattle.std.specs.String.{string_len, string_capacity};
-ghost use Rattle.rx_line.specs.Pieces.{refusal_name, cause_name, faulty_text, to_text, next_text};
+ghost use Rattle.rx_line.specs.Pieces.{cause_name, faulty_text, to_text, next_text};
 ghost use Rattle.rx_line.specs.Pieces.{project_text, completed_text, error_text, note_text, ok_text, refused_text};
 
 use crate::outcome::Cause;
-use rx_event::{Refusal, Terminal};
+use rx_event::Terminal;
 use rx_note::Note;
+use rx_scenario::refusal_name;
 use serde_json::Value;
 use std::alloc::{AllocError, Global};
 
@@ -16,31 +17,6 @@ use std::alloc::{AllocError, Global};
 const PIECE: usize = 32;
 
 const NOTE: usize = 48;
-
-fn refusal_name(why: Refusal) -> &'static str
-    ensures { result.now ≡ refusal_name why }
-{
-    match why {
-        Refusal::NoMemory => "NoMemory",
-        Refusal::Full => "Full",
-        Refusal::Gone => "Gone",
-        Refusal::WrongKind => "WrongKind",
-        Refusal::PlaceTaken => "PlaceTaken",
-        Refusal::NothingOwed => "NothingOwed",
-        Refusal::NotRoot => "NotRoot",
-        Refusal::NoHub => "NoHub",
-        Refusal::HubOrder => "HubOrder",
-        Refusal::Connected => "Connected",
-        Refusal::NotConnected => "NotConnected",
-        Refusal::NotFresh => "NotFresh",
-        Refusal::NotHeld => "NotHeld",
-        Refusal::HasChild => "HasChild",
-        Refusal::TooMany => "TooMany",
-        Refusal::NoLease => "NoLease",
-        Refusal::Leased => "Leased",
-        Refusal::MailLeft => "MailLeft",
-    }
-}
 
 // The name of a cause.
 fn cause_name(why: Cause) -> &'static str

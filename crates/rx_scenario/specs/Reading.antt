@@ -1,9 +1,9 @@
 -- The scenario that a JSON value is.
-use Rattle.std.specs.Prelude.{ℕ, zero, suc, ◌&&◌, ◌||◌, not, ◌==◌, ◌^◌, ℤ, List, [], ◌∷◌, length, codes, Bool, true}
+use Rattle.std.specs.Prelude.{ℕ, zero, suc, ◌&&◌, ◌||◌, not, ◌==◌, ◌^◌, ℤ, List, [], ◌∷◌, ◌++◌, length, codes, Bool, true}
 use Rattle.std.specs.Prelude.{false, nat_lt, nat_le, is_some, if◌then◌else◌, Option, Some, None, option_map, option_and_then}
 use Rattle.std.specs.Str.{bytes_eq}
 use Rattle.std.specs.List.{list_all, list_any}
-use Rattle.serde_json.specs.Data.{Data, null, boolean, number, string, array, object, Items, no_items, item, Members, no_members, member}
+use Rattle.serde_json.specs.Data.{Data, object, Items, no_items, item, Members, no_members, member}
 use Rattle.serde_json.specs.Find.{get, as_str, as_number, as_u64, as_i64, as_array}
 use Rattle.rx_note.specs.declared.note.Terminal.{Terminal}
 use Rattle.rx_note.specs.declared.note.Terminal.TheVariants.{Completed, Error}
@@ -22,34 +22,14 @@ keys (member k d ms) = k ∷ keys ms
 unfoldable pub is_one_of : List (List ℕ) → List ℕ → Bool
 is_one_of names k = list_any (λ n. bytes_eq n k) names
 
--- no member has another name
-unfoldable pub has_only : List (List ℕ) → Members → Bool
-has_only names ms = list_all (is_one_of names) (keys ms)
-
 -- an object with no member of another name
 abbrev pub is_object_of : List (List ℕ) → Data → Bool
-is_object_of names null = false
-is_object_of names (boolean b) = false
-is_object_of names (number n) = false
-is_object_of names (string s) = false
-is_object_of names (array ds) = false
-is_object_of names (object ms) = has_only names ms
+is_object_of names (object ms) = list_all (is_one_of names) (keys ms)
+is_object_of names _ = false
 
 -- the members that every step may have
-abbrev pub is_of_steps : List ℕ → Bool
-is_of_steps k = is_one_of (codes "do" ∷ codes "label" ∷ codes "at" ∷ codes "after" ∷ codes "then" ∷ []) k
-
-unfoldable pub has_only_steps : List (List ℕ) → Members → Bool
-has_only_steps names ms = list_all (λ k. is_of_steps k || is_one_of names k) (keys ms)
-
--- an object with no member but these and those that every step may have
-abbrev pub is_step_of : List (List ℕ) → Data → Bool
-is_step_of names null = false
-is_step_of names (boolean b) = false
-is_step_of names (number n) = false
-is_step_of names (string s) = false
-is_step_of names (array ds) = false
-is_step_of names (object ms) = has_only_steps names ms
+abbrev pub step_members : List (List ℕ)
+step_members = codes "do" ∷ codes "label" ∷ codes "at" ∷ codes "after" ∷ codes "then" ∷ []
 
 -- names and numbers -------------------------------------------------------------------------------
 
@@ -158,107 +138,51 @@ mode_in d = option_and_then mode_by (option_and_then as_str (get (codes "mode") 
 
 -- commands ----------------------------------------------------------------------------------------
 
+-- the name that a command has first among just these members, beside those that every step may have
+unfoldable pub named : List (List ℕ) → Data → Option Name
+named [] d = None
+named (k ∷ ks) d = if is_object_of ((k ∷ ks) ++ step_members) d then name_in k d else None
+
+-- one that has no members of its own
+abbrev pub bare : Command → Data → Option Command
+bare c d = if is_object_of step_members d then Some c else None
+
 unfoldable pub using_of : Data → Option Command
 using_of d =
-    if is_step_of (codes "name" ∷ codes "place" ∷ codes "of" ∷ codes "res" ∷ []) d
-    then option_and_then (λ n. option_and_then (λ s. option_map (using n s) (name_in (codes "res") d)) (site_in d)) (name_in (codes "name") d)
-    else None
+    option_and_then (λ n. option_and_then (λ s. option_map (using n s) (name_in (codes "res") d)) (site_in d))
+    (named (codes "name" ∷ codes "place" ∷ codes "of" ∷ codes "res" ∷ []) d)
 
 unfoldable pub open_of : Data → Option Command
 open_of d =
-    if is_step_of (codes "name" ∷ codes "place" ∷ codes "of" ∷ codes "kind" ∷ codes "hub" ∷ codes "connection" ∷ []) d
-    then option_and_then (λ n. option_and_then (λ s. option_map (open_node n s) (kind_in d)) (site_in d)) (name_in (codes "name") d)
-    else None
+    option_and_then (λ n. option_and_then (λ s. option_map (open_node n s) (kind_in d)) (site_in d))
+    (named (codes "name" ∷ codes "place" ∷ codes "of" ∷ codes "kind" ∷ codes "hub" ∷ codes "connection" ∷ []) d)
 
 unfoldable pub hold_of : Data → Option Command
-hold_of d =
-    if is_step_of (codes "node" ∷ codes "res" ∷ []) d
-    then option_and_then (λ n. option_map (hold n) (name_in (codes "res") d)) (name_in (codes "node") d)
-    else None
+hold_of d = option_and_then (λ n. option_map (hold n) (name_in (codes "res") d)) (named (codes "node" ∷ codes "res" ∷ []) d)
 
 unfoldable pub apply_of : Data → Option Command
-apply_of d =
-    if is_step_of (codes "res" ∷ codes "word" ∷ []) d
-    then option_and_then (λ r. option_map (apply r) (word_in d)) (name_in (codes "res") d)
-    else None
-
-unfoldable pub remove_of : Data → Option Command
-remove_of d =
-    if is_step_of (codes "res" ∷ []) d
-    then option_map remove (name_in (codes "res") d)
-    else None
+apply_of d = option_and_then (λ r. option_map (apply r) (word_in d)) (named (codes "res" ∷ codes "word" ∷ []) d)
 
 unfoldable pub lease_of : Data → Option Command
-lease_of d =
-    if is_step_of (codes "res" ∷ codes "name" ∷ []) d
-    then option_and_then (λ r. option_map (lease r) (name_in (codes "name") d)) (name_in (codes "res") d)
-    else None
-
-unfoldable pub return_of : Data → Option Command
-return_of d =
-    if is_step_of (codes "lease" ∷ []) d
-    then option_map give_back (name_in (codes "lease") d)
-    else None
+lease_of d = option_and_then (λ r. option_map (lease r) (name_in (codes "name") d)) (named (codes "res" ∷ codes "name" ∷ []) d)
 
 unfoldable pub next_of : Data → Option Command
-next_of d =
-    if is_step_of (codes "node" ∷ codes "value" ∷ []) d
-    then option_and_then (λ n. option_map (next n) (value_in d)) (name_in (codes "node") d)
-    else None
+next_of d = option_and_then (λ n. option_map (next n) (value_in d)) (named (codes "node" ∷ codes "value" ∷ []) d)
 
 unfoldable pub end_of : Data → Option Command
-end_of d =
-    if is_step_of (codes "node" ∷ codes "error" ∷ []) d
-    then option_and_then (λ n. option_map (end n) (terminal_in d)) (name_in (codes "node") d)
-    else None
+end_of d = option_and_then (λ n. option_map (end n) (terminal_in d)) (named (codes "node" ∷ codes "error" ∷ []) d)
 
 unfoldable pub abort_of : Data → Option Command
-abort_of d =
-    if is_step_of (codes "node" ∷ codes "error" ∷ []) d
-    then option_and_then (λ n. option_map (abort n) (code_in d)) (name_in (codes "node") d)
-    else None
-
-unfoldable pub decline_of : Data → Option Command
-decline_of d =
-    if is_step_of (codes "node" ∷ []) d
-    then option_map decline (name_in (codes "node") d)
-    else None
+abort_of d = option_and_then (λ n. option_map (abort n) (code_in d)) (named (codes "node" ∷ codes "error" ∷ []) d)
 
 unfoldable pub fail_of : Data → Option Command
-fail_of d =
-    if is_step_of (codes "node" ∷ codes "error" ∷ []) d
-    then option_and_then (λ n. option_map (fail n) (code_in d)) (name_in (codes "node") d)
-    else None
-
-unfoldable pub dispose_of : Data → Option Command
-dispose_of d =
-    if is_step_of (codes "node" ∷ []) d
-    then option_map dispose (name_in (codes "node") d)
-    else None
+fail_of d = option_and_then (λ n. option_map (fail n) (code_in d)) (named (codes "node" ∷ codes "error" ∷ []) d)
 
 unfoldable pub hub_of : Data → Option Command
-hub_of d =
-    if is_step_of (codes "name" ∷ codes "mode" ∷ []) d
-    then option_and_then (λ n. option_map (make_hub n) (mode_in d)) (name_in (codes "name") d)
-    else None
+hub_of d = option_and_then (λ n. option_map (make_hub n) (mode_in d)) (named (codes "name" ∷ codes "mode" ∷ []) d)
 
 unfoldable pub connect_of : Data → Option Command
-connect_of d =
-    if is_step_of (codes "hub" ∷ codes "name" ∷ []) d
-    then option_and_then (λ h. option_map (connect h) (optional_name_in (codes "name") d)) (name_in (codes "hub") d)
-    else None
-
-unfoldable pub disconnect_of : Data → Option Command
-disconnect_of d =
-    if is_step_of (codes "hub" ∷ []) d
-    then option_map disconnect (name_in (codes "hub") d)
-    else None
-
-unfoldable pub drain_of : Data → Option Command
-drain_of d = if is_step_of [] d then Some drain else None
-
-unfoldable pub checkpoint_of : Data → Option Command
-checkpoint_of d = if is_step_of [] d then Some checkpoint else None
+connect_of d = option_and_then (λ h. option_map (connect h) (optional_name_in (codes "name") d)) (named (codes "hub" ∷ codes "name" ∷ []) d)
 
 unfoldable pub command_by : List ℕ → Data → Option Command
 command_by what d =
@@ -266,27 +190,24 @@ command_by what d =
     else if bytes_eq what (codes "open") then open_of d
     else if bytes_eq what (codes "hold") then hold_of d
     else if bytes_eq what (codes "apply") then apply_of d
-    else if bytes_eq what (codes "remove") then remove_of d
+    else if bytes_eq what (codes "remove") then option_map remove (named (codes "res" ∷ []) d)
     else if bytes_eq what (codes "lease") then lease_of d
-    else if bytes_eq what (codes "return") then return_of d
+    else if bytes_eq what (codes "return") then option_map give_back (named (codes "lease" ∷ []) d)
     else if bytes_eq what (codes "next") then next_of d
     else if bytes_eq what (codes "end") then end_of d
     else if bytes_eq what (codes "abort") then abort_of d
-    else if bytes_eq what (codes "decline") then decline_of d
+    else if bytes_eq what (codes "decline") then option_map decline (named (codes "node" ∷ []) d)
     else if bytes_eq what (codes "fail") then fail_of d
-    else if bytes_eq what (codes "dispose") then dispose_of d
+    else if bytes_eq what (codes "dispose") then option_map dispose (named (codes "node" ∷ []) d)
     else if bytes_eq what (codes "hub") then hub_of d
     else if bytes_eq what (codes "connect") then connect_of d
-    else if bytes_eq what (codes "disconnect") then disconnect_of d
-    else if bytes_eq what (codes "drain") then drain_of d
-    else if bytes_eq what (codes "checkpoint") then checkpoint_of d
+    else if bytes_eq what (codes "disconnect") then option_map disconnect (named (codes "hub" ∷ []) d)
+    else if bytes_eq what (codes "drain") then bare drain d
+    else if bytes_eq what (codes "checkpoint") then bare checkpoint d
     else None
 
-unfoldable pub cancel_of : Data → Option Action
-cancel_of d = if is_step_of (codes "step" ∷ []) d then option_map cancel (name_in (codes "step") d) else None
-
 unfoldable pub action_by : List ℕ → Data → Option Action
-action_by what d = if bytes_eq what (codes "cancel") then cancel_of d else option_map command (command_by what d)
+action_by what d = if bytes_eq what (codes "cancel") then option_map cancel (named (codes "step" ∷ []) d) else option_map command (command_by what d)
 
 -- what a step does, by its member `do`
 unfoldable pub action_in : Data → Option Action
@@ -356,30 +277,21 @@ if_fitting ss = if nat_le (length (labels_in (steps_of ss))) 65536 && are_new []
 unfoldable pub steps_in : Data → Option (List Step)
 steps_in d = option_and_then if_fitting (option_and_then (each_step (step_in false 16)) (option_and_then as_array (get (codes "steps") d)))
 
-abbrev pub if_limit : ℕ → Option ℕ
-if_limit n = if nat_le 1 n && nat_lt n (2 ^ 32) then Some n else None
+abbrev pub if_between : ℕ → ℕ → ℕ → Option ℕ
+if_between least most n = if nat_le least n && nat_le n most then Some n else None
 
-abbrev pub events_or : Option Data → Option ℕ
-events_or None = Some 1048576
-events_or (Some d) = option_and_then if_limit (option_and_then as_u64 (as_number d))
+abbrev pub number_or : ℕ → ℕ → ℕ → Option Data → Option ℕ
+number_or least most absent None = Some absent
+number_or least most absent (Some d) = option_and_then (if_between least most) (option_and_then as_u64 (as_number d))
 
--- the limit of events, 1 to 4,294,967,295, and 1,048,576 where none is given
-unfoldable pub events_in : Data → Option ℕ
-events_in d = events_or (get (codes "events") d)
+-- a number of this range at a key, and this one where there is no such member
+unfoldable pub number_in : List ℕ → ℕ → ℕ → ℕ → Data → Option ℕ
+number_in k least most absent d = number_or least most absent (get k d)
 
-abbrev pub if_end : ℕ → Option ℕ
-if_end n = if nat_le n 1000000000000000 then Some n else None
-
-abbrev pub until_or : Option Data → Option ℕ
-until_or None = Some 1000000000000000
-until_or (Some d) = option_and_then if_end (option_and_then as_u64 (as_number d))
-
--- when time ends, at most 1,000,000,000,000,000, which it is where none is given
-unfoldable pub until_in : Data → Option ℕ
-until_in d = until_or (get (codes "until") d)
-
+-- the steps, the limit of events, and when time ends
 unfoldable pub scenario_of : Data → Option Script
 scenario_of d =
     if is_object_of (codes "steps" ∷ codes "events" ∷ codes "until" ∷ []) d
-    then option_and_then (λ ss. option_and_then (λ n. option_map (λ u. record { steps = ss; events = n; until = u }) (until_in d)) (events_in d)) (steps_in d)
+    then option_and_then (λ ss. option_and_then (λ n. option_map (λ u. record { steps = ss; events = n; until = u })
+    (number_in (codes "until") 0 1000000000000000 1000000000000000 d)) (number_in (codes "events") 1 4294967295 1048576 d)) (steps_in d)
     else None

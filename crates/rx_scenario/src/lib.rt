@@ -7,6 +7,7 @@
 //!   [`Command`] of the book but for the one that takes a waiting step off; and it may be followed by
 //!   other steps. A command goes by the names that earlier ones gave to nodes, hubs, resources and
 //!   leases; a [`Site`] is where a node is opened, and a [`Sort`] is what it does.
+//! - [`refusal_name`] is what texts call a refusal.
 //! - Contracts see names as their bytes (`specs/Scenario.antt`). Which JSON values are scenarios, and
 //!   which scenario, is defined in `specs/Reading.antt`; [`scenario_of`] decides it.
 //!
@@ -17,15 +18,16 @@
 //!   it. That `Memory` is given only where memory was refused is tested above.
 //! - [`has_checkpoint`] says whether any of these steps makes a checkpoint, those that follow others and
 //!   those that are never executed included (`specs/Checkpoints.antt`).
-//! - There are the commands `using`, `open`, `hold`, `apply`, `remove`, `lease`, `return`, `next`,
-//!   `end`, `abort`, `decline`, `fail`, `dispose`, `hub`, `connect`, `disconnect`, `drain`, `checkpoint`
-//!   and `cancel`, at every place, for every kind of node. Anything else is `Shape`.
+//! - There is a word for each [`Command`], and `cancel`, at every place, for every kind of node. Anything else
+//!   is `Shape`.
 #![tactic(auto)]
 
 mod checkpoints;
 mod reading;
+mod refusal;
 mod scenario;
 
 pub use checkpoints::has_checkpoint;
 pub use reading::{action_in, is_name, is_object_of, kind_in, name_in, scenario_of, site_in};
+pub use refusal::refusal_name;
 pub use scenario::{Action, Command, Scenario, Site, Sort, Step, Ticks};

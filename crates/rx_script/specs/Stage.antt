@@ -18,7 +18,7 @@ use Rattle.rx_agenda.specs.declared.answer.Cause.TheVariants.{NoName, NameTaken,
 use Rattle.rx_agenda.specs.Bindings.{Binding, bound, is_unbound, is_bound, with_binding}
 use Rattle.rx_scenario.specs.Scenario.{Name, Site, root, source, inner, notifier, Sort, leaf, pass, flat, switch}
 use Rattle.rx_scenario.specs.Scenario.{until, sub, Command, using, open_node, hold, apply, remove, lease, give_back}
-use Rattle.rx_scenario.specs.Scenario.{next, end, abort, decline, fail, dispose, make_hub, connect, disconnect, drain, checkpoint}
+use Rattle.rx_scenario.specs.Scenario.{next, end, abort, decline, fail, dispose, make_hub, connect, disconnect, checkpoint}
 
 -- a resource of the stock: its tag, and whether a book would take it
 pub record Ware : Type 0 where
@@ -72,11 +72,9 @@ lacks_name s (abort node code) = is_unbound s.nodes node
 lacks_name s (decline node) = is_unbound s.nodes node
 lacks_name s (fail node code) = is_unbound s.nodes node
 lacks_name s (dispose node) = is_unbound s.nodes node
-lacks_name s (make_hub name mode) = false
 lacks_name s (connect hub name) = is_unbound s.hubs hub
 lacks_name s (disconnect hub) = is_unbound s.hubs hub
-lacks_name s drain = false
-lacks_name s checkpoint = false
+lacks_name s _ = false
 
 -- the name for the connection that the opening of a subscriber makes, if it is given one
 abbrev pub connection_name : Sort → Option Name
@@ -88,21 +86,10 @@ abbrev pub takes_name : Stage → Command → Bool
 takes_name s (using name site res) = is_bound s.nodes name || is_bound s.resources res
 takes_name s (open_node name site sort) = is_bound s.nodes name || option_map_or (λ c. is_bound s.nodes c || bytes_eq name c) (connection_name sort) false
 takes_name s (hold node res) = is_bound s.resources res
-takes_name s (apply res word) = false
-takes_name s (remove res) = false
 takes_name s (lease res name) = is_bound s.leases name
-takes_name s (give_back name) = false
-takes_name s (next node value) = false
-takes_name s (end node t) = false
-takes_name s (abort node code) = false
-takes_name s (decline node) = false
-takes_name s (fail node code) = false
-takes_name s (dispose node) = false
 takes_name s (make_hub name mode) = is_bound s.hubs name
 takes_name s (connect hub name) = option_map_or (is_bound s.nodes) name false
-takes_name s (disconnect hub) = false
-takes_name s drain = false
-takes_name s checkpoint = false
+takes_name s _ = false
 
 abbrev pub is_empty : List Ware → Bool
 is_empty [] = true
@@ -111,23 +98,8 @@ is_empty (ware ∷ stock) = false
 -- it takes a resource of the stock, and none is left
 abbrev pub lacks_stock : Stage → Command → Bool
 lacks_stock s (using name site res) = is_empty s.stock
-lacks_stock s (open_node name site sort) = false
 lacks_stock s (hold node res) = is_empty s.stock
-lacks_stock s (apply res word) = false
-lacks_stock s (remove res) = false
-lacks_stock s (lease res name) = false
-lacks_stock s (give_back name) = false
-lacks_stock s (next node value) = false
-lacks_stock s (end node t) = false
-lacks_stock s (abort node code) = false
-lacks_stock s (decline node) = false
-lacks_stock s (fail node code) = false
-lacks_stock s (dispose node) = false
-lacks_stock s (make_hub name mode) = false
-lacks_stock s (connect hub name) = false
-lacks_stock s (disconnect hub) = false
-lacks_stock s drain = false
-lacks_stock s checkpoint = false
+lacks_stock s _ = false
 
 -- the first of these that stands
 abbrev pub own_cause : Stage → Command → Option Cause
@@ -179,8 +151,7 @@ call_of s (dispose node) = option_map Disposing (bound s.nodes node)
 call_of s (make_hub name mode) = Some (Publishing mode)
 call_of s (connect hub name) = option_map Connecting (bound s.hubs hub)
 call_of s (disconnect hub) = option_map Disconnecting (bound s.hubs hub)
-call_of s drain = None
-call_of s checkpoint = None
+call_of s _ = None
 
 -- what follows -------------------------------------------------------------------------------------
 
@@ -202,18 +173,8 @@ after s (using name site res) k = record s {
 after s (open_node name site sort) k =
     record s { history = k; nodes = with_connection (with_binding s.nodes name (length s.history)) (connection_name sort) (connection_made s.history k) }
 after s (hold node res) k = record s { history = k; resources = with_binding s.resources res (length s.history); stock = drop 1 s.stock }
-after s (apply res word) k = record s { history = k }
-after s (remove res) k = record s { history = k }
 after s (lease res name) k = record s { history = k; leases = with_binding s.leases name (length s.history) }
-after s (give_back name) k = record s { history = k }
-after s (next node value) k = record s { history = k }
-after s (end node t) k = record s { history = k }
-after s (abort node code) k = record s { history = k }
-after s (decline node) k = record s { history = k }
-after s (fail node code) k = record s { history = k }
-after s (dispose node) k = record s { history = k }
 after s (make_hub name mode) k = record s { history = k; hubs = with_binding s.hubs name (length s.history) }
 after s (connect hub name) k = record s { history = k; nodes = with_connection s.nodes name (Some (length s.history)) }
-after s (disconnect hub) k = record s { history = k }
-after s drain k = record s { history = k }
 after s checkpoint k = record s { history = k; checked = length k }
+after s _ k = record s { history = k }

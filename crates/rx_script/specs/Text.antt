@@ -4,9 +4,6 @@ use Rattle.std.specs.Fmt.{decimal, signed_decimal}
 use Rattle.rx_note.specs.declared.note.Terminal.TheVariants.{Completed, Error}
 use Rattle.rx_note.specs.declared.note.Note.{Note}
 use Rattle.rx_note.specs.declared.note.Note.TheVariants.{Next, Project, End}
-use Rattle.rx_event.specs.declared.refusal.Refusal.{Refusal}
-use Rattle.rx_event.specs.declared.refusal.Refusal.TheVariants.{NoMemory, Full, Gone, WrongKind, PlaceTaken, NothingOwed, NotRoot, NoHub, HubOrder}
-use Rattle.rx_event.specs.declared.refusal.Refusal.TheVariants.{Connected, NotConnected, NotFresh, NotHeld, HasChild, TooMany, NoLease, Leased, MailLeft}
 use Rattle.rx_agenda.specs.declared.answer.Answer.{Answer}
 use Rattle.rx_agenda.specs.declared.answer.Answer.TheVariants.{Accepted, Refused}
 use Rattle.rx_agenda.specs.declared.answer.Cause.{Cause}
@@ -15,29 +12,10 @@ use Rattle.rx_script.specs.declared.line.Whereabouts.{Whereabouts}
 use Rattle.rx_script.specs.declared.line.Whereabouts.TheVariants.{Held, Waiting, Taken}
 use Rattle.rx_script.specs.declared.line.Account.{Account}
 use Rattle.rx_script.specs.declared.line.Totals.{Totals}
+use Rattle.rx_scenario.specs.Refusals.{refusal_name}
 use Rattle.rx_scenario.specs.Scenario.{Name}
 
 -- refused steps ------------------------------------------------------------------------------------
-
-abbrev pub refusal_name : Refusal → List ℕ
-refusal_name NoMemory = codes "NoMemory"
-refusal_name Full = codes "Full"
-refusal_name Gone = codes "Gone"
-refusal_name WrongKind = codes "WrongKind"
-refusal_name PlaceTaken = codes "PlaceTaken"
-refusal_name NothingOwed = codes "NothingOwed"
-refusal_name NotRoot = codes "NotRoot"
-refusal_name NoHub = codes "NoHub"
-refusal_name HubOrder = codes "HubOrder"
-refusal_name Connected = codes "Connected"
-refusal_name NotConnected = codes "NotConnected"
-refusal_name NotFresh = codes "NotFresh"
-refusal_name NotHeld = codes "NotHeld"
-refusal_name HasChild = codes "HasChild"
-refusal_name TooMany = codes "TooMany"
-refusal_name NoLease = codes "NoLease"
-refusal_name Leased = codes "Leased"
-refusal_name MailLeft = codes "MailLeft"
 
 abbrev pub cause_name : Cause → List ℕ
 cause_name NoName = codes "NoName"

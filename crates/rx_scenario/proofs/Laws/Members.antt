@@ -1,6 +1,6 @@
 -- Tests on members' names: on one, and on all through the views of a map and of a list of texts.
 use Rattle.std.proofs.Common.{◌≡◌, ◌≢◌, ℕ, List, [], ◌∷◌, Bool, true, false, Decides, map, refl, sym, ap, ◌∙◌, Global, rules}
-use Rattle.std.specs.Prelude.{◌&&◌, ◌||◌}
+use Rattle.std.specs.Prelude.{◌&&◌, ◌||◌, ◌++◌, Some, None, slice_get, if◌then◌else◌}
 use Rattle.std.specs.Str.{bytes_eq}
 use Rattle.std.specs.List.{list_all, list_any}
 use Rattle.std.proofs.lemmas.Slice.Eq.{bytes_eq-Decides}
@@ -14,7 +14,8 @@ use Rattle.json.specs.Value.{value_view, members_view}
 use Rattle.json.specs.declared.value.Value.{Value}
 use Rattle.serde_json.specs.Data.{Data, Members, no_members, member, put}
 use Rattle.rx_device.specs.Part.{data_of, members_data}
-use Rattle.rx_scenario.specs.Reading.{keys}
+use Rattle.std.proofs.lemmas.Option.{none-some, same_Some}
+use Rattle.rx_scenario.specs.Reading.{keys, named, name_in, is_object_of, step_members}
 
 in_turn : (a b c : Bool) → (b && (a && c)) ≡ ((a && b) && c)
 in_turn x0 b c = search rules
@@ -56,3 +57,10 @@ list_all_keys p (m ∷ ms) found =
 
 pub bytes_eq-other : (xs ys : List ℕ) → ys ≢ xs → bytes_eq xs ys ≡ false
 bytes_eq-other xs ys other = search (rules, bytes_eq-Decides, Bool, Decides)
+
+-- the first of a list of names is the one that `named` reads
+pub named_first : (members : List (Bor (List ℕ))) (key : Bor (List ℕ)) (d : Data) → slice_get members 0 ≡ Some key
+    → named (map (λ (s : Bor (List ℕ)). s.now) members) d
+    ≡ (if is_object_of (map (λ (s : Bor (List ℕ)). s.now) members ++ step_members) d then name_in key.now d else None)
+unfolding named
+named_first members key d is = search (rules, same_Some, none-some)

@@ -1,11 +1,11 @@
 //! What a step does, by its member `do`.
 
+ghost use Rattle.std.specs.Prelude.{map, string_bytes};
 ghost use Rattle.rx_device.specs.Part.{part_data};
 ghost use Rattle.rx_scenario.specs.Scenario.{command_of as command_meant, action_of as action_meant};
 ghost use Rattle.rx_device.specs.Gives.{Gives};
-ghost use Rattle.rx_scenario.specs.Reading.{using_of, open_of, hold_of, apply_of, remove_of, lease_of, return_of};
-ghost use Rattle.rx_scenario.specs.Reading.{next_of, end_of, abort_of, decline_of, fail_of, dispose_of, hub_of};
-ghost use Rattle.rx_scenario.specs.Reading.{connect_of, disconnect_of, drain_of, checkpoint_of, command_by, cancel_of, action_by, action_in};
+ghost use Rattle.rx_scenario.specs.Reading.{named, bare, using_of, open_of, hold_of, apply_of, lease_of, next_of, end_of, abort_of};
+ghost use Rattle.rx_scenario.specs.Reading.{fail_of, hub_of, connect_of, command_by, action_by, action_in};
 
 use super::members::{
     code_in, is_step_of, kind_in, mode_in, name_in, optional_name_in, site_in, terminal_in,
@@ -15,14 +15,35 @@ use crate::scenario::{Action, Command};
 use rx_device::{Part, ShapeError};
 use std::alloc::Global;
 
+// The name that a command has first among just these members, beside those that every step may have.
+#[tactic(auto, unfolding(crate::specs::Reading::named), using(crate::proofs::Laws::Members::named_first))]
+fn named(alloc: Global, object: Part<'_, '_>, members: &[&str]) -> Result<String, ShapeError>
+    ensures { Gives string_bytes result (named (map (λ s. s.now) members.now) (part_data object.entry)) }
+{
+    let Some(key) = members.first() else {
+        return Err(ShapeError::Shape);
+    };
+    if !is_step_of(object, members) {
+        return Err(ShapeError::Shape);
+    }
+    name_in(alloc, object, key)
+}
+
+// A command that has no members of its own.
+fn bare(object: Part<'_, '_>, command: Command) -> Result<Command, ShapeError>
+    ensures { Gives command_meant result (bare (command_meant command) (part_data object.entry)) }
+{
+    if !is_step_of(object, &[]) {
+        return Err(ShapeError::Shape);
+    }
+    Ok(command)
+}
+
 #[tactic(auto, unfolding(crate::specs::Reading::using_of))]
 fn using_of(alloc: Global, object: Part<'_, '_>) -> Result<Command, ShapeError>
     ensures { Gives command_meant result (using_of (part_data object.entry)) }
 {
-    if !is_step_of(object, &["name", "place", "of", "res"]) {
-        return Err(ShapeError::Shape);
-    }
-    let name = name_in(alloc, object, "name")?;
+    let name = named(alloc, object, &["name", "place", "of", "res"])?;
     let place = site_in(alloc, object)?;
     let res = name_in(alloc, object, "res")?;
     Ok(Command::Using { name, place, res })
@@ -32,13 +53,11 @@ fn using_of(alloc: Global, object: Part<'_, '_>) -> Result<Command, ShapeError>
 fn open_of(alloc: Global, object: Part<'_, '_>) -> Result<Command, ShapeError>
     ensures { Gives command_meant result (open_of (part_data object.entry)) }
 {
-    if !is_step_of(
+    let name = named(
+        alloc,
         object,
         &["name", "place", "of", "kind", "hub", "connection"],
-    ) {
-        return Err(ShapeError::Shape);
-    }
-    let name = name_in(alloc, object, "name")?;
+    )?;
     let place = site_in(alloc, object)?;
     let kind = kind_in(alloc, object)?;
     Ok(Command::Open { name, place, kind })
@@ -48,10 +67,7 @@ fn open_of(alloc: Global, object: Part<'_, '_>) -> Result<Command, ShapeError>
 fn hold_of(alloc: Global, object: Part<'_, '_>) -> Result<Command, ShapeError>
     ensures { Gives command_meant result (hold_of (part_data object.entry)) }
 {
-    if !is_step_of(object, &["node", "res"]) {
-        return Err(ShapeError::Shape);
-    }
-    let node = name_in(alloc, object, "node")?;
+    let node = named(alloc, object, &["node", "res"])?;
     let res = name_in(alloc, object, "res")?;
     Ok(Command::Hold { node, res })
 }
@@ -60,56 +76,25 @@ fn hold_of(alloc: Global, object: Part<'_, '_>) -> Result<Command, ShapeError>
 fn apply_of(alloc: Global, object: Part<'_, '_>) -> Result<Command, ShapeError>
     ensures { Gives command_meant result (apply_of (part_data object.entry)) }
 {
-    if !is_step_of(object, &["res", "word"]) {
-        return Err(ShapeError::Shape);
-    }
-    let res = name_in(alloc, object, "res")?;
+    let res = named(alloc, object, &["res", "word"])?;
     let word = word_in(object)?;
     Ok(Command::Apply { res, word })
-}
-
-#[tactic(auto, unfolding(crate::specs::Reading::remove_of))]
-fn remove_of(alloc: Global, object: Part<'_, '_>) -> Result<Command, ShapeError>
-    ensures { Gives command_meant result (remove_of (part_data object.entry)) }
-{
-    if !is_step_of(object, &["res"]) {
-        return Err(ShapeError::Shape);
-    }
-    let res = name_in(alloc, object, "res")?;
-    Ok(Command::Remove { res })
 }
 
 #[tactic(auto, unfolding(crate::specs::Reading::lease_of))]
 fn lease_of(alloc: Global, object: Part<'_, '_>) -> Result<Command, ShapeError>
     ensures { Gives command_meant result (lease_of (part_data object.entry)) }
 {
-    if !is_step_of(object, &["res", "name"]) {
-        return Err(ShapeError::Shape);
-    }
-    let res = name_in(alloc, object, "res")?;
+    let res = named(alloc, object, &["res", "name"])?;
     let name = name_in(alloc, object, "name")?;
     Ok(Command::Lease { res, name })
-}
-
-#[tactic(auto, unfolding(crate::specs::Reading::return_of))]
-fn return_of(alloc: Global, object: Part<'_, '_>) -> Result<Command, ShapeError>
-    ensures { Gives command_meant result (return_of (part_data object.entry)) }
-{
-    if !is_step_of(object, &["lease"]) {
-        return Err(ShapeError::Shape);
-    }
-    let lease = name_in(alloc, object, "lease")?;
-    Ok(Command::Return { lease })
 }
 
 #[tactic(auto, unfolding(crate::specs::Reading::next_of))]
 fn next_of(alloc: Global, object: Part<'_, '_>) -> Result<Command, ShapeError>
     ensures { Gives command_meant result (next_of (part_data object.entry)) }
 {
-    if !is_step_of(object, &["node", "value"]) {
-        return Err(ShapeError::Shape);
-    }
-    let node = name_in(alloc, object, "node")?;
+    let node = named(alloc, object, &["node", "value"])?;
     let value = value_in(object)?;
     Ok(Command::Next { node, value })
 }
@@ -118,10 +103,7 @@ fn next_of(alloc: Global, object: Part<'_, '_>) -> Result<Command, ShapeError>
 fn end_of(alloc: Global, object: Part<'_, '_>) -> Result<Command, ShapeError>
     ensures { Gives command_meant result (end_of (part_data object.entry)) }
 {
-    if !is_step_of(object, &["node", "error"]) {
-        return Err(ShapeError::Shape);
-    }
-    let node = name_in(alloc, object, "node")?;
+    let node = named(alloc, object, &["node", "error"])?;
     let terminal = terminal_in(object)?;
     Ok(Command::End { node, terminal })
 }
@@ -130,56 +112,25 @@ fn end_of(alloc: Global, object: Part<'_, '_>) -> Result<Command, ShapeError>
 fn abort_of(alloc: Global, object: Part<'_, '_>) -> Result<Command, ShapeError>
     ensures { Gives command_meant result (abort_of (part_data object.entry)) }
 {
-    if !is_step_of(object, &["node", "error"]) {
-        return Err(ShapeError::Shape);
-    }
-    let node = name_in(alloc, object, "node")?;
+    let node = named(alloc, object, &["node", "error"])?;
     let code = code_in(object)?;
     Ok(Command::Abort { node, code })
-}
-
-#[tactic(auto, unfolding(crate::specs::Reading::decline_of))]
-fn decline_of(alloc: Global, object: Part<'_, '_>) -> Result<Command, ShapeError>
-    ensures { Gives command_meant result (decline_of (part_data object.entry)) }
-{
-    if !is_step_of(object, &["node"]) {
-        return Err(ShapeError::Shape);
-    }
-    let node = name_in(alloc, object, "node")?;
-    Ok(Command::Decline { node })
 }
 
 #[tactic(auto, unfolding(crate::specs::Reading::fail_of))]
 fn fail_of(alloc: Global, object: Part<'_, '_>) -> Result<Command, ShapeError>
     ensures { Gives command_meant result (fail_of (part_data object.entry)) }
 {
-    if !is_step_of(object, &["node", "error"]) {
-        return Err(ShapeError::Shape);
-    }
-    let node = name_in(alloc, object, "node")?;
+    let node = named(alloc, object, &["node", "error"])?;
     let code = code_in(object)?;
     Ok(Command::Fail { node, code })
-}
-
-#[tactic(auto, unfolding(crate::specs::Reading::dispose_of))]
-fn dispose_of(alloc: Global, object: Part<'_, '_>) -> Result<Command, ShapeError>
-    ensures { Gives command_meant result (dispose_of (part_data object.entry)) }
-{
-    if !is_step_of(object, &["node"]) {
-        return Err(ShapeError::Shape);
-    }
-    let node = name_in(alloc, object, "node")?;
-    Ok(Command::Dispose { node })
 }
 
 #[tactic(auto, unfolding(crate::specs::Reading::hub_of))]
 fn hub_of(alloc: Global, object: Part<'_, '_>) -> Result<Command, ShapeError>
     ensures { Gives command_meant result (hub_of (part_data object.entry)) }
 {
-    if !is_step_of(object, &["name", "mode"]) {
-        return Err(ShapeError::Shape);
-    }
-    let name = name_in(alloc, object, "name")?;
+    let name = named(alloc, object, &["name", "mode"])?;
     let mode = mode_in(object)?;
     Ok(Command::Hub { name, mode })
 }
@@ -188,43 +139,9 @@ fn hub_of(alloc: Global, object: Part<'_, '_>) -> Result<Command, ShapeError>
 fn connect_of(alloc: Global, object: Part<'_, '_>) -> Result<Command, ShapeError>
     ensures { Gives command_meant result (connect_of (part_data object.entry)) }
 {
-    if !is_step_of(object, &["hub", "name"]) {
-        return Err(ShapeError::Shape);
-    }
-    let hub = name_in(alloc, object, "hub")?;
+    let hub = named(alloc, object, &["hub", "name"])?;
     let name = optional_name_in(alloc, object, "name")?;
     Ok(Command::Connect { hub, name })
-}
-
-#[tactic(auto, unfolding(crate::specs::Reading::disconnect_of))]
-fn disconnect_of(alloc: Global, object: Part<'_, '_>) -> Result<Command, ShapeError>
-    ensures { Gives command_meant result (disconnect_of (part_data object.entry)) }
-{
-    if !is_step_of(object, &["hub"]) {
-        return Err(ShapeError::Shape);
-    }
-    let hub = name_in(alloc, object, "hub")?;
-    Ok(Command::Disconnect { hub })
-}
-
-#[tactic(auto, unfolding(crate::specs::Reading::drain_of))]
-fn drain_of(object: Part<'_, '_>) -> Result<Command, ShapeError>
-    ensures { Gives command_meant result (drain_of (part_data object.entry)) }
-{
-    if !is_step_of(object, &[]) {
-        return Err(ShapeError::Shape);
-    }
-    Ok(Command::Drain)
-}
-
-#[tactic(auto, unfolding(crate::specs::Reading::checkpoint_of))]
-fn checkpoint_of(object: Part<'_, '_>) -> Result<Command, ShapeError>
-    ensures { Gives command_meant result (checkpoint_of (part_data object.entry)) }
-{
-    if !is_step_of(object, &[]) {
-        return Err(ShapeError::Shape);
-    }
-    Ok(Command::Checkpoint)
 }
 
 #[tactic(auto, unfolding(crate::specs::Reading::command_by))]
@@ -236,32 +153,32 @@ fn command_by(alloc: Global, what: &str, object: Part<'_, '_>) -> Result<Command
         "open" => open_of(alloc, object),
         "hold" => hold_of(alloc, object),
         "apply" => apply_of(alloc, object),
-        "remove" => remove_of(alloc, object),
+        "remove" => Ok(Command::Remove {
+            res: named(alloc, object, &["res"])?,
+        }),
         "lease" => lease_of(alloc, object),
-        "return" => return_of(alloc, object),
+        "return" => Ok(Command::Return {
+            lease: named(alloc, object, &["lease"])?,
+        }),
         "next" => next_of(alloc, object),
         "end" => end_of(alloc, object),
         "abort" => abort_of(alloc, object),
-        "decline" => decline_of(alloc, object),
+        "decline" => Ok(Command::Decline {
+            node: named(alloc, object, &["node"])?,
+        }),
         "fail" => fail_of(alloc, object),
-        "dispose" => dispose_of(alloc, object),
+        "dispose" => Ok(Command::Dispose {
+            node: named(alloc, object, &["node"])?,
+        }),
         "hub" => hub_of(alloc, object),
         "connect" => connect_of(alloc, object),
-        "disconnect" => disconnect_of(alloc, object),
-        "drain" => drain_of(object),
-        "checkpoint" => checkpoint_of(object),
+        "disconnect" => Ok(Command::Disconnect {
+            hub: named(alloc, object, &["hub"])?,
+        }),
+        "drain" => bare(object, Command::Drain),
+        "checkpoint" => bare(object, Command::Checkpoint),
         _ => Err(ShapeError::Shape),
     }
-}
-
-#[tactic(auto, unfolding(crate::specs::Reading::cancel_of))]
-fn cancel_of(alloc: Global, object: Part<'_, '_>) -> Result<Action, ShapeError>
-    ensures { Gives action_meant result (cancel_of (part_data object.entry)) }
-{
-    if !is_step_of(object, &["step"]) {
-        return Err(ShapeError::Shape);
-    }
-    Ok(Action::Cancel(name_in(alloc, object, "step")?))
 }
 
 #[tactic(auto, unfolding(crate::specs::Reading::action_by))]
@@ -269,7 +186,7 @@ fn action_by(alloc: Global, what: &str, object: Part<'_, '_>) -> Result<Action, 
     ensures { Gives action_meant result (action_by what.now (part_data object.entry)) }
 {
     match what {
-        "cancel" => cancel_of(alloc, object),
+        "cancel" => Ok(Action::Cancel(named(alloc, object, &["step"])?)),
         _ => Ok(Action::Command(command_by(alloc, what, object)?)),
     }
 }

@@ -1,6 +1,6 @@
 //! Members of objects, and the names, numbers and words in them.
 
-ghost use Rattle.std.specs.Prelude.{◌≡◌, ◌≤◌, ◌||◌, map, option_map, option_and_then, string_bytes, IfOk};
+ghost use Rattle.std.specs.Prelude.{◌≡◌, ◌≤◌, ◌||◌, ◌++◌, map, option_map, option_and_then, string_bytes, IfOk};
 ghost use Rattle.serde_json.specs.Find.{as_str};
 ghost use Rattle.std.specs.List.{list_all};
 ghost use Rattle.json.specs.Value.{members_view};
@@ -8,10 +8,10 @@ ghost use Rattle.serde_json.specs.Data.{no_members};
 ghost use Rattle.rx_device.specs.Part.{part_data, members_data};
 ghost use Rattle.rx_scenario.specs.Scenario.{site_of, sort_of};
 ghost use Rattle.rx_device.specs.Gives.{Gives};
-ghost use Rattle.rx_scenario.specs.Reading.{is_one_of, has_only, is_object_of, is_of_steps, has_only_steps, is_step_of, is_name_byte};
+ghost use Rattle.rx_scenario.specs.Reading.{keys, is_one_of, is_object_of, step_members, is_name_byte};
 ghost use Rattle.rx_scenario.specs.Reading.{is_name, name_in, optional_name_in, value_in, word_in, code_in, terminal_in, if_name};
 ghost use Rattle.rx_scenario.specs.Reading.{root_in, site_below, site_by};
-ghost use Rattle.rx_scenario.specs.Reading.{site_in, plain_by, sub_in, kind_by, kind_in, mode_by, mode_in, events_in, until_in, time_in, delay_in};
+ghost use Rattle.rx_scenario.specs.Reading.{site_in, plain_by, sub_in, kind_by, kind_in, mode_by, mode_in, number_in, time_in, delay_in};
 
 use crate::scenario::{Site, Sort, Ticks};
 use json::Value;
@@ -25,17 +25,18 @@ fn is_one_of(key: &str, names: &[&str]) -> bool
     names.contains(&key)
 }
 
-fn are_all_of(members: &Vec<(&str, Value<'_>)>, names: &[&str]) -> bool
-    ensures { result ≡ list_all (λ m. is_one_of (map (λ s. s.now) names.now) m.0.now) members.now.items }
+fn are_all_of(members: &Vec<(&str, Value<'_>)>, names: &[&str], others: &[&str]) -> bool
+    ensures { result ≡ list_all (λ m. is_one_of (map (λ s. s.now) names.now) m.0.now
+        || is_one_of (map (λ s. s.now) others.now) m.0.now) members.now.items }
 {
-    members.iter().all(|member| is_one_of(member.0, names))
+    members.iter().all(|member| is_one_of(member.0, names) || is_one_of(member.0, others))
 }
 
-#[tactic(auto, unfolding(crate::specs::Reading::has_only))]
-fn has_only(members: &Vec<(&str, Value<'_>)>, names: &[&str]) -> bool
-    ensures { result ≡ has_only (map (λ s. s.now) names.now) (members_data (members_view members.now.items) no_members) }
+fn has_only(members: &Vec<(&str, Value<'_>)>, names: &[&str], others: &[&str]) -> bool
+    ensures { result ≡ list_all (is_one_of (map (λ s. s.now) names.now ++ map (λ s. s.now) others.now))
+        (keys (members_data (members_view members.now.items) no_members)) }
 {
-    are_all_of(members, names)
+    are_all_of(members, names, others)
 }
 
 /// Whether a value is an object with no member of another name.
@@ -43,36 +44,17 @@ pub fn is_object_of(value: Part<'_, '_>, names: &[&str]) -> bool
     ensures { result ≡ is_object_of (map (λ s. s.now) names.now) (part_data value.entry) }
 {
     match value.as_object() {
-        Some(members) => has_only(members, names),
+        Some(members) => has_only(members, names, &[]),
         None => false,
     }
 }
 
-fn is_of_steps(key: &str) -> bool
-    ensures { result ≡ is_of_steps key.now }
-{
-    matches!(key, "do" | "label" | "at" | "after" | "then")
-}
-
-fn are_all_of_steps(members: &Vec<(&str, Value<'_>)>, names: &[&str]) -> bool
-    ensures { result ≡ list_all (λ m. is_of_steps m.0.now || is_one_of (map (λ s. s.now) names.now) m.0.now) members.now.items }
-{
-    members.iter().all(|member| is_of_steps(member.0) || is_one_of(member.0, names))
-}
-
-#[tactic(auto, unfolding(crate::specs::Reading::has_only_steps))]
-fn has_only_steps(members: &Vec<(&str, Value<'_>)>, names: &[&str]) -> bool
-    ensures { result ≡ has_only_steps (map (λ s. s.now) names.now) (members_data (members_view members.now.items) no_members) }
-{
-    are_all_of_steps(members, names)
-}
-
 /// Whether a value is an object with no members but these and those that every step may have.
 pub fn is_step_of(value: Part<'_, '_>, names: &[&str]) -> bool
-    ensures { result ≡ is_step_of (map (λ s. s.now) names.now) (part_data value.entry) }
+    ensures { result ≡ is_object_of (map (λ s. s.now) names.now ++ step_members) (part_data value.entry) }
 {
     match value.as_object() {
-        Some(members) => has_only_steps(members, names),
+        Some(members) => has_only(members, names, &["do", "label", "at", "after", "then"]),
         None => false,
     }
 }
@@ -301,32 +283,24 @@ pub fn mode_in(object: Part<'_, '_>) -> Result<Mode, ShapeError>
     mode_by(mode)
 }
 
-/// The member `events`, a limit from 1 to 4,294,967,295, which is 1,048,576 where there is none.
-#[tactic(auto, unfolding(crate::specs::Reading::events_in))]
-pub fn events_in(object: Part<'_, '_>) -> Result<u64, ShapeError>
-    ensures value { Gives (λ n. n) result (events_in (part_data object.entry)) }
-    ensures limited { IfOk result (λ n. n ≤ 4294967295) }
+/// The number of this range at a key, and the other where there is no such member.
+#[tactic(auto, unfolding(crate::specs::Reading::number_in))]
+pub fn number_in(
+    object: Part<'_, '_>,
+    key: &str,
+    least: u64,
+    most: u64,
+    absent: u64,
+) -> Result<u64, ShapeError>
+    requires { absent ≤ most }
+    ensures value { Gives (λ n. n) result (number_in key.now least most absent (part_data object.entry)) }
+    ensures limited { IfOk result (λ n. n ≤ most) }
 {
-    let Some(events) = object.get("events") else {
-        return Ok(1_048_576);
+    let Some(value) = object.get(key) else {
+        return Ok(absent);
     };
-    match events.as_u64() {
-        Some(number) if 1 <= number && number < 4_294_967_296 => Ok(number),
-        _ => Err(ShapeError::Shape),
-    }
-}
-
-/// The member `until`, a time to 1,000,000,000,000,000, which it is where there is none.
-#[tactic(auto, unfolding(crate::specs::Reading::until_in))]
-pub fn until_in(object: Part<'_, '_>) -> Result<u64, ShapeError>
-    ensures value { Gives (λ n. n) result (until_in (part_data object.entry)) }
-    ensures limited { IfOk result (λ n. n ≤ 1000000000000000) }
-{
-    let Some(until) = object.get("until") else {
-        return Ok(1_000_000_000_000_000);
-    };
-    match until.as_u64() {
-        Some(number) if number <= 1_000_000_000_000_000 => Ok(number),
+    match value.as_u64() {
+        Some(number) if least <= number && number <= most => Ok(number),
         _ => Err(ShapeError::Shape),
     }
 }

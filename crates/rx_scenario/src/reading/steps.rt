@@ -9,7 +9,7 @@ ghost use Rattle.rx_scenario.specs.Reading.{head_in, step_in, each_step, then_in
 
 use super::commands::action_in;
 use super::labels::are_distinct;
-use super::members::{delay_in, events_in, is_object_of, optional_name_in, until_in};
+use super::members::{delay_in, is_object_of, number_in, optional_name_in};
 use crate::scenario::{Scenario, Step};
 use json::Value;
 use rx_device::{Part, ShapeError};
@@ -142,8 +142,14 @@ pub fn scenario_of(alloc: Global, object: Part<'_, '_>) -> Result<Scenario, Shap
         return Err(ShapeError::Shape);
     }
     let steps = steps_in(alloc, object)?;
-    let events = events_in(object)?;
-    let until = until_in(object)?;
+    let events = number_in(object, "events", 1, 4_294_967_295, 1_048_576)?;
+    let until = number_in(
+        object,
+        "until",
+        0,
+        1_000_000_000_000_000,
+        1_000_000_000_000_000,
+    )?;
     Ok(Scenario {
         steps,
         events,
