@@ -5,9 +5,7 @@
 mod closed;
 mod days;
 mod desk_calls;
-mod endless;
 mod feeds;
-mod leases;
 mod meetings;
 mod parts;
 mod rows;

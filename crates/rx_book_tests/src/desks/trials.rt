@@ -5,8 +5,6 @@ ghost use Rattle.rx_ledger.specs.Shares.{Opens};
 use super::closed::eight_knock;
 use super::days::work;
 use super::desk_calls::{Call, NO_SLOTS, make_all};
-use super::endless::{LIMIT, storm};
-use super::leases::passed_on;
 use super::meetings::{both_release, wakes};
 use super::parts::{blanks, number_of, tell};
 use super::want::feed_in_the_end;
@@ -37,19 +35,14 @@ pub(super) enum Trial {
     Meeting,
     // A thread that waits for the bell of a feed.
     Bell,
-    // A lease that goes from thread to thread.
-    Lease,
     // Eight threads with a key of what is closed.
     Closed,
-    // Feeds and checkpoints without end.
-    Endless,
 }
 
 // How many events the book may have.
 fn limit_of(trial: Trial) -> u32 {
     match trial {
         Trial::Calls(limit, _, _) => limit,
-        Trial::Endless => LIMIT,
         _ => 10_000,
     }
 }
@@ -86,9 +79,7 @@ fn tried<
         Trial::Workers => work_thrice(rt, alloc, desk, seat, told),
         Trial::Meeting => both_release(rt, alloc, desk, seat, told),
         Trial::Bell => wakes(rt, alloc, desk, seat, told),
-        Trial::Lease => passed_on(rt, alloc, desk, seat, told),
         Trial::Closed => eight_knock(rt, alloc, desk, seat, told),
-        Trial::Endless => storm(rt, alloc, desk, seat, told),
     }
 }
 
