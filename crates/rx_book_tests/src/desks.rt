@@ -1,4 +1,4 @@
-//! A book behind a desk: the worked examples, that each call of a desk can succeed, threads, and storms.
+//! A book behind a desk: worked examples, that each call that may want memory can succeed, threads, and storms.
 //!
 //! What is tried at a desk is a [`trials::Trial`]; a test is a table of them, with the lines that each has to tell.
 

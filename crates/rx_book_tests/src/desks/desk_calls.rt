@@ -1,6 +1,6 @@
 //! Calls of a desk as values, and what each is answered as a line of a text.
 
-use super::parts::{number_of, tell};
+use super::parts::tell;
 use super::ticks::Ticks;
 use rx_book::{At, Key, LeaseKey, Opened, ResKey};
 use rx_crew::{Desk, Floor, feed};
@@ -33,9 +33,6 @@ pub(super) enum Call {
 pub(super) enum Deed {
     Next(i64),
     End(Terminal),
-    Abort(u32),
-    Decline,
-    Fail(u32),
     Dispose,
 }
 
@@ -43,7 +40,6 @@ pub(super) enum Deed {
 #[derive(Clone, Copy)]
 pub(super) enum Use {
     Apply(u64),
-    Remove,
     Lease,
     GiveBack,
 }
@@ -53,9 +49,7 @@ pub(super) enum Use {
 pub(super) enum Hub {
     Make(Mode),
     Connect(u64),
-    Disconnect(u64),
     Checkpoint,
-    Shut,
 }
 
 // What a floor is asked.
@@ -63,13 +57,7 @@ pub(super) enum Hub {
 pub(super) enum Ask {
     Mail,
     Event(u64),
-    Owed(u64),
-    IsOpen(u64),
-    IsHeld(u64),
     Lease,
-    Manual,
-    Root,
-    Sums,
 }
 
 // The slots of all that has a key, each at its number.
@@ -88,11 +76,6 @@ fn slot_of(slots: &Slots, number: u64) -> u64 {
 pub(super) fn key_of(slots: &Slots, number: u64) -> Key {
     let slot = slot_of(slots, number);
     Key { slot, number }
-}
-
-fn res_of(slots: &Slots, number: u64) -> ResKey {
-    let slot = slot_of(slots, number);
-    ResKey { slot, number }
 }
 
 fn at_of(slots: &Slots, place: Place) -> At {
@@ -180,9 +163,6 @@ fn do_at<I: Ledger, A: Ledger, K: Ledger>(
     match deed {
         Deed::Next(value) => floor.next(seat, node, value),
         Deed::End(terminal) => floor.end(node, terminal),
-        Deed::Abort(code) => floor.abort(node, code),
-        Deed::Decline => floor.decline(node),
-        Deed::Fail(code) => floor.fail(node, code),
         Deed::Dispose => floor.dispose(node),
     }
 }
@@ -197,7 +177,6 @@ fn do_on<I: Ledger, A: Ledger, K: Ledger>(
     let res = ResKey { slot, number };
     match deed {
         Use::Apply(word) => floor.apply(res, word),
-        Use::Remove => floor.remove(res),
         Use::GiveBack => floor.give_back(LeaseKey { slot, number }),
         Use::Lease => match floor.lease(res) {
             Ok(lease) => Ok(keep(slots, lease.number, lease.slot)),
@@ -217,12 +196,7 @@ fn do_hub<I: Ledger, A: Ledger, K: Ledger>(
             Ok(key) => Ok(keep(slots, key.number, key.slot)),
             Err(why) => Err(why),
         },
-        Hub::Disconnect(hub) => floor.disconnect(hub),
         Hub::Checkpoint => floor.checkpoint(),
-        Hub::Shut => {
-            floor.shut();
-            Ok(u64::from(floor.is_shut()))
-        }
     }
 }
 
@@ -236,33 +210,14 @@ fn lease_of(key: Option<LeaseKey>) -> Option<u64> {
 
 fn ask_floor<I: Ledger, A: Ledger, K: Ledger>(
     floor: &mut Floor<Sample, I, A, K>,
-    slots: &Slots,
     asked: Ask,
     told: &mut String,
 ) {
     match asked {
         Ask::Mail => tell(told, floor.take_mail()),
         Ask::Event(place) => tell(told, floor.event(place)),
-        Ask::Owed(node) => tell(told, floor.owed(key_of(slots, node))),
-        Ask::IsOpen(node) => tell(told, floor.is_open(key_of(slots, node))),
-        Ask::IsHeld(number) => tell(told, floor.is_held(res_of(slots, number))),
         Ask::Lease => tell(told, (floor.leases(), lease_of(floor.open_lease()))),
-        Ask::Manual => tell(told, floor.open_manual()),
-        Ask::Root => tell(told, (floor.open_count(), number_of(floor.open_root()))),
-        Ask::Sums => tell(told, sums_of(floor)),
     }
-}
-
-// How many events, items, and resources accepted, held, waiting and taken there are.
-fn sums_of<I: Ledger, A: Ledger, K: Ledger>(floor: &Floor<Sample, I, A, K>) -> [u64; 6] {
-    [
-        floor.len(),
-        floor.items(),
-        floor.accepted(),
-        floor.held(),
-        floor.waiting(),
-        floor.taken(),
-    ]
 }
 
 // Takes a resource and releases it.
@@ -298,7 +253,7 @@ fn make_call<I: Ledger, A: Ledger, K: Ledger>(
         }
         Call::On(number, deed) => tell(told, do_on(floor, slots, number, deed)),
         Call::Hub(deed) => tell(told, do_hub(floor, slots, deed)),
-        Call::Ask(asked) => ask_floor(floor, slots, asked, told),
+        Call::Ask(asked) => ask_floor(floor, asked, told),
         Call::Take => tell(told, take_one(floor, seat)),
         Call::Feed(..) => {}
     }

@@ -7,104 +7,26 @@ use rx_event::{Kind, Mode, Place, Terminal};
 
 const DONE: Terminal = Terminal::Completed;
 
-// A floor tells what its book has.
-const ASKED: [Call; 12] = [
-    Call::Open(Place::Root, Kind::Pass),
-    Call::At(0, Deed::Abort(9)),
-    Call::Open(Place::Root, Kind::Leaf),
-    Call::Hold(2, 1),
-    Call::Ask(Ask::Sums),
-    Call::Ask(Ask::Root),
-    Call::Ask(Ask::IsOpen(0)),
-    Call::Ask(Ask::IsOpen(2)),
-    Call::Ask(Ask::IsHeld(3)),
-    Call::Ask(Ask::Event(1)),
-    Call::Ask(Ask::Event(4)),
-    Call::Hub(Hub::Shut),
-];
-
-const ASKED_TOLD: &str = "\
-(0, None)
-Ok(1)
-(2, None)
-Ok(3)
-[4, 0, 1, 1, 0, 0]
-(1, Some(2))
-false
-true
-true
-Some(End(0, Error(9)))
-None
-Ok(1)
-Ok(Totals { items: 0, accepted: 1, taken: 0, held: 1, waiting: 0, len: 4 })
-Some(2)
-Closed { released: 1, faults: 0 }
-";
-
-// A projected item is declined, and another fails.
-const PROJECTED: [Call; 11] = [
-    Call::Open(Place::Root, Kind::Flat),
-    Call::Open(Place::Source(0), Kind::Leaf),
-    Call::At(1, Deed::Next(1)),
-    Call::At(1, Deed::Next(2)),
-    Call::Ask(Ask::Owed(0)),
-    Call::At(0, Deed::Decline),
-    Call::Ask(Ask::Owed(0)),
-    Call::At(0, Deed::Fail(7)),
-    Call::Ask(Ask::Owed(0)),
-    Call::At(0, Deed::Decline),
-    Call::At(0, Deed::Fail(7)),
-];
-
-const PROJECTED_TOLD: &str = "\
-(0, None)
-(1, None)
-Ok(2)
-Ok(3)
-Some(2)
-Ok(4)
-Some(1)
-Ok(5)
-None
-Err(Gone)
-Err(Gone)
-Ok(Totals { items: 2, accepted: 0, taken: 0, held: 0, waiting: 0, len: 6 })
-None
-Closed { released: 0, faults: 0 }
-";
-
-// A hub is connected and disconnected by hand.
-const BY_HAND: [Call; 12] = [
+// Calls that the tables below do not make, and that may want memory.
+const MADE: [Call; 6] = [
     Call::Hub(Hub::Make(Mode::Manual)),
     Call::Open(Place::Root, Kind::Sub(0)),
-    Call::Ask(Ask::Manual),
     Call::Hub(Hub::Connect(0)),
     Call::Hub(Hub::Connect(0)),
-    Call::Ask(Ask::Manual),
-    Call::Ask(Ask::Root),
-    Call::Hub(Hub::Disconnect(0)),
-    Call::Ask(Ask::Event(3)),
-    Call::Ask(Ask::IsOpen(1)),
-    Call::Hub(Hub::Disconnect(0)),
-    Call::Ask(Ask::Manual),
+    Call::Open(Place::Root, Kind::Leaf),
+    Call::Hold(3, 1),
 ];
 
-const BY_HAND_TOLD: &str = "\
+const MADE_TOLD: &str = "\
 Ok(0)
 (1, None)
-None
 Ok(2)
 Err(Connected)
-Some(0)
-(2, Some(1))
-Ok(3)
-Some(Close(2))
-true
-Err(NotConnected)
-None
-Ok(Totals { items: 0, accepted: 0, taken: 0, held: 0, waiting: 0, len: 4 })
+(3, None)
+Ok(4)
+Ok(Totals { items: 0, accepted: 1, taken: 0, held: 1, waiting: 0, len: 5 })
 Some(1)
-Closed { released: 0, faults: 0 }
+Closed { released: 1, faults: 0 }
 ";
 
 // The least lease comes first.
@@ -141,7 +63,7 @@ Closed { released: 1, faults: 0 }
 
 // A checkpoint makes room where a desk was full. A sample answers all the words that it was used on, one bit each: so it
 // stays the same over a checkpoint, and was not used where the book was full.
-const REFILLED: [Call; 15] = [
+const REFILLED: [Call; 13] = [
     Call::Using(Place::Root, 1),
     Call::On(1, Use::Apply(1)),
     Call::On(1, Use::Apply(2)),
@@ -152,11 +74,9 @@ const REFILLED: [Call; 15] = [
     Call::On(1, Use::Apply(8)),
     Call::On(1, Use::Apply(16)),
     Call::Ask(Ask::Event(3)),
-    Call::On(1, Use::Remove),
+    Call::At(0, Deed::Dispose),
     Call::Take,
     Call::Ask(Ask::Event(7)),
-    Call::At(0, Deed::Dispose),
-    Call::Ask(Ask::Sums),
 ];
 
 const REFILLED_TOLD: &str = "\
@@ -173,9 +93,7 @@ Some(Use(1))
 Ok(6)
 Some((1, 1, 4))
 Some(Take(1))
-Ok(8)
-[9, 0, 1, 0, 0, 1]
-Ok(Totals { items: 0, accepted: 1, taken: 1, held: 0, waiting: 0, len: 9 })
+Ok(Totals { items: 0, accepted: 1, taken: 1, held: 0, waiting: 0, len: 8 })
 None
 Closed { released: 0, faults: 0 }
 ";
@@ -212,10 +130,8 @@ None
 Closed { released: 0, faults: 0 }
 ";
 
-const EXAMPLES: [(Trial, &str); 6] = [
-    (Trial::Calls(1000, &ASKED, &[]), ASKED_TOLD),
-    (Trial::Calls(1000, &PROJECTED, &[]), PROJECTED_TOLD),
-    (Trial::Calls(1000, &BY_HAND, &[]), BY_HAND_TOLD),
+const EXAMPLES: [(Trial, &str); 4] = [
+    (Trial::Calls(1000, &MADE, &[]), MADE_TOLD),
     (Trial::Calls(1000, &LEASED_OFTEN, &[]), LEASED_OFTEN_TOLD),
     (Trial::Calls(6, &REFILLED, &[]), REFILLED_TOLD),
     (Trial::Calls(1000, &OWED, &[]), OWED_TOLD),
