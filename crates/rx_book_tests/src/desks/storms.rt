@@ -7,7 +7,7 @@ ghost use Rattle.rx_resource.specs.declared.Life.{Life};
 ghost use Rattle.rx_ledger.specs.Shares.{Opens};
 
 use super::meetings::Pair;
-use super::parts::{Open, blanks};
+use super::parts::{Open, blanks, list_of};
 use crate::same::same;
 use rx_book::{At, Book};
 use rx_crew::{Desk, Gate};
@@ -252,30 +252,25 @@ fn end_with_an_open_root<I: Ledger, A: Ledger, K: Ledger>(
     resource: Tracked,
     fault: Option<Lack>,
     writer: &mut Narrow,
-) -> Result<Result<bool, StormFault>, Fail>
+) -> Result<bool, StormFault>
     requires items { Opens I.name I.parts blanks.0.name blanks.0.parts }
     requires accepted { Opens A.name A.parts blanks.1.name blanks.1.parts }
     requires taken { Opens K.name K.parts blanks.2.name blanks.2.parts }
 {
     let book = Book::new(alloc, 1000);
     let (desk, mut first) = Desk::<Tracked, I, A, K>::new(book, blanks.0, blanks.1, blanks.2);
-    let opened = desk
+    let _ = desk
         .floor
         .lock(rt)
         .open_using(&mut first, At::Root, resource);
-    if opened.is_err() {
-        return Err(Fail::from("a using node is refused"));
-    }
-    let mut seats = Vec::new(alloc);
-    seats.push(first)?;
     let gathered = Gathered {
-        seats,
+        seats: list_of(alloc, first),
         receipts: Vec::new(alloc),
         released: 0,
         faults: 0,
         fault,
     };
-    Ok(end_storm(alloc, desk, gathered, &mut Watched::new(writer)))
+    end_storm(alloc, desk, gathered, &mut Watched::new(writer))
 }
 
 // The end of such a storm, whose writer takes so many bytes: it is told so, and the resource was released once.
@@ -299,7 +294,7 @@ fn assert_closed<T: Wait + Abort>(
         resource,
         fault,
         &mut narrow,
-    )?;
+    );
     let counts = (tracker.released(), tracker.dropped());
     let written = ONE_HELD.len().min(room);
     same(
