@@ -22,20 +22,12 @@ pub fn event_at(events: &[Event], place: u64) -> Option<Event> {
 
 /// The node above a node.
 pub fn parent_of(events: &[Event], node: u64) -> Option<u64> {
-    match event_at(events, node) {
-        Some(Event::Open { place, .. }) => place.above(),
-        _ => None,
-    }
+    event_at(events, node)?.parent()
 }
 
 // The event that ended or closed a node by its number.
 fn named_end(events: &[Event], node: u64) -> Option<usize> {
-    for (place, event) in events.iter().enumerate() {
-        if event.ended() == Some(node) || *event == Event::Close(node) {
-            return Some(place);
-        }
-    }
-    None
+    events.iter().position(|event| event.ended() == Some(node) || *event == Event::Close(node))
 }
 
 /// The event that ended or closed a node, or one above it, where that is found near above.
@@ -53,24 +45,12 @@ pub fn end_of(events: &[Event], node: u64) -> Option<usize> {
 
 /// The first opening at this place.
 pub fn opening_at(events: &[Event], wanted: Place) -> Option<usize> {
-    for (place, event) in events.iter().enumerate() {
-        if let Event::Open { place: site, .. } = event {
-            if *site == wanted {
-                return Some(place);
-            }
-        }
-    }
-    None
+    events.iter().position(|event| matches!(event, Event::Open { place, .. } if *place == wanted))
 }
 
 /// The first place of an event.
 pub fn place_of(events: &[Event], wanted: Event) -> Option<usize> {
-    for (place, event) in events.iter().enumerate() {
-        if *event == wanted {
-            return Some(place);
-        }
-    }
-    None
+    events.iter().position(|event| *event == wanted)
 }
 
 /// The last event that gave a lease of this resource back.

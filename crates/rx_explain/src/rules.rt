@@ -98,12 +98,11 @@ fn open_rule(alloc: Global, past: Past<'_>, place: Place, kind: Kind) -> Walk {
 
 // The open connection of a hub.
 fn connection_of(past: Past<'_>, hub: u64) -> Option<u64> {
-    for node in past.live {
-        if event_at(past.events, *node) == Some(Event::Connect(hub)) {
-            return Some(*node);
-        }
-    }
-    None
+    let connection = Some(Event::Connect(hub));
+    past.live
+        .iter()
+        .copied()
+        .find(|node| event_at(past.events, *node) == connection)
 }
 
 // Why a hub may not be connected.
@@ -205,11 +204,7 @@ fn decline_rule(alloc: Global, past: Past<'_>, node: u64) -> Walk {
 // Why a node may not end so.
 fn end_rule(alloc: Global, past: Past<'_>, node: u64, terminal: Terminal) -> Walk {
     not_open(alloc, past, node)?;
-    let is_subscriber = match event_at(past.events, node) {
-        Some(made) => made.subscribes_to().is_some(),
-        None => false,
-    };
-    if is_subscriber {
+    if event_at(past.events, node).is_some_and(|made| made.subscribes_to().is_some()) {
         return tell(format!(in alloc;
             "node {node} is a subscriber: it ends as the connection of its hub does"
         ));

@@ -31,19 +31,16 @@ fn is_name(text: &str) -> bool {
         )
 }
 
-fn is_within(number: Option<u64>, least: u64, most: u64) -> bool {
-    match number {
-        Some(number) => least <= number && number <= most,
-        None => false,
-    }
-}
-
 impl Wanted {
     /// Whether the value is what is expected.
     pub fn fits(self, value: &Value) -> bool {
         match self {
             Wanted::Name => value.as_str().is_some_and(is_name),
-            Wanted::Number(least, most) => is_within(value.as_u64(), least, most),
+            Wanted::Number(least, most) => {
+                value
+                    .as_u64()
+                    .is_some_and(|number| least <= number && number <= most)
+            }
             Wanted::Item => value.as_i64().is_some(),
             Wanted::Word(list) => value.as_str().is_some_and(|word| is_among(word, list)),
             Wanted::Steps => value.is_array(),
