@@ -2,11 +2,11 @@
 //! of the resource that it keeps held after its subscription has ended (System.Reactive's
 //! RefCountDisposable). How many of each resource are out, the tree counts beside it.
 
-ghost use Rattle.std.specs.Prelude.{◌≡◌, ◌+◌, ◌<◌, ◌≤◌, [], IsOk, Some, None, IfSome, IfNone, IfOk, OnOk, OnSome, option_map, length, is_some, count_by};
+ghost use Rattle.std.specs.Prelude.{◌≡◌, ◌+◌, ◌<◌, ◌≤◌, [], IsOk, Some, None, IfSome, IfNone, IfOk, OnOk, IsSome, option_map, length, is_some, count_by};
 ghost use Rattle.rx_slots.specs.Lists.{list_at};
 
 use rx_event::BaseLease;
-use rx_slots::{Key, Rings, Slots};
+use rx_slots::{Key, Records, Rings};
 use rx_tree::ResKey;
 use std::alloc::{AllocError, Global};
 use std::marker::Model;
@@ -24,7 +24,7 @@ pub struct LeaseKey {
 /// Leases that are out, each with the key of its resource.
 #[derive(Drop)]
 pub(crate) struct Leases {
-    out: Slots<ResKey>,
+    out: Records<ResKey>,
     // The slots of the leases, in the order of their numbers.
     order: Rings,
 }
@@ -72,7 +72,7 @@ impl Leases {
         ensures room { result.room ≡ 0 }
     {
         Leases {
-            out: Slots::new(alloc),
+            out: Records::new(alloc),
             order: Rings::new(alloc),
         }
     }
@@ -113,15 +113,10 @@ impl Leases {
     {
         self.order.promise();
         let _within = self.out.capacity();
-        let Ok(key) = self.out.insert(number, res) else {
-            unreachable!()
-        };
+        let slot = self.out.place(number, res);
         let _still = self.out.capacity();
-        self.order.join(0, key.slot);
-        LeaseKey {
-            slot: key.slot,
-            number: key.number,
-        }
+        self.order.join(0, slot);
+        LeaseKey { slot, number }
     }
 
     /// The key of the resource of a lease; None where no such lease is out.
@@ -137,25 +132,25 @@ impl Leases {
         Some(*res)
     }
 
-    /// Lets the lease be out no more, and gives the key of its resource; None where no such lease is
-    /// out. It takes no memory.
+    /// Lets a lease that is out be so no more, and gives the key of its resource. It takes no memory.
     #[inline(always)]
-    pub(crate) fn give_back(&mut self, lease: LeaseKey) -> Option<ResKey>
-        ensures value { result ≡ find self.old (lease_key lease) }
+    pub(crate) fn give_back(&mut self, lease: LeaseKey) -> ResKey
+        requires out { IsSome (find self.old (lease_key lease)) }
+        ensures value { find self.old (lease_key lease) ≡ Some result }
         ensures gone { find self.new (lease_key lease) ≡ None }
         ensures kept { KeepsOthers self.old self.new (lease_key lease) }
-        ensures count { OnSome result (self.new.count + 1 ≡ self.old.count) }
+        ensures count { self.new.count + 1 ≡ self.old.count }
         ensures room { self.old.room ≤ self.new.room }
-        ensures absent { IfNone result (self.new ≡ self.old) }
     {
         let key = Key {
             slot: lease.slot,
             number: lease.number,
         };
         self.order.promise();
-        let res = self.out.take(key)?;
+        let res = *self.out.found(key);
+        self.out.remove(key);
         self.order.leave(key.slot);
-        Some(res)
+        res
     }
 
     /// The key of the lease of least number; None where none is out.

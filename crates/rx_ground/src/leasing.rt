@@ -68,9 +68,7 @@ impl<R: Resource> Ground<R> {
         self.register.promise();
         self.tree.promise();
         self.leases.promise();
-        let Some(res) = self.leases.give_back(lease) else {
-            unreachable!()
-        };
+        let res = self.leases.give_back(lease);
         self.tree.unlend(res);
         self.register.write(Event::Return(lease.number));
     }

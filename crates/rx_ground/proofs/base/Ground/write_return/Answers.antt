@@ -1,4 +1,4 @@
-use Rattle.rx_ground.proofs.Common.{◌∷◌, ◌++◌, [], List, length, is_some, refl, sym, ap, subst, ◌∙◌, ◌+◌, ◌-◌, vec_capacity, Event, Return, MayFollow, Slots}
+use Rattle.rx_ground.proofs.Common.{◌∷◌, ◌++◌, [], List, length, is_some, refl, sym, ap, subst, ◌+◌, ◌-◌, vec_capacity, Event, Return, MayFollow, Slots}
 use Rattle.rx_ground.proofs.Common.{find, Node, store_key, one_lease_less, some_of, lease_key, IsTied, AreTied, AreLeased}
 use Rattle.rx_ground.proofs.Memory.{written_memory, same_places}
 use Rattle.rx_ground.proofs.RegisterAfterWrite.{writes_silent}
@@ -13,7 +13,7 @@ use Rattle.std.proofs.Common.{rules}
 pub unlend-requires-clause-lent : goal.unlend-requires-clause-lent
 unlend-requires-clause-lent g c κs within = let tied : IsTied _ g.R.Resource _ c.self.inside.tree = rw (← c.self.view_is) at c.requires.tied.of_tree
     in let was : AreLeased _ _ c.self.inside.leases = rw (← c.self.view_is) at c.requires.leased in lent_there _ g.R.Resource _ _ tied _ _ (was.each
-    (lease_key _) _ (sym c.give_back.ensures.value ∙ c.in-Some.is))
+    (lease_key _) _ c.give_back-res.ensures.value)
 
 pub returns-clause-written : goal.returns-clause-written
 returns-clause-written g c = search (rules, writes_silent)
@@ -23,8 +23,7 @@ returns-clause-tied g c = let base = c.self.inside.register.base in let h = c.se
     = c.unlend.new.self in let e : Event = Return _ in let law = c.promise.ensures.lawful in let tied : IsTied base g.R.Resource h old = rw (←
     c.self.view_is) at c.requires.tied.of_tree in let next : MayFollow base h e = rw (← c.self.view_is) at c.requires.ready.next in let was : AreTied
     base g.R.Resource h old c.self.inside.hubs = rw (← c.self.view_is) at c.requires.tied in let leased : AreLeased h old.resources
-    c.self.inside.leases = rw (← c.self.view_is) at c.requires.leased in let of = leased.each (lease_key _) _ (sym c.give_back.ensures.value ∙
-    c.in-Some.is) in let x = some_of (find old.resources (store_key _)) of.stored in let nodes = c.unlend.ensures.nodes in let stored =
+    c.self.inside.leases = rw (← c.self.view_is) at c.requires.leased in let of = leased.each (lease_key _) _ c.give_back-res.ensures.value in let x = some_of (find old.resources (store_key _)) of.stored in let nodes = c.unlend.ensures.nodes in let stored =
     stored_returned base g.R.Resource h law old new tied.stored c.promise-2.ensures.resources_apart nodes _ (store_key _) x.0 next of.made x.1
     c.unlend.ensures.resources in let still = tied_still base g.R.Resource h e law next old tied new refl refl (λ n. refl) nodes
     c.unlend.ensures.chain stored in rebased g.R.Resource c.write.ensures.base (tied_on_same g.R.Resource law next was c.write.ensures.events refl
@@ -38,18 +37,18 @@ returns-clause-leased g c =
     let old = c.self.inside.tree.resources in
     let new = c.unlend.new.self.resources in
     let was : AreLeased h old c.self.inside.leases = rw (← c.self.view_is) at c.requires.leased in
-    let given = c.give_back.ensures in
-    let there = ap is_some (sym given.value ∙ c.in-Some.is) in
+    let given = c.give_back-res.ensures in
+    let there = ap is_some given.value in
     let less =
-    leased_less h old c.self.inside.leases was base c.promise.ensures.lawful c.promise-3.ensures c.give_back.new.self (lease_key c.args.lease) there
+    leased_less h old c.self.inside.leases was base c.promise.ensures.lawful c.promise-3.ensures c.give_back-res.new.self (lease_key c.args.lease) there
     given.gone given.kept in
-    let still = leased_same (h ++ e ∷ []) old c.give_back.new.self less new c.give_back.new.self
-    (λ l res is. still_there (store_key c.in-Some.res) c.unlend.ensures.resources (store_key res) is.stored) (λ key. refl) in
-    subst (λ (k : List Event). AreLeased k new c.give_back.new.self) (sym c.write.ensures.events) still
+    let still = leased_same (h ++ e ∷ []) old c.give_back-res.new.self less new c.give_back-res.new.self
+    (λ l res is. still_there (store_key c.give_back-res.result) c.unlend.ensures.resources (store_key res) is.stored) (λ key. refl) in
+    subst (λ (k : List Event). AreLeased k new c.give_back-res.new.self) (sym c.write.ensures.events) still
 
 pub returns-clause-kept : goal.returns-clause-kept
 returns-clause-kept g c = rw (← c.self.view_is) (held_rewritten c.self.inside.tree c.unlend.new.self (length c.self.inside.register.history)
-    (store_key c.in-Some.res) one_lease_less c.unlend.ensures.nodes c.unlend.ensures.resources (less_held c.self.inside.tree.nodes))
+    (store_key c.give_back-res.result) one_lease_less c.unlend.ensures.nodes c.unlend.ensures.resources (less_held c.self.inside.tree.nodes))
 
 pub returns-clause-memory : goal.returns-clause-memory
 returns-clause-memory g c =
