@@ -50,6 +50,7 @@ mod links;
 mod node;
 mod packed;
 mod records;
+mod sibling_rings;
 mod store;
 mod subtree;
 mod tree;

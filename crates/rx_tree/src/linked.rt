@@ -501,18 +501,10 @@ impl Record {
     // Whether it stands among the nodes that may be due, at this slot: else its link leads to itself.
     #[inline(always)]
     pub(crate) fn is_noted(&self, slot: usize) -> bool
+        requires fits { slot < 2 ^ 29 }
         ensures { result ≡ not (is_place self.now.noted.next (Noted slot)) }
     {
-        match self.noted.next.place() {
-            Place::Noted(next) => next != slot,
-            Place::Roots
-            | Place::Due
-            | Place::Waiting
-            | Place::Children(_)
-            | Place::Held(_)
-            | Place::Sibling(_)
-            | Place::Stored(_) => true,
-        }
+        !self.noted.next.is_noted(slot)
     }
 
     // Its link among the nodes that may be due.

@@ -1,7 +1,8 @@
 //! Where a link of the tree leads.
 
 ghost use Rattle.std.specs.Prelude.{◌≡◌, ◌<◌, ◌^◌};
-ghost use Rattle.rx_tree.specs.Places.{slot_of, tag_of};
+ghost use Rattle.rx_tree.specs.Places.{is_place, slot_of, tag_of};
+ghost use Rattle.rx_tree.specs.declared.links.Place.TheVariants.{Noted};
 
 use std::marker::Model;
 
@@ -155,6 +156,15 @@ impl Step {
         }
     }
 
+    // Whether it leads to a slot's node among those that may be due. Only its word is compared.
+    #[inline(always)]
+    pub(crate) fn is_noted(&self, slot: usize) -> bool
+        requires fits { slot < 2 ^ 29 }
+        ensures { result ≡ is_place self.now (Noted slot) }
+    {
+        self.word as usize == slot * 8 + 6
+    }
+
     // The same once more.
     #[inline(always)]
     pub(crate) fn again(&self) -> Self
@@ -178,9 +188,10 @@ impl Link {
         requires fits { slot_of place < 2 ^ 29 }
         ensures { result ≡ record { next = place; previous = place } }
     {
+        let step = Step::to(place);
         Link {
-            next: Step::to(place),
-            previous: Step::to(place),
+            next: step.again(),
+            previous: step,
         }
     }
 
@@ -189,9 +200,10 @@ impl Link {
     pub(crate) fn coming(place: Place) -> Self
         ensures { slot_of place < 2 ^ 29 → result ≡ record { next = place; previous = place } }
     {
+        let step = Step::of(place);
         Link {
-            next: Step::of(place),
-            previous: Step::of(place),
+            next: step.again(),
+            previous: step,
         }
     }
 

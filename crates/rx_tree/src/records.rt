@@ -73,6 +73,7 @@ impl<R: Drop> Store<R> {
         requires there { IsTrue (is_there self.now (Noted slot)) }
         ensures { result ≡ not (is_place (next_of self.now (Noted slot)) (Noted slot)) }
     {
+        self.fits(Place::Noted(slot));
         self.nodes.at(slot).is_noted(slot)
     }
 

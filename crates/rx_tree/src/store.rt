@@ -105,7 +105,55 @@ impl<R: Drop> Store<R> {
         }
     }
 
-    // The calls on links are inlined, so that no kind is asked for where the caller writes it.
+    // The calls on links are inlined, so that no kind is asked for where the caller writes it. Where a place's kind is
+    // known, its own call keeps what closes or opens a node so small that it is inlined as well.
+
+    // What comes first and last of the children of a slot's node.
+    #[inline(always)]
+    pub(crate) fn children(&self, slot: usize) -> Link
+        requires there { IsTrue (is_there self.now (Children slot)) }
+        ensures { result ≡ link_at self.now (Children slot) }
+    {
+        self.nodes.at(slot).children()
+    }
+
+    // What comes first and last of the resources that are held at a slot's node.
+    #[inline(always)]
+    pub(crate) fn held(&self, slot: usize) -> Link
+        requires there { IsTrue (is_there self.now (Held slot)) }
+        ensures { result ≡ link_at self.now (Held slot) }
+    {
+        self.nodes.at(slot).held()
+    }
+
+    // Writes it.
+    #[inline(always)]
+    fn set_held(&mut self, slot: usize, link: Link)
+        requires there { IsTrue (is_there self.old (Held slot)) }
+        ensures linked { (q : _) → link_at self.new q ≡ set_link_at (Held slot) link self.old q }
+        ensures rest { Relinks self.old self.new }
+    {
+        self.nodes.at_mut(slot).set_held(link);
+    }
+
+    // What comes after a slot's node among its siblings, and before it.
+    #[inline(always)]
+    pub(crate) fn sibling(&self, slot: usize) -> Link
+        requires there { IsTrue (is_there self.now (Sibling slot)) }
+        ensures { result ≡ link_at self.now (Sibling slot) }
+    {
+        self.nodes.at(slot).sibling()
+    }
+
+    // Writes it.
+    #[inline(always)]
+    pub(crate) fn set_sibling(&mut self, slot: usize, link: Link)
+        requires there { IsTrue (is_there self.old (Sibling slot)) }
+        ensures linked { (q : _) → link_at self.new q ≡ set_link_at (Sibling slot) link self.old q }
+        ensures rest { Relinks self.old self.new }
+    {
+        self.nodes.at_mut(slot).set_sibling(link);
+    }
 
     // What comes after a place and before it.
     #[inline(always)]
@@ -117,9 +165,9 @@ impl<R: Drop> Store<R> {
             Place::Roots => self.roots.again(),
             Place::Due => self.due.again(),
             Place::Waiting => self.waiting.again(),
-            Place::Children(slot) => self.nodes.at(slot).children(),
-            Place::Held(slot) => self.nodes.at(slot).held(),
-            Place::Sibling(slot) => self.nodes.at(slot).sibling(),
+            Place::Children(slot) => self.children(slot),
+            Place::Held(slot) => self.held(slot),
+            Place::Sibling(slot) => self.sibling(slot),
             Place::Noted(slot) => self.nodes.at(slot).noted(),
             Place::Stored(slot) => self.resources.at(slot).link.again(),
         }
@@ -148,8 +196,8 @@ impl<R: Drop> Store<R> {
             Place::Due => self.due.set(link),
             Place::Waiting => self.waiting.set(link),
             Place::Children(slot) => self.nodes.at_mut(slot).set_children(link),
-            Place::Held(slot) => self.nodes.at_mut(slot).set_held(link),
-            Place::Sibling(slot) => self.nodes.at_mut(slot).set_sibling(link),
+            Place::Held(slot) => self.set_held(slot, link),
+            Place::Sibling(slot) => self.set_sibling(slot, link),
             Place::Noted(slot) => self.nodes.at_mut(slot).set_noted(link),
             Place::Stored(slot) => self.resources.at_mut(slot).link.set(link),
         }
@@ -157,7 +205,7 @@ impl<R: Drop> Store<R> {
 
     // Writes what comes after a place.
     #[inline(always)]
-    fn set_next(&mut self, place: Place, to: Step)
+    pub(crate) fn set_next(&mut self, place: Place, to: Step)
         requires there { IsTrue (is_there self.old place) }
         ensures next { (q : _) → next_of self.new q ≡ set_step places place to (next_of self.old) q }
         ensures previous { (q : _) → previous_of self.new q ≡ previous_of self.old q }
@@ -177,7 +225,7 @@ impl<R: Drop> Store<R> {
 
     // Writes what comes before a place.
     #[inline(always)]
-    fn set_previous(&mut self, place: Place, to: Step)
+    pub(crate) fn set_previous(&mut self, place: Place, to: Step)
         requires there { IsTrue (is_there self.old place) }
         ensures next { (q : _) → next_of self.new q ≡ next_of self.old q }
         ensures previous { (q : _) → previous_of self.new q ≡ set_step places place to (previous_of self.old) q }
@@ -249,26 +297,25 @@ impl<R: Drop> Store<R> {
         self.set_link(place, Link::alone(place));
     }
 
-    // Puts what a ring goes over at the end of another ring.
+    // Puts the resources that are held at a slot's node at the end of those that wait.
     #[inline(always)]
-    pub(crate) fn merge(&mut self, from: Place, into: Place)
-        requires from { IsTrue (is_there self.old from) }
-        requires into { IsTrue (is_there self.old into) }
-        requires last { IsTrue (is_there self.old (previous_of self.old into)) }
-        requires from_first { IsTrue (is_there self.old (next_of self.old from)) }
-        requires from_last { IsTrue (is_there self.old (previous_of self.old from)) }
+    pub(crate) fn merge_held(&mut self, slot: usize)
+        requires from { IsTrue (is_there self.old (Held slot)) }
+        requires last { IsTrue (is_there self.old (previous_of self.old Waiting)) }
+        requires from_first { IsTrue (is_there self.old (next_of self.old (Held slot))) }
+        requires from_last { IsTrue (is_there self.old (previous_of self.old (Held slot))) }
         ensures merges { Merges places (next_of self.old) (previous_of self.old)
-            (next_of self.new) (previous_of self.new) from into }
+            (next_of self.new) (previous_of self.new) (Held slot) Waiting }
         ensures rest { Relinks self.old self.new }
     {
-        let link = self.link(from);
-        let last = self.link(into).previous;
+        let from = Place::Held(slot);
+        let link = self.held(slot);
+        let last = self.waiting.previous.again();
         self.fits(from);
-        self.fits(into);
-        self.set_next(last.place_beside(into), link.next.again());
+        self.set_next(last.place_beside(Place::Waiting), link.next.again());
         self.set_previous(link.next.place_beside(from), last);
-        self.set_next(link.previous.place_beside(from), Step::to(into));
-        self.set_previous(into, link.previous);
-        self.set_link(from, Link::alone(from));
+        self.set_next(link.previous.place_beside(from), Step::to(Place::Waiting));
+        self.set_previous(Place::Waiting, link.previous);
+        self.set_held(slot, Link::alone(from));
     }
 }

@@ -34,7 +34,7 @@ impl<R: Drop> Store<R> {
         ensures later { IfSome result (λ child. key.number < child.number) }
         ensures none { result ≡ None → next_of self.now (Children key.slot) ≡ Children key.slot }
     {
-        match self.link(Place::Children(key.slot)).next.place() {
+        match self.children(key.slot).next.place() {
             Place::Sibling(slot) => Some(self.node_key(slot)),
             _ => None,
         }
@@ -65,8 +65,8 @@ impl<R: Drop> Store<R> {
         ensures waits { LetsWait self.old self.new slot }
         ensures rest { Relinks self.old self.new }
     {
-        if let Place::Stored(_) = self.link(Place::Held(slot)).next.place() {
-            self.merge(Place::Held(slot), Place::Waiting);
+        if let Place::Stored(_) = self.held(slot).next.place() {
+            self.merge_held(slot);
         }
     }
 
@@ -115,7 +115,7 @@ impl<R: Drop> Store<R> {
     {
         self.let_wait(key.slot);
         self.unnote(key.slot);
-        self.pass_by(Place::Sibling(key.slot));
+        self.pass_sibling_by(key.slot);
         self.take_node(key);
     }
 

@@ -248,7 +248,7 @@ impl<R: Resource> Tree<R> {
         ensures none { IfNone result (HasNone (IsChild self.now.nodes key) 0) }
     {
         let _node = self.store.node(key)?;
-        match self.store.link(Place::Children(key.slot)).next.place() {
+        match self.store.children(key.slot).next.place() {
             Place::Sibling(slot) => self.store.node_at(slot),
             _ => None,
         }
@@ -265,7 +265,7 @@ impl<R: Resource> Tree<R> {
         ensures alone { parent_number self.now.nodes key ≡ None → result ≡ None }
     {
         let _parent = self.store.node(key)?.above?;
-        match self.store.link(Place::Sibling(key.slot)).next.place() {
+        match self.store.sibling(key.slot).next.place() {
             Place::Sibling(slot) => self.store.node_at(slot),
             _ => None,
         }
@@ -321,7 +321,7 @@ impl<R: Resource> Tree<R> {
             Err(refused) => return Err(refused),
         };
         if let Some(ring) = sibling_ring(node) {
-            self.store.join(ring, Place::Sibling(key.slot));
+            self.store.join_siblings(ring, key.slot);
         }
         Ok(key)
     }

@@ -21,14 +21,14 @@ unnote-requires-clause-alone g c =
     let h = some_of (find (nodes_of c.args.self.now) c.args.key) c.requires.«open» in
     noted_loop c.args.self.now c.let_wait.new.self c.args.key h.0 h.1 c.let_wait.ensures.waits c.let_wait.ensures.rest c.requires.childless
 
-pub pass_by-requires-clause-before : goal.pass_by-requires-clause-before
-pass_by-requires-clause-before g c =
+pub pass_sibling_by-requires-clause-before : goal.pass_sibling_by-requires-clause-before
+pass_sibling_by-requires-clause-before g c =
     let h = some_of (find (nodes_of c.args.self.now) c.args.key) c.requires.«open» in
     sibling_before c.args.self.now c.let_wait.new.self c.args.key h.0 h.1 c.let_wait.ensures.waits c.let_wait.ensures.rest c.requires.childless
     c.unnote.new.self c.unnote.ensures.leaves c.unnote.ensures.rest
 
-pub pass_by-requires-clause-after : goal.pass_by-requires-clause-after
-pass_by-requires-clause-after g c =
+pub pass_sibling_by-requires-clause-after : goal.pass_sibling_by-requires-clause-after
+pass_sibling_by-requires-clause-after g c =
     let h = some_of (find (nodes_of c.args.self.now) c.args.key) c.requires.«open» in
     sibling_after c.args.self.now c.let_wait.new.self c.args.key h.0 h.1 c.let_wait.ensures.waits c.let_wait.ensures.rest c.requires.childless
     c.unnote.new.self c.unnote.ensures.leaves c.unnote.ensures.rest
@@ -37,32 +37,32 @@ pub take_node-requires-clause-noted : goal.take_node-requires-clause-noted
 take_node-requires-clause-noted g c =
     let h = some_of (find (nodes_of c.args.self.now) c.args.key) c.requires.«open» in
     noted_alone c.args.self.now c.let_wait.new.self c.args.key h.0 h.1 c.let_wait.ensures.waits c.let_wait.ensures.rest c.requires.childless c.unnote.new.self
-    c.unnote.ensures.leaves c.unnote.ensures.rest c.pass_by.new.self c.pass_by.ensures.passes c.pass_by.ensures.rest
+    c.unnote.ensures.leaves c.unnote.ensures.rest c.pass_sibling_by.new.self c.pass_sibling_by.ensures.passes c.pass_sibling_by.ensures.rest
 
 pub take_node-requires-clause-children : goal.take_node-requires-clause-children
 take_node-requires-clause-children g c =
     let h = some_of (find (nodes_of c.args.self.now) c.args.key) c.requires.«open» in
     children_alone c.args.self.now c.let_wait.new.self c.args.key h.0 h.1 c.let_wait.ensures.waits c.let_wait.ensures.rest c.requires.childless
-    c.unnote.new.self c.unnote.ensures.leaves c.unnote.ensures.rest c.pass_by.new.self c.pass_by.ensures.passes c.pass_by.ensures.rest
+    c.unnote.new.self c.unnote.ensures.leaves c.unnote.ensures.rest c.pass_sibling_by.new.self c.pass_sibling_by.ensures.passes c.pass_sibling_by.ensures.rest
 
 pub take_node-requires-clause-held : goal.take_node-requires-clause-held
 take_node-requires-clause-held g c =
     let h = some_of (find (nodes_of c.args.self.now) c.args.key) c.requires.«open» in
     held_alone c.args.self.now c.let_wait.new.self c.args.key h.0 h.1 c.let_wait.ensures.waits c.let_wait.ensures.rest c.requires.childless c.unnote.new.self
-    c.unnote.ensures.leaves c.unnote.ensures.rest c.pass_by.new.self c.pass_by.ensures.passes c.pass_by.ensures.rest
+    c.unnote.ensures.leaves c.unnote.ensures.rest c.pass_sibling_by.new.self c.pass_sibling_by.ensures.passes c.pass_sibling_by.ensures.rest
 
 pub returns-clause-tied : goal.returns-clause-tied
 returns-clause-tied g c =
     let h = some_of (find (nodes_of c.args.self.now) c.args.key) c.requires.«open» in
     leaf_tied c.args.self.now c.let_wait.new.self c.args.key h.0 h.1 c.let_wait.ensures.waits c.let_wait.ensures.rest c.requires.childless c.unnote.new.self
-    c.unnote.ensures.leaves c.unnote.ensures.rest c.pass_by.new.self c.pass_by.ensures.passes c.pass_by.ensures.rest
+    c.unnote.ensures.leaves c.unnote.ensures.rest c.pass_sibling_by.new.self c.pass_sibling_by.ensures.passes c.pass_sibling_by.ensures.rest
     c.take_node.new.self c.take_node.ensures.taken c.take_node.ensures.links (ap (project (λ r. r.stowed)) c.take_node.ensures.resources)
 
 pub returns-clause-chain : goal.returns-clause-chain
 returns-clause-chain g c =
     let h = some_of (find (nodes_of c.args.self.now) c.args.key) c.requires.«open» in
     leaf_chain c.args.self.now c.let_wait.new.self c.args.key h.0 h.1 c.let_wait.ensures.waits c.let_wait.ensures.rest c.requires.childless c.unnote.new.self
-    c.unnote.ensures.leaves c.unnote.ensures.rest c.pass_by.new.self c.pass_by.ensures.passes c.pass_by.ensures.rest
+    c.unnote.ensures.leaves c.unnote.ensures.rest c.pass_sibling_by.new.self c.pass_sibling_by.ensures.passes c.pass_sibling_by.ensures.rest
     c.take_node.new.self c.take_node.ensures.taken c.take_node.ensures.links (ap (project (λ r. r.stowed)) c.take_node.ensures.resources)
 
 pub returns-clause-taken : goal.returns-clause-taken
@@ -71,5 +71,5 @@ returns-clause-taken g c = search (rules, some_of, nodes_of)
 pub take_node-requires-clause-counted : goal.take_node-requires-clause-counted
 take_node-requires-clause-counted g c = search (rules, counted_relinked)
 
-pub pass_by-requires-clause-place : goal.pass_by-requires-clause-place
-pass_by-requires-clause-place g c = search (rules, slot_stands, nodes_of)
+pub pass_sibling_by-requires-clause-place : goal.pass_sibling_by-requires-clause-place
+pass_sibling_by-requires-clause-place g c = search (rules, slot_stands, nodes_of)

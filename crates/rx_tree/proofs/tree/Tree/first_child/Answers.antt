@@ -12,7 +12,7 @@ returns-in-Sibling-clause-some g c =
     (ap is_some (sym c.node.ensures ∙ c.in_ok-_node.was)) in
     rw (← c.self.view_is) (subst (λ o. IfSome o (IsFirst (IsChild (nodes_of s) c.args.key) 0)) (sym c.node_at.ensures)
     (first_some (nodes_of s) (resources_of s) (next_of s) (previous_of s) c.self.invariant.tied (IsChild (nodes_of s) c.args.key)
-    (Children c.args.key.slot) refl refl ring c.in-Sibling.slot (ap (λ l. l.next) (sym c.link.ensures) ∙ (sym c.place.ensures ∙ c.in-Sibling.is))))
+    (Children c.args.key.slot) refl refl ring c.in-Sibling.slot (ap (λ l. l.next) (sym c.children.ensures) ∙ (sym c.place.ensures ∙ c.in-Sibling.is))))
 
 pub returns-in-Sibling-clause-none : goal.returns-in-Sibling-clause-none
 returns-in-Sibling-clause-none g c =
@@ -21,7 +21,7 @@ returns-in-Sibling-clause-none g c =
     (ap is_some (sym c.node.ensures ∙ c.in_ok-_node.was)) in
     rw (← c.self.view_is) (subst (λ o. IfNone o (HasNone (IsChild (nodes_of s) c.args.key) 0)) (sym c.node_at.ensures)
     (first_there (nodes_of s) (resources_of s) (next_of s) (previous_of s) c.self.invariant.tied (IsChild (nodes_of s) c.args.key)
-    (Children c.args.key.slot) refl refl ring c.in-Sibling.slot (ap (λ l. l.next) (sym c.link.ensures) ∙ (sym c.place.ensures ∙ c.in-Sibling.is))))
+    (Children c.args.key.slot) refl refl ring c.in-Sibling.slot (ap (λ l. l.next) (sym c.children.ensures) ∙ (sym c.place.ensures ∙ c.in-Sibling.is))))
 
 pub returns-in_default : goal.returns-in_default
 returns-in_default g c =
@@ -31,8 +31,8 @@ returns-in_default g c =
     rw (← c.self.view_is) (record {
       some = tt;
       none = first_none (nodes_of s) (resources_of s) (next_of s) (previous_of s) c.self.invariant.tied (IsChild (nodes_of s) c.args.key)
-          (Children c.args.key.slot) refl refl ring (λ slot e. c.in_default.not-Sibling slot (c.place.ensures ∙ ap (λ l. l.next) c.link.ensures ∙ e));
+          (Children c.args.key.slot) refl refl ring (λ slot e. c.in_default.not-Sibling slot (c.place.ensures ∙ ap (λ l. l.next) c.children.ensures ∙ e));
     })
 
-pub link-requires : goal.link-requires
-link-requires g c = search (rules, slot_stands, nodes_of)
+pub children-requires : goal.children-requires
+children-requires g c = search (rules, slot_stands, nodes_of)

@@ -14,13 +14,13 @@ returns-in_err-_parent-clause-none g c = let s = c.self.inside.store in rw (← 
 pub returns-in-Sibling-clause-some : goal.returns-in-Sibling-clause-some
 returns-in-Sibling-clause-some g c = let s = c.self.inside.store in rw (← c.self.view_is) (subst (λ o. IfSome o (λ next. (parent : Key) → IsChild
     (nodes_of s) parent c.args.key → IsFirst (IsChild (nodes_of s) parent) (c.args.key.number + 1) next)) (sym c.node_at.ensures) (sibling_some
-    (nodes_of s) (resources_of s) (next_of s) (previous_of s) c.self.invariant.tied _ _ (ap (λ l. l.next) (sym c.link.ensures) ∙ (sym c.place.ensures
+    (nodes_of s) (resources_of s) (next_of s) (previous_of s) c.self.invariant.tied _ _ (ap (λ l. l.next) (sym c.sibling.ensures) ∙ (sym c.place.ensures
     ∙ c.in-Sibling.is))))
 
 pub returns-in-Sibling-clause-none : goal.returns-in-Sibling-clause-none
 returns-in-Sibling-clause-none g c = let s = c.self.inside.store in rw (← c.self.view_is) (subst (λ o. IfNone o ((parent : Key) → IsChild (nodes_of s)
     parent c.args.key → HasNone (IsChild (nodes_of s) parent) (c.args.key.number + 1))) (sym c.node_at.ensures) (sibling_there (nodes_of s)
-    (resources_of s) (next_of s) (previous_of s) c.self.invariant.tied _ _ (ap (λ l. l.next) (sym c.link.ensures) ∙ (sym c.place.ensures ∙ c.in-Sibling.is))))
+    (resources_of s) (next_of s) (previous_of s) c.self.invariant.tied _ _ (ap (λ l. l.next) (sym c.sibling.ensures) ∙ (sym c.place.ensures ∙ c.in-Sibling.is))))
 
 pub returns-in-Sibling-clause-alone : goal.returns-in-Sibling-clause-alone
 returns-in-Sibling-clause-alone g c = let s = c.self.inside.store in rw (← c.self.view_is) (λ none. absurd (named_above_one (nodes_of s) (resources_of
@@ -32,9 +32,9 @@ returns-in_default g c =
     rw (← c.self.view_is) (record {
       some = tt;
       none = sibling_none (nodes_of s) (resources_of s) (next_of s) (previous_of s) c.self.invariant.tied c.args.key
-          (λ slot e. c.in_default.not-Sibling slot (c.place.ensures ∙ ap (λ l. l.next) c.link.ensures ∙ e));
+          (λ slot e. c.in_default.not-Sibling slot (c.place.ensures ∙ ap (λ l. l.next) c.sibling.ensures ∙ e));
       alone = λ none. refl;
     })
 
-pub link-requires : goal.link-requires
-link-requires g c = search (rules, slot_stands, nodes_of)
+pub sibling-requires : goal.sibling-requires
+sibling-requires g c = search (rules, slot_stands, nodes_of)

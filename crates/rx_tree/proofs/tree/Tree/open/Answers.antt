@@ -10,8 +10,8 @@ invariant_of-self g c =
     subst (λ s. IsKept s) (sym c.in-Err.ensures.err)
     (record { tied = room_nodes s room refl c.self.invariant.tied; counted = counted_room_nodes s c.self.invariant.counted room refl })
 
-pub join-requires-clause-last : goal.join-requires-clause-last
-join-requires-clause-last g c =
+pub join_siblings-requires-clause-last : goal.join_siblings-requires-clause-last
+join_siblings-requires-clause-last g c =
     let s = c.self.inside.store in
     opened_last s c.add_node.new.self
     c.self.invariant.tied c.in-Ok.ensures.ok c.add_node.ensures.links (ap (project (λ r. r.stowed)) c.add_node.ensures.resources) c.in-Some.ring
@@ -24,9 +24,9 @@ invariant_of-self-in-Some g c =
       tied = opened_on_tied c.self.inside.store c.add_node.new.self c.in-Ok.key c.args.number
           (record { made = c.args.made; above = c.args.above; marks = c.blank.result }) c.self.invariant.tied c.in-Ok.ensures.ok
           (rw (← c.self.view_is) at c.requires.newest.past) (rw (← c.self.view_is) at c.requires.newest.homes) (rw (← c.self.view_is) at c.requires.placed)
-          c.add_node.ensures.links (ap (project (λ r. r.stowed)) c.add_node.ensures.resources) c.join.new.self c.in-Some.ring
-          (sym c.sibling_ring.ensures ∙ c.in-Some.is) c.join.ensures.joins c.join.ensures.rest;
-      counted = counted_relinked c.add_node.new.self c.join.new.self c.join.ensures.rest c.in-Ok.ensures.counted;
+          c.add_node.ensures.links (ap (project (λ r. r.stowed)) c.add_node.ensures.resources) c.join_siblings.new.self c.in-Some.ring
+          (sym c.sibling_ring.ensures ∙ c.in-Some.is) c.join_siblings.ensures.joins c.join_siblings.ensures.rest;
+      counted = counted_relinked c.add_node.new.self c.join_siblings.new.self c.join_siblings.ensures.rest c.in-Ok.ensures.counted;
     }
 
 pub invariant_of-self-in_default : goal.invariant_of-self-in_default
@@ -43,8 +43,8 @@ pub returns-in-Some-clause-chain : goal.returns-in-Some-clause-chain
 returns-in-Some-clause-chain g c = rw (← c.self.view_is) (opened_on_chain c.self.inside.store c.add_node.new.self c.in-Ok.key c.args.number
     (record { made = c.args.made; above = c.args.above; marks = c.blank.result }) c.self.invariant.tied c.in-Ok.ensures.ok
     (rw (← c.self.view_is) at c.requires.newest.past) (rw (← c.self.view_is) at c.requires.newest.homes) (rw (← c.self.view_is) at c.requires.placed)
-    c.add_node.ensures.links (ap (project (λ r. r.stowed)) c.add_node.ensures.resources) c.join.new.self c.in-Some.ring
-    (sym c.sibling_ring.ensures ∙ c.in-Some.is) c.join.ensures.joins c.join.ensures.rest)
+    c.add_node.ensures.links (ap (project (λ r. r.stowed)) c.add_node.ensures.resources) c.join_siblings.new.self c.in-Some.ring
+    (sym c.sibling_ring.ensures ∙ c.in-Some.is) c.join_siblings.ensures.joins c.join_siblings.ensures.rest)
 
 pub returns-in_default-clause-chain : goal.returns-in_default-clause-chain
 returns-in_default-clause-chain g c = rw (← c.self.view_is) (opened_off_chain c.self.inside.store c.add_node.new.self c.in-Ok.key c.args.number
@@ -59,7 +59,7 @@ pub add_node-requires-clause-owes_nothing : goal.add_node-requires-clause-owes_n
 add_node-requires-clause-owes_nothing g c = ap (λ (m : Marks). m.owed) c.blank.ensures
 
 pub returns-in-Some-clause-owed : goal.returns-in-Some-clause-owed
-returns-in-Some-clause-owed g c = ap owed_in c.join.ensures.rest.nodes ∙ owed_opened c.self.inside.store c.add_node.new.self c.in-Ok.key c.args.number
+returns-in-Some-clause-owed g c = ap owed_in c.join_siblings.ensures.rest.nodes ∙ owed_opened c.self.inside.store c.add_node.new.self c.in-Ok.key c.args.number
     (record { made = c.args.made; above = c.args.above; marks = c.blank.result }) c.in-Ok.ensures.ok (ap (λ (m : Marks). m.owed) c.blank.ensures) ∙
     ap (λ (x : Tree g.row.R.Denot). owed_in x.nodes) c.self.view_is
 

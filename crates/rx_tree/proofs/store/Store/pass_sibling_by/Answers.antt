@@ -1,0 +1,18 @@
+use Rattle.rx_tree.proofs.Common.{ap, ◌∙◌, places, set_step, next_of}
+use Rattle.rx_tree.proofs.TieLemmas.{relinks_both}
+use Rattle.rx_tree.proofs.store.Store.pass_sibling_by.Goals as goal
+
+pub returns-clause-passes : goal.returns-clause-passes
+returns-clause-passes g c =
+    let before = c.place_beside.ensures ∙ ap (λ k. k.previous) c.sibling-link.ensures in
+    let next = c.again.ensures ∙ ap (λ k. k.next) c.sibling-link.ensures in
+    let after = c.place_beside-2.ensures ∙ ap (λ k. k.next) c.sibling-link.ensures in
+    record {
+      to = λ q. c.set_previous_sibling.ensures.next q ∙ c.set_next_sibling.ensures.next q ∙
+          (λ i. set_step places (before i) (next i) (next_of c.args.self.now) q);
+      back = λ q. c.set_previous_sibling.ensures.previous q ∙
+          (λ i. set_step places (after i) (c.sibling-link.ensures i).previous (λ r. c.set_next_sibling.ensures.previous r i) q);
+    }
+
+pub returns-clause-rest : goal.returns-clause-rest
+returns-clause-rest g c = relinks_both _ _ _ c.set_next_sibling.ensures.rest c.set_previous_sibling.ensures.rest

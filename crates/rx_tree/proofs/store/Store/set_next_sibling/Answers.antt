@@ -1,0 +1,29 @@
+use Rattle.rx_tree.proofs.InPlace.{there_project}
+use Rattle.rx_tree.proofs.LinkWrites.{next-written, previous-kept, writes-Children, writes-Sibling}
+use Rattle.rx_tree.proofs.store.Store.set_next_sibling.Goals as goal
+use Rattle.std.proofs.Common.{rules}
+
+pub at_mut-requires : goal.at_mut-requires
+at_mut-requires g c = record { there = there_project (λ l. l.node) c.args.self.now.nodes c.in-Children.slot (rw c.in-Children.is at c.requires.there) }
+
+pub returns-in-Children-clause-next : goal.returns-in-Children-clause-next
+returns-in-Children-clause-next g c = search (rules, next-written, writes-Children)
+
+pub returns-in-Children-clause-previous : goal.returns-in-Children-clause-previous
+returns-in-Children-clause-previous g c = search (rules, previous-kept, writes-Children)
+
+pub returns-in-Children-clause-rest : goal.returns-in-Children-clause-rest
+returns-in-Children-clause-rest g c = search (rules, writes-Children)
+
+pub at_mut-requires-in-Sibling : goal.at_mut-requires-in-Sibling
+at_mut-requires-in-Sibling g c =
+    record { there = there_project (λ l. l.node) c.args.self.now.nodes c.in-Sibling.slot (rw c.in-Sibling.is at c.requires.there) }
+
+pub returns-in-Sibling-clause-next : goal.returns-in-Sibling-clause-next
+returns-in-Sibling-clause-next g c = search (rules, next-written, writes-Sibling)
+
+pub returns-in-Sibling-clause-previous : goal.returns-in-Sibling-clause-previous
+returns-in-Sibling-clause-previous g c = search (rules, previous-kept, writes-Sibling)
+
+pub returns-in-Sibling-clause-rest : goal.returns-in-Sibling-clause-rest
+returns-in-Sibling-clause-rest g c = search (rules, writes-Sibling)
