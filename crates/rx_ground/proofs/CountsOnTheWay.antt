@@ -4,7 +4,7 @@ use Rattle.rx_ground.proofs.Common.{refl, ap, subst, ◌∙◌, arith, if◌then
 use Rattle.rx_ground.proofs.Common.{Slots, Node, Reached, Stop, Delivery, Projection, Firing, Connection, Hub, Route, IsUnderWay, Arrives, stops_left, sum_at}
 use Rattle.rx_ground.proofs.Common.{all_visits, visited_over, onward_over, climb_over, stops_over, IsArrived, IsMeasured, owed_at, told_at}
 use Rattle.rx_hub.specs.Way.{way, end_of}
-use Rattle.rx_hub.proofs.Laws.StopInTree.{climb_over-arrived, stops_over-arrived}
+use Rattle.rx_hub.proofs.Laws.StopInTree.{climb_over-arrived, climb_over-least, stops_over-arrived}
 use Rattle.std.proofs.Common.{rules}
 
 -- the limit ---------------------------------------------------------------------------------------
@@ -37,7 +37,15 @@ visits_past n v same many = search (rules, limit_is, not, nat_lt, lt-ltb)
 pub visits_within : (n v : ℕ) → n ≡ v → n ≤ 1048576 → true ≡ not (nat_lt most_visits v)
 visits_within n v same less = search (rules, limit_is, not, nat_lt, le-ltb)
 
+visits_beyond : (n v : ℕ) → n ≤ v → 1048576 < n → false ≡ not (nat_lt most_visits v)
+visits_beyond n v least many = search (rules, limit_is, not, nat_lt, lt-ltb)
+
 -- in its own tree ---------------------------------------------------------------------------------
+
+-- a climb that is cut off in its own tree makes more visits than an item may
+pub too_far : (nodes : Slots Node) (hubs : List Hub) (key : Key) (n : ℕ) → n ≡ length (way nodes key) → 1048576 < n →
+    false ≡ not (nat_lt most_visits (length (climb_over nodes hubs key)))
+too_far nodes hubs key n same many = visits_beyond n _ (rw same (climb_over-least nodes hubs key)) many
 
 -- an item that makes one stop wants what that wants
 pub measured_alone : (stop : Stop) → IsMeasured (stop ∷ []) (record { events = 1 + owed_at stop; notes = told_at stop })

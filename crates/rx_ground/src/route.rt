@@ -95,21 +95,16 @@ fn arrived(climb: Reached) -> Option<Stop>
     }
 }
 
-/// What an item of this node wants, by one walk of its way over all hubs, and its stop where it makes just one;
-/// None where it would make more visits than it may.
+/// What an item of this node wants, by one walk of its way over all hubs, and its stop where it makes just one. How
+/// many visits it makes, the route then says.
 #[inline(never)]
-fn measure_over<R: Resource>(
-    tree: &Tree<R>,
-    hubs: &Hubs,
-    route: &mut Route,
-    node: Key,
-) -> Option<Way>
+fn measure_over<R: Resource>(tree: &Tree<R>, hubs: &Hubs, route: &mut Route, node: Key) -> Way
     requires open { IsSome (find tree.now.nodes node) }
     requires ordered { IsOrdered tree.now.nodes hubs.now.hubs }
     requires room { length hubs.now.hubs ≤ route.old.room }
-    ensures reach { IfSome result (λ way. IsMeasured (stops_over tree.now.nodes hubs.now.hubs node) way.reach) }
-    ensures only { IfSome result (λ way. MakesOnly tree.now.nodes hubs.now.hubs node way.only) }
-    ensures visits { is_some result ≡ not (nat_lt most_visits (length (climb_over tree.now.nodes hubs.now.hubs node))) }
+    ensures reach { IsMeasured (stops_over tree.now.nodes hubs.now.hubs node) result.reach }
+    ensures only { MakesOnly tree.now.nodes hubs.now.hubs node result.only }
+    ensures visits { route.new.visits ≡ length (climb_over tree.now.nodes hubs.now.hubs node) }
     ensures room { route.new.room ≡ route.old.room }
 {
     route.start(node);
@@ -123,13 +118,10 @@ fn measure_over<R: Resource>(
         only = if_first(is_first, stop);
         is_first = false;
     }
-    if route.visits() > MOST_VISITS {
-        return None;
-    }
-    Some(Way {
+    Way {
         reach: Reach { events, notes },
         only,
-    })
+    }
 }
 
 /// What an item of this node wants, and its stop where it makes just one; None where it would make more visits
@@ -145,6 +137,9 @@ fn measure<R: Resource>(tree: &Tree<R>, hubs: &Hubs, route: &mut Route, node: Ke
     ensures room { route.new.room ≡ route.old.room }
 {
     let reached = climb(tree, node);
+    if reached.visits > MOST_VISITS {
+        return None;
+    }
     match arrived(reached) {
         Some(stop) => {
             let owed = owed_at(stop);
@@ -157,7 +152,13 @@ fn measure<R: Resource>(tree: &Tree<R>, hubs: &Hubs, route: &mut Route, node: Ke
                 only: Some(stop),
             })
         }
-        None => measure_over(tree, hubs, route, node),
+        None => {
+            let way = measure_over(tree, hubs, route, node);
+            if route.visits() > MOST_VISITS {
+                return None;
+            }
+            Some(way)
+        }
     }
 }
 

@@ -1,6 +1,6 @@
 -- An item whose way ends in its own tree arrives there alone.
 use Rattle.rx_hub.proofs.Common.{◌≡◌, ℕ, zero, suc, ◌-◌, ◌≤◌, List, [], ◌∷◌, length, Some, arith, filter_map, append-nil, option_and_then, option_to_list}
-use Rattle.rx_hub.proofs.Common.{none-some, Key, Slots, Node, Stop, way_within, way, end_of, Hub, beyond, visited_over, climb_over, arrival, stops_over}
+use Rattle.rx_hub.proofs.Common.{length-append, ap, ◌++◌, ◌∙◌, most_visits, beyond_end, none-some, Key, Slots, Node, Stop, way_within, way, end_of, Hub, beyond, visited_over, climb_over, arrival, stops_over}
 use Rattle.rx_hub.proofs.RouteWays.{visited_way, stops_way}
 use Rattle.std.proofs.Common.{rules}
 
@@ -20,6 +20,14 @@ module _ (nodes : Slots Node) (hubs : List Hub) where
   pub climb_over-arrived : (key : Key) (stop : Stop) → end_of nodes (way nodes key) ≡ Some stop → arrival stop ≡ Some stop →
       climb_over nodes hubs key ≡ way nodes key
   climb_over-arrived key stop ends arrives = search (rules, visited_way, way_within-le, none_beyond, visited_none, append-nil)
+
+  -- it visits no fewer where it goes on
+  pub climb_over-least : (key : Key) → length (way nodes key) ≤ length (climb_over nodes hubs key)
+  climb_over-least key =
+      let w = way nodes key in
+      let behind = visited_over (suc most_visits - length w) nodes hubs (beyond_end nodes hubs (end_of nodes w) ++ []) in
+      let all = visited_way nodes hubs (suc most_visits) (suc most_visits) key [] (omega arith) (way_within-le (suc most_visits) nodes key) in
+      omega (arith, ap (length {A = Key}) all ∙ length-append w behind)
 
   -- and stops at its end
   pub stops_over-arrived : (key : Key) (stop : Stop) → end_of nodes (way nodes key) ≡ Some stop → arrival stop ≡ Some stop →

@@ -1,5 +1,5 @@
 use Rattle.rx_ground.proofs.Common.{ap, Route}
-use Rattle.rx_ground.proofs.CountsOnTheWay.{measuring_starts, measuring_on, measuring_ends, measuring_only, visits_past, visits_within}
+use Rattle.rx_ground.proofs.CountsOnTheWay.{measuring_starts, measuring_on, measuring_ends, measuring_only}
 use Rattle.rx_ground.proofs.route.measure_over.Goals as goal
 use Rattle.std.proofs.Common.{rules}
 
@@ -7,11 +7,8 @@ pub loop-stop-init : goal.loop-stop-init
 loop-stop-init g c = measuring_starts _ _ _ _ _ (c.start.ensures.under_way _ _ c.requires.open c.requires.room) (ap (λ (r : Route). r.room)
     c.start.ensures.started) (c.start.ensures.visits _ _) (c.start.ensures.stops _ _)
 
-pub returns-then-visits-gt-MOST_VISITS-clause-visits : goal.returns-then-visits-gt-MOST_VISITS-clause-visits
-returns-then-visits-gt-MOST_VISITS-clause-visits g c = search (rules, measuring_ends, visits_past)
-
 pub returns-clause-visits : goal.returns-clause-visits
-returns-clause-visits g c = search (rules, measuring_ends, visits_within)
+returns-clause-visits g c = search (rules, measuring_ends)
 
 pub loop-stop-preserved : goal.loop-stop-preserved
 loop-stop-preserved g c = search (rules, measuring_on)
