@@ -75,6 +75,9 @@ impl Register {
             return None;
         }
         self.told -= 1;
-        self.mail.pop_front()
+        match self.mail.pop_front() {
+            Some(mail) => Some(mail),
+            None => unreachable!(),
+        }
     }
 }
