@@ -96,7 +96,7 @@ fn does(value: Part<'_, '_>, word: &str) -> bool
 fn says(value: Part<'_, '_>, members: &[&str], word: &str) -> bool
     ensures { result ≡ says (map (λ s. s.now) members.now) word.now (part_data value.entry) }
 {
-    is_object_of(value, members) && does(value, word)
+    does(value, word) && is_object_of(value, members)
 }
 
 // The node that a value asks about.

@@ -1,5 +1,6 @@
 //! Lines in, lines out.
 
+use memchr::memchr;
 use rx_live::{Live, faulty_text};
 use std::alloc::{AllocError, Global};
 use std::io::{Read, Result as IoResult, Write};
@@ -62,13 +63,18 @@ fn write_line<W: Write>(output: &mut W, answer: Result<String, AllocError>) -> I
     output.write_all(b"\n")
 }
 
-// Answers a line that has come whole.
+// Answers a line that ends with this piece of the input. One that lies in it whole is read there.
 fn answer<W: Write>(
     alloc: Global,
     live: &mut Live,
     line: &mut Line,
+    piece: &[u8],
     output: &mut W,
 ) -> IoResult<()> {
+    if line.is_empty() && piece.len() <= MOST_BYTES {
+        return write_line(output, live.send(piece));
+    }
+    line.take_in(piece);
     let answer = if line.is_long {
         faulty(alloc, "a line has at most 65536 bytes")
     } else {
@@ -86,15 +92,13 @@ fn answer_all<W: Write>(
     output: &mut W,
     piece: &[u8],
 ) -> IoResult<()> {
-    let mut begin = 0;
-    for (place, byte) in piece.iter().enumerate() {
-        if *byte == b'\n' {
-            line.take_in(&piece[begin..place]);
-            answer(alloc, live, line, output)?;
-            begin = place + 1;
-        }
+    let mut left = piece;
+    while let Some(length) = memchr(b'\n', left) {
+        let (whole, rest) = left.split_at(length);
+        answer(alloc, live, line, whole, output)?;
+        left = &rest[1..];
     }
-    line.take_in(&piece[begin..]);
+    line.take_in(left);
     Ok(())
 }
 

@@ -1,6 +1,5 @@
--- What was not answered yet begins before the byte at hand.
-use Rattle.std.proofs.Common.{◌≤◌}
 use Rattle.rxlive.proofs.serve.answer_all.Given as goal
+use Rattle.std.proofs.Common.{length}
 
-abbrev pub invariant-loop-place : goal.invariant-loop-place
-invariant-loop-place g l = l.begin ≤ l.place
+abbrev pub decreases-loop-length : goal.decreases-loop-length
+decreases-loop-length g l = length l.left
