@@ -36,4 +36,4 @@ pub use Rattle.rx_tree.specs.Cuts.{Descends, from_top, IsCutting, one_down, stil
 pub use Rattle.rx_tree.specs.{Places.places, Places.is_place, Places.slot_of, Places.is_end, declared.node.Node.Node, declared.node.ResKey.ResKey}
 pub use Rattle.rx_tree.specs.Record.{above_of, end_word, kind_word, made_of, marks_of, node_in, node_of, packed_of, place_word}
 pub use Rattle.rx_tree.specs.declared.links.Place.TheVariants.{Noted, Stored, Held, Children, Sibling, Due, Roots, Waiting}
-pub use Rattle.rx_tree.specs.declared.{node.Stowed.Stowed, packed.Packed.Packed, packed.PlaceWord.PlaceWord, store.Counts.Counts, store.Store.Store}
+pub use Rattle.rx_tree.specs.declared.{node.Stowed.Stowed, packed.Packed.Packed, packed.PlaceWord.PlaceWord, counts.Counts.Counts, store.Store.Store}

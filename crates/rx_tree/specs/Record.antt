@@ -17,7 +17,7 @@ use Rattle.rx_tree.specs.declared.packed.EndWord.{EndWord}
 use Rattle.rx_tree.specs.declared.packed.KindWord.{KindWord}
 use Rattle.rx_tree.specs.declared.packed.Packed.{Packed}
 use Rattle.rx_tree.specs.declared.packed.PlaceWord.{PlaceWord}
-use Rattle.rx_tree.specs.declared.store.Counts.{Counts}
+use Rattle.rx_tree.specs.declared.counts.Counts.{Counts}
 use Rattle.rx_tree.specs.Happened.{Happened}
 
 -- what made a node, and where, without the numbers in it

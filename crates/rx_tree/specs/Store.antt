@@ -10,7 +10,7 @@ use Rattle.rx_tree.specs.declared.links.Place.TheVariants.{Roots, Due, Waiting, 
 use Rattle.rx_tree.specs.declared.node.Node.{Node}
 use Rattle.rx_tree.specs.declared.node.Stowed.{Stowed}
 use Rattle.rx_tree.specs.declared.store.Store.{Store}
-use Rattle.rx_tree.specs.declared.store.Counts.{Counts}
+use Rattle.rx_tree.specs.declared.counts.Counts.{Counts}
 use Rattle.rx_slots.specs.Rings.{walk, Steps}
 use Rattle.rx_tree.specs.Places.{is_place, slot_of, places}
 use Rattle.rx_tree.specs.Tree.{Tree}

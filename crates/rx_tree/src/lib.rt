@@ -44,6 +44,7 @@
 
 mod checkpoint;
 mod closed;
+mod counts;
 mod flags;
 mod linked;
 mod links;

@@ -11,10 +11,10 @@ ghost use Rattle.rx_tree.specs.Tree.{with_marks};
 ghost use Rattle.rx_tree.specs.declared.links.Place.TheVariants.{Children, Held, Sibling, Noted};
 
 use crate::closed::Closed;
+use crate::counts::Counts;
 use crate::links::{Link, Place, Step};
 use crate::node::Node;
 use crate::packed::{KindWord, Packed, PlaceWord, completes_source, first_end};
-use crate::store::Counts;
 use rx_event::{Event, Marks, Place as At, Terminal};
 use rx_slots::Key;
 use std::marker::Model;

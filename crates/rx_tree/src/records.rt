@@ -18,10 +18,11 @@ ghost use Rattle.std.proofs.Math.Bool.{not};
 ghost use Rattle.std.specs.Option.{option_map_or, option_and_then};
 ghost use Rattle.rx_tree.specs.declared.links.Place.TheVariants.{Children, Held, Sibling, Noted, Stored as At};
 
+use crate::counts::Counts;
 use crate::linked::Record;
 use crate::links::{Link, Place};
 use crate::node::{Node, Stowed};
-use crate::store::{Counts, Store, Stored};
+use crate::store::{Store, Stored};
 use rx_event::{Marks, Terminal};
 use rx_slots::Key;
 use std::alloc::AllocError;

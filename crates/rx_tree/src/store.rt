@@ -1,61 +1,18 @@
 //! The records of the nodes and the resources, each with its links, and the rings that the links make.
 
-ghost use Rattle.std.specs.Prelude.{◌≡◌, ◌+◌, ◌<◌, ◌^◌, [], IsTrue};
+ghost use Rattle.std.specs.Prelude.{◌≡◌, ◌<◌, ◌^◌, [], IsTrue};
 ghost use Rattle.rx_slots.specs.Rings.{set_step, Joins, PassesBy, Leaves, Merges};
 ghost use Rattle.rx_tree.specs.Places.{places, slot_of};
 ghost use Rattle.rx_tree.specs.Store.{alone, link_at, set_link_at, next_of, previous_of};
-ghost use Rattle.rx_tree.specs.Store.{is_there, no_counts, count_if, one_more, one_less, Relinks};
+ghost use Rattle.rx_tree.specs.Store.{is_there, no_counts, Relinks};
 ghost use Rattle.rx_tree.specs.declared.links.Place.TheVariants.{Roots, Due, Waiting, Children, Held, Sibling, Noted};
 
+use crate::counts::Counts;
 use crate::linked::Record;
 use crate::links::{Link, Place, Step};
 use crate::node::Stowed;
 use rx_slots::{Records, Slots};
 use std::alloc::Global;
-
-/// How many resources are so that have no lease out, and how many that have one: no more than there are slots.
-#[derive(Clone, Copy)]
-pub(crate) struct Counts {
-    pub(crate) free: u32,
-    pub(crate) lent: u32,
-}
-
-impl Counts {
-    pub(crate) fn zero() -> Self
-        ensures free { result.free ≡ 0 }
-        ensures lent { result.lent ≡ 0 }
-    {
-        Counts { free: 0, lent: 0 }
-    }
-
-    // One more, of those that have a lease out or of the others.
-    pub(crate) fn more(self, lent: bool) -> Self
-        requires { count_if lent self + 1 < 2 ^ 32 }
-        ensures { result ≡ one_more lent self }
-    {
-        let mut counts = self;
-        if lent {
-            counts.lent += 1;
-        } else {
-            counts.free += 1;
-        }
-        counts
-    }
-
-    // One less.
-    pub(crate) fn less(self, lent: bool) -> Self
-        requires { 0 < count_if lent self }
-        ensures { result ≡ one_less lent self }
-    {
-        let mut counts = self;
-        if lent {
-            counts.lent -= 1;
-        } else {
-            counts.free -= 1;
-        }
-        counts
-    }
-}
 
 /// A resource with its links.
 #[derive(Drop)]
@@ -126,7 +83,7 @@ impl<R: Drop> Store<R> {
         self.nodes.at(slot).held()
     }
 
-    // Writes it.
+    // Writes what comes first and last of them.
     #[inline(always)]
     fn set_held(&mut self, slot: usize, link: Link)
         requires there { IsTrue (is_there self.old (Held slot)) }
@@ -145,7 +102,7 @@ impl<R: Drop> Store<R> {
         self.nodes.at(slot).sibling()
     }
 
-    // Writes it.
+    // Writes what comes after it there, and before it.
     #[inline(always)]
     pub(crate) fn set_sibling(&mut self, slot: usize, link: Link)
         requires there { IsTrue (is_there self.old (Sibling slot)) }

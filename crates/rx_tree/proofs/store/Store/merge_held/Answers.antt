@@ -18,10 +18,10 @@ returns-clause-merges g c =
       back = λ q. c.set_previous-2.ensures.previous q ∙
           (λ i. set_step places Waiting (sym c.place_beside-3.ensures i) (λ r. c.set_next-2.ensures.previous r i) q);
     }) (record {
-      to = wrote_next (link_at c.set_previous-2.new.self) (link_at c.set_held.new.self) (Held c.args.slot) c.alone.result c.set_held.ensures.linked (Held c.args.slot)
-          (ap (λ k. k.next) c.alone.ensures);
-      back = wrote_previous (link_at c.set_previous-2.new.self) (link_at c.set_held.new.self) (Held c.args.slot) c.alone.result c.set_held.ensures.linked (Held c.args.slot)
-          (ap (λ k. k.previous) c.alone.ensures);
+      to = wrote_next (link_at c.set_previous-2.new.self) (link_at c.set_held.new.self) (Held c.args.slot) c.alone.result c.set_held.ensures.linked
+          (Held c.args.slot) (ap (λ k. k.next) c.alone.ensures);
+      back = wrote_previous (link_at c.set_previous-2.new.self) (link_at c.set_held.new.self) (Held c.args.slot) c.alone.result c.set_held.ensures.linked
+          (Held c.args.slot) (ap (λ k. k.previous) c.alone.ensures);
     })
 
 pub returns-clause-rest : goal.returns-clause-rest

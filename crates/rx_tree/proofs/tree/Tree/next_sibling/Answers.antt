@@ -20,7 +20,8 @@ returns-in-Sibling-clause-some g c = let s = c.self.inside.store in rw (← c.se
 pub returns-in-Sibling-clause-none : goal.returns-in-Sibling-clause-none
 returns-in-Sibling-clause-none g c = let s = c.self.inside.store in rw (← c.self.view_is) (subst (λ o. IfNone o ((parent : Key) → IsChild (nodes_of s)
     parent c.args.key → HasNone (IsChild (nodes_of s) parent) (c.args.key.number + 1))) (sym c.node_at.ensures) (sibling_there (nodes_of s)
-    (resources_of s) (next_of s) (previous_of s) c.self.invariant.tied _ _ (ap (λ l. l.next) (sym c.sibling.ensures) ∙ (sym c.place.ensures ∙ c.in-Sibling.is))))
+    (resources_of s) (next_of s) (previous_of s) c.self.invariant.tied _ _ (ap (λ l. l.next) (sym c.sibling.ensures) ∙ (sym c.place.ensures
+    ∙ c.in-Sibling.is))))
 
 pub returns-in-Sibling-clause-alone : goal.returns-in-Sibling-clause-alone
 returns-in-Sibling-clause-alone g c = let s = c.self.inside.store in rw (← c.self.view_is) (λ none. absurd (named_above_one (nodes_of s) (resources_of
