@@ -1,6 +1,6 @@
 //! What a book holds in the place of a resource that its caller keeps.
 
-ghost use Rattle.std.specs.Prelude.{◌≡◌, ◌+◌, ◌<◌, ◌^◌};
+ghost use Rattle.std.specs.Prelude.{◌≡◌, ◌+◌, ◌<◌, ◌^◌, IsOk};
 ghost use Rattle.rx_resource.specs.declared.Life.{Life};
 
 use crate::{Life, Resource};
@@ -62,6 +62,7 @@ impl Resource for Token {
     /// Answers no fault.
     fn release(&mut self) -> Result<(), u32>
         requires live { self.old.life ≡ Life.Live }
+        ensures no_fault { IsOk result }
         ensures released { self.new ≡ record self.old { life = Life.Released } }
     {
         self.life = Life::Released;

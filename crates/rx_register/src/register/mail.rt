@@ -75,9 +75,6 @@ impl Register {
             return None;
         }
         self.told -= 1;
-        match self.mail.pop_front() {
-            Some(mail) => Some(mail),
-            None => unreachable!(),
-        }
+        self.mail.pop_front()
     }
 }

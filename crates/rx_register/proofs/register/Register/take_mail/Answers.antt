@@ -1,4 +1,4 @@
-use Rattle.std.proofs.Common.{◌<◌, ◌≡◌, ◌∙◌, ℕ, arith, rules, sym}
+use Rattle.std.proofs.Common.{◌<◌, ◌≡◌, ℕ, arith, rules}
 use Rattle.rx_event.specs.Notes.{notes}
 use Rattle.rx_register.proofs.RegisterStaysTied.{IsPopped, popped_first, popped_inside}
 use Rattle.rx_register.proofs.register.Register.take_mail.Goals as goal
@@ -16,4 +16,4 @@ pub returns-clause-value : goal.returns-clause-value
 returns-clause-value c =
     let first : IsPopped (notes c.self.inside.history.events) c.self.inside.mail.items c.pop_front.new.self.items c.self.inside.told
     c.pop_front.result = search (rules, popped_first, some) in
-    rw (← c.self.view_is) (sym c.in-Some.is ∙ first.value)
+    rw (← c.self.view_is) first.value
