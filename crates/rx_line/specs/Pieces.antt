@@ -1,5 +1,5 @@
 -- The pieces of an answer, in JSON.
-use Rattle.std.specs.Prelude.{ℕ, ℤ, Bool, true, false, List, [], ◌∷◌, ◌++◌, codes, flat_map}
+use Rattle.std.specs.Prelude.{ℕ, ℤ, List, [], ◌∷◌, ◌++◌, codes, flat_map}
 use Rattle.std.specs.Fmt.{decimal, signed_decimal}
 use Rattle.serde_json.specs.Data.{string}
 use Rattle.serde_json.specs.Written.{compact_text}
@@ -80,15 +80,6 @@ name_text name = codes "\"" ++ name ++ codes "\""
 abbrev pub joined : List (List ℕ) → List ℕ
 joined [] = []
 joined (p ∷ ps) = p ++ flat_map (λ q. codes "," ++ q) ps
-
-abbrev pub is_nil : List (List ℕ) → Bool
-is_nil [] = true
-is_nil (p ∷ ps) = false
-
--- a piece behind those before it
-abbrev pub led_text : (is_first : Bool) → List ℕ → List ℕ
-led_text true piece = piece
-led_text false piece = codes "," ++ piece
 
 -- a member that is an array of pieces; it is left out where there are none
 abbrev pub member_text : List ℕ → List (List ℕ) → List ℕ

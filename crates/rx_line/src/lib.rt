@@ -28,4 +28,4 @@ mod wanted;
 pub use names::{Names, Spot, Twice};
 pub use order::{Order, Task, Unread, order_of, read_line};
 pub use outcome::{Cause, Outcome};
-pub use pieces::{faulty_text, note_text, ok_text, push_led, put, refused_text};
+pub use pieces::{faulty_text, note_text, ok_text, put, refused_text};

@@ -1,8 +1,8 @@
 //! The pieces of an answer, in JSON.
 
-ghost use Rattle.std.specs.Prelude.{◌≡◌, ◌++◌, ◌+◌, ◌≤◌, length, string_bytes, IfOk, OnOk};
+ghost use Rattle.std.specs.Prelude.{◌≡◌, ◌++◌, ◌+◌, ◌≤◌, length, string_bytes, IfOk};
 ghost use Rattle.std.specs.String.{string_len, string_capacity};
-ghost use Rattle.rx_line.specs.Pieces.{refusal_name, cause_name, faulty_text, to_text, next_text, led_text};
+ghost use Rattle.rx_line.specs.Pieces.{refusal_name, cause_name, faulty_text, to_text, next_text};
 ghost use Rattle.rx_line.specs.Pieces.{project_text, completed_text, error_text, note_text, ok_text, refused_text};
 
 use crate::outcome::Cause;
@@ -140,16 +140,6 @@ pub fn note_text(alloc: Global, to: &str, note: Note) -> Result<String, AllocErr
         Note::End(Terminal::Completed) => completed_text(alloc, to),
         Note::End(Terminal::Error(code)) => error_text(alloc, to, code),
     }
-}
-
-/// Writes a piece behind those before it. Err where memory is refused.
-pub fn push_led(text: &mut String, is_first: bool, piece: &str) -> Result<(), AllocError>
-    ensures { OnOk result (string_bytes text.new ≡ string_bytes text.old ++ led_text is_first piece.now) }
-{
-    if !is_first {
-        text.push_str(",")?;
-    }
-    text.push_str(piece)
 }
 
 /// Puts a piece behind a text that has room for it. It takes no memory.

@@ -1,2 +1,0 @@
--- What proofs above may use.
-pub mod Stocks
