@@ -27,7 +27,8 @@ pub use Rattle.rx_hub.specs.Hubs.{AreAbove, Rises, ended_never, with_published, 
 pub use Rattle.rx_hub.specs.Route.{Route, beyond_end, GoesOn, IsOrdered, ReachesFrom, IsBehind, IsUnderWay, after_frames, hub_keys, stops_left, todo, IsFrame}
 pub use Rattle.rx_hub.specs.Route.{visits_left, AreFrames, frame_keys, keys_from}
 pub use Rattle.rx_hub.specs.After.{end_by, is_gone_after, next_key, hubs_after, with_made, AgreeAt, ClosesNone, is_inside, joins_hubs}
-pub use Rattle.rx_hub.specs.{Chains.AreEmpty, Chains.IsSteady, Chains.IsCalm, Chains.IsChain, Chains.IsLinked, Chains.IsAt, Chains.Notes, Claims.SubscribesInside, TreeClaims.numbered}
+pub use Rattle.rx_hub.specs.{Chains.AreEmpty, Chains.IsSteady, Chains.IsCalm, Chains.IsChain, Chains.IsLinked}
+pub use Rattle.rx_hub.specs.{Chains.IsAt, Chains.Notes, Claims.SubscribesInside, TreeClaims.numbered}
 pub use Rattle.rx_hub.specs.Closing.{without_gone, remaining, after_closing, IsKnown, AreClosing, is_closed}
 pub use Rattle.rx_hub.specs.Due.{due_of, connect_of, IsQuiet, NoneWaits, cut_of, is_auto, is_cut, left_of, IsDueIn, acts, connects}
 pub use Rattle.rx_hub.specs.{Operators.IsChained, Operators.from_due, Rules.given_by, Rules.connect_by, Rules.cut_by, Rules.due_by, TreeRecords.AreRecordsOf}

@@ -1,8 +1,10 @@
 -- What a hub has to do is told by its oldest and its youngest subscriber.
 use Rattle.rx_hub.proofs.Common.{◌≡◌, ℕ, ◌<◌, ◌≤◌, ◌==◌, ◌||◌, cond, Bool, true, false, List, [], ◌∷◌, length, slice_get, Option, Some, None, sym, option_map}
 use Rattle.rx_hub.proofs.Common.{is_some, refl, ap, ◌∙◌, arith, true≢false, IfSome, list_any, option_map_or, option_and_then, not, nat_tests}
-use Rattle.rx_hub.proofs.Common.{same_Some, none-some, Key, first_of, is_key, HubDue, LastEnd, Published, Hub, Rule, IsCalm, IsChain, IsAt, IsDueIn, IsQuiet, IsSteady}
-use Rattle.rx_hub.proofs.Common.{NoneWaits, connects, acts, is_cut, cut_of, left_of, is_auto, ◌++◌, option_or, connect_of, due_of, Hubs, IsPromised, AreAbove, Rises, published_of, last_from, subscribed}
+use Rattle.rx_hub.proofs.Common.{same_Some, none-some, Key, first_of, is_key, HubDue, LastEnd, Published}
+use Rattle.rx_hub.proofs.Common.{Hub, Rule, IsCalm, IsChain, IsAt, IsDueIn, IsQuiet, IsSteady}
+use Rattle.rx_hub.proofs.Common.{NoneWaits, connects, acts, is_cut, cut_of, left_of, is_auto, ◌++◌, option_or, connect_of}
+use Rattle.rx_hub.proofs.Common.{due_of, Hubs, IsPromised, AreAbove, Rises, published_of, last_from, subscribed}
 use Rattle.rx_hub.proofs.Common.{unsubscribed, without_key, Lists, list_at, is_in, take_out, head_of, connect_by, cut_by, due_by, given_by}
 use Rattle.std.specs.List.{filter}
 use Rattle.rx_hub.specs.declared.forcing.Rule.TheVariants.{Connect, Other}

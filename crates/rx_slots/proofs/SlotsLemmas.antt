@@ -1,5 +1,5 @@
 -- What a write makes of the entries, slot by slot.
-use Rattle.rx_slots.proofs.Common.{◌≡◌, ◌≢◌, ℕ, zero, suc, ◌+◌, ◌-◌, ◌<◌, List, [], ◌∷◌, ◌++◌, length, get_or, set, replicate, Option, Some, None}
+use Rattle.rx_slots.proofs.Common.{◌≡◌, ℕ, zero, suc, ◌+◌, ◌-◌, ◌<◌, List, [], ◌∷◌, ◌++◌, length, get_or, set, replicate, Option, Some, None}
 use Rattle.rx_slots.proofs.Common.{is_some, refl, true≢false, cases_lt, length-set, get_or_past, get_or-set_same, get_or-set_other, Entry, Slots}
 use Rattle.rx_slots.proofs.Common.{slot_count, entry_at, placed, Changes}
 use Rattle.std.proofs.lemmas.List.{length-append, length-replicate}

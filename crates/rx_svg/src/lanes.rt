@@ -6,7 +6,8 @@ ghost use Rattle.rx_picture.specs.Leaks.{is_leaking};
 ghost use Rattle.serde_json.specs.View.{view};
 ghost use Rattle.rx_svg.specs.Name.{name_of};
 ghost use Rattle.rx_svg.specs.Lane.{x_of, y_of, has_lane, steps_of, label_text, ending_text, life_text, stretch_text};
-ghost use Rattle.rx_svg.specs.Lane.{held_class, wait_class, owned_text, loan_text, wait_text, release_text, shape_text, name_text, row_text, use_text, tick_text, told_text};
+ghost use Rattle.rx_svg.specs.Lane.{held_class, wait_class, owned_text, loan_text, wait_text, release_text};
+ghost use Rattle.rx_svg.specs.Lane.{shape_text, name_text, row_text, use_text, tick_text, told_text};
 
 use crate::labels::push_event;
 use crate::names::{Names, push_named};

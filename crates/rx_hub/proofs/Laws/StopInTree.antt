@@ -1,6 +1,7 @@
 -- An item whose way ends in its own tree arrives there alone.
 use Rattle.rx_hub.proofs.Common.{◌≡◌, ℕ, zero, suc, ◌-◌, ◌≤◌, List, [], ◌∷◌, length, Some, arith, filter_map, append-nil, option_and_then, option_to_list}
-use Rattle.rx_hub.proofs.Common.{length-append, ap, ◌++◌, ◌∙◌, most_visits, beyond_end, none-some, Key, Slots, Node, Stop, way_within, way, end_of, Hub, beyond, visited_over, climb_over, arrival, stops_over}
+use Rattle.rx_hub.proofs.Common.{length-append, ap, ◌++◌, ◌∙◌, most_visits, beyond_end, none-some, Key, Slots, Node, Stop}
+use Rattle.rx_hub.proofs.Common.{way_within, way, end_of, Hub, beyond, visited_over, climb_over, arrival, stops_over}
 use Rattle.rx_hub.proofs.RouteWays.{visited_way, stops_way}
 use Rattle.std.proofs.Common.{rules}
 

@@ -1,4 +1,4 @@
-use Rattle.rx_slots.proofs.Common.{◌-◌, Some, length, slice_get}
+use Rattle.rx_slots.proofs.Common.{length, slice_get}
 use Rattle.rx_slots.proofs.KeptLemmas.{last_or_at}
 use Rattle.rx_slots.proofs.records.Records.next_slot.Goals as goal
 use Rattle.std.proofs.Common.{rules}

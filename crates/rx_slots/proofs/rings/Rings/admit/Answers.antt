@@ -1,4 +1,4 @@
-use Rattle.rx_slots.proofs.Common.{◌≡◌, ◌≤◌, ◌-◌, List, length, vec_capacity, sym, ap, subst, ◌∙◌, Link, Place, link_in, IsTiedIn}
+use Rattle.rx_slots.proofs.Common.{◌≡◌, ◌≤◌, List, length, vec_capacity, sym, ap, subst, ◌∙◌, Link, Place, link_in, IsTiedIn}
 use Rattle.rx_slots.proofs.RingSteps.{tied_more, lists_more}
 use Rattle.rx_slots.proofs.rings.Rings.admit.Goals as goal
 use Rattle.std.proofs.Common.{rules}

@@ -1,4 +1,4 @@
-use Rattle.rx_slots.proofs.Common.{ℕ, ◌≡◌, ◌-◌, ◌<◌, false, length, sym, subst, Lists, list_at, is_in}
+use Rattle.rx_slots.proofs.Common.{ℕ, ◌≡◌, ◌<◌, false, length, sym, subst, Lists, list_at, is_in}
 use Rattle.rx_slots.proofs.RingsShowLists.{of_lt, last_there, within_ends}
 use Rattle.rx_slots.proofs.RingSteps.{tied_joined, lists_joined}
 use Rattle.rx_slots.proofs.rings.Rings.join.Goals as goal

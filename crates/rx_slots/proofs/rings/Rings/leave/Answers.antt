@@ -1,4 +1,3 @@
-use Rattle.rx_slots.proofs.Common.{◌-◌}
 use Rattle.rx_slots.proofs.RingsShowLists.{next_there, previous_there}
 use Rattle.rx_slots.proofs.RingSteps.{tied_left, lists_left}
 use Rattle.rx_slots.proofs.rings.Rings.leave.Goals as goal
