@@ -1,7 +1,7 @@
 -- What a write makes of the entries, slot by slot.
-use Rattle.rx_slots.proofs.Common.{◌≡◌, ℕ, zero, suc, ◌+◌, ◌-◌, ◌<◌, List, [], ◌∷◌, ◌++◌, length, get_or, set, replicate, Option, Some, None}
-use Rattle.rx_slots.proofs.Common.{is_some, refl, true≢false, cases_lt, length-set, get_or_past, get_or-set_same, get_or-set_other, Entry, Slots}
-use Rattle.rx_slots.proofs.Common.{slot_count, entry_at, placed, Changes}
+use Rattle.rx_slots.proofs.Common.{◌≡◌, ℕ, zero, suc, ◌+◌, ◌-◌, List, [], ◌∷◌, ◌++◌, length, get_or, replicate, Option, Some, None}
+use Rattle.rx_slots.proofs.Common.{refl, length-set, get_or-set_same, get_or-set_other, Entry, Slots}
+use Rattle.rx_slots.proofs.Common.{placed, Changes}
 use Rattle.std.proofs.lemmas.List.{length-append, length-replicate}
 use Rattle.std.proofs.Common.{rules}
 
@@ -19,18 +19,7 @@ module _ {T : Type 0} where
   length-placed entries slot e =
       search (rules, length, length-set, replicate, length-append, length-replicate)
 
-  -- a slot with an entry is below the count of slots
-  pub within_count : (s : Slots T) (slot : ℕ) (e : Entry T) → entry_at s slot ≡ Some e → slot < slot_count s
-  within_count s slot e found =
-      search (rules, cases_lt, slot_count, true≢false, is_some, get_or_past)
-
-  -- a write of one slot changes that slot alone
-  pub Changes-set : (old new : Slots T) (slot : ℕ) (entry : Option (Entry T)) → slot < slot_count old → new.entries ≡ set old.entries slot entry →
-      Changes old new slot entry
-  Changes-set old new slot entry within written =
-      search (rules, get_or-set_same, get_or-set_other)
-
-  -- and so does an insert
+  -- an insert changes one slot alone
   pub Changes-placed : (old new : Slots T) (slot : ℕ) (e : Entry T) → new.entries ≡ placed old.entries slot e → Changes old new slot (Some e)
   Changes-placed old new slot e written =
       search (rules, length, replicate, length-append, length-replicate, get_or-set_same, get_or-set_other, get_or-append-nothing)

@@ -1,11 +1,11 @@
 -- What the slots end as, where a `&mut` to one of their values is returned.
-use Rattle.std.specs.Prelude.{ℕ, Option, option_map}
+use Rattle.std.specs.Prelude.{ℕ, Option, None, option_map, slice_index_or, slice_set}
 use Rattle.std.specs.Borrow.{Lends, LendsIf, Fml, RattleType, MutBor}
-use Rattle.rx_slots.specs.declared.Entry.{Entry}
 use Rattle.rx_slots.specs.declared.Key.{Key}
 use Rattle.rx_slots.specs.Slots.{Slots, entry_of, with_value, with_value_at}
+use Rattle.rx_slots.specs.Kept.{Cells}
 use Rattle.rx_slots.specs.contracts.Slots.{the_row}
-use Rattle.rx_slots.specs.contracts.records.Cell.{the_row as cell_row}
+use Rattle.rx_slots.specs.contracts.cells.Cells.{the_row as cells_row}
 use Rattle.rx_slots.specs.contracts.records.Records.{the_row as records_row}
 
 module _ (T : RattleType) (s : MutBor (Slots T.Denot)) where
@@ -25,6 +25,8 @@ module _ (T : RattleType) (s : MutBor (Slots T.Denot)) where
   abbrev pub lends_record : ℕ → MutBor T.Denot → Fml
   lends_record slot r = Lends (records_row T) T s r (with_value_at s.now slot)
 
--- one cell of those
-abbrev pub lends_cell : (T : RattleType) → MutBor (Option (Entry T.Denot)) → MutBor T.Denot → Fml
-lends_cell T c r = Lends (cell_row T) T c r (λ value. option_map (λ e. entry_of e.number value) c.now)
+-- the same of the cells behind those
+abbrev pub lends_cell : (T : RattleType) → MutBor (Cells T.Denot) → ℕ → MutBor T.Denot → Fml
+lends_cell T c slot r = Lends (cells_row T) T c r (λ value. record c.now {
+  items = slice_set c.now.items slot (option_map (λ e. entry_of e.number value) (slice_index_or c.now.items slot None));
+})

@@ -43,10 +43,12 @@
 //! its values are: one of other values can be emptied, but not let go.
 #![tactic(auto)]
 
-ghost use Rattle.std.specs.Prelude.{◌≡◌, ◌↔◌, IsTrue, ℕ, ◌+◌, ◌<◌, ◌≤◌, ◌^◌, max, IsOk, IsSome, IfOk, IfErr, IfNone, IfSome, OnOk, OnErr, OnSome, option_copied, ◌==◌, is_some, count_by, [], slice_set};
+ghost use Rattle.std.specs.Prelude.{◌≡◌, ◌↔◌, IsTrue, ℕ, ◌+◌, ◌<◌, ◌≤◌, ◌^◌, max, IsOk, IsSome, IfOk, IfErr, IfNone, IfSome};
+ghost use Rattle.std.specs.Prelude.{OnOk, OnErr, OnSome, option_copied, ◌==◌, is_some, count_by, [], slice_set};
 ghost use Rattle.std.specs.Option.{option_copied_mut};
 ghost use Rattle.std.specs.Borrow.{sem};
 
+mod cells;
 mod growing;
 mod links;
 mod records;

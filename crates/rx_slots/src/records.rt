@@ -1,110 +1,21 @@
 //! Checked slots for values that stay where they stood until their slot is used again.
 
 ghost use Rattle.std.specs.Prelude.{◌≡◌, ◌↔◌, ◌+◌, ◌<◌, ◌≤◌, ◌^◌, max, IsTrue, IsOk, IsSome, IfOk, OnOk, OnErr, Some, None, [], is_some};
-ghost use Rattle.std.specs.Prelude.{option_copied, option_map, count_by};
+ghost use Rattle.std.specs.Prelude.{option_copied, count_by};
 ghost use Rattle.std.specs.Borrow.{sem};
 
-use crate::growing::grow;
-use crate::{Entry, Key};
+use crate::Key;
+use crate::cells::Cells;
 use std::alloc::{AllocError, Global};
 use std::marker::Model;
-
-// The entry that stands at a slot, or what is left of the last one.
-#[derive(Drop)]
-struct Cell<T> {
-    is_used: bool,
-    entry: Entry<T>,
-}
-
-impl<T> Model for Cell<T> {
-    ghost use Rattle.std.specs.Prelude.{Option, Some, None, cond};
-    ghost use Rattle.std.specs.Coded.{coded_option};
-    ghost use Rattle.rx_slots.specs.declared.Entry.{Entry as Stands};
-    ghost use Rattle.rx_slots.specs.Slots.{entry_code};
-
-    ghost Value = { Option (Stands T) };
-
-    ghost coded = { coded_option (entry_code T.code) };
-
-    ghost view = { λ c. cond c.is_used (Some c.entry) None };
-}
-
-impl<T> Cell<T> {
-    ghost use Rattle.rx_slots.specs.Slots.{entry_of, with_number};
-    ghost use Rattle.rx_slots.specs.Lends.{lends_cell};
-
-    // Of a value that comes to a slot.
-    #[inline(always)]
-    fn used(number: u64, value: T) -> Self
-        ensures { result ≡ Some (entry_of number value) }
-    {
-        Cell {
-            is_used: true,
-            entry: Entry { number, value },
-        }
-    }
-
-    // What stands there.
-    #[inline(always)]
-    fn get(&self) -> Option<&Entry<T>>
-        ensures { option_copied result ≡ self.now }
-    {
-        if self.is_used {
-            Some(&self.entry)
-        } else {
-            None
-        }
-    }
-
-    // The value that stands there, if it has this number.
-    #[inline(always)]
-    fn find(&self, number: u64) -> Option<&T>
-        ensures { option_copied result ≡ with_number number self.now }
-    {
-        if self.entry.number == number && self.is_used {
-            Some(&self.entry.value)
-        } else {
-            None
-        }
-    }
-
-    // The entry of one that is used.
-    #[inline(always)]
-    fn entry(&self) -> &Entry<T>
-        requires used { IsSome self.now }
-        ensures { self.now ≡ Some result.now }
-    {
-        &self.entry
-    }
-
-    // Its value, for writing.
-    #[inline(always)]
-    fn value_mut(&mut self) -> &mut T
-        requires used { IsSome self.old }
-        ensures* writes_back { sem 𝓛 (lends_cell T.row self.entry result) }
-        ensures value { option_map (λ e. e.value) self.old ≡ Some result.now }
-    {
-        &mut self.entry.value
-    }
-
-    // It is used no more.
-    #[inline(always)]
-    fn free(&mut self)
-        ensures { self.new ≡ None }
-    {
-        self.is_used = false;
-    }
-}
 
 /// Values at slots, each under a key that finds no other value. A value that was removed stays where it
 /// stood, and is let go once its slot is used again or the store is: so no call has to ask whether
 /// a slot is used where that is known.
 #[derive(Drop)]
 pub struct Records<T> {
-    // What stands at each slot that was ever used.
-    cells: Vec<Cell<T>>,
-    // The slots without a value, each once. The last of them is used next.
-    free: Vec<u32>,
+    // What stands at each slot that was ever used, and the free slots. The last of those is used next.
+    cells: Cells<T>,
     // How many values there are and have room.
     capacity: usize,
 }
@@ -116,12 +27,11 @@ impl<T> Model for Records<T> {
 
     ghost coded = { slots_code T.code };
 
-    ghost use Rattle.std.specs.Prelude.{vec_capacity};
     ghost use Rattle.rx_slots.specs.Kept.{shown, IsKept};
 
-    ghost view = { λ s. shown s.cells.items s.free.items s.capacity };
+    ghost view = { λ s. shown s.cells.items s.cells.free s.capacity };
 
-    ghost invariant = { λ s. IsKept s.cells.items s.free.items s.capacity (vec_capacity s.cells) (vec_capacity s.free) };
+    ghost invariant = { λ s. IsKept s.cells.items s.cells.free s.capacity s.cells.fit s.cells.free_fit };
 }
 
 impl<T> Records<T> {
@@ -136,8 +46,7 @@ impl<T> Records<T> {
         ensures room { result.room ≡ 0 }
     {
         Records {
-            cells: Vec::new(alloc),
-            free: Vec::new(alloc),
+            cells: Cells::new(alloc),
             capacity: 0,
         }
     }
@@ -165,7 +74,7 @@ impl<T> Records<T> {
         ensures kept { self.new ≡ record self.old { room = self.new.room } }
         ensures room { self.old.room ≤ self.new.room }
     {
-        self.capacity = grow(&mut self.cells, &mut self.free, self.capacity, additional)?;
+        self.capacity = self.cells.grow(self.capacity, additional)?;
         Ok(())
     }
 
@@ -183,7 +92,7 @@ impl<T> Records<T> {
         ensures value { result ≡ self.now.count }
         ensures counted { result ≡ count_by is_some self.now.entries }
     {
-        self.cells.len() - self.free.len()
+        self.cells.len() - self.cells.free_count()
     }
 
     /// How many values there are and have room: each is at a slot below, also those that are put in
@@ -213,8 +122,8 @@ impl<T> Records<T> {
         ensures free { entry_at self.now result ≡ None }
         ensures most { result ≤ 2 ^ 29 }
     {
-        match self.free.last() {
-            Some(slot) => *slot as usize,
+        match self.cells.last_free() {
+            Some(slot) => slot,
             None => self.cells.len(),
         }
     }
@@ -224,7 +133,7 @@ impl<T> Records<T> {
     pub fn get(&self, key: Key) -> Option<&T>
         ensures { option_copied result ≡ find self.now key }
     {
-        self.cells.get(key.slot)?.find(key.number)
+        self.cells.get(key.slot, key.number)
     }
 
     /// Whether a key finds a value.
@@ -235,20 +144,12 @@ impl<T> Records<T> {
         self.get(key).is_some()
     }
 
-    /// The value at a slot with its number, if one stands there.
-    #[inline(always)]
-    pub fn entry_at(&self, slot: usize) -> Option<&Entry<T>>
-        ensures { option_copied result ≡ entry_at self.now slot }
-    {
-        self.cells.get(slot)?.get()
-    }
-
     /// The key of the value at a slot, if one stands there.
     #[inline(always)]
     pub fn key_at(&self, slot: usize) -> Option<Key>
         ensures { result ≡ key_at self.now slot }
     {
-        let number = self.entry_at(slot)?.number;
+        let number = self.cells.number_at(slot)?;
         Some(Key { slot, number })
     }
 
@@ -258,7 +159,7 @@ impl<T> Records<T> {
         requires there { IsSome (entry_at self.now slot) }
         ensures { value_at self.now slot ≡ Some result.now }
     {
-        &self.cells[slot].entry().value
+        self.cells.value(slot)
     }
 
     /// The value of a key that finds one.
@@ -276,7 +177,7 @@ impl<T> Records<T> {
         requires there { IsSome (entry_at self.now slot) }
         ensures { number_at self.now slot ≡ Some result }
     {
-        self.cells[slot].entry().number
+        self.cells.number(slot)
     }
 
     /// The value at a slot that has one, for writing.
@@ -286,7 +187,7 @@ impl<T> Records<T> {
         ensures* writes_back { sem 𝓛 (lends_record T.row self.entry slot result) }
         ensures value { value_at self.old slot ≡ Some result.now }
     {
-        self.cells[slot].value_mut()
+        self.cells.value_mut(slot)
     }
 
     /// Lets the value of a key be there no more. The slot is free again, and the next that is used.
@@ -301,8 +202,7 @@ impl<T> Records<T> {
         ensures count { self.new.count + 1 ≡ self.old.count }
         ensures room { self.new.room ≡ self.old.room + 1 }
     {
-        self.free.push_reserved(key.slot as u32);
-        self.cells[key.slot].free();
+        self.cells.remove(key.slot);
     }
 }
 
@@ -351,14 +251,12 @@ impl<T: Drop> Records<T> {
         ensures count { self.new.count ≡ self.old.count + 1 }
         ensures had_room { self.new.room + 1 ≡ self.old.room }
     {
-        let cell = Cell::used(number, value);
-        let Some(slot) = self.free.pop() else {
+        let Some(slot) = self.cells.last_free() else {
             let slot = self.cells.len();
-            self.cells.push_reserved(cell);
+            self.cells.push_reserved(number, value);
             return slot;
         };
-        let slot = slot as usize;
-        self.cells[slot] = cell;
+        self.cells.reuse(slot, number, value);
         slot
     }
 }

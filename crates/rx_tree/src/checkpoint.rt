@@ -18,11 +18,11 @@ impl<R: Resource> Store<R> {
     fn base_node(&self, slot: usize) -> Option<BaseNode>
         ensures { result ≡ option_map node_as_kept (entry_at (nodes_of self.now) slot) }
     {
-        let entry = self.nodes.entry_at(slot)?;
-        let node = entry.value.node();
+        let number = self.nodes.key_at(slot)?.number;
+        let node = self.nodes.at(slot).node();
         let marks = node.marks;
         Some(BaseNode {
-            number: entry.number,
+            number,
             made: node.made,
             source_opened: marks.source_opened,
             notifier_opened: marks.notifier_opened,

@@ -7,11 +7,11 @@ use Rattle.std.proofs.lemmas.Grind.{common_steps}
 pub invariant_of-self : goal.invariant_of-self
 invariant_of-self g c =
     let there : IsSome (entry_at c.args.self.now c.args.key.slot) = found_there c.args.self.now c.args.key c.requires.found in
-    rw (c.free.ensures, c.push_reserved.ensures.items, c.push_reserved.ensures.capacity)
-    (kept_taken c.self.inside.cells.items c.self.inside.free.items _ _ _ c.self.invariant c.args.key.slot (rw (← c.self.view_is) at there))
+    rw c.remove.ensures
+    (kept_taken c.self.inside.cells.items c.self.inside.cells.free _ _ _ c.self.invariant c.args.key.slot (rw (← c.self.view_is) at there))
 
 pub returns-clause-next_slot : goal.returns-clause-next_slot
-returns-clause-next_slot g c = rw c.push_reserved.ensures.items (last_or-push _ c.self.inside.free.items c.args.key.slot)
+returns-clause-next_slot g c = rw c.remove.ensures (last_or-push _ c.self.inside.cells.free c.args.key.slot)
 
 pub returns-clause-slot_count : goal.returns-clause-slot_count
 returns-clause-slot_count g c = grind (arith, common_steps)
@@ -21,15 +21,6 @@ returns-clause-count g c = grind (arith, common_steps)
 
 pub returns-clause-room : goal.returns-clause-room
 returns-clause-room g c = grind (arith, common_steps)
-
-pub overflow_cast-key : goal.overflow_cast-key
-overflow_cast-key g c = grind (arith, common_steps)
-
-pub push_reserved-requires : goal.push_reserved-requires
-push_reserved-requires g c = grind (arith, common_steps)
-
-pub index_mut-requires : goal.index_mut-requires
-index_mut-requires g c = grind (arith, common_steps)
 
 pub returns-clause-changes : goal.returns-clause-changes
 returns-clause-changes g c = grind (arith, common_steps)
