@@ -4,12 +4,13 @@ use Rattle.rx_tree.proofs.Common.{is_some, count_by, refl, sym, subst, ◌∙◌
 use Rattle.rx_tree.proofs.Common.{count_by-le-length, Key, Slots, entry_of, value_at, find, Changes, Node, Stowed, Record, Counts, Store, owed_in, is_owned}
 use Rattle.rx_tree.proofs.Common.{is_lent, is_held, removed, one_lease_more, one_lease_less, waits_in, waiting_count, on_entry, project, nodes_of, no_counts}
 use Rattle.rx_tree.proofs.Common.{resources_of, held_count_at, count_if, one_more, one_less, freed, Relinks, Inserts, shown, Rewrites, unowned_in, owned_at}
-use Rattle.rx_tree.proofs.Common.{AreCounted, is_free, IsCounted, cases_key, entry_found, slot_within}
+use Rattle.rx_tree.proofs.Common.{AreCounted, is_free, IsCounted, cases_key, entry_found, found_entry, slot_within, option_and_then}
+use Rattle.rx_tree.proofs.Common.{resource_ring, Held, Waiting, IfSome, IsTrue}
 use Rattle.std.proofs.Math.Bool.{◌&&◌, ◌||◌}
 use Rattle.rx_tree.specs.declared.store.Stored.{Stored as Kept}
 use Rattle.rx_tree.proofs.CountLemmas.{bit, same_here, same_apart, count_changed, counted_changed, counted_placed, counted_out, are_counted_still}
 use Rattle.rx_tree.proofs.Laws.Owed.{owed_came, owed_taken, owed_empty}
-use Rattle.rx_tree.proofs.StoreLemmas.{find-project}
+use Rattle.rx_tree.proofs.StoreLemmas.{find-project, Anew}
 use Rattle.std.proofs.Common.{rules}
 
 -- what of the counts is of those with a lease out, or of the others
@@ -423,9 +424,11 @@ still : {T : Type 0} (a b : Store T) (home : ℕ) → ((j : ℕ) → held_count_
 still a b home count j = search (rules, cases_eq, held_count_at, same_here, same_apart)
 
 -- an owned resource is removed
-module _ {T : Type 0} (a b : Store T) (c : IsCounted a) (key : Key) (stowed : Stowed T) (found : find (resources_of a) key ≡ Some stowed)
-    (change : Changes (resources_of a) (resources_of b) key.slot (Some (entry_of key.number (removed stowed))))
-    (owned : is_owned (nodes_of a) stowed ≡ true) where
+module _ {T : Type 0} {a b : Store T} (c : IsCounted a) {key : Key} {stowed : Stowed T} (w : Anew a b key removed stowed)
+    (owner : IfSome (find (resources_of a) key) (λ x. IsTrue (is_owned (nodes_of a) x))) where
+  owned : is_owned (nodes_of a) stowed ≡ true
+  owned = subst (λ o. IfSome o (λ x. IsTrue (is_owned (nodes_of a) x))) w.found owner
+
   off : is_owned (nodes_of a) (removed stowed) ≡ false
   off = search (rules, nodes_of)
 
@@ -433,23 +436,24 @@ module _ {T : Type 0} (a b : Store T) (c : IsCounted a) (key : Key) (stowed : St
   no_more x0 = search rules
 
   pub removed_some : 1 ≤ count_if (is_lent stowed) (held_count_at a stowed.node.slot)
-  removed_some = some_counted a b c key stowed (removed stowed) found refl change (record { lending = refl; owning = owned })
+  removed_some = some_counted a b c key stowed (removed stowed) w.found refl w.change (record { lending = refl; owning = owned })
       (record { lending = refl; owning = off }) (no_more _)
 
   pub removed_fits : count_if (is_lent stowed) a.waiting_count < length b.resources.entries
-  removed_fits = unowned_fits a b c key stowed (removed stowed) found refl change (is_lent stowed) (was (is_lent stowed) refl) (now (is_lent stowed) refl) where
-    was : (l : Bool) → is_lent stowed ≡ l → unowned_in (test_of l) (nodes_of a) (Some (entry_of key.number stowed)) ≡ false
-    was true is = λ i. is i && not (owned i)
-    was false is = λ i. not (is i) && not (owned i)
+  removed_fits = unowned_fits a b c key stowed (removed stowed) w.found refl w.change (is_lent stowed)
+      (was (is_lent stowed) refl) (now (is_lent stowed) refl) where
+        was : (l : Bool) → is_lent stowed ≡ l → unowned_in (test_of l) (nodes_of a) (Some (entry_of key.number stowed)) ≡ false
+        was true is = λ i. is i && not (owned i)
+        was false is = λ i. not (is i) && not (owned i)
 
-    now : (l : Bool) → is_lent stowed ≡ l → unowned_in (test_of l) (nodes_of a) (Some (entry_of key.number (removed stowed))) ≡ true
-    now true is = λ i. is i && not (off i)
-    now false is = λ i. not (is i) && not (off i)
+        now : (l : Bool) → is_lent stowed ≡ l → unowned_in (test_of l) (nodes_of a) (Some (entry_of key.number (removed stowed))) ≡ true
+        now true is = λ i. is i && not (off i)
+        now false is = λ i. not (is i) && not (off i)
 
   pub counted_removed : nodes_of b ≡ nodes_of a → b.waiting_count ≡ one_more (is_lent stowed) a.waiting_count →
       ((j : ℕ) → held_count_at b j ≡ cond (stowed.node.slot == j) (one_less (is_lent stowed) (held_count_at a stowed.node.slot)) (held_count_at a j)) →
       b.owed ≡ a.owed → IsCounted b
-  counted_removed nodes waiting count owed = counted_moved a b c key stowed (removed stowed) found refl change
+  counted_removed nodes waiting count owed = counted_moved a b c key stowed (removed stowed) w.found refl w.change
       {x = one_less (is_lent stowed) (held_count_at a stowed.node.slot)} (record { lending = refl; owning = owned }) (record { lending = refl; owning = off })
       (record { nodes = nodes; owed = owed; waiting = waiting; held = count }) (λ l. more l (is_lent stowed)) (λ l. less l (is_lent stowed) removed_some)
     where
@@ -472,27 +476,32 @@ pub more_lent : {T : Type 0} (stowed : Stowed T) → is_lent (one_lease_more sto
 more_lent stowed = ap not (same_apart (stowed.leases + 1) 0 (λ e. absurd (omega (arith, e))))
 
 -- a lease more is out
-module _ {T : Type 0} (a b : Store T) (c : IsCounted a) (key : Key) (stowed : Stowed T) (found : find (resources_of a) key ≡ Some stowed)
-    (change : Changes (resources_of a) (resources_of b) key.slot (Some (entry_of key.number (one_lease_more stowed))))
-    (owned : is_owned (nodes_of a) stowed ≡ true) where
+module _ {T : Type 0} {a b : Store T} (c : IsCounted a) {key : Key} {stowed : Stowed T} (w : Anew a b key one_lease_more stowed)
+    (owner : IfSome (find (resources_of a) key) (λ x. IsTrue (is_owned (nodes_of a) x))) where
+  owned_now : is_owned (nodes_of a) stowed ≡ true
+  owned_now = subst (λ o. IfSome o (λ x. IsTrue (is_owned (nodes_of a) x))) w.found owner
+
   lent_now : is_lent (one_lease_more stowed) ≡ true
   lent_now = more_lent stowed
 
-  module _ (first : is_lent stowed ≡ false) where
+  module _ (none : stowed.leases ≡ 0) where
+    first : is_lent stowed ≡ false
+    first = ap not (same_here stowed.leases 0 none)
+
     pub first_some : 1 ≤ (held_count_at a stowed.node.slot).free
-    first_some = some_counted a b c key stowed (one_lease_more stowed) found refl change (record { lending = first; owning = owned })
-        (record { lending = lent_now; owning = owned }) refl
+    first_some = some_counted a b c key stowed (one_lease_more stowed) w.found refl w.change (record { lending = first; owning = owned_now })
+        (record { lending = lent_now; owning = owned_now }) refl
 
     pub first_fits : (held_count_at a stowed.node.slot).lent < length b.resources.entries
-    first_fits = owned_fits a b c key stowed (one_lease_more stowed) found refl change true stowed.node.slot
-        (λ i. first i && (owned i && (stowed.node.slot == stowed.node.slot))) (λ i. lent_now i &&
-        (owned i && same_here stowed.node.slot stowed.node.slot refl i))
+    first_fits = owned_fits a b c key stowed (one_lease_more stowed) w.found refl w.change true stowed.node.slot
+        (λ i. first i && (owned_now i && (stowed.node.slot == stowed.node.slot))) (λ i. lent_now i &&
+        (owned_now i && same_here stowed.node.slot stowed.node.slot refl i))
 
     pub counted_first : nodes_of b ≡ nodes_of a → b.waiting_count ≡ a.waiting_count → ((j : ℕ) → held_count_at b j ≡ cond (stowed.node.slot == j)
         (one_more true (one_less false (held_count_at a stowed.node.slot))) (held_count_at a j)) → b.owed ≡ a.owed → IsCounted b
-    counted_first nodes waiting count owed = counted_moved a b c key stowed (one_lease_more stowed) found refl change
-        {x = one_more true (one_less false (held_count_at a stowed.node.slot))} (record { lending = first; owning = owned })
-        (record { lending = lent_now; owning = owned }) (record { nodes = nodes; owed = owed; waiting = waiting; held = count }) same (each first_some)
+    counted_first nodes waiting count owed = counted_moved a b c key stowed (one_lease_more stowed) w.found refl w.change
+        {x = one_more true (one_less false (held_count_at a stowed.node.slot))} (record { lending = first; owning = owned_now })
+        (record { lending = lent_now; owning = owned_now }) (record { nodes = nodes; owed = owed; waiting = waiting; held = count }) same (each first_some)
       where
         same : (l : Bool) → part l a.waiting_count + bit (cond l false true && not true) ≡ part l a.waiting_count + bit (cond l true false && not true)
         same true = refl
@@ -504,31 +513,48 @@ module _ {T : Type 0} (a b : Store T) (c : IsCounted a) (key : Key) (stowed : St
         each some false = omega arith
 
   -- not the first
-  pub counted_again : is_lent stowed ≡ true → nodes_of b ≡ nodes_of a → b.waiting_count ≡ a.waiting_count →
+  pub counted_again : stowed.leases ≢ 0 → nodes_of b ≡ nodes_of a → b.waiting_count ≡ a.waiting_count →
       ((j : ℕ) → held_count_at b j ≡ held_count_at a j) → b.owed ≡ a.owed → IsCounted b
-  counted_again lent nodes waiting count owed = counted_moved a b c key stowed (one_lease_more stowed) found refl change
-      {x = held_count_at a stowed.node.slot} (record { lending = lent; owning = owned }) (record { lending = lent_now; owning = owned })
+  counted_again some nodes waiting count owed = counted_moved a b c key stowed (one_lease_more stowed) w.found refl w.change
+      {x = held_count_at a stowed.node.slot} (record { lending = ap not (same_apart stowed.leases 0 some); owning = owned_now })
+      (record { lending = lent_now; owning = owned_now })
       (record { nodes = nodes; owed = owed; waiting = waiting; held = still a b stowed.node.slot count }) (λ l. refl) (λ l. refl)
 
 -- a lease less is out
-module _ {T : Type 0} (a b : Store T) (c : IsCounted a) (key : Key) (stowed : Stowed T) (found : find (resources_of a) key ≡ Some stowed)
-    (change : Changes (resources_of a) (resources_of b) key.slot (Some (entry_of key.number (one_lease_less stowed)))) (lent : is_lent stowed ≡ true)
-    (owned : Bool) (own : is_owned (nodes_of a) stowed ≡ owned) where
-  module _ (last : is_lent (one_lease_less stowed) ≡ false) where
+module _ {T : Type 0} {a b : Store T} (c : IsCounted a) {key : Key} {stowed : Stowed T} (w : Anew a b key one_lease_less stowed)
+    (leased : IfSome (find (resources_of a) key) (λ x. IsTrue (is_lent x))) {owned : Bool}
+    (owns : owned ≡ option_map_or (is_owned (nodes_of a)) (find (resources_of a) key) false) where
+  lent : is_lent stowed ≡ true
+  lent = subst (λ o. IfSome o (λ x. IsTrue (is_lent x))) w.found leased
+
+  own : is_owned (nodes_of a) stowed ≡ owned
+  own = sym (owns ∙ ap (λ o. option_map_or (is_owned (nodes_of a)) o false) w.found)
+
+  -- the ring that it then belongs on
+  pub ring_told : {l : Bool} → nodes_of b ≡ nodes_of a → is_lent (one_lease_less stowed) ≡ l → option_and_then (resource_ring (nodes_of b))
+      (find (resources_of b) key) ≡ cond l None (Some (cond owned (Held stowed.node.slot) Waiting))
+  ring_told {l} nodes is = ap (option_and_then (resource_ring (nodes_of b))) (found_entry (resources_of b) key (one_lease_less stowed) w.change.changed) ∙
+      (λ i. cond (is i) None (Some (cond (is_owned (nodes i) stowed) (Held stowed.node.slot) Waiting))) ∙
+      (λ i. cond l None (Some (cond (own i) (Held stowed.node.slot) Waiting)))
+
+  module _ (none : stowed.leases - 1 ≡ 0) where
+    last : is_lent (one_lease_less stowed) ≡ false
+    last = ap not (same_here (stowed.leases - 1) 0 none)
+
     pub last_some : 1 ≤ (cond owned (held_count_at a stowed.node.slot) a.waiting_count).lent
     last_some = of owned own where
       of : (o : Bool) → is_owned (nodes_of a) stowed ≡ o → 1 ≤ (cond o (held_count_at a stowed.node.slot) a.waiting_count).lent
-      of true own = some_counted a b c key stowed (one_lease_less stowed) found refl change (record { lending = lent; owning = own })
+      of true own = some_counted a b c key stowed (one_lease_less stowed) w.found refl w.change (record { lending = lent; owning = own })
           (record { lending = last; owning = own }) refl
-      of false own = some_unowned a b c key stowed (one_lease_less stowed) found refl change true (λ i. lent i && not (own i)) (λ i. last i && not (own i))
+      of false own = some_unowned a b c key stowed (one_lease_less stowed) w.found refl w.change true (λ i. lent i && not (own i)) (λ i. last i && not (own i))
 
     pub last_fits : (cond owned (held_count_at a stowed.node.slot) a.waiting_count).free < length b.resources.entries
     last_fits = of owned own where
       of : (o : Bool) → is_owned (nodes_of a) stowed ≡ o → (cond o (held_count_at a stowed.node.slot) a.waiting_count).free < length b.resources.entries
-      of true own = owned_fits a b c key stowed (one_lease_less stowed) found refl change false stowed.node.slot
+      of true own = owned_fits a b c key stowed (one_lease_less stowed) w.found refl w.change false stowed.node.slot
           (λ i. not (lent i) && (own i && (stowed.node.slot == stowed.node.slot))) (λ i. not (last i) &&
           (own i && same_here stowed.node.slot stowed.node.slot refl i))
-      of false own = unowned_fits a b c key stowed (one_lease_less stowed) found refl change false (λ i. not (lent i) && not (own i))
+      of false own = unowned_fits a b c key stowed (one_lease_less stowed) w.found refl w.change false (λ i. not (lent i) && not (own i))
           (λ i. not (last i) && not (own i))
 
     pub counted_last : nodes_of b ≡ nodes_of a → b.waiting_count ≡ cond owned a.waiting_count (freed a.waiting_count) → ((j : ℕ) → held_count_at b j ≡
@@ -549,16 +575,17 @@ module _ {T : Type 0} (a b : Store T) (c : IsCounted a) (key : Key) (stowed : St
       of : (o : Bool) → is_owned (nodes_of a) stowed ≡ o → b.waiting_count ≡ cond o a.waiting_count (freed a.waiting_count) → ((j : ℕ) → held_count_at b j ≡
           cond (o && stowed.node.slot == j) (freed (held_count_at a stowed.node.slot)) (held_count_at a j)) → 1 ≤
           (cond o (held_count_at a stowed.node.slot) a.waiting_count).lent → IsCounted b
-      of true own waiting count some = counted_moved a b c key stowed (one_lease_less stowed) found refl change
+      of true own waiting count some = counted_moved a b c key stowed (one_lease_less stowed) w.found refl w.change
           {x = freed (held_count_at a stowed.node.slot)} (record { lending = lent; owning = own }) (record { lending = last; owning = own })
           (record { nodes = nodes; owed = owed; waiting = waiting; held = count }) none_same (move (held_count_at a stowed.node.slot) some)
-      of false own waiting count some = counted_moved a b c key stowed (one_lease_less stowed) found refl change
+      of false own waiting count some = counted_moved a b c key stowed (one_lease_less stowed) w.found refl w.change
           {x = held_count_at a stowed.node.slot} (record { lending = lent; owning = own }) (record { lending = last; owning = own })
           (record { nodes = nodes; owed = owed; waiting = waiting; held = still a b stowed.node.slot count }) (move a.waiting_count some)
           (each_same (held_count_at a stowed.node.slot))
 
-  pub counted_fewer : is_lent (one_lease_less stowed) ≡ true → nodes_of b ≡ nodes_of a → b.waiting_count ≡ a.waiting_count →
+  pub counted_fewer : stowed.leases - 1 ≢ 0 → nodes_of b ≡ nodes_of a → b.waiting_count ≡ a.waiting_count →
       ((j : ℕ) → held_count_at b j ≡ held_count_at a j) → b.owed ≡ a.owed → IsCounted b
-  counted_fewer more nodes waiting count owed = counted_moved a b c key stowed (one_lease_less stowed) found refl change
-      {x = held_count_at a stowed.node.slot} (record { lending = lent; owning = own }) (record { lending = more; owning = own })
+  counted_fewer some nodes waiting count owed = counted_moved a b c key stowed (one_lease_less stowed) w.found refl w.change
+      {x = held_count_at a stowed.node.slot}
+      (record { lending = lent; owning = own }) (record { lending = ap not (same_apart (stowed.leases - 1) 0 some); owning = own })
       (record { nodes = nodes; owed = owed; waiting = waiting; held = still a b stowed.node.slot count }) (λ l. refl) (λ l. refl)

@@ -3,7 +3,7 @@ use Rattle.rx_tree.proofs.Common.{◌≡◌, ℕ, ◌+◌, ◌==◌, cond, Bool,
 use Rattle.rx_tree.proofs.Common.{option_map_or, map-set_same, cases_eq, cases_lt, nat_tests, get_or_past, get_or-set_same, get_or-set_other, Entry, Key, Slots}
 use Rattle.rx_tree.proofs.Common.{entry_of, entry_at, value_at, with_number, find, IsWithin, with_value, with_value_at, Changes, KeepsOthers, Link, Place}
 use Rattle.rx_tree.proofs.Common.{Children, Held, Sibling, Noted, Stored, Record, Store, alone, on_entry, project, link_at, set_link_at, Relinks, KeepsLinks}
-use Rattle.rx_tree.proofs.Common.{Inserts, Takes_out, Rewrites, find-written, KeepsOthers-written, entry_found, slot_within}
+use Rattle.rx_tree.proofs.Common.{Inserts, Takes_out, Rewrites, find-written, KeepsOthers-written, entry_found, slot_within, resources_of, Stowed, subst}
 use Rattle.std.proofs.Math.ListN.{get_or-map}
 use Rattle.rx_tree.specs.declared.store.Stored.{Stored as Kept}
 use Rattle.std.proofs.Common.{rules}
@@ -220,3 +220,41 @@ module _ {T : Type 0} (old : Store T) where
   pub resources_keep_links : (resources : Slots (Kept T)) → let new = record old { resources = resources } in
       ((j : ℕ) → link_at new (Stored j) ≡ link_at old (Stored j)) → KeepsLinks old new
   resources_keep_links resources t x2 = search rules
+
+-- what stands under a key of one store is written anew in the other
+pub record Anew {T : Type 0} (a b : Store T) (key : Key) (write : Stowed T → Stowed T) (stowed : Stowed T) : Type 0 where
+  pub found : find (resources_of a) key ≡ Some stowed
+  pub change : Changes (resources_of a) (resources_of b) key.slot (Some (entry_of key.number (write stowed)))
+  pub changes : (seen : Stowed T) → find (resources_of a) key ≡ Some seen → Changes (resources_of a) (resources_of b) key.slot
+      (Some (entry_of key.number (write seen)))
+  pub rewrites : Rewrites (resources_of a) (resources_of b) key write
+  pub links : KeepsLinks a b
+
+module _ {T : Type 0} (a : Store T) (key : Key) (write : Stowed T → Stowed T) {stored : Kept T} (at : find a.resources key ≡ Some stored) where
+  -- it is so after a write
+  pub written : Anew a (record a { resources = with_value a.resources key (record stored { stowed = write stored.stowed }) }) key write stored.stowed
+  written =
+      let after = record stored { stowed = write stored.stowed } in
+      let found = find-project (λ r. r.stowed) a.resources key ∙ ap (option_map (λ r. r.stowed)) at in
+      record {
+        found = found;
+        change = changes-written (λ r. r.stowed) a.resources key after stored.stowed write at refl found;
+        changes = λ seen same. changes-written (λ r. r.stowed) a.resources key after seen write at refl same;
+        rewrites = rewrites-project (λ r. r.stowed) a.resources key stored after write at refl;
+        links = resources_keep_links a (with_value a.resources key after) (part-rewritten (λ r. r.link) (λ j. alone (Stored j)) a.resources _ key.slot
+            key.number stored after at refl refl);
+      }
+
+  -- and in a store with those resources and links
+  pub written_then : (b : Store T) → b.resources ≡ with_value a.resources key (record stored { stowed = write stored.stowed }) →
+      KeepsLinks (record a { resources = with_value a.resources key (record stored { stowed = write stored.stowed }) }) b →
+      Anew a b key write stored.stowed
+  written_then b same links =
+      let r = ap (project (λ (r : Kept T). r.stowed)) (sym same) in
+      record {
+        found = written.found;
+        change = subst (λ r. Changes (resources_of a) r key.slot (Some (entry_of key.number (write stored.stowed)))) r written.change;
+        changes = λ seen found. subst (λ r. Changes (resources_of a) r key.slot (Some (entry_of key.number (write seen)))) r (written.changes seen found);
+        rewrites = subst (λ r. Rewrites (resources_of a) r key write) r written.rewrites;
+        links = λ p. links p ∙ written.links p;
+      }

@@ -16,7 +16,7 @@ ghost use Rattle.rx_tree.specs.Store.{is_there, held_count_at, freed, shown, Kee
 ghost use Rattle.rx_tree.specs.Ties.{IsCounted, IsKept, IsRemarked, resource_ring};
 ghost use Rattle.std.proofs.Math.Bool.{not};
 ghost use Rattle.std.specs.Option.{option_map_or, option_and_then};
-ghost use Rattle.rx_tree.specs.declared.links.Place.TheVariants.{Children, Held, Sibling, Noted, Stored as At};
+ghost use Rattle.rx_tree.specs.declared.links.Place.TheVariants.{Children, Held, Sibling, Noted, Waiting, Stored as At};
 
 use crate::counts::Counts;
 use crate::linked::Record;
@@ -407,9 +407,10 @@ impl<R: Drop> Store<R> {
         }
     }
 
-    // One lease of a resource is out no more.
+    // One lease of a resource is out no more. It gives the ring on which the resource belongs from then on; None
+    // while leases of it are out.
     #[inline(always)]
-    pub(crate) fn unlend(&mut self, key: Key)
+    pub(crate) fn unlend(&mut self, key: Key) -> Option<Place>
         requires counted { IsCounted self.old }
         requires lent { IfSome (find (resources_of self.old) key) (λ stowed. IsTrue (is_lent stowed)) }
         ensures counted { IsCounted self.new }
@@ -419,23 +420,25 @@ impl<R: Drop> Store<R> {
             (Some (entry_of key.number (one_lease_less stowed))) }
         ensures links { KeepsLinks self.old self.new }
         ensures nodes { nodes_of self.new ≡ nodes_of self.old }
+        ensures ring { result ≡ option_and_then (resource_ring (nodes_of self.new)) (find (resources_of self.new) key) }
     {
         let owned = self.owns(key);
-        if let Some(stored) = self.resources.get_mut(key) {
-            let home = stored.stowed.node.slot;
-            stored.stowed.leases -= 1;
-            let last = stored.stowed.leases == 0;
-            // No more wait than there are slots, so their count fits.
-            let _slots = self.resources.slot_count();
-            if last {
-                self.free_one(home, owned);
-            }
+        let stored = self.resources.get_mut(key)?;
+        let home = stored.stowed.node.slot;
+        stored.stowed.leases -= 1;
+        let last = stored.stowed.leases == 0;
+        // No more wait than there are slots, so their count fits.
+        let _slots = self.resources.slot_count();
+        if last {
+            Some(self.free_one(home, owned))
+        } else {
+            None
         }
     }
 
-    // Counts one of those with a lease out among the others.
+    // Counts one of those with a lease out among the others. It gives the ring on which that one then belongs.
     #[inline(always)]
-    fn free_one(&mut self, slot: usize, owned: bool)
+    fn free_one(&mut self, slot: usize, owned: bool) -> Place
         requires there { IsTrue owned → IsTrue (is_there self.old (Held slot)) }
         requires some { 0 < (cond owned (held_count_at self.old slot) self.old.waiting_count).lent }
         requires fits { (cond owned (held_count_at self.old slot) self.old.waiting_count).free + 1 < 2 ^ 32 }
@@ -446,12 +449,15 @@ impl<R: Drop> Store<R> {
         ensures links { KeepsLinks self.old self.new }
         ensures nodes { nodes_of self.new ≡ nodes_of self.old }
         ensures resources { self.new.resources ≡ self.old.resources }
+        ensures ring { result ≡ cond owned (Held slot) Waiting }
     {
         if owned {
             let count = self.held_count(slot);
             self.set_held_count(slot, count.less(true).more(false));
+            Place::Held(slot)
         } else {
             self.waiting_count = self.waiting_count.less(true).more(false);
+            Place::Waiting
         }
     }
 

@@ -611,8 +611,7 @@ impl<R: Resource> Tree<R> {
             number: res.number,
         };
         // One of which a lease is out stands on no ring.
-        self.store.unlend(key);
-        if let Some(ring) = self.store.ring_of(key) {
+        if let Some(ring) = self.store.unlend(key) {
             self.store.join(ring, Place::Stored(res.slot));
         }
     }

@@ -1,81 +1,44 @@
-use Rattle.rx_tree.proofs.Common.{sym, ap, ◌∙◌, option_and_then, Key, find, is_lent, one_lease_less, nodes_of, resources_of, resource_ring, found_entry}
-use Rattle.rx_tree.proofs.There.{ring_stands}
-use Rattle.rx_tree.proofs.RemoveSteps.{found_where, stored_stands, lent_stays, relinks_same, stands_still, last_there, off_tied, off_chain, on_tied, on_chain}
+use Rattle.rx_tree.proofs.Common.{sym, ◌∙◌, is_lent, one_lease_less}
+use Rattle.rx_tree.proofs.RemoveSteps.{Moved, moved_where, lent_stays, relinks_same, belongs, stored_there, ring_there, last_there, off_tied, off_chain}
+use Rattle.rx_tree.proofs.RemoveSteps.{on_tied, on_chain}
 use Rattle.rx_tree.proofs.CountSteps.{counted_relinked}
+use Rattle.rx_tree.proofs.tree.Tree.unlend.Given.{Over}
 use Rattle.rx_tree.proofs.tree.Tree.unlend.Goals as goal
-use Rattle.std.proofs.Common.{rules}
+use Rattle.rx_tree.proofs.tree.Tree.unlend.Goals.{After-unlend}
+
+-- with a lease less out the resource is on no ring yet
+moved : (g : Over) (c : After-unlend g) →
+    Moved c.self.inside.store c.unlend.new.self (record { slot = c.args.res.slot; number = c.args.res.number }) one_lease_less
+moved g c = let s = c.self.inside.store in let u = c.unlend.ensures in moved_where s s _ _ _ is_lent (rw (← c.self.view_is) at c.requires.lent)
+    c.self.invariant.tied (lent_stays s _ c.self.invariant.tied) (relinks_same s) u.changes u.links u.nodes
 
 pub join-requires-clause-end : goal.join-requires-clause-end
-join-requires-clause-end g c =
-    search (rules, found_where, is_lent, resources_of, found_entry, one_lease_less, resource_ring, nodes_of, stands_still, lent_stays, relinks_same, ring_stands)
+join-requires-clause-end g c = let w = moved g (goal.at.join-requires-clause-end g c).After-unlend in
+    ring_there w c.in-Some.ring (belongs w (sym c.unlend.ensures.ring ∙ c.in-Some.is))
 
 pub join-requires-clause-place : goal.join-requires-clause-place
-join-requires-clause-place g c = search (rules, found_where, is_lent, resources_of, stands_still, one_lease_less, lent_stays, relinks_same, stored_stands)
+join-requires-clause-place g c = stored_there (moved g (goal.at.join-requires-clause-place g c).After-unlend)
 
 pub join-requires-clause-last : goal.join-requires-clause-last
-join-requires-clause-last g c =
-    let s = c.self.inside.store in
-    let key : Key = record { slot = c.args.res.slot; number = c.args.res.number } in
-    let h = found_where is_lent (find (resources_of s) key) (rw (← c.self.view_is) at c.requires.lent) in
-    let change = c.unlend.ensures.changes h.0 h.1 in
-    let now = found_entry (resources_of c.unlend.new.self) key (one_lease_less h.0) change.changed in
-    let ring = ap (λ n. resource_ring n (one_lease_less h.0)) (sym c.unlend.ensures.nodes) ∙
-    sym (ap (option_and_then (resource_ring (nodes_of c.unlend.new.self))) now) ∙ sym c.ring_of.ensures ∙ c.in-Some.is in
-    last_there s key c.self.invariant.tied h.0 h.1 (one_lease_less h.0) s c.unlend.new.self (lent_stays s key c.self.invariant.tied h.0 h.1 h.2)
-    (relinks_same s)
-    change c.unlend.ensures.links c.unlend.ensures.nodes c.in-Some.ring (ring_stands (nodes_of s) (resources_of s) (one_lease_less h.0) c.in-Some.ring ring)
+join-requires-clause-last g c = let w = moved g (goal.at.join-requires-clause-last g c).After-unlend in
+    last_there w c.in-Some.ring (belongs w (sym c.unlend.ensures.ring ∙ c.in-Some.is))
 
 pub invariant_of-self : goal.invariant_of-self
-invariant_of-self g c =
-    let s = c.self.inside.store in
-    let key : Key = record { slot = c.args.res.slot; number = c.args.res.number } in
-    let h = found_where is_lent (find (resources_of s) key) (rw (← c.self.view_is) at c.requires.lent) in
-    let change = c.unlend.ensures.changes h.0 h.1 in
-    let now = found_entry (resources_of c.unlend.new.self) key (one_lease_less h.0) change.changed in
-    let ring = ap (λ n. resource_ring n (one_lease_less h.0)) (sym c.unlend.ensures.nodes) ∙
-    sym (ap (option_and_then (resource_ring (nodes_of c.unlend.new.self))) now) ∙ sym c.ring_of.ensures ∙ c.in-Some.is in
+invariant_of-self g c = let w = moved g (goal.at.invariant_of-self g c).After-unlend in
+    let j = c.join.ensures in
     record {
-      tied = on_tied s key c.self.invariant.tied h.0 h.1 (one_lease_less h.0) s c.unlend.new.self (lent_stays s key c.self.invariant.tied h.0 h.1 h.2)
-          (relinks_same s) change c.unlend.ensures.links c.unlend.ensures.nodes c.in-Some.ring ring c.join.new.self c.join.ensures.joins c.join.ensures.rest;
-      counted = counted_relinked c.unlend.new.self c.join.new.self c.join.ensures.rest c.unlend.ensures.counted;
+      tied = on_tied w c.in-Some.ring (belongs w (sym c.unlend.ensures.ring ∙ c.in-Some.is)) c.join.new.self j.joins j.rest;
+      counted = counted_relinked c.unlend.new.self c.join.new.self j.rest c.unlend.ensures.counted;
     }
 
 pub invariant_of-self-in_default : goal.invariant_of-self-in_default
-invariant_of-self-in_default g c =
-    let s = c.self.inside.store in
-    let key : Key = record { slot = c.args.res.slot; number = c.args.res.number } in
-    let h = found_where is_lent (find (resources_of s) key) (rw (← c.self.view_is) at c.requires.lent) in
-    let change = c.unlend.ensures.changes h.0 h.1 in
-    let now = found_entry (resources_of c.unlend.new.self) key (one_lease_less h.0) change.changed in
-    let ring = ap (λ n. resource_ring n (one_lease_less h.0)) (sym c.unlend.ensures.nodes) ∙
-    sym (ap (option_and_then (resource_ring (nodes_of c.unlend.new.self))) now) ∙ sym c.ring_of.ensures ∙ c.in_default.is in
-    record {
-      tied = off_tied s key c.self.invariant.tied h.0 h.1 (one_lease_less h.0) s c.unlend.new.self (lent_stays s key c.self.invariant.tied h.0 h.1 h.2)
-          (relinks_same s) change c.unlend.ensures.links c.unlend.ensures.nodes ring;
-      counted = c.unlend.ensures.counted;
-    }
+invariant_of-self-in_default g c = let w = moved g (goal.at.invariant_of-self-in_default g c).After-unlend in
+    record { tied = off_tied w (belongs w (sym c.unlend.ensures.ring ∙ c.in_default.is)); counted = c.unlend.ensures.counted }
 
 pub returns-in-Some-clause-chain : goal.returns-in-Some-clause-chain
-returns-in-Some-clause-chain g c =
-    let s = c.self.inside.store in
-    let key : Key = record { slot = c.args.res.slot; number = c.args.res.number } in
-    let h = found_where is_lent (find (resources_of s) key) (rw (← c.self.view_is) at c.requires.lent) in
-    let change = c.unlend.ensures.changes h.0 h.1 in
-    let now = found_entry (resources_of c.unlend.new.self) key (one_lease_less h.0) change.changed in
-    let ring = ap (λ n. resource_ring n (one_lease_less h.0)) (sym c.unlend.ensures.nodes) ∙
-    sym (ap (option_and_then (resource_ring (nodes_of c.unlend.new.self))) now) ∙ sym c.ring_of.ensures ∙ c.in-Some.is in
-    rw (← c.self.view_is) (on_chain s key c.self.invariant.tied h.0 h.1 (one_lease_less h.0) s c.unlend.new.self (lent_stays s key c.self.invariant.tied
-    h.0 h.1 h.2)
-    (relinks_same s) change c.unlend.ensures.links c.unlend.ensures.nodes c.in-Some.ring ring c.join.new.self c.join.ensures.joins c.join.ensures.rest)
+returns-in-Some-clause-chain g c = let w = moved g (goal.at.returns-in-Some-clause-chain g c).After-unlend in rw (← c.self.view_is)
+    (on_chain w c.in-Some.ring (belongs w (sym c.unlend.ensures.ring ∙ c.in-Some.is)) c.join.new.self c.join.ensures.joins c.join.ensures.rest)
 
 pub returns-in_default-clause-chain : goal.returns-in_default-clause-chain
-returns-in_default-clause-chain g c =
-    let s = c.self.inside.store in
-    let key : Key = record { slot = c.args.res.slot; number = c.args.res.number } in
-    let h = found_where is_lent (find (resources_of s) key) (rw (← c.self.view_is) at c.requires.lent) in
-    let change = c.unlend.ensures.changes h.0 h.1 in
-    let now = found_entry (resources_of c.unlend.new.self) key (one_lease_less h.0) change.changed in
-    let ring = ap (λ n. resource_ring n (one_lease_less h.0)) (sym c.unlend.ensures.nodes) ∙
-    sym (ap (option_and_then (resource_ring (nodes_of c.unlend.new.self))) now) ∙ sym c.ring_of.ensures ∙ c.in_default.is in
-    rw (← c.self.view_is) (off_chain s key c.self.invariant.tied h.0 h.1 (one_lease_less h.0) s c.unlend.new.self (lent_stays s key
-    c.self.invariant.tied h.0 h.1 h.2) (relinks_same s) change c.unlend.ensures.links c.unlend.ensures.nodes ring)
+returns-in_default-clause-chain g c = let w = moved g (goal.at.returns-in_default-clause-chain g c).After-unlend in
+    rw (← c.self.view_is) (off_chain w (belongs w (sym c.unlend.ensures.ring ∙ c.in_default.is)))
