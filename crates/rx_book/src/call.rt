@@ -1,8 +1,10 @@
 //! A call as a value: what stands against it, what it costs, and what it writes.
 
 ghost use Rattle.std.specs.Prelude.{◌≡◌, true, false};
+ghost use Rattle.rx_event.specs.Calls.{Aborting, Failing};
 ghost use Rattle.rx_event.specs.Refusals.{first_cause};
 ghost use Rattle.rx_ground.specs.Costs.{cost_of};
+ghost use Rattle.rx_ground.specs.FirstCause.{first_at};
 ghost use Rattle.rx_ground.specs.Ties.{IsStanding};
 ghost use Rattle.rx_book.specs.State.{State};
 ghost use Rattle.rx_book.specs.Requests.{stands};
@@ -20,6 +22,7 @@ use crate::key::{
 use rx_event::{Kind, Mode, Refusal, Terminal};
 use rx_ground::{Ground, Wanted};
 use rx_resource::Resource;
+use rx_tree::Key as TreeKey;
 
 /// What a call asks for that brings no resource: each is the method of its name, whose refusals it has.
 #[derive(Clone, Copy, Debug)]
@@ -54,6 +57,26 @@ pub enum Call {
     Disconnect(u64),
 }
 
+// What stands first against an abort, and against failing at an item. Both are seldom asked: apart, so that all other
+// calls that take no memory stay so small that they are inlined.
+#[cold]
+#[inline(never)]
+fn aborting_cause<R: Resource>(ground: &Ground<R>, node: TreeKey, code: u32) -> Option<Refusal>
+    requires standing { IsStanding R.Resource ground.now }
+    ensures { result ≡ first_at ground.now node (Aborting node.number code) }
+{
+    ground.aborting_cause(node, code)
+}
+
+#[cold]
+#[inline(never)]
+fn failing_cause<R: Resource>(ground: &Ground<R>, merging: TreeKey, code: u32) -> Option<Refusal>
+    requires standing { IsStanding R.Resource ground.now }
+    ensures { result ≡ first_at ground.now merging (Failing merging.number code) }
+{
+    ground.failing_cause(merging, code)
+}
+
 /// What stands first against a call that takes no memory.
 #[inline(always)]
 fn cause_free<R: Resource>(ground: &Ground<R>, call: Call) -> Option<Refusal>
@@ -64,9 +87,9 @@ fn cause_free<R: Resource>(ground: &Ground<R>, call: Call) -> Option<Refusal>
 {
     match call {
         Call::End(leaf, terminal) => ground.ending_cause(tree_key(leaf), terminal),
-        Call::Abort(node, code) => ground.aborting_cause(tree_key(node), code),
+        Call::Abort(node, code) => aborting_cause(ground, tree_key(node), code),
         Call::Decline(merging) => ground.declining_cause(tree_key(merging)),
-        Call::Fail(merging, code) => ground.failing_cause(tree_key(merging), code),
+        Call::Fail(merging, code) => failing_cause(ground, tree_key(merging), code),
         Call::Dispose(root) => ground.disposing_cause(tree_key(root)),
         Call::Remove(res) => ground.removing_cause(tree_res_key(res)),
         Call::GiveBack(lease) => ground.returning_cause(ground_lease_key(lease)),
