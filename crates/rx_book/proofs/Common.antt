@@ -20,15 +20,16 @@ pub use Rattle.rx_book.specs.Answers.{Accepts, Answers, connection_made, IsNewKe
 pub use Rattle.rx_book.specs.Answers.{AnswersOpenedUsing, AnswersResKey, IsCauseOrWant, IsOpenedUsing}
 pub use Rattle.rx_book.specs.Requests.{stands, Request, place_of, open_request, is_known_place, hold_request, is_fresh_in, next_request, connect_request}
 pub use Rattle.rx_book.specs.Requests.{disconnect_request, dispose_request, give_back_request, is_live, take_request, using_request}
-pub use Rattle.rx_book.specs.Shown.{state_of, key_shown, tree_key_of, keys_of, lease_keys_of, res_keys_of, ground_lease_key_of, tree_res_key_of}
-pub use Rattle.rx_book.specs.Shown.{lease_key_shown, res_key_shown}
+pub use Rattle.rx_book.specs.Shown.{state_of, keys_of, lease_keys_of, res_keys_of}
 pub use Rattle.rx_book.specs.{Checkpoints.AnswersCheckpoint, Checkpoints.Checkpoints, Drains.none_taken, Drains.Takes, Drains.next_taken, Drains.Drains}
 pub use Rattle.rx_book.specs.Courses.{LetsGo, next_let_go, none_let_go, Emits, next_emitted, none_emitted}
 pub use Rattle.rx_book.specs.{OpensHolding.stands_holding, OpensHolding.AnswersOpenedHolding, OpensHolding.IsAdmittedHolding, Places.key_above}
 pub use Rattle.rx_book.specs.State.{State, has_key, IsPromised, has_lease_key, AreJust, has_res_key, Continues, IsLabelOf, accepted_tag, has_subscriber}
 pub use Rattle.rx_book.specs.Steps.{IsLetIn, Admits, IsAdmitted, IsWithin, IsWritten}
 pub use Rattle.rx_book.specs.declared.answer.{Answer.Answer, At.At, Opened.Opened, OpenedHolding.OpenedHolding, OpenedUsing.OpenedUsing}
-pub use Rattle.rx_book.specs.declared.key.{Key.Key, LeaseKey.LeaseKey, ResKey.ResKey}
+pub use Rattle.rx_ground.specs.declared.leases.LeaseKey.{LeaseKey}
+pub use Rattle.rx_slots.specs.declared.Key.{Key}
+pub use Rattle.rx_tree.specs.declared.node.ResKey.{ResKey}
 pub use Rattle.rx_event.specs.Causes.{causes, added_by, is_over, by_key, forces_connect, has_connection, nodes_opened, by_key_of, holding_causes}
 pub use Rattle.rx_event.specs.Causes.{checkpoint_causes, opening_causes}
 pub use Rattle.rx_event.specs.declared.refusal.Refusal.TheVariants.{Full, Gone, Leased, NotFresh, HubOrder, NoHub, NoLease, NoMemory, NotHeld, NothingOwed}

@@ -17,9 +17,9 @@ use Rattle.rx_event.specs.Lawful.{IsLawful}
 use Rattle.rx_event.specs.Forced.{IsSettled}
 use Rattle.rx_event.specs.Causes.{has_connection}
 use Rattle.rx_ground.specs.Shown.{Label}
-use Rattle.rx_book.specs.declared.key.Key.{Key}
-use Rattle.rx_book.specs.declared.key.ResKey.{ResKey}
-use Rattle.rx_book.specs.declared.key.LeaseKey.{LeaseKey}
+use Rattle.rx_slots.specs.declared.Key.{Key}
+use Rattle.rx_tree.specs.declared.node.ResKey.{ResKey}
+use Rattle.rx_ground.specs.declared.leases.LeaseKey.{LeaseKey}
 
 -- a book: what a checkpoint kept, the history as one list with it, the limit on the events since, the keys of the open nodes, of the
 -- held resources and of the leases out, the resources held and those waiting, how many notes were handed out, and the keys of the

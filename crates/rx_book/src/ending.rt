@@ -9,10 +9,10 @@ ghost use Rattle.rx_book.specs.Courses.{EmitsAll};
 use crate::Book;
 use crate::admit::admit;
 use crate::call::Call;
-use crate::key::{Key, tree_key};
 use rx_event::{Refusal, Terminal};
 use rx_ground::Wanted;
 use rx_resource::Resource;
+use rx_tree::Key;
 
 /// How many of several items were emitted, and why the next one was refused, where one was.
 #[derive(Clone, Copy, Debug, PartialEq, Eq)]
@@ -42,10 +42,10 @@ impl<R: Resource> Book<R> {
     pub fn next(&mut self, leaf: Key, value: i64) -> Result<u64, Refusal>
         ensures { AnswersPlaceOrWant self.old (next_request self.old leaf value) self.new result }
     {
-        let way = self.ground.route(tree_key(leaf), value)?;
+        let way = self.ground.route(leaf, value)?;
         admit(&mut self.ground, None, Some(Wanted::of_item(way.reach)))?;
         let place = self.ground.len();
-        self.ground.write_item(tree_key(leaf), value, way);
+        self.ground.write_item(leaf, value, way);
         self.ground.settle();
         Ok(place)
     }

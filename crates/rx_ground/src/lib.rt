@@ -29,6 +29,9 @@
 //! - What stands first against a call is `first_at`, of a call by an open node's key, and `first_by_key` and
 //!   `first_by_res_key` (`specs/FirstCause`), by the register's table of causes. So it is told for each call
 //!   of a book; whether a subscriber stands in the order of hubs is told by a climb from its place.
+//! - `IsBetween` says that register, tree, hubs and leases are of one history, in which something may still be due:
+//!   what each write asks for and leaves. `Wrote` is what each write does, and a frame, as `ChangesResources`, says what
+//!   it left as it was (`specs/Wrote`).
 //! - `Writes` (of the register) says that just these events were added. `KeepsNodes` and `KeepsHeld`
 //!   say that the keys of what is still there are as before; `KeepsOlder` says it of what is older than a
 //!   forced connection may be.
