@@ -4,6 +4,7 @@ pub mod Kept
 pub mod Opened
 pub mod Sames
 pub mod Tree
+pub mod Gone
 pub mod Resources
 pub mod Climb
 pub mod Moments

@@ -12,7 +12,7 @@
 //!   were closed since its list of them was last begun, and for how many more nodes a closing has room
 //!   (`specs/Shown`). `TakesNoMemory` says that each room fell by just what came, and rose by just what went
 //!   (`specs/Memory`). The rest is in `specs/Ties`.
-//! - A node `has_gone` where it was made and is open no more. A list `Gathers` what goes from one history to a
+//! - A node `has_gone` where it was made and is open no more (`rx_event`). A list `Gathers` what goes from one history to a
 //!   later one: it goes on with the keys of just those nodes, each once (`specs/Gone`).
 //! - `IsTied` says that the tree is that of the history: a record, with the marks that the history gives,
 //!   for just the nodes that are open, and each resource that was accepted and not taken, live and with

@@ -17,8 +17,8 @@ use Rattle.rx_scenario.specs.Scenario.{open_node}
 use Rattle.rx_slots.specs.declared.Key.{Key}
 use Rattle.rx_book.specs.declared.answer.At.{At}
 use Rattle.rx_book.specs.declared.answer.At.TheVariants.{Root as AtRoot, Source as AtSource, Inner as AtInner, Notifier as AtNotifier}
-use Rattle.rx_ground.specs.Gone.{goes}
-use Rattle.rx_book.specs.State.{State, AreJust}
+use Rattle.rx_event.specs.Gone.{goes, AreJust}
+use Rattle.rx_book.specs.State.{State}
 use Rattle.rx_book.specs.Requests.{Request, open_request, place_of, is_known_place}
 use Rattle.rx_book.specs.Answers.{Accepts, connection_made}
 use Rattle.rx_line.specs.declared.names.Names.{Names}
