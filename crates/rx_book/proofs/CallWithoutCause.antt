@@ -5,7 +5,7 @@ use Rattle.rx_book.proofs.Common.{Kept, Ghosts, Mail, Event, Accept, hub_subscri
 use Rattle.rx_book.proofs.Common.{debt, Call, outside_of, MayFollow, IsLawful, IsForcedOn, stays, more, forced, allowed, opened_with, Full, NotFresh, Live}
 use Rattle.rx_book.proofs.Common.{first_cause, notes-push, IsLawful-push, settled_connected, waits_after, forced_connected, kept_unsubscribed, Fits}
 use Rattle.rx_book.proofs.Common.{Writes, causes, added_by, by_key_of, is_over, IsPaid, HasRoomFor, notes_added, no_cause, call_room, call_mail_room}
-use Rattle.rx_book.proofs.Common.{paid_room, within_limit, call_follows, call_fits, called_paid, Ground, gone_forced, gathers_on, IsStanding, IsRoomier, find}
+use Rattle.rx_book.proofs.Common.{paid_room, within_limit, call_follows, call_fits, called_paid, Ground, adds_forced, gathers_on, Closes, closes_on, IsStanding, IsRoomier, find}
 use Rattle.rx_book.proofs.Common.{IsReady, HasRoomToConnect, KeepsKeys, keeps_on}
 use Rattle.rx_book.proofs.Common.{keeps_settled, has_key, has_res_key, has_lease_key, Request, stands, is_live, Slots}
 use Rattle.rx_book.proofs.Common.{is_fresh_in, Accepts, IsLetIn, IsWritten, lease_key, is_out_at, is_held_at, is_owned_at, is_owned, owned_there, Key, ResKey}
@@ -18,7 +18,7 @@ use Rattle.rx_ground.proofs.Laws.GoneStaysGone.{further_written}
 use Rattle.rx_book.proofs.ShownKeys.{key_finds, finding_key, res_key_finds, finding_res_key, has_key_is, has_res_key_is, lease_key_finds, finding_lease_key}
 use Rattle.rx_book.proofs.ShownKeys.{has_lease_key_is}
 use Rattle.rx_book.proofs.CausesByKey.{unstood}
-use Rattle.rx_book.proofs.ListOfClosed.{just_gone}
+use Rattle.rx_book.proofs.ListOfClosed.{just_gone, gone_in_order, gone_keys}
 use Rattle.std.proofs.Common.{rules}
 
 -- histories ---------------------------------------------------------------------------------------
@@ -154,7 +154,9 @@ module _ {T : Type 0} (g : Ghosts T) (b : Ground T) (asked : Request) where
       res_keys = λ k c older. finding_res_key b.tree k (all.held k (res_key_finds new.tree k c) older);
       lease_keys = λ k c older. finding_lease_key b.leases k (x.leases.from (lease_key k)
           (ap (λ (ls : Slots ResKey). is_some (find ls (lease_key k))) (sym s.leases) ∙ lease_key_finds new.leases k c) older);
-      closed = just_gone l.begun (gathers_on (further_written outside w) (gone_forced mid.register.base s.forced) x.closed s.closed);
+      closed = just_gone l.begun closes.gathers;
+      closed_keys = gone_keys l.begun closes;
+      closed_order = gone_in_order l.begun closes.gathers;
     }
       where
         w : Writes b.register outside mid.register
@@ -181,6 +183,12 @@ module _ {T : Type 0} (g : Ghosts T) (b : Ground T) (asked : Request) where
 
         longer : length mid.register.history ≡ length h + length outside
         longer = ap (λ (k : List Event). length k) w.history ∙ length-append h outside
+
+        closes : Closes b new
+        closes =
+            let added = adds_forced mid.register.base s.forced in
+            closes_on (let l = longer in omega arith) x.nodes x.closed s.closed
+            (gathers_on (further_written outside w) added.0 added.1 x.closed.gathers s.closed.gathers)
 
         all : KeepsKeys b.tree new.tree (length h)
         all = keeps_on b.tree mid.tree new.tree (length h) (length mid.register.history) (let l = longer in omega arith) kept

@@ -51,11 +51,12 @@ pub use Rattle.rx_event.specs.declared.event.Kind.TheVariants.{Pass, Sub, Flat, 
 pub use Rattle.rx_event.specs.declared.{mail.Mail.Mail, refusal.Refusal.Refusal}
 pub use Rattle.rx_ground.specs.Ties.{IsStanding, IsTied, AreLeased, IsReady, is_there, AreTied, HasRoomToConnect, HasRoomBeside, IsRoomier, KeepsHeld}
 pub use Rattle.rx_ground.specs.Ties.{KeepsOlder, IsListed, IsNewNode, IsStored, KeepsLeases, KeepsNodes}
-pub use Rattle.rx_ground.proofs.Laws.GoneStaysGone.{gathers_quiet, IsFurther, gathers_on, gone_forced, gone_on, gathers_nothing, gathers_then}
+pub use Rattle.rx_ground.proofs.Laws.GoneStaysGone.{gathers_quiet, IsFurther, gathers_on, gone_forced, gathers_nothing, gathers_then}
+pub use Rattle.rx_ground.proofs.Laws.GoneStaysGone.{adds_forced, closes_none, closes_on, gone_on}
 pub use Rattle.rx_ground.proofs.Laws.{JustOpenHeldWaiting.just_waiting, JustOpenHeldWaiting.length-waiting, OwnedInTree.owned_there, StaysHeld.resource_stays}
 pub use Rattle.rx_ground.proofs.Laws.KeysKept.{leases_stay, keeps_held, keeps_opened, keeps_on, KeepsKeys, keeps_closed, keeps_same, keeps_settled}
 pub use Rattle.rx_ground.proofs.Laws.{Members.Contains-from_map, Members.Contains-map, Members.All-members, Ranges.find_first, Ranges.find_nothing}
-pub use Rattle.rx_ground.specs.{Checkpoints.IsCheckpoint, Costs.cost_of, Gone.Gathers, Gone.numbers_of, Leases.lease_key, Leases.is_out_at}
+pub use Rattle.rx_ground.specs.{Checkpoints.IsCheckpoint, Costs.cost_of, Gone.Closes, Gone.Gathers, Gone.GoesFirst, Gone.numbers_of, Leases.lease_key, Leases.is_out_at}
 pub use Rattle.rx_ground.specs.{Memory.TakesNoMemory, Reached.IsReach, Reached.MakesOnly, Told.is_connected_manual, declared.base.Wanted.Wanted}
 pub use Rattle.rx_ground.specs.{Shown.Ground, Shown.held_in, Shown.label_in, Shown.waiting_in, Shown.list_room, declared.route.Reach.Reach}
 pub use Rattle.rx_register.proofs.Laws.{Calls.call_fits, Calls.call_follows, Calls.called_paid, NoCause.no_cause}

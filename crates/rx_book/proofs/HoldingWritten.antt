@@ -1,7 +1,7 @@
 -- A fresh resource is held at an open node, for which there is room: it is accepted, and forces nothing.
 use Rattle.rx_book.proofs.Common.{◌≡◌, ◌+◌, ◌≤◌, true, List, [], ◌∷◌, length, None, is_some, refl, sym, ap, subst, ◌∙◌, Ghosts, Event, Accept}
 use Rattle.rx_book.proofs.Common.{Kept, is_open, debt, accepted_by, IsSettled, stays, first_cause, closes_none_kept, settled_on, find}
-use Rattle.rx_book.proofs.Common.{accepted_by_new, is_held_at, some_of, Writes, Ground, gathers_nothing, gathers_quiet, IsStanding, IsReady}
+use Rattle.rx_book.proofs.Common.{accepted_by_new, is_held_at, some_of, Writes, Ground, closes_none, gathers_nothing, gathers_quiet, IsStanding, IsReady}
 use Rattle.rx_book.proofs.Common.{Key, ResKey, has_key, Request, stands, is_fresh_in, hold_request, Accepts, IsNewResKey}
 use Rattle.rx_book.proofs.Common.{keys_of, state_of, IsLetIn}
 use Rattle.rx_register.specs.State.{IsPromised}
@@ -65,7 +65,7 @@ module _ {T : Type 0} (g : Ghosts T) (b : Ground T) (node : Key) (x : T) (standi
       given = refl;
       leases = refl;
       hubs = refl;
-      closed = gathers_nothing new.register.history [];
+      closed = closes_none refl (gathers_nothing new.register.history []);
       memory = no_change (record new { closed = [] });
     }
 

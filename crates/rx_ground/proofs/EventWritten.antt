@@ -3,7 +3,7 @@ use Rattle.rx_ground.proofs.Common.{◌≡◌, ℕ, ◌+◌, ◌-◌, ◌∷◌,
 use Rattle.rx_ground.proofs.Common.{IsSome, Ghosts, Event, makes_node, makes_lease, is_return, joins_hubs, shuts_none, touches, is_open, is_within}
 use Rattle.rx_ground.proofs.Common.{IsLawful, MayFollow, IsReady, Writes, Key, Slots, find, Node, ResKey, Stowed, store_key, Tree, LastEnd, Hubs, hubs_after}
 use Rattle.rx_ground.proofs.Common.{without_gone, is_inside, Ground, AreStored, IsTied, AreTied, AreLeased, IsLeaseOf, KeepsHeld, KeepsLeases, KeepsNodes}
-use Rattle.rx_ground.proofs.Common.{Gathers, TakesNoMemory, IsSound, IsNewNode, Moves, is_some, Closed, closed_keys}
+use Rattle.rx_ground.proofs.Common.{Closes, TakesNoMemory, IsSound, IsNewNode, Moves, is_some, Closed, closed_keys}
 use Rattle.rx_register.specs.State.{State as Register}
 use Rattle.rx_ground.specs.Wrote.{IsBetween, Wrote, ChangesMarks, ClosesNodes, OpensNode, IsCut}
 use Rattle.rx_ground.proofs.Memory.{no_memory, written_memory, memory_beside}
@@ -11,7 +11,7 @@ use Rattle.rx_ground.proofs.StaysTied.{tied_still}
 use Rattle.rx_ground.proofs.HubsAfterEvent.{tied_written, tied_on_same, tied_closed}
 use Rattle.rx_ground.proofs.LeasesAfterEvent.{leased_on, leased_same}
 use Rattle.rx_ground.proofs.MovedHaveGone.{gathers_closed}
-use Rattle.rx_ground.proofs.Laws.GoneStaysGone.{gathers_quiet}
+use Rattle.rx_ground.proofs.Laws.GoneStaysGone.{closes_quiet, closes_moved}
 use Rattle.rx_ground.proofs.Laws.KeysKept.{KeepsKeys, keeps_closed, keeps_held, keeps_opened, leases_stay}
 
 -- the event opens and closes no node, marks none, and changes no hub
@@ -94,7 +94,7 @@ module _ {T : Type 0} (g : Ghosts T) where
     -- what is so of the longer history is so of the register
     pub wrote_one : AreTied old.register.base g (old.register.history ++ e ∷ []) new.tree new.hubs → AreLeased (old.register.history ++ e ∷ []) new.tree.resources new.leases →
         KeepsKeys old.tree new.tree (length old.register.history) → KeepsLeases old.leases new.leases (length old.register.history) →
-        Gathers old.register.history old.closed new.register.history new.closed → TakesNoMemory old new → Wrote g old (e ∷ []) new
+        Closes old new → TakesNoMemory old new → Wrote g old (e ∷ []) new
     wrote_one tied leased keys leases closed memory = record {
       written = s.written;
       between = record {
@@ -111,7 +111,7 @@ module _ {T : Type 0} (g : Ghosts T) where
     -- an event about no lease, beside the same resources and leases
     pub wrote_beside : makes_lease e ≡ false → is_return e ≡ false → new.leases ≡ old.leases → new.tree.resources ≡ old.tree.resources →
         AreTied old.register.base g (old.register.history ++ e ∷ []) new.tree new.hubs → KeepsKeys old.tree new.tree (length old.register.history) →
-        Gathers old.register.history old.closed new.register.history new.closed → TakesNoMemory old new → Wrote g old (e ∷ []) new
+        Closes old new → TakesNoMemory old new → Wrote g old (e ∷ []) new
     wrote_beside none quiet leases resources tied keys closed memory = wrote_one tied
         (leased_still s none quiet leases (λ l res is. ap (λ (r : Slots (Stowed T)). is_some (find r (store_key res))) resources ∙ is.stored)) keys
         (leases_stay old.leases new.leases (length old.register.history) leases) closed memory
@@ -119,7 +119,7 @@ module _ {T : Type 0} (g : Ghosts T) where
     -- an event about resources
     pub wrote_resources : IsOfResources e → HasSameNodes old new → HasResources old new e → Wrote g old (e ∷ []) new
     wrote_resources is frame has = wrote_one tied has.leased (keeps_held old.tree new.tree (length old.register.history) frame.nodes has.held) has.leases
-        (gathers_quiet e s.next is.shuts s.written frame.closed) memory
+        (closes_quiet e s.next is.shuts s.written frame.closed) memory
       where
         still : IsTied old.register.base g (old.register.history ++ e ∷ []) new.tree
         still = tied_still old.register.base g old.register.history e s.law s.next old.tree s.between.tied.of_tree new.tree is.shuts is.makes (is.untouched old.register.history)
@@ -159,7 +159,7 @@ module _ {T : Type 0} (g : Ghosts T) where
     pub wrote_marks : shuts_none e ≡ true → makes_lease e ≡ false → is_return e ≡ false → Wrote g old (e ∷ []) new
     wrote_marks shuts none quiet = wrote_beside x.s none quiet changes_marks.leases x.resources x.tied
         (keeps_closed new.register.history old.tree new.tree (length old.register.history) changes_marks.kept x.resources)
-        (gathers_quiet e x.s.next shuts x.s.written changes_marks.closed)
+        (closes_quiet e x.s.next shuts x.s.written changes_marks.closed)
         (memory_beside (no_memory old) (e ∷ []) x.s.written x.places x.resources x.space changes_marks.hubs)
 
   -- a node came
@@ -170,7 +170,7 @@ module _ {T : Type 0} (g : Ghosts T) where
     pub resources : new.tree.resources ≡ old.tree.resources
     pub hubs : new.hubs ≡ record old.hubs { hubs = hubs_after old.register.history e key.slot old.hubs.hubs }
     pub leases : new.leases ≡ old.leases
-    pub closed : Gathers old.register.history old.closed new.register.history new.closed
+    pub closed : Closes old new
     pub memory : TakesNoMemory old new
 
   module _ {old new : Ground T} {e : Event} {key : Key} (x : HasOpened old new e key) where
@@ -208,7 +208,7 @@ module _ {T : Type 0} (g : Ghosts T) where
     pub wrote_closing : makes_lease e ≡ false → is_return e ≡ false → Wrote g old (e ∷ []) new
     wrote_closing none quiet = wrote_beside x.s none quiet closes.leases closes.resources tied
         (keeps_closed new.register.history old.tree new.tree (length old.register.history) closes.kept closes.resources)
-        (gathers_closed x.s.law x.s.next x.s.between.tied.of_tree x.sound x.cut.cuts x.outside moves x.s.written.history)
+        (closes_moved moves (gathers_closed x.s.law x.s.next x.s.between.tied.of_tree x.sound x.cut.cuts x.outside moves x.s.written.history))
         (memory_beside x.cut.memory (e ∷ []) x.s.written x.places x.resources x.space (ap (λ (b : Ground T). b.hubs) x.rest))
       where
         moves : Moves old.tree.nodes top old.closed new.closed

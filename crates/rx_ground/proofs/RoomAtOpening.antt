@@ -1,12 +1,12 @@
 -- What makes way for a node takes no memory, and leaves a ground that is ready for it.
 use Rattle.rx_ground.proofs.Common.{◌≡◌, ◌+◌, ◌<◌, ◌≤◌, ◌++◌, ◌∷◌, [], ℕ, Bool, true, false, List, Option, IfSome, length, sym, subst, arith}
 use Rattle.rx_ground.proofs.Common.{inl, inr, ◌⊎◌, cases_Bool, is_open_new, Ghosts, Event, Open, Kind, Place, MayFollow, IsLawful, IsPromised, Key}
-use Rattle.rx_ground.proofs.Common.{find, Tree, IsSound, Gathers}
+use Rattle.rx_ground.proofs.Common.{find, Tree, IsSound, Closes, Gathers, Moves, ◌∙◌}
 use Rattle.rx_ground.proofs.Common.{ListsReplaced, Ground, AreTied}
 use Rattle.rx_ground.specs.Inners.{IsLeft}
 use Rattle.rx_ground.proofs.ReadyToOpen.{IsReadyToOpen, IsOpenedBelow, few_above, none_closed, way_left}
 use Rattle.rx_ground.proofs.MovedHaveGone.{gathers_cut}
-use Rattle.rx_ground.proofs.Laws.GoneStaysGone.{gathers_none}
+use Rattle.rx_ground.proofs.Laws.GoneStaysGone.{gathers_none, closes_none, closes_moved}
 use Rattle.std.proofs.Common.{rules}
 
 module _ {T : Type 0} where
@@ -41,17 +41,31 @@ module _ {T : Type 0} where
   slot_within x rest reserved some slot within = search rules
 
   -- what was closed for the node has gone after it, and nothing else went
-  pub gathers_opened : {g : Ghosts T} {place : Place} {kind : Kind} {old left : Ground T} {replaces : Bool} → IsWayMade g place kind old left replaces →
+  gathers_opened : {g : Ghosts T} {place : Place} {kind : Kind} {old left : Ground T} {replaces : Bool} → IsWayMade g place kind old left replaces →
       {h : List Event} → h ≡ old.register.history ++ Open place kind ∷ [] → Gathers old.register.history old.closed h left.closed
   gathers_opened {place = place} {kind = kind} {old = old} {left = left} {replaces = replaces} w grown =
       subst (λ (k : List Event). Gathers old.register.history old.closed k left.closed) (sym grown) (by_test (cases_Bool replaces))
     where
       exchanged : ListsReplaced old.register.history place old.tree left.tree old.closed left.closed →
           Gathers old.register.history old.closed (old.register.history ++ Open place kind ∷ []) left.closed
-      exchanged x = gathers_cut w.ready.next w.ready.tied.of_tree.records (way_left w.ready) x.cuts.nodes w.ready.sound.apart x.moves
+      exchanged x = gathers_cut w.ready.next w.ready.tied.of_tree.records (way_left w.ready) x.cuts.nodes w.ready.sound x.moves
 
       by_test : (replaces ≡ true) ⊎ (replaces ≡ false) → Gathers old.register.history old.closed (old.register.history ++ Open place kind ∷ []) left.closed
       by_test (inl takes) = exchanged (w.stays.lists.exchanged takes)
       by_test (inr leaves) = subst (Gathers old.register.history old.closed (old.register.history ++ Open place kind ∷ [])) (sym (w.stays.lists.same leaves))
           (gathers_none old.register.history (Open place kind) old.closed (none_closed old.register.history place kind (w.ready.way.none leaves))
           (is_open_new old.register.base old.register.history (Open place kind) w.ready.next))
+
+  pub closes_opened : {g : Ghosts T} {place : Place} {kind : Kind} {old left new : Ground T} {replaces : Bool} → IsWayMade g place kind old left replaces →
+      new.register.history ≡ old.register.history ++ Open place kind ∷ [] → new.closed ≡ left.closed → Closes old new
+  closes_opened {place = place} {kind = kind} {old = old} {left = left} {new = new} {replaces = replaces} w grown same = by_test (cases_Bool replaces)
+    where
+      gathered : Gathers old.register.history old.closed new.register.history new.closed
+      gathered = subst (Gathers old.register.history old.closed new.register.history) (sym same) (gathers_opened w grown)
+
+      exchanged : ListsReplaced old.register.history place old.tree left.tree old.closed left.closed → Closes old new
+      exchanged x = closes_moved {top = x.inner.number} (subst (Moves old.tree.nodes x.inner.number old.closed) (sym same) x.moves) gathered
+
+      by_test : (replaces ≡ true) ⊎ (replaces ≡ false) → Closes old new
+      by_test (inl takes) = exchanged (w.stays.lists.exchanged takes)
+      by_test (inr leaves) = closes_none (same ∙ w.stays.lists.same leaves) gathered

@@ -5,7 +5,7 @@ use Rattle.rx_ground.proofs.Common.{none-some, same_Some, Ghosts, Terminal, Mark
 use Rattle.rx_ground.proofs.Common.{IsConnectDue, IsForced, IsSettled, IsLawful, IsForcedOn, forced, stays, more, is_open_within, Key, Slots}
 use Rattle.rx_ground.proofs.Common.{stays_closed, forced_connected, find, Node, Tree, Rewrites, is_on, with_marks, with_due, key_is, some_of}
 use Rattle.rx_ground.proofs.Common.{IsPaid, told_by_end, Due, IsChained, AreRecordsOf, due_at_in, due_forced, AreLeased, AreRecords, AreTied, IsReady, IsNext}
-use Rattle.rx_ground.proofs.Common.{WithChain, KeepsOlder, Remarks, HasRoomToConnect, is_there, key_due, TakesNoMemory, Settles, Gathers, Ground, list_room}
+use Rattle.rx_ground.proofs.Common.{WithChain, KeepsOlder, Remarks, HasRoomToConnect, is_there, key_due, TakesNoMemory, Settles, Closes, Ground, list_room}
 use Rattle.rx_ground.proofs.Common.{HubDue, event_of, IsDueIn, IsQuiet, ConcernsHub, Hub, Hubs, find_hub, hubs_forced, found_hub}
 use Rattle.rx_register.specs.State.{State as Register}
 use Rattle.rx_register.proofs.Laws.Paid.{forced_room, end_room, forced_pays}
@@ -13,7 +13,7 @@ use Rattle.rx_hub.specs.Operators.{IsDueAt, IsQuiet as IsQuietTree}
 use Rattle.rx_ground.specs.Wrote.{IsBetween, Wrote, ChangesForced}
 use Rattle.rx_ground.proofs.EventWritten.{seen}
 use Rattle.rx_ground.proofs.Memory.{no_memory, memory_on}
-use Rattle.rx_ground.proofs.Laws.GoneStaysGone.{IsFurther, gone_push, gone_forced, gathers_nothing, gathers_on}
+use Rattle.rx_ground.proofs.Laws.GoneStaysGone.{gone_forced, gathers_nothing, gathers_on, closes_none, closes_on}
 use Rattle.rx_ground.proofs.Records.{as_records, rechained}
 use Rattle.rx_hub.specs.declared.hub.HubDue.TheVariants.{Connect as ConnectDue, End as EndDue, Close as CloseDue}
 use Rattle.rx_hub.proofs.Laws.Dues.{none_waits, quiet_settles}
@@ -96,7 +96,7 @@ pub record IsOnTheWay {T : Type 0} (g : Ghosts T) (start now : Ground T) : Type 
   pub limit : now.register.limit ≡ start.register.limit
   pub given : now.register.given ≡ start.register.given
   pub memory : TakesNoMemory start now
-  pub closed : Gathers start.register.history start.closed now.register.history now.closed
+  pub closed : Closes start now
 
 pub way_starts : {T : Type 0} (g : Ghosts T) (b : Ground T) → IsBetween g b → IsPaid b.register →
     HasRoomToConnect b.register.history b.tree.nodes.room (list_room b) → IsOnTheWay g b b
@@ -116,7 +116,7 @@ way_starts g b between paid room = record {
   limit = refl;
   given = refl;
   memory = no_memory b;
-  closed = gathers_nothing b.register.history b.closed;
+  closed = closes_none refl (gathers_nothing b.register.history b.closed);
 }
 
 -- where nothing is forced any more the way is at its end
@@ -162,7 +162,7 @@ way_rechained {T = T} g start old new w kept between = record {
     slots = w.memory.slots;
     closing = w.memory.closing;
   });
-  closed = subst (λ (b : Ground T). Gathers start.register.history start.closed b.register.history b.closed) (sym kept.same) w.closed;
+  closed = subst (λ (b : Ground T). Closes start b) (sym kept.same) (record { gathers = w.closed.gathers; found = w.closed.found });
 }
   where
     register : new.register ≡ old.register
@@ -202,8 +202,8 @@ way_on {start} {old} {new} {d} w one = record {
   limit = one.wrote.written.limit ∙ w.limit;
   given = one.wrote.written.given ∙ w.given;
   memory = memory_on start old new w.memory one.wrote.memory;
-  closed = gathers_on (gone_forced start.register.base w.forced)
-      (subst (IsFurther old.register.history) (sym one.wrote.written.history) (gone_push old.register.history (event_of d))) w.closed one.wrote.closed;
+  closed = closes_on w.grown w.nodes.from w.closed one.wrote.closed (gathers_on (gone_forced start.register.base w.forced) (event_of d ∷ [])
+      one.wrote.written.history w.closed.gathers one.wrote.closed.gathers);
 }
   where
     longer : length new.register.history ≡ length old.register.history + 1

@@ -7,7 +7,7 @@ use Rattle.rx_slots.specs.Slots.{find}
 use Rattle.rx_tree.specs.Owed.{owed_in}
 use Rattle.rx_hub.specs.declared.hub.LastEnd.{LastEnd}
 use Rattle.rx_register.specs.State.{Writes}
-use Rattle.rx_ground.specs.Gone.{Gathers}
+use Rattle.rx_ground.specs.Gone.{Closes}
 use Rattle.rx_ground.specs.Memory.{TakesNoMemory}
 use Rattle.rx_ground.specs.Shown.{Ground}
 use Rattle.rx_hub.specs.After.{hubs_after}
@@ -27,7 +27,7 @@ module _ {T : Type 0} where
     pub nodes : (key : Key) → IsSome (find new.tree.nodes key) → key.number < length old.register.history → IsSome (find old.tree.nodes key)
     pub held : KeepsHeld old.tree new.tree (length old.register.history)
     pub leases : KeepsLeases old.leases new.leases (length old.register.history)
-    pub closed : Gathers old.register.history old.closed new.register.history new.closed
+    pub closed : Closes old new
     pub memory : TakesNoMemory old new
 
   -- frames: beside the register only these changed -----------------------------------------------------

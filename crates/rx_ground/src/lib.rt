@@ -13,7 +13,8 @@
 //!   (`specs/Shown`). `TakesNoMemory` says that each room fell by just what came, and rose by just what went
 //!   (`specs/Memory`). The rest is in `specs/Ties`.
 //! - A node `has_gone` where it was made and is open no more (`rx_event`). A list `Gathers` what goes from one history to a
-//!   later one: it goes on with the keys of just those nodes, each once (`specs/Gone`).
+//!   later one: it goes on with the keys of just those nodes, each once, in the order in which they went; `Closes` says
+//!   this of a ground's list, and that an older node's key is the one that found it (`specs/Gone`).
 //! - `IsTied` says that the tree is that of the history: a record, with the marks that the history gives,
 //!   for just the nodes that are open, and each resource that was accepted and not taken, live and with
 //!   its uses. `AreTied` says beside this that the hubs are those of the history, and that each key they

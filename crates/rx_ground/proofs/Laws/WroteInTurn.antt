@@ -1,10 +1,10 @@
 -- One write after the other, and writes beside a list of closed nodes that is begun anew.
-use Rattle.rx_ground.proofs.Common.{[], ◌++◌, List, length, ap, ◌∙◌, arith, length-append, Ghosts, Event, Ground}
+use Rattle.rx_ground.proofs.Common.{[], ◌++◌, List, length, refl, ap, ◌∙◌, arith, length-append, Ghosts, Event, Ground}
 use Rattle.rx_ground.proofs.Common.{Gathers, TakesNoMemory}
 use Rattle.rx_register.proofs.Laws.Paid.{Writes-append}
 use Rattle.rx_ground.specs.Wrote.{IsBetween, Wrote}
 use Rattle.rx_ground.proofs.Memory.{no_memory, memory_on}
-use Rattle.rx_ground.proofs.Laws.GoneStaysGone.{gathers_then}
+use Rattle.rx_ground.proofs.Laws.GoneStaysGone.{gathers_then, closes_none, closes_on}
 
 module _ {T : Type 0} {g : Ghosts T} where
   pub wrote_then : {a b c : Ground T} {es fs : List Event} → Wrote g a es b → Wrote g b fs c → Wrote g a (es ++ fs) c
@@ -16,7 +16,7 @@ module _ {T : Type 0} {g : Ghosts T} where
         nodes = λ key there older. x.nodes key (y.nodes key there (omega arith)) older;
         held = record { from = λ res held older. x.held.from res (y.held.from res held (omega arith)) older };
         leases = record { from = λ key out older. x.leases.from key (y.leases.from key out (omega arith)) older };
-        closed = gathers_then es fs x.written y.written x.closed y.closed;
+        closed = closes_on (omega arith) x.nodes x.closed y.closed (gathers_then es fs x.written y.written x.closed.gathers y.closed.gathers);
         memory = memory_on a b c x.memory y.memory;
       }
 
@@ -33,7 +33,7 @@ module _ {T : Type 0} {g : Ghosts T} where
     nodes = x.nodes;
     held = x.held;
     leases = x.leases;
-    closed = quiet;
+    closed = closes_none refl quiet;
     memory = record {
       events = x.memory.events;
       notes = x.memory.notes;

@@ -9,7 +9,7 @@ use Rattle.rx_ground.proofs.RegisterAfterWrite.{writes_silent}
 use Rattle.rx_ground.proofs.Newest.{newest}
 use Rattle.rx_ground.proofs.HubsAfterEvent.{connected_after, tied_connected}
 use Rattle.rx_ground.proofs.EventWritten.{ground_of, HasOpened, step, opens_node, wrote_opening}
-use Rattle.rx_ground.proofs.Laws.GoneStaysGone.{gathers_quiet}
+use Rattle.rx_ground.proofs.Laws.GoneStaysGone.{closes_quiet}
 use Rattle.rx_ground.proofs.base.Ground.write_connect.Given.{Over}
 use Rattle.rx_ground.proofs.base.Ground.write_connect.Goals as goal
 use Rattle.std.proofs.Common.{rules}
@@ -74,7 +74,7 @@ left g c =
       hubs = c.connect.ensures ∙ ap (λ (hs : List Hub). record old.hubs { hubs = hs })
           (sym (connected_after h c.args.hub c.in-Ok.key old.hubs.hubs was.published opened.numbered));
       leases = refl;
-      closed = gathers_quiet e s.next refl s.written refl;
+      closed = closes_quiet e s.next refl s.written refl;
       memory = written_memory (e ∷ []) s.written (omega arith) (ap (λ (n : Slots (Stowed g.row.R.Denot)). n.count + n.room) opened.resources)
           (omega arith) hubs (ap (λ (hs : Hubs). hs.slots) c.connect.ensures);
     }

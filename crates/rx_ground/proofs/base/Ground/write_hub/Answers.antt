@@ -5,7 +5,7 @@ use Rattle.rx_ground.proofs.Memory.{written_memory}
 use Rattle.rx_ground.proofs.RegisterAfterWrite.{writes_silent}
 use Rattle.rx_ground.proofs.StaysTied.{tied_same}
 use Rattle.rx_ground.proofs.HubsAfterEvent.{hub_is_older, tied_published}
-use Rattle.rx_ground.proofs.Laws.GoneStaysGone.{gathers_quiet}
+use Rattle.rx_ground.proofs.Laws.GoneStaysGone.{closes_quiet}
 use Rattle.rx_ground.proofs.Laws.KeysKept.{keeps_same, leases_stay}
 use Rattle.rx_ground.proofs.base.Ground.write_hub.Goals as goal
 use Rattle.std.proofs.Common.{rules}
@@ -30,4 +30,4 @@ returns-clause-wrote g c =
     rw (← c.self.view_is) (wrote_one g.R.Resource s
     (tied_published g.R.Resource _ c.args.mode law s.next s.between.tied tied (rw c.len-number.ensures at c.add.ensures.hubs))
     (leased_still g.R.Resource s refl refl refl (λ l res is. is.stored)) (keeps_same _ _ _ refl) (leases_stay _ _ _ refl)
-    (gathers_quiet e s.next refl s.written refl) (written_memory (e ∷ []) s.written refl refl refl (omega arith) c.add.ensures.slots))
+    (closes_quiet e s.next refl s.written refl) (written_memory (e ∷ []) s.written refl refl refl (omega arith) c.add.ensures.slots))

@@ -5,7 +5,7 @@ use Rattle.rx_ground.proofs.RegisterAfterWrite.{writes_silent}
 use Rattle.rx_ground.proofs.ReadyToOpen.{IsOpenedBelow, stands_below, opened_new, owes_above, above_there_still, quiet_above, newest_left, placed_left}
 use Rattle.rx_ground.proofs.ReadyToOpen.{way_resources}
 use Rattle.rx_ground.proofs.HubsAtOpening.{rest_same, joined_left, stands_left, found_before, ready_left, older_left, all_opened, as_many_opened, hubs_opened}
-use Rattle.rx_ground.proofs.RoomAtOpening.{IsWayMade, way_made, few_children, slot_within, gathers_opened}
+use Rattle.rx_ground.proofs.RoomAtOpening.{IsWayMade, way_made, few_children, slot_within, closes_opened}
 use Rattle.rx_ground.proofs.HubsBesideTree.{slot_free, some_hub}
 use Rattle.rx_ground.proofs.base.Ground.write_open.Given.{Over}
 use Rattle.rx_ground.proofs.base.Ground.write_open.Goals as goal
@@ -103,7 +103,7 @@ left g c =
       resources = m.resources ∙ c.in-Ok.ensures.resources ∙ way_resources way.ready;
       hubs = hubs_opened way.ready c.in-Ok.key (c.in-Ok.ensures.numbered ∙ c.len-number.ensures) c.join.ensures;
       leases = way.stays.leases;
-      closed = gathers_opened way s.written.history;
+      closed = closes_opened way s.written.history refl;
       memory = memory_after way.stays.memory (Open c.args.place c.args.kind ∷ []) s.written (omega arith) (m.resources ∙ c.in-Ok.ensures.resources) (omega arith)
           (as_many_opened c.in-Ok.key c.args.place c.args.kind c.self-2.inside.hubs c.join.ensures) (ap (λ (s : Hubs). s.slots) c.join.ensures);
     }
