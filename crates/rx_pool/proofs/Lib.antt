@@ -1,0 +1,5 @@
+pub mod Common
+pub mod Searches
+pub mod Changes
+pub mod Blocks
+pub mod Laws
