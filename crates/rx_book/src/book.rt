@@ -113,6 +113,11 @@ impl<R: Resource> Book<R> {
         Some(shown_key(closed))
     }
 
+    /// Below which number all slots of nodes are.
+    pub fn slots(&self) -> usize {
+        self.ground.slots()
+    }
+
     /// How many nodes are open.
     pub fn open_count(&self) -> u64
         ensures { result ≡ open_count_in self.now.history }

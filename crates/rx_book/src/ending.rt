@@ -50,6 +50,26 @@ impl<R: Resource> Book<R> {
         Ok(place)
     }
 
+    /// As [`Book::next`], but refused `NoMemory` where more notes than these come of it.
+    #[inline(always)]
+    pub fn next_within(&mut self, leaf: Key, value: i64, most: u64) -> Result<u64, Refusal> {
+        let way = self.ground.route(tree_key(leaf), value)?;
+        if way.reach.notes > most {
+            return Err(Refusal::NoMemory);
+        }
+        admit(&mut self.ground, None, Some(Wanted::of_item(way.reach)))?;
+        let place = self.ground.len();
+        self.ground.write_item(tree_key(leaf), value, way);
+        self.ground.settle();
+        Ok(place)
+    }
+
+    /// How many notes come of an item of this leaf.
+    pub fn notes_of(&mut self, leaf: Key, value: i64) -> Result<u64, Refusal> {
+        let way = self.ground.route(tree_key(leaf), value)?;
+        Ok(way.reach.notes)
+    }
+
     /// A leaf emits several items, one after another, up to the first that is refused: as so many calls of
     /// [`Book::next`].
     pub fn next_all(&mut self, leaf: Key, values: &[i64]) -> Emitted

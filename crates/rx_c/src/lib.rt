@@ -59,6 +59,7 @@
 
 mod audit;
 mod book;
+mod engine;
 mod handing;
 mod handle;
 mod kept;

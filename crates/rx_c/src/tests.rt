@@ -2,6 +2,7 @@
 //! of the stock is told.
 
 mod book;
+mod engine;
 mod live;
 mod starved;
 mod telling;

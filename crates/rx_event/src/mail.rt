@@ -10,6 +10,8 @@ pub struct Mail {
     /// The number of the node that it goes to: of the root where the observer subscribed, or of
     /// the FlatMap or Switch whose caller is to project the item.
     pub to: u64,
+    /// Where the record of that node lies.
+    pub slot: u64,
     /// What it says.
     pub note: Note,
 }

@@ -274,6 +274,12 @@ impl<R: Resource> Ground<R> {
         Some(key_of(closed))
     }
 
+    /// Below which number all slots of nodes are.
+    #[inline(always)]
+    pub fn slots(&self) -> usize {
+        self.tree.slots()
+    }
+
     /// How many events there are, which is the place of the next one.
     #[inline(always)]
     pub fn len(&self) -> u64

@@ -168,11 +168,16 @@ fn mail_at(place: u64, value: i64, stop: Stop) -> Option<Mail>
     ensures { result ≡ mail_at place value stop }
 {
     let (to, note) = match stop {
-        Stop::Delivery(root) => (root.number, Note::Next(value)),
-        Stop::Projection(merging) => (merging.number, Note::Project(value)),
+        Stop::Delivery(root) => (root, Note::Next(value)),
+        Stop::Projection(merging) => (merging, Note::Project(value)),
         Stop::Firing(_) | Stop::Connection(_) => return None,
     };
-    Some(Mail { place, to, note })
+    Some(Mail {
+        place,
+        to: to.number,
+        slot: to.slot as u64,
+        note,
+    })
 }
 
 /// Tells of an item at one of its stops: a root is told it, and a FlatMap or a Switch to project it.

@@ -32,9 +32,9 @@ use rx_tree::{Key, ResKey, Tree};
 
 /// Queues the note of the end of a root; nothing for another node.
 #[inline(always)]
-fn tell_end(register: &mut Register, node: u64, terminal: Terminal, is_root: bool)
-    requires root { is_root ≡ at is_root_in register.old.history node }
-    requires room { length (mail_of register.old.history (Event.End node terminal)) ≤ register.old.mail_room }
+fn tell_end(register: &mut Register, key: Key, terminal: Terminal, is_root: bool)
+    requires root { is_root ≡ at is_root_in register.old.history key.number }
+    requires room { length (mail_of register.old.history (Event.End key.number terminal)) ≤ register.old.mail_room }
     requires pending { register.old.pending ≡ [] }
     ensures told { register.new.pending ≡ mail_of register.old.history (Event.End node terminal) }
     ensures kept { register.new ≡ record register.old { pending = register.new.pending; mail_room = register.new.mail_room } }
@@ -44,7 +44,8 @@ fn tell_end(register: &mut Register, node: u64, terminal: Terminal, is_root: boo
         let place = register.len();
         register.tell(Mail {
             place,
-            to: node,
+            to: key.number,
+            slot: key.slot as u64,
             note: Note::End(terminal),
         });
     }
@@ -265,7 +266,7 @@ impl<R: Resource> Ground<R> {
         let record = self.tree.at(node.slot);
         let above = record.parent();
         let is_source = record.is_source();
-        tell_end(&mut self.register, node.number, terminal, record.is_root());
+        tell_end(&mut self.register, node, terminal, record.is_root());
         let place = self.register.len();
         self.cut(node, Some(LastEnd { place, terminal }));
         self.register.write(Event::End(node.number, terminal));

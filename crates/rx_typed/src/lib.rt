@@ -45,6 +45,6 @@ pub use shapes::{
     RxUsing, no_lease, no_mail, no_node, no_opened, no_res, no_taken, no_used,
 };
 pub use status::{
-    CUT, DONE, HELD, NO_MEMORY, NO_SUCH_CODE, NOTHING_KEPT, NOTHING_WAITS, SMALL, UNTAKEN,
+    CUT, DONE, HELD, NO_MEMORY, NO_SUCH_CODE, NOTHING_KEPT, NOTHING_WAITS, SMALL, UNTAKEN, status_of,
 };
 pub use typed::Typed;
