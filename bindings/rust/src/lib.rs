@@ -1,4 +1,37 @@
-//! A book of subscriptions over the proved library `rx`: each resource that it accepts is handed back exactly once.
+//! Observables over a proved engine, and the book of subscriptions below it: each resource that goes in is released exactly once.
+//!
+//! [`local`] has observables of one thread, [`sync`] those that threads share; both have the same names.
+//!
+//! ```
+//! use cellarcliff::{local::{Observable, Subject}, Note};
+//!
+//! let words = Subject::<&str>::new();
+//! let source = words.observable();
+//! let file = || std::fs::File::open("Cargo.toml").expect("there is one");
+//! let whole = Observable::using(file, move |_| source.clone());           // a file for each subscription
+//! let (subscription, heard) = whole.map(str::len).take(2).channel();
+//! words.next("a");
+//! words.next("abc");                                                      // the last: the file is closed as this returns
+//! assert_eq!(heard.iter().collect::<Vec<_>>(), [Note::Next(1), Note::Next(3), Note::Completed]);
+//! assert_eq!((subscription.is_closed(), words.observers()), (true, 0));
+//! ```
+//!
+//! # What happens where
+//!
+//! - **Telling.** What an emission comes to is told before it returns, in its own thread. What an observer emits from within stands behind
+//!   what it is being told. Another thread's emission into the same subscription is told by the thread that is telling.
+//! - **Releases.** Dropping a [`local::Subscription`] has released its resources when it returns, from within an observer too, unless
+//!   another thread is telling that observer.
+//! - **Panics.** If an observer, a function on items or a `drop` panics, everything else that is due is told and released first. The
+//!   subscription in which it panicked is closed. Then the first panic goes on to whoever emitted, subscribed or disposed.
+//! - **Memory.** What the engine cannot have it refuses, and nothing has changed: `observe_in`, `connect_in` and `try_next` answer that, their
+//!   plain forms panic. Closing asks the engine for none. What this crate's own lists cannot have aborts, as in all of Rust.
+//! - **Engines.** What borrows nothing uses one engine for each thread (`local`) or one for all (`sync`). A [`local::Scope`] is an engine
+//!   of its own, in which functions may borrow; dropping it closes all that is open in it.
+//!
+//! # The book
+//!
+//! A [`Book`] keeps what is open for a program that has operators of its own.
 //!
 //! ```
 //! use cellarcliff::{At, Book, Kind, Terminal, What};
@@ -34,13 +67,20 @@
 //!
 //! This crate is tested, not proved; nor is proved what a caller does with a resource once it has it.
 #![deny(missing_docs)]
+#![deny(unsafe_op_in_unsafe_fn)]
 
+pub mod engine;
 mod event;
 mod ffi;
+pub mod local;
+mod note;
 mod record;
+mod rx;
+pub mod sync;
 
 pub use event::Event;
 use ffi::{Handle, Told};
+pub use note::Note;
 pub use record::Record;
 use std::collections::VecDeque;
 use std::fmt;
@@ -213,7 +253,7 @@ pub enum Refusal {
 }
 
 impl Refusal {
-    fn of(status: u8) -> Refusal {
+    pub(crate) fn of(status: u8) -> Refusal {
         use Refusal::*;
         match status {
             4 => NoMemory,

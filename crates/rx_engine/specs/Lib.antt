@@ -1,0 +1,17 @@
+pub mod Closings
+pub mod Commands
+pub mod Courses
+pub mod Deliveries
+pub mod Holdings
+pub mod Homes
+pub mod Openings
+pub mod Plain
+pub mod Puttings
+pub mod Rooms
+pub mod Runs
+pub mod Servings
+pub mod Settlements
+pub mod States
+pub mod Tellings
+pub mod Ties
+pub mod Usings
