@@ -1,6 +1,7 @@
 //! What an answer says of the nodes that were closed.
 
-ghost use Rattle.std.specs.Prelude.{◌≡◌, ◌+◌, ◌++◌, [], codes, length, map, option_map, string_bytes, if◌then◌else◌, IfOk, OnOk, OnErr};
+ghost use Rattle.std.specs.Prelude.{◌≡◌, ◌≤◌, ◌+◌, ◌++◌, [], codes, length, map, option_map, string_bytes, if◌then◌else◌, IfOk, OnOk, OnErr};
+ghost use Rattle.std.specs.String.{string_capacity};
 ghost use Rattle.rx_scenario.specs.Scenario.{command_of};
 ghost use Rattle.rx_line.specs.Orders.{plain, task_of};
 ghost use Rattle.rx_line.specs.Pieces.{name_text, member_text, joined};
@@ -24,8 +25,8 @@ pub struct Closing {
     pub asked: Option<u64>,
 }
 
-// The number of the node of this name.
-fn number_of(engine: &Engine, node: &str) -> Option<u64>
+/// The number of the node of this name.
+pub fn number_of(engine: &Engine, node: &str) -> Option<u64>
     ensures { result ≡ option_map (λ k. k.number) (node_of (session_of engine.now) node.now) }
 {
     let key = engine.node(node)?;
@@ -146,6 +147,7 @@ fn push_member(
         ++ member_text (codes "closed") (map name_text (names_closed (session_of engine.now) asked))) }
     ensures err { OnErr result (string_bytes text.new ≡ string_bytes text.old) }
     ensures room { KeepsRoom rest text.old text.new }
+    ensures capacity { string_capacity text.old ≤ string_capacity text.new }
 {
     let said = closed_text(engine, asked)?;
     push_piece(text, "", said.as_str(), rest)
@@ -158,6 +160,7 @@ pub fn push_closed(engine: &Engine, text: &mut String, closing: Closing, rest: u
     ensures said { WritesClosed (if closing.is_call then names_closed (session_of engine.now) closing.asked else [])
         (string_bytes text.old) (string_bytes text.new) }
     ensures room { HasRoom (rest + 15) text.new }
+    ensures capacity { string_capacity text.old ≤ string_capacity text.new }
 {
     if !closing.is_call {
         return;
