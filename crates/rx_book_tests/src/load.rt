@@ -94,3 +94,46 @@ fn a_hundred_thousand_nodes_are_closed_with_no_memory_left(rt: HostRuntime) -> R
     same(&rt, (book.open_count(), book.open_root()), (1, Some(other)));
     Ok(())
 }
+
+// How many resources one node holds, of which every second is removed.
+const HELD: u64 = 10_000;
+
+// A node holds so many, with tags from 0 on, and every second is removed. The node.
+fn hold_many(book: &mut Probe<Sample>) -> Result<Key, Fail> {
+    let node = book.open(At::Root, Kind::Leaf)?.key;
+    for tag in 0..HELD {
+        match book.hold(node, Sample::new(tag)) {
+            Ok(held) if tag % 2 == 1 => book.remove(held)?,
+            Ok(_) => 0,
+            Err(_) => return Err(Fail::from("a resource is refused")),
+        };
+    }
+    Ok(node)
+}
+
+// Takes what waits, and counts for each tag how often it came. How many came.
+fn take_many(book: &mut Probe<Sample>, times: &mut Vec<u8>) -> u64 {
+    for count in 0..=HELD {
+        let Some(given) = book.take() else {
+            return count;
+        };
+        let tag = given.tag as usize;
+        if let Some(one) = times.get_mut(tag) {
+            *one = one.saturating_add(1);
+        }
+    }
+    HELD + 1
+}
+
+#[test]
+fn each_of_ten_thousand_resources_at_a_node_is_taken_once(rt: HostRuntime) -> Result<(), Fail> {
+    let mut book = Probe::new(rt.alloc(), 1_000_000);
+    let mut times = vec![in rt.alloc(); 0u8; HELD as usize]?;
+    let node = hold_many(&mut book)?;
+    let removed = take_many(&mut book, &mut times);
+    book.dispose(node)?;
+    let closed = take_many(&mut book, &mut times);
+    same(&rt, (removed, closed), (HELD / 2, HELD / 2));
+    same(&rt, times.iter().all(|count| *count == 1), true);
+    Ok(())
+}
