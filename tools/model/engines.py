@@ -13,7 +13,7 @@ from typing import Any
 
 from . import handle
 
-DONE, TOO_SMALL = 0, 1
+DONE, TOO_SMALL, FAULTY_INPUT, SAYS = 0, 1, 3, 5
 
 
 class Programs:
@@ -64,11 +64,12 @@ class LiveHandle(ctypes.Structure):
 
 
 class Library:
-    """The calls of crates/rx_c/rx.h in this process."""
+    """The calls of crates/rx_c/rx.h and cellarcliff.h in this process."""
 
     def __init__(self, path: str):
         self.calls = ctypes.CDLL(os.path.abspath(path))
-        for name in ('rx_audit', 'rx_run', 'rx_run_dump', 'rx_live_new', 'rx_live_send', 'rx_live_end', 'rx_live_read'):
+        for name in ('rx_audit', 'rx_run', 'rx_run_dump', 'cellar_run_names', 'cellar_picture', 'cellar_explain', 'rx_live_new', 'rx_live_send', 'rx_live_end',
+                     'rx_live_read'):
             getattr(self.calls, name).restype = ctypes.c_uint8
         self.capacity = 1 << 16
         self.buffer = ctypes.create_string_buffer(self.capacity)
@@ -94,6 +95,17 @@ class Library:
 
     def audit(self, text: bytes) -> tuple[int, bytes]:
         return self._ask('rx_audit', text)
+
+    def names(self, text: bytes) -> tuple[int, bytes]:
+        return self._ask('cellar_run_names', text)
+
+    def picture(self, text: bytes) -> tuple[int, bytes]:
+        return self._ask('cellar_picture', text)
+
+    def explain(self, text: bytes) -> tuple[int, bytes]:
+        """As the program rxexplain has it: 3 and a line where there is something to say."""
+        status, told = self._ask('cellar_explain', text)
+        return (FAULTY_INPUT, told + b'\n') if status == SAYS else (status, told)
 
     def numbers(self, calls: list[list[Any]]) -> list[tuple[list[Any], list[list[int]]]]:
         return handle.Handle(self.calls).session(calls)

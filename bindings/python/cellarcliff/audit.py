@@ -1,4 +1,4 @@
-"""Judges a history of subscriptions, and runs a scenario of them, by the library librx.
+"""Judges, draws and explains a history of subscriptions, and runs a scenario of them, by the library librx.
 
     from cellarcliff import audit
 
@@ -12,7 +12,6 @@ from __future__ import annotations
 
 import ctypes
 import json
-import subprocess
 from dataclasses import dataclass
 from functools import lru_cache
 from typing import Any, Dict, List, Optional, Sequence, Tuple, Union
@@ -21,13 +20,17 @@ from . import _library
 
 #: A list of events, or the text of one; a scenario, or the text of one.
 History = Union[Sequence[Sequence[Any]], str, bytes]
+#: A history with the names of its nodes, hubs and resources: {"dump": [..], "names": {"0": "prices"}}.
+Named = Dict[str, Any]
 Scenario = Union[dict, str, bytes]
 
 DONE, TOO_SMALL, FAULTY_INPUT, OUT_OF_MEMORY, NOT_LAWFUL = 0, 1, 3, 4, 5
+_CALLS = ("rx_audit", "rx_run", "rx_run_dump", "cellar_run_names", "cellar_picture", "cellar_explain")
+_NO_HISTORY = ("rx_audit", "cellar_picture")
 
 
 class FaultyInput(ValueError):
-    """The input is not a history, or not a scenario; the program rxexplain says where (status 3)."""
+    """The input is not a history, or not a scenario (status 3); `explain` says what is wrong."""
 
 
 class OutOfMemory(MemoryError):
@@ -62,7 +65,7 @@ class Verdict:
 def _calls() -> Dict[str, Any]:
     library = _library.load()
     size = ctypes.c_size_t
-    calls = {name: getattr(library, name) for name in ("rx_audit", "rx_run", "rx_run_dump")}
+    calls = {name: getattr(library, name) for name in _CALLS}
     for call in calls.values():
         call.argtypes = [ctypes.c_char_p, size, ctypes.c_char_p, size, ctypes.POINTER(size)]
         call.restype = ctypes.c_uint8
@@ -80,7 +83,7 @@ def _answer(name: str, value: Any) -> bytes:
         buffer, told = ctypes.create_string_buffer(capacity), ctypes.c_size_t(0)
         status = _calls()[name](value, len(value), buffer, capacity, ctypes.byref(told))
         if status == FAULTY_INPUT:
-            raise FaultyInput("no history" if name == "rx_audit" else "no scenario")
+            raise FaultyInput("no history" if name in _NO_HISTORY else "no scenario")
         if status == OUT_OF_MEMORY:
             raise OutOfMemory()
         if status != TOO_SMALL:
@@ -107,12 +110,17 @@ def run_dump(scenario: Scenario) -> List[List[Any]]:
     return events
 
 
-def picture(history: History, program: Union[str, Sequence[str]] = "rxpicture") -> str:
-    """The history as SVG, drawn by the program rxpicture: its name, or the command that runs it. Raises FaultyInput, and
-    FileNotFoundError if there is no such program."""
-    text = history if isinstance(history, (str, bytes)) else json.dumps(history)
-    command = [program] if isinstance(program, str) else list(program)
-    done = subprocess.run(command, input=text.encode() if isinstance(text, str) else text, stdout=subprocess.PIPE)
-    if done.returncode:
-        raise FaultyInput("no history") if done.returncode == FAULTY_INPUT else OSError(f"{command[0]}: status {done.returncode}")
-    return done.stdout.decode()
+def run_names(scenario: Scenario) -> Named:
+    """The same with the names of its nodes, hubs and resources, which `picture` draws."""
+    named: Named = json.loads(_answer("cellar_run_names", scenario))
+    return named
+
+
+def picture(history: Union[History, Named]) -> str:
+    """The history as a picture, an SVG document; it may be lawful or not, and have names beside it."""
+    return _answer("cellar_picture", history).decode()
+
+
+def explain(text: Union[History, Scenario]) -> Optional[str]:
+    """What is wrong with a scenario or a history, in a sentence; None for a scenario, and for a history that is lawful."""
+    return _answer("cellar_explain", text).decode() or None

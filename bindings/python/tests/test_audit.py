@@ -37,6 +37,23 @@ class Audit(unittest.TestCase):
         history = [["open", "root", "leaf"]] * 5000
         self.assertEqual(audit.audit(history).live, tuple(range(5000)))
 
+    def test_pictures_are_those_of_the_examples(self):
+        drawn = sorted((EXAMPLES / "pictures").glob("*.svg"))
+        for file in drawn:
+            of = next(it for it in (file.with_suffix(".dump"), file.with_suffix(".named-dump")) if it.exists())
+            self.assertEqual(audit.picture(of.read_text()), file.read_text())
+        named = audit.run_names(text("pictures/forgotten-screen.json"))
+        self.assertEqual(named["names"]["4"], "socket")
+        self.assertEqual(audit.picture(named), text("pictures/forgotten-screen.svg"))
+        self.assertRaises(audit.FaultyInput, audit.picture, {"steps": []})
+        self.assertGreater(len(drawn), 8)
+
+    def test_what_is_wrong_is_explained(self):
+        self.assertEqual(audit.explain(text("dispose-twice.dump")), 'event 4, ["close",0]: node 0 is closed, by event 2')
+        self.assertIsNone(audit.explain(text("first-run.json")))
+        self.assertIsNone(audit.explain([]))
+        self.assertIn(".steps[0]", audit.explain({"steps": [{"do": "open"}]}))
+
     def test_threads(self):
         wanted, seen = text("web-requests.report"), []
         scenario = text("web-requests.json")

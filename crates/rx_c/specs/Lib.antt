@@ -5,6 +5,7 @@ pub mod Courses
 pub mod Handing
 pub mod Ownership
 pub mod Ran
+pub mod Shown
 pub mod Stages
 pub mod Dumped
 pub mod BookCourses

@@ -1,17 +1,17 @@
-//! For C: the audit of a dump, the run of a scenario, a live book behind a handle, and a book by numbers behind
-//! another.
+//! For C: the audit of a dump, the run of a scenario, a picture, an explanation, a live book behind a handle, and a
+//! book by numbers behind another.
 //!
 //! All but the last have text in and text out. A call takes a text as a pointer and a length, writes its answer
 //! to the front of the caller's buffer, and answers a status. Those of the audit and the run are as the program
 //! `rxbook` has them:
 //!
-//! | Status | Of an audit | Of a run |
-//! |---|---|---|
-//! | 0 | the verdict is `lawful` | the run is done |
-//! | 1 | the buffer is too small | the same |
-//! | 3 | the input is no dump | the input is no scenario |
-//! | 4 | memory was refused | the same |
-//! | 5 | the verdict is another | |
+//! | Status | Of an audit | Of a run | Of a picture | Of an explanation |
+//! |---|---|---|---|---|
+//! | 0 | the verdict is `lawful` | the run is done | it is drawn | nothing is wrong; the text is empty |
+//! | 1 | the buffer is too small | the same | the same | the same |
+//! | 3 | the input is no dump | the input is no scenario | the input has no dump | |
+//! | 4 | memory was refused | the same | the same | the same |
+//! | 5 | the verdict is another | | | the text says what is wrong |
 //!
 //! With 0 and 5 the text stands in the buffer and its length is told. With 1 nothing is written, and
 //! what is told is the length that the buffer needs, which is more than it has. With 3 and 4 nothing is
@@ -37,8 +37,9 @@
 //! # Promised, and not
 //!
 //! - Each answer of an audit or a run is one line of `Answers` (`specs/`): the text is the verdict on the
-//!   history of which the input is a dump, or what `rx_script` says of a scenario, and a status comes only for
-//!   its cause.
+//!   history of which the input is a dump, what `rx_script` says of a scenario, or the picture that `rx_svg` tells of
+//!   a history, and a status comes only for its cause. An explanation has a text for just the inputs that `rxbook`
+//!   does not accept; what the text says is not proved.
 //! - The stock is the program's, of `rx_script`, which proves what resources of it answer their release with a
 //!   fault; that a report counts them is tested.
 //! - Each call on a live book is one line of `Calls` (`specs/`): what the handle keeps before and after it, as
@@ -66,6 +67,7 @@ mod laws;
 mod live;
 mod loose;
 mod running;
+mod showing;
 mod status;
 #[cfg(test)]
 mod tests;
@@ -76,3 +78,4 @@ pub use handle::Handle;
 pub use laws::{answers_are_handed_out_once, notes_of_a_book_are_told_once, tags_are_told_once};
 pub use live::{rx_live_drop, rx_live_end, rx_live_new, rx_live_read, rx_live_send};
 pub use running::{rx_run, rx_run_dump};
+pub use showing::{cellar_explain, cellar_picture, cellar_run_names};

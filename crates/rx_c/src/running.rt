@@ -44,8 +44,8 @@ fn carry_out(
     Ok(0)
 }
 
-// Runs a scenario and hands out what the form says.
-fn run_in(alloc: Global, scenario: &[u8], form: Form, buffer: &mut [u8], told: &mut usize) -> u8
+/// Runs a scenario and hands out what the form says.
+pub fn run_in(alloc: Global, scenario: &[u8], form: Form, buffer: &mut [u8], told: &mut usize) -> u8
     ensures { Answers (TellsRun scenario.now form) (HasNoOutput form scenario.now) buffer.old buffer.new told.new result }
 {
     let mut text = Vec::new(alloc);

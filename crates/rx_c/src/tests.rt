@@ -1,8 +1,10 @@
 //! What no clause says: that each call can succeed, with the texts of a worked example, and that a fault
 //! of the stock is told.
 
+mod asking;
 mod book;
 mod live;
+mod showing;
 mod starved;
 mod telling;
 
@@ -10,7 +12,7 @@ use crate::{rx_audit, rx_run, rx_run_dump};
 use std::alloc::Global;
 
 // A subscription with a resource, from its beginning to its end.
-const FIRST_RUN: &str =
+pub(super) const FIRST_RUN: &str =
     "{\"steps\":[{\"do\":\"using\",\"name\":\"a\",\"place\":\"root\",\"res\":\"r\"},\
         {\"do\":\"open\",\"name\":\"b\",\"place\":\"source\",\"of\":\"a\",\"kind\":\"leaf\"},\
         {\"do\":\"next\",\"node\":\"b\",\"value\":5},{\"do\":\"end\",\"node\":\"b\"},\
@@ -30,14 +32,15 @@ const FAULTY_REPORT: &str =
         res s tag=3 uses=0 held\nres t tag=4 uses=0 held\n\
         totals nodes=1 open=1 accepted=5 held=5 waiting=0 taken=0\nclosed 5 faults 1\n";
 
-const FIRST_DUMP: &str =
+pub(super) const FIRST_DUMP: &str =
     "[[\"open\",\"root\",\"pass\"],[\"accept\",0,0],[\"open\",\"source\",0,\"leaf\"],\
         [\"item\",2,5],[\"end\",2,\"completed\"],[\"end\",0,\"completed\"],[\"take\",1]]\n";
 
 const FIRST_VERDICT: &str = "lawful\nlive:\nheld:\nwaiting:\n";
 
 // A subscription that is disposed of twice.
-const DISPOSED_TWICE: &str = "[[\"open\",\"root\",\"leaf\"],[\"close\",0],[\"close\",0]]";
+pub(super) const DISPOSED_TWICE: &str =
+    "[[\"open\",\"root\",\"leaf\"],[\"close\",0],[\"close\",0]]";
 
 // What a call hands out beside its status.
 #[derive(Clone, Copy)]

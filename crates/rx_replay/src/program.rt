@@ -1,10 +1,9 @@
 //! What the program `rxbook` makes of a text.
 
 use rx_device::ShapeError;
-use rx_dump::history_of;
 use rx_explain::explain;
 use rx_script::{Form, ScriptError, Watched, check, run, stock};
-use rx_svg::named_picture;
+use rx_svg::picture_of;
 use serde_json::Value;
 use std::alloc::{AllocError, Global};
 
@@ -35,11 +34,8 @@ fn push_picture(alloc: Global, input: &[u8], output: &mut Vec<u8>) -> Result<boo
     let Ok(value) = Value::from_slice(alloc, input) else {
         return Ok(false);
     };
-    let none = Value::Null;
-    let names = value.get("names").unwrap_or(&none);
-    match history_of(alloc, value.get("dump").unwrap_or(&value)) {
-        Ok(history) => {
-            let picture = named_picture(alloc, history.as_slice(), names)?;
+    match picture_of(alloc, &value) {
+        Ok(picture) => {
             output.extend_from_slice(picture.as_str().as_bytes())?;
             Ok(true)
         }

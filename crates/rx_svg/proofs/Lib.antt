@@ -9,3 +9,4 @@ mod Documents
 pub mod Laws
 mod Reader
 mod NotWellFormed
+mod Chosen

@@ -6,3 +6,4 @@ pub mod Said
 pub mod Stroke
 pub mod Lane
 pub mod Page
+pub mod Pictured

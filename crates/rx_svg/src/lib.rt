@@ -10,6 +10,8 @@
 //! alone, nor of the names of numbers: markup in a name is written as references, and each byte of a control
 //! character or of a letter beyond ASCII as a question mark.
 //!
+//! [`picture_of`] reads the history from a JSON value: a dump, or an object with a dump and the names of numbers.
+//!
 //! Not promised: what a browser makes of it.
 //!
 //! Cost: that of the drawing and of the audit, and one pass over what is drawn.
@@ -18,8 +20,10 @@
 mod labels;
 mod lanes;
 mod names;
+mod pictured;
 mod pieces;
 mod strokes;
 mod svg;
 
+pub use pictured::picture_of;
 pub use svg::{named_picture, picture};

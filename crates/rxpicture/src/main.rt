@@ -8,44 +8,22 @@
 
 ghost use Rattle.std.specs.Prelude.{◌≡◌, ◌≢◌, ◌⊎◌, None, IfOk, IfErr, OnOk, IsErrOf, string_bytes};
 ghost use Rattle.std.specs.Io.KnownBytes.{Appends};
-ghost use Rattle.serde_json.specs.Data.{null};
 ghost use Rattle.serde_json.specs.View.{view};
 ghost use Rattle.rx_device.specs.declared.fault.ScriptError.{ScriptError};
 ghost use Rattle.rx_device.specs.Device.{device_of, HasReadFault, HasWriteFault, IsFresh, AppendsPrefix};
 ghost use Rattle.rx_device.specs.Input.{GivesTooMuch, GivesNoJson};
 ghost use Rattle.rx_dump.specs.History.{history_of};
-ghost use Rattle.rxpicture.specs.Pictured.{dump_in, names_in, IsPictureOn, Draws, GivesNoHistory};
+ghost use Rattle.rx_svg.specs.Pictured.{dump_in, IsPictureOn};
+ghost use Rattle.rxpicture.specs.Pictured.{Draws, GivesNoHistory};
 ghost use Rattle.rxpicture.specs.Status.{status_of};
 
 use rx_device::{ScriptError, ShapeError, Watched, read_value, write_text};
-use rx_dump::history_of;
-use rx_svg::named_picture;
+use rx_svg::picture_of;
 use serde_json::Value;
 use std::alloc::Global;
 use std::io;
 use std::io::{Read, Write};
 use std::process::ExitCode;
-
-// The dump in the value: its member `dump`, or the value itself where it has no such member.
-fn dump_in(value: &Value) -> &Value
-    ensures { view result.now ≡ dump_in (view value.now) }
-{
-    match value.get("dump") {
-        Some(dump) => dump,
-        None => value,
-    }
-}
-
-// The names in the value: its member `names`, or this value where it has no such member.
-fn names_or<'a>(value: &'a Value, none: &'a Value) -> &'a Value
-    requires { view none.now ≡ null }
-    ensures { view result.now ≡ names_in (view value.now) }
-{
-    match value.get("names") {
-        Some(names) => names,
-        None => none,
-    }
-}
 
 // The picture of the history whose dump is in the value, with the names in it.
 fn picture_on(alloc: Global, value: &Value) -> Result<String, ScriptError>
@@ -53,15 +31,10 @@ fn picture_on(alloc: Global, value: &Value) -> Result<String, ScriptError>
     ensures shape { IsErrOf result ScriptError.Shape → history_of (dump_in (view value.now)) ≡ None }
     ensures never { IfErr result (λ e. (e ≢ ScriptError.Read) × (e ≢ ScriptError.Write) × (e ≢ ScriptError.Syntax)) }
 {
-    let history = match history_of(alloc, dump_in(value)) {
-        Ok(history) => history,
-        Err(ShapeError::Shape) => return Err(ScriptError::Shape),
-        Err(ShapeError::Memory) => return Err(ScriptError::Memory),
-    };
-    let none = Value::Null;
-    match named_picture(alloc, history.as_slice(), names_or(value, &none)) {
+    match picture_of(alloc, value) {
         Ok(text) => Ok(text),
-        Err(_) => Err(ScriptError::Memory),
+        Err(ShapeError::Shape) => Err(ScriptError::Shape),
+        Err(ShapeError::Memory) => Err(ScriptError::Memory),
     }
 }
 

@@ -1,0 +1,122 @@
+"""The library elsewhere as an engine of tools/model. Each case is a request, a line of JSON: to engine.mjs with a WebAssembly module, in a process
+of Node or in a page of a browser; or to library.py with a shared library, in an emulated process."""
+from __future__ import annotations
+
+import base64
+import json
+import os
+import pathlib
+import shutil
+import subprocess
+from typing import Any
+
+from .browser import Browser, serve
+
+HERE = pathlib.Path(__file__).resolve().parent
+SAFE = 2 ** 53
+FAULTY_INPUT, SAYS = 3, 5
+
+
+def large(it: Any) -> Any:
+    """Numbers that JavaScript has none for, written."""
+    if isinstance(it, (list, tuple)):
+        return [large(one) for one in it]
+    return {'n': str(it)} if type(it) is int and abs(it) > SAFE else it
+
+
+class Node:
+    """A process of Node with a module."""
+
+    def __init__(self, module: pathlib.Path, desk: bool = False):
+        words = [os.environ.get('NODE', 'node'), str(HERE / 'node.mjs'), str(module), *(['--desk'] if desk else [])]
+        self.process = subprocess.Popen(words, stdin=subprocess.PIPE, stdout=subprocess.PIPE, text=True, bufsize=1)
+
+    def answer(self, request: str) -> str:
+        self.process.stdin.write(request + '\n')
+        self.process.stdin.flush()
+        if not (line := self.process.stdout.readline()):
+            raise RuntimeError(f'{self.process.args[0]} ended with {self.process.wait()}')
+        return line
+
+    def close(self) -> None:
+        self.process.stdin.close()
+        self.process.wait()
+
+
+class Chromium:
+    """A page of a headless Chromium with a module."""
+
+    def __init__(self, module: pathlib.Path, scratch: pathlib.Path, desk: bool = False):
+        scratch.mkdir(exist_ok=True)
+        shutil.copy(HERE / 'engine.mjs', scratch)
+        shutil.copy(module, scratch / 'it.wasm')
+        (scratch / 'index.html').write_text(f'''<!doctype html><script type="module">
+import {{ answer, begin }} from './engine.mjs';
+begin((await WebAssembly.instantiateStreaming(fetch('it.wasm'))).instance.exports, {'true' if desk else 'false'});
+globalThis.answer = answer;
+</script>''')
+        self.page = Browser()
+        self.page.go(serve(scratch))
+        self.page.wait('typeof answer === "function"')
+
+    def answer(self, request: str) -> str:
+        return self.page.value(f'answer({json.dumps(request)})')
+
+    def close(self) -> None:
+        self.page.close()
+
+
+class Emulated:
+    """A process of a Python for another processor, under an emulator, with a shared library for that one."""
+
+    def __init__(self, python: list[str], library: pathlib.Path):
+        words = [*python, '-B', str(HERE / 'library.py'), str(library)]
+        self.process = subprocess.Popen(words, stdin=subprocess.PIPE, stdout=subprocess.PIPE, text=True, bufsize=1)
+
+    answer = Node.answer
+    close = Node.close
+
+
+class Module:
+    """The calls of rx.h, cellarcliff.h and rx_book.h in a module, by a channel to it."""
+
+    def __init__(self, channel: Node | Chromium | Emulated):
+        self.channel = channel
+        self.has = self.ask(exports=True)
+
+    def ask(self, **words: Any) -> Any:
+        return json.loads(self.channel.answer(json.dumps(words)), object_hook=lambda it: int(it['n']))
+
+    def text(self, call: str, text: bytes) -> tuple[int, bytes]:
+        status, told = self.ask(call=call, text=base64.b64encode(text).decode())
+        return status, base64.b64decode(told)
+
+    def run(self, text: bytes) -> tuple[int, bytes]:
+        return self.text('rx_run', text)
+
+    def dump(self, text: bytes) -> tuple[int, bytes]:
+        return self.text('rx_run_dump', text)
+
+    def names(self, text: bytes) -> tuple[int, bytes]:
+        return self.text('cellar_run_names', text)
+
+    def audit(self, text: bytes) -> tuple[int, bytes]:
+        return self.text('rx_audit', text)
+
+    def picture(self, text: bytes) -> tuple[int, bytes]:
+        return self.text('cellar_picture', text)
+
+    def explain(self, text: bytes) -> tuple[int, bytes]:
+        """As the program rxexplain has it: 3 and a line where there is something to say."""
+        status, told = self.text('cellar_explain', text)
+        return (FAULTY_INPUT, told + b'\n') if status == SAYS else (status, told)
+
+    def live(self, lines: list[bytes], limit: int | None = None, cut: bytes = b'') -> list[str]:
+        return self.ask(lines=[base64.b64encode(it).decode() for it in lines], limit=limit or 4_194_304)
+
+    def numbers(self, calls: list[list[Any]]) -> list[tuple[list[Any], list[list[int]]]]:
+        return [(answer, events) for answer, events in self.ask(calls=large(calls))]
+
+    def starve(self, call: str, text: bytes) -> list[int]:
+        """Each request for memory of the call is refused in turn; how many there were, and how many of them were missed."""
+        return self.ask(starved=call, text=base64.b64encode(text).decode())
