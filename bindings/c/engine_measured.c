@@ -1,0 +1,176 @@
+/* Measures the engine beside the book's calls that tell: nanoseconds of processor time, the median of nine rounds with the least and
+ * the greatest, and bytes. Both do the same work: of a book, what is told stands in the answer; of an engine, it is taken of its lane. */
+#define _POSIX_C_SOURCE 200809L
+#include <cellarcliff.h>
+#include <rx_book.h>
+#include <malloc.h>
+#include <stdlib.h>
+#include <time.h>
+
+#include "must.h"
+
+enum { N = 200000, ROUNDS = 9, EVENTS = 60000 };
+static struct cellar_answer a;
+static struct cellar_command c;
+static struct rx_told told;
+static const struct rx_node none = {0, 0};
+
+static double now(void) {
+  struct timespec t;
+  clock_gettime(CLOCK_PROCESS_CPUTIME_ID, &t);
+  return (double)t.tv_sec * 1e9 + (double)t.tv_nsec;
+}
+static void make(struct cellar *e, uint8_t what) {
+  c.what = what;
+  MUST(cellar_make(e, &c, &a) == 0);
+}
+static uint64_t serve(struct cellar *e) {
+  uint64_t count, all = a.handed, due = a.due, lanes[CELLAR_ROOM];
+  struct cellar_effect it;
+  for (uint64_t i = 0; i < due; i++) lanes[i] = a.lanes[i];
+  for (uint64_t i = 0; i < due; i++)
+    while (cellar_take(e, lanes[i], 1, &it, &count) == 0 && count) all++;
+  return all;
+}
+static void open_node(struct cellar *e, uint8_t place, uint8_t kind, struct cellar_node above, uint8_t flags) {
+  c.place = place, c.kind = kind, c.node = above, c.flags = flags;
+  make(e, CELLAR_OPEN);
+  c.flags = 0;
+}
+
+/* An item: told and taken. */
+static void items(struct cellar *e) {
+  open_node(e, CELLAR_ROOT, CELLAR_LEAF, (struct cellar_node){0, 0}, CELLAR_WISHES);
+  c.node = a.node;
+  for (uint64_t i = 0; i < N; i++) {
+    c.value = i;
+    make(e, CELLAR_NEXT);
+    MUST(serve(e) == 1);
+  }
+}
+static void items_told(struct rx_book *book) {
+  struct rx_opened leaf;
+  uint64_t place;
+  MUST(rx_book_open(book, RX_ROOT, none, RX_LEAF, 0, &leaf) == 0);
+  for (uint64_t i = 0; i < N; i++) {
+    MUST(rx_book_next_told(book, leaf.node, (int64_t)i, &told) == 0 && told.mails == 1);
+    if (i % EVENTS == 0) MUST(rx_book_checkpoint(book, &place) == 0);
+  }
+}
+/* A Using with a leaf whose closing is heard of: one item, disposed of, its resource taken. */
+static void cycles(struct cellar *e) {
+  for (uint64_t i = 0; i < N / 4; i++) {
+    c.place = CELLAR_ROOT, c.value = i, c.flags = 0;
+    make(e, CELLAR_USING);
+    struct cellar_node root = a.node;
+    open_node(e, CELLAR_SOURCE, CELLAR_LEAF, root, CELLAR_WISHES);
+    c.node = a.node;
+    make(e, CELLAR_NEXT);
+    MUST(serve(e) == 1);
+    c.node = root;
+    make(e, CELLAR_DISPOSE);
+    MUST(a.closed == 1 && serve(e) == 2);
+  }
+}
+static void cycles_told(struct rx_book *book) {
+  for (uint64_t i = 0; i < N / 4; i++) {
+    struct rx_using used;
+    struct rx_opened leaf;
+    struct rx_res res;
+    uint64_t place;
+    MUST(rx_book_using_told(book, RX_ROOT, none, i, &used, &told) == 0);
+    MUST(rx_book_open_told(book, RX_SOURCE, used.node, RX_LEAF, 0, &leaf, &told) == 0);
+    MUST(rx_book_hold(book, leaf.node, i, &res) == 0); /* to hear of its closing */
+    MUST(rx_book_next_told(book, leaf.node, (int64_t)i, &told) == 0 && told.mails == 1);
+    MUST(rx_book_dispose_told(book, used.node, &told) == 0 && told.resources == 2);
+    if (i % (EVENTS / 8) == 0) MUST(rx_book_checkpoint(book, &place) == 0);
+  }
+}
+/* An item through a FlatMap, whose inner tells one and completes. */
+static void inners(struct cellar *e) {
+  open_node(e, CELLAR_ROOT, CELLAR_FLAT, (struct cellar_node){0, 0}, 0);
+  struct cellar_node flat = a.node;
+  open_node(e, CELLAR_SOURCE, CELLAR_LEAF, flat, 0);
+  struct cellar_node leaf = a.node;
+  for (uint64_t i = 0; i < N / 4; i++) {
+    struct cellar_effect it;
+    uint64_t lane, count;
+    c.node = leaf, c.value = i;
+    make(e, CELLAR_NEXT);
+    MUST(a.handed == 1 && a.effect.kind == CELLAR_E_PROJECT);
+    lane = a.lanes[0];
+    open_node(e, CELLAR_INNER, CELLAR_LEAF, flat, CELLAR_WISHES);
+    c.node = a.node;
+    make(e, CELLAR_NEXT);
+    MUST(serve(e) == 1);
+    make(e, CELLAR_COMPLETE);
+    MUST(a.closed == 1 && cellar_take(e, lane, 1, &it, &count) == 0 && count == 0);
+  }
+}
+static void inners_told(struct rx_book *book) {
+  struct rx_opened flat, leaf, inner;
+  struct rx_res res;
+  uint64_t place;
+  MUST(rx_book_open(book, RX_ROOT, none, RX_FLAT, 0, &flat) == 0 && rx_book_open(book, RX_SOURCE, flat.node, RX_LEAF, 0, &leaf) == 0);
+  for (uint64_t i = 0; i < N / 4; i++) {
+    MUST(rx_book_next_told(book, leaf.node, (int64_t)i, &told) == 0 && told.mails == 1);
+    MUST(rx_book_open_told(book, RX_INNER, flat.node, RX_LEAF, 0, &inner, &told) == 0);
+    MUST(rx_book_hold(book, inner.node, i, &res) == 0);
+    MUST(rx_book_next_told(book, inner.node, (int64_t)i, &told) == 0 && told.mails == 1);
+    MUST(rx_book_end_told(book, inner.node, 0, 0, &told) == 0 && told.resources == 1);
+    if (i % (EVENTS / 8) == 0) MUST(rx_book_checkpoint(book, &place) == 0);
+  }
+}
+
+static const struct {
+  const char *name;
+  int many;
+  void (*engine)(struct cellar *);
+  void (*book)(struct rx_book *);
+} works[] = {{"an item, told and taken", N, items, items_told}, {"a Using, an item, disposed of", N / 4, cycles, cycles_told},
+             {"an item through a FlatMap", N / 4, inners, inners_told}};
+enum { WORKS = sizeof works / sizeof works[0] };
+
+static int by_number(const void *x, const void *y) { return (*(const double *)x > *(const double *)y) - (*(const double *)x < *(const double *)y); }
+
+/* What is asked of malloc for so many open leaves at roots, each with a closing that is to be heard, as lists that grow by parts have it. */
+static double bytes(int of_engine) {
+  struct cellar engine = {0};
+  struct rx_book book = {0};
+  struct rx_opened leaf;
+  struct rx_res res;
+  MUST(cellar_new(&engine, 0) == 0 && rx_book_new(&book, UINT32_MAX) == 0);
+  struct mallinfo2 before = mallinfo2();
+  for (uint64_t i = 0; i < N; i++)
+    if (of_engine)
+      open_node(&engine, CELLAR_ROOT, CELLAR_LEAF, (struct cellar_node){0, 0}, CELLAR_WISHES);
+    else
+      MUST(rx_book_open(&book, RX_ROOT, none, RX_LEAF, 0, &leaf) == 0 && rx_book_hold(&book, leaf.node, i, &res) == 0);
+  struct mallinfo2 after = mallinfo2();
+  cellar_drop(&engine), rx_book_drop(&book);
+  return (double)(after.uordblks + after.hblkhd - before.uordblks - before.hblkhd) / N;
+}
+
+int main(void) {
+  static double took[WORKS][2][ROUNDS];
+  c.by = 1;
+  for (int round = 0; round < ROUNDS; round++)
+    for (int i = 0; i < WORKS; i++) {
+      struct cellar engine = {0};
+      struct rx_book book = {0};
+      MUST(cellar_new(&engine, 0) == 0 && rx_book_new(&book, UINT32_MAX) == 0);
+      double begin = now();
+      works[i].book(&book);
+      double between = now();
+      works[i].engine(&engine);
+      took[i][0][round] = (between - begin) / works[i].many, took[i][1][round] = (now() - between) / works[i].many;
+      cellar_drop(&engine), rx_book_drop(&book);
+    }
+  for (int i = 0; i < WORKS; i++) {
+    for (int k = 0; k < 2; k++) qsort(took[i][k], ROUNDS, sizeof(double), by_number);
+    printf("%-30s book %.0f ns (%.0f to %.0f), engine %.0f (%.0f to %.0f), %.2f times (least %.2f)\n", works[i].name, took[i][0][ROUNDS / 2], took[i][0][0],
+           took[i][0][ROUNDS - 1], took[i][1][ROUNDS / 2], took[i][1][0], took[i][1][ROUNDS - 1], took[i][1][ROUNDS / 2] / took[i][0][ROUNDS / 2],
+           took[i][1][0] / took[i][0][0]);
+  }
+  printf("%-30s book %.0f bytes, engine %.0f\n", "an open leaf at a root", bytes(0), bytes(1));
+}

@@ -1,0 +1,212 @@
+/* Eight threads share an engine behind one mutex, for so many seconds: they subscribe to four shares, emit, hold, dispose, serve, wait,
+ * and are interrupted with an effect in their hands, which they give back. Each tag is released once; each root hears its items in
+ * order, from one thread at a time, then one last effect, and nothing behind it; each value is given back as often as counted; and
+ * memory stays as it was behind the first tenth. Numbers of roots and tags are used again once they have had their last effect. */
+#define _POSIX_C_SOURCE 200809L
+#include <cellarcliff.h>
+#include <pthread.h>
+#include <stdatomic.h>
+#include <string.h>
+#include <time.h>
+
+#include "must.h"
+
+enum { THREADS = 8, SHARES = 4, MOST = 1 << 16, MINE = 16 };
+#define NOBODY UINT64_MAX /* heard by a root that is not there */
+static struct cellar engine;
+static pthread_mutex_t lock = PTHREAD_MUTEX_INITIALIZER;
+static struct cellar_node leaves[SHARES];
+static uint64_t emitted[SHARES]; /* under the lock, as the tables' ends */
+static uint32_t free_roots[MOST], free_tags[MOST], roots = MOST, tags = MOST; /* how many are free */
+static uint64_t kept, commands, opened, held;
+static uint64_t last_heard[MOST]; /* of a root: by whoever serves its lane */
+static unsigned char is_held[MOST];
+static atomic_ulong given_back, told;
+static time_t ends;
+static time_t now(void) {
+  struct timespec t;
+  clock_gettime(CLOCK_MONOTONIC, &t);
+  return t.tv_sec;
+}
+
+struct one { /* a thread */
+  uint64_t by;
+  uint64_t chance;
+  struct cellar_node mine[MINE];
+};
+static uint64_t dice(struct one *self, uint64_t of) {
+  self->chance ^= self->chance << 13, self->chance ^= self->chance >> 7, self->chance ^= self->chance << 17;
+  return self->chance % of;
+}
+
+static void give_back(uint32_t *list, uint32_t *many, uint64_t number) {
+  pthread_mutex_lock(&lock);
+  list[(*many)++] = (uint32_t)number;
+  pthread_mutex_unlock(&lock);
+}
+static void tell(struct one *self, const struct cellar_effect *it);
+static uint8_t make(struct one *self, struct cellar_command command, struct cellar_answer *answer);
+
+static int take(struct one *self, uint64_t lane, struct cellar_effect *it) {
+  uint64_t count;
+  pthread_mutex_lock(&lock);
+  MUST(cellar_take(&engine, lane, self->by, it, &count) == 0);
+  pthread_mutex_unlock(&lock);
+  return count != 0;
+}
+/* Now and then it is interrupted, and gives back what it did not tell. */
+static void serve(struct one *self, uint64_t lane) {
+  struct cellar_effect it;
+  while (take(self, lane, &it)) {
+    if (dice(self, 200) == 0) {
+      uint64_t is_left;
+      pthread_mutex_lock(&lock);
+      MUST(cellar_give_up(&engine, lane, self->by, &it, 1, &is_left) == 0 && is_left == 1);
+      pthread_mutex_unlock(&lock);
+      return;
+    }
+    tell(self, &it);
+  }
+}
+static void serve_what_is_left(struct one *self) {
+  uint64_t lane = 0, next = 0;
+  for (;;) {
+    pthread_mutex_lock(&lock);
+    MUST(cellar_left(&engine, next, &lane, &next) == 0);
+    pthread_mutex_unlock(&lock);
+    if (lane == UINT64_MAX) return;
+    serve(self, lane);
+  }
+}
+
+static void tell(struct one *self, const struct cellar_effect *it) {
+  uint64_t *heard = &last_heard[it->user % MOST];
+  given_back += it->carries;
+  told++;
+  switch (it->kind) {
+    case CELLAR_E_NEXT:
+      MUST(*heard != NOBODY && it->value > *heard);
+      *heard = it->value;
+      if (dice(self, 50) == 0) { /* from within: what is emitted here is served by whoever may, once this is done */
+        struct cellar_answer answer;
+        make(self, (struct cellar_command){.what = CELLAR_DISPOSE, .node = self->mine[dice(self, MINE)]}, &answer);
+      }
+      return;
+    case CELLAR_E_GONE: case CELLAR_E_COMPLETED: case CELLAR_E_FAILED:
+      MUST(*heard != NOBODY);
+      *heard = NOBODY;
+      give_back(free_roots, &roots, it->user);
+      return;
+    case CELLAR_E_RELEASE:
+      MUST(is_held[it->user] == 1);
+      is_held[it->user] = 0;
+      give_back(free_tags, &tags, it->user);
+      return;
+    case CELLAR_E_PUT:
+      return;
+    default:
+      MUST(0);
+  }
+}
+
+/* Under the lock the number of a root, a tag or an item is taken. */
+static uint8_t make(struct one *self, struct cellar_command command, struct cellar_answer *answer) {
+  uint64_t lanes[64], count = 0, rest = 0;
+  uint8_t status;
+  command.by = self->by;
+  pthread_mutex_lock(&lock);
+  if (command.what == CELLAR_NEXT) command.node = leaves[command.value], command.value = ++emitted[command.value];
+  MUST(roots > 0 && tags > 0);
+  if (command.what == CELLAR_OPEN && command.place == CELLAR_ROOT) command.user = free_roots[--roots], last_heard[command.user] = 0;
+  if (command.what == CELLAR_HOLD) command.value = free_tags[--tags], is_held[command.value] = 1;
+  status = cellar_make(&engine, &command, answer);
+  commands++;
+  if (status == 0) {
+    kept += answer->copies;
+    opened += command.what == CELLAR_OPEN, held += command.what == CELLAR_HOLD;
+    count = answer->due < 8 ? answer->due : 8;
+    memcpy(lanes, answer->lanes, sizeof answer->lanes);
+    while (count < answer->due && count < 64) { /* all that is due is served by this thread */
+      MUST(cellar_rest(&engine, 1, count, lanes + count, 64 - count, &rest) == 0 && rest > 0);
+      count += rest;
+    }
+    MUST(count == answer->due);
+  } else {
+    if (command.what == CELLAR_OPEN && command.place == CELLAR_ROOT) free_roots[roots++] = (uint32_t)command.user, last_heard[command.user] = NOBODY;
+    if (command.what == CELLAR_HOLD) free_tags[tags++] = (uint32_t)command.value, is_held[command.value] = 0;
+  }
+  pthread_mutex_unlock(&lock);
+  if (status == 0 && answer->handed) tell(self, &answer->effect);
+  for (uint64_t i = 0; i < count; i++) serve(self, lanes[i]);
+  return status;
+}
+
+static void *run(void *words) {
+  struct one *self = words;
+  struct cellar_answer answer;
+  while (now() < ends) {
+    uint64_t share = dice(self, SHARES), place = dice(self, MINE);
+    switch (dice(self, 8)) {
+      case 0:
+        make(self, (struct cellar_command){.what = CELLAR_DISPOSE, .node = self->mine[place]}, &answer);
+        if (make(self, (struct cellar_command){.what = CELLAR_OPEN, .kind = CELLAR_PUBLISHED, .value = share, .hub = CELLAR_UNKNOWN_HUB}, &answer) == 0)
+          self->mine[place] = answer.node;
+        break;
+      case 1:
+        make(self, (struct cellar_command){.what = CELLAR_HOLD, .node = self->mine[place]}, &answer);
+        break;
+      case 2:
+        make(self, (struct cellar_command){.what = CELLAR_PUT, .node = self->mine[place], .value = 1}, &answer);
+        break;
+      case 3:
+        if (dice(self, 4) == 0) serve_what_is_left(self);
+        break;
+      default:
+        make(self, (struct cellar_command){.what = CELLAR_NEXT, .value = share, .flags = dice(self, 4) ? 0 : CELLAR_QUEUES}, &answer);
+    }
+  }
+  return NULL;
+}
+
+static long memory(void) { /* pages */
+  long size = 0, resident = 0;
+  FILE *file = fopen("/proc/self/statm", "r");
+  MUST(file && fscanf(file, "%ld %ld", &size, &resident) == 2);
+  fclose(file);
+  return resident;
+}
+
+int main(int count, char **words) {
+  pthread_t threads[THREADS];
+  static struct one ones[THREADS + 1];
+  struct cellar_answer answer;
+  struct cellar_totals totals;
+  long seconds = count > 1 ? atol(words[1]) : 10, pages;
+  ends = now() + seconds;
+  for (uint32_t i = 0; i < MOST; i++) free_roots[i] = free_tags[i] = i, last_heard[i] = NOBODY;
+  MUST(cellar_new(&engine, 0) == 0);
+  for (uint64_t i = 0; i <= THREADS; i++) ones[i] = (struct one){.by = i, .chance = 88172645463325252u + i};
+  for (uint64_t i = 0; i < SHARES; i++) {
+    MUST(make(&ones[THREADS], (struct cellar_command){.what = CELLAR_CONNECT, .value = i, .hub = CELLAR_UNKNOWN_HUB}, &answer) == 0);
+    MUST(make(&ones[THREADS], (struct cellar_command){.what = CELLAR_OPEN, .place = CELLAR_SOURCE, .node = answer.other}, &answer) == 0);
+    leaves[i] = answer.node;
+  }
+  for (int i = 0; i < THREADS; i++)
+    for (int j = 0; j < MINE; j++) ones[i].mine[j] = (struct cellar_node){UINT64_MAX, UINT64_MAX};
+  for (int i = 0; i < THREADS; i++) MUST(pthread_create(&threads[i], NULL, run, &ones[i]) == 0);
+  nanosleep(&(struct timespec){.tv_sec = seconds / 10, .tv_nsec = seconds % 10 * 100000000}, NULL);
+  pages = memory();
+  for (int i = 0; i < THREADS; i++) pthread_join(threads[i], NULL);
+  struct cellar_command shut = {.what = CELLAR_SHUT, .by = THREADS};
+  MUST(cellar_make(&engine, &shut, &answer) == 0);
+  MUST(cellar_totals(&engine, &totals) == 0);
+  while (totals.effects > 0) {
+    serve_what_is_left(&ones[THREADS]);
+    MUST(cellar_totals(&engine, &totals) == 0);
+  }
+  printf("%lu commands, %lu roots, %lu tags, %lu effects told; %ld pages of memory behind a tenth, %ld at the end\n", (unsigned long)commands,
+         (unsigned long)opened, (unsigned long)held, (unsigned long)told, pages, memory());
+  MUST(cellar_finish(&engine) == 0 && roots == MOST && tags == MOST && kept == given_back);
+  for (int i = 0; i < MOST; i++) MUST(last_heard[i] == NOBODY && !is_held[i]);
+  MUST(totals.accepted == held && totals.taken == held);
+}

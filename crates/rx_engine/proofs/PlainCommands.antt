@@ -1,0 +1,154 @@
+-- What holds behind each plain command.
+use Rattle.std.proofs.Common.{◌≡◌, ℕ, ℤ, length, ◌≤◌, Bool, true, false, List, map, refl, ap, arith}
+use Rattle.rx_resource.specs.declared.Resource.{Ghosts}
+use Rattle.rx_resource.specs.declared.token.Token.{Token}
+use Rattle.rx_event.specs.declared.event.Event.{Event}
+use Rattle.rx_event.specs.declared.event.Event.TheVariants.{Item, End, Decline, Close, Use, Remove, Lease, Return, Hub}
+use Rattle.rx_event.proofs.Laws.Common.{mail_of}
+use Rattle.rx_event.specs.Events.{is_item}
+use Rattle.rx_event.specs.Notes.{notes}
+use Rattle.rx_slots.specs.declared.Key.{Key}
+use Rattle.rx_event.specs.Calls.{Call, Emitting}
+use Rattle.rx_note.specs.declared.note.Terminal.TheVariants.{Error}
+use Rattle.rx_register.proofs.Laws.Follow.{disconnecting_one}
+use Rattle.rx_book.specs.State.{State as BookState, IsPromised as IsBookPromised}
+use Rattle.rx_book.specs.Requests.{Request, next_request}
+use Rattle.rx_book.specs.Answers.{Accepts}
+use Rattle.rx_roles.specs.Effects.{items_in}
+use Rattle.rx_steps.proofs.Laws.NotesOfStep.{end_items}
+use Rattle.rx_engine.specs.States.{State, IsTied}
+use Rattle.rx_engine.specs.Rooms.{IsReady}
+use Rattle.rx_engine.specs.Settlements.{mail_left, closed_of, Settles}
+use Rattle.rx_engine.specs.Closings.{Closes}
+use Rattle.rx_engine.specs.Plain.{IsPlain, emits, ends, aborts, declines, fails, disposes, applies, removes, leases, gives_back, publishes, disconnects}
+use Rattle.rx_pool.specs.Moves.{MayLeaveAll}
+use Rattle.rx_shares.specs.Places.{places_left}
+use Rattle.rx_shares.proofs.Laws.SharesAfterStep.{may_leave}
+use Rattle.rx_engine.proofs.TiedAfterCall.{IsPlainCall, left_few, shared_mid, tied_after}
+
+abbrev pub is_emitting : Call → Bool
+is_emitting (Emitting leaf value) = true
+is_emitting _ = false
+
+-- the call's own event
+pub record HasEvent (s : BookState) (asked : Request) (mid : BookState) : Type 0 where
+  pub event : Event
+  pub call : IsPlainCall s asked event mid
+  pub quiet : is_emitting asked.call ≡ false → is_item event ≡ false
+
+pub plain_call : (s : BookState) (asked : Request) (mid : BookState) → IsBookPromised s → IsPlain s asked → Accepts s asked mid → HasEvent s asked mid
+plain_call s asked mid kept (emits leaf value) accepts =
+    record {
+      event = Item leaf.number value;
+      call = record { promised = kept; accepts = accepts; one = refl; plain = refl; unheld = refl; keeps = refl };
+      quiet = λ q. q;
+    }
+plain_call s asked mid kept (ends leaf terminal) accepts =
+    record {
+      event = End leaf.number terminal;
+      call = record { promised = kept; accepts = accepts; one = refl; plain = refl; unheld = refl; keeps = refl };
+      quiet = λ q. refl;
+    }
+plain_call s asked mid kept (aborts node code) accepts =
+    record {
+      event = End node.number (Error code);
+      call = record { promised = kept; accepts = accepts; one = refl; plain = refl; unheld = refl; keeps = refl };
+      quiet = λ q. refl;
+    }
+plain_call s asked mid kept (declines merging) accepts =
+    record {
+      event = Decline merging.number;
+      call = record { promised = kept; accepts = accepts; one = refl; plain = refl; unheld = refl; keeps = refl };
+      quiet = λ q. refl;
+    }
+plain_call s asked mid kept (fails merging code) accepts =
+    record {
+      event = End merging.number (Error code);
+      call = record {
+        promised = kept;
+        accepts = accepts;
+        one = refl;
+        plain = refl;
+        unheld = refl;
+        keeps = refl;
+      };
+      quiet = λ q. refl;
+    }
+plain_call s asked mid kept (disposes root) accepts =
+    record {
+      event = Close root.number;
+      call = record { promised = kept; accepts = accepts; one = refl; plain = refl; unheld = refl; keeps = refl };
+      quiet = λ q. refl;
+    }
+plain_call s asked mid kept (applies res) accepts =
+    record {
+      event = Use res.number;
+      call = record { promised = kept; accepts = accepts; one = refl; plain = refl; unheld = refl; keeps = refl };
+      quiet = λ q.
+          refl;
+    }
+plain_call s asked mid kept (removes res) accepts =
+    record {
+      event = Remove res.number;
+      call = record { promised = kept; accepts = accepts; one = refl; plain = refl; unheld = refl; keeps = refl };
+      quiet = λ q. refl;
+    }
+plain_call s asked mid kept (leases res) accepts =
+    record {
+      event = Lease res.number;
+      call = record { promised = kept; accepts = accepts; one = refl; plain = refl; unheld = refl; keeps = refl };
+      quiet = λ q.
+          refl;
+    }
+plain_call s asked mid kept (gives_back lease) accepts =
+    record {
+      event = Return lease.number;
+      call = record { promised = kept; accepts = accepts; one = refl; plain = refl; unheld = refl; keeps = refl };
+      quiet = λ q. refl;
+    }
+plain_call s asked mid kept (publishes mode) accepts =
+    record { event = Hub mode; call = record { promised = kept; accepts = accepts; one = refl; plain = refl; unheld = refl; keeps = refl }; quiet = λ q. refl }
+plain_call s asked mid kept (disconnects hub) accepts =
+    let one = disconnecting_one s.base s.history hub kept.lawful accepts.no_cause in
+    record {
+      event = Close one.0;
+      call = record { promised = kept; accepts = accepts; one = ap (map (λ (c : ℕ). Close c)) one.1; plain = refl; unheld = refl; keeps = refl };
+      quiet = λ q. refl;
+    }
+
+-- only an item tells items
+quiet_items : (h : List Event) (e : Event) → is_item e ≡ false → items_in (mail_of h e) ≡ 0
+quiet_items h (Item l v) quiet = absurd (cc)
+quiet_items h (End n t) quiet = end_items h n t
+quiet_items h _ quiet = refl
+
+-- of a plain command but an item: there is room for all that it comes to
+pub ready_for : (s : State) (asked : Request) (mid : BookState) → IsPlain s.book asked → is_emitting asked.call ≡ false → IsBookPromised s.book → IsTied s →
+    Accepts s.book asked mid →
+    IsReady (items_in (mail_left mid)) s.parts
+ready_for s asked mid plain quiet kept tied accepts =
+    let has = plain_call s.book asked mid kept plain accepts in
+    let few = left_few has.call tied.given in
+    let none = quiet_items s.book.history has.event (has.quiet quiet) in
+    let room = tied.ready.room in let spare = tied.ready.spare in
+    record { empty = tied.ready.empty; many = tied.ready.many; room = omega (arith, few, none, room); spare = omega (arith, few, none, spare) }
+
+-- and who was closed may leave its hub
+pub leave_for : (s : State) (asked : Request) (mid : BookState) → IsPlain s.book asked → IsBookPromised s.book → IsTied s → Accepts s.book asked mid →
+    MayLeaveAll (places_left s.parts.shares.list (closed_of mid)) s.parts.shares.hubs
+leave_for s asked mid plain kept tied accepts = may_leave (shared_mid (plain_call s.book asked mid kept plain accepts).call tied.shared) 0
+
+-- and the tie is kept
+pub tied_behind : (g : Ghosts Token) (s t : State) (asked : Request) (mid : BookState) (by value : ℕ) → IsPlain s.book asked →
+    IsBookPromised s.book → IsTied s → Accepts s.book asked mid → Settles g by value mid s.parts t.book t.parts → Closes mid s.wishes.roles.list t.wishes →
+    IsReady 0 t.parts → IsTied t
+tied_behind g s t asked mid by value plain kept tied accepts settles closes ready =
+    let has = plain_call s.book asked mid kept plain accepts in
+    tied_after g s t asked has.event mid by value tied has.call settles closes ready
+
+-- an item tells no more items than its own event
+pub emitted_few : (s mid : BookState) (leaf : Key) (value : ℤ) → IsBookPromised s → Accepts s (next_request s leaf value) mid →
+    s.given ≡ length (notes s.history) →
+    items_in (mail_left mid) ≤ items_in (mail_of s.history (Item leaf.number value))
+unfolding plain_call
+emitted_few s mid leaf value kept accepts all = left_few (plain_call s (next_request s leaf value) mid kept (emits leaf value) accepts).call all

@@ -1,0 +1,18 @@
+use Rattle.std.proofs.Common.{refl}
+use Rattle.rx_resource.specs.contracts.token.TokenResource.TheImpl.{ghosts}
+use Rattle.rx_engine.specs.Plain.{declines}
+use Rattle.rx_engine.specs.Ties.{state_of}
+use Rattle.rx_engine.proofs.PlainCommands.{ready_for, leave_for, tied_behind}
+use Rattle.rx_engine.proofs.engine.Engine.decline.Goals as goal
+
+pub settle-requires : goal.settle-requires
+settle-requires c = record {
+  ready = ready_for (state_of c.self.inside) _ c.decline.new.self (declines c.args.merging) refl c.promise.ensures c.self.invariant c.in-Ok.ensures.accepted;
+  hubs = leave_for (state_of c.self.inside) _ c.decline.new.self (declines c.args.merging) c.promise.ensures c.self.invariant c.in-Ok.ensures.accepted;
+}
+
+pub invariant_of-self : goal.invariant_of-self
+invariant_of-self c =
+    tied_behind ghosts (state_of c.self.inside) (record { book = c.settle.new.book; parts = c.settle.new.parts; wishes = c.settle.new.wishes }) _
+    c.decline.new.self c.args.by 0 (declines c.args.merging) c.promise.ensures c.self.invariant
+    c.in-Ok.ensures.accepted c.settle.ensures.settles c.settle.ensures.closes c.settle.ensures.ready

@@ -1,0 +1,127 @@
+//! The lane that each open node has, which what stands below it has too.
+
+ghost use Rattle.std.specs.Prelude.{◌≡◌, Some, None, IsSome, is_some, IfSome, if◌then◌else◌};
+ghost use Rattle.rx_lanes.specs.declared.names.LaneName.{LaneName};
+ghost use Rattle.rx_lanes.specs.State.{lane};
+ghost use Rattle.rx_engine.specs.Homes.{lane_in, limit_in, limit_at, lane_of, is_there, whose, is_housed, home_of};
+
+use crate::engine::Engine;
+use crate::parts::Parts;
+use rx_book::{At, Key};
+use rx_lanes::LaneName;
+use rx_roles::Roles;
+
+// So many places the pool of hubs has.
+pub(crate) const NO_LIMIT: u64 = 1024;
+
+/// Whose lane.
+#[derive(Clone, Copy, Debug, PartialEq, Eq)]
+pub enum LaneOf {
+    /// The lane of an open node.
+    Node(Key),
+    /// The lane of what an open FlatMap or Switch projects.
+    Projections(Key),
+}
+
+/// What a node gets that is opened.
+#[derive(Clone, Copy, Debug)]
+pub struct Home {
+    /// A lane that is open; a new one where it is none.
+    pub lane: Option<LaneName>,
+    /// Before this place in the pool of hubs a share that stands below it has to stand.
+    pub limit: u64,
+}
+
+// Whose lane a node has that is opened there, where it is not a new one.
+fn whose(at: At, asked: Option<LaneOf>) -> Option<LaneOf>
+    ensures { result ≡ whose at asked }
+{
+    match at {
+        At::Root => asked,
+        At::Source(key) => Some(LaneOf::Node(key)),
+        At::Inner(key) => Some(LaneOf::Node(key)),
+        At::Notifier(key) => Some(LaneOf::Node(key)),
+    }
+}
+
+// The lane of the role of this number, where its node is open.
+fn lane_if(is_open: bool, roles: &Roles, number: u64) -> Option<LaneName>
+    ensures { result ≡ (if is_open then lane_in roles.now.list number else None) }
+{
+    if !is_open {
+        return None;
+    }
+    match roles.get(number) {
+        Some(role) => Some(role.lane),
+        None => None,
+    }
+}
+
+// The limit of the home of this number.
+fn limit_in(homes: &Roles, number: u64) -> u64
+    ensures { result ≡ limit_in homes.now.list number }
+{
+    match homes.get(number) {
+        Some(home) => home.word,
+        None => NO_LIMIT,
+    }
+}
+
+impl Parts {
+    // The limit of a node that is opened there.
+    fn limit_at(&self, at: At) -> u64
+        ensures { result ≡ limit_at self.now at }
+    {
+        match at {
+            At::Root => NO_LIMIT,
+            At::Source(key) => limit_in(&self.homes, key.number),
+            At::Inner(key) => limit_in(&self.homes, key.number),
+            At::Notifier(key) => limit_in(&self.homes, key.number),
+        }
+    }
+}
+
+impl Engine {
+    // The lane that a key finds.
+    fn find_lane(&self, of: LaneOf) -> Option<LaneName>
+        ensures { result ≡ lane_of self.now of }
+    {
+        match of {
+            LaneOf::Node(key) => lane_if(self.book.is_open(key), &self.parts.homes, key.number),
+            LaneOf::Projections(key) => {
+                lane_if(self.book.is_open(key), &self.parts.merges, key.number)
+            }
+        }
+    }
+
+    /// The lane of an open node, or of what an open FlatMap or Switch projects; none where the node is not open,
+    /// or projects nothing.
+    pub fn lane_of(&self, of: LaneOf) -> Option<LaneName>
+        ensures lane { result ≡ lane_of self.now of }
+        ensures there { is_some result ≡ is_there self.now.book of }
+        ensures found { IfSome result (λ name. IsSome (lane self.now.parts.lanes name)) }
+    {
+        self.book.promise();
+        self.find_lane(of)
+    }
+
+    /// What a node gets that is opened there; none where the node is not there whose lane it would have.
+    pub(crate) fn home_of(&self, at: At, asked: Option<LaneOf>) -> Option<Home>
+        ensures home { result ≡
+            (if is_housed self.now.book (whose at asked) then Some (home_of self.now at asked) else None) }
+        ensures found { IfSome result
+            (λ h. (name : LaneName) → h.lane ≡ Some name → IsSome (lane self.now.parts.lanes name)) }
+    {
+        let limit = self.parts.limit_at(at);
+        match whose(at, asked) {
+            Some(of) => match self.lane_of(of) {
+                Some(name) => Some(Home {
+                    lane: Some(name),
+                    limit,
+                }),
+                None => None,
+            },
+            None => Some(Home { lane: None, limit }),
+        }
+    }
+}

@@ -1,0 +1,75 @@
+//! Who serves a lane takes the effects that wait there.
+
+ghost use Rattle.std.specs.Prelude.{◌≡◌, ◌<◌, IsSome, IfSome, IfNone, slice_get};
+ghost use Rattle.rx_lanes.specs.declared.names.LaneName.{LaneName};
+ghost use Rattle.rx_lanes.specs.State.{lane, IsLeft};
+ghost use Rattle.rx_engine.specs.Servings.{IsTake, IsHand, IsGiveUp, IsClaim};
+
+use crate::engine::Engine;
+use rx_lanes::{Due, LaneName};
+use rx_roles::Effect;
+
+// The first of the lanes that are due.
+fn first_due(due: &[Due]) -> Option<Due>
+    ensures { result ≡ slice_get due.now 0 }
+{
+    due.first().copied()
+}
+
+impl Engine {
+    /// The next effect of a lane, for who serves it or may. With `inside`, what was set free there further out.
+    pub fn take(&mut self, name: LaneName, inside: bool, by: u64) -> Option<Effect>
+        ensures { IsTake name inside by self.old self.new result }
+    {
+        self.parts.lanes.promise();
+        self.parts.lanes.take(name, inside, by)
+    }
+
+    /// The first effect of the first lane that the last command's caller is to serve, who serves that lane from
+    /// now on, as by [`Engine::take`]; none where no lane is due.
+    pub fn hand(&mut self, by: u64) -> Option<Effect>
+        ensures { IsHand self.old.parts.lanes.due by self.old self.new result }
+    {
+        match first_due(self.parts.lanes.due()) {
+            Some(due) => self.take(due.lane, due.inside, by),
+            None => None,
+        }
+    }
+
+    /// Lets others serve a lane. What was taken and not done comes first again.
+    pub fn give_up(&mut self, name: LaneName, by: u64, undone: Option<Effect>) -> Option<bool>
+        ensures { IsGiveUp name by undone self.old self.new result }
+    {
+        self.parts.lanes.give_up(name, by, undone)
+    }
+
+    /// Serves a lane with nothing in it, that nobody serves; whether that is so.
+    pub fn claim(&mut self, name: LaneName, by: u64) -> bool
+        requires { IsSome (lane self.old.parts.lanes name) }
+        ensures { IsClaim name by self.old self.new result }
+    {
+        self.parts.lanes.claim(name, by)
+    }
+
+    /// The lanes that the last command's caller is to serve.
+    pub fn due(&self) -> &[Due]
+        ensures { result.now ≡ self.now.parts.lanes.due }
+    {
+        self.parts.lanes.due()
+    }
+
+    /// How many effects of the last accepted command carry its value.
+    pub fn copies(&self) -> u64
+        ensures { result ≡ self.now.parts.copies }
+    {
+        self.parts.copies
+    }
+
+    /// The first lane from a place on that has something, and that nobody serves.
+    pub fn left(&self, from: usize) -> Option<LaneName>
+        ensures found { IfSome result (λ name. IsLeft self.now.parts.lanes name) }
+        ensures end { IfNone result ((other : LaneName) → IsLeft self.now.parts.lanes other → other.place < from) }
+    {
+        self.parts.lanes.left(from)
+    }
+}

@@ -1,0 +1,75 @@
+//! What a call of the book told, ended and set free becomes effects.
+
+ghost use Rattle.std.specs.Prelude.{◌≡◌, ◌+◌, ◌≤◌, ◌++◌, [], length};
+ghost use Rattle.rx_roles.specs.Roles.{without_all};
+ghost use Rattle.rx_roles.specs.Effects.{all_told, after_all, items_in, all_last};
+ghost use Rattle.rx_engine.specs.Settlements.{mail_left, all_given, closed_of, Releases};
+
+use rx_book::{Book, Resource};
+use rx_resource::Token;
+use rx_roles::{Effects, Roles, What, end_one, put_for, tell_one};
+
+/// Tells all notes that are still to be handed out.
+pub(crate) fn tell(
+    book: &mut Book<Token>,
+    hears: &mut Roles,
+    merges: &Roles,
+    effects: &mut Effects,
+    by: u64,
+    value: u64,
+)
+    requires room { items_in (mail_left book.old) + length hears.old.list ≤ effects.old.room }
+    ensures book { book.new ≡ all_given book.old }
+    ensures hears { hears.new.list ≡ after_all hears.old.list (mail_left book.old) }
+    ensures effects { effects.new.list ≡
+        effects.old.list ++ all_told by value hears.old.list merges.now.list (mail_left book.old) }
+    ensures room { effects.old.room + length hears.new.list ≤
+        effects.new.room + (items_in (mail_left book.old) + length hears.old.list) }
+{
+    book.promise();
+    while let Some(mail) = book.take_mail() {
+        tell_one(hears, merges, effects, by, value, mail);
+    }
+}
+
+/// Ends the roles of the nodes that the last call closed.
+pub(crate) fn end_closed(
+    book: &Book<Token>,
+    hears: &mut Roles,
+    merges: &mut Roles,
+    effects: &mut Effects,
+    by: u64,
+)
+    requires room { length hears.old.list + length merges.old.list ≤ effects.old.room }
+    ensures hears { hears.new.list ≡ without_all hears.old.list (closed_of book.now) }
+    ensures merges { merges.new.list ≡ without_all merges.old.list (closed_of book.now) }
+    ensures effects { effects.new.list ≡
+        effects.old.list ++ all_last by hears.old.list merges.old.list (closed_of book.now) }
+    ensures room { effects.old.room + (length hears.new.list + length merges.new.list) ≤
+        effects.new.room + (length hears.old.list + length merges.old.list) }
+{
+    let _count = book.closed_count();
+    let mut at = 0;
+    while let Some(key) = book.nth_closed(at) {
+        end_one(hears, merges, effects, by, key.number);
+        at += 1;
+    }
+}
+
+/// Takes all resources that wait, and puts their releases.
+pub(crate) fn set_free(book: &mut Book<Token>, holds: &mut Roles, effects: &mut Effects, by: u64)
+    requires room { length holds.old.list ≤ effects.old.room }
+    ensures releases { Releases ⟦<Token as Resource>⟧ by book.old holds.old.list effects.old.list
+        book.new holds.new.list effects.new.list }
+    ensures none_waits { book.new.waiting ≡ [] }
+    ensures room { effects.old.room + length holds.new.list ≤ effects.new.room + length holds.old.list }
+{
+    book.promise();
+    while let Some(handed) = book.take() {
+        let number = handed.number();
+        let _released = handed.release();
+        let role = holds.take(number);
+        put_for(effects, by, 0, What::Release, role);
+        book.promise();
+    }
+}

@@ -1,0 +1,2 @@
+pub mod JoinsAllowed
+pub mod SharesAfterStep

@@ -1,0 +1,84 @@
+"""Faults that are planted in the definitions of the engine, or in what the library answers: each has to be found."""
+from __future__ import annotations
+
+from collections.abc import Callable
+from dataclasses import replace
+from typing import Any
+
+from . import engine
+from .cellar import Cellar
+from .engine import (E_COMPLETED, E_FAILED, E_RELEASE, FLAT, LANE_OF_NODE, MOST, OF_PROJECTIONS, QUEUES, WISHES, Answer, Command, Effect,
+                     Engine, Lane, Role, Sent, last_before)
+
+PLANTS: dict[str, tuple[Any, str, Any]] = {}  # what is turned: of which, its name, and what takes its place
+
+
+def planted(name: str, of: Any, what: str, turn: Callable[[Any], Any]) -> None:
+    PLANTS[name] = (of, what, turn(getattr(of, what)))
+
+
+# Lanes
+planted('a release stands behind, whoever serves', Lane, 'freed', lambda was: lambda l, by, e: l.put(e))
+planted('a release comes first, whoever serves', Lane, 'freed', lambda was: lambda l, by, e: replace(l, front=l.front + (e,)))
+planted('releases are turned round', Lane, 'freed', lambda was: lambda l, by, e: replace(l, front=(e,) + l.front) if l.server == by else l.put(e))
+planted('another takes of a lane that is served', Lane, 'taken',
+        lambda was: lambda l, by, inside: was(l if inside else replace(l, server=None), by, inside))
+planted('inside takes what stands behind', Lane, 'taken', lambda was: lambda l, by, inside: was(l, by, inside and l.server != by))
+planted('who finds nothing serves on', Lane, 'taken', lambda was: lambda l, by, inside: it if (it := was(l, by, inside))[0] else ((), l))
+planted('what is given back is forgotten', Lane, 'given_up', lambda was: lambda l, by, untold: was(l, by, ()))
+planted('what is given back stands behind', Lane, 'given_up',
+        lambda was: lambda l, by, untold: replace(was(l, by, ()), back=l.back + untold) if l.server == by else l)
+planted('who gives up serves on', Lane, 'given_up',
+        lambda was: lambda l, by, untold: replace(was(l, by, untold), server=l.server) if l.line() else was(l, by, untold))
+planted('what is put comes first', Lane, 'put', lambda was: lambda l, e: replace(l, back=(e,) + l.back))
+
+# Hubs
+planted('a share gets a second hub', engine, 'is_own', lambda was: lambda hub, mode, word: was(hub, mode, word) and hub.many > 1)
+planted('the first hub that is free is chosen', engine, 'last_before', lambda was: lambda test, hubs, end: next(
+    (place for place in range(min(end, len(hubs))) if test(hubs[place])), None))
+planted('no room is left for shares above', engine, 'choice', lambda was: lambda hubs, mode, word, level, limit: was(hubs, mode, word, 7, limit))
+planted('a share may stand inside itself', engine, 'choice', lambda was: lambda hubs, mode, word, level, limit: was(hubs, mode, word, level, MOST))
+
+# Commands
+planted('what is projected goes to the lane of what is told', Engine, 'lane_of',
+        lambda was: lambda s, node, flags: was(s, node, 0) if flags & OF_PROJECTIONS and node in s.merges else was(s, node, flags))
+planted('a node below has a lane of its own', Engine, 'enter_node',
+        lambda was: lambda s, n, c, lane, limit: was(s, n, c, lane if c.place == 0 or lane is None else s.opened(), limit))
+planted('a root that asks for a lane gets its own', Engine, 'enter_node',
+        lambda was: lambda s, n, c, lane, limit: was(s, n, c, None if c.place == 0 else lane, limit))
+planted('a FlatMap projects where it is told', Engine, 'enter_node', lambda was: lambda s, n, c, lane, limit: (
+    was(s, n, c, lane, limit), s.merges.update({n: Role(c.user, s.homes[n].lane)}) if n in s.merges and c.kind == FLAT else None))
+planted('a wish is forgotten', Engine, 'enter_node', lambda was: lambda s, n, c, lane, limit: (
+    was(s, n, c, lane, limit), s.wishes.pop(n, None) if c.place == 2 else None))
+planted('a flag that is none is taken', engine, 'flags_of', lambda was: lambda c: was(c) | 16)
+planted('a node has no flag of its own', engine, 'flags_of', lambda was: lambda c: was(c) & ~(LANE_OF_NODE if c.what else 0))
+planted('who was told an end is gone too', Engine, 'told', lambda was: lambda s, c, note: (
+    it := was(s, c, note), s.hears.update({note.to: Role(it.effect.user, it.lane)}) if it.effect.kind in (E_COMPLETED, E_FAILED) else None)[0])
+planted('a completion carries the value', Engine, 'told', lambda was: lambda s, c, note: with_value(was(s, c, note), c))
+planted('an error carries nothing', Engine, 'told', lambda was: lambda s, c, note: (
+    it._replace(effect=it.effect._replace(carries=0)) if (it := was(s, c, note)).effect.kind == E_FAILED else it))
+planted('what ends is of another caller', Engine, 'last', lambda was: lambda s, c, table, number, kind, part=0: [
+    it._replace(effect=it.effect._replace(by=it.effect.by ^ 1)) if kind == E_RELEASE else it for it in was(s, c, table, number, kind, part)])
+planted('an item is handed out that was to be queued', Engine, 'delivered', lambda was: lambda s, c, answer, effects: was(
+    s, replace(c, flags=c.flags & ~QUEUES), answer, effects))
+planted('copies are one too few', Engine, 'delivered', lambda was: lambda s, c, answer, effects: replace(
+    it := was(s, c, answer, effects), copies=max(0, it.copies - (it.copies > 1))))
+planted('closings of a connection are not told', Engine, 'connect', lambda was: lambda s, c, answer: was(
+    s, replace(c, flags=c.flags & ~WISHES), answer))
+planted('what is full stays full', Engine, 'make', lambda was: lambda s, c: (setattr(s, 'limit', s.limit and s.limit - 1), was(s, c), setattr(
+    s, 'limit', s.limit and s.limit + 1))[1])
+
+
+def with_value(it: Sent, c: Command) -> Sent:
+    return it._replace(effect=it.effect._replace(value=c.value)) if it.effect.kind == E_COMPLETED else it
+
+
+# What the library answers
+planted('the rest begins one too late', Cellar, 'rest', lambda was: lambda s, which, start, room: was(s, which, start + 1, room))
+planted('one that is left is not told', Cellar, 'left', lambda was: lambda s: was(s)[:1])
+planted('one effect more waits', Cellar, 'totals', lambda was: lambda s: (*(it := was(s))[:7], it[7] + (it[7] > 3)))
+planted('a release that waits was taken', Cellar, 'totals', lambda was: lambda s: (*(it := was(s))[:2], 0, *it[3:5], it[5] + it[2], *it[6:]))
+planted('it is finished with something in it', Cellar, 'finish', lambda was: lambda s: 0 if (it := was(s)) == 6 and s.totals()[0] == 0 else it)
+planted('a lane is given up that another serves', Cellar, 'give_up', lambda was: lambda s, word, by, untold, count=None: (
+    it if (it := was(s, word, by, untold, count))[0] == 0 or by != 2 else (0, 0)))
+planted('a stale lane gives something', Cellar, 'take', lambda was: lambda s, word, by: was(s, word, by) or (Effect(0, 0, 0, 0, 0) if by == 4 else None))
