@@ -1,8 +1,7 @@
 -- The list of what a call closes: begun anew it changes nothing else, and what goes on it has gone.
 use Rattle.rx_book.proofs.Common.{◌≡◌, ℕ, List, [], ◌∷◌, ◌++◌, map, refl, ap, ◌∙◌, Ok, Ghosts, Kept, Event, IsForcedOn, Wanted, goes, numbers_of}
 use Rattle.rx_book.proofs.Common.{Gathers, Ground, IsStanding, HasRoomBeside, IsFurther, gone_on, gone_forced, Key, State, AreJust, Request, Accepts, Answers}
-use Rattle.rx_book.proofs.Common.{IsOpened, IsOpenedUsing, Opened, OpenedUsing, At, OpenedHolding, AnswersOpenedHolding, Kind, key_shown}
-use Rattle.rx_slots.specs.declared.Key.{Key as TreeKey}
+use Rattle.rx_book.proofs.Common.{IsOpened, IsOpenedUsing, Opened, OpenedUsing, At, OpenedHolding, AnswersOpenedHolding, Kind}
 use Rattle.rx_book.proofs.AnswersOkOrErr.{answers_ok}
 use Rattle.std.proofs.Common.{rules}
 
@@ -43,15 +42,11 @@ begun_at begun seen = begun ∙ ap (λ (s : State). record s { closed = [] }) se
 pub further_step : (base : Kept) → (h es : List Event) {k : List Event} → IsForcedOn base (h ++ es) k → IsFurther h k
 further_step base h es forced n gone = gone_forced base forced n (gone_on h es n gone)
 
-shown_numbers : (keys : List TreeKey) → map (λ (k : Key). k.number) (map key_shown keys) ≡ numbers_of keys
-shown_numbers [] = refl
-shown_numbers (x ∷ xs) = ap (λ (ns : List ℕ). x.number ∷ ns) (shown_numbers xs)
-
 -- a list that was begun has just what has gone since
-pub just_gone : {h k : List Event} {list longer : List TreeKey} → list ≡ [] → Gathers h list k longer →
-    AreJust (goes h k) (map (λ (j : Key). j.number) (map key_shown longer))
-just_gone {h} {k} {list} {longer} begun gathers = search (rules, map, shown_numbers)
+pub just_gone : {h k : List Event} {list longer : List Key} → list ≡ [] → Gathers h list k longer →
+    AreJust (goes h k) (map (λ (j : Key). j.number) longer)
+just_gone {h} {k} {list} {longer} begun gathers = search rules
 
-pub gathers_just : {h k : List Event} {longer : List TreeKey} → AreJust (goes h k) (map (λ (j : Key). j.number) (map key_shown longer)) →
+pub gathers_just : {h k : List Event} {longer : List Key} → AreJust (goes h k) (map (λ (j : Key). j.number) longer) →
     Gathers h [] k longer
-gathers_just {h} {k} {longer} just = search (rules, shown_numbers)
+gathers_just {h} {k} {longer} just = search rules

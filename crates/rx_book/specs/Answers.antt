@@ -10,15 +10,15 @@ use Rattle.rx_event.specs.declared.event.Event.TheVariants.{Connect}
 use Rattle.rx_event.specs.Tree.{at}
 use Rattle.rx_event.specs.Calls.{IsStepOf}
 use Rattle.rx_event.specs.Refusals.{first_cause, IsRefusal}
-use Rattle.rx_ground.specs.Gone.{goes}
+use Rattle.rx_event.specs.Gone.{goes, AreJust}
 use Rattle.rx_ground.specs.Shown.{label_of}
-use Rattle.rx_book.specs.declared.key.Key.{Key}
-use Rattle.rx_book.specs.declared.key.ResKey.{ResKey}
-use Rattle.rx_book.specs.declared.key.LeaseKey.{LeaseKey}
+use Rattle.rx_slots.specs.declared.Key.{Key}
+use Rattle.rx_tree.specs.declared.node.ResKey.{ResKey}
+use Rattle.rx_ground.specs.declared.leases.LeaseKey.{LeaseKey}
 use Rattle.rx_book.specs.declared.answer.Opened.{Opened}
 use Rattle.rx_book.specs.declared.answer.OpenedUsing.{OpenedUsing}
 use Rattle.rx_book.specs.declared.answer.Refused.{Refused}
-use Rattle.rx_book.specs.State.{State, AreJust, has_key, has_res_key, has_lease_key}
+use Rattle.rx_book.specs.State.{State, has_key, has_res_key, has_lease_key}
 use Rattle.rx_book.specs.Requests.{Request, stands, take_request}
 
 abbrev pub makes_connection : Event → Bool

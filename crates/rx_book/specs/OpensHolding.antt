@@ -9,12 +9,12 @@ use Rattle.rx_event.specs.Calls.{Opening}
 use Rattle.rx_event.specs.Refusals.{first_cause, IsRefusal}
 use Rattle.rx_event.specs.Totals.{debt}
 use Rattle.rx_ground.specs.OpeningHolding.{opening_holding_causes}
-use Rattle.rx_ground.specs.Gone.{goes}
+use Rattle.rx_event.specs.Gone.{goes, AreJust}
 use Rattle.rx_ground.specs.Shown.{Ground}
 use Rattle.rx_book.specs.declared.answer.At.{At}
 use Rattle.rx_book.specs.declared.answer.OpenedHolding.{OpenedHolding}
 use Rattle.rx_book.specs.declared.answer.Refused.{Refused}
-use Rattle.rx_book.specs.State.{State, AreJust}
+use Rattle.rx_book.specs.State.{State}
 use Rattle.rx_book.specs.Requests.{place_of, is_known_place, is_fresh_in, open_request, hold_request}
 use Rattle.rx_book.specs.Answers.{Accepts, IsOpened, IsNewResKey}
 use Rattle.rx_book.specs.Shown.{state_of}

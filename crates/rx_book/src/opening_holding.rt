@@ -15,12 +15,12 @@ use crate::Book;
 use crate::admit::admit;
 use crate::answer::{At, OpenedHolding, Refused};
 use crate::holding::is_fresh;
-use crate::key::{Key, ResKey, shown_res_key, tree_key};
 use crate::opening::write_opening;
 use crate::place::spot_of;
 use rx_event::Kind;
 use rx_ground::{Ground, Wanted};
 use rx_resource::Resource;
+use rx_tree::{Key, ResKey};
 
 /// Holds a fresh resource at an open node, for which there is room. It forces nothing, and the list of what was
 /// closed stays.
@@ -43,8 +43,7 @@ fn write_holding<R: Resource>(ground: &mut Ground<R>, node: Key, resource: R) ->
     ensures nodes { ground.new.tree.nodes ≡ ground.old.tree.nodes }
 {
     ground.promise();
-    let res = ground.write_accept(tree_key(node), resource);
-    shown_res_key(res)
+    ground.write_accept(node, resource)
 }
 
 impl<R: Resource> Book<R> {

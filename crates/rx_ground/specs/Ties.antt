@@ -6,7 +6,7 @@ use Rattle.std.specs.List.{AllByRecursion, AllPairs, list_any, Contains}
 use Rattle.std.specs.Option.{option_map_or}
 use Rattle.rx_resource.specs.declared.Resource.{Ghosts}
 use Rattle.rx_resource.specs.declared.Life.TheVariants.{Live}
-use Rattle.rx_event.specs.declared.marks.Marks.{Marks}
+use Rattle.rx_event.specs.Marks.{Marks}
 use Rattle.rx_event.specs.declared.event.Place.{Place}
 use Rattle.rx_event.specs.declared.event.Place.TheVariants.{Root, Source, Inner, Notifier}
 use Rattle.rx_event.specs.declared.event.Event.{Event}
@@ -197,13 +197,14 @@ module _ {T : Type 0} where
     pub chain : new.chain ≡ with_due new.nodes key old.chain
     pub resources : new.resources ≡ old.resources
 
--- the list goes on with the keys of the node of this number and of all below it, each once
+-- the list goes on with the keys of the node of this number and of all below it, each once, and none behind that of the node above it
 pub record Moves (nodes : Slots Node) (top : ℕ) (list longer : List Key) : Type 0 where
   pub moved : List Key
   pub listed : longer ≡ list ++ moved
   pub each : (key : Key) → Contains moved key → IsSome (find nodes key) × IsTrue (is_below nodes top key.number)
   pub every : (key : Key) → IsSome (find nodes key) → IsTrue (is_below nodes top key.number) → Contains moved key
   pub once : AllPairs (λ a b. a ≢ b) moved
+  pub upward : AllPairs (λ a b. (node : Node) → find nodes b ≡ Some node → node.above ≢ Some a) moved
 
 -- of its leases, those out now that are older than this were out
 pub record KeepsLeases (old new : Slots ResKey) (number : ℕ) : Type 0 where

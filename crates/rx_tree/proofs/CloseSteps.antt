@@ -67,7 +67,7 @@ module _ {T : Type 0} (whole : Store T) (tied : IsTied whole) (top : Key) (there
         let room = cutting.room in
         record {
           moved = cutting.moved ++ record { key = cut.key; node = cut.node } ∷ [];
-          part = part_step (nodes_of whole) tied.sound top there (nodes_of t) cutting.moved cut.key cut.node cutting.part cut.found way cut.taken;
+          part = part_step (nodes_of whole) tied.sound top there (nodes_of t) cutting.moved cut.key cut.node cutting.tied.sound cutting.part cut.found way cut.taken;
           listed = cut.moved ∙ ap (λ (xs : List Closed). xs ++ record { key = cut.key; node = cut.node } ∷ []) cutting.listed ∙
               append_assoc list cutting.moved (record { key = cut.key; node = cut.node } ∷ []);
           tied = tied_t;

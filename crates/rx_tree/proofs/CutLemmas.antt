@@ -41,9 +41,9 @@ part_start whole top = search (rules, none_not_some)
 
 module _ (whole : Slots Node) (sound : IsSound whole) (top : Key) (there : IsSome (find whole top)) where
   -- one record more is moved out
-  pub part_step : {s : Slots Node} (t : Slots Node) (moved : List Closed) (key : Key) (node : Node) → IsPart whole top s moved → find s key ≡ Some node →
-      Descends whole top key → Takes_out s t key → IsPart whole top t (moved ++ record { key = key; node = node } ∷ [])
-  part_step {s} t moved key node part found down taken =
+  pub part_step : {s : Slots Node} (t : Slots Node) (moved : List Closed) (key : Key) (node : Node) → IsSound s → IsPart whole top s moved →
+      find s key ≡ Some node → Descends whole top key → Takes_out s t key → IsPart whole top t (moved ++ record { key = key; node = node } ∷ [])
+  part_step {s} t moved key node s_sound part found down taken =
       let was : find whole key ≡ Some node = sym (part.left key (ap is_some found)) ∙ found in
       let below : IsInside whole top.number (record { key = key; node = node }) =
       record { found = was; below = descends_below whole sound top key there down } in
@@ -57,6 +57,9 @@ module _ (whole : Slots Node) (sound : IsSound whole) (top : Key) (there : IsSom
         once = all_pairs_push (λ a b. a.key ≢ b.key) moved (record { key = key; node = node }) part.once
             (λ i d within same. none_not_some (find s key) (ap (find s) (sym same) ∙ (part.out (get_or moved i d) (Contains-get_or moved i d within)).1)
             (ap is_some found));
+        upward = all_pairs_push (λ a b. b.node.above ≢ Some a.key) moved (record { key = key; node = node }) part.upward
+            (λ i d within above. none_not_some (find s (get_or moved i d).key) (part.out (get_or moved i d) (Contains-get_or moved i d within)).1
+            (subst (λ o. IfSome o (λ k. IsSome (find s k))) above (s_sound.placed key node found).there));
       } where
         out : (m : Closed) → Contains moved m ⊎ (record { key = key; node = node } ≡ m) → IsInside whole top.number (record { key = key; node = node }) →
             IsInside whole top.number m × (find t m.key ≡ None)
@@ -126,6 +129,7 @@ module _ (whole : Slots Node) (sound : IsSound whole) (top : Key) (there : IsSom
         record {
           exactly = λ m. (λ has. (part.out m has).0, λ inside. found m inside (find s m.key) refl);
           once = part.once;
+          upward = part.upward;
         } where
           found : (m : Closed) → IsInside whole top.number m → (o : Option (Node)) → find s m.key ≡ o → Contains moved m
           found m inside None gone = part.gone m.key m.node inside.found gone

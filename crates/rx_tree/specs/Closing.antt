@@ -17,10 +17,11 @@ pub record IsInside (nodes : Slots Node) (top : ℕ) (closed : Closed) : Type 0 
   pub found : find nodes closed.key ≡ Some closed.node
   pub below : IsTrue (is_below nodes top closed.key.number)
 
--- the list has the records of the whole subtree with their keys, and each once
+-- the list has the records of the whole subtree with their keys, each once, and none behind that of the node above it
 pub record IsSubtree (nodes : Slots Node) (top : ℕ) (moved : List Closed) : Type 0 where
   pub exactly : (closed : Closed) → Contains moved closed ↔ IsInside nodes top closed
   pub once : AllPairs (λ a b. a.key ≢ b.key) moved
+  pub upward : AllPairs (λ a b. b.node.above ≢ Some a.key) moved
 
 -- the keys of a chain that stay on it: those outside the subtree
 abbrev pub outside : Slots Node → ℕ → List Key → List Key

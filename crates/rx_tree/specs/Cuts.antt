@@ -30,6 +30,7 @@ pub record IsPart (whole : Slots Node) (top : Key) (nodes : Slots Node) (moved :
   pub gone : (k : Key) (node : Node) → find whole k ≡ Some node → find nodes k ≡ None →
       Contains moved (record { key = k; node = node })
   pub once : AllPairs (λ a b. a.key ≢ b.key) moved
+  pub upward : AllPairs (λ a b. b.node.above ≢ Some a.key) moved
 
 -- as it was, but what stood on this ring waits
 abbrev pub waiting_home : List Place → (Place → Option Place) → Place → Option Place

@@ -1,5 +1,5 @@
 use Rattle.rx_book.proofs.Common.{◌≡◌, refl, sym, ap, map, subst, ◌∙◌, ◌∷◌, [], Ok, Accept, Opening, outside_of, first_cause, Slots, Node, IsFurther, gone_on}
-use Rattle.rx_book.proofs.Common.{gathers_on, State, place_of, AnswersOpenedHolding, IsAdmittedHolding, stands_holding, key_shown, state_of}
+use Rattle.rx_book.proofs.Common.{gathers_on, State, place_of, AnswersOpenedHolding, IsAdmittedHolding, stands_holding, state_of}
 use Rattle.rx_ground.specs.Shown.{Kept, kept_in}
 use Rattle.rx_book.proofs.Admitted.{found_admitted, state_admitted}
 use Rattle.rx_book.proofs.AdmittedHolding.{first_stands, holding_within, admitted_holding}
@@ -71,7 +71,7 @@ returns g c =
     let t = c.write_holding-res.ensures in
     let none = rw c.is_fresh-fresh.ensures at (admitted g (goal.at.returns g c).In_default).none in
     let accept = Accept c.write_opening-opened.result.key.number (R.tag_of c.args.resource) in
-    let keys = ap (λ (nodes : Slots Node). map (λ (k : Kept Node). key_shown k.key) (kept_in nodes)) t.nodes in
+    let keys = ap (λ (nodes : Slots Node). map (λ (k : Kept Node). k.key) (kept_in nodes)) t.nodes in
     let b = c.admit.new.ground in
     let outside = outside_of b.register.history (Opening (place_of c.args.at) c.args.kind) in
     let further = further_step b.register.base b.register.history outside o.accepted.step.forced in
