@@ -64,6 +64,6 @@ pub use Rattle.rx_event.specs.declared.event.Kind.{Kind}
 pub use Rattle.rx_event.specs.declared.event.Kind.TheVariants.{Sub, Pass, Leaf, Flat, Switch}
 pub use Rattle.rx_event.specs.declared.event.Place.{Place}
 pub use Rattle.rx_event.specs.declared.event.Place.TheVariants.{Root, Source, Inner, Notifier}
-pub use Rattle.rx_event.specs.declared.marks.Marks.{Marks}
+pub use Rattle.rx_event.specs.Marks.{Marks}
 pub use Rattle.rx_note.specs.declared.note.Terminal.{Terminal}
 pub use Rattle.rx_note.specs.declared.note.Terminal.TheVariants.{Completed, Error}

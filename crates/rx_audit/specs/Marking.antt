@@ -4,7 +4,7 @@ use Rattle.rx_audit.specs.Imports.{ℕ, Bool, true, false, Option, Some, None, L
 use Rattle.rx_audit.specs.Imports.{list_any, nothing_kept, stop_at, Visit, Event, Open, End, Decline, Item, Terminal, same_terminal, named_by, is_item}
 use Rattle.rx_audit.specs.Imports.{parent, is_open, shuts, marks_of, blank_marks, terminal_due, touches, after_firing}
 use Rattle.rx_audit.specs.Rules.{fired_by, projected_by, is_key}
-use Rattle.rx_event.specs.declared.marks.Marks.{Marks}
+use Rattle.rx_event.specs.Marks.{Marks}
 use Rattle.rx_audit.specs.Latest.{ShutsNone, IsShutAlone, IsNoted}
 
 -- the node whose marks the event changes, if it is no item

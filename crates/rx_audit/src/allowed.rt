@@ -115,7 +115,7 @@ fn is_source_free(past: &[Event], found: &Found, marks: &Vec<Marks>, p: u64) -> 
     if !is_open_node(past, found, p) {
         return false;
     }
-    at(Event::has_source, past, p) && !open_marks(past, marks, p).source_opened
+    at(Event::has_source, past, p) && !open_marks(past, marks, p).source_opened()
 }
 
 /// Whether a notifier may be opened below node `p`.
@@ -127,7 +127,7 @@ fn is_notifier_free(past: &[Event], found: &Found, marks: &Vec<Marks>, p: u64) -
     if !is_open_node(past, found, p) {
         return false;
     }
-    at(Event::is_until, past, p) && !open_marks(past, marks, p).notifier_opened
+    at(Event::is_until, past, p) && !open_marks(past, marks, p).notifier_opened()
 }
 
 /// Whether node `f` is an open FlatMap or Switch that owes something.
@@ -140,7 +140,7 @@ fn owes_inner(past: &[Event], found: &Found, marks: &Vec<Marks>, f: u64) -> bool
     if !is_open_node(past, found, f) {
         return false;
     }
-    at(Event::is_merging, past, f) && open_marks(past, marks, f).owed > 0
+    at(Event::is_merging, past, f) && open_marks(past, marks, f).owed() > 0
 }
 
 /// Whether a node may be opened at the place.
@@ -294,8 +294,8 @@ fn failure_allowed(past: &[Event], marks: &Vec<Marks>, n: u64) -> bool
     ensures { result ≡ failure_allowed past.now n }
 {
     let kept = open_marks(past, marks, n);
-    at(Event::has_source, past, n) && !(kept.open_children > 0)
-        || at(Event::is_merging, past, n) && kept.owed > 0
+    at(Event::has_source, past, n) && !(kept.open_children() > 0)
+        || at(Event::is_merging, past, n) && kept.owed() > 0
 }
 
 /// Whether a caller may end node `n` so.

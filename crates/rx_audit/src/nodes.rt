@@ -47,19 +47,19 @@ fn changed(past: &[Event], event: Event, top: Option<usize>, p: u64, marks: Mark
     requires few { length past.now + 1 < 18446744073709551616 }
     ensures { result ≡ marks_of nothing_kept (past.now ++ event ∷ []) p }
 {
+    let mut marks = marks;
     match event {
         Event::Open { place, .. } => match place {
-            Place::Source(_) => marks.after_source(),
-            Place::Notifier(_) => marks.after_notifier(),
-            Place::Inner(_) => marks.after_inner(top.is_some()),
-            Place::Root => marks,
+            Place::Source(_) => marks.open_source(),
+            Place::Notifier(_) => marks.open_notifier(),
+            Place::Inner(_) => marks.open_inner(top.is_some()),
+            Place::Root => {}
         },
-        Event::Decline(_) => marks.after_decline(),
-        Event::End(c, t) => {
-            marks.after_child(is_source_at(past, p, c), is_merging_at(past, p), t)
-        }
-        _ => marks,
+        Event::Decline(_) => marks.decline(),
+        Event::End(c, t) => marks.end_child(is_source_at(past, p, c), is_merging_at(past, p), t),
+        _ => {}
     }
+    marks
 }
 
 /// The marks of node `n`.
@@ -109,7 +109,8 @@ fn fire(marks: &mut Vec<Marks>, due: &mut Vec<usize>, key: Option<u64>) -> Resul
 {
     if let Some(u) = key {
         due.push(u as usize)?;
-        let fired = marks_at(marks, u).after_firing();
+        let mut fired = marks_at(marks, u);
+        fired.fire();
         put_marks(marks, u, fired);
     }
     Ok(())
@@ -120,11 +121,12 @@ fn owe(marks: &mut Vec<Marks>, key: Option<u64>, count: u64) -> Result<(), Alloc
     ensures { OnOk result (marks.new.items ≡ owed_marks marks.old.items key count) }
 {
     if let Some(f) = key {
-        let before = marks_at(marks, f);
-        match before.owed.checked_add(count) {
-            Some(owed) => put_marks(marks, f, Marks { owed, ..before }),
-            None => return Err(AllocError),
-        }
+        let mut more = marks_at(marks, f);
+        let Some(owed) = more.owed().checked_add(count) else {
+            return Err(AllocError);
+        };
+        more.set_owed(owed);
+        put_marks(marks, f, more);
     }
     Ok(())
 }

@@ -4,21 +4,21 @@ use Rattle.rx_book.proofs.Common.{arith, length-append, append_assoc, append-nil
 use Rattle.rx_book.proofs.Common.{Kept, Ghosts, Mail, Event, Accept, hub_subscribed, IsConnected, MayWait, none_waits, one_waits, IsSettled, notes, mail_of}
 use Rattle.rx_book.proofs.Common.{debt, Call, outside_of, MayFollow, IsLawful, IsForcedOn, stays, more, forced, allowed, opened_with, Full, NotFresh, Live}
 use Rattle.rx_book.proofs.Common.{first_cause, notes-push, IsLawful-push, settled_connected, waits_after, forced_connected, kept_unsubscribed, Fits}
-use Rattle.rx_book.proofs.Common.{Writes, causes, added_by, by_key_of, is_over, IsPaid, HasRoomFor, notes_added, no_cause, call_room, call_mail_room, Gathers}
-use Rattle.rx_book.proofs.Common.{paid_room, within_limit, call_follows, call_fits, called_paid, Ground, gone_forced, gathers_on, IsStanding, IsRoomier, find}
-use Rattle.rx_book.proofs.Common.{IsReady, KeepsOlder, KeepsLeases, HasRoomToConnect, IsTied, AreTied, AreLeased, KeepsNodes, KeepsHeld, KeepsKeys, keeps_on}
-use Rattle.rx_book.proofs.Common.{keeps_settled, keeps_closed, keeps_held, leases_stay, has_key, has_res_key, has_lease_key, Request, stands, is_live, Slots}
+use Rattle.rx_book.proofs.Common.{Writes, causes, added_by, by_key_of, is_over, IsPaid, HasRoomFor, notes_added, no_cause, call_room, call_mail_room}
+use Rattle.rx_book.proofs.Common.{paid_room, within_limit, call_follows, call_fits, called_paid, Ground, adds_forced, gathers_on, Closes, closes_on, IsStanding, IsRoomier, find}
+use Rattle.rx_book.proofs.Common.{IsReady, HasRoomToConnect, KeepsKeys, keeps_on}
+use Rattle.rx_book.proofs.Common.{keeps_settled, has_key, has_res_key, has_lease_key, Request, stands, is_live, Slots}
 use Rattle.rx_book.proofs.Common.{is_fresh_in, Accepts, IsLetIn, IsWritten, lease_key, is_out_at, is_held_at, is_owned_at, is_owned, owned_there, Key, ResKey}
-use Rattle.rx_book.proofs.Common.{LeaseKey, tree_key_of, tree_res_key_of, ground_lease_key_of, keys_of, res_keys_of, lease_keys_of, state_of}
+use Rattle.rx_book.proofs.Common.{LeaseKey, keys_of, res_keys_of, lease_keys_of, state_of}
 use Rattle.rx_resource.specs.declared.Life.{Life}
+use Rattle.rx_ground.specs.Settling.{Settles}
 use Rattle.rx_register.specs.State.{State as Register, IsPromised}
 use Rattle.rx_register.specs.Claims.{MayFollowInTurn, IsReady as IsReadyFor}
 use Rattle.rx_ground.proofs.Laws.GoneStaysGone.{further_written}
-use Rattle.rx_tree.specs.declared.node.ResKey.{ResKey as TreeResKey}
 use Rattle.rx_book.proofs.ShownKeys.{key_finds, finding_key, res_key_finds, finding_res_key, has_key_is, has_res_key_is, lease_key_finds, finding_lease_key}
 use Rattle.rx_book.proofs.ShownKeys.{has_lease_key_is}
 use Rattle.rx_book.proofs.CausesByKey.{unstood}
-use Rattle.rx_book.proofs.ListOfClosed.{just_gone}
+use Rattle.rx_book.proofs.ListOfClosed.{just_gone, gone_in_order, gone_keys}
 use Rattle.std.proofs.Common.{rules}
 
 -- histories ---------------------------------------------------------------------------------------
@@ -68,26 +68,6 @@ pub within_full : (base : Kept) → (call : Call) (known fresh : Bool) (h : List
 within_full base call known fresh h limit counted none =
     let over = no_cause (causes base h limit fresh call) (unstood call known (causes base h limit fresh call) none).1 Full in
     let within = within_limit base h limit (added_by h call) (sym counted ∙ over) in omega arith
-
--- what was forced is written, and nothing else happened: the ground stands again
-pub record SettlesTo {T : Type 0} (g : Ghosts T) (mid new : Ground T) : Type 0 where
-  pub standing : IsStanding g new
-  pub base : new.register.base ≡ mid.register.base
-  pub forced : IsForcedOn mid.register.base mid.register.history new.register.history
-  pub nodes : KeepsOlder new.register.history (length mid.register.history) mid.tree.nodes new.tree.nodes
-  pub resources : new.tree.resources ≡ mid.tree.resources
-  pub limit : new.register.limit ≡ mid.register.limit
-  pub given : new.register.given ≡ mid.register.given
-  pub leases : new.leases ≡ mid.leases
-  pub closed : Gathers mid.register.history mid.closed new.register.history new.closed
-
--- it is so, by what settling promises
-pub settles_to : {T : Type 0} {g : Ghosts T} {mid new : Ground T} → IsStanding g new → new.register.base ≡ mid.register.base →
-    IsForcedOn mid.register.base mid.register.history new.register.history →
-    KeepsOlder new.register.history (length mid.register.history) mid.tree.nodes new.tree.nodes → new.tree.resources ≡ mid.tree.resources →
-    new.register.limit ≡ mid.register.limit → new.register.given ≡ mid.register.given → new.leases ≡ mid.leases →
-    Gathers mid.register.history mid.closed new.register.history new.closed → SettlesTo g mid new
-settles_to standing base on nodes resources limit given leases closed = search (rules, standing, base, forced, limit, given, leases, closed)
 
 module _ {T : Type 0} (g : Ghosts T) (b : Ground T) (asked : Request) where
   abbrev h : List Event
@@ -163,22 +143,28 @@ module _ {T : Type 0} (g : Ghosts T) (b : Ground T) (asked : Request) where
       connected = connected_in_turn b.register.base h outside l.may.lawful (settled_connected b.register.base h l.may.settled) (follows outside refl) plain
 
     -- and after what they force it is accepted
-    pub accepts : (mid : Ground T) {new : Ground T} → Writes b.register outside mid.register → IsTied mid.register.base g mid.register.history mid.tree →
-        KeepsKeys b.tree mid.tree (length h) → KeepsLeases b.leases mid.leases (length h) →
-        Gathers h b.closed mid.register.history mid.closed → SettlesTo g mid new → Accepts (state_of g b) asked (state_of g new)
-    accepts mid {new} w tied kept out gathered s = record {
+    pub accepts : (mid : Ground T) {new : Ground T} → IsWritten g b asked.call mid → Settles g mid new → Accepts (state_of g b) asked (state_of g new)
+    accepts mid {new} x s = record {
       no_cause = l.none;
       base = based;
       step = record { forced = goes_on; lawful = lawful; settled = subst (λ (c : Kept). IsSettled c new.register.history) based s.standing.settled };
       limit = s.limit ∙ w.limit;
       given = s.given ∙ w.given;
-      keys = λ k c older. finding_key b.tree k (all.nodes (tree_key_of k) (key_finds new.tree k c) older);
-      res_keys = λ k c older. finding_res_key b.tree k (all.held (tree_res_key_of k) (res_key_finds new.tree k c) older);
-      lease_keys = λ k c older. finding_lease_key b.leases k (out.from (lease_key (ground_lease_key_of k))
-          (ap (λ (ls : Slots TreeResKey). is_some (find ls (lease_key (ground_lease_key_of k)))) (sym s.leases) ∙ lease_key_finds new.leases k c) older);
-      closed = just_gone l.begun (gathers_on (further_written outside w) (gone_forced mid.register.base s.forced) gathered s.closed);
+      keys = λ k c older. finding_key b.tree k (all.nodes k (key_finds new.tree k c) older);
+      res_keys = λ k c older. finding_res_key b.tree k (all.held k (res_key_finds new.tree k c) older);
+      lease_keys = λ k c older. finding_lease_key b.leases k (x.leases.from (lease_key k)
+          (ap (λ (ls : Slots ResKey). is_some (find ls (lease_key k))) (sym s.leases) ∙ lease_key_finds new.leases k c) older);
+      closed = just_gone l.begun closes.gathers;
+      closed_keys = gone_keys l.begun closes;
+      closed_order = gone_in_order l.begun closes.gathers;
     }
       where
+        w : Writes b.register outside mid.register
+        w = x.written
+
+        kept : KeepsKeys b.tree mid.tree (length h)
+        kept = record { nodes = x.nodes; held = x.held.from }
+
         based : new.register.base ≡ b.register.base
         based = s.base ∙ w.base
 
@@ -198,38 +184,15 @@ module _ {T : Type 0} (g : Ghosts T) (b : Ground T) (asked : Request) where
         longer : length mid.register.history ≡ length h + length outside
         longer = ap (λ (k : List Event). length k) w.history ∙ length-append h outside
 
+        closes : Closes b new
+        closes =
+            let added = adds_forced mid.register.base s.forced in
+            closes_on (let l = longer in omega arith) x.nodes x.closed s.closed
+            (gathers_on (further_written outside w) added.0 added.1 x.closed.gathers s.closed.gathers)
+
         all : KeepsKeys b.tree new.tree (length h)
         all = keeps_on b.tree mid.tree new.tree (length h) (length mid.register.history) (let l = longer in omega arith) kept
-            (keeps_settled mid.register.history new.register.history mid.tree new.tree lawful_then tied s.nodes s.resources)
-
-    pub accepts_written : {mid new : Ground T} → IsWritten g b asked.call mid → SettlesTo g mid new → Accepts (state_of g b) asked (state_of g new)
-    accepts_written {mid} w = accepts mid w.written w.tied.of_tree (record { nodes = w.nodes; held = w.held.from }) w.leases w.closed
-
--- what keeps the keys of all that is older is written
-pub written_keeping : {T : Type 0} {g : Ghosts T} {old : Ground T} (new : Ground T) (call : Call) →
-    Writes old.register (outside_of old.register.history call) new.register →
-    AreTied new.register.base g new.register.history new.tree new.hubs → AreLeased new.register.history new.tree.resources new.leases →
-    KeepsKeys old.tree new.tree (length old.register.history) → KeepsLeases old.leases new.leases (length old.register.history) →
-    Gathers old.register.history old.closed new.register.history new.closed → IsWritten g old call new
-written_keeping new call written tied leased kept leases closed = search (rules, leases, closed)
-
--- a closing
-pub written_closed : {T : Type 0} {g : Ghosts T} {old : Ground T} (new : Ground T) (call : Call) →
-    Writes old.register (outside_of old.register.history call) new.register →
-    AreTied new.register.base g new.register.history new.tree new.hubs → AreLeased new.register.history new.tree.resources new.leases →
-    KeepsNodes new.register.history old.tree.nodes new.tree.nodes → new.tree.resources ≡ old.tree.resources → new.leases ≡ old.leases →
-    Gathers old.register.history old.closed new.register.history new.closed → IsWritten g old call new
-written_closed {old} new call written tied leased nodes resources leases closed =
-    search (rules, written_keeping, keeps_closed, length, leases_stay, leases, closed)
-
--- what changes no node
-pub written_held : {T : Type 0} {g : Ghosts T} {old : Ground T} (new : Ground T) (call : Call) →
-    Writes old.register (outside_of old.register.history call) new.register →
-    AreTied new.register.base g new.register.history new.tree new.hubs → AreLeased new.register.history new.tree.resources new.leases →
-    new.tree.nodes ≡ old.tree.nodes → KeepsHeld old.tree new.tree (length old.register.history) →
-    KeepsLeases old.leases new.leases (length old.register.history) → Gathers old.register.history old.closed new.register.history new.closed →
-    IsWritten g old call new
-written_held {old} new call written tied leased nodes held leases closed = search (rules, written_keeping, keeps_held, length, leases, closed)
+            (keeps_settled mid.register.history new.register.history mid.tree new.tree lawful_then x.between.tied.of_tree s.nodes s.resources)
 
 -- room --------------------------------------------------------------------------------------------
 
@@ -246,22 +209,22 @@ state_roomier g old new r = λ i. state_of g (record {
 
 -- a resource by whose key a call is made is held
 pub held_asked : {T : Type 0} (g : Ghosts T) (b : Ground T) (asked : Request) → IsLetIn g b asked → (res : ResKey) →
-    asked.is_known ≡ has_res_key (res_keys_of b.tree) res → is_held_at b.tree (tree_res_key_of res) ≡ true
+    asked.is_known ≡ has_res_key (res_keys_of b.tree) res → is_held_at b.tree res ≡ true
 held_asked g b asked l res is = sym (has_res_key_is b.tree res) ∙ sym is ∙ known g b asked l
 
 -- a resource by whose key a call is made, and that the history leaves owned, is owned in the tree
 pub owned_asked : {T : Type 0} (g : Ghosts T) (b : Ground T) (asked : Request) → IsLetIn g b asked → (res : ResKey) →
-    asked.is_known ≡ has_res_key (res_keys_of b.tree) res → is_owned b.register.history res.number ≡ true → is_owned_at b.tree (tree_res_key_of res) ≡ true
+    asked.is_known ≡ has_res_key (res_keys_of b.tree) res → is_owned b.register.history res.number ≡ true → is_owned_at b.tree res ≡ true
 owned_asked g b asked l res is owned = search (rules, owned_there, held_asked)
 
 -- a lease by whose key a call is made is out
 pub out_asked : {T : Type 0} (g : Ghosts T) (b : Ground T) (asked : Request) → IsLetIn g b asked → (lease : LeaseKey) →
-    asked.is_known ≡ has_lease_key (lease_keys_of b.leases) lease → is_out_at b.leases (ground_lease_key_of lease) ≡ true
+    asked.is_known ≡ has_lease_key (lease_keys_of b.leases) lease → is_out_at b.leases lease ≡ true
 out_asked g b asked l lease is = sym (has_lease_key_is b.leases lease) ∙ sym is ∙ known g b asked l
 
 -- a node by whose key a call is made is open
 pub open_asked : {T : Type 0} (g : Ghosts T) (b : Ground T) (asked : Request) → IsLetIn g b asked → (key : Key) →
-    asked.is_known ≡ has_key (keys_of b.tree) key → is_some (find b.tree.nodes (tree_key_of key)) ≡ true
+    asked.is_known ≡ has_key (keys_of b.tree) key → is_some (find b.tree.nodes key) ≡ true
 open_asked g b asked l key is = sym (has_key_is b.tree key) ∙ sym is ∙ known g b asked l
 
 -- a resource with which a call is made is fresh

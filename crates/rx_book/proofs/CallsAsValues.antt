@@ -3,7 +3,7 @@
 use Rattle.rx_book.proofs.Common.{◌≡◌, ℕ, ◌≤◌, true, false, Option, Some, None, List, [], ◌∷◌, map, refl, sym, ap, ◌∙◌, true≢false}
 use Rattle.rx_book.proofs.Common.{false≢true, list_all, Ghosts, Refusal, Full, Close, outside_of, first_cause, is_open, causes, added_by}
 use Rattle.rx_book.proofs.Common.{is_over, connected_stays, Slots, notes_added, paid_room, Wanted, Ground, Answer, State, has_lease_key, stands, Accepts}
-use Rattle.rx_book.proofs.Common.{connect_request, state_of, tree_key_of, lease_keys_of, cost_of, IsWithin, Admits, IsLetIn, IsAdmitted}
+use Rattle.rx_book.proofs.Common.{connect_request, state_of, lease_keys_of, cost_of, IsWithin, Admits, IsLetIn, IsAdmitted}
 use Rattle.rx_event.specs.declared.event.Event.TheVariants.{Connect as Connected_to}
 use Rattle.rx_tree.specs.declared.node.ResKey.{ResKey}
 use Rattle.rx_register.specs.Claims.{IsReady as IsReadyFor}
@@ -12,7 +12,8 @@ use Rattle.rx_book.specs.declared.call.Call.TheVariants.{Open, Lease, Connect}
 use Rattle.rx_book.specs.declared.answer.Answer.TheVariants.{Leased, Connected}
 use Rattle.rx_book.specs.Asks.{request_of, takes_memory, has_fixed_cost, gives}
 use Rattle.rx_book.proofs.Admitted.{within_limit, admitted_let_in, admitted_as}
-use Rattle.rx_book.proofs.CallWithoutCause.{SettlesTo, subscribes_none, one_ready}
+use Rattle.rx_book.proofs.CallWithoutCause.{subscribes_none, one_ready}
+use Rattle.rx_ground.specs.Settling.{Settles}
 use Rattle.rx_book.proofs.ListOfClosed.{opened_begun}
 use Rattle.rx_book.proofs.ShownKeys.{has_key_is}
 use Rattle.std.proofs.Common.{rules}
@@ -82,7 +83,7 @@ fixed_subscribes_none s x1 fixed = search (rules, false≢true)
 
 -- what it gives is given still after what is forced
 pub gives_settled : {T : Type 0} {g : Ghosts T} {b mid new : Ground T} (call : Call) (answer : Answer) → has_fixed_cost call ≡ true →
-    IsLetIn g b (request_of (state_of g b) call) → Accepts (state_of g b) (request_of (state_of g b) call) (state_of g new) → SettlesTo g mid new →
+    IsLetIn g b (request_of (state_of g b) call) → Accepts (state_of g b) (request_of (state_of g b) call) (state_of g new) → Settles g mid new →
     gives (state_of g b) call (state_of g mid) answer → gives (state_of g b) call (state_of g new) answer
 gives_settled (Open at kind) answer fixed l done s is = absurd (false≢true fixed)
 gives_settled (Lease res) (Leased k) fixed l done s is =
@@ -94,7 +95,7 @@ gives_settled {g} {b} {mid} {new} (Connect hub) (Connected k) fixed l done s is 
     let there = sym (has_key_is mid.tree k) ∙ is.listed in
     record {
       number = is.number;
-      listed = has_key_is new.tree k ∙ s.nodes.still (tree_key_of k) there (ap (is_open new.register.history) is.number ∙ alive);
+      listed = has_key_is new.tree k ∙ s.nodes.still k there (ap (is_open new.register.history) is.number ∙ alive);
     }
 gives_settled _ _ fixed l done s is = is
 

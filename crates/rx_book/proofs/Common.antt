@@ -20,15 +20,17 @@ pub use Rattle.rx_book.specs.Answers.{Accepts, Answers, connection_made, IsNewKe
 pub use Rattle.rx_book.specs.Answers.{AnswersOpenedUsing, AnswersResKey, IsCauseOrWant, IsOpenedUsing}
 pub use Rattle.rx_book.specs.Requests.{stands, Request, place_of, open_request, is_known_place, hold_request, is_fresh_in, next_request, connect_request}
 pub use Rattle.rx_book.specs.Requests.{disconnect_request, dispose_request, give_back_request, is_live, take_request, using_request}
-pub use Rattle.rx_book.specs.Shown.{state_of, key_shown, tree_key_of, keys_of, lease_keys_of, res_keys_of, ground_lease_key_of, tree_res_key_of}
-pub use Rattle.rx_book.specs.Shown.{lease_key_shown, res_key_shown}
+pub use Rattle.rx_book.specs.Shown.{state_of, keys_of, lease_keys_of, res_keys_of}
 pub use Rattle.rx_book.specs.{Checkpoints.AnswersCheckpoint, Checkpoints.Checkpoints, Drains.none_taken, Drains.Takes, Drains.next_taken, Drains.Drains}
 pub use Rattle.rx_book.specs.Courses.{LetsGo, next_let_go, none_let_go, Emits, next_emitted, none_emitted}
 pub use Rattle.rx_book.specs.{OpensHolding.stands_holding, OpensHolding.AnswersOpenedHolding, OpensHolding.IsAdmittedHolding, Places.key_above}
-pub use Rattle.rx_book.specs.State.{State, has_key, IsPromised, has_lease_key, AreJust, has_res_key, Continues, IsLabelOf, accepted_tag, has_subscriber}
+pub use Rattle.rx_event.specs.Gone.{AreJust, goes}
+pub use Rattle.rx_book.specs.State.{State, has_key, IsPromised, has_lease_key, has_res_key, Continues, IsLabelOf, accepted_tag, has_subscriber}
 pub use Rattle.rx_book.specs.Steps.{IsLetIn, Admits, IsAdmitted, IsWithin, IsWritten}
 pub use Rattle.rx_book.specs.declared.answer.{Answer.Answer, At.At, Opened.Opened, OpenedHolding.OpenedHolding, OpenedUsing.OpenedUsing}
-pub use Rattle.rx_book.specs.declared.key.{Key.Key, LeaseKey.LeaseKey, ResKey.ResKey}
+pub use Rattle.rx_ground.specs.declared.leases.LeaseKey.{LeaseKey}
+pub use Rattle.rx_slots.specs.declared.Key.{Key}
+pub use Rattle.rx_tree.specs.declared.node.ResKey.{ResKey}
 pub use Rattle.rx_event.specs.Causes.{causes, added_by, is_over, by_key, forces_connect, has_connection, nodes_opened, by_key_of, holding_causes}
 pub use Rattle.rx_event.specs.Causes.{checkpoint_causes, opening_causes}
 pub use Rattle.rx_event.specs.declared.refusal.Refusal.TheVariants.{Full, Gone, Leased, NotFresh, HubOrder, NoHub, NoLease, NoMemory, NotHeld, NothingOwed}
@@ -49,11 +51,12 @@ pub use Rattle.rx_event.specs.declared.event.Kind.TheVariants.{Pass, Sub, Flat, 
 pub use Rattle.rx_event.specs.declared.{mail.Mail.Mail, refusal.Refusal.Refusal}
 pub use Rattle.rx_ground.specs.Ties.{IsStanding, IsTied, AreLeased, IsReady, is_there, AreTied, HasRoomToConnect, HasRoomBeside, IsRoomier, KeepsHeld}
 pub use Rattle.rx_ground.specs.Ties.{KeepsOlder, IsListed, IsNewNode, IsStored, KeepsLeases, KeepsNodes}
-pub use Rattle.rx_ground.proofs.Laws.GoneStaysGone.{gathers_quiet, IsFurther, gathers_on, gone_forced, gone_on, gathers_nothing, gathers_then}
+pub use Rattle.rx_ground.proofs.Laws.GoneStaysGone.{gathers_quiet, IsFurther, gathers_on, gone_forced, gathers_nothing, gathers_then}
+pub use Rattle.rx_ground.proofs.Laws.GoneStaysGone.{adds_forced, closes_none, closes_on, gone_on}
 pub use Rattle.rx_ground.proofs.Laws.{JustOpenHeldWaiting.just_waiting, JustOpenHeldWaiting.length-waiting, OwnedInTree.owned_there, StaysHeld.resource_stays}
 pub use Rattle.rx_ground.proofs.Laws.KeysKept.{leases_stay, keeps_held, keeps_opened, keeps_on, KeepsKeys, keeps_closed, keeps_same, keeps_settled}
 pub use Rattle.rx_ground.proofs.Laws.{Members.Contains-from_map, Members.Contains-map, Members.All-members, Ranges.find_first, Ranges.find_nothing}
-pub use Rattle.rx_ground.specs.{Checkpoints.IsCheckpoint, Costs.cost_of, Gone.Gathers, Gone.goes, Gone.numbers_of, Leases.lease_key, Leases.is_out_at}
+pub use Rattle.rx_ground.specs.{Checkpoints.IsCheckpoint, Costs.cost_of, Gone.Closes, Gone.Gathers, Gone.GoesFirst, Gone.numbers_of, Leases.lease_key, Leases.is_out_at}
 pub use Rattle.rx_ground.specs.{Memory.TakesNoMemory, Reached.IsReach, Reached.MakesOnly, Told.is_connected_manual, declared.base.Wanted.Wanted}
 pub use Rattle.rx_ground.specs.{Shown.Ground, Shown.held_in, Shown.label_in, Shown.waiting_in, Shown.list_room, declared.route.Reach.Reach}
 pub use Rattle.rx_register.proofs.Laws.{Calls.call_fits, Calls.call_follows, Calls.called_paid, NoCause.no_cause}

@@ -1,13 +1,15 @@
 -- A fresh resource is held at an open node, for which there is room: it is accepted, and forces nothing.
 use Rattle.rx_book.proofs.Common.{◌≡◌, ◌+◌, ◌≤◌, true, List, [], ◌∷◌, length, None, is_some, refl, sym, ap, subst, ◌∙◌, Ghosts, Event, Accept}
 use Rattle.rx_book.proofs.Common.{Kept, is_open, debt, accepted_by, IsSettled, stays, first_cause, closes_none_kept, settled_on, find}
-use Rattle.rx_book.proofs.Common.{accepted_by_new, is_held_at, some_of, Writes, Gathers, Ground, gathers_nothing, gathers_quiet, IsStanding, IsReady, AreTied}
-use Rattle.rx_book.proofs.Common.{AreLeased, KeepsHeld, leases_stay, Key, ResKey, has_key, Request, stands, is_fresh_in, hold_request, Accepts, IsNewResKey}
-use Rattle.rx_book.proofs.Common.{tree_key_of, res_key_shown, keys_of, state_of, IsLetIn}
-use Rattle.rx_tree.specs.declared.node.ResKey.{ResKey as TreeResKey}
+use Rattle.rx_book.proofs.Common.{accepted_by_new, is_held_at, some_of, Writes, Ground, closes_none, gathers_nothing, gathers_quiet, IsStanding, IsReady}
+use Rattle.rx_book.proofs.Common.{Key, ResKey, has_key, Request, stands, is_fresh_in, hold_request, Accepts, IsNewResKey}
+use Rattle.rx_book.proofs.Common.{keys_of, state_of, IsLetIn}
 use Rattle.rx_register.specs.State.{IsPromised}
 use Rattle.rx_book.proofs.ShownKeys.{has_key_is}
-use Rattle.rx_book.proofs.CallWithoutCause.{SettlesTo, let_in, one_ready, pays, accepts_written, written_held}
+use Rattle.rx_book.proofs.CallWithoutCause.{let_in, one_ready, pays, accepts}
+use Rattle.rx_ground.specs.Settling.{Settles}
+use Rattle.rx_ground.specs.Wrote.{Wrote}
+use Rattle.rx_ground.proofs.Laws.WroteInTurn.{no_change, wrote_begun}
 use Rattle.rx_book.proofs.MadeKeyIsListed.{res_key_listed}
 use Rattle.rx_book.proofs.HoldingUnstood.{holding_unstood}
 use Rattle.rx_book.proofs.ListOfClosed.{standing_begun, accepts_begun}
@@ -22,12 +24,12 @@ module _ {T : Type 0} (g : Ghosts T) (b : Ground T) (node : Key) (x : T) (standi
   abbrev asked : Request
   asked = hold_request g (state_of g b) node x
 
-  pub holding_there : is_some (find b.tree.nodes (tree_key_of node)) ≡ true
+  pub holding_there : is_some (find b.tree.nodes node) ≡ true
   holding_there = sym (has_key_is b.tree node) ∙ listed
 
   alive : is_open b.register.history node.number ≡ true
-  alive = let at_key = some_of (find b.tree.nodes (tree_key_of node)) holding_there in
-      (standing.tied.of_tree.records.each (tree_key_of node) at_key.0 at_key.1).alive
+  alive = let at_key = some_of (find b.tree.nodes node) holding_there in
+      (standing.tied.of_tree.records.each node at_key.0 at_key.1).alive
 
   unstood : first_cause (stands (state_of g b) asked) ≡ None
   unstood = search (rules, is_fresh_in, holding_unstood, alive)
@@ -39,9 +41,10 @@ module _ {T : Type 0} (g : Ghosts T) (b : Ground T) (node : Key) (x : T) (standi
   pub holding_ready : IsReady b.register (Accept node.number (g.tag_of x))
   holding_ready = one_ready g (record b { closed = [] }) asked holding_let_in (Accept node.number (g.tag_of x)) refl
 
-  module _ (new : Ground T) (w : Writes b.register (Accept node.number (g.tag_of x) ∷ []) new.register)
-      (tied : AreTied new.register.base g new.register.history new.tree new.hubs)
-      (leased : AreLeased new.register.history new.tree.resources new.leases) where
+  module _ (new : Ground T) (wrote : Wrote g b (Accept node.number (g.tag_of x) ∷ []) new) where
+    abbrev w : Writes b.register (Accept node.number (g.tag_of x) ∷ []) new.register
+    w = wrote.written
+
     settled : IsSettled new.register.base new.register.history
     settled =
         let e = Accept node.number (g.tag_of x) in
@@ -49,9 +52,9 @@ module _ {T : Type 0} (g : Ghosts T) (b : Ground T) (node : Key) (x : T) (standi
         subst (λ (k : Kept). IsSettled k new.register.history) (sym w.base) (subst (IsSettled b.register.base) (sym w.history) rests)
 
     pub holding_standing : IsStanding g new
-    holding_standing = record { tied = tied; leased = leased; settled = settled; paid = pays g (record b { closed = [] }) asked holding_let_in new.register w }
+    holding_standing = record { tied = wrote.between.tied; leased = wrote.between.leased; settled = settled; paid = pays g (record b { closed = [] }) asked holding_let_in new.register w }
 
-    settles : SettlesTo g (record new { closed = [] }) (record new { closed = [] })
+    settles : Settles g (record new { closed = [] }) (record new { closed = [] })
     settles = record {
       standing = standing_begun holding_standing;
       base = refl;
@@ -61,26 +64,20 @@ module _ {T : Type 0} (g : Ghosts T) (b : Ground T) (node : Key) (x : T) (standi
       limit = refl;
       given = refl;
       leases = refl;
-      closed = gathers_nothing new.register.history [];
+      hubs = refl;
+      closed = closes_none refl (gathers_nothing new.register.history []);
+      memory = no_change (record new { closed = [] });
     }
 
-    pub holding_accepted : new.tree.nodes ≡ b.tree.nodes → KeepsHeld b.tree new.tree (length b.register.history) → new.leases ≡ b.leases →
-        Accepts (state_of g b) (hold_request g (state_of g b) node x) (record (state_of g new) { closed = [] })
-    holding_accepted nodes kept leases =
-        let quiet = gathers_quiet (Accept node.number (g.tag_of x)) holding_ready.next refl w refl in
-        accepts_begun (accepts_written g (record b { closed = [] }) asked holding_let_in
-        (written_held {old = record b { closed = [] }} (record new { closed = [] }) asked.call w tied leased nodes kept (leases_stay _ _ _ leases) quiet)
-        settles)
+    pub holding_accepted : Accepts (state_of g b) (hold_request g (state_of g b) node x) (record (state_of g new) { closed = [] })
+    holding_accepted = accepts_begun (accepts g (record b { closed = [] }) asked holding_let_in (record new { closed = [] })
+        (wrote_begun (gathers_quiet (Accept node.number (g.tag_of x)) holding_ready.next refl w refl) wrote) settles)
 
-    -- the list of what was closed stays
-    pub holding_gathers : new.closed ≡ b.closed → Gathers b.register.history b.closed new.register.history new.closed
-    holding_gathers same = gathers_quiet (Accept node.number (g.tag_of x)) holding_ready.next refl w same
-
-    pub held_key : (res : TreeResKey) {k : ResKey} → k ≡ res_key_shown res → res.number ≡ length b.register.history → is_held_at new.tree res ≡ true →
-        IsNewResKey (state_of g new) (length b.register.history) k
-    held_key res shown number held =
+    pub held_key : (res : ResKey) → res.number ≡ length b.register.history → is_held_at new.tree res ≡ true →
+        IsNewResKey (state_of g new) (length b.register.history) res
+    held_key res number held =
         let e = Accept node.number (g.tag_of x) in
         let accepted = ap (λ (c : Kept). accepted_by c new.register.history (length h)) w.base ∙
         ap (λ (k : List Event). accepted_by b.register.base k (length h)) w.history ∙ accepted_by_new b.register.base h e promised.lawful in
         let still = ap (λ (k : List Event). is_open k node.number) w.history ∙ closes_none_kept h e refl node.number alive in
-        res_key_listed g new new settles.nodes (length h) tied.of_tree res shown refl number held accepted still
+        res_key_listed g new new settles.nodes (length h) wrote.between.tied.of_tree res refl number held accepted still

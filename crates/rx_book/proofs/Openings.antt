@@ -2,7 +2,7 @@
 use Rattle.rx_book.proofs.Common.{◌≡◌, ◌+◌, ◌<◌, ◌≤◌, Bool, true, List, [], ◌∷◌, length, cond, IsSome, refl, ap, subst, arith, Kept, Ghosts, Place, Kind, At}
 use Rattle.rx_book.proofs.Common.{Event, Open, IsConnectDue, IsSettled, IsLawful, MayFollow, is_open_within, may_subscribe, find, Tree, IsPlaced, some_of}
 use Rattle.rx_book.proofs.Common.{nodes_opened, Writes, opening_connects, Ground, list_room, TakesNoMemory, IsTied, HasRoomToConnect, is_there, place_of}
-use Rattle.rx_book.proofs.Common.{key_above, tree_key_of}
+use Rattle.rx_book.proofs.Common.{key_above}
 use Rattle.rx_slots.specs.declared.Key.{Key}
 use Rattle.rx_ground.specs.Memory.{TakesOneNode}
 use Rattle.rx_book.specs.declared.answer.At.TheVariants.{Root as AtRoot, Source as AtSource, Inner as AtInner, Notifier as AtNotifier}
@@ -38,6 +38,6 @@ module _ (base : Kept) {T : Type 0} (g : Ghosts T) (h : List Event) (tree : Tree
 
   pub placed_at : (at : At) → is_there tree.nodes (key_above at) ≡ true → IsPlaced tree.nodes (length h) (Open (place_of at) kind) (key_above at)
   placed_at AtRoot there = record { makes = refl; named = refl; lower = tt; there = tt }
-  placed_at (AtSource k) there = record { makes = refl; named = refl; lower = is_lower (tree_key_of k) there; there = there }
-  placed_at (AtInner k) there = record { makes = refl; named = refl; lower = is_lower (tree_key_of k) there; there = there }
-  placed_at (AtNotifier k) there = record { makes = refl; named = refl; lower = is_lower (tree_key_of k) there; there = there }
+  placed_at (AtSource k) there = record { makes = refl; named = refl; lower = is_lower k there; there = there }
+  placed_at (AtInner k) there = record { makes = refl; named = refl; lower = is_lower k there; there = there }
+  placed_at (AtNotifier k) there = record { makes = refl; named = refl; lower = is_lower k there; there = there }

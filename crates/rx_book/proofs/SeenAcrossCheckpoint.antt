@@ -1,11 +1,11 @@
 -- What callers see of a ground before a checkpoint and after it.
 use Rattle.rx_book.proofs.Common.{◌≡◌, ℕ, None, Ok, Err, List, map, ap, length, Ghosts, shown, base_of, Agree, Refusal, first_cause, IsRefusal, Slots, Tree}
 use Rattle.rx_book.proofs.Common.{checkpoint_causes, Ground, held_in, waiting_in, label_in, IsCheckpoint, IsStanding, Checkpoints, AnswersCheckpoint, State}
-use Rattle.rx_book.proofs.Common.{key_shown, state_of, keys_of, res_keys_of, lease_keys_of}
+use Rattle.rx_book.proofs.Common.{state_of, keys_of, res_keys_of, lease_keys_of}
 use Rattle.rx_event.proofs.Laws.Checkpoints.{kept_agrees}
 use Rattle.rx_register.specs.State.{IsPromised as IsRegisterPromised}
 use Rattle.rx_slots.specs.declared.Key.{Key}
-use Rattle.rx_tree.specs.declared.node.ResKey.{ResKey as TreeResKey}
+use Rattle.rx_tree.specs.declared.node.ResKey.{ResKey}
 
 pub checkpointed : {T : Type 0} (g : Ghosts T) (old new : Ground T) → IsRegisterPromised old.register → IsStanding g old →
     first_cause (checkpoint_causes old.register.history old.register.given) ≡ None → IsCheckpoint old new → Checkpoints (state_of g old) (state_of g new)
@@ -17,11 +17,11 @@ checkpointed {T = T} g old new promised standing no_cause checkpoint = record {
   limit = checkpoint.register.limit;
   keys = ap (λ (t : Tree T). keys_of t) checkpoint.tree;
   res_keys = ap (λ (t : Tree T). res_keys_of t) checkpoint.tree;
-  lease_keys = ap (λ (ls : Slots TreeResKey). lease_keys_of ls) checkpoint.leases;
+  lease_keys = ap (λ (ls : Slots ResKey). lease_keys_of ls) checkpoint.leases;
   held = ap (λ (t : Tree T). map (label_in g) (held_in t)) checkpoint.tree;
   waiting = ap (λ (t : Tree T). map (label_in g) (waiting_in t)) checkpoint.tree;
   given = checkpoint.register.given;
-  closed = ap (λ (keys : List Key). map key_shown keys) checkpoint.closed;
+  closed = checkpoint.closed;
 }
   where
     agree : Agree old.register.base old.register.history (base_of old.register.base old.register.history)

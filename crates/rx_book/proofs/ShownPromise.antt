@@ -3,10 +3,9 @@ use Rattle.rx_book.proofs.Common.{◌≡◌, ℕ, ◌+◌, Bool, true, List, [],
 use Rattle.rx_book.proofs.Common.{option_and_then, length-map, All-map, Ghosts, is_auto_hub, at, is_open, open_subscribers, IsSettled, IsLawful, is_out, Node}
 use Rattle.rx_book.proofs.Common.{is_held, is_waiting, accepted_count, taken_count, accepted_count-parts, notes_grammatical, one_where_subscribed, Slots, Key}
 use Rattle.rx_book.proofs.Common.{Stowed, AreApart, has_connection, Ground, held_in, waiting_in, label_in, IsStored, IsStanding, just_waiting, length-waiting}
-use Rattle.rx_book.proofs.Common.{ResKey, LeaseKey, IsPromised, IsLabelOf, AreJust, accepted_tag, has_subscriber, key_shown, state_of, All-members}
+use Rattle.rx_book.proofs.Common.{ResKey, LeaseKey, IsPromised, IsLabelOf, AreJust, accepted_tag, has_subscriber, state_of, All-members}
 use Rattle.rx_event.specs.Kept.{Kept as Base}
 use Rattle.rx_event.proofs.Laws.Hubs.{one_open_connection, unsubscribed_unconnected}
-use Rattle.rx_tree.specs.declared.node.ResKey.{ResKey as TreeResKey}
 use Rattle.rx_tree.specs.Tree.{IsPromised as IsTreePromised}
 use Rattle.rx_register.specs.State.{IsPromised as IsRegisterPromised}
 use Rattle.rx_ground.specs.Shown.{Label, Kept, kept_in}
@@ -63,7 +62,7 @@ module _ {T : Type 0} (g : Ghosts T) where
     held_numbers : ListsJust (is_held h) (numbers (held_in b.tree))
     held_numbers = just_held b.register.base g h b.tree standing.tied.of_tree register.lawful tree.resources_apart
 
-    abbrev lease_shown : Kept TreeResKey → LeaseKey
+    abbrev lease_shown : Kept ResKey → LeaseKey
     lease_shown k = record { slot = k.key.slot; number = k.key.number }
 
     out_numbers : ListsJust (is_out h) (numbers (kept_in b.leases))
@@ -87,7 +86,7 @@ module _ {T : Type 0} (g : Ghosts T) where
       settled = standing.settled;
       shared = shared b.register.base h register.lawful standing.settled;
       one_connection = one_open_connection b.register.base h register.lawful;
-      keys = shown_just (is_open h) (λ (k : Kept Node). key_shown k.key) (λ (k : Key). k.number) (λ k. refl) (kept_in b.tree.nodes) open_numbers;
+      keys = shown_just (is_open h) (λ (k : Kept Node). k.key) (λ (k : Key). k.number) (λ k. refl) (kept_in b.tree.nodes) open_numbers;
       res_keys = shown_just (is_held h) held_key (λ (k : ResKey). k.number) (λ k. refl) (held_in b.tree) held_numbers;
       lease_keys = shown_just (is_out h) lease_shown (λ (k : LeaseKey). k.number) (λ k. refl) (kept_in b.leases) out_numbers;
       held = shown_just (is_held h) (label_in g) (λ (l : Label). l.number) (λ k. refl) (held_in b.tree) held_numbers;

@@ -2,7 +2,7 @@
 -- the answer.
 use Rattle.std.specs.Prelude.{◌≡◌, ℕ, ◌+◌, ◌<◌, Bool, true, false, Option, Some, None, List, [], length, map, option_map, IsTrue, if◌then◌else◌}
 use Rattle.std.specs.Prelude.{Result, IfOk, IfErr, OnOk, OnErr, IfSome, IfNone, MatchOption, ⊤}
-use Rattle.std.specs.List.{Contains}
+use Rattle.std.specs.List.{AllPairs, Contains}
 use Rattle.rx_resource.specs.declared.Resource.{Ghosts}
 use Rattle.rx_event.specs.declared.refusal.Refusal.{Refusal}
 use Rattle.rx_event.specs.declared.event.Event.{Event}
@@ -10,15 +10,16 @@ use Rattle.rx_event.specs.declared.event.Event.TheVariants.{Connect}
 use Rattle.rx_event.specs.Tree.{at}
 use Rattle.rx_event.specs.Calls.{IsStepOf}
 use Rattle.rx_event.specs.Refusals.{first_cause, IsRefusal}
-use Rattle.rx_ground.specs.Gone.{goes}
+use Rattle.rx_event.specs.Gone.{goes, AreJust}
+use Rattle.rx_ground.specs.Gone.{GoesFirst}
 use Rattle.rx_ground.specs.Shown.{label_of}
-use Rattle.rx_book.specs.declared.key.Key.{Key}
-use Rattle.rx_book.specs.declared.key.ResKey.{ResKey}
-use Rattle.rx_book.specs.declared.key.LeaseKey.{LeaseKey}
+use Rattle.rx_slots.specs.declared.Key.{Key}
+use Rattle.rx_tree.specs.declared.node.ResKey.{ResKey}
+use Rattle.rx_ground.specs.declared.leases.LeaseKey.{LeaseKey}
 use Rattle.rx_book.specs.declared.answer.Opened.{Opened}
 use Rattle.rx_book.specs.declared.answer.OpenedUsing.{OpenedUsing}
 use Rattle.rx_book.specs.declared.answer.Refused.{Refused}
-use Rattle.rx_book.specs.State.{State, AreJust, has_key, has_res_key, has_lease_key}
+use Rattle.rx_book.specs.State.{State, has_key, has_res_key, has_lease_key}
 use Rattle.rx_book.specs.Requests.{Request, stands, take_request}
 
 abbrev pub makes_connection : Event → Bool
@@ -30,7 +31,8 @@ abbrev pub connection_made : List Event → List Event → Option ℕ
 connection_made old new = if at makes_connection new (length old + 1) then Some (length old + 1) else None
 
 -- an accepted call: no cause stood against it, the history goes on by a step of that call, the base, the limit, the notes handed out
--- and the keys of all that is still there are as before, and the list of what was closed has just the nodes that went with it, each once
+-- and the keys of all that is still there are as before, and the list of what was closed has just the nodes that went with it, each once,
+-- under the key that it had, and in the order in which they went
 pub record Accepts (old : State) (asked : Request) (new : State) : Type 0 where
   pub no_cause : first_cause (stands old asked) ≡ None
   pub base : new.base ≡ old.base
@@ -41,6 +43,8 @@ pub record Accepts (old : State) (asked : Request) (new : State) : Type 0 where
   pub res_keys : (k : ResKey) → Contains new.res_keys k → k.number < length old.history → Contains old.res_keys k
   pub lease_keys : (k : LeaseKey) → Contains new.lease_keys k → k.number < length old.history → Contains old.lease_keys k
   pub closed : AreJust (goes old.history new.history) (map (λ k. k.number) new.closed)
+  pub closed_keys : (k : Key) → Contains new.closed k → k.number < length old.history → Contains old.keys k
+  pub closed_order : AllPairs (GoesFirst new.history) (map (λ k. k.number) new.closed)
 
 -- refusals ----------------------------------------------------------------------------------------
 

@@ -1,7 +1,7 @@
 -- What several calls of a book come to, one after another.
 use Rattle.std.specs.Prelude.{◌≡◌, ℤ, ◌<◌, Bool, true, false, ◌++◌, ◌∷◌, List, [], length, take, slice_get, Some, IfSome, IfNone}
 use Rattle.rx_event.specs.Calls.{Call, GivingBack, Disposing, Disconnecting}
-use Rattle.rx_book.specs.declared.key.Key.{Key}
+use Rattle.rx_slots.specs.declared.Key.{Key}
 use Rattle.rx_book.specs.declared.ending.Emitted.{Emitted}
 use Rattle.rx_book.specs.State.{State, IsPromised}
 use Rattle.rx_book.specs.Requests.{Request, next_request}

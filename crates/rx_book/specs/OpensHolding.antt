@@ -1,5 +1,6 @@
 -- What is asked by an opening of a node that holds a resource from then on, and what it answers: it is an opening, and then a holding.
 use Rattle.std.specs.Prelude.{◌≡◌, ◌+◌, ◌≤◌, ◌<◌, Bool, None, Result, IfOk, IfErr, OnErr, [], ◌∷◌, ◌++◌, length, map}
+use Rattle.std.specs.List.{AllPairs, Contains}
 use Rattle.rx_resource.specs.declared.Resource.{Ghosts}
 use Rattle.rx_event.specs.declared.event.Kind.{Kind}
 use Rattle.rx_event.specs.declared.event.Event.TheVariants.{Accept}
@@ -9,12 +10,14 @@ use Rattle.rx_event.specs.Calls.{Opening}
 use Rattle.rx_event.specs.Refusals.{first_cause, IsRefusal}
 use Rattle.rx_event.specs.Totals.{debt}
 use Rattle.rx_ground.specs.OpeningHolding.{opening_holding_causes}
-use Rattle.rx_ground.specs.Gone.{goes}
+use Rattle.rx_event.specs.Gone.{goes, AreJust}
+use Rattle.rx_slots.specs.declared.Key.{Key}
+use Rattle.rx_ground.specs.Gone.{GoesFirst}
 use Rattle.rx_ground.specs.Shown.{Ground}
 use Rattle.rx_book.specs.declared.answer.At.{At}
 use Rattle.rx_book.specs.declared.answer.OpenedHolding.{OpenedHolding}
 use Rattle.rx_book.specs.declared.answer.Refused.{Refused}
-use Rattle.rx_book.specs.State.{State, AreJust}
+use Rattle.rx_book.specs.State.{State}
 use Rattle.rx_book.specs.Requests.{place_of, is_known_place, is_fresh_in, open_request, hold_request}
 use Rattle.rx_book.specs.Answers.{Accepts, IsOpened, IsNewResKey}
 use Rattle.rx_book.specs.Shown.{state_of}
@@ -35,6 +38,8 @@ module _ {T : Type 0} where
     pub last : new.history ≡ middle.history ++ Accept o.opened.key.number (g.tag_of x) ∷ []
     pub keys : new.keys ≡ middle.keys
     pub closed : AreJust (goes old.history new.history) (map (λ k. k.number) new.closed)
+    pub closed_keys : (k : Key) → Contains new.closed k → k.number < length old.history → Contains old.keys k
+    pub closed_order : AllPairs (GoesFirst new.history) (map (λ k. k.number) new.closed)
     pub opened : IsOpened old new o.opened
     pub res : IsNewResKey new (length middle.history) o.res
 

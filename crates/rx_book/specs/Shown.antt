@@ -1,43 +1,20 @@
 -- What callers of a book see of its register, its tree and its leases.
 use Rattle.std.specs.Prelude.{List, map}
 use Rattle.rx_resource.specs.declared.Resource.{Ghosts}
-use Rattle.rx_slots.specs.declared.Key.{Key as TreeKey}
-use Rattle.rx_tree.specs.declared.node.ResKey.{ResKey as TreeResKey}
+use Rattle.rx_slots.specs.declared.Key.{Key}
 use Rattle.rx_slots.specs.Slots.{Slots}
-use Rattle.rx_ground.specs.declared.leases.LeaseKey.{LeaseKey as GroundLeaseKey}
+use Rattle.rx_tree.specs.declared.node.ResKey.{ResKey}
 use Rattle.rx_tree.specs.Tree.{Tree}
+use Rattle.rx_ground.specs.declared.leases.LeaseKey.{LeaseKey}
 use Rattle.rx_ground.specs.Shown.{Ground as Base, kept_in, held_in, waiting_in, label_in}
-use Rattle.rx_book.specs.declared.key.Key.{Key}
-use Rattle.rx_book.specs.declared.key.ResKey.{ResKey}
-use Rattle.rx_book.specs.declared.key.LeaseKey.{LeaseKey}
 use Rattle.rx_book.specs.State.{State}
 
--- the key of a record, as the tree has it
-abbrev pub tree_key_of : Key → TreeKey
-tree_key_of k = record { slot = k.slot; number = k.number }
-
-abbrev pub tree_res_key_of : ResKey → TreeResKey
-tree_res_key_of k = record { slot = k.slot; number = k.number }
-
-abbrev pub ground_lease_key_of : LeaseKey → GroundLeaseKey
-ground_lease_key_of k = record { slot = k.slot; number = k.number }
-
--- and as callers have it
-abbrev pub key_shown : TreeKey → Key
-key_shown k = record { slot = k.slot; number = k.number }
-
-abbrev pub res_key_shown : TreeResKey → ResKey
-res_key_shown k = record { slot = k.slot; number = k.number }
-
-abbrev pub lease_key_shown : GroundLeaseKey → LeaseKey
-lease_key_shown k = record { slot = k.slot; number = k.number }
-
-abbrev pub lease_keys_of : Slots TreeResKey → List LeaseKey
+abbrev pub lease_keys_of : Slots ResKey → List LeaseKey
 lease_keys_of leases = map (λ k. record { slot = k.key.slot; number = k.key.number }) (kept_in leases)
 
 module _ {T : Type 0} where
   abbrev pub keys_of : Tree T → List Key
-  keys_of tree = map (λ k. key_shown k.key) (kept_in tree.nodes)
+  keys_of tree = map (λ k. k.key) (kept_in tree.nodes)
 
   abbrev pub res_keys_of : Tree T → List ResKey
   res_keys_of tree = map (λ k. record { slot = k.key.slot; number = k.key.number }) (held_in tree)
@@ -54,5 +31,5 @@ module _ {T : Type 0} where
     held = map (label_in g) (held_in b.tree);
     waiting = map (label_in g) (waiting_in b.tree);
     given = b.register.given;
-    closed = map key_shown b.closed;
+    closed = b.closed;
   }

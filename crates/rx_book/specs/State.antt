@@ -1,7 +1,7 @@
 -- What a book is to its callers.
-use Rattle.std.specs.Prelude.{◌≡◌, ◌≢◌, ℕ, ◌+◌, ◌<◌, ◌≤◌, Bool, nat_lt, ◌&&◌, ◌==◌, Option, Some, None, List, length, map, IsTrue}
+use Rattle.std.specs.Prelude.{◌≡◌, ℕ, ◌+◌, ◌<◌, ◌≤◌, Bool, nat_lt, ◌&&◌, ◌==◌, Option, Some, None, List, length, map, IsTrue}
 use Rattle.std.proofs.Math.Bool.{not}
-use Rattle.std.specs.List.{All, AllPairs, Contains, list_any}
+use Rattle.std.specs.List.{All, Contains, list_any}
 use Rattle.std.specs.Option.{option_and_then}
 use Rattle.rx_note.specs.Notes.{IsGrammatical}
 use Rattle.rx_resource.specs.declared.Life.TheVariants.{Live}
@@ -14,12 +14,13 @@ use Rattle.rx_event.specs.Resources.{is_out, is_held, is_waiting, accepted_by, u
 use Rattle.rx_event.specs.Notes.{notes, notes_to}
 use Rattle.rx_event.specs.Totals.{debt, item_count, accepted_count, taken_count}
 use Rattle.rx_event.specs.Lawful.{IsLawful}
+use Rattle.rx_event.specs.Gone.{AreJust}
 use Rattle.rx_event.specs.Forced.{IsSettled}
 use Rattle.rx_event.specs.Causes.{has_connection}
 use Rattle.rx_ground.specs.Shown.{Label}
-use Rattle.rx_book.specs.declared.key.Key.{Key}
-use Rattle.rx_book.specs.declared.key.ResKey.{ResKey}
-use Rattle.rx_book.specs.declared.key.LeaseKey.{LeaseKey}
+use Rattle.rx_slots.specs.declared.Key.{Key}
+use Rattle.rx_tree.specs.declared.node.ResKey.{ResKey}
+use Rattle.rx_ground.specs.declared.leases.LeaseKey.{LeaseKey}
 
 -- a book: what a checkpoint kept, the history as one list with it, the limit on the events since, the keys of the open nodes, of the
 -- held resources and of the leases out, the resources held and those waiting, how many notes were handed out, and the keys of the
@@ -44,12 +45,6 @@ has_res_key keys k = list_any (λ j. j.slot == k.slot && j.number == k.number) k
 
 abbrev pub has_lease_key : List LeaseKey → LeaseKey → Bool
 has_lease_key keys k = list_any (λ j. j.slot == k.slot && j.number == k.number) keys
-
--- the numbers of the list are those that pass the test, each once
-pub record AreJust (test : ℕ → Bool) (numbers : List ℕ) : Type 0 where
-  pub each : All (λ n. IsTrue (test n)) numbers
-  pub every : (n : ℕ) → IsTrue (test n) → Contains numbers n
-  pub once : AllPairs (λ m n. m ≢ n) numbers
 
 -- the tag that the event accepts a resource with
 abbrev pub accepted_tag : Event → Option ℕ

@@ -1,20 +1,18 @@
 -- When a call is let in, and what it writes before what that forces. No public clause cites this module.
-use Rattle.std.specs.Prelude.{◌≡◌, ◌<◌, ◌+◌, ◌≤◌, Option, None, length, IsSome, IfSome, []}
+use Rattle.std.specs.Prelude.{◌≡◌, ◌+◌, ◌≤◌, Option, None, length, IfSome, []}
 use Rattle.rx_resource.specs.declared.Resource.{Ghosts}
 use Rattle.rx_event.specs.declared.refusal.Refusal.{Refusal}
 use Rattle.rx_event.specs.Calls.{Call, outside_of}
 use Rattle.rx_event.specs.Refusals.{first_cause}
 use Rattle.rx_event.specs.Totals.{debt}
-use Rattle.rx_slots.specs.declared.Key.{Key}
-use Rattle.rx_slots.specs.Slots.{find}
-use Rattle.rx_register.specs.State.{Writes, IsPromised}
+use Rattle.rx_register.specs.State.{IsPromised}
 use Rattle.rx_register.specs.Paid.{HasRoomFor}
 use Rattle.rx_register.specs.Claims.{MayCall}
 use Rattle.rx_ground.specs.declared.base.Wanted.{Wanted}
 use Rattle.rx_ground.specs.Costs.{cost_of}
-use Rattle.rx_ground.specs.Gone.{Gathers}
 use Rattle.rx_ground.specs.Shown.{Ground}
-use Rattle.rx_ground.specs.Ties.{IsStanding, IsRoomier, HasRoomBeside, AreTied, AreLeased, KeepsHeld, KeepsLeases}
+use Rattle.rx_ground.specs.Ties.{IsStanding, IsRoomier, HasRoomBeside}
+use Rattle.rx_ground.specs.Wrote.{Wrote}
 use Rattle.rx_book.specs.Requests.{Request, stands}
 use Rattle.rx_book.specs.Shown.{state_of}
 
@@ -45,12 +43,6 @@ module _ {T : Type 0} where
     pub let_in : IsLetIn g b asked
     pub room : HasRoomBeside b (cost_of b.register.history asked.call)
 
-  -- the call's events are written, of what is older only what was there is there, and the list went on with what was closed
-  pub record IsWritten (g : Ghosts T) (old : Ground T) (call : Call) (new : Ground T) : Type 0 where
-    pub written : Writes old.register (outside_of old.register.history call) new.register
-    pub tied : AreTied new.register.base g new.register.history new.tree new.hubs
-    pub leased : AreLeased new.register.history new.tree.resources new.leases
-    pub nodes : (key : Key) → IsSome (find new.tree.nodes key) → key.number < length old.register.history → IsSome (find old.tree.nodes key)
-    pub held : KeepsHeld old.tree new.tree (length old.register.history)
-    pub leases : KeepsLeases old.leases new.leases (length old.register.history)
-    pub closed : Gathers old.register.history old.closed new.register.history new.closed
+  -- the call's events are written
+  abbrev pub IsWritten : Ghosts T → Ground T → Call → Ground T → Type 0
+  IsWritten g old call new = Wrote g old (outside_of old.register.history call) new

@@ -1,7 +1,8 @@
 //! What calls of the book are asked and answer.
 
-use crate::key::{Key, LeaseKey, ResKey};
 use rx_event::Refusal;
+use rx_ground::LeaseKey;
+use rx_tree::{Key, ResKey};
 
 /// Where a node is to be opened, by the key of the node above it.
 #[derive(Clone, Copy, Debug, PartialEq, Eq)]

@@ -14,10 +14,10 @@ ghost use Rattle.rx_event.specs.Resources.{is_out};
 ghost use Rattle.rx_book.specs.State.{IsPromised, has_key, has_res_key, has_lease_key};
 ghost use Rattle.rx_event.specs.Claims.Closing.{is_open_root};
 
-use crate::key::{Key, LeaseKey, ResKey, shown_key, shown_lease_key, tree_key, tree_res_key};
 use rx_event::{Event, Mail};
-use rx_ground::Ground;
+use rx_ground::{Ground, LeaseKey};
 use rx_resource::Resource;
+use rx_tree::{Key, ResKey};
 use std::alloc::Global;
 use std::marker::Model;
 
@@ -109,8 +109,7 @@ impl<R: Resource> Book<R> {
     pub fn nth_closed(&self, n: usize) -> Option<Key>
         ensures { result ≡ slice_get self.now.closed n }
     {
-        let closed = self.ground.nth_closed(n)?;
-        Some(shown_key(closed))
+        self.ground.nth_closed(n)
     }
 
     /// How many nodes are open.
@@ -139,8 +138,7 @@ impl<R: Resource> Book<R> {
         ensures least { option_map (λ k. k.number) result ≡ find (is_out self.now.history) (places self.now.history) }
         ensures key { IfSome result (λ k. IsTrue (has_lease_key self.now.lease_keys k)) }
     {
-        let lease = self.ground.first_lease()?;
-        Some(shown_lease_key(lease))
+        self.ground.first_lease()
     }
 
     /// How many resources wait for their release.
@@ -189,14 +187,14 @@ impl<R: Resource> Book<R> {
     pub fn is_open(&self, node: Key) -> bool
         ensures { result ≡ has_key self.now.keys node }
     {
-        self.ground.contains(tree_key(node))
+        self.ground.contains(node)
     }
 
     /// Whether the key is a held resource's.
     pub fn is_held(&self, res: ResKey) -> bool
         ensures { result ≡ has_res_key self.now.res_keys res }
     {
-        self.ground.holds(tree_res_key(res))
+        self.ground.holds(res)
     }
 
     /// How many of the items that were projected to an open FlatMap or Switch were neither given an inner
@@ -206,7 +204,7 @@ impl<R: Resource> Book<R> {
         ensures { result ≡ (if has_key self.now.keys merging && at is_merging self.now.history merging.number
             then Some (owed self.now.base self.now.history merging.number) else None) }
     {
-        self.ground.owed(tree_key(merging))
+        self.ground.owed(merging)
     }
 
     /// The key of the open root of least number.
@@ -214,7 +212,6 @@ impl<R: Resource> Book<R> {
         ensures least { option_map (λ k. k.number) result ≡ find (is_open_root self.now.history) (places self.now.history) }
         ensures key { IfSome result (λ k. IsTrue (has_key self.now.keys k)) }
     {
-        let root = self.ground.first_root()?;
-        Some(shown_key(root))
+        self.ground.first_root()
     }
 }

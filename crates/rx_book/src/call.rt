@@ -16,13 +16,10 @@ ghost use Rattle.rx_book.specs.Steps.{IsLetIn, IsAdmitted, IsWritten};
 use crate::Book;
 use crate::admit::admit;
 use crate::answer::{Answer, At};
-use crate::key::{
-    Key, LeaseKey, ResKey, ground_lease_key, shown_key, shown_lease_key, tree_key, tree_res_key,
-};
 use rx_event::{Kind, Mode, Refusal, Terminal};
-use rx_ground::{Ground, Wanted};
+use rx_ground::{Ground, LeaseKey, Wanted};
 use rx_resource::Resource;
-use rx_tree::Key as TreeKey;
+use rx_tree::{Key, ResKey};
 
 /// What a call asks for that brings no resource: each is the method of its name, whose refusals it has.
 #[derive(Clone, Copy, Debug)]
@@ -61,7 +58,7 @@ pub enum Call {
 // calls that take no memory stay so small that they are inlined.
 #[cold]
 #[inline(never)]
-fn aborting_cause<R: Resource>(ground: &Ground<R>, node: TreeKey, code: u32) -> Option<Refusal>
+fn aborting_cause<R: Resource>(ground: &Ground<R>, node: Key, code: u32) -> Option<Refusal>
     requires standing { IsStanding R.Resource ground.now }
     ensures { result ≡ first_at ground.now node (Aborting node.number code) }
 {
@@ -70,7 +67,7 @@ fn aborting_cause<R: Resource>(ground: &Ground<R>, node: TreeKey, code: u32) -> 
 
 #[cold]
 #[inline(never)]
-fn failing_cause<R: Resource>(ground: &Ground<R>, merging: TreeKey, code: u32) -> Option<Refusal>
+fn failing_cause<R: Resource>(ground: &Ground<R>, merging: Key, code: u32) -> Option<Refusal>
     requires standing { IsStanding R.Resource ground.now }
     ensures { result ≡ first_at ground.now merging (Failing merging.number code) }
 {
@@ -86,13 +83,13 @@ fn cause_free<R: Resource>(ground: &Ground<R>, call: Call) -> Option<Refusal>
         first_cause (stands (state_of R.Resource ground.now) (request_of (state_of R.Resource ground.now) call)) }
 {
     match call {
-        Call::End(leaf, terminal) => ground.ending_cause(tree_key(leaf), terminal),
-        Call::Abort(node, code) => aborting_cause(ground, tree_key(node), code),
-        Call::Decline(merging) => ground.declining_cause(tree_key(merging)),
-        Call::Fail(merging, code) => failing_cause(ground, tree_key(merging), code),
-        Call::Dispose(root) => ground.disposing_cause(tree_key(root)),
-        Call::Remove(res) => ground.removing_cause(tree_res_key(res)),
-        Call::GiveBack(lease) => ground.returning_cause(ground_lease_key(lease)),
+        Call::End(leaf, terminal) => ground.ending_cause(leaf, terminal),
+        Call::Abort(node, code) => aborting_cause(ground, node, code),
+        Call::Decline(merging) => ground.declining_cause(merging),
+        Call::Fail(merging, code) => failing_cause(ground, merging, code),
+        Call::Dispose(root) => ground.disposing_cause(root),
+        Call::Remove(res) => ground.removing_cause(res),
+        Call::GiveBack(lease) => ground.returning_cause(lease),
         Call::Disconnect(hub) => ground.disconnecting_cause(hub),
         _ => unreachable!(),
     }
@@ -107,17 +104,17 @@ fn write_free<R: Resource>(ground: &mut Ground<R>, call: Call)
     ensures { IsWritten R.Resource ground.old (request_of (state_of R.Resource ground.old) call).call ground.new }
 {
     match call {
-        Call::End(leaf, terminal) => ground.write_end(tree_key(leaf), terminal),
-        Call::Abort(node, code) => ground.write_end(tree_key(node), Terminal::Error(code)),
-        Call::Decline(merging) => ground.write_decline(tree_key(merging)),
-        Call::Fail(merging, code) => ground.write_end(tree_key(merging), Terminal::Error(code)),
-        Call::Dispose(root) => ground.write_close(tree_key(root)),
+        Call::End(leaf, terminal) => ground.write_end(leaf, terminal),
+        Call::Abort(node, code) => ground.write_end(node, Terminal::Error(code)),
+        Call::Decline(merging) => ground.write_decline(merging),
+        Call::Fail(merging, code) => ground.write_end(merging, Terminal::Error(code)),
+        Call::Dispose(root) => ground.write_close(root),
         Call::Disconnect(hub) => match ground.connection(hub) {
             Some(connection) => ground.write_close(connection),
             None => unreachable!(),
         },
-        Call::Remove(res) => ground.write_remove(tree_res_key(res)),
-        Call::GiveBack(lease) => ground.write_return(ground_lease_key(lease)),
+        Call::Remove(res) => ground.write_remove(res),
+        Call::GiveBack(lease) => ground.write_return(lease),
         _ => unreachable!(),
     }
 }
@@ -131,8 +128,8 @@ fn cause<R: Resource>(ground: &Ground<R>, call: Call) -> Option<Refusal>
         first_cause (stands (state_of R.Resource ground.now) (request_of (state_of R.Resource ground.now) call)) }
 {
     match call {
-        Call::Apply(res, _) => ground.applying_cause(tree_res_key(res)),
-        Call::Lease(res) => ground.leasing_cause(tree_res_key(res)),
+        Call::Apply(res, _) => ground.applying_cause(res),
+        Call::Lease(res) => ground.leasing_cause(res),
         Call::Hub(mode) => ground.publishing_cause(mode),
         Call::Connect(hub) => ground.connecting_cause(hub),
         _ => unreachable!(),
@@ -165,12 +162,10 @@ fn write<R: Resource>(ground: &mut Ground<R>, call: Call) -> Answer
     ensures gives { gives (state_of R.Resource ground.old) call (state_of R.Resource ground.new) result }
 {
     match call {
-        Call::Apply(res, word) => Answer::Word(ground.write_use(tree_res_key(res), word)),
-        Call::Lease(res) => {
-            Answer::Leased(shown_lease_key(ground.write_lease(tree_res_key(res))))
-        }
+        Call::Apply(res, word) => Answer::Word(ground.write_use(res, word)),
+        Call::Lease(res) => { Answer::Leased(ground.write_lease(res)) }
         Call::Hub(mode) => Answer::Place(ground.write_hub(mode)),
-        Call::Connect(hub) => Answer::Connected(shown_key(ground.write_connect(hub))),
+        Call::Connect(hub) => Answer::Connected(ground.write_connect(hub)),
         _ => unreachable!(),
     }
 }

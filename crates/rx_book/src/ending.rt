@@ -1,18 +1,21 @@
 //! Items, ends and unsubscriptions.
 
-ghost use Rattle.std.specs.Prelude.{◌≡◌, ◌<◌, Some, length, slice_get};
+ghost use Rattle.std.specs.Prelude.{◌≡◌, ◌<◌, Some, None, length, slice_get, IfOk, IfErr, OnOk};
+ghost use Rattle.rx_event.specs.declared.event.Event.{Event};
+ghost use Rattle.rx_event.specs.Notes.{mail_of};
+ghost use Rattle.rx_event.specs.Refusals.{first_cause};
 ghost use Rattle.rx_book.specs.Requests.{next_request, end_request, abort_request, dispose_request};
-ghost use Rattle.rx_book.specs.Requests.{decline_request, fail_request};
-ghost use Rattle.rx_book.specs.Answers.{AnswersPlace, AnswersPlaceOrWant};
+ghost use Rattle.rx_book.specs.Requests.{decline_request, fail_request, stands};
+ghost use Rattle.rx_book.specs.Answers.{AnswersPlace, AnswersPlaceOrWant, IsCause};
 ghost use Rattle.rx_book.specs.Courses.{EmitsAll};
 
 use crate::Book;
 use crate::admit::admit;
 use crate::call::Call;
-use crate::key::{Key, tree_key};
 use rx_event::{Refusal, Terminal};
 use rx_ground::Wanted;
 use rx_resource::Resource;
+use rx_tree::Key;
 
 /// How many of several items were emitted, and why the next one was refused, where one was.
 #[derive(Clone, Copy, Debug, PartialEq, Eq)]
@@ -42,12 +45,24 @@ impl<R: Resource> Book<R> {
     pub fn next(&mut self, leaf: Key, value: i64) -> Result<u64, Refusal>
         ensures { AnswersPlaceOrWant self.old (next_request self.old leaf value) self.new result }
     {
-        let way = self.ground.route(tree_key(leaf), value)?;
+        let way = self.ground.route(leaf, value)?;
         admit(&mut self.ground, None, Some(Wanted::of_item(way.reach)))?;
         let place = self.ground.len();
-        self.ground.write_item(tree_key(leaf), value, way);
+        self.ground.write_item(leaf, value, way);
         self.ground.settle();
         Ok(place)
+    }
+
+    /// How many notes an item of this leaf comes to by itself, the ends that it forces not counted; or what stands
+    /// against it, as [`Book::next`] says. Nothing changes.
+    pub fn notes_of(&mut self, leaf: Key, value: i64) -> Result<u64, Refusal>
+        ensures kept { self.new ≡ self.old }
+        ensures ok { IfOk result (λ n. n ≡ length (mail_of self.old.history (Event.Item leaf.number value))) }
+        ensures none { OnOk result (first_cause (stands self.old (next_request self.old leaf value)) ≡ None) }
+        ensures refused { IfErr result (IsCause self.old (next_request self.old leaf value)) }
+    {
+        let way = self.ground.route(leaf, value)?;
+        Ok(way.reach.notes)
     }
 
     /// A leaf emits several items, one after another, up to the first that is refused: as so many calls of

@@ -8,10 +8,10 @@ use crate::Book;
 use crate::admit::admit;
 use crate::answer::{Answer, Refused};
 use crate::call::Call;
-use crate::key::{Key, ResKey, shown_res_key, tree_key};
 use rx_event::Refusal;
 use rx_ground::Wanted;
 use rx_resource::{Handed, Life, Resource};
+use rx_tree::{Key, ResKey};
 
 /// Whether a resource was neither released nor used.
 pub(crate) fn is_fresh<R: Resource>(resource: &R) -> bool
@@ -30,16 +30,16 @@ impl<R: Resource> Book<R> {
     {
         let tag = resource.tag();
         let fresh = is_fresh(&resource);
-        let cause = self.ground.holding_cause(tree_key(node), tag, fresh);
+        let cause = self.ground.holding_cause(node, tag, fresh);
         if let Err(why) = admit(&mut self.ground, cause, Some(Wanted::of_holding())) {
             return Err(Refused {
                 why,
                 back: resource,
             });
         }
-        let res = self.ground.write_accept(tree_key(node), resource);
+        let res = self.ground.write_accept(node, resource);
         self.ground.settle();
-        Ok(shown_res_key(res))
+        Ok(res)
     }
 
     /// Uses a held resource on a word, and answers its word. The resource's `apply` runs inside this

@@ -10,9 +10,9 @@ ghost use Rattle.rx_book.specs.Answers.{AnswersKey, AnswersPlace, AnswersPlaceOr
 use crate::Book;
 use crate::answer::Answer;
 use crate::call::Call;
-use crate::key::Key;
 use rx_event::{Mode, Refusal};
 use rx_resource::Resource;
+use rx_tree::Key;
 
 impl<R: Resource> Book<R> {
     /// Makes a hub, a published observable that its subscribers share (Publish, at reactivex.io): with

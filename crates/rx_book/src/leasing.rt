@@ -6,9 +6,10 @@ ghost use Rattle.rx_book.specs.Answers.{AnswersLeaseKey, AnswersPlace};
 use crate::Book;
 use crate::answer::Answer;
 use crate::call::Call;
-use crate::key::{LeaseKey, ResKey};
 use rx_event::Refusal;
+use rx_ground::LeaseKey;
 use rx_resource::Resource;
+use rx_tree::ResKey;
 
 impl<R: Resource> Book<R> {
     /// Leases a resource to a dependent, and gives the lease's key: until it is given back the resource

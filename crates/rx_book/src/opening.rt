@@ -19,11 +19,11 @@ use crate::Book;
 use crate::admit::admit;
 use crate::answer::{At, Opened, OpenedUsing, Refused};
 use crate::holding::is_fresh;
-use crate::key::{Key, shown_key, shown_res_key};
 use crate::place::spot_of;
 use rx_event::{Kind, Refusal};
 use rx_ground::{Found, Ground, Wanted};
 use rx_resource::Resource;
+use rx_tree::Key;
 
 /// The key of the connection of the hub that such a node subscribes to, where its opening forced one.
 #[inline(always)]
@@ -41,7 +41,11 @@ fn connection_of<R: Resource>(ground: &Ground<R>, kind: Kind, connects: bool) ->
         return None;
     }
     let connection = ground.connection(hub)?;
-    Some(shown_key(connection))
+    // Its fields are written out: an optional key that is copied whole costs each opening nine instructions.
+    Some(Key {
+        slot: connection.slot,
+        number: connection.number,
+    })
 }
 
 /// Opens a node, for which there is room, and does what that forces. Of the room no more is gone than the
@@ -69,7 +73,7 @@ pub(crate) fn write_opening<R: Resource>(
     let key = ground.write_open(spot.place, kind, spot.above, found.index);
     ground.settle();
     Opened {
-        key: shown_key(key),
+        key,
         connected: connection_of(ground, kind, found.connects),
     }
 }
@@ -123,9 +127,6 @@ impl<R: Resource> Book<R> {
             .write_open(spot.place, Kind::Pass, spot.above, 0);
         let res = self.ground.write_accept(node, resource);
         self.ground.settle();
-        Ok(OpenedUsing {
-            key: shown_key(node),
-            res: shown_res_key(res),
-        })
+        Ok(OpenedUsing { key: node, res })
     }
 }

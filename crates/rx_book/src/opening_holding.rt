@@ -3,7 +3,7 @@
 ghost use Rattle.std.specs.Prelude.{◌≡◌, ◌+◌, ◌<◌, ◌≤◌, [], ◌∷◌, ◌++◌, true, length, IsTrue};
 ghost use Rattle.rx_event.specs.declared.event.Event.{Event};
 ghost use Rattle.rx_event.specs.Totals.{debt};
-ghost use Rattle.rx_ground.specs.Gone.{Gathers};
+ghost use Rattle.rx_ground.specs.Gone.{Closes};
 ghost use Rattle.rx_ground.specs.Ties.{IsStanding};
 ghost use Rattle.rx_book.specs.State.{has_key};
 ghost use Rattle.rx_book.specs.Requests.{is_fresh_in, hold_request};
@@ -15,12 +15,12 @@ use crate::Book;
 use crate::admit::admit;
 use crate::answer::{At, OpenedHolding, Refused};
 use crate::holding::is_fresh;
-use crate::key::{Key, ResKey, shown_res_key, tree_key};
 use crate::opening::write_opening;
 use crate::place::spot_of;
 use rx_event::Kind;
 use rx_ground::{Ground, Wanted};
 use rx_resource::Resource;
+use rx_tree::{Key, ResKey};
 
 /// Holds a fresh resource at an open node, for which there is room. It forces nothing, and the list of what was
 /// closed stays.
@@ -35,16 +35,14 @@ fn write_holding<R: Resource>(ground: &mut Ground<R>, node: Key, resource: R) ->
     ensures accepted { Accepts (state_of R.Resource ground.old)
         (hold_request R.Resource (state_of R.Resource ground.old) node resource)
         (record (state_of R.Resource ground.new) { closed = [] }) }
-    ensures closed { Gathers ground.old.register.history ground.old.closed ground.new.register.history
-        ground.new.closed }
+    ensures closed { Closes ground.old ground.new }
     ensures res { IsNewResKey (state_of R.Resource ground.new) (length ground.old.register.history) result }
     ensures history { ground.new.register.history ≡ ground.old.register.history ++
         Event.Accept node.number (R.tag_of resource) ∷ [] }
     ensures nodes { ground.new.tree.nodes ≡ ground.old.tree.nodes }
 {
     ground.promise();
-    let res = ground.write_accept(tree_key(node), resource);
-    shown_res_key(res)
+    ground.write_accept(node, resource)
 }
 
 impl<R: Resource> Book<R> {

@@ -5,7 +5,6 @@ ghost use Rattle.rx_book.specs.Requests.{place_of};
 ghost use Rattle.rx_book.specs.Places.{key_above};
 
 use crate::answer::At;
-use crate::key::tree_key;
 use rx_event::Place;
 use rx_tree::Key;
 
@@ -28,15 +27,15 @@ pub(crate) fn spot_of(at: At) -> Spot
         },
         At::Source(key) => Spot {
             place: Place::Source(key.number),
-            above: Some(tree_key(key)),
+            above: Some(key),
         },
         At::Inner(key) => Spot {
             place: Place::Inner(key.number),
-            above: Some(tree_key(key)),
+            above: Some(key),
         },
         At::Notifier(key) => Spot {
             place: Place::Notifier(key.number),
-            above: Some(tree_key(key)),
+            above: Some(key),
         },
     }
 }

@@ -1,2 +1,3 @@
+pub mod WordsBack
 pub mod Laws
 pub mod Examples

@@ -4,6 +4,7 @@ pub mod Kept
 pub mod Opened
 pub mod Sames
 pub mod Tree
+pub mod Gone
 pub mod Resources
 pub mod Climb
 pub mod Moments
@@ -11,6 +12,7 @@ pub mod Notes
 pub mod Totals
 pub mod Forced
 pub mod Marks
+pub mod MarksInWords
 pub mod Allowed
 pub mod Lawful
 pub mod Calls

@@ -16,6 +16,7 @@
 
 mod base;
 mod event;
+mod flags;
 mod history;
 mod limits;
 mod mail;

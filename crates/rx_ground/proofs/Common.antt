@@ -53,7 +53,9 @@ pub use Rattle.rx_event.specs.declared.refusal.Refusal.TheVariants.{TooMany, Ful
 pub use Rattle.rx_ground.specs.Ties.{IsTied, AreTied, AreLeased, AreRecords, Remarks, HasKey, IsStored, Cuts, IsStanding, KeepsNodes, AreJoined, KeepsOlder}
 pub use Rattle.rx_ground.specs.Ties.{IsNewNode, record_of, AreStored, IsNext, IsReady, IsRoomier, IsUndue, KeepsHeld, KeepsLeases, Moves, SetsAside, is_there}
 pub use Rattle.rx_ground.specs.Ties.{left_inside, opened_marks, HasRoom, HasRoomBeside, HasRoomToConnect, IsLeaseOf, IsListed, WithChain, key_due}
-pub use Rattle.rx_ground.specs.{Checkpoints.IsCheckpoint, Gone.Gathers, Gone.goes, Gone.has_gone, Gone.numbers_of, Memory.TakesNoMemory, Settling.Settles}
+pub use Rattle.rx_event.specs.Gone.{goes, has_gone}
+pub use Rattle.rx_ground.specs.{Checkpoints.IsCheckpoint, Gone.Closes, Gone.Gathers, Gone.GoesFirst, Gone.numbers_of, Memory.TakesNoMemory}
+pub use Rattle.rx_ground.specs.Settling.{Settles}
 pub use Rattle.rx_ground.specs.Inners.{ClearsHubs, HasNoInner, IsInner, MakesWay, ReplacesNone, Exchanges, LeavesHubs, ListsReplaced, ListsWay}
 pub use Rattle.rx_ground.specs.{Leases.lease_key, Leases.is_out_at, Leases.lease_as_kept, Reached.MakesOnly, Reached.IsReach, declared.base.Record.Record}
 pub use Rattle.rx_ground.specs.{LeasesInOrder.AreRising, LeasesInOrder.IsInOrder, LeasesInOrder.number_in, declared.leases.LeaseKey.LeaseKey}

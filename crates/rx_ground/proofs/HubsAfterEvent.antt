@@ -135,70 +135,53 @@ pub connected_after : (h : List Event) (n : ℕ) (key : Key) (hubs : List Hub) �
     hubs_after h (Connect n) key.slot hubs ≡ at_hub n (connected key) hubs
 connected_after h n key hubs of numbered = search (rules, hubs_connected)
 
--- the nodes that this event closes are gone from the hubs, and their connections ended so
-pub record LeavesHubs (h : List Event) (e : Event) (gone : Key → Bool) (ended : Option LastEnd) (hubs later : Hubs) : Type 0 where
-  pub after : hubs_after h e 0 hubs.hubs ≡ map (without_gone gone ended) hubs.hubs
-  pub left : later.hubs ≡ map (without_gone gone ended) hubs.hubs
-
 module _ {T : Type 0} (g : Ghosts T) where
-  -- over the same base
-  pub rebased : {c base : Kept} {h : List Event} {tree : Tree T} {hubs : Hubs} → c ≡ base → AreTied base g h tree hubs → AreTied c g h tree hubs
-  rebased {h = h} {tree = tree} {hubs = hubs} same tied = subst (λ (b : Kept). AreTied b g h tree hubs) (sym same) tied
-
-  -- and over the register on which the events were written
+  -- over the register on which the events were written
   pub tied_written : {es : List Event} {old new : State} {tree : Tree T} {hubs : Hubs} → Writes old es new →
       AreTied old.base g (old.history ++ es) tree hubs → AreTied new.base g new.history tree hubs
-  tied_written {old = old} {tree = tree} {hubs = hubs} w tied =
-      rebased w.base (subst (λ (k : List Event). AreTied old.base g k tree hubs) (sym w.history) tied)
+  tied_written {old = old} {new} {tree = tree} {hubs = hubs} w tied = subst (λ (b : Kept). AreTied b g new.history tree hubs) (sym w.base)
+      (subst (λ (k : List Event). AreTied old.base g k tree hubs) (sym w.history) tied)
 
   -- another tree of the same history with the same nodes, beside the same hubs
   pub tied_beside : (base : Kept) → {h : List Event} {old new : Tree T} {hubs later : Hubs} → later.hubs ≡ hubs.hubs →
       ((key : Key) → IsSome (find old.nodes key) → IsSome (find new.nodes key)) → AreTied base g h old hubs → IsTied base g h new → AreTied base g h new later
   tied_beside base {h = h} {old = old} {new = new} {hubs = hubs} {later = later} same still was tied = search (rules, joined_still)
 
-  -- a tree after one more event, which closes no node and makes none, and no hub
-  pub tied_on : {base : Kept} → {h k : List Event} {old new : Tree T} {hubs : Hubs} {e : Event} → IsLawful base h → MayFollow base h e →
-      AreTied base g h old hubs → k ≡ h ++ e ∷ [] →
-      joins_hubs e ≡ false → shuts_none e ≡ true → ((key : Key) → IsSome (find old.nodes key) → IsSome (find new.nodes key)) →
-      IsTied base g k new → AreTied base g k new hubs
-  tied_on {base} {h = h} {k = k} {old = old} {new = new} {hubs = hubs} {e} law next was grown joins shuts still tied = record {
-    of_tree = tied;
-    published = of;
-    joined = joined_still k old.nodes new.nodes hubs.hubs of (λ key some alive. still key some) was.joined;
-  }
-    where
-      of : AreHubsOf k hubs.hubs
-      of = subst (λ (j : List Event). AreHubsOf j hubs.hubs) (sym grown) (hubs_stay h e hubs.hubs law next was.published joins (closes_none h e shuts))
+  module _ {base : Kept} {h : List Event} {old : Tree T} {hubs : Hubs} {e : Event} (law : IsLawful base h) (next : MayFollow base h e)
+      (was : AreTied base g h old hubs) where
+    -- a tree after one more event, which closes no node and makes none, and no hub
+    pub tied_on : {new : Tree T} → joins_hubs e ≡ false → shuts_none e ≡ true → ((key : Key) → IsSome (find old.nodes key) → IsSome (find new.nodes key)) →
+        IsTied base g (h ++ e ∷ []) new → AreTied base g (h ++ e ∷ []) new hubs
+    tied_on {new} joins shuts still tied =
+        let of = hubs_stay h e hubs.hubs law next was.published joins (closes_none h e shuts) in
+        record {
+          of_tree = tied;
+          published = of;
+          joined = joined_still (h ++ e ∷ []) old.nodes new.nodes hubs.hubs of (λ key some alive. still key some) was.joined;
+        }
 
-  -- with the nodes as they were
-  pub tied_on_same : {base : Kept} → {h k : List Event} {old new : Tree T} {hubs : Hubs} {e : Event} → IsLawful base h → MayFollow base h e →
-      AreTied base g h old hubs → k ≡ h ++ e ∷ [] →
-      joins_hubs e ≡ false → shuts_none e ≡ true → new.nodes ≡ old.nodes → IsTied base g k new → AreTied base g k new hubs
-  tied_on_same law next was grown joins shuts same tied =
-      tied_on law next was grown joins shuts (λ key some. ap (λ (nodes : Slots Node). is_some (find nodes key)) same ∙ some) tied
+    -- with the nodes as they were
+    pub tied_on_same : {new : Tree T} → joins_hubs e ≡ false → shuts_none e ≡ true → new.nodes ≡ old.nodes → IsTied base g (h ++ e ∷ []) new →
+        AreTied base g (h ++ e ∷ []) new hubs
+    tied_on_same joins shuts same tied = tied_on joins shuts (λ key some. ap (λ (nodes : Slots Node). is_some (find nodes key)) same ∙ some) tied
 
-  -- and with the marks of one changed
-  pub tied_on_marked : {base : Kept} → {h k : List Event} {old new : Tree T} {hubs : Hubs} {e : Event} → IsLawful base h → MayFollow base h e →
-      AreTied base g h old hubs → k ≡ h ++ e ∷ [] →
-      joins_hubs e ≡ false → shuts_none e ≡ true → {u : Key} {change : Marks → Marks} → Remarks old new u change → IsTied base g k new →
-      AreTied base g k new hubs
-  tied_on_marked law next was grown joins shuts {u} marked tied =
-      tied_on law next was grown joins shuts (λ key some. still_there u marked.nodes key some) tied
+    -- and with the marks of one changed
+    pub tied_on_marked : {new : Tree T} → joins_hubs e ≡ false → shuts_none e ≡ true → {u : Key} {change : Marks → Marks} → Remarks old new u change →
+        IsTied base g (h ++ e ∷ []) new → AreTied base g (h ++ e ∷ []) new hubs
+    tied_on_marked joins shuts {u} marked tied = tied_on joins shuts (λ key some. still_there u marked.nodes key some) tied
 
-  -- after one that closes nodes, which leave the hubs
-  pub tied_closed : {base : Kept} {h k : List Event} {old new : Tree T} {hubs later : Hubs} {e : Event} {gone : Key → Bool} {ended : Option LastEnd} →
-      IsLawful base h → MayFollow base h e → AreTied base g h old hubs → k ≡ h ++ e ∷ [] → LeavesHubs h e gone ended hubs later →
-      KeepsNodes k old.nodes new.nodes → IsTied base g k new → AreTied base g k new later
-  tied_closed {base} {h} {k} {old} {new} {hubs} {later} {e} {gone} {ended} law next was grown leaves kept tied = record {
-    of_tree = tied;
-    published = of;
-    joined = joined_still k old.nodes new.nodes later.hubs of kept.still
-        (subst (AreJoined old.nodes) (sym leaves.left) (joined_without old.nodes gone ended hubs.hubs was.joined));
-  }
-    where
-      of : AreHubsOf k later.hubs
-      of = subst (λ (j : List Event). AreHubsOf j later.hubs) (sym grown)
-          (subst (AreHubsOf (h ++ e ∷ [])) (leaves.after ∙ sym leaves.left) (hubs_follow base h e 0 hubs.hubs law next was.published))
+    -- after one that closes nodes, which leave the hubs, and their connections ended so
+    pub tied_closed : {new : Tree T} {later : Hubs} (gone : Key → Bool) (ended : Option LastEnd) →
+        hubs_after h e 0 hubs.hubs ≡ map (without_gone gone ended) hubs.hubs → later.hubs ≡ map (without_gone gone ended) hubs.hubs →
+        KeepsNodes (h ++ e ∷ []) old.nodes new.nodes → IsTied base g (h ++ e ∷ []) new → AreTied base g (h ++ e ∷ []) new later
+    tied_closed {new} {later} gone ended after left kept tied =
+        let of = subst (AreHubsOf (h ++ e ∷ [])) (after ∙ sym left) (hubs_follow base h e 0 hubs.hubs law next was.published) in
+        record {
+          of_tree = tied;
+          published = of;
+          joined = joined_still (h ++ e ∷ []) old.nodes new.nodes later.hubs of kept.still
+              (subst (AreJoined old.nodes) (sym left) (joined_without old.nodes gone ended hubs.hubs was.joined));
+        }
 
   -- after one that makes a connection, which its hub has from then on
   pub tied_connected : {base : Kept} {h : List Event} {old new : Tree T} {hubs later : Hubs} {n : ℕ} {key : Key} → IsLawful base h →

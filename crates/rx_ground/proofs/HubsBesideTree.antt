@@ -7,7 +7,7 @@ use Rattle.rx_ground.proofs.Common.{Ghosts, Event, Open, Connect, Place, Kind, m
 use Rattle.rx_ground.proofs.Common.{is_open, places, IsLawful, hub_before, AllByRecursion-both, is_open_within, at-append, at_within, Key, Slots, find, Node}
 use Rattle.rx_ground.proofs.Common.{entry_at, with_number, Tree, IsSound, is_key, is_on, is_below, Closed, IsSubtree, key_is, some_of, LastEnd, AgreeAt, Hub}
 use Rattle.rx_ground.proofs.Common.{is_inside, with_made, is_closed, remaining, without_gone, after_closing, IsKnown, AreClosing, Hubs, IsFree, find_hub}
-use Rattle.rx_ground.proofs.Common.{at_hub, subscribed, connected, disconnected, IsHubOf, HasHub, AreHubsOf, mapped_from, IsOpenAt, subscribers_open, AreTied}
+use Rattle.rx_ground.proofs.Common.{at_hub, connected, disconnected, IsHubOf, HasHub, AreHubsOf, mapped_from, IsOpenAt, subscribers_open, AreTied}
 use Rattle.rx_ground.proofs.Common.{tests_agree, own_connection, named_connection, IsRecordOf, AreJoined, Cuts}
 use Rattle.std.proofs.Common.{filter, rules}
 use Rattle.std.specs.Cmp.{both_ways as same_test}

@@ -1,5 +1,5 @@
 -- An item that went its whole way, and its event.
-use Rattle.rx_ground.proofs.Common.{◌≡◌, ℕ, ℤ, ◌+◌, List, [], ◌∷◌, ◌++◌, length, sym, ap, subst, ◌∙◌, append-nil, filter_map, Ghosts, Event, Item, Tree}
+use Rattle.rx_ground.proofs.Common.{◌≡◌, ℕ, ℤ, ◌+◌, List, [], ◌∷◌, ◌++◌, length, sym, subst, ◌∙◌, append-nil, filter_map, Ghosts, Item, Tree}
 use Rattle.rx_ground.proofs.Common.{MayFollow, IsLawful, Hubs, Writes, AreTied, ArePassed, IsPassing}
 use Rattle.rx_event.specs.Climb.{Stop as NumberedStop, stops}
 use Rattle.rx_register.specs.State.{State as Register}
@@ -18,9 +18,7 @@ module _ {T : Type 0} (first : Register) (start : Tree T) (leaf : ℕ) (value : 
   arrived_writes new = search (rules, writes_told, length, filter_map, all_done)
 
   pub arrived_tied : (g : Ghosts T) (hubs : Hubs) → IsLawful first.base first.history → MayFollow first.base first.history (Item leaf value) →
-      AreTied first.base g first.history start hubs → (h : List Event) → h ≡ register.history ++ Item leaf value ∷ [] → AreTied first.base g h tree hubs
-  arrived_tied g hubs law next tied h grown =
-      subst (λ (k : List Event). AreTied first.base g k tree hubs) (sym (grown ∙ ap (λ (r : Register). r.history ++ Item leaf value ∷ []) passed.same))
-      (tied_item value law next tree tied
+      AreTied first.base g first.history start hubs → AreTied first.base g (first.history ++ Item leaf value ∷ []) tree hubs
+  arrived_tied g hubs law next tied = tied_item value law next tree tied
       (subst (λ (ss : List NumberedStop). ArePassed first.base first.history ss tree.nodes tree.chain) all_done passed.records)
-      (λ key there. passed.there key ∙ there) passed.resources)
+      (λ key there. passed.there key ∙ there) passed.resources

@@ -8,3 +8,4 @@ pub mod StaysHeld
 pub mod OwnedInTree
 pub mod OneStop
 pub mod GoneStaysGone
+pub mod WroteInTurn

@@ -152,29 +152,13 @@ module _ {T : Type 0} (h : List Event) (resources : Slots (Stowed T)) (leases : 
       by_place (inl same) = absurd (both_ways _ (is_out_last base h e law) (ap (is_out (h ++ e ∷ [])) (sym same) ∙ out))
       by_place (inr less) = kept (leased.every l (out_before base e law l less out)) less
 
-module _ {T : Type 0} (base : Kept) (h k : List Event) (e : Event) (old new : Slots (Stowed T)) (leases later : Slots ResKey) (law : IsLawful base h)
-    (leased : AreLeased h old leases) (none : makes_lease e ≡ false) (quiet : is_return e ≡ false) (grown : k ≡ h ++ e ∷ []) (same : later ≡ leases) where
-  -- after an event that leases and returns nothing, where the resources of leases are there still
-  pub leased_kept : ((l : ℕ) (res : ResKey) → IsLeaseOf h old l res → IsSome (find new (store_key res))) → AreLeased k new later
-  leased_kept kept = subst (λ (x : List Event). AreLeased x new later) (sym grown) (subst (AreLeased (h ++ e ∷ []) new) (sym same)
-      (leased_on h new leases (leased_same h old leases leased new leases kept (λ key. refl)) base e law none quiet))
-
-  -- where no resource changed
-  pub leased_quiet : new ≡ old → AreLeased k new later
-  leased_quiet unchanged = search (rules, leased_kept, is_some, find)
-
-  -- where every key that was found is found
-  pub leased_found : ((key : Key) → IsSome (find old key) → IsSome (find new key)) → AreLeased k new later
-  leased_found found = leased_kept (λ l res is. found (store_key res) is.stored)
-
-  -- and where one that waits was taken out
-  pub leased_taken : (key : Key) → is_waiting h key.number ≡ true → KeepsOthers old new key → AreLeased k new later
-  leased_taken key waits others = leased_kept by_key where
-    by_key : (l : ℕ) (res : ResKey) → IsLeaseOf h old l res → IsSome (find new (store_key res))
-    by_key l res is = of (cases_key (store_key res) key) where
-      of : (store_key res ≡ key) ⊎ (store_key res ≢ key) → IsSome (find new (store_key res))
-      of (inl taken) = absurd (both_ways _ (out_waits_not base h law l res.number is.made is.out) (ap (λ (j : Key). is_waiting h j.number) taken ∙ waits))
-      of (inr differs) = ap is_some (others (store_key res) differs) ∙ is.stored
+-- the resource of a lease is there still where one that waits was taken out
+pub taken_still : {base : Kept} {T : Type 0} {h : List Event} {old : Slots (Stowed T)} (new : Slots (Stowed T)) → IsLawful base h → (key : Key) → is_waiting h key.number ≡ true →
+    KeepsOthers old new key → (l : ℕ) (res : ResKey) → IsLeaseOf h old l res → IsSome (find new (store_key res))
+taken_still {base} {h = h} new law key waits others l res is = of (cases_key (store_key res) key) where
+  of : (store_key res ≡ key) ⊎ (store_key res ≢ key) → IsSome (find new (store_key res))
+  of (inl taken) = absurd (both_ways _ (out_waits_not base h law l res.number is.made is.out) (ap (λ (j : Key). is_waiting h j.number) taken ∙ waits))
+  of (inr differs) = ap is_some (others (store_key res) differs) ∙ is.stored
 
 -- no resource has more leases out than there are events
 pub few_leases : (h : List Event) (r : ℕ) → leases_of h r ≤ length h

@@ -1,5 +1,5 @@
 -- The order of the leases as they come and go.
-use Rattle.rx_ground.proofs.Common.{◌≡◌, ◌≢◌, ℕ, ◌+◌, ◌<◌, ◌≤◌, ◌==◌, ◌++◌, Bool, true, false, List, [], ◌∷◌, length, get_or, Option, Some, None, is_some, ap}
+use Rattle.rx_ground.proofs.Common.{◌≡◌, ◌≢◌, ℕ, ◌<◌, ◌≤◌, ◌==◌, ◌++◌, Bool, true, false, List, [], ◌∷◌, length, get_or, Option, Some, None, is_some, ap}
 use Rattle.rx_ground.proofs.Common.{IsSome, refl, sym, subst, ◌∙◌, inl, inr, ◌⊎◌, arith, not, option_map_or, cases_Bool, false≢true, both_ways, eqb-true, Key}
 use Rattle.rx_ground.proofs.Common.{eq-eqb, and_parts, Entry, Slots, entry_at, entry_of, find, Changes, ResKey, AreApart, IsPast, same_key, Lists, list_at}
 use Rattle.rx_ground.proofs.Common.{is_in, take_out, number_in, AreRising, IsInOrder}

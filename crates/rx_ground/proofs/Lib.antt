@@ -10,6 +10,7 @@ pub mod OwedCountBounded
 pub mod StaysTied
 pub mod RegisterAfterWrite
 pub mod Memory
+pub mod EventWritten
 pub mod HeldKept
 pub mod Newest
 pub mod MovedHaveGone

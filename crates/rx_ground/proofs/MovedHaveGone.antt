@@ -4,19 +4,11 @@ use Rattle.rx_ground.proofs.Common.{ap, subst, ◌∙◌, inl, inr, ◌⊎◌, n
 use Rattle.rx_ground.proofs.Common.{false_from_ne_true, not_from_false, none-some, map-append, take-append-drop, length-drop, take-length, AllPairs-cons, at}
 use Rattle.rx_ground.proofs.Common.{Ghosts, Event, makes_node, is_open, is_within, MayFollow, IsLawful, at-append, is_open_within, open_node, is_open_new}
 use Rattle.rx_ground.proofs.Common.{Key, Slots, find, Node, Closed, is_below, IsInside, IsSubtree, Tree, AreApart, IsSound, some_of, has_gone, goes, Gathers}
+use Rattle.rx_ground.proofs.Common.{GoesFirst}
 use Rattle.rx_ground.proofs.Common.{numbers_of, closed_key, closed_keys, AreRecords, IsTied, Cuts, Moves}
 use Rattle.rx_ground.proofs.Records.{AreLeft, cut_left}
-use Rattle.rx_ground.proofs.Laws.GoneStaysGone.{went}
-use Rattle.rx_ground.proofs.Laws.Members.{Contains-head, Contains-later, All-members, AllPairs-head, AllPairs-tail, AllPairs-nil, Contains-map, AllPairs-map}
-use Rattle.rx_ground.proofs.Laws.Members.{Contains-from_map}
-
--- pairs of members, of which more is known
-pub AllPairs-by : {X : Type 0} (R S : X → X → Type 0) (xs : List X) → ((x y : X) → Contains xs x → Contains xs y → R x y → S x y) →
-    AllPairs R xs → AllPairs S xs
-AllPairs-by R S [] by pairs = AllPairs-nil S
-AllPairs-by R S (x ∷ xs) by pairs = AllPairs-cons S x xs
-    (All-members (S x) xs (λ y c. by x y (Contains-head x xs) (Contains-later x xs y c) (AllPairs-head R x xs pairs y c)))
-    (AllPairs-by R S xs (λ a b c d r. by a b (Contains-later x xs a c) (Contains-later x xs b d) r) (AllPairs-tail R x xs pairs))
+use Rattle.rx_ground.proofs.Laws.GoneStaysGone.{went, together}
+use Rattle.rx_ground.proofs.Laws.Members.{All-members, Contains-map, AllPairs-map, AllPairs-by, Contains-from_map}
 
 -- what stands behind the first so many
 pub behind : {X : Type 0} (n from : ℕ) (xs list : List X) → from ≡ n → list ≡ xs → take (length list - from) (drop from list) ≡ drop n xs
@@ -45,7 +37,7 @@ moves_subtree nodes top before after begins subtree = record {
 
 module _ {base : Kept} {h : List Event} {e : Event} {nodes left : Slots Node} {chain rest : List Key} {top : ℕ} {list longer : List Key}
     (next : MayFollow base h e) (records : AreRecords base h nodes chain) (stays : AreLeft h e nodes left chain rest)
-    (cuts : (key : Key) → find left key ≡ cond (is_below nodes top key.number) None (find nodes key)) (apart : AreApart nodes)
+    (cuts : (key : Key) → find left key ≡ cond (is_below nodes top key.number) None (find nodes key)) (sound : IsSound nodes)
     (moves : Moves nodes top list longer) where
   -- what was moved out went
   moved_goes : (key : Key) → Contains moves.moved key → goes h (h ++ e ∷ []) key.number ≡ true
@@ -86,7 +78,10 @@ module _ {base : Kept} {h : List Event} {e : Event} {nodes left : Slots Node} {c
     each = All-members (λ n. IsTrue (goes h (h ++ e ∷ []) n)) (numbers_of moves.moved) each;
     every = goes_moved;
     once = AllPairs-map (λ (key : Key). key.number) (λ m n. m ≢ n) moves.moved (AllPairs-by (λ a b. a ≢ b) (λ a b. a.number ≢ b.number) moves.moved
-        (λ a b c d differ same. differ (apart a b (moves.each a c).0 (moves.each b d).0 same)) moves.once);
+        (λ a b c d differ same. differ (sound.apart a b (moves.each a c).0 (moves.each b d).0 same)) moves.once);
+    order = AllPairs-map (λ (key : Key). key.number) (GoesFirst (h ++ e ∷ [])) moves.moved
+        (AllPairs-by (λ a b. a ≢ b) (λ a b. GoesFirst (h ++ e ∷ []) a.number b.number) moves.moved
+        (λ a b c d differ. together h e a.number b.number (moved_goes a c) (moved_goes b d)) moves.once);
   }
     where
       each : (n : ℕ) → Contains (numbers_of moves.moved) n → goes h (h ++ e ∷ []) n ≡ true
@@ -99,4 +94,4 @@ pub gathers_closed : {base : Kept} {T : Type 0} {g : Ghosts T} {h k : List Event
 gathers_closed {base} {h = h} {e = e} {old = old} {mid = mid} {n = n} {list = list} {longer = longer} law next tied sound cuts outside moves grown =
     subst (λ (k : List Event). Gathers h list k longer) (sym grown) (gathers_cut next tied.records
     (cut_left base h e law next old.nodes old.chain tied.records mid.nodes mid.chain n sound (λ m l. outside m) cuts.nodes cuts.chain)
-    cuts.nodes sound.apart moves)
+    cuts.nodes sound moves)

@@ -2,6 +2,9 @@
 use Rattle.rx_ground.proofs.Common.{◌≡◌, ℕ, true, false, List, length, Option, Some, None, IfSome, refl, sym, subst, arith, option_map_or, false≢true, Kept}
 use Rattle.rx_ground.proofs.Common.{Ghosts, Event, IsLawful, is_open_within, find, Stowed, ResKey, Tree, IsNewest, IsPast, store_key, is_owned, is_owned_at}
 use Rattle.rx_ground.proofs.Common.{is_held, is_held_at, some_of, IsTied}
+use Rattle.rx_ground.proofs.Common.{Ground, IsStored}
+use Rattle.rx_ground.specs.Wrote.{IsBetween}
+use Rattle.rx_ground.proofs.EventWritten.{seen}
 use Rattle.rx_ground.proofs.ResourcesAfterEvent.{stored_within}
 
 module _ (base : Kept) {T : Type 0} (g : Ghosts T) (h : List Event) (tree : Tree T) (tied : IsTied base g h tree) (law : IsLawful base h) (n : ℕ)
@@ -41,6 +44,23 @@ owned_found {T = T} tree res owned = by_value (find tree.resources (store_key re
   by_value : (o : Option (Stowed T)) → find tree.resources (store_key res) ≡ o → option_map_or (is_owned tree.nodes) o false ≡ true → IsFoundOwned tree res
   by_value None found owned = absurd (false≢true owned)
   by_value (Some x) found owned = record { stowed = x; found = found; owned = owned }
+
+-- what the ground says of a resource that is found
+pub record IsFoundStored {T : Type 0} (g : Ghosts T) (b : Ground T) (res : ResKey) : Type 0 where
+  pub stowed : Stowed T
+  pub found : find b.tree.resources (store_key res) ≡ Some stowed
+  pub is : IsStored b.register.base g b.register.history b.tree.nodes res.number stowed
+
+module _ {T : Type 0} (g : Ghosts T) {now given : Ground T} (same : now ≡ given) (between : IsBetween g given) (res : ResKey) where
+  found_stored : (s : Stowed T) → find given.tree.resources (store_key res) ≡ Some s → IsFoundStored g now res
+  found_stored s found = seen (λ b. IsFoundStored g b res) same
+      (record { stowed = s; found = found; is = between.tied.of_tree.stored.each (store_key res) s found })
+
+  pub held_stored : is_held_at given.tree res ≡ true → IsFoundStored g now res
+  held_stored held = let f = held_found given.tree res held in found_stored f.stowed f.found
+
+  pub owned_stored : is_owned_at given.tree res ≡ true → IsFoundStored g now res
+  owned_stored owned = let f = owned_found given.tree res owned in found_stored f.stowed f.found
 
 -- what is said of what is found
 pub of_found : {X : Type 0} (o : Option X) (x : X) (P : X → Type 0) → o ≡ Some x → IfSome o P → P x

@@ -1,85 +1,113 @@
--- A node that ends leaves the tree tied to the longer history, with the node above marked.
-use Rattle.rx_ground.proofs.Common.{◌≡◌, ◌<◌, List, [], ◌∷◌, ◌++◌, Option, Some, None, is_some, IsSome, IfSome, option_map, slice_get, refl, sym, ap, subst}
-use Rattle.rx_ground.proofs.Common.{◌∙◌, ℕ, true, IfNone, none-some, same_Some, Kept, Ghosts, Terminal, Event, End, source_named, is_merging, is_open, parent}
-use Rattle.rx_ground.proofs.Common.{after_child, MayFollow, IsLawful, is_open_outside-end, child_counted, Key, Slots, find, Node, Tree, IsSound, AreApart}
-use Rattle.rx_ground.proofs.Common.{parent_number, some_of, Record, IsTied, KeepsNodes, Remarks, Cuts, record_of}
+-- A node that ends leaves all of the longer history, with the node above marked.
+use Rattle.rx_ground.proofs.Common.{◌≡◌, ◌<◌, ◌∷◌, ◌++◌, [], ℕ, Option, Some, None, IsSome, IfSome, IfNone, is_some, length, option_map, slice_get}
+use Rattle.rx_ground.proofs.Common.{sym, ap, subst, ◌∙◌, Ghosts, Terminal, Event, End, source_named, is_merging, is_open, parent, after_child, MayFollow}
+use Rattle.rx_ground.proofs.Common.{IsLawful, is_open_outside-end, child_counted, Key, find, Node, Tree, IsSound, AreApart, some_of, IsTied, IsReady}
+use Rattle.rx_ground.proofs.Common.{true, KeepsNodes, Remarks, Writes, Ground, end_by, hubs_ended}
+use Rattle.rx_ground.specs.Wrote.{IsBetween, IsCut}
+use Rattle.rx_ground.proofs.EventWritten.{IsClosing, seen, cut_seen}
 use Rattle.rx_ground.proofs.Records.{parent_in_tree}
+use Rattle.rx_ground.proofs.InsideConnections.{parent_read}
 use Rattle.rx_ground.proofs.StaysTied.{tied_end_top, tied_end_child, parent_stays, cut_keeps, keeps_marked}
 use Rattle.std.proofs.Common.{rules}
 
--- what the record of a node tells of it
-pub record IsRead (h : List Event) (nodes : Slots Node) (key : Key) (read : Record) : Type 0 where
-  pub made : slice_get h key.number ≡ Some read.made
-  pub alive : is_open h key.number ≡ true
-  pub parent : parent_number nodes key ≡ parent h key.number
+module _ {T : Type 0} (g : Ghosts T) where
+  -- an end that may come, of the node that this event made below this one, and the ground without what it closes
+  pub record IsReadyToEnd (key : Key) (t : Terminal) (made : Event) (above : Option Key) (old mid : Ground T) : Type 0 where
+    pub law : IsLawful old.register.base old.register.history
+    pub between : IsBetween g old
+    pub next : MayFollow old.register.base old.register.history (End key.number t)
+    pub sound : IsSound old.tree.nodes
+    pub cut : IsCut old mid key.number (end_by (length old.register.history) (End key.number t))
+    pub alive : is_open old.register.history key.number ≡ true
+    pub at_n : slice_get old.register.history key.number ≡ Some made
+    pub named : option_map (λ k. k.number) above ≡ parent old.register.history key.number
+    pub there : IfSome above (λ up. IsSome (find old.tree.nodes up))
 
-pub record_read : {base : Kept} {T : Type 0} {g : Ghosts T} {h : List Event} {tree : Tree T} {key : Key} {read : Record} → IsTied base g h tree →
-    option_map record_of (find tree.nodes key) ≡ Some read → IsRead h tree.nodes key read
-record_read {base = base} {h = h} {tree = tree} {key = key} {read = read} tied told = by_value (find tree.nodes key) refl told where
-  by_value : (o : Option Node) → find tree.nodes key ≡ o → option_map record_of o ≡ Some read → IsRead h tree.nodes key read
-  by_value None found none = absurd (none-some read none)
-  by_value (Some x) found some =
-      let is = tied.records.each key x found in
+  -- so it is by the record, as the call finds it and as it was cut
+  pub ready_to_end : {now given mid left : Ground T} {key : Key} {t : Terminal} {node : Node} {above : Option Key} {place : ℕ} → now ≡ given → mid ≡ left →
+      IsLawful now.register.base now.register.history → IsSound now.tree.nodes → IsBetween g given → IsReady given.register (End key.number t) →
+      find now.tree.nodes key ≡ Some node → above ≡ node.above → IfSome node.above (λ up. IsSome (find now.tree.nodes up)) →
+      place ≡ length now.register.history → IsCut given left key.number (Some (record { place = place; terminal = t })) →
+      IsReadyToEnd key t node.made above now mid
+  ready_to_end {now} {mid = mid} {key = key} {t} {node} same is law sound between ready found above there at_end cut =
+      let b = seen (IsBetween g) same between in
+      let nodes = now.tree.nodes in
+      let own = b.tied.of_tree.records.each key node found in
       record {
-        made = is.made ∙ ap (λ (y : Record). Some y.made) (same_Some (record_of x) read some);
-        alive = is.alive;
-        parent = parent_in_tree base h tree.nodes tree.chain tied.records key x found;
+        law = law;
+        between = b;
+        next = (seen (λ x. IsReady x.register (End key.number t)) same ready).next;
+        sound = sound;
+        cut = subst (λ (p : ℕ). IsCut now mid key.number (Some (record { place = p; terminal = t }))) at_end (cut_seen same is cut);
+        alive = own.alive;
+        at_n = own.made;
+        named = ap (option_map (λ (k : Key). k.number)) above ∙ parent_read nodes key node found sound ∙
+            parent_in_tree now.register.base now.register.history nodes now.tree.chain b.tied.of_tree.records key node found;
+        there = subst (λ (o : Option Key). IfSome o (λ up. IsSome (find nodes up))) (sym above) there;
       }
 
--- an end that may come, of the node that this event made below this one, and the tree without what it closes
-pub record IsReadyToEnd (base : Kept) {T : Type 0} (g : Ghosts T) (h : List Event) (n : ℕ) (t : Terminal) (made : Event) (above : Option Key)
-    (old mid : Tree T) : Type 0 where
-  pub law : IsLawful base h
-  pub next : MayFollow base h (End n t)
-  pub tied : IsTied base g h old
-  pub sound : IsSound old.nodes
-  pub cuts : Cuts old mid n
-  pub alive : is_open h n ≡ true
-  pub at_n : slice_get h n ≡ Some made
-  pub named : option_map (λ k. k.number) above ≡ parent h n
-  pub there : IfSome above (λ key. IsSome (find old.nodes key))
+  module _ {key : Key} {t : Terminal} {made : Event} {old mid : Ground T} where
+    -- the node above stays as it was
+    above_stays : (p : Key) → IsReadyToEnd key t made (Some p) old mid →
+        (x : Node) × (find old.tree.nodes p ≡ Some x) × (find mid.tree.nodes p ≡ Some x)
+    above_stays p r =
+        let x = some_of (find old.tree.nodes p) r.there in (
+          x.0,
+          x.1,
+          parent_stays old.register.base g old.register.history key.number t r.law r.next old.tree mid.tree mid.tree r.between.tied.of_tree
+              r.sound r.cut.cuts p x.0 r.alive (sym r.named) x.1,
+        )
 
--- what an end leaves
-pub record IsEnded (base : Kept) {T : Type 0} (g : Ghosts T) (h : List Event) (old mid new : Tree T) : Type 0 where
-  pub tied : IsTied base g h new
-  pub kept : KeepsNodes h old.nodes new.nodes
-  pub resources : new.resources ≡ old.resources
-  pub count : new.nodes.count ≡ mid.nodes.count
+    -- and has an open child
+    pub above_counted : (above : Option Key) → IsReadyToEnd key t made above old mid →
+        IfSome above (λ up. IfSome (find mid.tree.nodes up) (λ node. 0 < node.marks.open_children))
+    above_counted x0 r = search (rules, above_stays, child_counted)
 
-module _ {base : Kept} {T : Type 0} {g : Ghosts T} {h : List Event} {n : ℕ} {t : Terminal} {made : Event} {old mid : Tree T} where
-  -- the node above stays as it was
-  above_stays : (p : Key) → IsReadyToEnd base g h n t made (Some p) old mid → (x : Node) × (find old.nodes p ≡ Some x) × (find mid.nodes p ≡ Some x)
-  above_stays p ready =
-      let x = some_of (find old.nodes p) ready.there in
-      let stays = parent_stays base g h n t ready.law ready.next old mid mid ready.tied ready.sound ready.cuts p x.0 ready.alive (sym ready.named) x.1 in
-      (x.0, x.1, stays)
+    -- the tree is that of the longer history once the node above was marked
+    ended_tree : {new : Tree T} (above : Option Key) → IsReadyToEnd key t made above old mid → AreApart mid.tree.nodes →
+        IfSome above (λ up. IfSome (find mid.tree.nodes up) (λ node. Remarks mid.tree new up (after_child (is_some (source_named made)) (is_merging node.made) t))) →
+        IfNone above (new ≡ mid.tree) → (let h = old.register.history ++ End key.number t ∷ [] in
+        IsTied old.register.base g h new × KeepsNodes h old.tree.nodes new.nodes)
+    ended_tree None r apart marked same =
+        let h = old.register.history in
+        let n = key.number in
+        let base = old.register.base in
+        let tied = r.between.tied.of_tree in
+        subst (λ (tree : Tree T). IsTied base g (h ++ End n t ∷ []) tree × KeepsNodes (h ++ End n t ∷ []) old.tree.nodes tree.nodes) (sym same) (
+          tied_end_top base g h n t r.law r.next old.tree mid.tree mid.tree tied r.sound r.cut.cuts (sym r.named),
+          cut_keeps base h (End n t) old.tree mid.tree tied.records r.sound n (is_open_outside-end h n t) r.cut.cuts,
+        )
+    ended_tree {new} (Some p) r apart marked same =
+        let h = old.register.history in
+        let n = key.number in
+        let base = old.register.base in
+        let tied = r.between.tied.of_tree in
+        let x = above_stays p r in
+        let m : Remarks mid.tree new p (after_child (is_some (source_named made)) (is_merging x.0.made) t) =
+        subst (λ o. IfSome o (λ (node : Node). Remarks mid.tree new p (after_child (is_some (source_named made)) (is_merging node.made) t))) x.2 marked in (
+          tied_end_child base g h n t r.law r.next old.tree mid.tree new tied r.sound r.cut.cuts x.0 apart r.alive (sym r.named) r.at_n x.1 x.2 m,
+          keeps_marked base h (End n t) old.tree mid.tree tied.records r.sound n (is_open_outside-end h n t) r.cut.cuts new p _ m,
+        )
 
-  -- and has an open child
-  pub above_counted : (above : Option Key) → IsReadyToEnd base g h n t made above old mid →
-      IfSome above (λ key. IfSome (find mid.nodes key) (λ node. 0 < node.marks.open_children))
-  above_counted x0 ready = search (rules, above_stays, child_counted)
-
-  pub ended_tied : {new : Tree T} (above : Option Key) → IsReadyToEnd base g h n t made above old mid → AreApart mid.nodes →
-      IfSome above (λ key. IfSome (find mid.nodes key) (λ node. Remarks mid new key (after_child (is_some (source_named made)) (is_merging node.made) t))) →
-      IfNone above (new ≡ mid) → IsEnded base g (h ++ End n t ∷ []) old mid new
-  ended_tied {new = new} None ready apart marked same =
-      let records = ready.tied.records in
-      let ended : IsEnded base g (h ++ End n t ∷ []) old mid mid = record {
-        tied = tied_end_top base g h n t ready.law ready.next old mid new ready.tied ready.sound ready.cuts (sym ready.named);
-        kept = cut_keeps base h (End n t) old mid records ready.sound n (is_open_outside-end h n t) ready.cuts;
-        resources = ready.cuts.resources;
-        count = refl;
-      } in
-      subst (IsEnded base g (h ++ End n t ∷ []) old mid) (sym same) ended
-  ended_tied {new = new} (Some p) ready apart marked same =
-      let x = above_stays p ready in
-      let records = ready.tied.records in
-      let m : Remarks mid new p (after_child (is_some (source_named made)) (is_merging x.0.made) t) =
-      subst (λ o. IfSome o (λ (node : Node). Remarks mid new p (after_child (is_some (source_named made)) (is_merging node.made) t))) x.2 marked in
-      record {
-        tied = tied_end_child base g h n t ready.law ready.next old mid new ready.tied ready.sound ready.cuts x.0 apart ready.alive
-            (sym ready.named) ready.at_n x.1 x.2 m;
-        kept = keeps_marked base h (End n t) old mid records ready.sound n (is_open_outside-end h n t) ready.cuts new p _ m;
-        resources = m.resources ∙ ready.cuts.resources;
-        count = ap (λ (s : Slots Node). s.count) m.nodes.rest;
-      }
+    -- and so is all, once its event is on the register
+    pub ended : {new : Ground T} (above : Option Key) → IsReadyToEnd key t made above old mid → Writes old.register (End key.number t ∷ []) new.register →
+        AreApart mid.tree.nodes → IfSome above (λ up. IfSome (find mid.tree.nodes up) (λ node.
+        Remarks mid.tree new.tree up (after_child (is_some (source_named made)) (is_merging node.made) t))) → IfNone above (new.tree ≡ mid.tree) →
+        new.tree.nodes ≡ record mid.tree.nodes { entries = new.tree.nodes.entries } → new.tree.resources ≡ mid.tree.resources →
+        new ≡ record mid { register = new.register; tree = new.tree; space = new.space } → new.space ≡ mid.space →
+        IsClosing g old mid new (End key.number t) key.number (end_by (length old.register.history) (End key.number t))
+    ended above r written apart marked same places resources rest space =
+        let left = ended_tree above r apart marked same in
+        record {
+          s = record { law = r.law; between = r.between; next = r.next; written = written };
+          sound = r.sound;
+          cut = r.cut;
+          after = hubs_ended old.register.history key.number t 0 old.hubs.hubs r.between.tied.published;
+          outside = is_open_outside-end old.register.history key.number t;
+          tied = left.0;
+          kept = left.1;
+          places = places;
+          resources = resources;
+          rest = rest;
+          space = space;
+        }

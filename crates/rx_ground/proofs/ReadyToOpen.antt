@@ -2,7 +2,7 @@
 use Rattle.rx_ground.proofs.Common.{◌≡◌, ◌≢◌, ℕ, suc, ◌+◌, ◌<◌, Bool, true, false, List, [], ◌∷◌, ◌++◌, length, Option, Some, None, is_some, IsSome, IfSome}
 use Rattle.rx_ground.proofs.Common.{option_map, refl, sym, ap, subst, ◌∙◌, arith, inl, inr, ◌⊎◌, IfNone, not, ◌&&◌, ne_eqb, cases_Bool, none-some, same_Some}
 use Rattle.rx_ground.proofs.Common.{count_by-le-length, length-range_with_len, Kept, Ghosts, Marks, Place, Root, Source, Inner, Notifier, Kind, Event, Open}
-use Rattle.rx_ground.proofs.Common.{named_by, at, is_open, places, is_open_child_of, is_within, owed, terminal_due, marks_of, touches}
+use Rattle.rx_ground.proofs.Common.{named_by, is_open, places, is_open_child_of, is_within, owed, terminal_due, marks_of, touches}
 use Rattle.rx_ground.proofs.Common.{open_children, after_source, after_notifier, after_inner, MayFollow, IsLawful, is_open_kept, is_open_cut}
 use Rattle.rx_ground.proofs.Common.{is_cut_inner, is_open_within, may_open, may_name, marks-source_at, marks-notifier_at, marks-inner_at_flat, Key, find}
 use Rattle.rx_ground.proofs.Common.{marks-inner_at_first, marks-inner_at_next, entry_at, KeepsOthers, Node, Tree, IsSound, AreApart, IsNewest, IsPlaced, Hubs}

@@ -1,5 +1,5 @@
 -- What one write leaves of a register.
-use Rattle.rx_ground.proofs.Common.{◌≡◌, ◌+◌, List, [], ◌∷◌, ◌++◌, length, refl, ap, arith, length-append, Mail, Event, notes, mail_of, State, Writes}
+use Rattle.rx_ground.proofs.Common.{◌≡◌, ◌+◌, List, [], ◌∷◌, ◌++◌, length, refl, ap, arith, length-append, Mail, Event, mail_of, State, Writes}
 use Rattle.rx_event.proofs.Laws.Counts.{notes-push}
 use Rattle.std.proofs.Common.{rules}
 

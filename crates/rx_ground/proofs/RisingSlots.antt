@@ -1,5 +1,5 @@
 -- Lists of slots whose numbers rise, as one comes last and as one leaves.
-use Rattle.rx_ground.proofs.Common.{◌≡◌, ◌≢◌, ℕ, ◌+◌, ◌<◌, ◌≤◌, ◌==◌, ◌++◌, cond, Bool, true, false, List, [], ◌∷◌, Some, is_some, refl, sym, ap, ◌∙◌, inl, inr}
+use Rattle.rx_ground.proofs.Common.{◌≡◌, ℕ, ◌<◌, ◌≤◌, ◌==◌, ◌++◌, cond, Bool, true, false, List, [], ◌∷◌, Some, is_some, refl, sym, ap, ◌∙◌, inl, inr}
 use Rattle.rx_ground.proofs.Common.{◌⊎◌, arith, not, cases_Bool, false≢true, eqb-true, eq-eqb, and_parts, is_in, take_out, head_of, AreRising}
 use Rattle.std.proofs.Common.{◌||◌, ◌&&◌, rules}
 

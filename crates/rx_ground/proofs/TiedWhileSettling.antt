@@ -3,15 +3,17 @@ use Rattle.rx_ground.proofs.Common.{◌≡◌, ℕ, ◌<◌, Bool, true, List, [
 use Rattle.rx_ground.proofs.Common.{slice_get, refl, ap, subst, ◌∙◌, ◌≤◌, ◌+◌, arith, length-append, AllByRecursion, option_and_then, false≢true, Kept}
 use Rattle.rx_ground.proofs.Common.{none-some, same_Some, Ghosts, Terminal, Marks, Event, Connect, End, is_merging, is_open, after_child}
 use Rattle.rx_ground.proofs.Common.{IsConnectDue, IsForced, IsSettled, IsLawful, IsForcedOn, forced, stays, more, is_open_within, Key, Slots}
-use Rattle.rx_ground.proofs.Common.{stays_closed, forced_connected, find, Node, Tree, Rewrites, is_on, with_marks, with_due, key_is, some_of, Writes}
+use Rattle.rx_ground.proofs.Common.{stays_closed, forced_connected, find, Node, Tree, Rewrites, is_on, with_marks, with_due, key_is, some_of}
 use Rattle.rx_ground.proofs.Common.{IsPaid, told_by_end, Due, IsChained, AreRecordsOf, due_at_in, due_forced, AreLeased, AreRecords, AreTied, IsReady, IsNext}
-use Rattle.rx_ground.proofs.Common.{WithChain, KeepsOlder, Remarks, HasRoomToConnect, is_there, key_due, TakesNoMemory, Settles, Gathers, Ground, list_room}
+use Rattle.rx_ground.proofs.Common.{WithChain, KeepsOlder, Remarks, HasRoomToConnect, is_there, key_due, TakesNoMemory, Settles, Closes, Ground, list_room}
 use Rattle.rx_ground.proofs.Common.{HubDue, event_of, IsDueIn, IsQuiet, ConcernsHub, Hub, Hubs, find_hub, hubs_forced, found_hub}
 use Rattle.rx_register.specs.State.{State as Register}
 use Rattle.rx_register.proofs.Laws.Paid.{forced_room, end_room, forced_pays}
 use Rattle.rx_hub.specs.Operators.{IsDueAt, IsQuiet as IsQuietTree}
-use Rattle.rx_ground.proofs.Memory.{memory_on}
-use Rattle.rx_ground.proofs.Laws.GoneStaysGone.{IsFurther, gone_push, gone_forced, gathers_nothing, gathers_on}
+use Rattle.rx_ground.specs.Wrote.{IsBetween, Wrote, ChangesForced}
+use Rattle.rx_ground.proofs.EventWritten.{seen}
+use Rattle.rx_ground.proofs.Memory.{no_memory, memory_on}
+use Rattle.rx_ground.proofs.Laws.GoneStaysGone.{gone_forced, gathers_nothing, gathers_on, closes_none, closes_on}
 use Rattle.rx_ground.proofs.Records.{as_records, rechained}
 use Rattle.rx_hub.specs.declared.hub.HubDue.TheVariants.{Connect as ConnectDue, End as EndDue, Close as CloseDue}
 use Rattle.rx_hub.proofs.Laws.Dues.{none_waits, quiet_settles}
@@ -80,8 +82,7 @@ older_on {h} e {number} old mid new le within first then = search (rules, open_b
 
 -- what was forced so far was written
 pub record IsOnTheWay {T : Type 0} (g : Ghosts T) (start now : Ground T) : Type 0 where
-  pub tied : AreTied now.register.base g now.register.history now.tree now.hubs
-  pub leased : AreLeased now.register.history now.tree.resources now.leases
+  pub between : IsBetween g now
   pub paid : IsPaid now.register
   pub room : HasRoomToConnect now.register.history now.tree.nodes.room (list_room now)
   pub base : now.register.base ≡ start.register.base
@@ -95,36 +96,34 @@ pub record IsOnTheWay {T : Type 0} (g : Ghosts T) (start now : Ground T) : Type 
   pub limit : now.register.limit ≡ start.register.limit
   pub given : now.register.given ≡ start.register.given
   pub memory : TakesNoMemory start now
-  pub closed : Gathers start.register.history start.closed now.register.history now.closed
+  pub closed : Closes start now
 
-pub way_starts : {T : Type 0} (g : Ghosts T) (b : Ground T) → AreTied b.register.base g b.register.history b.tree b.hubs →
-    AreLeased b.register.history b.tree.resources b.leases → IsPaid b.register →
+pub way_starts : {T : Type 0} (g : Ghosts T) (b : Ground T) → IsBetween g b → IsPaid b.register →
     HasRoomToConnect b.register.history b.tree.nodes.room (list_room b) → IsOnTheWay g b b
-way_starts g b tied leased paid room = record {
-  tied = tied;
-  leased = leased;
+way_starts g b between paid room = record {
+  between = between;
   paid = paid;
   room = room;
   base = refl;
   forced = stays;
   grown = omega arith;
   within =
-      λ key some. let x = some_of (find b.tree.nodes key) some in is_open_within b.register.history key.number (tied.of_tree.records.each key x.0 x.1).alive;
+      λ key some. let x = some_of (find b.tree.nodes key) some in is_open_within b.register.history key.number (between.tied.of_tree.records.each key x.0 x.1).alive;
   nodes = record { from = λ key some l. some; still = λ key some alive. some };
   resources = refl;
   same_leases = refl;
   hubs = refl;
   limit = refl;
   given = refl;
-  memory = record { events = refl; notes = refl; nodes = refl; resources = refl; hubs = refl; slots = refl; closing = refl };
-  closed = gathers_nothing b.register.history b.closed;
+  memory = no_memory b;
+  closed = closes_none refl (gathers_nothing b.register.history b.closed);
 }
 
 -- where nothing is forced any more the way is at its end
 pub settled : {T : Type 0} {g : Ghosts T} {start now : Ground T} → IsSettled now.register.base now.register.history → IsOnTheWay g start now →
     Settles g start now
 settled none w = record {
-  standing = record { tied = w.tied; leased = w.leased; settled = none; paid = w.paid };
+  standing = record { tied = w.between.tied; leased = w.between.leased; settled = none; paid = w.paid };
   base = w.base;
   forced = w.forced;
   nodes = w.nodes;
@@ -139,10 +138,9 @@ settled none w = record {
 
 -- another chain is no other way
 pub way_rechained : {T : Type 0} (g : Ghosts T) (start old new : Ground T) → IsOnTheWay g start old → WithChain old new →
-    AreTied new.register.base g new.register.history new.tree new.hubs → IsOnTheWay g start new
-way_rechained {T = T} g start old new w kept tied = record {
-  tied = tied;
-  leased = subst (λ (b : Ground T). AreLeased b.register.history b.tree.resources b.leases) (sym kept.same) w.leased;
+    IsBetween g new → IsOnTheWay g start new
+way_rechained {T = T} g start old new w kept between = record {
+  between = between;
   paid = subst IsPaid (sym register) w.paid;
   room = subst (λ (b : Ground T). HasRoomToConnect b.register.history b.tree.nodes.room (list_room b)) (sym kept.same) w.room;
   base = ap (λ (s : Register). s.base) register ∙ w.base;
@@ -164,7 +162,7 @@ way_rechained {T = T} g start old new w kept tied = record {
     slots = w.memory.slots;
     closing = w.memory.closing;
   });
-  closed = subst (λ (b : Ground T). Gathers start.register.history start.closed b.register.history b.closed) (sym kept.same) w.closed;
+  closed = subst (λ (b : Ground T). Closes start b) (sym kept.same) (record { gathers = w.closed.gathers; found = w.closed.found });
 }
   where
     register : new.register ≡ old.register
@@ -176,63 +174,72 @@ pub next_room : {T : Type 0} (b : Ground T) (d : HubDue) → IsNext b d → HasR
 next_room b d next room n is =
     room n (connect_due b.register.base (subst (λ (x : HubDue). IsForced b.register.base b.register.history (event_of x)) is next.forced))
 
--- what comes next was written: no older node came, and the resources, the leases, the number of hubs and the memory are as before
+-- what comes next was written
 pub record WritesNext {T : Type 0} (g : Ghosts T) (old new : Ground T) (d : HubDue) : Type 0 where
   pub law : IsLawful old.register.base old.register.history
   pub next : IsNext old d
-  pub written : Writes old.register (event_of d ∷ []) new.register
-  pub tied : AreTied new.register.base g new.register.history new.tree new.hubs
-  pub leased : AreLeased new.register.history new.tree.resources new.leases
-  pub nodes : KeepsOlder new.register.history (length old.register.history) old.tree.nodes new.tree.nodes
-  pub resources : new.tree.resources ≡ old.tree.resources
-  pub hubs : length new.hubs.hubs ≡ length old.hubs.hubs
-  pub leases : new.leases ≡ old.leases
-  pub memory : TakesNoMemory old new
-  pub closed : Gathers old.register.history old.closed new.register.history new.closed
+  pub wrote : Wrote g old (event_of d ∷ []) new
+  pub frame : ChangesForced old new
 
 -- one event more
 pub way_on : {T : Type 0} {g : Ghosts T} {start old new : Ground T} {d : HubDue} → IsOnTheWay g start old → WritesNext g old new d → IsOnTheWay g start new
 way_on {start} {old} {new} {d} w one = record {
-  tied = one.tied;
-  leased = one.leased;
-  paid = forced_pays old.register new.register (event_of d) one.law one.next.forced w.paid one.written;
+  between = one.wrote.between;
+  paid = forced_pays old.register new.register (event_of d) one.law one.next.forced w.paid one.wrote.written;
   room = λ n waits. absurd (forced_connected old.register.base old.register.history (event_of d) w.paid.waits w.paid.may_wait one.next.forced n
-      (subst (λ (k : List Event). IsConnectDue k n) one.written.history waits));
-  base = one.written.base ∙ w.base;
-  forced = subst (IsForcedOn start.register.base start.register.history) (sym one.written.history)
+      (subst (λ (k : List Event). IsConnectDue k n) one.wrote.written.history waits));
+  base = one.wrote.written.base ∙ w.base;
+  forced = subst (IsForcedOn start.register.base start.register.history) (sym one.wrote.written.history)
       (more w.forced (subst (λ (b : Kept). IsForced b old.register.history (event_of d)) w.base one.next.forced));
   grown = let n = w.grown in let l = longer in omega arith;
   within = λ key some. let n = w.within key some in let l = longer in omega arith;
-  nodes = subst (λ (k : List Event). KeepsOlder k (length start.register.history) start.tree.nodes new.tree.nodes) (sym one.written.history)
+  nodes = subst (λ (k : List Event). KeepsOlder k (length start.register.history) start.tree.nodes new.tree.nodes) (sym one.wrote.written.history)
       (older_on (event_of d) start.tree.nodes old.tree.nodes new.tree.nodes w.grown w.within w.nodes
-      (subst (λ (k : List Event). KeepsOlder k (length old.register.history) old.tree.nodes new.tree.nodes) one.written.history one.nodes));
-  resources = one.resources ∙ w.resources;
-  same_leases = one.leases ∙ w.same_leases;
-  hubs = one.hubs ∙ w.hubs;
-  limit = one.written.limit ∙ w.limit;
-  given = one.written.given ∙ w.given;
-  memory = memory_on start old new w.memory one.memory;
-  closed = gathers_on (gone_forced start.register.base w.forced)
-      (subst (IsFurther old.register.history) (sym one.written.history) (gone_push old.register.history (event_of d))) w.closed one.closed;
+      (subst (λ (k : List Event). KeepsOlder k (length old.register.history) old.tree.nodes new.tree.nodes) one.wrote.written.history one.frame.nodes));
+  resources = one.frame.resources ∙ w.resources;
+  same_leases = one.frame.leases ∙ w.same_leases;
+  hubs = one.frame.hubs ∙ w.hubs;
+  limit = one.wrote.written.limit ∙ w.limit;
+  given = one.wrote.written.given ∙ w.given;
+  memory = memory_on start old new w.memory one.wrote.memory;
+  closed = closes_on w.grown w.nodes.from w.closed one.wrote.closed (gathers_on (gone_forced start.register.base w.forced) (event_of d ∷ [])
+      one.wrote.written.history w.closed.gathers one.wrote.closed.gathers);
 }
   where
     longer : length new.register.history ≡ length old.register.history + 1
-    longer = ap (λ (k : List Event). length k) one.written.history ∙ length-append old.register.history (event_of d ∷ [])
+    longer = ap (λ (k : List Event). length k) one.wrote.written.history ∙ length-append old.register.history (event_of d ∷ [])
 
 -- the chain -----------------------------------------------------------------------------------------
 
--- another chain off which nothing is due leaves the tie
-pub tied_rechained : {base : Kept} → {T : Type 0} {g : Ghosts T} {h : List Event} {old : Tree T} (new : Tree T) (hubs later : Hubs) (chain : List Key) →
-    AreTied base g h old hubs → later ≡ hubs → new ≡ record old { chain = chain } → IsChained new.nodes new.chain → AreTied base g h new later
-tied_rechained {base} {T = T} {g} {h} {old} new hubs later chain tied calm same off =
-    subst (AreTied base g h new) (sym calm) (subst (λ (tree : Tree T). AreTied base g h tree hubs) (sym same) (record {
+-- another chain off which nothing is due leaves all of one history
+pub between_rechained : {T : Type 0} {g : Ghosts T} {now given new : Ground T} (chain : List Key) → now ≡ given → IsBetween g given →
+    new.register ≡ now.register → new.leases ≡ now.leases → new.hubs ≡ now.hubs → new.tree ≡ record now.tree { chain = chain } →
+    IsChained new.tree.nodes new.tree.chain → IsBetween g new
+between_rechained {T = T} {g} {now} {new = new} chain same given_is register leases hubs tree off = record {
+  tied = subst (λ (r : Register). AreTied r.base g r.history new.tree new.hubs) (sym register)
+      (subst (AreTied now.register.base g now.register.history new.tree) (sym hubs)
+      (subst (λ (t : Tree T). AreTied now.register.base g now.register.history t now.hubs) (sym tree) tied));
+  leased = subst (λ (r : Register). AreLeased r.history new.tree.resources new.leases) (sym register)
+      (subst (AreLeased now.register.history new.tree.resources) (sym leases)
+      (subst (λ (t : Tree T). AreLeased now.register.history t.resources now.leases) (sym tree) was.leased));
+}
+  where
+    was : IsBetween g now
+    was = seen (IsBetween g) same given_is
+
+    old : Tree T
+    old = now.tree
+
+    tied : AreTied now.register.base g now.register.history (record now.tree { chain = chain }) now.hubs
+    tied = record {
       of_tree = record {
-        records = rechained base h old.nodes old.chain chain tied.of_tree.records (subst (λ (tree : Tree T). IsChained tree.nodes tree.chain) same off);
-        stored = record { each = tied.of_tree.stored.each; every = tied.of_tree.stored.every };
+        records = rechained now.register.base now.register.history old.nodes old.chain chain was.tied.of_tree.records
+            (subst (λ (t : Tree T). IsChained t.nodes t.chain) tree off);
+        stored = record { each = was.tied.of_tree.stored.each; every = was.tied.of_tree.stored.every };
       };
-      published = tied.published;
-      joined = tied.joined;
-    }))
+      published = was.tied.published;
+      joined = was.tied.joined;
+    }
 
 -- the marks of this key's record are these, and its key goes on the chain where its node has to end by them
 pub record SetsMarks {T : Type 0} (old new : Tree T) (key : Key) (marks : Marks) : Type 0 where

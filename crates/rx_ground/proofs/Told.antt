@@ -9,6 +9,12 @@ use Rattle.rx_event.specs.Resources.{is_owned as is_owned_in, is_out, is_held as
 use Rattle.rx_ground.proofs.TreeAgreesOnResource.{owned_agrees, held_agrees}
 use Rattle.rx_ground.proofs.LeasesAfterEvent.{out_in_history as lease_in_history}
 use Rattle.rx_ground.proofs.Newest.{held_found}
+use Rattle.std.specs.Prelude.{if◌then◌else◌}
+use Rattle.rx_event.specs.declared.refusal.Refusal.{Refusal}
+use Rattle.rx_event.specs.declared.refusal.Refusal.TheVariants.{PlaceTaken, NothingOwed, NoHub}
+use Rattle.rx_ground.proofs.Common.{None, Ground, Gone, WrongKind, first_cause, false≢true}
+use Rattle.rx_event.specs.Causes.{is_gone, by_key}
+use Rattle.rx_ground.specs.FirstCause.{first_at_place, IsFreePlace}
 use Rattle.std.proofs.Common.{rules}
 
 module _ (base : Kept) {T : Type 0} (g : Ghosts T) (h : List Event) (tree : Tree T) (tied : IsTied base g h tree) where
@@ -52,6 +58,31 @@ taken_at base h x2 n m named is = search (rules, same_Some)
 pub unowed_at : (base : Kept) → (h : List Event) (place : Place) (n : ℕ) (m : Marks) → named_by place ≡ Some n → m ≡ marks_of base h n →
     is_unowed_place base h place ≡ is_unowed m place
 unowed_at base h x2 n m named is = search (rules, same_Some)
+
+-- a root's names none, and nothing stands against it
+pub placed_root : {T : Type 0} (b : Ground T) (place : Place) → named_by place ≡ None → IsFreePlace b true place
+placed_root b x1 none = search (rules, none-some)
+
+-- that a place was taken stands first, where its node is known and open and has such a place
+pub taken_first : {T : Type 0} (b : Ground T) (known : Bool) (place : Place) → known ≡ true → is_gone b.register.history place ≡ false →
+    is_wrong_place b.register.history place ≡ false → is_taken_place b.register.base b.register.history place ≡ true →
+    first_at_place b known place ≡ Some PlaceTaken
+taken_first b known place is gone wrong taken = rw (is, gone, wrong, taken) refl
+
+shape : (missing gone wrong taken unowed : Bool) (rest : Option Refusal) {why : Refusal} → missing ≡ false → (if gone then Some Gone else
+    if wrong then Some WrongKind else if taken then Some PlaceTaken else if unowed then Some NothingOwed else None) ≡ Some why →
+    Some why ≡ (if missing then Some NoHub else if gone then Some Gone else if wrong then Some WrongKind else if taken then Some PlaceTaken else
+    if unowed then Some NothingOwed else rest)
+shape x0 x1 x2 x3 x4 rest there some = search (rules, false≢true, none-some)
+
+-- what stands first against a place stands first against a call there, where no hub is missing
+pub placed_first : {T : Type 0} (b : Ground T) (known : Bool) (place : Place) (stand : Refusal → Bool) → stand NoHub ≡ false →
+    stand Gone ≡ is_gone b.register.history place → stand WrongKind ≡ is_wrong_place b.register.history place →
+    stand PlaceTaken ≡ is_taken_place b.register.base b.register.history place →
+    stand NothingOwed ≡ is_unowed_place b.register.base b.register.history place → {why : Refusal} → first_at_place b known place ≡ Some why →
+    Some why ≡ first_cause (by_key known stand)
+placed_first b false place stand there gone wrong taken unowed some = rw there (sym some)
+placed_first b true place stand there gone wrong taken unowed some = rw (gone, wrong, taken, unowed) (shape (stand NoHub) _ _ _ _ _ there some)
 
 -- a test holds of some member just where a member is counted
 any_counted : {X : Type 0} (p : X → Bool) (xs : List X) → list_any p xs ≡ nat_lt 0 (count_by p xs)

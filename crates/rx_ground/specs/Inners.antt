@@ -1,6 +1,6 @@
 -- The inner observables of a Switch: one at most is open, and one that is opened takes its place (Switch: it unsubscribes from
 -- the previous inner). No public clause cites this module.
-use Rattle.std.specs.Prelude.{◌≡◌, ℕ, ◌+◌, Bool, true, false, List, None, IsSome, length}
+use Rattle.std.specs.Prelude.{◌≡◌, ℕ, ◌+◌, ◌≤◌, Bool, true, false, List, None, IsSome, length}
 use Rattle.rx_event.specs.declared.event.Place.{Place}
 use Rattle.rx_event.specs.declared.event.Place.TheVariants.{Inner}
 use Rattle.rx_event.specs.declared.event.Event.{Event}
@@ -9,8 +9,11 @@ use Rattle.rx_event.specs.Tree.{at, is_open}
 use Rattle.rx_slots.specs.declared.Key.{Key}
 use Rattle.rx_slots.specs.Slots.{Slots, find}
 use Rattle.rx_tree.specs.declared.node.Node.{Node}
+use Rattle.rx_tree.specs.Owed.{owed_in}
 use Rattle.rx_tree.specs.Tree.{Tree}
 use Rattle.rx_hub.specs.Hubs.{Hubs}
+use Rattle.rx_ground.specs.Memory.{TakesNoMemory}
+use Rattle.rx_ground.specs.Shown.{Ground}
 use Rattle.rx_ground.specs.Ties.{Cuts, Moves, left_inside}
 
 -- the key of an open inner
@@ -70,3 +73,14 @@ module _ {T : Type 0} where
     pub exchanged : replaces ≡ true → ListsReplaced h place old new list longer
     pub same : replaces ≡ false → longer ≡ list
     pub counted : length longer + new.nodes.count ≡ length list + old.nodes.count
+
+  -- what making way for a node leaves of a ground: it is ready for what is opened at this place, and no memory was taken
+  pub record IsLeft (place : Place) (replaces : Bool) (old left : Ground T) : Type 0 where
+    pub way : MakesWay old.register.history place old.tree left.tree replaces
+    pub hubs : ClearsHubs old.register.history place old.tree left.tree old.hubs left.hubs replaces
+    pub register : left.register ≡ old.register
+    pub leases : left.leases ≡ old.leases
+    pub owed : owed_in left.tree.nodes ≤ owed_in old.tree.nodes
+    pub room : old.tree.nodes.room ≤ left.tree.nodes.room
+    pub memory : TakesNoMemory old left
+    pub lists : ListsWay old.register.history place old.tree left.tree old.closed left.closed replaces

@@ -10,6 +10,7 @@ pub mod Ties
 pub mod Settling
 pub mod Inners
 pub mod Told
+pub mod Wrote
 pub mod Checkpoints
 pub mod Costs
 pub mod OpeningHolding

@@ -2,7 +2,7 @@
 use Rattle.std.specs.Prelude.{◌≡◌, length}
 use Rattle.rx_resource.specs.declared.Resource.{Ghosts}
 use Rattle.rx_event.specs.Lawful.{IsForcedOn}
-use Rattle.rx_ground.specs.Gone.{Gathers}
+use Rattle.rx_ground.specs.Gone.{Closes}
 use Rattle.rx_ground.specs.Memory.{TakesNoMemory}
 use Rattle.rx_ground.specs.Shown.{Ground}
 use Rattle.rx_ground.specs.Ties.{IsStanding, KeepsOlder}
@@ -19,5 +19,5 @@ module _ {T : Type 0} where
     pub given : new.register.given ≡ old.register.given
     pub hubs : length new.hubs.hubs ≡ length old.hubs.hubs
     pub leases : new.leases ≡ old.leases
-    pub closed : Gathers old.register.history old.closed new.register.history new.closed
+    pub closed : Closes old new
     pub memory : TakesNoMemory old new

@@ -135,11 +135,10 @@ impl Wanted {
     /// Of opening such a node there: its event, and one for its end; with a connection that it forces, two
     /// more.
     #[inline(always)]
-    pub fn of_opening(place: Place, kind: Kind, connects: bool) -> Self
-        ensures cost { (h : _) → connects ≡ forces_connect h kind → result ≡ cost_of h (Opening place kind) }
+    pub fn of_opening(place: Place, _kind: Kind, connects: bool) -> Self
+        ensures cost { (h : _) → connects ≡ forces_connect h _kind → result ≡ cost_of h (Opening place _kind) }
         ensures few { result.events ≤ 4 }
     {
-        let _ = kind;
         let events: u64 = if connects { 3 } else { 1 };
         let nodes: u64 = if connects { 2 } else { 1 };
         Wanted {

@@ -16,7 +16,7 @@ ghost use Rattle.rx_event.specs.Causes.{is_wrong_place as is_wrong_place_in};
 ghost use Rattle.rx_event.specs.Causes.{is_taken_place as is_taken_place_in, is_unowed_place as is_unowed_place_in};
 ghost use Rattle.rx_event.specs.Causes.{is_crowded as is_crowded_in, is_over as is_over_in};
 ghost use Rattle.rx_ground.specs.Costs.{cost_of};
-ghost use Rattle.rx_ground.specs.FirstCause.{first_at, first_by_key, first_by_res_key, first_by_lease_key, has_node};
+ghost use Rattle.rx_ground.specs.FirstCause.{IsFreePlace, first_at, first_at_place, first_by_key, first_by_res_key, first_by_lease_key, has_node};
 ghost use Rattle.rx_ground.specs.Ties.{IsStanding, is_there};
 ghost use Rattle.rx_ground.specs.Told.{IsTold, IsFound, has_place as has_place_in};
 ghost use Rattle.rx_ground.specs.Told.{is_used as is_used_in, is_unowed as is_unowed_in};
@@ -50,8 +50,8 @@ fn is_used(marks: Marks, place: Place) -> bool
 {
     match place {
         Place::Root | Place::Inner(_) => false,
-        Place::Source(_) => marks.source_opened,
-        Place::Notifier(_) => marks.notifier_opened,
+        Place::Source(_) => marks.source_opened(),
+        Place::Notifier(_) => marks.notifier_opened(),
     }
 }
 
@@ -62,7 +62,7 @@ fn is_unowed(marks: Marks, place: Place) -> bool
 {
     match place {
         Place::Root | Place::Source(_) | Place::Notifier(_) => false,
-        Place::Inner(_) => marks.owed == 0,
+        Place::Inner(_) => marks.owed() == 0,
     }
 }
 
@@ -78,69 +78,31 @@ impl<R: Resource> Ground<R> {
         self.record(node)
     }
 
-    /// Whether the node of this key is open, if there is a key.
+    /// What stands first against a place, of what the record of the node above tells.
+    #[tactic(auto, using(crate::proofs::Told::placed_root, crate::proofs::Told::wrong_at, crate::proofs::Told::taken_at, crate::proofs::Told::unowed_at))]
     #[inline(always)]
-    fn is_there(&self, above: Option<Key>) -> bool
-        ensures { result ≡ is_there self.now.tree.nodes above }
-    {
-        match above {
-            Some(key) => self.contains(key),
-            None => true,
-        }
-    }
-
-    /// Whether the node above has no such place.
-    #[tactic(auto, using(crate::proofs::Told::wrong_at))]
-    #[inline(always)]
-    fn is_wrong_place(&self, place: Place, above: Option<Key>) -> bool
+    fn place_cause(&self, place: Place, above: Option<Key>) -> Option<Refusal>
         requires standing { IsStanding R.Resource self.now }
         requires named { named_by place ≡ option_map (λ key. key.number) above }
-        requires there { is_there self.now.tree.nodes above ≡ true }
-        ensures { result ≡ is_wrong_place_in self.now.register.history place }
+        ensures some { IfSome result (λ why. first_at_place self.now (is_there self.now.tree.nodes above) place ≡ Some why) }
+        ensures none { IfNone result (IsFreePlace self.now (is_there self.now.tree.nodes above) place) }
     {
-        match above {
-            Some(key) => match self.told(key) {
-                Some(record) => !has_place(record.made, place),
-                None => false,
-            },
-            None => false,
+        let Some(key) = above else {
+            return None;
+        };
+        let Some(record) = self.told(key) else {
+            return Some(Refusal::Gone);
+        };
+        if !has_place(record.made, place) {
+            return Some(Refusal::WrongKind);
         }
-    }
-
-    /// Whether the source or the notifier of the node above was opened, which the place is.
-    #[tactic(auto, using(crate::proofs::Told::taken_at))]
-    #[inline(always)]
-    fn is_taken_place(&self, place: Place, above: Option<Key>) -> bool
-        requires standing { IsStanding R.Resource self.now }
-        requires named { named_by place ≡ option_map (λ key. key.number) above }
-        requires there { is_there self.now.tree.nodes above ≡ true }
-        ensures { result ≡ is_taken_place_in self.now.register.base self.now.register.history place }
-    {
-        match above {
-            Some(key) => match self.told(key) {
-                Some(record) => is_used(record.marks, place),
-                None => false,
-            },
-            None => false,
+        if is_used(record.marks, place) {
+            return Some(Refusal::PlaceTaken);
         }
-    }
-
-    /// Whether no projected item waits for an inner, where the place is one's.
-    #[tactic(auto, using(crate::proofs::Told::unowed_at))]
-    #[inline(always)]
-    fn is_unowed_place(&self, place: Place, above: Option<Key>) -> bool
-        requires standing { IsStanding R.Resource self.now }
-        requires named { named_by place ≡ option_map (λ key. key.number) above }
-        requires there { is_there self.now.tree.nodes above ≡ true }
-        ensures { result ≡ is_unowed_place_in self.now.register.base self.now.register.history place }
-    {
-        match above {
-            Some(key) => match self.told(key) {
-                Some(record) => is_unowed(record.marks, place),
-                None => false,
-            },
-            None => false,
+        if is_unowed(record.marks, place) {
+            return Some(Refusal::NothingOwed);
         }
+        None
     }
 
     /// Whether so many open nodes more would be too many.
@@ -177,7 +139,6 @@ impl<R: Resource> Ground<R> {
 
     /// What stands first against opening a node there, which costs so much; `above` is the key of the node
     /// that the place names.
-    #[tactic(auto, using(crate::proofs::Told::there_open))]
     #[inline(always)]
     pub fn opening_cause(
         &self,
@@ -196,17 +157,8 @@ impl<R: Resource> Ground<R> {
         if found.is_missing {
             return Some(Refusal::NoHub);
         }
-        if !self.is_there(above) {
-            return Some(Refusal::Gone);
-        }
-        if self.is_wrong_place(place, above) {
-            return Some(Refusal::WrongKind);
-        }
-        if self.is_taken_place(place, above) {
-            return Some(Refusal::PlaceTaken);
-        }
-        if self.is_unowed_place(place, above) {
-            return Some(Refusal::NothingOwed);
+        if let Some(why) = self.place_cause(place, above) {
+            return Some(why);
         }
         if self.is_out_of_order(place, above, kind) {
             return Some(Refusal::HubOrder);
@@ -221,32 +173,21 @@ impl<R: Resource> Ground<R> {
     }
 
     /// What stands first against opening a mirroring node there with a resource.
-    #[tactic(auto, using(crate::proofs::Told::there_open))]
     #[inline]
     pub fn using_cause(
         &self,
         place: Place,
         above: Option<Key>,
-        tag: u64,
+        _tag: u64,
         is_fresh: bool,
     ) -> Option<Refusal>
         requires standing { IsStanding R.Resource self.now }
         requires named { named_by place ≡ option_map (λ key. key.number) above }
         ensures { result ≡
-            first_by_key self.now (is_there self.now.tree.nodes above) is_fresh (OpeningUsing place tag) }
+            first_by_key self.now (is_there self.now.tree.nodes above) is_fresh (OpeningUsing place _tag) }
     {
-        let _ = tag;
-        if !self.is_there(above) {
-            return Some(Refusal::Gone);
-        }
-        if self.is_wrong_place(place, above) {
-            return Some(Refusal::WrongKind);
-        }
-        if self.is_taken_place(place, above) {
-            return Some(Refusal::PlaceTaken);
-        }
-        if self.is_unowed_place(place, above) {
-            return Some(Refusal::NothingOwed);
+        if let Some(why) = self.place_cause(place, above) {
+            return Some(why);
         }
         if !is_fresh {
             return Some(Refusal::NotFresh);
@@ -262,7 +203,6 @@ impl<R: Resource> Ground<R> {
     }
 
     /// What stands first against opening a node there that holds a resource from then on.
-    #[tactic(auto, using(crate::proofs::Told::there_open))]
     #[inline]
     pub fn opening_holding_cause(
         &self,
@@ -282,17 +222,8 @@ impl<R: Resource> Ground<R> {
         if found.is_missing {
             return Some(Refusal::NoHub);
         }
-        if !self.is_there(above) {
-            return Some(Refusal::Gone);
-        }
-        if self.is_wrong_place(place, above) {
-            return Some(Refusal::WrongKind);
-        }
-        if self.is_taken_place(place, above) {
-            return Some(Refusal::PlaceTaken);
-        }
-        if self.is_unowed_place(place, above) {
-            return Some(Refusal::NothingOwed);
+        if let Some(why) = self.place_cause(place, above) {
+            return Some(why);
         }
         if self.is_out_of_order(place, above, kind) {
             return Some(Refusal::HubOrder);
@@ -312,11 +243,10 @@ impl<R: Resource> Ground<R> {
     /// What stands first against holding a resource at the node.
     #[tactic(auto, using(crate::proofs::Told::there_open))]
     #[inline(always)]
-    pub fn holding_cause(&self, node: Key, tag: u64, is_fresh: bool) -> Option<Refusal>
+    pub fn holding_cause(&self, node: Key, _tag: u64, is_fresh: bool) -> Option<Refusal>
         requires standing { IsStanding R.Resource self.now }
-        ensures { result ≡ first_by_key self.now (has_node self.now node) is_fresh (Holding node.number tag) }
+        ensures { result ≡ first_by_key self.now (has_node self.now node) is_fresh (Holding node.number _tag) }
     {
-        let _ = tag;
         if !self.contains(node) {
             return Some(Refusal::Gone);
         }
@@ -396,11 +326,10 @@ impl<R: Resource> Ground<R> {
 
     /// What stands first against the end of the leaf.
     #[inline(always)]
-    pub fn ending_cause(&self, leaf: Key, terminal: Terminal) -> Option<Refusal>
+    pub fn ending_cause(&self, leaf: Key, _terminal: Terminal) -> Option<Refusal>
         requires standing { IsStanding R.Resource self.now }
-        ensures { result ≡ first_at self.now leaf (Ending leaf.number terminal) }
+        ensures { result ≡ first_at self.now leaf (Ending leaf.number _terminal) }
     {
-        let _ = terminal;
         let Some(record) = self.told(leaf) else {
             return Some(Refusal::Gone);
         };
@@ -413,18 +342,17 @@ impl<R: Resource> Ground<R> {
     /// What stands first against ending the node with an error.
     #[tactic(auto, using(crate::proofs::Told::child_marked))]
     #[inline(always)]
-    pub fn aborting_cause(&self, node: Key, code: u32) -> Option<Refusal>
+    pub fn aborting_cause(&self, node: Key, _code: u32) -> Option<Refusal>
         requires standing { IsStanding R.Resource self.now }
-        ensures { result ≡ first_at self.now node (Aborting node.number code) }
+        ensures { result ≡ first_at self.now node (Aborting node.number _code) }
     {
-        let _ = code;
         let Some(record) = self.told(node) else {
             return Some(Refusal::Gone);
         };
         if !record.made.may_abort() {
             return Some(Refusal::WrongKind);
         }
-        if record.marks.open_children > 0 {
+        if record.marks.open_children() > 0 {
             return Some(Refusal::HasChild);
         }
         None
@@ -443,7 +371,7 @@ impl<R: Resource> Ground<R> {
         if !record.made.is_merging() {
             return Some(Refusal::WrongKind);
         }
-        if record.marks.owed == 0 {
+        if record.marks.owed() == 0 {
             return Some(Refusal::NothingOwed);
         }
         None
@@ -458,13 +386,12 @@ impl<R: Resource> Ground<R> {
         self.projecting_cause(merging)
     }
 
-    /// What stands first against failing at an item that was projected to the node. `code` is any `u32`.
+    /// What stands first against failing at an item that was projected to the node. The code is any `u32`.
     #[inline(always)]
-    pub fn failing_cause(&self, merging: Key, code: u32) -> Option<Refusal>
+    pub fn failing_cause(&self, merging: Key, _code: u32) -> Option<Refusal>
         requires standing { IsStanding R.Resource self.now }
-        ensures { result ≡ first_at self.now merging (Failing merging.number code) }
+        ensures { result ≡ first_at self.now merging (Failing merging.number _code) }
     {
-        let _ = code;
         self.projecting_cause(merging)
     }
 
@@ -477,7 +404,7 @@ impl<R: Resource> Ground<R> {
     {
         let record = self.told(merging)?;
         if record.made.is_merging() {
-            Some(record.marks.owed)
+            Some(record.marks.owed())
         } else {
             None
         }

@@ -12,13 +12,11 @@ ghost use Rattle.rx_event.specs.Events.{makes_hub, is_manual_hub, is_auto_hub};
 ghost use Rattle.rx_event.specs.Tree.{at, hubs, open_connections, places};
 ghost use Rattle.rx_event.specs.Calls.{Publishing, Connecting, Disconnecting};
 ghost use Rattle.rx_slots.specs.Slots.{find as find_in};
-ghost use Rattle.rx_hub.specs.After.{hubs_after};
 ghost use Rattle.rx_hub.specs.Hubs.{new_hub};
-ghost use Rattle.rx_register.specs.State.{Writes};
 ghost use Rattle.rx_ground.specs.FirstCause.{first_by_key};
-ghost use Rattle.rx_ground.specs.Memory.{TakesNoMemory};
 ghost use Rattle.rx_ground.specs.Shown.{list_room};
-ghost use Rattle.rx_ground.specs.Ties.{AreTied, AreLeased, IsReady, IsStanding, IsNewNode, KeepsOlder};
+ghost use Rattle.rx_ground.specs.Ties.{IsReady, IsStanding, KeepsOlder};
+ghost use Rattle.rx_ground.specs.Wrote.{IsBetween, Wrote, OpensNode};
 ghost use Rattle.rx_ground.specs.Told.{IsFound, IsHubTold, is_connected_manual};
 
 use crate::base::{Ground, Wanted};
@@ -116,11 +114,10 @@ impl<R: Resource> Ground<R> {
     }
 
     /// What stands first against making a hub: `TooMany` at 1,024 hubs, `Full`.
-    pub fn publishing_cause(&self, mode: Mode) -> Option<Refusal>
+    pub fn publishing_cause(&self, _mode: Mode) -> Option<Refusal>
         requires standing { IsStanding R.Resource self.now }
-        ensures { result ≡ first_by_key self.now true true (Publishing mode) }
+        ensures { result ≡ first_by_key self.now true true (Publishing _mode) }
     {
-        let _ = mode;
         if self.has_most_hubs() {
             return Some(Refusal::TooMany);
         }
@@ -202,20 +199,13 @@ impl<R: Resource> Ground<R> {
     /// Makes a hub, for which there is room, and to which nobody has subscribed (Publish, at reactivex.io).
     /// Its number is the place of the event.
     pub fn write_hub(&mut self, mode: Mode) -> u64
-        requires tied { AreTied self.old.register.base R.Resource self.old.register.history self.old.tree
-            self.old.hubs }
-        requires leased { AreLeased self.old.register.history self.old.tree.resources self.old.leases }
+        requires between { IsBetween R.Resource self.old }
         requires ready { IsReady self.old.register (Event.Hub mode) }
         requires room { 0 < self.old.hubs.room }
-        ensures written { Writes self.old.register (Event.Hub mode ∷ []) self.new.register }
-        ensures tied { AreTied self.new.register.base R.Resource self.new.register.history self.new.tree self.new.hubs }
-        ensures leased { AreLeased self.new.register.history self.new.tree.resources self.new.leases }
+        ensures wrote { Wrote R.Resource self.old (Event.Hub mode ∷ []) self.new }
+        ensures frame { self.new ≡ record self.old { register = self.new.register; hubs = self.new.hubs } }
         ensures number { result ≡ length self.old.register.history }
         ensures hubs { self.new.hubs.hubs ≡ self.old.hubs.hubs ++ new_hub result mode ∷ [] }
-        ensures tree { self.new.tree ≡ self.old.tree }
-        ensures leases { self.new.leases ≡ self.old.leases }
-        ensures closed { self.new.closed ≡ self.old.closed }
-        ensures memory { TakesNoMemory self.old self.new }
     {
         self.register.promise();
         let number = self.register.len();
@@ -227,25 +217,15 @@ impl<R: Resource> Ground<R> {
     /// Connects a hub that has no connection, for which there is room (Connect, at reactivex.io): the
     /// connection is a root, and its hub has it from then on. The key's number is the place of the event.
     pub fn write_connect(&mut self, hub: u64) -> Key
-        requires tied { AreTied self.old.register.base R.Resource self.old.register.history self.old.tree
-            self.old.hubs }
-        requires leased { AreLeased self.old.register.history self.old.tree.resources self.old.leases }
+        requires between { IsBetween R.Resource self.old }
         requires ready { IsReady self.old.register (Event.Connect hub) }
         requires room { 0 < self.old.tree.nodes.room }
         requires space { 0 < list_room self.old }
-        ensures written { Writes self.old.register (Event.Connect hub ∷ []) self.new.register }
-        ensures tied { AreTied self.new.register.base R.Resource self.new.register.history self.new.tree self.new.hubs }
-        ensures leased { AreLeased self.new.register.history self.new.tree.resources self.new.leases }
-        ensures new { IsNewNode self.old.tree.nodes self.new.tree.nodes (length self.old.register.history) result }
+        ensures wrote { Wrote R.Resource self.old (Event.Connect hub ∷ []) self.new }
+        ensures frame { OpensNode self.old self.new (Event.Connect hub) result }
         ensures nodes { KeepsOlder self.new.register.history (length self.old.register.history)
             self.old.tree.nodes self.new.tree.nodes }
-        ensures resources { self.new.tree.resources ≡ self.old.tree.resources }
-        ensures hubs { self.new.hubs ≡ record self.old.hubs {
-          hubs = hubs_after self.old.register.history (Event.Connect hub) result.slot self.old.hubs.hubs;
-        } }
-        ensures leases { self.new.leases ≡ self.old.leases }
         ensures closed { self.new.closed ≡ self.old.closed }
-        ensures memory { TakesNoMemory self.old self.new }
     {
         self.register.promise();
         self.tree.promise();

@@ -16,7 +16,7 @@ use std::marker::Model;
 #[derive(Clone, Copy, Debug, PartialEq, Eq)]
 pub struct LeaseKey {
     /// The slot, from 0 on.
-    pub slot: usize,
+    pub slot: u64,
     /// The number that the caller gave to `lease`.
     pub number: u64,
 }
@@ -117,7 +117,7 @@ impl Leases {
             unreachable!()
         };
         let _still = self.out.capacity();
-        self.order.join(0, key.slot);
+        self.order.join(0, key.slot as usize);
         LeaseKey {
             slot: key.slot,
             number: key.number,
@@ -154,7 +154,7 @@ impl Leases {
         };
         self.order.promise();
         let res = self.out.take(key)?;
-        self.order.leave(key.slot);
+        self.order.leave(key.slot as usize);
         Some(res)
     }
 

@@ -12,8 +12,9 @@
 //!   were closed since its list of them was last begun, and for how many more nodes a closing has room
 //!   (`specs/Shown`). `TakesNoMemory` says that each room fell by just what came, and rose by just what went
 //!   (`specs/Memory`). The rest is in `specs/Ties`.
-//! - A node `has_gone` where it was made and is open no more. A list `Gathers` what goes from one history to a
-//!   later one: it goes on with the keys of just those nodes, each once (`specs/Gone`).
+//! - A node `has_gone` where it was made and is open no more (`rx_event`). A list `Gathers` what goes from one history to a
+//!   later one: it goes on with the keys of just those nodes, each once, in the order in which they went; `Closes` says
+//!   this of a ground's list, and that an older node's key is the one that found it (`specs/Gone`).
 //! - `IsTied` says that the tree is that of the history: a record, with the marks that the history gives,
 //!   for just the nodes that are open, and each resource that was accepted and not taken, live and with
 //!   its uses. `AreTied` says beside this that the hubs are those of the history, and that each key they
@@ -29,6 +30,9 @@
 //! - What stands first against a call is `first_at`, of a call by an open node's key, and `first_by_key` and
 //!   `first_by_res_key` (`specs/FirstCause`), by the register's table of causes. So it is told for each call
 //!   of a book; whether a subscriber stands in the order of hubs is told by a climb from its place.
+//! - `IsBetween` says that register, tree, hubs and leases are of one history, in which something may still be due:
+//!   what each write asks for and leaves. `Wrote` is what each write does, and a frame, as `ChangesResources`, says what
+//!   it left as it was (`specs/Wrote`).
 //! - `Writes` (of the register) says that just these events were added. `KeepsNodes` and `KeepsHeld`
 //!   say that the keys of what is still there are as before; `KeepsOlder` says it of what is older than a
 //!   forced connection may be.

@@ -6,17 +6,15 @@ ghost use Rattle.rx_event.specs.declared.event.Place.{Place};
 ghost use Rattle.rx_event.specs.Events.{is_switch, named_by};
 ghost use Rattle.rx_event.specs.Tree.{at};
 ghost use Rattle.rx_slots.specs.Slots.{find};
-ghost use Rattle.rx_tree.specs.Owed.{owed_in};
 ghost use Rattle.rx_tree.specs.Tree.{IsPlaced, is_on};
-ghost use Rattle.rx_register.specs.State.{Writes};
-ghost use Rattle.rx_ground.specs.Gone.{Gathers};
-ghost use Rattle.rx_ground.specs.Inners.{IsInner, HasNoInner, IsReplaced, ReplacesNone, MakesWay, ClearsHubs, ListsWay};
-ghost use Rattle.rx_ground.specs.Ties.{AreTied, AreLeased, Cuts, IsReady, IsNewNode, IsUndue, Moves, Remarks};
-ghost use Rattle.rx_ground.specs.Ties.{left_inside, opened_marks};
+ghost use Rattle.rx_ground.specs.Wrote.{IsBetween, Wrote, IsCut, OpensNode};
+ghost use Rattle.rx_ground.specs.Inners.{IsLeft, IsInner, HasNoInner, IsReplaced, ReplacesNone};
+ghost use Rattle.rx_ground.specs.Ties.{IsReady, IsUndue, Moves, Remarks};
+ghost use Rattle.rx_ground.specs.Ties.{opened_marks};
 ghost use Rattle.rx_event.specs.declared.event.Kind.{Kind};
-ghost use Rattle.rx_hub.specs.After.{hubs_after, with_made};
+ghost use Rattle.rx_hub.specs.After.{with_made};
 ghost use Rattle.rx_hub.specs.Hubs.{find_hub, AreBelow, IsFree, StandsAt};
-ghost use Rattle.rx_ground.specs.Memory.{TakesNoMemory, TakesOneNode};
+ghost use Rattle.rx_ground.specs.Memory.{TakesOneNode};
 ghost use Rattle.rx_ground.specs.Told.{IsFoundAt};
 ghost use Rattle.rx_ground.specs.Shown.{list_room};
 
@@ -63,15 +61,14 @@ fn mark_opened<R: Resource>(tree: &mut Tree<R>, replaces: bool, place: Place, ab
 
 /// Lets a node that was opened join the hub that it subscribes to (Publish). Nothing for any other node.
 #[inline(always)]
-fn join(hubs: &mut Hubs, index: usize, place: Place, kind: Kind, key: Key)
+fn join(hubs: &mut Hubs, index: usize, _place: Place, kind: Kind, key: Key)
     requires there { (g : _) → kind ≡ Kind.Sub g → StandsAt hubs.old.hubs index g }
     requires newest { (g : _) → kind ≡ Kind.Sub g →
         IfSome (find_hub hubs.old.hubs g) (λ h. AreBelow key.number h.subscribers) }
     requires slot { (g : _) → kind ≡ Kind.Sub g → key.slot < hubs.old.slots }
     requires free { IsFree hubs.old.hubs key.slot }
-    ensures { hubs.new ≡ record hubs.old { hubs = with_made key (Event.Open place kind) hubs.old.hubs } }
+    ensures { hubs.new ≡ record hubs.old { hubs = with_made key (Event.Open _place kind) hubs.old.hubs } }
 {
-    let _ = place;
     if let Kind::Sub(hub) = kind {
         hubs.subscribe(index, hub, key);
     }
@@ -83,8 +80,7 @@ impl<R: Resource> Ground<R> {
     /// A Switch has two open children at most, its source and one inner, and only these are looked at.
     #[inline(never)]
     fn inner_of(&self, switch: Key) -> Option<Key>
-        requires tied { AreTied self.now.register.base R.Resource self.now.register.history self.now.tree
-            self.now.hubs }
+        requires between { IsBetween R.Resource self.now }
         requires open { IsSome (find self.now.tree.nodes switch) }
         requires switches { at is_switch self.now.register.history switch.number ≡ true }
         ensures some { IfSome result (IsInner self.now.register.history self.now.tree.nodes switch.number) }
@@ -103,8 +99,7 @@ impl<R: Resource> Ground<R> {
     /// is none. The inners of a FlatMap stay beside each other, however many they are.
     #[inline(always)]
     fn replaced(&self, place: Place, above: Option<Key>) -> Option<Key>
-        requires tied { AreTied self.now.register.base R.Resource self.now.register.history self.now.tree
-            self.now.hubs }
+        requires between { IsBetween R.Resource self.now }
         requires named { named_by place ≡ option_map (λ key. key.number) above }
         requires there { IfSome above (λ key. IsSome (find self.now.tree.nodes key)) }
         ensures some { IfSome result (IsReplaced self.now.register.history self.now.tree.nodes place) }
@@ -123,19 +118,9 @@ impl<R: Resource> Ground<R> {
     // Moves out a node and all below it: apart, so that what opens a node stays small.
     #[inline(never)]
     fn cut_apart(&mut self, node: Key)
-        requires tied { AreTied self.old.register.base R.Resource self.old.register.history self.old.tree
-            self.old.hubs }
+        requires between { IsBetween R.Resource self.old }
         requires open { IsSome (find self.old.tree.nodes node) }
-        ensures cut { Cuts self.old.tree self.new.tree node.number }
-        ensures owed { owed_in self.new.tree.nodes ≤ owed_in self.old.tree.nodes }
-        ensures register { self.new.register ≡ self.old.register }
-        ensures room { self.old.tree.nodes.room ≤ self.new.tree.nodes.room }
-        ensures hubs { self.new.hubs ≡ left_inside self.old.register.history node.number None self.old.hubs }
-        ensures leases { self.new.leases ≡ self.old.leases }
-        ensures closed { Moves self.old.tree.nodes node.number self.old.closed self.new.closed }
-        ensures listed { length self.new.closed + self.new.tree.nodes.count ≡
-            length self.old.closed + self.old.tree.nodes.count }
-        ensures memory { TakesNoMemory self.old self.new }
+        ensures { IsCut self.old self.new node.number None }
     {
         self.cut(node, None);
     }
@@ -144,20 +129,10 @@ impl<R: Resource> Ground<R> {
     /// all below it. Whether there was one.
     #[inline(always)]
     fn exchange(&mut self, place: Place, above: Option<Key>) -> bool
-        requires tied { AreTied self.old.register.base R.Resource self.old.register.history self.old.tree
-            self.old.hubs }
+        requires between { IsBetween R.Resource self.old }
         requires named { named_by place ≡ option_map (λ key. key.number) above }
         requires there { IfSome above (λ key. IsSome (find self.old.tree.nodes key)) }
-        ensures way { MakesWay self.old.register.history place self.old.tree self.new.tree result }
-        ensures register { self.new.register ≡ self.old.register }
-        ensures room { self.old.tree.nodes.room ≤ self.new.tree.nodes.room }
-        ensures owed { owed_in self.new.tree.nodes ≤ owed_in self.old.tree.nodes }
-        ensures hubs { ClearsHubs self.old.register.history place self.old.tree self.new.tree
-            self.old.hubs self.new.hubs result }
-        ensures leases { self.new.leases ≡ self.old.leases }
-        ensures closed { ListsWay self.old.register.history place self.old.tree self.new.tree
-            self.old.closed self.new.closed result }
-        ensures memory { TakesNoMemory self.old self.new }
+        ensures { IsLeft place result self.old self.new }
     {
         let Some(inner) = self.replaced(place, above) else {
             return false;
@@ -171,9 +146,7 @@ impl<R: Resource> Ground<R> {
     /// subscriber of a hub comes last among those of its hub (Publish), which stands at this index.
     #[inline(always)]
     pub fn write_open(&mut self, place: Place, kind: Kind, above: Option<Key>, index: usize) -> Key
-        requires tied { AreTied self.old.register.base R.Resource self.old.register.history self.old.tree
-            self.old.hubs }
-        requires leased { AreLeased self.old.register.history self.old.tree.resources self.old.leases }
+        requires between { IsBetween R.Resource self.old }
         requires ready { IsReady self.old.register (Event.Open place kind) }
         requires placed { IsPlaced self.old.tree.nodes (length self.old.register.history) (Event.Open place kind) above }
         requires room { 0 < self.old.tree.nodes.room }
@@ -181,19 +154,9 @@ impl<R: Resource> Ground<R> {
         requires slots { 0 < length self.old.hubs.hubs →
             self.old.tree.nodes.count + self.old.tree.nodes.room ≤ self.old.hubs.slots }
         requires found { IsFoundAt self.old.hubs.hubs kind index }
-        ensures written { Writes self.old.register (Event.Open place kind ∷ []) self.new.register }
-        ensures tied { AreTied self.new.register.base R.Resource self.new.register.history self.new.tree self.new.hubs }
-        ensures leased { AreLeased self.new.register.history self.new.tree.resources self.new.leases }
-        ensures new { IsNewNode self.old.tree.nodes self.new.tree.nodes (length self.old.register.history) result }
-        ensures resources { self.new.tree.resources ≡ self.old.tree.resources }
+        ensures wrote { Wrote R.Resource self.old (Event.Open place kind ∷ []) self.new }
+        ensures frame { OpensNode self.old self.new (Event.Open place kind) result }
         ensures left { TakesOneNode self.old self.new }
-        ensures hubs { self.new.hubs ≡ record self.old.hubs {
-          hubs = hubs_after self.old.register.history (Event.Open place kind) result.slot self.old.hubs.hubs;
-        } }
-        ensures leases { self.new.leases ≡ self.old.leases }
-        ensures closed { Gathers self.old.register.history self.old.closed self.new.register.history
-            self.new.closed }
-        ensures memory { TakesNoMemory self.old self.new }
     {
         self.register.promise();
         self.tree.promise();

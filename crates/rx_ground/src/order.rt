@@ -67,13 +67,12 @@ impl<R: Resource> Ground<R> {
     /// Whether a subscriber of a hub at this place would stand inside a connection of its own hub or of an earlier
     /// one.
     #[inline(always)]
-    pub(crate) fn is_out_of_order(&self, place: Place, above: Option<Key>, kind: Kind) -> bool
+    pub(crate) fn is_out_of_order(&self, _place: Place, above: Option<Key>, kind: Kind) -> bool
         requires standing { IsStanding R.Resource self.now }
-        requires named { named_by place ≡ option_map (λ key. key.number) above }
+        requires named { named_by _place ≡ option_map (λ key. key.number) above }
         requires there { is_there self.now.tree.nodes above ≡ true }
-        ensures { result ≡ is_out_of_order_in self.now.register.history place kind }
+        ensures { result ≡ is_out_of_order_in self.now.register.history _place kind }
     {
-        let _ = place;
         match (kind, above) {
             (Kind::Sub(hub), Some(node)) => self.is_inside_up_to(hub, node),
             _ => false,

@@ -258,23 +258,21 @@ fn pass_on<R: Resource>(
 fn pass_one<R: Resource>(
     register: &mut Register,
     tree: &mut Tree<R>,
-    hubs: &Hubs,
+    _hubs: &Hubs,
     only: Stop,
-    leaf: Key,
+    _leaf: Key,
     value: i64,
 )
     requires lawful { IsLawful register.old.base register.old.history }
-    requires walk { IsWalk register.old.base register.old.history tree.old.nodes hubs.now.hubs }
+    requires walk { IsWalk register.old.base register.old.history tree.old.nodes _hubs.now.hubs }
     requires records { AreRecords register.old.base register.old.history tree.old.nodes tree.old.chain }
-    requires open { IsSome (find tree.old.nodes leaf) }
-    requires notes { length (mail_of register.old.history (Event.Item leaf.number value)) ≤ register.old.mail_room }
+    requires open { IsSome (find tree.old.nodes _leaf) }
+    requires notes { length (mail_of register.old.history (Event.Item _leaf.number value)) ≤ register.old.mail_room }
     requires pending { register.old.pending ≡ [] }
-    requires only { stops_over tree.old.nodes hubs.now.hubs leaf ≡ only ∷ [] }
+    requires only { stops_over tree.old.nodes _hubs.now.hubs _leaf ≡ only ∷ [] }
     requires countable { owed_in tree.old.nodes ≤ 4503608216256510 }
-    ensures { IsPassing register.old tree.old leaf.number value register.new tree.new [] }
+    ensures { IsPassing register.old tree.old _leaf.number value register.new tree.new [] }
 {
-    let _ = hubs;
-    let _ = leaf;
     tell_at(register, only, value);
     mark_at(tree, only);
 }

@@ -1,17 +1,15 @@
 //! What operators and hubs still have to do, done.
 
-ghost use Rattle.std.specs.Prelude.{◌≡◌, ◌<◌, ◌∷◌, [], true, length, MatchOption};
+ghost use Rattle.std.specs.Prelude.{◌≡◌, ◌<◌, ◌∷◌, [], true, MatchOption};
 ghost use Rattle.rx_event.specs.Forced.{IsSettled};
-ghost use Rattle.rx_event.specs.Lawful.{IsForcedOn};
 ghost use Rattle.rx_register.specs.Paid.{IsPaid};
 ghost use Rattle.rx_register.specs.State.{Writes};
 ghost use Rattle.rx_hub.specs.declared.hub.HubDue.{HubDue};
 ghost use Rattle.rx_hub.specs.Due.{event_of};
-ghost use Rattle.rx_ground.specs.Ties.{AreTied, AreLeased, IsStanding, IsReady, IsNext, KeepsOlder, WithChain};
+ghost use Rattle.rx_ground.specs.Ties.{IsReady, IsNext, WithChain};
 ghost use Rattle.rx_ground.specs.Ties.{HasRoomToConnect, is_there, key_due};
-ghost use Rattle.rx_ground.specs.Memory.{TakesNoMemory};
 ghost use Rattle.rx_ground.specs.Settling.{Settles};
-ghost use Rattle.rx_ground.specs.Gone.{Gathers};
+ghost use Rattle.rx_ground.specs.Wrote.{IsBetween, Wrote, ChangesForced};
 ghost use Rattle.rx_ground.specs.Shown.{list_room};
 
 use crate::base::Ground;
@@ -22,8 +20,7 @@ impl<R: Resource> Ground<R> {
     /// Whether no hub and no node was changed so that something may be due there: then nothing is forced.
     #[inline(always)]
     fn is_calm(&self) -> bool
-        requires tied { AreTied self.now.register.base R.Resource self.now.register.history self.now.tree
-            self.now.hubs }
+        requires between { IsBetween R.Resource self.now }
         ensures { result ≡ true → IsSettled self.now.register.base self.now.register.history }
     {
         if !self.hubs.is_calm() {
@@ -36,9 +33,8 @@ impl<R: Resource> Ground<R> {
     /// nothing is looked at.
     #[inline(always)]
     fn next_forced(&mut self) -> Option<HubDue>
-        requires tied { AreTied self.old.register.base R.Resource self.old.register.history self.old.tree
-            self.old.hubs }
-        ensures tied { AreTied self.new.register.base R.Resource self.new.register.history self.new.tree self.new.hubs }
+        requires between { IsBetween R.Resource self.old }
+        ensures between { IsBetween R.Resource self.new }
         ensures next { MatchOption result (IsSettled self.new.register.base self.new.register.history)
             (IsNext self.new) }
         ensures kept { WithChain self.old self.new }
@@ -54,9 +50,8 @@ impl<R: Resource> Ground<R> {
     #[cold]
     #[inline(never)]
     fn find_forced(&mut self) -> Option<HubDue>
-        requires tied { AreTied self.old.register.base R.Resource self.old.register.history self.old.tree
-            self.old.hubs }
-        ensures tied { AreTied self.new.register.base R.Resource self.new.register.history self.new.tree self.new.hubs }
+        requires between { IsBetween R.Resource self.old }
+        ensures between { IsBetween R.Resource self.new }
         ensures next { MatchOption result (IsSettled self.new.register.base self.new.register.history)
             (IsNext self.new) }
         ensures kept { WithChain self.old self.new }
@@ -72,23 +67,12 @@ impl<R: Resource> Ground<R> {
     #[cold]
     #[inline(never)]
     fn write_due(&mut self, due: HubDue)
-        requires tied { AreTied self.old.register.base R.Resource self.old.register.history self.old.tree
-            self.old.hubs }
-        requires leased { AreLeased self.old.register.history self.old.tree.resources self.old.leases }
+        requires between { IsBetween R.Resource self.old }
         requires ready { IsReady self.old.register (event_of due) }
         requires there { is_there self.old.tree.nodes (key_due due) ≡ true }
         requires room { (g : _) → due ≡ HubDue.Connect g → (0 < self.old.tree.nodes.room) × (0 < list_room self.old) }
-        ensures written { Writes self.old.register (event_of due ∷ []) self.new.register }
-        ensures tied { AreTied self.new.register.base R.Resource self.new.register.history self.new.tree self.new.hubs }
-        ensures leased { AreLeased self.new.register.history self.new.tree.resources self.new.leases }
-        ensures nodes { KeepsOlder self.new.register.history (length self.old.register.history)
-            self.old.tree.nodes self.new.tree.nodes }
-        ensures resources { self.new.tree.resources ≡ self.old.tree.resources }
-        ensures hubs { length self.new.hubs.hubs ≡ length self.old.hubs.hubs }
-        ensures leases { self.new.leases ≡ self.old.leases }
-        ensures closed { Gathers self.old.register.history self.old.closed self.new.register.history
-            self.new.closed }
-        ensures memory { TakesNoMemory self.old self.new }
+        ensures wrote { Wrote R.Resource self.old (event_of due ∷ []) self.new }
+        ensures frame { ChangesForced self.old self.new }
     {
         match due {
             HubDue::Connect(hub) => {
@@ -103,24 +87,10 @@ impl<R: Resource> Ground<R> {
     /// forced there is room.
     #[inline(always)]
     pub fn settle(&mut self)
-        requires tied { AreTied self.old.register.base R.Resource self.old.register.history self.old.tree
-            self.old.hubs }
-        requires leased { AreLeased self.old.register.history self.old.tree.resources self.old.leases }
+        requires between { IsBetween R.Resource self.old }
         requires paid { IsPaid self.old.register }
         requires room { HasRoomToConnect self.old.register.history self.old.tree.nodes.room (list_room self.old) }
-        ensures standing { IsStanding R.Resource self.new }
-        ensures base { self.new.register.base ≡ self.old.register.base }
-        ensures forced { IsForcedOn self.old.register.base self.old.register.history self.new.register.history }
-        ensures nodes { KeepsOlder self.new.register.history (length self.old.register.history)
-            self.old.tree.nodes self.new.tree.nodes }
-        ensures resources { self.new.tree.resources ≡ self.old.tree.resources }
-        ensures limit { self.new.register.limit ≡ self.old.register.limit }
-        ensures given { self.new.register.given ≡ self.old.register.given }
-        ensures hubs { length self.new.hubs.hubs ≡ length self.old.hubs.hubs }
-        ensures leases { self.new.leases ≡ self.old.leases }
-        ensures closed { Gathers self.old.register.history self.old.closed self.new.register.history
-            self.new.closed }
-        ensures memory { TakesNoMemory self.old self.new }
+        ensures { Settles R.Resource self.old self.new }
     {
         if self.is_calm() {
             return;
@@ -132,9 +102,7 @@ impl<R: Resource> Ground<R> {
     #[cold]
     #[inline(never)]
     fn settle_all(&mut self)
-        requires tied { AreTied self.old.register.base R.Resource self.old.register.history self.old.tree
-            self.old.hubs }
-        requires leased { AreLeased self.old.register.history self.old.tree.resources self.old.leases }
+        requires between { IsBetween R.Resource self.old }
         requires paid { IsPaid self.old.register }
         requires room { HasRoomToConnect self.old.register.history self.old.tree.nodes.room (list_room self.old) }
         ensures { Settles R.Resource self.old self.new }

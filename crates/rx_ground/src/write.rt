@@ -11,15 +11,12 @@ ghost use Rattle.rx_event.specs.Forced.{IsSettled};
 ghost use Rattle.rx_event.specs.Resources.{is_waiting};
 ghost use Rattle.rx_resource.specs.declared.Life.{Life};
 ghost use Rattle.rx_slots.specs.Slots.{find};
-ghost use Rattle.rx_tree.specs.Owed.{owed_in};
 ghost use Rattle.rx_tree.specs.Resources.{is_held_at, is_owned_at};
 ghost use Rattle.rx_register.specs.State.{Writes};
-ghost use Rattle.rx_ground.specs.Reached.{MakesOnly};
-ghost use Rattle.rx_ground.specs.Gone.{Gathers};
-ghost use Rattle.rx_ground.specs.Ties.{AreTied, AreLeased, IsReady, KeepsNodes, KeepsHeld, IsListed};
-ghost use Rattle.rx_ground.specs.Ties.{Remarks, Cuts, Moves, left_inside};
 ghost use Rattle.rx_hub.specs.After.{end_by};
-ghost use Rattle.rx_ground.specs.Memory.{TakesNoMemory};
+ghost use Rattle.rx_ground.specs.Reached.{MakesOnly};
+ghost use Rattle.rx_ground.specs.Ties.{IsReady, IsListed, Remarks};
+ghost use Rattle.rx_ground.specs.Wrote.{IsBetween, Wrote, ChangesResources, ChangesMarks, ClosesNodes, IsCut};
 
 use crate::base::Ground;
 use crate::route::{Way, pass};
@@ -50,6 +47,17 @@ fn tell_end(register: &mut Register, node: u64, terminal: Terminal, is_root: boo
     }
 }
 
+/// Writes the end of a node, of which a root is told.
+#[inline(always)]
+fn write_told(register: &mut Register, node: u64, terminal: Terminal, is_root: bool)
+    requires ready { IsReady register.old (Event.End node terminal) }
+    requires root { is_root ≡ at is_root_in register.old.history node }
+    ensures { Writes register.old (Event.End node terminal ∷ []) register.new }
+{
+    tell_end(register, node, terminal, is_root);
+    register.write(Event::End(node, terminal));
+}
+
 /// Marks the node above as one whose child ended, which stood at its source's place or not.
 #[inline(always)]
 fn mark_end<R: Resource>(
@@ -75,26 +83,16 @@ impl<R: Resource> Ground<R> {
     /// Accepts a fresh resource at an open node, for which there is room.
     #[inline(always)]
     pub fn write_accept(&mut self, node: Key, resource: R) -> ResKey
-        requires tied { AreTied self.old.register.base R.Resource self.old.register.history self.old.tree
-            self.old.hubs }
-        requires leased { AreLeased self.old.register.history self.old.tree.resources self.old.leases }
+        requires between { IsBetween R.Resource self.old }
         requires ready { IsReady self.old.register (Event.Accept node.number (R.tag_of resource)) }
         requires open { IsSome (find self.old.tree.nodes node) }
         requires live { R.life_of resource ≡ Life.Live }
         requires unused { R.uses_of resource ≡ 0 }
         requires room { 0 < self.old.tree.resources.room }
-        ensures written { Writes self.old.register (Event.Accept node.number (R.tag_of resource) ∷ []) self.new.register }
-        ensures tied { AreTied self.new.register.base R.Resource self.new.register.history self.new.tree self.new.hubs }
-        ensures leased { AreLeased self.new.register.history self.new.tree.resources self.new.leases }
+        ensures wrote { Wrote R.Resource self.old (Event.Accept node.number (R.tag_of resource) ∷ []) self.new }
+        ensures frame { ChangesResources self.old self.new }
         ensures number { result.number ≡ length self.old.register.history }
         ensures held { is_held_at self.new.tree result ≡ true }
-        ensures nodes { self.new.tree.nodes ≡ self.old.tree.nodes }
-        ensures chain { self.new.tree.chain ≡ self.old.tree.chain }
-        ensures kept { KeepsHeld self.old.tree self.new.tree (length self.old.register.history) }
-        ensures hubs { self.new.hubs ≡ self.old.hubs }
-        ensures leases { self.new.leases ≡ self.old.leases }
-        ensures closed { self.new.closed ≡ self.old.closed }
-        ensures memory { TakesNoMemory self.old self.new }
     {
         self.register.promise();
         self.tree.promise();
@@ -110,20 +108,11 @@ impl<R: Resource> Ground<R> {
     /// Uses a held resource on a word, and answers its word.
     #[inline(always)]
     pub fn write_use(&mut self, res: ResKey, word: u64) -> u64
-        requires tied { AreTied self.old.register.base R.Resource self.old.register.history self.old.tree
-            self.old.hubs }
-        requires leased { AreLeased self.old.register.history self.old.tree.resources self.old.leases }
+        requires between { IsBetween R.Resource self.old }
         requires ready { IsReady self.old.register (Event.Use res.number) }
         requires held { IsTrue (is_held_at self.old.tree res) }
-        ensures written { Writes self.old.register (Event.Use res.number ∷ []) self.new.register }
-        ensures tied { AreTied self.new.register.base R.Resource self.new.register.history self.new.tree self.new.hubs }
-        ensures leased { AreLeased self.new.register.history self.new.tree.resources self.new.leases }
-        ensures nodes { self.new.tree.nodes ≡ self.old.tree.nodes }
-        ensures kept { KeepsHeld self.old.tree self.new.tree (length self.old.register.history) }
-        ensures hubs { self.new.hubs ≡ self.old.hubs }
-        ensures leases { self.new.leases ≡ self.old.leases }
-        ensures closed { self.new.closed ≡ self.old.closed }
-        ensures memory { TakesNoMemory self.old self.new }
+        ensures wrote { Wrote R.Resource self.old (Event.Use res.number ∷ []) self.new }
+        ensures frame { ChangesResources self.old self.new }
     {
         self.register.promise();
         self.tree.promise();
@@ -135,20 +124,11 @@ impl<R: Resource> Ground<R> {
     /// Removes an owned resource from its node.
     #[inline]
     pub fn write_remove(&mut self, res: ResKey)
-        requires tied { AreTied self.old.register.base R.Resource self.old.register.history self.old.tree
-            self.old.hubs }
-        requires leased { AreLeased self.old.register.history self.old.tree.resources self.old.leases }
+        requires between { IsBetween R.Resource self.old }
         requires ready { IsReady self.old.register (Event.Remove res.number) }
         requires owned { IsTrue (is_owned_at self.old.tree res) }
-        ensures written { Writes self.old.register (Event.Remove res.number ∷ []) self.new.register }
-        ensures tied { AreTied self.new.register.base R.Resource self.new.register.history self.new.tree self.new.hubs }
-        ensures leased { AreLeased self.new.register.history self.new.tree.resources self.new.leases }
-        ensures nodes { self.new.tree.nodes ≡ self.old.tree.nodes }
-        ensures kept { KeepsHeld self.old.tree self.new.tree (length self.old.register.history) }
-        ensures hubs { self.new.hubs ≡ self.old.hubs }
-        ensures leases { self.new.leases ≡ self.old.leases }
-        ensures closed { self.new.closed ≡ self.old.closed }
-        ensures memory { TakesNoMemory self.old self.new }
+        ensures wrote { Wrote R.Resource self.old (Event.Remove res.number ∷ []) self.new }
+        ensures frame { ChangesResources self.old self.new }
     {
         self.register.promise();
         self.tree.promise();
@@ -159,20 +139,11 @@ impl<R: Resource> Ground<R> {
     /// Declines an item that was projected to this FlatMap or Switch.
     #[inline]
     pub fn write_decline(&mut self, merging: Key)
-        requires tied { AreTied self.old.register.base R.Resource self.old.register.history self.old.tree
-            self.old.hubs }
-        requires leased { AreLeased self.old.register.history self.old.tree.resources self.old.leases }
+        requires between { IsBetween R.Resource self.old }
         requires ready { IsReady self.old.register (Event.Decline merging.number) }
         requires open { IsSome (find self.old.tree.nodes merging) }
-        ensures written { Writes self.old.register (Event.Decline merging.number ∷ []) self.new.register }
-        ensures tied { AreTied self.new.register.base R.Resource self.new.register.history self.new.tree self.new.hubs }
-        ensures leased { AreLeased self.new.register.history self.new.tree.resources self.new.leases }
-        ensures kept { KeepsNodes self.new.register.history self.old.tree.nodes self.new.tree.nodes }
-        ensures resources { self.new.tree.resources ≡ self.old.tree.resources }
-        ensures hubs { self.new.hubs ≡ self.old.hubs }
-        ensures leases { self.new.leases ≡ self.old.leases }
-        ensures closed { self.new.closed ≡ self.old.closed }
-        ensures memory { TakesNoMemory self.old self.new }
+        ensures wrote { Wrote R.Resource self.old (Event.Decline merging.number ∷ []) self.new }
+        ensures frame { ChangesMarks self.old self.new }
     {
         self.register.promise();
         self.tree.promise();
@@ -185,21 +156,12 @@ impl<R: Resource> Ground<R> {
     /// stop, it is taken there without a walk.
     #[inline(always)]
     pub fn write_item(&mut self, leaf: Key, value: i64, way: Way)
-        requires tied { AreTied self.old.register.base R.Resource self.old.register.history self.old.tree
-            self.old.hubs }
-        requires leased { AreLeased self.old.register.history self.old.tree.resources self.old.leases }
+        requires between { IsBetween R.Resource self.old }
         requires ready { IsReady self.old.register (Event.Item leaf.number value) }
         requires open { IsSome (find self.old.tree.nodes leaf) }
         requires only { MakesOnly self.old.tree.nodes self.old.hubs.hubs leaf way.only }
-        ensures written { Writes self.old.register (Event.Item leaf.number value ∷ []) self.new.register }
-        ensures tied { AreTied self.new.register.base R.Resource self.new.register.history self.new.tree self.new.hubs }
-        ensures leased { AreLeased self.new.register.history self.new.tree.resources self.new.leases }
-        ensures kept { KeepsNodes self.new.register.history self.old.tree.nodes self.new.tree.nodes }
-        ensures resources { self.new.tree.resources ≡ self.old.tree.resources }
-        ensures hubs { self.new.hubs ≡ self.old.hubs }
-        ensures leases { self.new.leases ≡ self.old.leases }
-        ensures closed { self.new.closed ≡ self.old.closed }
-        ensures memory { TakesNoMemory self.old self.new }
+        ensures wrote { Wrote R.Resource self.old (Event.Item leaf.number value ∷ []) self.new }
+        ensures frame { ChangesMarks self.old self.new }
     {
         self.register.promise();
         self.tree.promise();
@@ -219,19 +181,9 @@ impl<R: Resource> Ground<R> {
     /// hubs. A connection among them ended so if it ended by itself.
     #[inline(always)]
     pub(crate) fn cut(&mut self, node: Key, ended: Option<LastEnd>)
-        requires tied { AreTied self.old.register.base R.Resource self.old.register.history self.old.tree
-            self.old.hubs }
+        requires between { IsBetween R.Resource self.old }
         requires open { IsSome (find self.old.tree.nodes node) }
-        ensures cut { Cuts self.old.tree self.new.tree node.number }
-        ensures owed { owed_in self.new.tree.nodes ≤ owed_in self.old.tree.nodes }
-        ensures register { self.new.register ≡ self.old.register }
-        ensures room { self.old.tree.nodes.room ≤ self.new.tree.nodes.room }
-        ensures hubs { self.new.hubs ≡ left_inside self.old.register.history node.number ended self.old.hubs }
-        ensures leases { self.new.leases ≡ self.old.leases }
-        ensures closed { Moves self.old.tree.nodes node.number self.old.closed self.new.closed }
-        ensures listed { length self.new.closed + self.new.tree.nodes.count ≡
-            length self.old.closed + self.old.tree.nodes.count }
-        ensures memory { TakesNoMemory self.old self.new }
+        ensures { IsCut self.old self.new node.number ended }
     {
         self.register.promise();
         self.tree.promise();
@@ -243,32 +195,22 @@ impl<R: Resource> Ground<R> {
 
     /// Ends an open node, and closes all below it. Of a connection its hub keeps how it ended.
     pub fn write_end(&mut self, node: Key, terminal: Terminal)
-        requires tied { AreTied self.old.register.base R.Resource self.old.register.history self.old.tree
-            self.old.hubs }
-        requires leased { AreLeased self.old.register.history self.old.tree.resources self.old.leases }
+        requires between { IsBetween R.Resource self.old }
         requires ready { IsReady self.old.register (Event.End node.number terminal) }
         requires open { IsSome (find self.old.tree.nodes node) }
-        ensures written { Writes self.old.register (Event.End node.number terminal ∷ []) self.new.register }
-        ensures tied { AreTied self.new.register.base R.Resource self.new.register.history self.new.tree self.new.hubs }
-        ensures leased { AreLeased self.new.register.history self.new.tree.resources self.new.leases }
-        ensures kept { KeepsNodes self.new.register.history self.old.tree.nodes self.new.tree.nodes }
-        ensures resources { self.new.tree.resources ≡ self.old.tree.resources }
-        ensures hubs { self.new.hubs ≡ left_inside self.old.register.history node.number
-            (end_by (length self.old.register.history) (Event.End node.number terminal)) self.old.hubs }
-        ensures leases { self.new.leases ≡ self.old.leases }
-        ensures closed { Gathers self.old.register.history self.old.closed self.new.register.history
-            self.new.closed }
-        ensures memory { TakesNoMemory self.old self.new }
+        ensures wrote { Wrote R.Resource self.old (Event.End node.number terminal ∷ []) self.new }
+        ensures frame { ClosesNodes self.old self.new node.number
+            (end_by (length self.old.register.history) (Event.End node.number terminal)) }
     {
         self.register.promise();
         self.tree.promise();
         let record = self.tree.at(node.slot);
         let above = record.parent();
         let is_source = record.is_source();
-        tell_end(&mut self.register, node.number, terminal, record.is_root());
+        let is_root = record.is_root();
         let place = self.register.len();
         self.cut(node, Some(LastEnd { place, terminal }));
-        self.register.write(Event::End(node.number, terminal));
+        write_told(&mut self.register, node.number, terminal, is_root);
         self.tree.promise();
         mark_end(&mut self.tree, above, is_source, terminal);
     }
@@ -276,21 +218,11 @@ impl<R: Resource> Ground<R> {
     /// Closes an open root, and all below it.
     #[inline]
     pub fn write_close(&mut self, node: Key)
-        requires tied { AreTied self.old.register.base R.Resource self.old.register.history self.old.tree
-            self.old.hubs }
-        requires leased { AreLeased self.old.register.history self.old.tree.resources self.old.leases }
+        requires between { IsBetween R.Resource self.old }
         requires ready { IsReady self.old.register (Event.Close node.number) }
         requires open { IsSome (find self.old.tree.nodes node) }
-        ensures written { Writes self.old.register (Event.Close node.number ∷ []) self.new.register }
-        ensures tied { AreTied self.new.register.base R.Resource self.new.register.history self.new.tree self.new.hubs }
-        ensures leased { AreLeased self.new.register.history self.new.tree.resources self.new.leases }
-        ensures kept { KeepsNodes self.new.register.history self.old.tree.nodes self.new.tree.nodes }
-        ensures resources { self.new.tree.resources ≡ self.old.tree.resources }
-        ensures hubs { self.new.hubs ≡ left_inside self.old.register.history node.number None self.old.hubs }
-        ensures leases { self.new.leases ≡ self.old.leases }
-        ensures closed { Gathers self.old.register.history self.old.closed self.new.register.history
-            self.new.closed }
-        ensures memory { TakesNoMemory self.old self.new }
+        ensures wrote { Wrote R.Resource self.old (Event.Close node.number ∷ []) self.new }
+        ensures frame { ClosesNodes self.old self.new node.number None }
     {
         self.register.promise();
         self.tree.promise();
@@ -301,22 +233,13 @@ impl<R: Resource> Ground<R> {
     /// Hands out a resource that waits; None where none does.
     #[inline(always)]
     pub fn write_take(&mut self) -> Option<Handed<R>>
-        requires tied { AreTied self.old.register.base R.Resource self.old.register.history self.old.tree
-            self.old.hubs }
-        requires leased { AreLeased self.old.register.history self.old.tree.resources self.old.leases }
+        requires between { IsBetween R.Resource self.old }
         requires settled { IsSettled self.old.register.base self.old.register.history }
         requires room { (r : _) → is_waiting self.old.register.history r ≡ true → IsReady self.old.register (Event.Take r) }
-        ensures written { IfSome result (λ handed. Writes self.old.register (Event.Take handed.0 ∷ []) self.new.register) }
-        ensures tied { AreTied self.new.register.base R.Resource self.new.register.history self.new.tree self.new.hubs }
-        ensures leased { AreLeased self.new.register.history self.new.tree.resources self.new.leases }
-        ensures nodes { self.new.tree.nodes ≡ self.old.tree.nodes }
-        ensures kept { KeepsHeld self.old.tree self.new.tree (length self.old.register.history) }
+        ensures wrote { IfSome result (λ handed. Wrote R.Resource self.old (Event.Take handed.0 ∷ []) self.new) }
         ensures none { IfNone result (self.new ≡ self.old) }
         ensures waited { MatchOption result (waiting_in self.old.tree ≡ []) (IsListed R.Resource self.old.tree) }
-        ensures hubs { self.new.hubs ≡ self.old.hubs }
-        ensures leases { self.new.leases ≡ self.old.leases }
-        ensures closed { self.new.closed ≡ self.old.closed }
-        ensures memory { TakesNoMemory self.old self.new }
+        ensures frame { ChangesResources self.old self.new }
     {
         self.register.promise();
         self.tree.promise();

@@ -48,7 +48,7 @@ fn key_of(numbers: &Vec<u64>, slot: Option<usize>) -> Option<Key>
 {
     match slot {
         Some(slot) => Some(Key {
-            slot,
+            slot: slot as u64,
             number: numbers.get(slot).copied().unwrap_or(0),
         }),
         None => None,
@@ -251,7 +251,7 @@ impl Store {
         ensures { (i : _) (hub : Hub) → slice_get self.now.hubs i ≡ Some hub → IsTrue (is_on key hub.subscribers) →
             result ≡ key_after key hub.subscribers }
     {
-        key_of(&self.numbers, self.subscribers.next(key.slot))
+        key_of(&self.numbers, self.subscribers.next(key.slot as usize))
     }
 
     // Lets subscribers stand at all slots below this one.
@@ -292,8 +292,8 @@ impl Store {
         ensures { (hub : Hub) → slice_get self.old.hubs index ≡ Some hub →
             self.new ≡ record self.old { hubs = at_hub hub.number (subscribed key) self.old.hubs } }
     {
-        self.numbers[key.slot] = key.number;
-        self.subscribers.join(index, key.slot);
+        self.numbers[key.slot as usize] = key.number;
+        self.subscribers.join(index, key.slot as usize);
     }
 
     // Takes a subscriber away from a hub.
@@ -305,6 +305,6 @@ impl Store {
             self.new ≡ record self.old { hubs = at_hub hub.number (unsubscribed key) self.old.hubs } }
     {
         self.subscribers.promise();
-        self.subscribers.leave(key.slot);
+        self.subscribers.leave(key.slot as usize);
     }
 }

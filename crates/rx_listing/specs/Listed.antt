@@ -2,7 +2,7 @@
 use Rattle.std.specs.Prelude.{◌≡◌, ℕ, ◌≤◌, Bool, false, Option, Some, None, option_and_then, if◌then◌else◌}
 use Rattle.std.specs.Option.{option_map_or}
 use Rattle.rx_scenario.specs.Scenario.{Name}
-use Rattle.rx_book.specs.declared.key.Key.{Key}
+use Rattle.rx_slots.specs.declared.Key.{Key}
 use Rattle.rx_book.specs.State.{State, has_key}
 use Rattle.rx_line.specs.declared.names.Spot.{Spot}
 use Rattle.rx_line.specs.declared.names.Names.{Names}

@@ -19,7 +19,8 @@ pub use Rattle.rx_book.specs.Requests.{Request, open_request, hub_request, stand
 pub use Rattle.rx_book.specs.Requests.{give_back_request, is_live, lease_request}
 pub use Rattle.rx_book.{proofs.Laws.StepsContinue.step_longer, specs.State.State, specs.State.IsPromised, specs.State.has_key, specs.State.has_res_key}
 pub use Rattle.rx_book.specs.Answers.{Accepts, connection_made, IsCauseOrWant, makes_connection, IsOpened}
-pub use Rattle.rx_book.specs.declared.{answer.At.At, answer.Opened.Opened, key.Key.Key, key.LeaseKey.LeaseKey}
+pub use Rattle.rx_book.specs.declared.{answer.At.At, answer.Opened.Opened}
+pub use Rattle.{rx_slots.specs.declared.Key.Key, rx_ground.specs.declared.leases.LeaseKey.LeaseKey}
 unfoldable pub use Rattle.rx_book.specs.State.{is_kept}
 pub use Rattle.rx_device.specs.{Input.IsJsonOf, Part.part_data, Part.items_data, Part.data_of}
 pub use Rattle.rx_event.proofs.Laws.{Counts.notes-push, Leases.is_out_past, MakingRemovesNothing.made_untold, Places.at_within, Searches.list_any_push}

@@ -2,7 +2,7 @@
 use Rattle.std.specs.Prelude.{◌≡◌, ℕ, ◌==◌, ◌++◌, Bool, true, false, List, [], codes, map, filter_map, Option, None, option_map, if◌then◌else◌}
 use Rattle.std.specs.Option.{option_map_or}
 use Rattle.rx_scenario.specs.Scenario.{Name, end, abort, fail, dispose, drain, checkpoint}
-use Rattle.rx_book.specs.declared.key.Key.{Key}
+use Rattle.rx_slots.specs.declared.Key.{Key}
 use Rattle.rx_line.specs.declared.names.Names.{Names}
 use Rattle.rx_line.specs.Names.{name_of}
 use Rattle.rx_line.specs.Orders.{Task, plain}

@@ -6,7 +6,7 @@ use Rattle.rx_event.specs.declared.refusal.Refusal.{Refusal}
 use Rattle.rx_event.specs.Calls.{Holding}
 use Rattle.rx_event.specs.Refusals.{IsRefusal}
 use Rattle.rx_scenario.specs.Scenario.{Name}
-use Rattle.rx_book.specs.declared.key.Key.{Key}
+use Rattle.rx_slots.specs.declared.Key.{Key}
 use Rattle.rx_book.specs.State.{State, has_key}
 use Rattle.rx_book.specs.Requests.{Request, stands}
 use Rattle.rx_book.specs.Answers.{Accepts}

@@ -14,11 +14,11 @@ use Rattle.rx_event.specs.Causes.{is_over, added_by, opening_causes, by_key}
 use Rattle.rx_event.specs.Refusals.{first_cause}
 use Rattle.rx_scenario.specs.Scenario.{Name, Site, root, source, inner, notifier, Sort, leaf, pass, flat, switch, until, sub}
 use Rattle.rx_scenario.specs.Scenario.{open_node}
-use Rattle.rx_book.specs.declared.key.Key.{Key}
+use Rattle.rx_slots.specs.declared.Key.{Key}
 use Rattle.rx_book.specs.declared.answer.At.{At}
 use Rattle.rx_book.specs.declared.answer.At.TheVariants.{Root as AtRoot, Source as AtSource, Inner as AtInner, Notifier as AtNotifier}
-use Rattle.rx_ground.specs.Gone.{goes}
-use Rattle.rx_book.specs.State.{State, AreJust}
+use Rattle.rx_event.specs.Gone.{goes, AreJust}
+use Rattle.rx_book.specs.State.{State}
 use Rattle.rx_book.specs.Requests.{Request, open_request, place_of, is_known_place}
 use Rattle.rx_book.specs.Answers.{Accepts, connection_made}
 use Rattle.rx_line.specs.declared.names.Names.{Names}

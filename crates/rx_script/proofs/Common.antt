@@ -40,9 +40,9 @@ pub use Rattle.rx_book.specs.Drains.{Drains, none_taken, next_taken, Takes}
 pub use Rattle.rx_book.specs.Requests.{stands, Request, place_of, is_known_place}
 pub use Rattle.rx_book.specs.State.{State, IsPromised, has_key, has_res_key, accepted_tag, has_lease_key, Continues}
 pub use Rattle.rx_book.specs.declared.answer.At.{At}
-pub use Rattle.rx_book.specs.declared.key.Key.{Key}
-pub use Rattle.rx_book.specs.declared.key.LeaseKey.{LeaseKey}
-pub use Rattle.rx_book.specs.declared.key.ResKey.{ResKey}
+pub use Rattle.rx_slots.specs.declared.Key.{Key}
+pub use Rattle.rx_ground.specs.declared.leases.LeaseKey.{LeaseKey}
+pub use Rattle.rx_tree.specs.declared.node.ResKey.{ResKey}
 pub use Rattle.rx_dump.specs.Dump.{dump}
 pub use Rattle.rx_event.proofs.Laws.Bases.{base_length}
 pub use Rattle.rx_event.proofs.Laws.Begin.{IsLawful_nothing, shown_nothing}

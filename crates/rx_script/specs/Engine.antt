@@ -12,7 +12,7 @@ use Rattle.rx_event.specs.Forced.{IsSettled}
 use Rattle.rx_event.specs.declared.event.Kind.{Kind}
 use Rattle.rx_event.specs.declared.event.Kind.TheVariants.{Leaf, Pass, Flat, Switch, Until, Sub}
 use Rattle.rx_event.specs.Totals.{taken_count}
-use Rattle.rx_book.specs.declared.key.Key.{Key}
+use Rattle.rx_slots.specs.declared.Key.{Key}
 use Rattle.rx_book.specs.declared.answer.At.{At}
 use Rattle.rx_book.specs.declared.answer.At.TheVariants.{Root as AtRoot, Source as AtSource, Inner as AtInner, Notifier as AtNotifier}
 use Rattle.rx_book.specs.State.{State, IsPromised}

@@ -6,8 +6,8 @@ use Rattle.rx_book.specs.declared.call.Call.TheVariants.{Open, Next, End, Abort,
 use Rattle.rx_book.specs.declared.call.Call.TheVariants.{Hub, Connect, Disconnect}
 use Rattle.rx_book.specs.declared.answer.Answer.{Answer}
 use Rattle.rx_book.specs.declared.answer.Answer.TheVariants.{Place, Opened, Connected, Leased}
-use Rattle.rx_book.specs.declared.key.Key.{Key}
-use Rattle.rx_book.specs.declared.key.LeaseKey.{LeaseKey}
+use Rattle.rx_slots.specs.declared.Key.{Key}
+use Rattle.rx_ground.specs.declared.leases.LeaseKey.{LeaseKey}
 use Rattle.rx_scenario.specs.declared.scenario.Sort.{Sort}
 use Rattle.rx_scenario.specs.declared.scenario.Sort.TheVariants.{Sub}
 use Rattle.rx_scenario.specs.declared.scenario.Command.{Command as CommandInCode}

@@ -3,9 +3,9 @@ use Rattle.std.specs.Prelude.{◌<◌, length, IsTrue}
 use Rattle.std.specs.List.{Contains}
 use Rattle.rx_event.specs.Tree.{is_open}
 use Rattle.rx_event.specs.Resources.{is_held, is_out}
-use Rattle.rx_book.specs.declared.key.Key.{Key}
-use Rattle.rx_book.specs.declared.key.ResKey.{ResKey}
-use Rattle.rx_book.specs.declared.key.LeaseKey.{LeaseKey}
+use Rattle.rx_slots.specs.declared.Key.{Key}
+use Rattle.rx_tree.specs.declared.node.ResKey.{ResKey}
+use Rattle.rx_ground.specs.declared.leases.LeaseKey.{LeaseKey}
 use Rattle.rx_book.specs.State.{State}
 use Rattle.rx_agenda.specs.declared.names.Named.{Named}
 use Rattle.rx_agenda.specs.Names.{name_of}

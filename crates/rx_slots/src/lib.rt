@@ -65,7 +65,7 @@ use std::mem;
 #[derive(Clone, Copy, Debug, PartialEq, Eq)]
 pub struct Key {
     /// The slot, from 0 on.
-    pub slot: usize,
+    pub slot: u64,
     /// The number that the caller gave to `insert`.
     pub number: u64,
 }
@@ -192,7 +192,7 @@ impl<T> Slots<T> {
         if self.reserve(1).is_err() {
             return Err(value);
         }
-        let slot = self.place(number, value);
+        let slot = self.place(number, value) as u64;
         Ok(Key { slot, number })
     }
 
@@ -229,7 +229,7 @@ impl<T> Slots<T> {
     pub fn get(&self, key: Key) -> Option<&T>
         ensures { option_copied result ≡ find self.now key }
     {
-        let entry = self.entry_at(key.slot)?;
+        let entry = self.entry_at(key.slot as usize)?;
         if entry.number == key.number {
             Some(&entry.value)
         } else {
@@ -252,7 +252,7 @@ impl<T> Slots<T> {
         ensures value { option_copied_mut result ≡ find self.old key }
     {
         if self.contains(key) {
-            Some(self.at_mut(key.slot))
+            Some(self.at_mut(key.slot as usize))
         } else {
             None
         }
@@ -278,7 +278,7 @@ impl<T> Slots<T> {
         if !self.contains(key) {
             return None;
         }
-        Some(self.take_at(key.slot))
+        Some(self.take_at(key.slot as usize))
     }
 
     /// Takes the value out at a slot that has one. The slot is free again, and the next that `insert` uses.
@@ -372,7 +372,10 @@ impl<T> Slots<T> {
         ensures { result ≡ key_at self.now slot }
     {
         let number = self.number_at(slot)?;
-        Some(Key { slot, number })
+        Some(Key {
+            slot: slot as u64,
+            number,
+        })
     }
 
     /// The value at a slot, if one stands there.

@@ -133,7 +133,7 @@ impl<T> Records<T> {
     pub fn get(&self, key: Key) -> Option<&T>
         ensures { option_copied result ≡ find self.now key }
     {
-        self.cells.get(key.slot, key.number)
+        self.cells.get(key.slot as usize, key.number)
     }
 
     /// Whether a key finds a value.
@@ -150,7 +150,10 @@ impl<T> Records<T> {
         ensures { result ≡ key_at self.now slot }
     {
         let number = self.cells.number_at(slot)?;
-        Some(Key { slot, number })
+        Some(Key {
+            slot: slot as u64,
+            number,
+        })
     }
 
     /// The value at a slot that has one.
@@ -168,7 +171,7 @@ impl<T> Records<T> {
         requires found { IsSome (find self.now key) }
         ensures { find self.now key ≡ Some result.now }
     {
-        self.at(key.slot)
+        self.at(key.slot as usize)
     }
 
     /// The number at a slot that has a value.
@@ -202,7 +205,7 @@ impl<T> Records<T> {
         ensures count { self.new.count + 1 ≡ self.old.count }
         ensures room { self.new.room ≡ self.old.room + 1 }
     {
-        self.cells.remove(key.slot);
+        self.cells.remove(key.slot as usize);
     }
 }
 
@@ -232,7 +235,7 @@ impl<T: Drop> Records<T> {
         ensures room { OnErr result (self.old.room ≤ self.new.room) }
     {
         self.reserve(1)?;
-        let slot = self.place(number, value);
+        let slot = self.place(number, value) as u64;
         Ok(Key { slot, number })
     }
 

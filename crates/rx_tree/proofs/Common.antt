@@ -34,6 +34,6 @@ pub use Rattle.rx_tree.specs.{Bases.kept_by, Bases.node_as_kept, Bases.resource_
 pub use Rattle.rx_tree.specs.{Closing.Closed, Closing.IsSubtree, Closing.IsInside, Closing.outside, declared.linked.Record.Record, declared.links.Place.Place}
 pub use Rattle.rx_tree.specs.Cuts.{Descends, from_top, IsCutting, one_down, still_open, CutsLeaf, IsPart, LetsWait, waiting_home}
 pub use Rattle.rx_tree.specs.{Places.places, Places.is_place, Places.slot_of, Places.is_end, declared.node.Node.Node, declared.node.ResKey.ResKey}
-pub use Rattle.rx_tree.specs.Record.{above_of, end_word, kind_word, made_of, marks_of, node_in, node_of, packed_of, place_word}
+pub use Rattle.rx_tree.specs.Record.{above_of, kind_word, made_of, node_in, node_of, place_word, words_of}
 pub use Rattle.rx_tree.specs.declared.links.Place.TheVariants.{Noted, Stored, Held, Children, Sibling, Due, Roots, Waiting}
-pub use Rattle.rx_tree.specs.declared.{node.Stowed.Stowed, packed.Packed.Packed, packed.PlaceWord.PlaceWord, counts.Counts.Counts, store.Store.Store}
+pub use Rattle.rx_tree.specs.declared.{node.Stowed.Stowed, made.Made.Made, made.PlaceWord.PlaceWord, counts.Counts.Counts, store.Store.Store}

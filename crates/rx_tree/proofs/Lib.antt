@@ -1,8 +1,7 @@
 pub mod Common
 pub mod Laws
 pub mod PlacesApart
-pub mod PackedNodes
-pub mod FlagWords
+pub mod WordsOfNodes
 pub mod StoreLemmas
 pub mod SlotsFit
 pub mod UseSteps

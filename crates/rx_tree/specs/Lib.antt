@@ -6,7 +6,6 @@ pub mod Owed
 pub mod Resources
 pub mod Bases
 pub mod Places
-pub mod Happened
 pub mod Record
 pub mod Store
 pub mod Ties

@@ -4,7 +4,7 @@ use Rattle.std.specs.Option.{option_map_or, option_and_then}
 use Rattle.std.proofs.Math.Bool.{not}
 use Rattle.rx_event.specs.Events.{is_root}
 use Rattle.rx_slots.specs.declared.Entry.{Entry}
-use Rattle.rx_event.specs.declared.marks.Marks.{Marks}
+use Rattle.rx_event.specs.Marks.{Marks}
 use Rattle.rx_slots.specs.declared.Key.{Key}
 use Rattle.rx_slots.specs.Slots.{Slots, entry_of, entry_at, Changes}
 use Rattle.rx_tree.specs.declared.links.Place.{Place}

@@ -6,7 +6,7 @@ use Rattle.std.specs.Prelude.{Some, None, is_some, IsSome, IfSome, IsTrue, optio
 use Rattle.std.specs.List.{list_any}
 use Rattle.std.specs.Option.{option_and_then, option_map_or}
 use Rattle.rx_event.specs.declared.event.Event.{Event}
-use Rattle.rx_event.specs.declared.marks.Marks.{Marks}
+use Rattle.rx_event.specs.Marks.{Marks}
 use Rattle.rx_event.specs.Events.{makes_node, parent_named, is_root}
 use Rattle.rx_event.specs.Marks.{blank_marks, terminal_due}
 use Rattle.rx_event.specs.Tree.{if_less}

@@ -24,10 +24,10 @@ impl<R: Resource> Store<R> {
         Some(BaseNode {
             number,
             made: node.made,
-            source_opened: marks.source_opened,
-            notifier_opened: marks.notifier_opened,
-            source_completed: marks.source_completed,
-            owed: marks.owed,
+            source_opened: marks.source_opened(),
+            notifier_opened: marks.notifier_opened(),
+            source_completed: marks.source_completed(),
+            owed: marks.owed(),
         })
     }
 

@@ -3,19 +3,22 @@
 ghost use Rattle.std.specs.Prelude.{◌≡◌};
 ghost use Rattle.rx_event.specs.Events.{hub_connected, hub_subscribed};
 
+use crate::made::Made;
 use crate::node::Node;
-use crate::packed::Packed;
 use rx_event::{Event, Marks};
 use rx_slots::Key;
 use std::marker::Model;
 
 /// The record of a node that was moved out of its tree, with the key that it had there. It is seen as a
-/// record with the fields `key` and `node`, and keeps the words of the tree's own record, in 56 bytes: no event is
+/// record with the fields `key` and `node`, and keeps the words of the tree's own record, in 64 bytes: no event is
 /// made but by [`Closed::made`].
 #[derive(Drop)]
 pub struct Closed {
     pub(crate) number: u64,
-    pub(crate) packed: Packed,
+    pub(crate) made: Made,
+    pub(crate) marks: Marks,
+    // The slot where it stood.
+    pub(crate) home: u32,
 }
 
 impl Model for Closed {
@@ -25,7 +28,7 @@ impl Model for Closed {
 
     ghost use Rattle.rx_tree.specs.Record.{node_in};
 
-    ghost view = { λ m. record { key = record { slot = m.packed.home; number = m.number }; node = node_in m.packed } };
+    ghost view = { λ m. record { key = record { slot = m.home; number = m.number }; node = node_in m.made m.marks } };
 }
 
 impl Closed {
@@ -35,7 +38,7 @@ impl Closed {
         ensures { result ≡ self.now.key }
     {
         Key {
-            slot: self.packed.home as usize,
+            slot: u64::from(self.home),
             number: self.number,
         }
     }
@@ -56,7 +59,7 @@ impl Closed {
     pub fn made(&self) -> Event
         ensures { result ≡ self.now.node.made }
     {
-        self.packed.made()
+        self.made.event()
     }
 
     /// The key of the node that it stood below; None for a root and for a connection.
@@ -64,7 +67,7 @@ impl Closed {
     pub fn parent(&self) -> Option<Key>
         ensures { result ≡ self.now.node.above }
     {
-        self.packed.above()
+        self.made.above()
     }
 
     /// What it remembered of what happened below it.
@@ -72,7 +75,7 @@ impl Closed {
     pub fn marks(&self) -> Marks
         ensures { result ≡ self.now.node.marks }
     {
-        self.packed.marks()
+        self.marks
     }
 
     /// The hub that it connected; None where it was no connection.
@@ -80,7 +83,7 @@ impl Closed {
     pub fn connects(&self) -> Option<u64>
         ensures { result ≡ hub_connected self.now.node.made }
     {
-        self.packed.connects()
+        self.made.connects()
     }
 
     /// The hub that it subscribed to; None where it was no subscriber.
@@ -88,6 +91,6 @@ impl Closed {
     pub fn subscribes_to(&self) -> Option<u64>
         ensures { result ≡ hub_subscribed self.now.node.made }
     {
-        self.packed.subscribes_to()
+        self.made.subscribes_to()
     }
 }

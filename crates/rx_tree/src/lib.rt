@@ -45,11 +45,10 @@
 mod checkpoint;
 mod closed;
 mod counts;
-mod flags;
 mod linked;
 mod links;
+mod made;
 mod node;
-mod packed;
 mod records;
 mod sibling_rings;
 mod store;

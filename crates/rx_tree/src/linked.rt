@@ -13,8 +13,8 @@ ghost use Rattle.rx_tree.specs.declared.links.Place.TheVariants.{Children, Held,
 use crate::closed::Closed;
 use crate::counts::Counts;
 use crate::links::{Link, Place, Step};
+use crate::made::{KindWord, Made, PlaceWord};
 use crate::node::Node;
-use crate::packed::{KindWord, Packed, PlaceWord, completes_source, first_end};
 use rx_event::{Event, Marks, Place as At, Terminal};
 use rx_slots::Key;
 use std::marker::Model;
@@ -25,7 +25,8 @@ use std::marker::Model;
 /// It takes 88 bytes, so that a node takes little memory.
 #[derive(Drop)]
 pub struct Record {
-    packed: Packed,
+    made: Made,
+    marks: Marks,
     sibling: Link,
     noted: Link,
     children: Link,
@@ -41,7 +42,7 @@ impl Model for Record {
     ghost use Rattle.rx_tree.specs.Record.{node_in};
 
     ghost view = { λ l. record {
-      node = node_in l.packed;
+      node = node_in l.made l.marks;
       sibling = l.sibling;
       noted = l.noted;
       children = l.children;
@@ -53,7 +54,7 @@ impl Model for Record {
 impl Record {
     // A record at a slot that stands on no ring.
     #[inline(always)]
-    #[tactic(auto, using(crate::proofs::PackedNodes::node_back))]
+    #[tactic(auto, using(crate::proofs::WordsOfNodes::node_back))]
     pub(crate) fn alone(node: Node, slot: usize) -> Self
         requires makes { IsTrue (makes_node node.made) }
         requires named { parent_named node.made ≡ option_map (λ key. key.number) node.above }
@@ -66,7 +67,8 @@ impl Record {
         ensures held_count { result.held_count ≡ no_counts }
     {
         Record {
-            packed: Packed::of(node, 0),
+            made: Made::of(node.made, node.above),
+            marks: node.marks,
             sibling: Link::coming(Place::Sibling(slot)),
             noted: Link::coming(Place::Noted(slot)),
             children: Link::coming(Place::Children(slot)),
@@ -81,9 +83,9 @@ impl Record {
         ensures { result ≡ self.now.node }
     {
         Node {
-            made: self.packed.made(),
-            above: self.packed.above(),
-            marks: self.packed.marks(),
+            made: self.made.event(),
+            above: self.made.above(),
+            marks: self.marks,
         }
     }
 
@@ -96,7 +98,9 @@ impl Record {
     {
         Closed {
             number: key.number,
-            packed: self.packed.at(key.slot as u32),
+            made: self.made.again(),
+            marks: self.marks,
+            home: key.slot as u32,
         }
     }
 
@@ -105,7 +109,7 @@ impl Record {
     pub fn made(&self) -> Event
         ensures { result ≡ self.now.node.made }
     {
-        self.packed.made()
+        self.made.event()
     }
 
     /// The key of the node that it stands below; None for a root and for a connection.
@@ -113,16 +117,16 @@ impl Record {
     pub fn parent(&self) -> Option<Key>
         ensures { result ≡ self.now.node.above }
     {
-        self.packed.above()
+        self.made.above()
     }
 
     // The slot of that node.
     #[inline(always)]
-    #[tactic(auto, using(crate::proofs::PackedNodes::slot_above))]
+    #[tactic(auto, using(crate::proofs::WordsOfNodes::slot_above))]
     pub(crate) fn above_slot(&self) -> usize
         ensures { IfSome self.now.node.above (λ key. result ≡ key.slot) }
     {
-        self.packed.slot as usize
+        self.made.slot as usize
     }
 
     /// What it remembers of what happened below it.
@@ -130,7 +134,7 @@ impl Record {
     pub fn marks(&self) -> Marks
         ensures { result ≡ self.now.node.marks }
     {
-        self.packed.marks()
+        self.marks
     }
 
     /// How many projected items have neither got an inner observable nor been declined.
@@ -138,7 +142,7 @@ impl Record {
     pub fn owed(&self) -> u64
         ensures { result ≡ self.now.node.marks.owed }
     {
-        self.packed.owed
+        self.marks.owed()
     }
 
     /// How many nodes are open directly below it.
@@ -146,7 +150,7 @@ impl Record {
     pub fn open_children(&self) -> u64
         ensures { result ≡ self.now.node.marks.open_children }
     {
-        self.packed.open_children
+        self.marks.open_children()
     }
 
     /// Whether a source was ever opened below it.
@@ -154,7 +158,7 @@ impl Record {
     pub fn source_opened(&self) -> bool
         ensures { result ≡ self.now.node.marks.source_opened }
     {
-        self.packed.happened.source_opened()
+        self.marks.source_opened()
     }
 
     /// Whether a notifier was ever opened below it.
@@ -162,7 +166,7 @@ impl Record {
     pub fn notifier_opened(&self) -> bool
         ensures { result ≡ self.now.node.marks.notifier_opened }
     {
-        self.packed.happened.notifier_opened()
+        self.marks.notifier_opened()
     }
 
     /// Whether it stands below a node.
@@ -170,7 +174,7 @@ impl Record {
     pub fn is_below(&self) -> bool
         ensures { result ≡ is_some self.now.node.above }
     {
-        match self.packed.place {
+        match self.made.place {
             PlaceWord::Root => false,
             PlaceWord::Source | PlaceWord::Inner | PlaceWord::Notifier => true,
         }
@@ -240,7 +244,7 @@ impl Record {
     pub fn is_leaf(&self) -> bool
         ensures { result ≡ is_leaf self.now.node.made }
     {
-        match self.packed.kind {
+        match self.made.kind {
             KindWord::Leaf => true,
             KindWord::Pass
             | KindWord::Flat
@@ -256,7 +260,7 @@ impl Record {
     pub fn is_merging(&self) -> bool
         ensures { result ≡ is_merging self.now.node.made }
     {
-        match self.packed.kind {
+        match self.made.kind {
             KindWord::Flat | KindWord::Switch => true,
             KindWord::Leaf | KindWord::Pass | KindWord::Until | KindWord::Sub | KindWord::Connect =>
                 false,
@@ -268,7 +272,7 @@ impl Record {
     pub fn is_switch(&self) -> bool
         ensures { result ≡ is_switch self.now.node.made }
     {
-        match self.packed.kind {
+        match self.made.kind {
             KindWord::Switch => true,
             KindWord::Leaf
             | KindWord::Pass
@@ -284,7 +288,7 @@ impl Record {
     pub fn is_until(&self) -> bool
         ensures { result ≡ is_until self.now.node.made }
     {
-        match self.packed.kind {
+        match self.made.kind {
             KindWord::Until => true,
             KindWord::Leaf
             | KindWord::Pass
@@ -300,7 +304,7 @@ impl Record {
     pub fn has_source(&self) -> bool
         ensures { result ≡ has_source self.now.node.made }
     {
-        match self.packed.kind {
+        match self.made.kind {
             KindWord::Leaf | KindWord::Sub => false,
             KindWord::Pass
             | KindWord::Flat
@@ -315,7 +319,7 @@ impl Record {
     pub fn is_connection(&self) -> bool
         ensures { result ≡ is_connect self.now.node.made }
     {
-        match self.packed.kind {
+        match self.made.kind {
             KindWord::Connect => true,
             KindWord::Leaf
             | KindWord::Pass
@@ -331,7 +335,7 @@ impl Record {
     pub fn connects(&self) -> Option<u64>
         ensures { result ≡ hub_connected self.now.node.made }
     {
-        self.packed.connects()
+        self.made.connects()
     }
 
     /// The hub that it subscribes to; None where it is no subscriber.
@@ -339,7 +343,7 @@ impl Record {
     pub fn subscribes_to(&self) -> Option<u64>
         ensures { result ≡ hub_subscribed self.now.node.made }
     {
-        self.packed.subscribes_to()
+        self.made.subscribes_to()
     }
 
     /// How it has to end, by its marks.
@@ -347,20 +351,7 @@ impl Record {
     pub fn terminal_due(&self) -> Option<Terminal>
         ensures { result ≡ terminal_due self.now.node.made self.now.node.marks }
     {
-        let other = match self.packed.kind {
-            KindWord::Pass | KindWord::Connect => false,
-            KindWord::Until => self.packed.happened.fired(),
-            KindWord::Flat | KindWord::Switch => self.packed.is_over(),
-            KindWord::Leaf | KindWord::Sub => return None,
-        };
-        let terminal = self.packed.child_terminal();
-        if terminal.is_some() {
-            return terminal;
-        }
-        if other {
-            return Some(Terminal::Completed);
-        }
-        None
+        self.marks.terminal_due(self.made.event())
     }
 
     // Writes its marks.
@@ -368,12 +359,11 @@ impl Record {
     pub(crate) fn set_marks(&mut self, marks: Marks)
         ensures { self.new ≡ record self.old { node = with_marks marks self.old.node } }
     {
-        self.packed.set_marks(marks);
+        self.marks = marks;
     }
 
     // A node below it ended.
     #[inline(always)]
-    #[tactic(auto, using(crate::proofs::PackedNodes::terminal_back))]
     pub(crate) fn end_child(&mut self, is_source: bool, terminal: Terminal)
         requires { 0 < self.old.node.marks.open_children }
         ensures { self.new ≡ record self.old {
@@ -382,12 +372,7 @@ impl Record {
         } }
     {
         let merging = self.is_merging();
-        let first = first_end(self.packed.child_terminal(), merging, terminal);
-        self.packed
-            .happened
-            .note_completion(completes_source(is_source, terminal));
-        self.packed.set_child_terminal(first);
-        self.packed.open_children -= 1;
+        self.marks.end_child(is_source, merging, terminal);
     }
 
     // A source was opened below it.
@@ -396,8 +381,7 @@ impl Record {
         requires { self.old.node.marks.open_children + 1 < 2 ^ 64 }
         ensures { self.new ≡ record self.old { node = with_marks (after_source self.old.node.marks) self.old.node } }
     {
-        self.packed.happened.open_source();
-        self.packed.open_children += 1;
+        self.marks.open_source();
     }
 
     // A notifier was opened below it.
@@ -406,8 +390,7 @@ impl Record {
         requires { self.old.node.marks.open_children + 1 < 2 ^ 64 }
         ensures { self.new ≡ record self.old { node = with_marks (after_notifier self.old.node.marks) self.old.node } }
     {
-        self.packed.happened.open_notifier();
-        self.packed.open_children += 1;
+        self.marks.open_notifier();
     }
 
     // An inner was opened below it: in the place of another, or beside the others.
@@ -417,10 +400,7 @@ impl Record {
         requires room { self.old.node.marks.open_children + 1 < 2 ^ 64 }
         ensures { self.new ≡ record self.old { node = with_marks (after_inner replaces self.old.node.marks) self.old.node } }
     {
-        self.packed.owed -= 1;
-        if !replaces {
-            self.packed.open_children += 1;
-        }
+        self.marks.open_inner(replaces);
     }
 
     // An item was projected to it.
@@ -429,7 +409,7 @@ impl Record {
         requires { self.old.node.marks.owed + 1 < 2 ^ 64 }
         ensures { self.new ≡ record self.old { node = with_marks (after_projection self.old.node.marks) self.old.node } }
     {
-        self.packed.owed += 1;
+        self.marks.project();
     }
 
     // An item reached its notifier's place.
@@ -437,7 +417,7 @@ impl Record {
     pub(crate) fn fire(&mut self)
         ensures { self.new ≡ record self.old { node = with_marks (after_firing self.old.node.marks) self.old.node } }
     {
-        self.packed.happened.fire();
+        self.marks.fire();
     }
 
     // One of its projected items was declined.
@@ -446,7 +426,7 @@ impl Record {
         requires { 0 < self.old.node.marks.owed }
         ensures { self.new ≡ record self.old { node = with_marks (after_decline self.old.node.marks) self.old.node } }
     {
-        self.packed.owed -= 1;
+        self.marks.decline();
     }
 
     // How many resources it owns.

@@ -31,7 +31,7 @@ pub struct Stowed<R: Drop> {
 #[derive(Clone, Copy, Debug, PartialEq, Eq)]
 pub struct ResKey {
     /// The slot, from 0 on.
-    pub slot: usize,
+    pub slot: u64,
     /// The number that the caller gave to `hold`.
     pub number: u64,
 }

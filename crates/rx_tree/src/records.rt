@@ -51,7 +51,7 @@ impl<R: Drop> Store<R> {
         ensures { key_at (nodes_of self.now) slot ≡ Some result }
     {
         Key {
-            slot,
+            slot: slot as u64,
             number: self.nodes.number_of(slot),
         }
     }
@@ -63,7 +63,7 @@ impl<R: Drop> Store<R> {
         ensures { key_at (resources_of self.now) slot ≡ Some result }
     {
         Key {
-            slot,
+            slot: slot as u64,
             number: self.resources.number_of(slot),
         }
     }
@@ -128,10 +128,10 @@ impl<R: Drop> Store<R> {
         requires countable { owed_in (nodes_of self.old) + marks.owed < 18446744073709551616 }
         ensures { (node : Node) → find (nodes_of self.old) key ≡ Some node → IsRemarked self.old self.new key node marks }
     {
-        let record = self.nodes.at_mut(key.slot);
+        let record = self.nodes.at_mut(key.slot as usize);
         let before = record.owed();
         record.set_marks(marks);
-        self.owed = self.owed + marks.owed - before;
+        self.owed = self.owed + marks.owed() - before;
     }
 
     // A node below this one ended.
@@ -143,7 +143,9 @@ impl<R: Drop> Store<R> {
         ensures { (node : Node) → find (nodes_of self.old) key ≡ Some node →
             IsRemarked self.old self.new key node (after_child is_source (is_merging node.made) terminal node.marks) }
     {
-        self.nodes.at_mut(key.slot).end_child(is_source, terminal);
+        self.nodes
+            .at_mut(key.slot as usize)
+            .end_child(is_source, terminal);
     }
 
     // A source was opened below it.
@@ -155,7 +157,7 @@ impl<R: Drop> Store<R> {
         ensures { (node : Node) → find (nodes_of self.old) key ≡ Some node →
             IsRemarked self.old self.new key node (after_source node.marks) }
     {
-        self.nodes.at_mut(key.slot).open_source();
+        self.nodes.at_mut(key.slot as usize).open_source();
     }
 
     // A notifier was opened below it.
@@ -167,7 +169,7 @@ impl<R: Drop> Store<R> {
         ensures { (node : Node) → find (nodes_of self.old) key ≡ Some node →
             IsRemarked self.old self.new key node (after_notifier node.marks) }
     {
-        self.nodes.at_mut(key.slot).open_notifier();
+        self.nodes.at_mut(key.slot as usize).open_notifier();
     }
 
     // An inner was opened below it.
@@ -180,7 +182,7 @@ impl<R: Drop> Store<R> {
         ensures { (node : Node) → find (nodes_of self.old) key ≡ Some node →
             IsRemarked self.old self.new key node (after_inner replaces node.marks) }
     {
-        self.nodes.at_mut(key.slot).open_inner(replaces);
+        self.nodes.at_mut(key.slot as usize).open_inner(replaces);
         self.owed -= 1;
     }
 
@@ -193,7 +195,7 @@ impl<R: Drop> Store<R> {
         ensures { (node : Node) → find (nodes_of self.old) key ≡ Some node →
             IsRemarked self.old self.new key node (after_projection node.marks) }
     {
-        self.nodes.at_mut(key.slot).project();
+        self.nodes.at_mut(key.slot as usize).project();
         self.owed += 1;
     }
 
@@ -205,7 +207,7 @@ impl<R: Drop> Store<R> {
         ensures { (node : Node) → find (nodes_of self.old) key ≡ Some node →
             IsRemarked self.old self.new key node (after_firing node.marks) }
     {
-        self.nodes.at_mut(key.slot).fire();
+        self.nodes.at_mut(key.slot as usize).fire();
     }
 
     // One of its projected items was declined.
@@ -217,7 +219,7 @@ impl<R: Drop> Store<R> {
         ensures { (node : Node) → find (nodes_of self.old) key ≡ Some node →
             IsRemarked self.old self.new key node (after_decline node.marks) }
     {
-        self.nodes.at_mut(key.slot).decline();
+        self.nodes.at_mut(key.slot as usize).decline();
         self.owed -= 1;
     }
 
@@ -230,8 +232,8 @@ impl<R: Drop> Store<R> {
         ensures chain { (shown self.new).chain ≡ with_last key (shown self.old).chain }
         ensures rest { Relinks self.old self.new }
     {
-        if !self.is_noted(key.slot) {
-            self.join(Place::Due, Place::Noted(key.slot));
+        if !self.is_noted(key.slot as usize) {
+            self.join(Place::Due, Place::Noted(key.slot as usize));
         }
     }
 
@@ -244,7 +246,7 @@ impl<R: Drop> Store<R> {
         ensures chain { (shown self.new).chain ≡ with_due (nodes_of self.old) key (shown self.old).chain }
         ensures rest { Relinks self.old self.new }
     {
-        if self.nodes.at(key.slot).terminal_due().is_some() {
+        if self.nodes.at(key.slot as usize).terminal_due().is_some() {
             self.note(key);
         }
     }
@@ -314,7 +316,7 @@ impl<R: Drop> Store<R> {
             { resources = record self.old.resources { room = self.new.resources.room } }) }
         ensures room { OnErr result (self.old.resources.room ≤ self.new.resources.room) }
     {
-        let home = stowed.node.slot;
+        let home = stowed.node.slot as usize;
         let link = Link::coming(Place::Stored(self.resources.next_slot()));
         match self.resources.insert(number, Stored { stowed, link }) {
             Ok(key) => {
@@ -349,7 +351,7 @@ impl<R: Drop> Store<R> {
         ensures nodes { nodes_of self.new ≡ nodes_of self.old }
     {
         if let Some(stored) = self.resources.get_mut(key) {
-            let home = stored.stowed.node.slot;
+            let home = stored.stowed.node.slot as usize;
             let lent = stored.stowed.leases != 0;
             stored.stowed.removed = true;
             let count = self.held_count(home);
@@ -374,7 +376,7 @@ impl<R: Drop> Store<R> {
         ensures links { KeepsLinks self.old self.new }
         ensures nodes { self.new.nodes ≡ self.old.nodes }
     {
-        let stored = self.resources.take_at(key.slot);
+        let stored = self.resources.take_at(key.slot as usize);
         self.waiting_count = self.waiting_count.less(false);
         stored.stowed
     }
@@ -395,7 +397,7 @@ impl<R: Drop> Store<R> {
         ensures nodes { nodes_of self.new ≡ nodes_of self.old }
     {
         if let Some(stored) = self.resources.get_mut(key) {
-            let home = stored.stowed.node.slot;
+            let home = stored.stowed.node.slot as usize;
             let lent = stored.stowed.leases != 0;
             stored.stowed.leases += 1;
             if !lent {
@@ -424,7 +426,7 @@ impl<R: Drop> Store<R> {
     {
         let owned = self.owns(key);
         let stored = self.resources.get_mut(key)?;
-        let home = stored.stowed.node.slot;
+        let home = stored.stowed.node.slot as usize;
         stored.stowed.leases -= 1;
         let last = stored.stowed.leases == 0;
         // No more wait than there are slots, so their count fits.
@@ -482,7 +484,7 @@ impl<R: Drop> Store<R> {
             return None;
         }
         if self.owns(key) {
-            Some(Place::Held(stored.stowed.node.slot))
+            Some(Place::Held(stored.stowed.node.slot as usize))
         } else {
             Some(Place::Waiting)
         }

@@ -34,7 +34,7 @@ impl<R: Drop> Store<R> {
         ensures later { IfSome result (λ child. key.number < child.number) }
         ensures none { result ≡ None → next_of self.now (Children key.slot) ≡ Children key.slot }
     {
-        match self.children(key.slot).next.place() {
+        match self.children(key.slot as usize).next.place() {
             Place::Sibling(slot) => Some(self.node_key(slot)),
             _ => None,
         }
@@ -113,9 +113,9 @@ impl<R: Drop> Store<R> {
         ensures chain { (shown self.new).chain ≡ still_open (nodes_of self.new) (shown self.old).chain }
         ensures resources { resources_of self.new ≡ resources_of self.old }
     {
-        self.let_wait(key.slot);
-        self.unnote(key.slot);
-        self.pass_sibling_by(key.slot);
+        self.let_wait(key.slot as usize);
+        self.unnote(key.slot as usize);
+        self.pass_sibling_by(key.slot as usize);
         self.take_node(key);
     }
 
@@ -144,7 +144,7 @@ impl<R: Drop> Store<R> {
         let leaf = self.nodes.found(key);
         // It is one of those that the list has room for.
         let _count = self.nodes.len();
-        self.fits(Place::Sibling(key.slot));
+        self.fits(Place::Sibling(key.slot as usize));
         let above = leaf.parent();
         closed.push_reserved(leaf.closed(key));
         self.take_leaf(key);

@@ -23,11 +23,11 @@ use std::marker::Model;
 
 // The ring that a node stands on among its siblings; a connection stands on none.
 #[inline(always)]
-fn sibling_ring(node: Node) -> Option<Place>
-    ensures { result ≡ sibling_ring node }
+fn sibling_ring(node: &Node) -> Option<Place>
+    ensures { result ≡ sibling_ring node.now }
 {
     match (node.above, node.made) {
-        (Some(above), _) => Some(Place::Children(above.slot)),
+        (Some(above), _) => Some(Place::Children(above.slot as usize)),
         (
             None,
             Event::Open {
@@ -179,12 +179,12 @@ impl<R: Resource> Tree<R> {
 
     /// The record at a slot that has one.
     #[inline(always)]
-    pub fn at(&self, slot: usize) -> &Record
+    pub fn at(&self, slot: u64) -> &Record
         requires there { IsSome (entry_at self.now.nodes slot) }
         ensures value { value_at self.now.nodes slot ≡ Some result.now.node }
         ensures above { IfSome result.now.node.above (λ up. IsSome (find self.now.nodes up)) }
     {
-        self.store.nodes.at(slot)
+        self.store.nodes.at(slot as usize)
     }
 
     /// The number of the node at a slot that has one.
@@ -248,7 +248,7 @@ impl<R: Resource> Tree<R> {
         ensures none { IfNone result (HasNone (IsChild self.now.nodes key) 0) }
     {
         let _node = self.store.node(key)?;
-        match self.store.children(key.slot).next.place() {
+        match self.store.children(key.slot as usize).next.place() {
             Place::Sibling(slot) => self.store.node_at(slot),
             _ => None,
         }
@@ -265,7 +265,7 @@ impl<R: Resource> Tree<R> {
         ensures alone { parent_number self.now.nodes key ≡ None → result ≡ None }
     {
         let _parent = self.store.node(key)?.above?;
-        match self.store.sibling(key.slot).next.place() {
+        match self.store.sibling(key.slot as usize).next.place() {
             Place::Sibling(slot) => self.store.node_at(slot),
             _ => None,
         }
@@ -316,12 +316,13 @@ impl<R: Resource> Tree<R> {
             above,
             marks: Marks::blank(),
         };
+        let ring = sibling_ring(&node);
         let key = match self.store.add_node(number, node) {
             Ok(key) => key,
             Err(refused) => return Err(refused),
         };
-        if let Some(ring) = sibling_ring(node) {
-            self.store.join_siblings(ring, key.slot);
+        if let Some(ring) = ring {
+            self.store.join_siblings(ring, key.slot as usize);
         }
         Ok(key)
     }
@@ -534,8 +535,10 @@ impl<R: Resource> Tree<R> {
         };
         match self.store.add_resource(number, stowed) {
             Ok(stored) => {
-                self.store
-                    .join(Place::Held(key.slot), Place::Stored(stored.slot));
+                self.store.join(
+                    Place::Held(key.slot as usize),
+                    Place::Stored(stored.slot as usize),
+                );
                 Ok(ResKey {
                     slot: stored.slot,
                     number: stored.number,
@@ -594,7 +597,7 @@ impl<R: Resource> Tree<R> {
             slot: res.slot,
             number: res.number,
         };
-        self.store.leave(Place::Stored(res.slot));
+        self.store.leave(Place::Stored(res.slot as usize));
         self.store.lend(key);
     }
 
@@ -612,7 +615,7 @@ impl<R: Resource> Tree<R> {
         };
         // One of which a lease is out stands on no ring.
         if let Some(ring) = self.store.unlend(key) {
-            self.store.join(ring, Place::Stored(res.slot));
+            self.store.join(ring, Place::Stored(res.slot as usize));
         }
     }
 
@@ -628,7 +631,7 @@ impl<R: Resource> Tree<R> {
             slot: res.slot,
             number: res.number,
         };
-        let place = Place::Stored(res.slot);
+        let place = Place::Stored(res.slot as usize);
         self.store.leave(place);
         self.store.mark_removed(key);
         if let Some(ring) = self.store.ring_of(key) {
@@ -662,7 +665,7 @@ impl<R: Resource> Tree<R> {
         match self.store.waiting.next.place() {
             Place::Stored(slot) => {
                 let key = self.store.resource_key(slot);
-                self.store.leave(Place::Stored(key.slot));
+                self.store.leave(Place::Stored(key.slot as usize));
                 let stowed = self.store.take_resource(key);
                 Some((key.number, stowed.resource))
             }

@@ -8,7 +8,8 @@ unfoldable pub use Rattle.rx_event.proofs.Laws.Common.{is_held, is_taken, is_wai
 pub use Rattle.std.{proofs.Math.Bool.not, proofs.Math.Bool.◌&&◌, proofs.Math.Bool.◌||◌, proofs.lemmas.Grind.take-set_at, specs.List.Contains}
 pub use Rattle.rx_book.{proofs.Laws.NotesGoOn.goes_step, specs.Checkpoints.AnswersCheckpoint, specs.State.IsPromised, specs.State.State}
 pub use Rattle.rx_book.specs.Answers.{Accepts, Answers, AnswersHanded, AnswersOpenedUsing, AnswersResKey}
-pub use Rattle.rx_book.specs.declared.{answer.At.At, answer.OpenedUsing.OpenedUsing, answer.Refused.Refused, key.Key.Key, key.ResKey.ResKey}
+pub use Rattle.rx_book.specs.declared.{answer.At.At, answer.OpenedUsing.OpenedUsing, answer.Refused.Refused}
+pub use Rattle.{rx_slots.specs.declared.Key.Key, rx_tree.specs.declared.node.ResKey.ResKey}
 pub use Rattle.rx_event.proofs.Laws.{Lawful.shown_within, Places.at_within, Places.slice_get_last, Resources.held_not_taken, Resources.held_resource}
 pub use Rattle.rx_event.specs.{Calls.outside_of, Causes.checkpoint_causes, declared.event.Event.Event, declared.event.Kind.TheVariants.Pass}
 pub use Rattle.rx_event.specs.declared.{event.Event.TheVariants.Accept, event.Event.TheVariants.Open, mail.Mail.Mail, refusal.Refusal.Refusal}

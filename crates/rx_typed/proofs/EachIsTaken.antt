@@ -1,7 +1,7 @@
 -- Where as many resources were taken as were accepted, each of them was.
 use Rattle.rx_typed.proofs.Common.{◌≡◌, ℕ, Bool, true, List, length, map, refl, sym, ◌∙◌, arith, not, ◌&&◌, Contains, false≢true, length-map, at}
 use Rattle.rx_typed.proofs.Common.{Event, makes_resource, is_held, is_waiting, is_taken, accepted_count, taken_count, State, IsPromised, IsTakenWhole}
-use Rattle.rx_book.specs.State.{AreJust}
+use Rattle.rx_event.specs.Gone.{AreJust}
 use Rattle.std.proofs.Common.{rules}
 
 -- a list of none lists no number that passes

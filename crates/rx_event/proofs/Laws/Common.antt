@@ -23,7 +23,7 @@ pub use Rattle.rx_event.specs.declared.event.Mode.TheVariants.{Auto, Manual}
 pub use Rattle.rx_event.specs.declared.event.Place.{Place}
 pub use Rattle.rx_event.specs.declared.event.Place.TheVariants.{Inner, Source, Notifier, Root}
 pub use Rattle.rx_event.specs.declared.mail.Mail.{Mail}
-pub use Rattle.rx_event.specs.declared.marks.Marks.{Marks}
+pub use Rattle.rx_event.specs.Marks.{Marks}
 pub use Rattle.rx_event.specs.Allowed.{IsInOrderAt, IsAllowed, IsInOrder, IsHubbed, connected}
 pub use Rattle.rx_event.specs.Bases.{Agree, is_untaken, keep_node}
 unfoldable pub use Rattle.rx_event.specs.Bases.{base_of}

@@ -3,10 +3,12 @@ use Rattle.rx_ground.proofs.Common.{◌≡◌, ◌≢◌, ℕ, ◌<◌, true, fa
 use Rattle.rx_ground.proofs.Common.{length-append, append-nil, append_assoc, map-append, All, AllPairs, Contains, and_parts, and_from, both_ways, cases_Bool}
 use Rattle.rx_ground.proofs.Common.{cases_order, false_from_ne_true, not-true, not_from_false, All-contains, Kept, Event, makes_node, at, is_open, MayFollow}
 use Rattle.rx_ground.proofs.Common.{IsForcedOn, stays, more, at-append, at_within, slice_get_last, open_old, shuts_none, is_open_kept, is_open_new, Key, goes}
-use Rattle.rx_ground.proofs.Common.{Writes, has_gone, numbers_of, Gathers, AllPairs-cons}
+use Rattle.rx_ground.proofs.Common.{Writes, has_gone, numbers_of, Gathers, AllPairs-cons, zero, suc, Some, IsSome, ◌≤◌, take, drop, take-append-drop}
+use Rattle.rx_ground.proofs.Common.{Closes, GoesFirst, Ground, Moves, find}
+use Rattle.std.proofs.Math.Seq.{take-nil}
 use Rattle.std.proofs.lemmas.List.Elements.{Contains-append_left, Contains-append_right, Contains-append_cases}
 use Rattle.rx_register.specs.State.{State as Register}
-use Rattle.rx_ground.proofs.Laws.Members.{Contains-head, Contains-later, All-members, AllPairs-head, AllPairs-tail, AllPairs-nil}
+use Rattle.rx_ground.proofs.Laws.Members.{Contains-head, Contains-later, All-members, AllPairs-head, AllPairs-tail, AllPairs-nil, AllPairs-by}
 use Rattle.std.proofs.Common.{rules}
 
 -- histories ---------------------------------------------------------------------------------------
@@ -58,6 +60,70 @@ went h e opens n went_now = by_place (cases_order n (length h)) where
   by_place (inr (inl l)) = (l, was_open l (cases_Bool (is_open h n)), shut)
   by_place (inr (inr g)) = absurd (let l = at_within makes_node (h ++ e ∷ []) n parts.0 in omega (arith, length-append h (e ∷ [])))
 
+-- what has gone in a beginning has gone in the whole
+gone_later : (h : List Event) (place n : ℕ) → has_gone (take place h) n ≡ true → has_gone h n ≡ true
+gone_later h place n gone = ap (λ (k : List Event). has_gone k n) (sym (take-append-drop place h)) ∙ gone_on (take place h) (drop place h) n gone
+
+-- the order in which nodes went ---------------------------------------------------------------------
+
+-- a beginning of a longer history is one of the shorter, or goes beyond it
+beginnings : (k es : List Event) (place : ℕ) → (take place (k ++ es) ≡ take place k) ⊎ ((rest : List Event) × (take place (k ++ es) ≡ k ++ rest))
+beginnings [] es place = inr (take place es, refl)
+beginnings (x ∷ k) es zero = inl refl
+beginnings (x ∷ k) es (suc place) = by (beginnings k es place) where
+  by : (take place (k ++ es) ≡ take place k) ⊎ ((rest : List Event) × (take place (k ++ es) ≡ k ++ rest)) →
+      (take (suc place) (x ∷ k ++ es) ≡ take (suc place) (x ∷ k)) ⊎ ((rest : List Event) × (take (suc place) (x ∷ k ++ es) ≡ x ∷ k ++ rest))
+  by (inl same) = inl (ap (λ (ys : List Event). x ∷ ys) same)
+  by (inr beyond) = inr (beyond.0, ap (λ (ys : List Event). x ∷ ys) beyond.1)
+
+beginnings_push : (h : List Event) (e : Event) (place : ℕ) → (take place (h ++ e ∷ []) ≡ take place h) ⊎ (take place (h ++ e ∷ []) ≡ h ++ e ∷ [])
+beginnings_push [] e zero = inl refl
+beginnings_push [] e (suc place) = inr (ap (λ (ys : List Event). e ∷ ys) (take-nil place))
+beginnings_push (x ∷ h) e zero = inl refl
+beginnings_push (x ∷ h) e (suc place) = by (beginnings_push h e place) where
+  by : (take place (h ++ e ∷ []) ≡ take place h) ⊎ (take place (h ++ e ∷ []) ≡ h ++ e ∷ []) →
+      (take (suc place) (x ∷ h ++ e ∷ []) ≡ take (suc place) (x ∷ h)) ⊎ (take (suc place) (x ∷ h ++ e ∷ []) ≡ x ∷ h ++ e ∷ [])
+  by (inl same) = inl (ap (λ (ys : List Event). x ∷ ys) same)
+  by (inr whole) = inr (ap (λ (ys : List Event). x ∷ ys) whole)
+
+-- two that one event closed
+pub together : (h : List Event) (e : Event) (m n : ℕ) → goes h (h ++ e ∷ []) m ≡ true → goes h (h ++ e ∷ []) n ≡ true → GoesFirst (h ++ e ∷ []) m n
+together h e m n m_goes n_goes = record { no_later = λ place gone. no_later place gone (beginnings_push h e place) }
+  where
+    no_later : (place : ℕ) → has_gone (take place (h ++ e ∷ [])) n ≡ true →
+        (take place (h ++ e ∷ []) ≡ take place h) ⊎ (take place (h ++ e ∷ []) ≡ h ++ e ∷ []) → has_gone (take place (h ++ e ∷ [])) m ≡ true
+    no_later place gone (inl same) =
+        let stayed = (and_parts (has_gone (h ++ e ∷ []) n) (not (has_gone h n)) n_goes).1 in
+        absurd (both_ways (has_gone h n) (not-true (has_gone h n) stayed) (gone_later h place n (ap (λ (k : List Event). has_gone k n) (sym same) ∙ gone)))
+    no_later place gone (inr whole) =
+        ap (λ (k : List Event). has_gone k m) whole ∙ (and_parts (has_gone (h ++ e ∷ []) m) (not (has_gone h m)) m_goes).0
+
+module _ (k es : List Event) (m n : ℕ) (m_gone : has_gone k m ≡ true) where
+  -- two that went before go in this order still
+  pub first_on : GoesFirst k m n → GoesFirst (k ++ es) m n
+  first_on first = record { no_later = λ place gone. no_later place gone (beginnings k es place) }
+    where
+      no_later : (place : ℕ) → has_gone (take place (k ++ es)) n ≡ true →
+          (take place (k ++ es) ≡ take place k) ⊎ ((rest : List Event) × (take place (k ++ es) ≡ k ++ rest)) → has_gone (take place (k ++ es)) m ≡ true
+      no_later place gone (inl same) = ap (λ (h : List Event). has_gone h m) same ∙ first.no_later place (ap (λ (h : List Event). has_gone h n) (sym same) ∙ gone)
+      no_later place gone (inr beyond) = ap (λ (h : List Event). has_gone h m) beyond.1 ∙ gone_on k beyond.0 m m_gone
+
+  -- and before what goes after them
+  pub first_before : has_gone k n ≡ false → GoesFirst (k ++ es) m n
+  first_before n_stayed = record { no_later = λ place gone. no_later place gone (beginnings k es place) }
+    where
+      no_later : (place : ℕ) → has_gone (take place (k ++ es)) n ≡ true →
+          (take place (k ++ es) ≡ take place k) ⊎ ((rest : List Event) × (take place (k ++ es) ≡ k ++ rest)) → has_gone (take place (k ++ es)) m ≡ true
+      no_later place gone (inl same) =
+          absurd (both_ways (has_gone k n) n_stayed (gone_later k place n (ap (λ (h : List Event). has_gone h n) (sym same) ∙ gone)))
+      no_later place gone (inr beyond) = ap (λ (h : List Event). has_gone h m) beyond.1 ∙ gone_on k beyond.0 m m_gone
+
+-- what is forced adds to a history
+pub adds_forced : (base : Kept) → {h k : List Event} → IsForcedOn base h k → (es : List Event) × (k ≡ h ++ es)
+adds_forced base {h} stays = ([], sym (append-nil h))
+adds_forced base {h} (more {e = e} on f) =
+    let a = adds_forced base on in (a.0 ++ e ∷ [], ap (λ (k : List Event). k ++ e ∷ []) a.1 ∙ append_assoc h a.0 (e ∷ []))
+
 -- lists -------------------------------------------------------------------------------------------
 
 module _ {X : Type 0} where
@@ -90,7 +156,11 @@ pub gathers_nothing : (h : List Event) (list : List Key) → Gathers h list h li
 gathers_nothing h list = search (rules, gathers_same, and_parts, not, both_ways, not-true)
 
 -- one list after the other
-module _ {h k j : List Event} {a b c : List Key} (further : IsFurther h k) (onward : IsFurther k j) (first : Gathers h a k b) (then : Gathers k b j c) where
+module _ {h k j : List Event} {a b c : List Key} (further : IsFurther h k) (es : List Event) (adds : j ≡ k ++ es) (first : Gathers h a k b)
+    (then : Gathers k b j c) where
+  onward : IsFurther k j
+  onward = subst (IsFurther k) (sym adds) (gone_on k es)
+
   abbrev numbers : List ℕ
   numbers = numbers_of (first.gone ++ then.gone)
 
@@ -104,13 +174,26 @@ module _ {h k j : List Event} {a b c : List Key} (further : IsFurther h k) (onwa
   then_goes n here = All-contains (λ m. goes k j m ≡ true) (numbers_of then.gone) n then.each here
 
   goes_first : (n : ℕ) → goes h k n ≡ true → goes h j n ≡ true
-  goes_first n now = search (rules, and_parts, not, and_from)
+  goes_first n now = search (rules, onward, and_parts, not, and_from)
 
   goes_then : (n : ℕ) → goes k j n ≡ true → goes h j n ≡ true
   goes_then n now = search (rules, and_parts, not, false_from_ne_true, both_ways, not-true, and_from, not_from_false)
 
   goes_either : (n : ℕ) → goes h j n ≡ true → (goes h k n ≡ true) ⊎ (goes k j n ≡ true)
   goes_either n now = search (rules, cases_Bool, not, and_parts, and_from, not_from_false)
+
+  went_first : (n : ℕ) → Contains (numbers_of first.gone) n → has_gone k n ≡ true
+  went_first n here = (and_parts (has_gone k n) (not (has_gone h n)) (first_goes n here)).0
+
+  stayed_first : (n : ℕ) → Contains (numbers_of then.gone) n → has_gone k n ≡ false
+  stayed_first n there = not-true (has_gone k n) (and_parts (has_gone j n) (not (has_gone k n)) (then_goes n there)).1
+
+  order : AllPairs (GoesFirst j) (numbers_of first.gone ++ numbers_of then.gone)
+  order = AllPairs-append (GoesFirst j) (numbers_of first.gone) (numbers_of then.gone)
+      (AllPairs-by (GoesFirst k) (GoesFirst j) (numbers_of first.gone)
+      (λ m n here there is. subst (λ (h : List Event). GoesFirst h m n) (sym adds) (first_on k es m n (went_first m here) is)) first.order)
+      then.order
+      (λ m n here there. subst (λ (h : List Event). GoesFirst h m n) (sym adds) (first_before k es m n (went_first m here) (stayed_first n there)))
 
   pub gathers_on : Gathers h a j c
   gathers_on = record {
@@ -122,6 +205,7 @@ module _ {h k j : List Event} {a b c : List Key} (further : IsFurther h k) (onwa
     every = λ n now. subst (λ (ns : List ℕ). Contains ns n) (sym both) (every n (goes_either n now));
     once = subst (λ (ns : List ℕ). AllPairs (λ m n. m ≢ n) ns) (sym both)
         (AllPairs-append (λ m n. m ≢ n) (numbers_of first.gone) (numbers_of then.gone) first.once then.once apart);
+    order = subst (λ (ns : List ℕ). AllPairs (GoesFirst j) ns) (sym both) order;
   }
     where
       each : (n : ℕ) → Contains (numbers_of first.gone) n ⊎ Contains (numbers_of then.gone) n → goes h j n ≡ true
@@ -133,10 +217,7 @@ module _ {h k j : List Event} {a b c : List Key} (further : IsFurther h k) (onwa
       every n (inr now) = Contains-append_right (numbers_of first.gone) (numbers_of then.gone) n (then.every n now)
 
       apart : (m n : ℕ) → Contains (numbers_of first.gone) m → Contains (numbers_of then.gone) n → m ≢ n
-      apart m n here there = λ same.
-          let went_first = and_parts (has_gone k m) (not (has_gone h m)) (first_goes m here) in
-          let went_then = and_parts (has_gone j n) (not (has_gone k n)) (then_goes n there) in
-          both_ways (has_gone k n) (not-true (has_gone k n) went_then.1) (ap (has_gone k) (sym same) ∙ went_first.0)
+      apart m n here there = λ same. both_ways (has_gone k n) (stayed_first n there) (ap (has_gone k) (sym same) ∙ went_first m here)
 
 -- what is written -------------------------------------------------------------------------------
 
@@ -151,4 +232,40 @@ further_written {old} es w = subst (IsFurther old.history) (sym w.history) (gone
 -- one write after the other
 pub gathers_then : {a b c : Register} {first then last : List Key} (es fs : List Event) → Writes a es b → Writes b fs c →
     Gathers a.history first b.history then → Gathers b.history then c.history last → Gathers a.history first c.history last
-gathers_then es fs w v one two = gathers_on (further_written es w) (further_written fs v) one two
+gathers_then es fs w v one two = gathers_on (further_written es w) fs v.history one two
+
+-- what is closed --------------------------------------------------------------------------------
+
+module _ {T : Type 0} where
+  -- nothing
+  pub closes_none : {old new : Ground T} → new.closed ≡ old.closed → Gathers old.register.history old.closed new.register.history new.closed → Closes old new
+  closes_none same gathers = record { gathers = gathers; found = λ key here older. inl (subst (λ (keys : List Key). Contains keys key) same here) }
+
+  -- nor with an event that closes none
+  pub closes_quiet : {old new : Ground T} (e : Event) → MayFollow old.register.base old.register.history e → shuts_none e ≡ true →
+      Writes old.register (e ∷ []) new.register → new.closed ≡ old.closed → Closes old new
+  closes_quiet e next quiet w same = closes_none same (gathers_quiet e next quiet w same)
+
+  -- what was moved out
+  pub closes_moved : {old new : Ground T} {top : ℕ} → Moves old.tree.nodes top old.closed new.closed →
+      Gathers old.register.history old.closed new.register.history new.closed → Closes old new
+  closes_moved {old} {new} moves gathers = record {
+    gathers = gathers;
+    found = λ key here older.
+        by key (Contains-append_cases old.closed moves.moved key (subst (λ (keys : List Key). Contains keys key) moves.listed here));
+  }
+    where
+      by : (key : Key) → Contains old.closed key ⊎ Contains moves.moved key → Contains old.closed key ⊎ IsSome (find old.tree.nodes key)
+      by key (inl listed) = inl listed
+      by key (inr moved) = inr (moves.each key moved).0
+
+  -- one after the other, where no older node came
+  pub closes_on : {a b c : Ground T} → length a.register.history ≤ length b.register.history →
+      ((key : Key) → IsSome (find b.tree.nodes key) → key.number < length a.register.history → IsSome (find a.tree.nodes key)) →
+      Closes a b → Closes b c → Gathers a.register.history a.closed c.register.history c.closed → Closes a c
+  closes_on {a} {b} {c} longer still one two gathers = record { gathers = gathers; found = λ key here older. by key older (two.found key here (omega arith)) }
+    where
+      by : (key : Key) → key.number < length a.register.history → Contains b.closed key ⊎ IsSome (find b.tree.nodes key) →
+          Contains a.closed key ⊎ IsSome (find a.tree.nodes key)
+      by key older (inl listed) = one.found key listed older
+      by key older (inr there) = inr (still key there older)

@@ -49,3 +49,11 @@ AllPairs-map {X} {Y} f R (x ∷ xs) pairs = AllPairs-cons R (f x) (map f xs) (Al
 
   apart : (y : Y) → Contains (map f xs) y → R (f x) y
   apart y c = let m = Contains-from_map f xs y c in subst (R (f x)) m.2 (AllPairs-head (λ a b. R (f a) (f b)) x xs pairs m.0 m.1)
+
+-- pairs of members, of which more is known
+pub AllPairs-by : {X : Type 0} (R S : X → X → Type 0) (xs : List X) → ((x y : X) → Contains xs x → Contains xs y → R x y → S x y) →
+    AllPairs R xs → AllPairs S xs
+AllPairs-by R S [] by pairs = AllPairs-nil S
+AllPairs-by R S (x ∷ xs) by pairs = AllPairs-cons S x xs
+    (All-members (S x) xs (λ y c. by x y (Contains-head x xs) (Contains-later x xs y c) (AllPairs-head R x xs pairs y c)))
+    (AllPairs-by R S xs (λ a b c d r. by a b (Contains-later x xs a c) (Contains-later x xs b d) r) (AllPairs-tail R x xs pairs))

@@ -3,23 +3,23 @@ use Rattle.rx_audit.proofs.Marking.{end_counted}
 use Rattle.rx_audit.proofs.nodes.changed.Goals as goal
 use Rattle.std.proofs.Common.{rules}
 
-pub after_source-requires : goal.after_source-requires
-after_source-requires c = search (rules, children_few)
+pub open_source-requires : goal.open_source-requires
+open_source-requires c = search (rules, children_few)
 
-pub after_notifier-requires : goal.after_notifier-requires
-after_notifier-requires c = search (rules, children_few)
+pub open_notifier-requires : goal.open_notifier-requires
+open_notifier-requires c = search (rules, children_few)
 
-pub after_inner-requires-clause-room : goal.after_inner-requires-clause-room
-after_inner-requires-clause-room c = search (rules, children_few)
+pub open_inner-requires-clause-room : goal.open_inner-requires-clause-room
+open_inner-requires-clause-room c = search (rules, children_few)
 
-pub after_inner-requires-clause-owes : goal.after_inner-requires-clause-owes
-after_inner-requires-clause-owes c = search (rules, inner_owes)
+pub open_inner-requires-clause-owes : goal.open_inner-requires-clause-owes
+open_inner-requires-clause-owes c = search (rules, inner_owes)
 
-pub after_decline-requires : goal.after_decline-requires
-after_decline-requires c = search (rules, decline_owes)
+pub decline-requires : goal.decline-requires
+decline-requires c = search (rules, decline_owes)
 
-pub after_child-requires : goal.after_child-requires
-after_child-requires c = search (rules, end_counted)
+pub end_child-requires : goal.end_child-requires
+end_child-requires c = search (rules, end_counted)
 
 pub returns-in-Source : goal.returns-in-Source
 returns-in-Source c = search (rules, source_changes)

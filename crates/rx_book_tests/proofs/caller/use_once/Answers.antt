@@ -17,7 +17,7 @@ use Rattle.rx_event.specs.Tree.{at, is_open}
 use Rattle.rx_event.specs.Calls.{OpeningUsing, IsStepOf}
 use Rattle.rx_event.specs.Refusals.{first_cause}
 use Rattle.rx_event.proofs.Laws.Places.{at-append}
-use Rattle.rx_book.specs.declared.key.Key.{Key}
+use Rattle.rx_slots.specs.declared.Key.{Key}
 use Rattle.rx_book.specs.State.{State, IsPromised, has_key}
 use Rattle.rx_book.specs.Requests.{stands, dispose_request}
 use Rattle.rx_book.proofs.Laws.Keys.{Contains-has_key}

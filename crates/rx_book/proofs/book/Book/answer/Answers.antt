@@ -2,7 +2,7 @@ use Rattle.rx_book.proofs.Common.{sym, subst, Ok, State, Request, Answers, state
 use Rattle.rx_book.specs.Asks.{request_of, refuses, gives, Asks}
 use Rattle.rx_book.proofs.Admitted.{state_admitted}
 use Rattle.rx_book.proofs.AnswersOkOrErr.{answers_ok, passed_refusal}
-use Rattle.rx_book.proofs.CallWithoutCause.{pays, connects_none, accepts_written, settles_to}
+use Rattle.rx_book.proofs.CallWithoutCause.{pays, connects_none, accepts}
 use Rattle.rx_book.proofs.ListOfClosed.{answers_begun, begun_at}
 use Rattle.rx_book.proofs.CallsAsValues.{fixed_takes, fixed_within, fixed_admitted, fixed_subscribes_none, unlisted, gives_settled, gives_begun}
 use Rattle.rx_book.proofs.book.Book.answer.Given as given
@@ -44,9 +44,8 @@ returns g c =
     let new = state_of R c.settle.new.self in
     let answer = c.write-answer.result in
     let l = (called g (goal.at.returns g c).In_ok-admit).let_in in
-    let settles = settles_to s.standing s.base s.forced s.nodes s.resources s.limit s.given s.leases s.closed in
-    let done = accepts_written R c.admit.new.ground _ l c.write-answer.ensures.written settles in
-    let told = gives_settled c.args.call answer c.requires l done settles c.write-answer.ensures.gives in
+    let done = accepts R c.admit.new.ground _ l _ c.write-answer.ensures.written s in
+    let told = gives_settled c.args.call answer c.requires l done s c.write-answer.ensures.gives in
     subst (λ (q : Request). Answers (gives t c.args.call new) (refuses t c.args.call) t q new (Ok answer)) (unlisted c.args.call t)
     (answers_begun (gives_begun t new c.args.call answer)
     (subst (λ (x : State). Asks x c.args.call new (Ok answer)) (begun_at (state_admitted c.in_ok-admit.ensures.ok) c.self.view_is) (answers_ok told done)))

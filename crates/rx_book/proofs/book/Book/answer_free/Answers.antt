@@ -3,7 +3,7 @@ use Rattle.rx_book.specs.Answers.{IsPlace}
 use Rattle.rx_book.specs.Asks.{request_of, refuses}
 use Rattle.rx_book.proofs.Admitted.{state_admitted}
 use Rattle.rx_book.proofs.AnswersOkOrErr.{answers_ok, passed_refusal}
-use Rattle.rx_book.proofs.CallWithoutCause.{pays, connects_none, accepts_written, settles_to}
+use Rattle.rx_book.proofs.CallWithoutCause.{pays, connects_none, accepts}
 use Rattle.rx_book.proofs.ListOfClosed.{answers_begun, begun_at}
 use Rattle.rx_book.proofs.CallsAsValues.{free_let_in, free_subscribes_none, unlisted}
 use Rattle.rx_book.proofs.book.Book.answer_free.Given as given
@@ -38,8 +38,7 @@ returns g c =
     let t = c.args.self.now in
     let new = state_of g.R.Resource c.settle.new.self in
     let l = called g (goal.at.returns g c).In_ok-admit in
-    let settles = settles_to s.standing s.base s.forced s.nodes s.resources s.limit s.given s.leases s.closed in
-    let done = accepts_written g.R.Resource c.admit.new.ground _ l c.write_free.ensures settles in
+    let done = accepts g.R.Resource c.admit.new.ground _ l _ c.write_free.ensures s in
     subst (λ (q : Request). Answers (IsPlace t) (refuses t c.args.call) t q new (Ok c.len-place.result)) (unlisted c.args.call t)
     (answers_begun (λ place. place)
     (subst (λ (x : State). Answers (IsPlace x) (refuses x c.args.call) x (request_of x c.args.call) new (Ok c.len-place.result))

@@ -1,8 +1,7 @@
 use Rattle.rx_book.proofs.Common.{List, length, refl, ap, subst, ◌∙◌, Ok, Event, Accept, Holding, Kept, accepted_by, accepted_by_new, accepted_stays}
-use Rattle.rx_book.proofs.Common.{gathers_quiet, leases_stay, State, hold_request, stands, AnswersResKey, state_of, IsLetIn, IsAdmitted}
+use Rattle.rx_book.proofs.Common.{State, hold_request, stands, AnswersResKey, state_of, IsLetIn, IsAdmitted}
 use Rattle.rx_book.proofs.AnswersOkOrErr.{answers_ok, answers_err}
-use Rattle.rx_book.proofs.CallWithoutCause.{one_ready, fresh_asked, live_fresh, unused_fresh, pays, connects_none, written_held, accepts_written}
-use Rattle.rx_book.proofs.CallWithoutCause.{settles_to}
+use Rattle.rx_book.proofs.CallWithoutCause.{one_ready, fresh_asked, live_fresh, unused_fresh, pays, connects_none, accepts}
 use Rattle.rx_book.proofs.MadeKeyIsListed.{res_key_listed}
 use Rattle.rx_book.proofs.ListOfClosed.{answers_begun, begun_at}
 use Rattle.rx_book.proofs.book.Book.hold.Given as given
@@ -19,7 +18,7 @@ pub returns-in-Err : goal.returns-in-Err
 returns-in-Err g c =
     let s = state_of g.R.Resource c.self.inside.ground in
     let told = rw (c.tag-tag.ensures, c.is_fresh-fresh.ensures) at c.holding_cause-cause.ensures in
-    let first = first_of_node c.self.inside.ground _ c.args.node (λ n. Holding n (g.R.Resource.tag_of c.args.resource)) c.tree_key.ensures told in
+    let first = first_of_node c.self.inside.ground _ c.args.node (λ n. Holding n (g.R.Resource.tag_of c.args.resource)) told in
     let why = c.in-Err.ensures.err (stands s (hold_request g.R.Resource s c.args.node c.args.resource)) first in
     rw (← c.self.view_is) (answers_err (record { why = why; back = refl }) c.in-Err.ensures.same)
 
@@ -27,7 +26,7 @@ admitted : (g : given.Over) (c : In_default g) →
     (let b = c.admit.new.ground in IsAdmitted g.R.Resource b (hold_request g.R.Resource (state_of g.R.Resource b) c.args.node c.args.resource))
 admitted g c =
     let told = rw (c.tag-tag.ensures, c.is_fresh-fresh.ensures) at c.holding_cause-cause.ensures in
-    let first = first_of_node c.self.inside.ground _ c.args.node (λ n. Holding n (g.R.Resource.tag_of c.args.resource)) c.tree_key.ensures told in
+    let first = first_of_node c.self.inside.ground _ c.args.node (λ n. Holding n (g.R.Resource.tag_of c.args.resource)) told in
     admitted_as (λ s. hold_request g.R.Resource s c.args.node c.args.resource) (λ s. refl) tt first c.in_default.ensures.ok c.of_holding.ensures
 
 called : (g : given.Over) (c : In_default g) →
@@ -40,7 +39,7 @@ write_accept-res-requires-clause-room g c κs within = (admitted g (goal.at.writ
 pub write_accept-res-requires-clause-ready : goal.write_accept-res-requires-clause-ready
 write_accept-res-requires-clause-ready g c κs within =
     let l = called g (goal.at.write_accept-res-requires-clause-ready g c).In_default in
-    rw c.tree_key-2.ensures (one_ready g.R.Resource c.admit.new.ground _ l _ refl)
+    one_ready g.R.Resource c.admit.new.ground _ l _ refl
 
 pub write_accept-res-requires-clause-open : goal.write_accept-res-requires-clause-open
 write_accept-res-requires-clause-open g c κs within = search (rules, called)
@@ -54,12 +53,12 @@ write_accept-res-requires-clause-unused g c κs within = search (rules, called, 
 pub settle-requires-clause-paid : goal.settle-requires-clause-paid
 settle-requires-clause-paid g c κs within =
     let l = called g (goal.at.settle-requires-clause-paid g c).In_default in
-    pays g.R.Resource c.admit.new.ground _ l c.write_accept-res.new.self.register (rw c.tree_key-2.ensures at c.write_accept-res.ensures.written)
+    pays g.R.Resource c.admit.new.ground _ l c.write_accept-res.new.self.register c.write_accept-res.ensures.wrote.written
 
 pub settle-requires-clause-room : goal.settle-requires-clause-room
 settle-requires-clause-room g c κs within =
     let l = called g (goal.at.settle-requires-clause-room g c).In_default in
-    connects_none g.R.Resource c.admit.new.ground _ l c.write_accept-res.new.self.register (rw c.tree_key-2.ensures at c.write_accept-res.ensures.written) refl
+    connects_none g.R.Resource c.admit.new.ground _ l c.write_accept-res.new.self.register c.write_accept-res.ensures.wrote.written refl
 
 pub returns : goal.returns
 returns g c =
@@ -69,20 +68,19 @@ returns g c =
     let new = c.settle.new.self in
     let a = c.write_accept-res.ensures in
     let s = c.settle.ensures in
-    let w = rw c.tree_key-2.ensures at a.written in
+    let x = a.wrote in
+    let w = x.written in
     let l = called g (goal.at.returns g c).In_default in
     let h = b.register.history in
     let n = length h in
     let node = c.args.node.number in
     let tag = R.tag_of c.args.resource in
-    let quiet = gathers_quiet (Accept node tag) (one_ready R b _ l (Accept node tag) refl).next refl w a.closed in
-    let written = written_held mid _ w a.tied a.leased a.nodes a.kept (leases_stay _ _ _ a.leases) quiet in
-    let done = accepts_written R b _ l written (settles_to s.standing s.base s.forced s.nodes s.resources s.limit s.given s.leases s.closed) in
+    let done = accepts R b _ l mid x s in
     let alive = accepted_stays b.register.base h new.register.history node tag l.may.lawful (one_ready R b _ l (Accept node tag) refl).next done.step.forced in
     let accepted = ap (λ (k : Kept). accepted_by k mid.register.history n) w.base ∙ ap (λ (k : List Event). accepted_by b.register.base k n) w.history ∙
     accepted_by_new b.register.base h (Accept node tag) l.may.lawful in
-    let key = res_key_listed R mid new s.nodes n a.tied.of_tree c.write_accept-res.result c.shown_res_key.ensures s.resources
+    let key = res_key_listed R mid new s.nodes n x.between.tied.of_tree c.write_accept-res.result s.resources
     a.number a.held accepted alive in
     answers_begun (λ is. is)
-    (subst (λ (x : State). AnswersResKey x (hold_request R x c.args.node c.args.resource) c.args.resource (state_of R new) (Ok c.shown_res_key.result))
+    (subst (λ (x : State). AnswersResKey x (hold_request R x c.args.node c.args.resource) c.args.resource (state_of R new) (Ok c.write_accept-res.result))
     (begun_at (state_admitted c.in_default.ensures.ok) c.self.view_is) (answers_ok key done))

@@ -1,11 +1,11 @@
-use Rattle.rx_book.proofs.Common.{true, None, Some, [], refl, sym, ap, subst, ◌∙◌, inl, w64, Ok, to_z-of_z, Item, Emitting, MakesOnly}
-use Rattle.rx_book.proofs.Common.{IsStanding, gathers_quiet, State, next_request, stands, state_of, tree_key_of, IsLetIn, Admits}
+use Rattle.rx_book.proofs.Common.{true, None, Some, [], refl, sym, ap, subst, ◌∙◌, inl, w64, Ok, to_z-of_z, Emitting, MakesOnly}
+use Rattle.rx_book.proofs.Common.{IsStanding, State, next_request, stands, state_of, IsLetIn, Admits}
 use Rattle.rx_ground.proofs.Laws.OneStop.{MakesOnly-roomier}
 use Rattle.rx_book.specs.Answers.{AnswersPlaceOrWant}
 use Rattle.rx_book.proofs.Admitted.{admitted_as, state_admitted, within_limit, item_cost}
 use Rattle.rx_book.proofs.CausesByKey.{first_of_node}
 use Rattle.rx_book.proofs.AnswersOkOrErr.{answers_ok, passed_refusal}
-use Rattle.rx_book.proofs.CallWithoutCause.{one_ready, pays, connects_none, written_closed, accepts_written, settles_to}
+use Rattle.rx_book.proofs.CallWithoutCause.{one_ready, pays, connects_none, accepts}
 use Rattle.rx_book.proofs.ListOfClosed.{answers_begun, begun_at}
 use Rattle.rx_book.proofs.book.Book.next.Given as given
 use Rattle.rx_book.proofs.book.Book.next.Goals as goal
@@ -20,16 +20,16 @@ called : (g : given.Over) (c : In_ok-admit g) → (let b = c.admit.new.ground in
 called g c =
     let b = c.self.inside.ground in
     let told = rw (to_z-of_z w64 c.args.value c.ranges.value) at (sym c.in_ok-way.ensures.none) in
-    let none = first_of_node b true c.args.leaf (λ n. Emitting n c.args.value) c.tree_key.ensures told in
-    let is = rw c.tree_key.ensures at c.in_ok-way.ensures.ok in
-    let cost = c.of_item.ensures ∙ item_cost b.register.history b.tree.nodes (tree_key_of c.args.leaf) c.args.value c.in_ok-way.way.reach is in
+    let none = first_of_node b true c.args.leaf (λ n. Emitting n c.args.value) told in
+    let is = c.in_ok-way.ensures.ok in
+    let cost = c.of_item.ensures ∙ item_cost b.register.history b.tree.nodes c.args.leaf c.args.value c.in_ok-way.way.reach is in
     (admitted_as (λ s. next_request s c.args.leaf c.args.value) (λ s. refl) tt none (admitted g c) cost).let_in
 
 pub returns-in_err-way : goal.returns-in_err-way
 returns-in_err-way g c =
     let a = c.in_err-way in
     let told = rw (to_z-of_z w64 c.args.value c.ranges.value) at (sym a.ensures.first) in
-    let why = inl (first_of_node c.self.inside.ground true c.args.leaf (λ n. Emitting n c.args.value) c.tree_key.ensures told) in
+    let why = inl (first_of_node c.self.inside.ground true c.args.leaf (λ n. Emitting n c.args.value) told) in
     rw (← c.self.view_is) (passed_refusal c.from_residual.result a.field-0.0 c.from_residual.ensures.1 why (ap (state_of g.R.Resource) a.ensures.kept))
 
 pub admit-requires-clause-standing : goal.admit-requires-clause-standing
@@ -44,7 +44,7 @@ returns-in_err-admit g c =
     let a = c.in_err-admit in
     let passed = c.from_residual-in_err-admit in
     let told = rw (to_z-of_z w64 c.args.value c.ranges.value) at (sym c.in_ok-way.ensures.none) in
-    let none = first_of_node c.self.inside.ground true c.args.leaf (λ n. Emitting n c.args.value) c.tree_key.ensures told in
+    let none = first_of_node c.self.inside.ground true c.args.leaf (λ n. Emitting n c.args.value) told in
     let why = a.ensures.err (stands s (next_request s c.args.leaf c.args.value)) none in
     let same = a.ensures.same ∙ ap (state_of g.R.Resource) c.in_ok-way.ensures.kept in
     rw (← c.self.view_is) (passed_refusal passed.result a.field-0.0 passed.ensures.1 why same)
@@ -52,7 +52,7 @@ returns-in_err-admit g c =
 pub write_item-requires-clause-ready : goal.write_item-requires-clause-ready
 write_item-requires-clause-ready g c κs within =
     let l = called g (goal.at.write_item-requires-clause-ready g c).In_ok-admit in
-    rw (c.tree_key-2.ensures, to_z-of_z w64 c.args.value c.ranges.value) (one_ready g.R.Resource c.admit.new.ground _ l _ refl)
+    rw (to_z-of_z w64 c.args.value c.ranges.value) (one_ready g.R.Resource c.admit.new.ground _ l _ refl)
 
 pub write_item-requires-clause-open : goal.write_item-requires-clause-open
 write_item-requires-clause-open g c κs within = search (rules, called)
@@ -60,20 +60,20 @@ write_item-requires-clause-open g c κs within = search (rules, called)
 pub write_item-requires-clause-only : goal.write_item-requires-clause-only
 write_item-requires-clause-only g c κs within =
     let b = c.self.inside.ground in
-    let key = tree_key_of c.args.leaf in
-    let before : MakesOnly b.tree.nodes b.hubs.hubs key c.in_ok-way.way.only = rw c.tree_key.ensures at c.in_ok-way.ensures.only in
+    let key = c.args.leaf in
+    let before : MakesOnly b.tree.nodes b.hubs.hubs key c.in_ok-way.way.only = c.in_ok-way.ensures.only in
     let a = admitted g (goal.at.write_item-requires-clause-only g c).In_ok-admit in
-    rw c.tree_key-2.ensures (MakesOnly-roomier (record b { closed = [] }) c.admit.new.ground key c.in_ok-way.way.only a.roomier before)
+    MakesOnly-roomier (record b { closed = [] }) c.admit.new.ground key c.in_ok-way.way.only a.roomier before
 
 pub settle-requires-clause-paid : goal.settle-requires-clause-paid
 settle-requires-clause-paid g c κs within =
-    let w = rw (c.tree_key-2.ensures, to_z-of_z w64 c.args.value c.ranges.value) at c.write_item.ensures.written in
+    let w = rw (to_z-of_z w64 c.args.value c.ranges.value) at c.write_item.ensures.wrote.written in
     let l = called g (goal.at.settle-requires-clause-paid g c).In_ok-admit in
     pays g.R.Resource c.admit.new.ground _ l c.write_item.new.self.register w
 
 pub settle-requires-clause-room : goal.settle-requires-clause-room
 settle-requires-clause-room g c κs within =
-    let w = rw (c.tree_key-2.ensures, to_z-of_z w64 c.args.value c.ranges.value) at c.write_item.ensures.written in
+    let w = rw (to_z-of_z w64 c.args.value c.ranges.value) at c.write_item.ensures.wrote.written in
     let l = called g (goal.at.settle-requires-clause-room g c).In_ok-admit in
     connects_none g.R.Resource c.admit.new.ground _ l c.write_item.new.self.register w refl
 
@@ -86,11 +86,8 @@ returns g c =
     let u = c.write_item.ensures in
     let s = c.settle.ensures in
     let l = called g (goal.at.returns g c).In_ok-admit in
-    let w = rw (c.tree_key-2.ensures, to_z-of_z w64 c.args.value c.ranges.value) at u.written in
-    let next = (one_ready R b _ l (Item c.args.leaf.number c.args.value) refl).next in
-    let quiet = gathers_quiet (Item c.args.leaf.number c.args.value) next refl w u.closed in
-    let written = written_closed mid _ w u.tied u.leased u.kept u.resources u.leases quiet in
-    let done = accepts_written R b _ l written (settles_to s.standing s.base s.forced s.nodes s.resources s.limit s.given s.leases s.closed) in
+    let w = rw (to_z-of_z w64 c.args.value c.ranges.value) at u.wrote in
+    let done = accepts R b _ l mid w s in
     answers_begun (λ place. place)
     (subst (λ (x : State). AnswersPlaceOrWant x (next_request x c.args.leaf c.args.value) (state_of R new) (Ok c.len-place.result))
     (begun_at (state_admitted (admitted g (goal.at.returns g c).In_ok-admit)) c.self.view_is) (answers_ok c.len-place.ensures done))

@@ -1,11 +1,12 @@
-use Rattle.rx_book.proofs.Common.{◌≡◌, refl, sym, ap, map, subst, ◌∙◌, ◌∷◌, [], Ok, Accept, Opening, outside_of, first_cause, Slots, Node, IsFurther, gone_on}
-use Rattle.rx_book.proofs.Common.{gathers_on, State, place_of, AnswersOpenedHolding, IsAdmittedHolding, stands_holding, key_shown, state_of}
+use Rattle.rx_book.proofs.Common.{◌≡◌, refl, sym, ap, map, subst, ◌∙◌, ◌∷◌, [], Ok, Accept, Opening, outside_of, first_cause, Slots, Node, adds_forced}
+use Rattle.rx_book.proofs.Common.{ℕ, ◌<◌, ◌⊎◌, ◌++◌, length, length-append, arith, IsSome, Contains, Key, find, keys_of}
+use Rattle.rx_book.proofs.Common.{gathers_on, State, place_of, AnswersOpenedHolding, IsAdmittedHolding, stands_holding, state_of}
 use Rattle.rx_ground.specs.Shown.{Kept, kept_in}
 use Rattle.rx_book.proofs.Admitted.{found_admitted, state_admitted}
 use Rattle.rx_book.proofs.AdmittedHolding.{first_stands, holding_within, admitted_holding}
 use Rattle.rx_book.proofs.HoldingUnstood.{fresh_with}
 use Rattle.rx_book.proofs.OpenedStaysOpened.{opened_after}
-use Rattle.rx_book.proofs.ListOfClosed.{begun_at, holding_begun, further_step, gathers_just, just_gone}
+use Rattle.rx_book.proofs.ListOfClosed.{begun_at, holding_begun, further_step, gathers_just, just_gone, gone_in_order, grown_by, either_known}
 use Rattle.rx_book.proofs.book.Book.open_holding.Given as given
 use Rattle.rx_book.proofs.book.Book.open_holding.Goals as goal
 use Rattle.rx_book.proofs.book.Book.open_holding.Goals.{After-opening_holding_cause-cause, In_default}
@@ -71,12 +72,15 @@ returns g c =
     let t = c.write_holding-res.ensures in
     let none = rw c.is_fresh-fresh.ensures at (admitted g (goal.at.returns g c).In_default).none in
     let accept = Accept c.write_opening-opened.result.key.number (R.tag_of c.args.resource) in
-    let keys = ap (λ (nodes : Slots Node). map (λ (k : Kept Node). key_shown k.key) (kept_in nodes)) t.nodes in
+    let keys = ap (λ (nodes : Slots Node). map (λ (k : Kept Node). k.key) (kept_in nodes)) t.nodes in
     let b = c.admit.new.ground in
-    let outside = outside_of b.register.history (Opening (place_of c.args.at) c.args.kind) in
-    let further = further_step b.register.base b.register.history outside o.accepted.step.forced in
-    let onward = subst (IsFurther mid.register.history) (sym t.history) (gone_on mid.register.history (accept ∷ [])) in
-    let gathered = gathers_on further onward (gathers_just o.accepted.closed) t.closed in
+    let h = b.register.history in
+    let outside = outside_of h (Opening (place_of c.args.at) c.args.kind) in
+    let further = further_step b.register.base h outside o.accepted.step.forced in
+    let gathered = gathers_on further (accept ∷ []) t.history (gathers_just o.accepted.closed o.accepted.closed_order) t.closed.gathers in
+    let longer = grown_by (h ++ outside) (adds_forced b.register.base o.accepted.step.forced) in
+    let known : (k : Key) → Contains mid.closed k ⊎ IsSome (find mid.tree.nodes k) → k.number < length h → Contains (keys_of b.tree) k =
+    either_known mid (keys_of b.tree) o.accepted.closed_keys o.accepted.keys in
     holding_begun (subst (λ (x : State). AnswersOpenedHolding R x c.args.at c.args.kind c.args.resource (state_of R new)
     (Ok (record { opened = c.write_opening-opened.result; res = c.write_holding-res.result })))
     (begun_at (state_admitted c.in_default.ensures.ok) c.self.view_is) (record {
@@ -87,6 +91,8 @@ returns g c =
         last = t.history;
         keys = keys;
         closed = just_gone refl gathered;
+        closed_keys = λ k here older. known k (t.closed.found k here (omega (arith, longer, older, length-append h outside))) older;
+        closed_order = gone_in_order refl gathered;
         opened = opened_after (state_of R c.admit.new.ground) (state_of R mid) (state_of R new) accept refl t.history keys o.opened;
         res = t.res;
       };

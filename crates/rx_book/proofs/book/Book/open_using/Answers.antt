@@ -1,13 +1,14 @@
-use Rattle.rx_book.proofs.Common.{◌≡◌, ◌+◌, List, ◌∷◌, [], ◌++◌, length, is_some, refl, sym, ap, subst, ◌∙◌, arith, length-append, Ok, Place, Pass, Event}
-use Rattle.rx_book.proofs.Common.{Open, Accept, OpeningUsing, Kept, accepted_by, IsLawful-push, accepted_by_new, opened_using_stays, Slots, find, Node, State}
-use Rattle.rx_book.proofs.Common.{Writes, Writes-append, IsReady, gathers_quiet, gathers_then, leases_stay, keeps_on, keeps_held, keeps_opened, using_request}
+use Rattle.rx_book.proofs.Common.{◌≡◌, ◌+◌, List, ◌∷◌, [], ◌++◌, length, is_some, refl, sym, ap, subst, ◌∙◌, length-append, Ok, Place, Pass, Event}
+use Rattle.rx_book.proofs.Common.{Open, Accept, OpeningUsing, Kept, accepted_by, IsLawful-push, accepted_by_new, opened_using_stays, find, State, Ground}
+use Rattle.rx_book.proofs.Common.{Writes, IsReady, using_request}
 use Rattle.rx_book.proofs.Common.{place_of, stands, AnswersOpenedUsing, state_of, IsLetIn, IsAdmitted}
 use Rattle.rx_register.specs.State.{State as Register}
 use Rattle.rx_book.proofs.Admitted.{admitted_as, state_admitted, within_limit}
 use Rattle.rx_book.proofs.CausesByKey.{first_of_place}
 use Rattle.rx_book.proofs.ShownKeys.{is_known_place_is}
 use Rattle.rx_book.proofs.AnswersOkOrErr.{answers_ok, answers_err}
-use Rattle.rx_book.proofs.CallWithoutCause.{known, first_ready, second_ready, fresh_asked, live_fresh, unused_fresh, pays, connects_none, accepts, settles_to}
+use Rattle.rx_book.proofs.CallWithoutCause.{known, first_ready, second_ready, fresh_asked, live_fresh, unused_fresh, pays, connects_none, accepts}
+use Rattle.rx_ground.proofs.Laws.WroteInTurn.{wrote_then}
 use Rattle.rx_book.proofs.Openings.{placed_at, node_space}
 use Rattle.rx_book.proofs.ListOfClosed.{answers_begun, opened_using_begun, begun_at}
 use Rattle.rx_book.proofs.MadeKeyIsListed.{key_listed, res_key_listed}
@@ -88,17 +89,16 @@ pub settle-requires-clause-paid : goal.settle-requires-clause-paid
 settle-requires-clause-paid g c κs within =
     let b = c.admit.new.ground in
     let l = called g (goal.at.settle-requires-clause-paid g c).In_default in
-    let w = rw c.spot_of-spot.ensures.place at c.write_open-node.ensures.written in
-    let v = rw c.write_open-node.ensures.new.numbered at c.write_accept-res.ensures.written in
-    pays g.R.Resource b _ l c.write_accept-res.new.self.register (Writes-append b.register c.write_open-node.new.self.register _ _ _ w v)
+    pays g.R.Resource b _ l c.write_accept-res.new.self.register (wrote_then (rw c.spot_of-spot.ensures.place at c.write_open-node.ensures.wrote)
+    (rw c.write_open-node.ensures.frame.is_new.numbered at c.write_accept-res.ensures.wrote)).written
 
 pub settle-requires-clause-room : goal.settle-requires-clause-room
 settle-requires-clause-room g c κs within =
     let b = c.admit.new.ground in
     let l = called g (goal.at.settle-requires-clause-room g c).In_default in
-    let w = rw c.spot_of-spot.ensures.place at c.write_open-node.ensures.written in
-    let v = rw c.write_open-node.ensures.new.numbered at c.write_accept-res.ensures.written in
-    connects_none g.R.Resource b _ l c.write_accept-res.new.self.register (Writes-append b.register c.write_open-node.new.self.register _ _ _ w v) refl
+    connects_none g.R.Resource b _ l c.write_accept-res.new.self.register (wrote_then (rw c.spot_of-spot.ensures.place at c.write_open-node.ensures.wrote)
+    (rw c.write_open-node.ensures.frame.is_new.numbered at c.write_accept-res.ensures.wrote)).written
+    refl
 
 pub returns : goal.returns
 returns g c =
@@ -113,32 +113,25 @@ returns g c =
     let o = c.write_open-node.ensures in
     let a = c.write_accept-res.ensures in
     let s = c.settle.ensures in
-    let w = rw c.spot_of-spot.ensures.place at o.written in
-    let v = rw o.new.numbered at a.written in
+    let w = (rw c.spot_of-spot.ensures.place at o.wrote).written in
+    let v = (rw o.frame.is_new.numbered at a.wrote).written in
     let p = (goal.at.returns g c).In_default in
     let l = called g p in
     let longer : length mid.register.history ≡ length h + 1 = ap (λ (k : List Event). length k) w.history ∙ length-append h (e ∷ []) in
-    let opened = keeps_opened h b.tree mid.tree c.write_open-node.result l.may.lawful l.standing.tied.of_tree o.new o.resources in
-    let kept = keeps_on b.tree mid.tree last.tree (length h) (length mid.register.history) (omega arith) opened
-    (keeps_held mid.tree last.tree (length mid.register.history) a.nodes a.kept) in
-    let both = Writes-append b.register mid.register last.register (e ∷ []) (f ∷ []) w v in
-    let quiet = gathers_quiet f (holds g p mid.register w).next refl v a.closed in
-    let gathered = gathers_then (e ∷ []) (f ∷ []) w v o.closed quiet in
-    let done = accepts R b _ l last both a.tied.of_tree kept (leases_stay _ _ _ (a.leases ∙ o.leases)) gathered
-    (settles_to s.standing s.base s.forced s.nodes s.resources s.limit s.given s.leases s.closed) in
+    let done = accepts R b _ l last (wrote_then (rw c.spot_of-spot.ensures.place at o.wrote) (rw o.frame.is_new.numbered at a.wrote)) s in
     let alive = opened_using_stays b.register.base h new.register.history (place_of c.args.at) (R.tag_of c.args.resource) l.may.lawful (opens g p).next
     done.step.forced in
-    let found = ap (λ (nodes : Slots Node). is_some (find nodes c.write_open-node.result)) a.nodes ∙ o.new.found in
-    let key = key_listed R last new s.nodes (length h) c.write_open-node.result c.shown_key.result c.shown_key.ensures o.new.numbered found alive in
+    let found = ap (λ (x : Ground g.row.R.Denot). is_some (find x.tree.nodes c.write_open-node.result)) a.frame ∙ o.frame.is_new.found in
+    let key = key_listed R last new s.nodes (length h) c.write_open-node.result o.frame.is_new.numbered found alive in
     let law = IsLawful-push b.register.base h e l.may.lawful (opens g p).next in
     let at_last =
     ap (accepted_by b.register.base ((h ++ e ∷ []) ++ f ∷ [])) (sym (length-append h (e ∷ []))) ∙ accepted_by_new b.register.base (h ++ e ∷ []) f law in
     let grown = v.history ∙ ap (λ (k : List Event). k ++ f ∷ []) w.history in
     let accepted = ap (λ (k : Kept). accepted_by k last.register.history (length h + 1)) (v.base ∙ w.base) ∙
     ap (λ (k : List Event). accepted_by b.register.base k (length h + 1)) grown ∙ at_last in
-    let res = res_key_listed R last new s.nodes (length h + 1) a.tied.of_tree c.write_accept-res.result c.shown_res_key.ensures
+    let res = res_key_listed R last new s.nodes (length h + 1) a.wrote.between.tied.of_tree c.write_accept-res.result
     s.resources (a.number ∙ longer) a.held accepted alive in
     answers_begun opened_using_begun
     (subst (λ (x : State). AnswersOpenedUsing x (using_request R x c.args.at c.args.resource) c.args.resource (state_of R new)
-    (Ok (record { key = c.shown_key.result; res = c.shown_res_key.result }))) (begun_at (state_admitted c.in_default.ensures.ok) c.self.view_is)
+    (Ok (record { key = c.write_open-node.result; res = c.write_accept-res.result }))) (begun_at (state_admitted c.in_default.ensures.ok) c.self.view_is)
     (answers_ok (record { key = key; res = res }) done))

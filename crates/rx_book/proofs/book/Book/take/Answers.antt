@@ -1,6 +1,8 @@
-use Rattle.rx_book.proofs.Common.{[], length, refl, sym, subst, ◌∙◌, Take, IsSettled, Kept, closes_none_kept, settled_on, unforced, IsPaid, Ground, list_room}
-use Rattle.rx_book.proofs.Common.{AreTied, AreLeased, HasRoomToConnect, gathers_quiet, leases_stay, keeps_held, take_request, IsLetIn}
-use Rattle.rx_book.proofs.CallWithoutCause.{let_in_free, one_ready, pays, connects_none, accepts, SettlesTo, settles_to}
+use Rattle.rx_book.proofs.Common.{[], refl, sym, subst, ◌∙◌, Take, IsSettled, Kept, closes_none_kept, settled_on, unforced, IsPaid, Ground, list_room}
+use Rattle.rx_book.proofs.Common.{HasRoomToConnect, gathers_quiet, take_request, IsLetIn}
+use Rattle.rx_book.proofs.CallWithoutCause.{let_in_free, one_ready, pays, connects_none, accepts}
+use Rattle.rx_ground.specs.Settling.{Settles}
+use Rattle.rx_ground.proofs.Laws.WroteInTurn.{between_begun, wrote_begun}
 use Rattle.rx_book.proofs.ListOfClosed.{standing_begun, accepts_begun}
 use Rattle.rx_book.proofs.OneFewerWaits.{listed_waits, fewer_wait}
 use Rattle.rx_book.proofs.book.Book.take.Given as given
@@ -18,23 +20,20 @@ write_take-requires-clause-room g c κs within = λ r waits.
 called : (g : given.Over) (c : In_ok-handed g) → IsLetIn g.R.Resource (record c.self.inside.ground { closed = [] }) (take_request c.in_ok-handed.handed.0)
 called g c = search (rules, listed_waits, let_in_free, standing_begun)
 
-pub settle-requires-clause-tied : goal.settle-requires-clause-tied
-settle-requires-clause-tied g c κs within = search (rules, AreTied)
-
-pub settle-requires-clause-leased : goal.settle-requires-clause-leased
-settle-requires-clause-leased g c κs within = search (rules, AreLeased)
+pub settle-requires-clause-between : goal.settle-requires-clause-between
+settle-requires-clause-between g c κs within = rw c.begin.ensures (between_begun c.in_ok-handed.ensures.wrote.between)
 
 pub settle-requires-clause-paid : goal.settle-requires-clause-paid
 settle-requires-clause-paid g c κs within =
     let l = called g (goal.at.settle-requires-clause-paid g c).In_ok-handed in
     subst (λ (x : Ground g.row.R.Denot). IsPaid x.register) (sym c.begin.ensures)
-    (pays g.R.Resource (record c.self.inside.ground { closed = [] }) _ l c.write_take.new.self.register c.in_ok-handed.ensures.written)
+    (pays g.R.Resource (record c.self.inside.ground { closed = [] }) _ l c.write_take.new.self.register c.in_ok-handed.ensures.wrote.written)
 
 pub settle-requires-clause-room : goal.settle-requires-clause-room
 settle-requires-clause-room g c κs within =
     let l = called g (goal.at.settle-requires-clause-room g c).In_ok-handed in
     subst (λ (x : Ground g.row.R.Denot). HasRoomToConnect x.register.history x.tree.nodes.room (list_room x)) (sym c.begin.ensures)
-    (connects_none g.R.Resource (record c.self.inside.ground { closed = [] }) _ l c.write_take.new.self.register c.in_ok-handed.ensures.written refl)
+    (connects_none g.R.Resource (record c.self.inside.ground { closed = [] }) _ l c.write_take.new.self.register c.in_ok-handed.ensures.wrote.written refl)
 
 pub returns : goal.returns
 returns g c =
@@ -51,16 +50,15 @@ returns g c =
     let ready = one_ready R begun _ l (Take r) refl in
     let h = b.register.history in
     let rests = settled_on l.may.lawful ready.next l.may.settled refl (λ n. refl) (closes_none_kept h (Take r) refl) refl in
+    let w = t.wrote.written in
     let settled =
-    subst (λ (k : Kept). IsSettled k mid.register.history) (sym t.written.base) (subst (IsSettled b.register.base) (sym t.written.history) rests) in
-    let settles = subst (λ (x : Ground g.row.R.Denot). SettlesTo R x new) c.begin.ensures
-    (settles_to s.standing s.base s.forced s.nodes s.resources s.limit s.given s.leases s.closed) in
-    let grown = unforced mid.register.base settles.forced settled ∙ t.written.history in
-    let quiet = gathers_quiet {list = []} (Take r) ready.next refl t.written refl in
+    subst (λ (k : Kept). IsSettled k mid.register.history) (sym w.base) (subst (IsSettled b.register.base) (sym w.history) rests) in
+    let settles = subst (λ (x : Ground g.row.R.Denot). Settles R x new) c.begin.ensures s in
+    let grown = unforced mid.register.base settles.forced settled ∙ w.history in
+    let quiet = gathers_quiet {list = []} (Take r) ready.next refl w refl in
     rw (← c.self.view_is) (record {
       cases = t.waited.listed;
-      accepted = accepts_begun (accepts R begun _ l begun_mid t.written t.tied.of_tree
-          (keeps_held b.tree mid.tree (length b.register.history) t.nodes t.kept) (leases_stay _ _ _ t.leases) quiet settles);
+      accepted = accepts_begun (accepts R begun _ l begun_mid (wrote_begun quiet t.wrote) settles);
       kept = tt;
       fewer = fewer_wait R l.standing.tied.of_tree s.standing.tied.of_tree c.promise.ensures.tree.resources_apart c.promise-2.ensures.tree.resources_apart
           l.may.lawful ready.next grown;

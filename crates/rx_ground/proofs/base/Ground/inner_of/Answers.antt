@@ -6,7 +6,7 @@ pub returns-in_err-first-clause-none : goal.returns-in_err-first-clause-none
 returns-in_err-first-clause-none g c =
     let h = c.self.inside.register.history in
     let tree = c.self.inside.tree in
-    let tied : IsTied c.self.inside.register.base g.R.Resource h tree = rw (← c.self.view_is) at c.requires.tied.of_tree in
+    let tied : IsTied c.self.inside.register.base g.R.Resource h tree = rw (← c.self.view_is) at c.requires.between.tied.of_tree in
     let there : IsSome (find tree.nodes c.args.switch) = rw (← c.self.view_is) at c.requires.open in
     let switches : at is_switch h c.args.switch.number ≡ true = rw (← c.self.view_is) at c.requires.switches in
     if_none c.from_residual.result _
@@ -15,7 +15,7 @@ returns-in_err-first-clause-none g c =
 
 pub returns-then-is_some-clause-some : goal.returns-then-is_some-clause-some
 returns-then-is_some-clause-some g c = let h = c.self.inside.register.history in let tree = c.self.inside.tree in let tied : IsTied _ g.R.Resource h
-    tree = rw (← c.self.view_is) at c.requires.tied.of_tree in let there : IsSome (find tree.nodes _) = rw (← c.self.view_is) at c.requires.open in
+    tree = rw (← c.self.view_is) at c.requires.between.tied.of_tree in let there : IsSome (find tree.nodes _) = rw (← c.self.view_is) at c.requires.open in
     let switches : at is_switch h c.args.switch.number ≡ true = rw (← c.self.view_is) at c.requires.switches in let x = made_found (find tree.nodes _)
     _ (sym c.made.ensures ∙ c.in_ok-made.was) in let inner = ap (λ (e : Event). is_some (inner_named e)) x.2 ∙ ap is_some (sym c.inner_of.ensures) ∙
     sym c.is_some.ensures ∙ c.if-is_some.true in rw (← c.self.view_is) (inner_first _ h c.promise.ensures.lawful tree.nodes tree.chain tied.records _
@@ -23,7 +23,7 @@ returns-then-is_some-clause-some g c = let h = c.self.inside.register.history in
 
 pub returns-clause-some : goal.returns-clause-some
 returns-clause-some g c = let h = c.self.inside.register.history in let tree = c.self.inside.tree in let tied : IsTied _ g.R.Resource h tree = rw (←
-    c.self.view_is) at c.requires.tied.of_tree in let there : IsSome (find tree.nodes _) = rw (← c.self.view_is) at c.requires.open in let switches :
+    c.self.view_is) at c.requires.between.tied.of_tree in let there : IsSome (find tree.nodes _) = rw (← c.self.view_is) at c.requires.open in let switches :
     at is_switch h c.args.switch.number ≡ true = rw (← c.self.view_is) at c.requires.switches in let x = made_found (find tree.nodes _) _ (sym
     c.made.ensures ∙ c.in_ok-made.was) in let not_inner = ap (λ (e : Event). is_some (inner_named e)) x.2 ∙ ap is_some (sym c.inner_of.ensures) ∙ sym
     c.is_some.ensures ∙ c.if-is_some.false in rw (← c.self.view_is) (if_some_by _ _ (IsInner h tree.nodes _) (λ next younger. inner_next _ h
@@ -32,7 +32,7 @@ returns-clause-some g c = let h = c.self.inside.register.history in let tree = c
 
 pub returns-clause-none : goal.returns-clause-none
 returns-clause-none g c = let h = c.self.inside.register.history in let tree = c.self.inside.tree in let tied : IsTied _ g.R.Resource h tree = rw (←
-    c.self.view_is) at c.requires.tied.of_tree in let there : IsSome (find tree.nodes _) = rw (← c.self.view_is) at c.requires.open in let switches :
+    c.self.view_is) at c.requires.between.tied.of_tree in let there : IsSome (find tree.nodes _) = rw (← c.self.view_is) at c.requires.open in let switches :
     at is_switch h c.args.switch.number ≡ true = rw (← c.self.view_is) at c.requires.switches in let x = made_found (find tree.nodes _) _ (sym
     c.made.ensures ∙ c.in_ok-made.was) in let not_inner = ap (λ (e : Event). is_some (inner_named e)) x.2 ∙ ap is_some (sym c.inner_of.ensures) ∙ sym
     c.is_some.ensures ∙ c.if-is_some.false in rw (← c.self.view_is) (if_none_by _ _ (HasNoInner h _) (λ none. no_next _ h c.promise.ensures.lawful

@@ -7,28 +7,19 @@ loop-due-init g c = search (rules, way_starts)
 
 pub write_due-requires-clause-ready : goal.write_due-requires-clause-ready
 write_due-requires-clause-ready g c κs within = let w = way_rechained g.R.Resource _ _ _ c.loop-due.invariant.way c.in-Some.ensures.kept
-    c.in-Some.ensures.tied in next_ready g.R.Resource _ w.tied _ c.promise.ensures.register.lawful c.in-Some.ensures.next w.paid
+    c.in-Some.ensures.between in next_ready g.R.Resource _ w.between.tied _ c.promise.ensures.register.lawful c.in-Some.ensures.next w.paid
 
 pub write_due-requires-clause-room : goal.write_due-requires-clause-room
 write_due-requires-clause-room g c κs within = let w = way_rechained g.R.Resource _ _ _ c.loop-due.invariant.way c.in-Some.ensures.kept
-    c.in-Some.ensures.tied in next_room _ _ c.in-Some.ensures.next w.room
+    c.in-Some.ensures.between in next_room _ _ c.in-Some.ensures.next w.room
 
 pub loop-due-preserved : goal.loop-due-preserved
-loop-due-preserved g c = let w = way_rechained g.R.Resource _ _ _ c.loop-due.invariant.way c.in-Some.ensures.kept c.in-Some.ensures.tied in record {
-  way = way_on {d = c.in-Some.due} w (record {
-    law = c.promise.ensures.register.lawful;
-    next = c.in-Some.ensures.next;
-    written = c.write_due.ensures.written;
-    tied = c.write_due.ensures.tied;
-    leased = c.write_due.ensures.leased;
-    nodes = c.write_due.ensures.nodes;
-    resources = c.write_due.ensures.resources;
-    hubs = c.write_due.ensures.hubs;
-    leases = c.write_due.ensures.leases;
-    memory = c.write_due.ensures.memory;
-    closed = c.write_due.ensures.closed;
-  });
-}
+loop-due-preserved g c = let w = way_rechained g.R.Resource _ _ _ c.loop-due.invariant.way c.in-Some.ensures.kept c.in-Some.ensures.between in
+    let u = c.write_due.ensures in
+    record {
+      way = way_on {d = c.in-Some.due} w
+          (record { law = c.promise.ensures.register.lawful; next = c.in-Some.ensures.next; wrote = u.wrote; frame = u.frame });
+    }
 
 pub loop-due-smaller : goal.loop-due-smaller
 loop-due-smaller g c = search rules

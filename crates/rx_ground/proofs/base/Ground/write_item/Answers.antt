@@ -1,61 +1,47 @@
-use Rattle.rx_ground.proofs.Common.{◌+◌, ◌-◌, ◌∷◌, ◌++◌, [], ap, ◌∙◌, w64, refl, vec_capacity, to_z-of_z, Item, MayFollow, Slots, Node, Stowed}
-use Rattle.rx_ground.proofs.Common.{AreLeased, AreTied}
-use Rattle.rx_ground.proofs.HubsAfterEvent.{rebased}
-use Rattle.rx_register.specs.State.{State as Register}
+use Rattle.rx_ground.proofs.Common.{◌-◌, ◌∙◌, sym, ap, w64, refl, vec_capacity, to_z-of_z, Slots, Node, AreTied, Item}
+use Rattle.rx_ground.proofs.EventWritten.{ground_of, HasMarks, step, changes_marks, wrote_marks}
 use Rattle.rx_ground.proofs.ItemWentItsWay.{arrived_writes, arrived_tied}
-use Rattle.rx_ground.proofs.Memory.{written_memory, same_places}
 use Rattle.rx_ground.proofs.OwedCountBounded.{owed_in-bounded}
 use Rattle.rx_ground.proofs.WayAsInHistory.{walk_tied}
-use Rattle.rx_ground.proofs.LeasesAfterEvent.{leased_quiet}
+use Rattle.rx_ground.proofs.base.Ground.write_item.Given.{Over}
 use Rattle.rx_ground.proofs.base.Ground.write_item.Goals as goal
 use Rattle.std.proofs.Common.{rules}
 
 pub pass-requires-clause-walk : goal.pass-requires-clause-walk
-pass-requires-clause-walk g c κs within = let tied : AreTied _ g.R.Resource _ _ c.self.inside.hubs = rw (← c.self.view_is) at c.requires.tied in
+pass-requires-clause-walk g c κs within = let tied : AreTied _ g.R.Resource _ _ c.self.inside.hubs = rw (← c.self.view_is) at c.requires.between.tied in
     walk_tied _ tied c.promise-2.ensures.sound
 
 pub pass-requires-clause-countable : goal.pass-requires-clause-countable
-pass-requires-clause-countable g c κs within = let tied : AreTied _ g.R.Resource _ _ c.self.inside.hubs = rw (← c.self.view_is) at c.requires.tied in
-    owed_in-bounded g.R.Resource _ _ tied.of_tree c.promise.ensures c.promise-2.ensures.sound.apart
+pass-requires-clause-countable g c κs within = let tied : AreTied _ g.R.Resource _ _ c.self.inside.hubs = rw (← c.self.view_is) at c.requires.between.tied
+    in owed_in-bounded g.R.Resource _ _ tied.of_tree c.promise.ensures c.promise-2.ensures.sound.apart
 
 pub pass-requires-clause-only : goal.pass-requires-clause-only
 pass-requires-clause-only g c κs within = search rules
 
-pub returns-clause-written : goal.returns-clause-written
-returns-clause-written g c =
-    let passed = rw (to_z-of_z w64 c.args.value c.ranges.value) at c.pass.ensures.passed in
-    let events = rw (to_z-of_z w64 c.args.value c.ranges.value) at c.write.ensures.events in
+-- what the call leaves
+left : (g : Over) (c : goal.After-write g) → (let b = c.self.inside in HasMarks g.R.Resource
+    (ground_of b.register b.tree b.hubs b.leases b.closed.items (vec_capacity b.closed))
+    (ground_of c.write.new.self c.pass.new.tree b.hubs b.leases b.closed.items (vec_capacity b.closed)) (Item c.args.leaf.number c.args.value))
+left g c =
+    let law = c.promise.ensures.lawful in
     let w = c.write.ensures in
-    rw (← c.self.view_is) (arrived_writes c.self.inside.register c.self.inside.tree c.args.leaf.number c.args.value c.pass.new.register c.pass.new.tree
-    passed c.write.new.self w.base events w.pending w.room w.limit w.given w.mail_room)
-
-pub returns-clause-tied : goal.returns-clause-tied
-returns-clause-tied g c =
-    let tied : AreTied c.self.inside.register.base g.R.Resource c.self.inside.register.history c.self.inside.tree c.self.inside.hubs =
-    rw (← c.self.view_is) at c.requires.tied in
-    let next : MayFollow c.self.inside.register.base c.self.inside.register.history (Item c.args.leaf.number c.args.value) =
-    rw (← c.self.view_is) at c.requires.ready.next in
     let passed = rw (to_z-of_z w64 c.args.value c.ranges.value) at c.pass.ensures.passed in
-    let events = rw (to_z-of_z w64 c.args.value c.ranges.value) at c.write.ensures.events in
-    rebased g.R.Resource (c.write.ensures.base ∙ ap (λ (s : Register). s.base) passed.same)
-    (arrived_tied c.self.inside.register c.self.inside.tree c.args.leaf.number c.args.value c.pass.new.register c.pass.new.tree passed
-    g.R.Resource c.self.inside.hubs c.promise.ensures.lawful next tied c.write.new.self.history events)
+    let events = rw (to_z-of_z w64 c.args.value c.ranges.value) at w.events in
+    let s = step g.R.Resource c.self.view_is law c.requires.between c.requires.ready (arrived_writes c.self.inside.register c.self.inside.tree
+    c.args.leaf.number c.args.value c.pass.new.register c.pass.new.tree passed c.write.new.self w.base events w.pending w.room w.limit w.given w.mail_room) in
+    record {
+      s = s;
+      tied = arrived_tied c.self.inside.register c.self.inside.tree c.args.leaf.number c.args.value c.pass.new.register c.pass.new.tree passed
+          g.R.Resource c.self.inside.hubs law s.next s.between.tied;
+      kept = record { from = λ key some. sym (passed.there key) ∙ some; still = λ key some alive. passed.there key ∙ some };
+      places = passed.places;
+      resources = passed.resources;
+      rest = refl;
+      space = ap (λ (n : Slots Node). vec_capacity c.self.inside.closed - n.count) passed.places;
+    }
 
-pub returns-clause-memory : goal.returns-clause-memory
-returns-clause-memory g c =
-    let passed = c.pass.ensures.passed in
-    written_memory (Item c.args.leaf.number c.args.value ∷ []) (returns-clause-written g c)
-    (rw (← c.self.view_is) (same_places c.self.inside.tree.nodes c.pass.new.tree.nodes passed.places))
-    (rw (← c.self.view_is) (ap (λ (s : Slots (Stowed g.row.R.Denot)). s.count + s.room) passed.resources))
-    (rw (← c.self.view_is) (ap (λ (s : Slots Node). s.count + (vec_capacity c.self.inside.closed - s.count)) passed.places)) (rw (← c.self.view_is) refl)
-    (rw (← c.self.view_is) refl)
+pub returns-clause-wrote : goal.returns-clause-wrote
+returns-clause-wrote g c = rw (← c.self.view_is) (wrote_marks g.R.Resource (left g c) refl refl refl)
 
-pub returns-clause-leased : goal.returns-clause-leased
-returns-clause-leased g c =
-    let h = c.self.inside.register.history in
-    let was : AreLeased h c.self.inside.tree.resources c.self.inside.leases = rw (← c.self.view_is) at c.requires.leased in
-    let passed = rw (to_z-of_z w64 c.args.value c.ranges.value) at c.pass.ensures.passed in
-    let events = rw (to_z-of_z w64 c.args.value c.ranges.value) at c.write.ensures.events in
-    leased_quiet c.self.inside.register.base h _ (Item c.args.leaf.number c.args.value) c.self.inside.tree.resources _ c.self.inside.leases _
-    c.promise.ensures.lawful was refl refl (events ∙ ap (λ (r : Register). r.history ++ Item c.args.leaf.number c.args.value ∷ [])
-    passed.same) refl passed.resources
+pub returns-clause-frame : goal.returns-clause-frame
+returns-clause-frame g c = rw (← c.self.view_is) (changes_marks g.R.Resource (left g c))

@@ -1,13 +1,12 @@
-use Rattle.rx_ground.proofs.Common.{is_some, ◌≡◌, refl, ◌∙◌, arith, ◌∷◌, [], ◌+◌, ap, vec_capacity, Open, Slots, Writes, Node, Hubs}
-use Rattle.rx_ground.proofs.Common.{AreLeased}
+use Rattle.rx_ground.proofs.Common.{is_some, ◌≡◌, refl, ◌∙◌, arith, ◌∷◌, [], ◌+◌, ap, vec_capacity, subst, Open, Slots, Node, Hubs, State, Writes}
+use Rattle.rx_ground.proofs.EventWritten.{ground_of, HasOpened, step, opens_node, wrote_opening}
+use Rattle.rx_ground.proofs.Memory.{memory_after}
 use Rattle.rx_ground.proofs.RegisterAfterWrite.{writes_silent}
 use Rattle.rx_ground.proofs.ReadyToOpen.{IsOpenedBelow, stands_below, opened_new, owes_above, above_there_still, quiet_above, newest_left, placed_left}
 use Rattle.rx_ground.proofs.ReadyToOpen.{way_resources}
-use Rattle.rx_ground.proofs.HubsAtOpening.{rest_same, joined_left, stands_left, found_before, ready_left, older_left, all_opened, as_many_opened}
-use Rattle.rx_ground.proofs.RoomAtOpening.{ground_of, IsWayMade, way_made, few_children, hubs_told, slot_within, left_memory, gathers_opened}
-use Rattle.rx_ground.proofs.HubsAfterEvent.{tied_written}
+use Rattle.rx_ground.proofs.HubsAtOpening.{rest_same, joined_left, stands_left, found_before, ready_left, older_left, all_opened, as_many_opened, hubs_opened}
+use Rattle.rx_ground.proofs.RoomAtOpening.{IsWayMade, way_made, few_children, slot_within, closes_opened}
 use Rattle.rx_ground.proofs.HubsBesideTree.{slot_free, some_hub}
-use Rattle.rx_ground.proofs.LeasesAfterEvent.{leased_quiet}
 use Rattle.rx_ground.proofs.base.Ground.write_open.Given.{Over}
 use Rattle.rx_ground.proofs.base.Ground.write_open.Goals as goal
 use Rattle.rx_ground.proofs.base.Ground.write_open.Goals.{After-open, After-join}
@@ -17,9 +16,8 @@ use Rattle.std.proofs.Common.{rules}
 way : (g : Over) (c : goal.After-open-arg-1 g) → (let b = c.self.inside in let l = c.self-2.inside in
     IsWayMade g.R.Resource c.args.place c.args.kind (ground_of b.register b.tree b.hubs b.leases b.closed.items (vec_capacity b.closed))
     (ground_of l.register l.tree l.hubs l.leases l.closed.items (vec_capacity l.closed)) c.exchange-replaces.result)
-way g c = let e = c.exchange-replaces.ensures in
-    way_made c.self.view_is c.self-2.view_is c.promise.ensures.lawful c.requires.ready.next c.requires.tied c.promise-2.ensures.sound
-    (record { way = e.way; hubs = e.hubs; register = e.register; leases = e.leases; owed = e.owed; room = e.room; memory = e.memory; lists = e.closed })
+way g c = way_made c.self.view_is c.self-2.view_is c.promise.ensures.lawful c.requires.ready.next c.requires.between.tied c.promise-2.ensures.sound
+    c.exchange-replaces.ensures
 
 pub open-requires-clause-newest : goal.open-requires-clause-newest
 open-requires-clause-newest g c κs within = newest_left (way g c).ready c.len-number.result c.len-number.ensures
@@ -77,60 +75,44 @@ mark_opened-requires-clause-quiet g c κs within = let at = goal.at.mark_opened-
     quiet_above (way g at.After-open.before).ready c.args.above (below g at.After-join)
 
 -- what the call leaves
-abbrev at_opening : (g : Over) (c : goal.After-write g) → goal.After-open-arg-1 g
-at_opening g c = (goal.at.returns-clause-tied g c).After-open.before
-
-written : (g : Over) (c : goal.After-write g) → Writes c.self.inside.register (Open c.args.place c.args.kind ∷ []) c.write.new.self
-written g c = search (rules, writes_silent)
-
-pub returns-clause-written : goal.returns-clause-written
-returns-clause-written g c = rw (← c.self.view_is) (written g c)
-
-pub returns-clause-hubs : goal.returns-clause-hubs
-returns-clause-hubs g c = hubs_told (way g (at_opening g c)) c.self.view_is c.in-Ok.key (c.in-Ok.ensures.numbered ∙ c.len-number.ensures) c.join.ensures
-
-pub returns-clause-tied : goal.returns-clause-tied
-returns-clause-tied g c = let m = c.mark_opened.ensures in
-    tied_written g.R.Resource (written g c) (all_opened (way g (at_opening g c)).ready c.args.above (below g (goal.at.returns-clause-tied g c).After-join)
-    c.promise-3.ensures.sound.apart m.marked m.none c.join.ensures)
-
-pub returns-clause-new : goal.returns-clause-new
-returns-clause-new g c = let m = c.mark_opened.ensures in rw (← c.self.view_is)
-    (opened_new (way g (at_opening g c)).ready c.mark_opened.new.tree c.args.above (below g (goal.at.returns-clause-new g c).After-join) m.marked m.none)
-
--- the resources are those before
-same_resources : (g : Over) (c : goal.After-write g) → c.mark_opened.new.tree.resources ≡ c.self.inside.tree.resources
-same_resources g c = search (rules, way_resources)
-
-pub returns-clause-resources : goal.returns-clause-resources
-returns-clause-resources g c = rw (← c.self.view_is) (same_resources g c)
-
-pub returns-clause-memory : goal.returns-clause-memory
-returns-clause-memory g c = let m = c.mark_opened.ensures in
-    let stays = (way g (at_opening g c)).stays in
+left : (g : Over) (c : goal.After-write g) → (let b = c.self.inside in let l = c.self-2.inside in HasOpened g.R.Resource
+    (ground_of b.register b.tree b.hubs b.leases b.closed.items (vec_capacity b.closed))
+    (ground_of c.write.new.self c.mark_opened.new.tree c.join.new.hubs l.leases l.closed.items (vec_capacity l.closed))
+    (Open c.args.place c.args.kind) c.in-Ok.key)
+left g c =
+    let at = goal.at.returns-clause-wrote g c in
+    let way = way g at.After-open.before in
+    let below = below g at.After-join in
+    let law = c.promise.ensures.lawful in
+    let w = c.write.ensures in
+    let m = c.mark_opened.ensures in
     let space = rw (← c.self.view_is) at c.requires.space in
-    let closing = stays.memory.closing in
+    let closing = way.stays.memory.closing in
     let within = c.self-2.invariant.0 in
     let more = c.in-Ok.ensures.count in
-    let less = place_taken g (goal.at.returns-clause-memory g c).After-open in
+    let less = place_taken g at.After-open in
     let count = ap (λ (s : Slots Node). s.count) m.rest in
     let room = ap (λ (s : Slots Node). s.room) m.rest in
-    rw (← c.self.view_is) (left_memory stays (Open c.args.place c.args.kind ∷ []) (written g c) (omega arith)
-    (m.resources ∙ c.in-Ok.ensures.resources) (omega arith) (as_many_opened c.in-Ok.key c.args.place c.args.kind c.self-2.inside.hubs c.join.ensures)
-    (ap (λ (s : Hubs). s.slots) c.join.ensures))
+    let s = step g.R.Resource c.self.view_is law c.requires.between c.requires.ready
+    (subst (λ (r : State). Writes r (Open c.args.place c.args.kind ∷ []) c.write.new.self) way.stays.register
+    (writes_silent refl w.base w.events w.pending w.room w.limit w.given w.mail_room)) in
+    record {
+      s = s;
+      tied = all_opened way.ready c.args.above below c.promise-3.ensures.sound.apart m.marked m.none c.join.ensures;
+      is_new = opened_new way.ready c.mark_opened.new.tree c.args.above below m.marked m.none;
+      resources = m.resources ∙ c.in-Ok.ensures.resources ∙ way_resources way.ready;
+      hubs = hubs_opened way.ready c.in-Ok.key (c.in-Ok.ensures.numbered ∙ c.len-number.ensures) c.join.ensures;
+      leases = way.stays.leases;
+      closed = closes_opened way s.written.history refl;
+      memory = memory_after way.stays.memory (Open c.args.place c.args.kind ∷ []) s.written (omega arith) (m.resources ∙ c.in-Ok.ensures.resources) (omega arith)
+          (as_many_opened c.in-Ok.key c.args.place c.args.kind c.self-2.inside.hubs c.join.ensures) (ap (λ (s : Hubs). s.slots) c.join.ensures);
+    }
+
+pub returns-clause-wrote : goal.returns-clause-wrote
+returns-clause-wrote g c = rw (← c.self.view_is) (wrote_opening g.R.Resource (left g c) refl refl)
+
+pub returns-clause-frame : goal.returns-clause-frame
+returns-clause-frame g c = rw (← c.self.view_is) (opens_node g.R.Resource (left g c))
 
 pub returns-clause-left : goal.returns-clause-left
 returns-clause-left g c = search (rules, place_taken)
-
-pub returns-clause-leased : goal.returns-clause-leased
-returns-clause-leased g c =
-    let r = c.self.inside.register in
-    let was : AreLeased r.history c.self.inside.tree.resources c.self.inside.leases = rw (← c.self.view_is) at c.requires.leased in
-    leased_quiet r.base r.history _ (Open c.args.place c.args.kind) c.self.inside.tree.resources _ c.self.inside.leases _ c.promise.ensures.lawful was refl refl
-    (written g c).history (way g (at_opening g c)).stays.leases (same_resources g c)
-
-pub returns-clause-leases : goal.returns-clause-leases
-returns-clause-leases g c = rw (← c.self.view_is) (way g (at_opening g c)).stays.leases
-
-pub returns-clause-closed : goal.returns-clause-closed
-returns-clause-closed g c = rw (← c.self.view_is) (gathers_opened (way g (at_opening g c)) (written g c).history)

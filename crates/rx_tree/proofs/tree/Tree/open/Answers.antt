@@ -16,7 +16,7 @@ join_siblings-requires-clause-last g c =
     opened_last s c.add_node.new.self
     c.self.invariant.tied c.in-Ok.ensures.ok c.add_node.ensures.links (ap (project (λ r. r.stowed)) c.add_node.ensures.resources) c.in-Some.ring
     (ring_stands (nodes_of s) (resources_of s) c.args.number (record { made = c.args.made; above = c.args.above; marks = c.blank.result }) c.in-Some.ring
-    (rw (← c.self.view_is) at c.requires.placed) (sym c.sibling_ring.ensures ∙ c.in-Some.is))
+    (rw (← c.self.view_is) at c.requires.placed) (sym c.sibling_ring-ring.ensures ∙ c.in-Some.is))
 
 pub invariant_of-self-in-Some : goal.invariant_of-self-in-Some
 invariant_of-self-in-Some g c =
@@ -25,7 +25,7 @@ invariant_of-self-in-Some g c =
           (record { made = c.args.made; above = c.args.above; marks = c.blank.result }) c.self.invariant.tied c.in-Ok.ensures.ok
           (rw (← c.self.view_is) at c.requires.newest.past) (rw (← c.self.view_is) at c.requires.newest.homes) (rw (← c.self.view_is) at c.requires.placed)
           c.add_node.ensures.links (ap (project (λ r. r.stowed)) c.add_node.ensures.resources) c.join_siblings.new.self c.in-Some.ring
-          (sym c.sibling_ring.ensures ∙ c.in-Some.is) c.join_siblings.ensures.joins c.join_siblings.ensures.rest;
+          (sym c.sibling_ring-ring.ensures ∙ c.in-Some.is) c.join_siblings.ensures.joins c.join_siblings.ensures.rest;
       counted = counted_relinked c.add_node.new.self c.join_siblings.new.self c.join_siblings.ensures.rest c.in-Ok.ensures.counted;
     }
 
@@ -35,7 +35,7 @@ invariant_of-self-in_default g c =
       tied = opened_off_tied c.self.inside.store c.add_node.new.self c.in-Ok.key c.args.number
           (record { made = c.args.made; above = c.args.above; marks = c.blank.result }) c.self.invariant.tied c.in-Ok.ensures.ok
           (rw (← c.self.view_is) at c.requires.newest.past) (rw (← c.self.view_is) at c.requires.newest.homes) (rw (← c.self.view_is) at c.requires.placed)
-          c.add_node.ensures.links (ap (project (λ r. r.stowed)) c.add_node.ensures.resources) (sym c.sibling_ring.ensures ∙ c.in_default.is);
+          c.add_node.ensures.links (ap (project (λ r. r.stowed)) c.add_node.ensures.resources) (sym c.sibling_ring-ring.ensures ∙ c.in_default.is);
       counted = c.in-Ok.ensures.counted;
     }
 
@@ -44,13 +44,13 @@ returns-in-Some-clause-chain g c = rw (← c.self.view_is) (opened_on_chain c.se
     (record { made = c.args.made; above = c.args.above; marks = c.blank.result }) c.self.invariant.tied c.in-Ok.ensures.ok
     (rw (← c.self.view_is) at c.requires.newest.past) (rw (← c.self.view_is) at c.requires.newest.homes) (rw (← c.self.view_is) at c.requires.placed)
     c.add_node.ensures.links (ap (project (λ r. r.stowed)) c.add_node.ensures.resources) c.join_siblings.new.self c.in-Some.ring
-    (sym c.sibling_ring.ensures ∙ c.in-Some.is) c.join_siblings.ensures.joins c.join_siblings.ensures.rest)
+    (sym c.sibling_ring-ring.ensures ∙ c.in-Some.is) c.join_siblings.ensures.joins c.join_siblings.ensures.rest)
 
 pub returns-in_default-clause-chain : goal.returns-in_default-clause-chain
 returns-in_default-clause-chain g c = rw (← c.self.view_is) (opened_off_chain c.self.inside.store c.add_node.new.self c.in-Ok.key c.args.number
     (record { made = c.args.made; above = c.args.above; marks = c.blank.result }) c.self.invariant.tied c.in-Ok.ensures.ok
     (rw (← c.self.view_is) at c.requires.newest.past) (rw (← c.self.view_is) at c.requires.newest.homes) (rw (← c.self.view_is) at c.requires.placed)
-    c.add_node.ensures.links (ap (project (λ r. r.stowed)) c.add_node.ensures.resources) (sym c.sibling_ring.ensures ∙ c.in_default.is))
+    c.add_node.ensures.links (ap (project (λ r. r.stowed)) c.add_node.ensures.resources) (sym c.sibling_ring-ring.ensures ∙ c.in_default.is))
 
 pub add_node-requires-clause-homes : goal.add_node-requires-clause-homes
 add_node-requires-clause-homes g c = rw (← c.self.view_is) at c.requires.newest.homes

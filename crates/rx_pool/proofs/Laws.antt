@@ -1,0 +1,4 @@
+pub mod Choices
+pub mod CountsAfterStep
+pub mod FewNamers
+pub mod MovesOfStep
