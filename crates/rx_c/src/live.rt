@@ -5,7 +5,7 @@ ghost use Rattle.rx_c.specs.Calls.{IsMade, IsSent, IsRead, IsEnded};
 ghost use Rattle.rx_c.specs.Stages.{stage, absent};
 
 use crate::handle::Handle;
-use crate::kept::Kept;
+use crate::kept::boxed;
 use crate::status::{DONE, HELD, NOTHING_KEPT, OUT_OF_MEMORY};
 use rx_live::Live;
 use std::alloc::Global;
@@ -23,8 +23,10 @@ pub extern "C" fn rx_live_new(alloc: Global, handle: &mut Handle, max_events: u3
         handle.put(kept, alloc);
         return HELD;
     }
-    let live = Live::new(alloc, max_events.into());
-    match Box::new(alloc, Kept::new(live)) {
+    let Ok(live) = Live::new(alloc, max_events.into()) else {
+        return OUT_OF_MEMORY;
+    };
+    match boxed(alloc, live) {
         Ok(kept) => {
             handle.put(kept, alloc);
             DONE

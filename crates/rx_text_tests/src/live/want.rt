@@ -3,6 +3,7 @@
 use rx_live::Live;
 use rx_scarce::{MOST_BLOCKS, Scarce};
 use std::alloc::{AllocError, Global};
+use std::test::Fail;
 
 const LINES: [&str; 12] = [
     r#"{"do":"using","name":"a","place":"root","res":"r"}"#,
@@ -36,11 +37,11 @@ fn keep(told: &mut String, answer: &str) -> Result<(), AllocError> {
 }
 
 // Sends a line again and again, each time with one more block of memory, until it is taken.
-fn taken_at_last(alloc: Global, live: &mut Live, line: &str) -> Result<String, AllocError> {
+fn take_at_last(alloc: Global, live: &mut Live, line: &str) -> Result<(), AllocError> {
     let mut scarce = Scarce::new(alloc)?;
     for _turn in 0..MOST_BLOCKS {
-        if let Ok(answer) = live.send(line.as_bytes()) {
-            return Ok(answer);
+        if live.send(line.as_bytes()).is_ok() {
+            return Ok(());
         }
         if !scarce.give_back_one() {
             break;
@@ -52,23 +53,27 @@ fn taken_at_last(alloc: Global, live: &mut Live, line: &str) -> Result<String, A
 // All that is told of the lines, where memory is scarce at the line of this number.
 fn told_of(alloc: Global, scarce_at: usize) -> Result<String, AllocError> {
     let mut told = String::with_capacity(alloc, 10_000)?;
-    let mut live = Live::new(alloc, 1_000);
+    let mut live = Live::new(alloc, 1_000)?;
     for (number, line) in LINES.iter().enumerate() {
-        let answer = if number == scarce_at {
-            taken_at_last(alloc, &mut live, line)?
+        if number == scarce_at {
+            take_at_last(alloc, &mut live, line)?;
         } else {
-            live.send(line.as_bytes())?
-        };
-        keep(&mut told, answer.as_str())?;
+            live.send(line.as_bytes())?;
+        }
+        keep(&mut told, live.answer())?;
     }
-    keep(&mut told, live.end()?.as_str())?;
+    live.end()?;
+    keep(&mut told, live.answer())?;
     Ok(told)
 }
 
-// The number of the first line at which something else is told where memory is scarce.
+// How many of these lines are not taken without memory. Those behind them are, and what finds none then is told later.
+const TAKING: usize = 9;
+
+// The number of the first of these at which something else is told where memory is scarce.
 fn first_other(alloc: Global) -> Result<Option<usize>, AllocError> {
     let ample = told_of(alloc, LINES.len())?;
-    for number in 0..LINES.len() {
+    for number in 0..TAKING {
         let scarce = told_of(alloc, number)?;
         if scarce.as_str() != ample.as_str() {
             return Ok(Some(number));
@@ -78,6 +83,91 @@ fn first_other(alloc: Global) -> Result<Option<usize>, AllocError> {
 }
 
 #[test]
-fn the_same_is_told_where_memory_is_refused_at_any_line(rt: HostRuntime) {
+fn the_same_is_told_where_memory_is_refused_at_a_line_that_takes_some(rt: HostRuntime) {
     assert_eq!(rt; first_other(rt.alloc()), Ok(None));
+}
+
+// What a session has that is closed without memory. The last line is answered without any, so none comes back with its answer.
+const OPENED: [&str; 10] = [
+    r#"{"do":"using","name":"a","place":"root","res":"r"}"#,
+    r#"{"do":"open","name":"b","place":"source","of":"a","kind":"leaf"}"#,
+    r#"{"do":"hold","node":"a","res":"s"}"#,
+    r#"{"do":"lease","res":"r","name":"l"}"#,
+    r#"{"do":"hold","node":"a","res":"t"}"#,
+    r#"{"do":"hub","name":"h","mode":"manual"}"#,
+    r#"{"do":"connect","hub":"h"}"#,
+    r#"{"do":"open","name":"c","place":"root","kind":"leaf","res":"u"}"#,
+    r#"{"do":"open","name":"d","place":"root","kind":"leaf","res":"v"}"#,
+    r#"{"do":"drain"}"#,
+];
+
+// Lines that take no memory, with and without blanks, and their answers where there is none: no note and no name of a node
+// is told, and where there is a name to tell the answer says so.
+const CLOSING: [(&str, &str); 9] = [
+    (
+        r#"{"do":"decline","node":"a"}"#,
+        r#"{"refused":"WrongKind"}"#,
+    ),
+    (
+        r#"{ "do" : "end", "node": "b" } "#,
+        r#"{"ok":12,"closed":null,"release":["s","t"],"late":true}"#,
+    ),
+    (r#"{"do":"drain"}"#, r#"{"ok":16,"late":true}"#),
+    (
+        r#"{"do":"return","lease":"l"}"#,
+        r#"{"ok":16,"release":["r"],"late":true}"#,
+    ),
+    (
+        r#"{"do":"remove","res":"u"}"#,
+        r#"{"ok":18,"release":["u"],"late":true}"#,
+    ),
+    (
+        r#"{"do":"disconnect","hub":"h"}"#,
+        r#"{"ok":20,"late":true}"#,
+    ),
+    (r#"{"do":"dispose","node":"c"}"#, r#"{"ok":21,"late":true}"#),
+    (r#"{"do":"dispose","node":"c"}"#, r#"{"refused":"NoName"}"#),
+    (r#"{"do":"dispose","node":"a"}"#, r#"{"refused":"NoName"}"#),
+];
+
+// Whether a line is taken, and answered so.
+fn is_taken(live: &mut Live, (line, answer): (&'static str, &'static str)) -> bool {
+    live.send(line.as_bytes()).is_ok() && live.answer() == answer
+}
+
+// The number of the first of these lines that is answered otherwise.
+fn first_unlike(live: &mut Live) -> Option<usize> {
+    for (number, row) in CLOSING.iter().enumerate() {
+        if !is_taken(live, *row) {
+            return Some(number);
+        }
+    }
+    None
+}
+
+// Sends these lines where no memory is left, and ends there. The number of the first line that was answered otherwise, and
+// whether the end released what was left, which is one resource.
+fn close_starved(live: &mut Live, scarce: &Scarce) -> (Option<usize>, bool) {
+    let _blocks = scarce.block_count();
+    let other = first_unlike(live);
+    live.shut();
+    let is_last = match live.next_release() {
+        Some(name) => name.as_str() == "v",
+        None => false,
+    };
+    (other, is_last && live.next_release().is_none())
+}
+
+#[test]
+fn closing_lines_and_the_end_take_no_memory(rt: HostRuntime) -> Result<(), Fail> {
+    let alloc = rt.alloc();
+    let mut live = Live::new(alloc, 1_000)?;
+    for line in &OPENED {
+        live.send(line.as_bytes())?;
+    }
+    let scarce = Scarce::new(alloc)?;
+    let (other, is_released) = close_starved(&mut live, &scarce);
+    drop(scarce);
+    assert_eq!(rt; (other, is_released), (None, true));
+    Ok(())
 }

@@ -1,5 +1,5 @@
 use Rattle.rx_live.proofs.Common.{◌≡◌, false, Option, Some, length, refl, sym, ap, ◌∙◌, subst, option_map, string_bytes, Name, Key, Accepts}
-use Rattle.rx_live.proofs.Common.{open_request, Spot, spot_of, Binds, session_of, NamesOne, is_open_taken, BindsMade, BindsNode}
+use Rattle.rx_live.proofs.Common.{open_request, Spot, Binds, session_of, NamesOne, is_open_taken, BindsMade, BindsNode}
 use Rattle.rx_live.proofs.AcceptedBindsNames.{given_accepted, given_refused}
 use Rattle.rx_live.proofs.OpenedNodesGetNames.{unchanged_room, connection_free, on_err, with_book, opened_bound, opened_sound}
 use Rattle.rx_live.proofs.opening.open_at.Goals as goal
