@@ -27,6 +27,8 @@ class Names:
             raise
 
 
+if sys.argv[1] != "rx":
+    kits = importlib.import_module("tests.kits")
 rx, ops, subject, disposable, testing = map(Names, ("", ".operators", ".subject", ".disposable", ".testing"))
 
 # functions on items, values, errors
@@ -217,8 +219,8 @@ OPERATORS = {
 
 
 def outcome(case):
-    if sys.argv[1] != "rx":  # a book of its own: in Python, or with CELLARCLIFF_LIBRARY=1 over librx
-        rx.use(importlib.import_module("tests.kits").fresh_book())
+    if sys.argv[1] != "rx":  # an engine of its own: the model, or with CELLARCLIFF_LIBRARY=1 libcellarcliff
+        rx.use(kits.fresh_engine())
     lacking.clear()
     try:
         run = Run(case)

@@ -5,5 +5,5 @@
     cellarcliff.live    a book by lines, over a pipe or in this process
     cellarcliff.audit   the verdict on a history, and its picture
 
-All of it stands on the standard library and, but for a book over a pipe, on the shared library librx.
+All of it stands on the standard library and, but for a book over a pipe, on the shared libraries librx and libcellarcliff.
 """

@@ -1,4 +1,4 @@
-"""Judges, draws and explains a history of subscriptions, and runs a scenario of them, by the library librx.
+"""Judges, draws and explains a history of subscriptions, and runs a scenario of them, by the libraries librx and libcellarcliff.
 
     from cellarcliff import audit
 
@@ -25,7 +25,6 @@ Named = Dict[str, Any]
 Scenario = Union[dict, str, bytes]
 
 DONE, TOO_SMALL, FAULTY_INPUT, OUT_OF_MEMORY, NOT_LAWFUL = 0, 1, 3, 4, 5
-_CALLS = ("rx_audit", "rx_run", "rx_run_dump", "cellar_run_names", "cellar_picture", "cellar_explain")
 _NO_HISTORY = ("rx_audit", "cellar_picture")
 
 
@@ -62,14 +61,11 @@ class Verdict:
 
 
 @lru_cache(maxsize=None)
-def _calls() -> Dict[str, Any]:
-    library = _library.load()
-    size = ctypes.c_size_t
-    calls = {name: getattr(library, name) for name in _CALLS}
-    for call in calls.values():
-        call.argtypes = [ctypes.c_char_p, size, ctypes.c_char_p, size, ctypes.POINTER(size)]
-        call.restype = ctypes.c_uint8
-    return calls
+def _call(name: str) -> Any:
+    call, size = getattr(_library.having(name), name), ctypes.c_size_t
+    call.argtypes = [ctypes.c_char_p, size, ctypes.c_char_p, size, ctypes.POINTER(size)]
+    call.restype = ctypes.c_uint8
+    return call
 
 
 def _answer(name: str, value: Any) -> bytes:
@@ -81,7 +77,7 @@ def _answer(name: str, value: Any) -> bytes:
     capacity = 4096
     while True:
         buffer, told = ctypes.create_string_buffer(capacity), ctypes.c_size_t(0)
-        status = _calls()[name](value, len(value), buffer, capacity, ctypes.byref(told))
+        status = _call(name)(value, len(value), buffer, capacity, ctypes.byref(told))
         if status == FAULTY_INPUT:
             raise FaultyInput("no history" if name in _NO_HISTORY else "no scenario")
         if status == OUT_OF_MEMORY:

@@ -56,6 +56,12 @@ class Refused(Exception):
         self.name = name
 
 
+def _fits(number: int, least: int, most: int) -> None:
+    """A number that does not fit would be another one by ctypes."""
+    if not least <= number <= most:
+        raise OverflowError(f"{number} is not from {least} to {most}")
+
+
 class Mail(NamedTuple):
     """A note: the number of the root, or of the operator; NEXT, PROJECT, ON_COMPLETED or ON_ERROR; the item or the error."""
 
@@ -399,6 +405,9 @@ class Book(Calls):
     # opening
 
     def open(self, place: int, above: Any = None, kind: int = PASS, hub: int = 0) -> Tuple[Any, Optional[Any]]:
+        _fits(place, 0, 255)
+        _fits(kind, 0, 255)
+        _fits(hub, 0, 2**64 - 1)
         words, told = (place, above or _NONE, kind, hub, self._made, self._told), self._words
         if told[1] or told[2]:
             self._hear(_DONE)
@@ -409,6 +418,8 @@ class Book(Calls):
         return Node(keys[0], keys[1]), Node(keys[2], keys[3]) if kind == SUB and keys[4] & 255 else None
 
     def open_using(self, place: int, above: Any, tag: int) -> Any:
+        _fits(place, 0, 255)
+        _fits(tag, 0, 2**64 - 1)
         words, told = (place, above or _NONE, tag, self._made, self._told), self._words
         if told[1] or told[2]:
             self._hear(_DONE)
@@ -423,6 +434,7 @@ class Book(Calls):
         return node, Res(keys[2], keys[3])
 
     def hold_tag(self, node: Any, tag: int) -> None:
+        _fits(tag, 0, 2**64 - 1)
         status = self._hold(self._at, node, tag, self._made)
         if status:
             status = self._again(status, self._hold, node, tag, self._made)
@@ -437,6 +449,8 @@ class Book(Calls):
     # events
 
     def next(self, leaf: Any, value: int) -> None:
+        if not -2**63 <= value < 2**63:
+            _fits(value, -2**63, 2**63 - 1)
         words = self._words
         if words[1] or words[2]:
             self._hear(_DONE)

@@ -1,13 +1,15 @@
 """What the tests of operators are run over: RxPY where it is installed, this package, and this package under RxPY's own clock.
 
-The package stands over the book in Python, or with CELLARCLIFF_LIBRARY=1 over librx; in a checkout once more over the model.
+The package stands over the model of the engine, or with CELLARCLIFF_LIBRARY=1 over libcellarcliff: by the extension where that is
+built, with CELLARCLIFF_CTYPES=1 by ctypes.
 """
 import importlib
 import os
 from types import SimpleNamespace
 
 from cellarcliff import rx
-from tests import model_book
+from cellarcliff.rx import _crossing, _engine
+from tests import model_engine
 
 try:
     import rx as rxpy
@@ -15,6 +17,24 @@ try:
         rxpy = None
 except ImportError:
     rxpy = None
+
+_model = None if os.environ.get("CELLARCLIFF_LIBRARY") else model_engine.find()
+if _model is not None:
+    _crossing.C.make_calls = _model
+
+
+def is_model():
+    """Whether the engine is the model, which is slow."""
+    return _model is not None
+
+
+def is_exact():
+    """Whether no interrupt can come between what has to stand together: by the extension."""
+    return _crossing.IS_EXTENSION
+
+
+def fresh_engine(max_events=0):
+    return _engine.Engine(max_events)
 
 
 def fresh_book():
@@ -35,8 +55,8 @@ def _kit(name, package, testing, engine):
     return kit
 
 
-def ours(testing="cellarcliff.rx.testing", name="cellarcliff", book=None):
-    return _kit(name, "cellarcliff.rx", testing, rx.use(book or fresh_book()))
+def ours(testing="cellarcliff.rx.testing", name="cellarcliff"):
+    return _kit(name, "cellarcliff.rx", testing, rx.use(fresh_engine()))
 
 
 def theirs():
@@ -50,6 +70,3 @@ def kits():
     yield ours
     if rxpy is not None:
         yield lambda: ours("rx.testing", "cellarcliff, RxPY's TestScheduler")
-    model = model_book.find()
-    if model is not None:
-        yield lambda: ours(name="cellarcliff over the model", book=model())

@@ -2,10 +2,15 @@
 import collections
 import importlib
 import json
+import os
 import pathlib
 import re
+import subprocess
 import sys
+import tempfile
 import unittest
+
+from tests.kits import is_model
 
 FOLDER = pathlib.Path(__file__).resolve().parent.parent.parent / "cases"
 KEYS = {"name", "of", "ending", "sources", "let", "pipe", "do", "when", "from", "log", "differs", "RxPY", "RxJS", "unlike"}
@@ -142,6 +147,34 @@ class Cases(unittest.TestCase):
                          ["1 x completed", "1 a released 1", "1 b released 1"])
         self.assertEqual(in_order(["1 b released 1", "1 c made 1", "1 x next 1"]), ["1 b released 1", "1 c made 1", "1 x next 1"])
         self.assertEqual(in_order(["1 a released 1", "2 x next 1"]), ["1 a released 1", "2 x next 1"])
+
+
+@unittest.skipUnless(FOLDER.exists(), "the cases are in the checkout alone")
+class Told(unittest.TestCase):
+    """What the package tells in each case, over the engine that the tests have. `tools/try-cases` runs the peers too."""
+
+    def test_each_case_is_told_as_it_says(self):
+        cases = read()[::5 if is_model() else 1]  # the model is slow
+        here = pathlib.Path(__file__).resolve().parent.parent
+        with tempfile.TemporaryDirectory() as folder:
+            file = pathlib.Path(folder) / "cases.json"
+            file.write_text(json.dumps(cases), encoding="utf-8")
+            done = subprocess.run([sys.executable, "-B", str(FOLDER / "runner.py"), "cellarcliff.rx", str(file)], stdout=subprocess.PIPE, text=True,
+                                  env={**os.environ, "PYTHONPATH": os.pathsep.join([str(here), *sys.path])})
+        self.assertEqual(done.returncode, 0)
+        told, in_order, passed, lacking = json.loads(done.stdout), order(), 0, set()
+        unlike = {pattern for patterns in json.loads((FOLDER / "unlike.json").read_text()).get("Python", {}).values() for pattern in patterns}
+        for case in cases:
+            mine = told[case["name"]]
+            if isinstance(mine, str):
+                self.assertEqual(mine[:6], "lacks ", case["name"])
+                lacking.add(mine[6:])
+            elif in_order(mine) == case["log"]:
+                passed += 1
+            else:
+                self.assertTrue("unlike" in case or case["name"] in unlike or in_order(mine) == case.get("RxPY"), (case["name"], mine))
+        self.assertGreater(passed, 0.96 * len(cases))
+        self.assertLessEqual(lacking, {"audit_time", "end_with", "share_replay", "throw_if_empty"})  # RxJS alone has them
 
 
 if __name__ == "__main__":

@@ -10,14 +10,13 @@ from cellarcliff import rx
 from cellarcliff.rx import operators as ops
 from cellarcliff.rx.disposable import Disposable
 from cellarcliff.rx.subject import Subject
-from tests.kits import fresh_book
+from tests.kits import fresh_engine, is_model
 
-ITEMS = int(os.environ.get("CELLARCLIFF_ITEMS", "20000"))
+ITEMS = int(os.environ.get("CELLARCLIFF_ITEMS", "40" if is_model() else "20000"))
 
 
 def sizes(engine):
-    return [len(it) for it in (engine._roots, engine._merging, engine._values, engine._kept, engine._also, engine._tag_of,
-                               engine.queue)]
+    return [engine.core.kept]
 
 
 class Days(unittest.TestCase):
@@ -34,11 +33,11 @@ class Days(unittest.TestCase):
         self.assertLess(late - early, 8000)
 
     def setUp(self):
-        self.engine = rx.use(fresh_book())
+        self.engine = rx.use(fresh_engine())
 
     def tearDown(self):
         self.engine.close()
-        self.assertEqual(self.engine.book.counts().nodes, 0)
+        self.assertEqual(self.engine.counts().nodes, 0)
 
     def test_items(self):
         told, subject = [0], Subject()

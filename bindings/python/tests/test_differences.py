@@ -1,4 +1,5 @@
 """Where this package differs from RxPY, as README.md has it: what each of the two tells."""
+import gc
 import unittest
 
 from cellarcliff import rx
@@ -23,6 +24,20 @@ def fails(value):
 
 def observer_of_of_raises(k, told):
     k.rx.of(1, 2).subscribe(fails, lambda error: told.append("on_error"))
+
+
+def an_observer_that_raises(k, told):
+    subject = k.Subject()
+
+    def hear(value):
+        told.append(value)
+        fails(value)
+    subject.subscribe(hear)
+    for value in 1, 2:
+        try:
+            subject.on_next(value)
+        except KeyError:
+            pass
 
 
 def others_behind_one_that_raises(k, told):
@@ -96,14 +111,31 @@ def ref_count_of_one_that_is_connected(k, told):
     shared.pipe(k.ops.ref_count()).subscribe()
 
 
+def expand_below_take(k, told):
+    def inner(value):
+        return k.rx.using(lambda: told.append(f"made {value}"), lambda _: k.rx.of(value + 1) if value < 4 else k.rx.empty())
+    k.rx.of(1).pipe(k.ops.expand(inner), k.ops.take(2)).subscribe(told.append)
+
+
+def a_composition_completes(k, told):
+    source = k.rx.using(lambda: k.disposable.Disposable(lambda: told.append("released")), lambda _: k.rx.of(1))
+    source.pipe(k.ops.timeout(60)).subscribe(told.append, None, lambda: told.append("completed"))
+
+
+def a_subject_is_dropped(k, told):
+    k.rx.using(lambda: k.disposable.Disposable(lambda: told.append("released")), lambda _: k.Subject()).subscribe()
+    gc.collect()
+
+
 def one_of_a_group_raises(k, told):
     k.disposable.CompositeDisposable(failing(k, told, "a"), k.disposable.Disposable(lambda: told.append("b"))).dispose()
 
 
 #: The rows of the page: what RxPY tells, and what is told here.
 ROWS = {
-    emits_as_it_is_told: ([("a", 1), ("a", 2), ("b", 2), ("b", 1)], [("a", 1), ("b", 1), ("a", 2), ("b", 2)]),
+    emits_as_it_is_told: ([("a", 1), ("a", 2), ("b", 2), ("b", 1)], [("a", 1), ("b", 1), ("b", 2), ("a", 2)]),
     observer_of_of_raises: (["on_error"], ["raised"]),
+    an_observer_that_raises: ([1, 2], [1]),
     others_behind_one_that_raises: (["raised"], [1, "raised"]),
     a_resource_below_another_raises: (["inner", "raised"], ["inner", "outer", "raised"]),
     a_release_raises_as_it_is_subscribed_to: ([1, "released", "raised"], [1, "released", True]),
@@ -113,6 +145,9 @@ ROWS = {
     a_shared_source_ends: (["with an operator behind the share", "without"], ["without", "with an operator behind the share"]),
     map_indexed_twice: ([0, 1], [0, 0]),
     ref_count_of_one_that_is_connected: (["subscribed"], ["subscribed", "subscribed"]),
+    expand_below_take: ([1, "made 1", 2, "made 2", "made 3", "made 4"], [1, "made 1", 2]),
+    a_composition_completes: ([1, "completed", "released"], [1, "released", "completed"]),
+    a_subject_is_dropped: ([], ["released"]),
     one_of_a_group_raises: (["a", "raised"], ["a", "b", "raised"]),
 }
 
@@ -134,6 +169,8 @@ class Differences(unittest.TestCase):
                         row(kit, told)
                     except KeyError:
                         told.append("raised")
+                    if kits.is_model() and row is a_resource_below_another_raises:  # in an order that the engine leaves open
+                        told.sort(key=["inner", "outer", "raised"].index)
                     self.assertEqual(told, wanted[which])
 
 

@@ -14,11 +14,10 @@ MANY = int(os.environ.get("CELLARCLIFF_PIPELINES", "400"))
 
 
 def is_empty(engine):
-    tables = (engine._roots, engine._merging, engine._values, engine._kept, engine._also, engine._tag_of, engine.queue,
-              engine._projections, engine._first)
-    return [len(it) for it in tables] == [0] * len(tables)
+    return engine.core.kept == 0
 
 
+@unittest.skipIf(kits.is_model(), "its history would be long, and each command looks at all of it")
 class Random(unittest.TestCase):
     def setUp(self):
         self.kit = kits.ours()
@@ -31,7 +30,7 @@ class Random(unittest.TestCase):
     def settled(self, course, seed):
         self.assertEqual(course.after_end, [], seed)
         self.assertEqual(course.released, {number: 1 for number in range(course.made)}, seed)
-        counts = self.kit.engine.book.counts()
+        counts = self.kit.engine.counts()
         self.assertEqual((counts.nodes, counts.held, counts.waiting, counts.accepted), (0, 0, 0, counts.taken), seed)
         self.assertTrue(is_empty(self.kit.engine), seed)
 

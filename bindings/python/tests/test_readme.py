@@ -7,7 +7,7 @@ import re
 import unittest
 
 from cellarcliff import rx
-from tests.kits import fresh_book, rxpy
+from tests.kits import fresh_engine, rxpy
 
 FOLDER = pathlib.Path(__file__).resolve().parent.parent
 PAGE = FOLDER / "README.md"
@@ -16,7 +16,7 @@ EXAMPLES = re.findall(r"^```python\n((?s:.*?))^```\n\n((?:    .*\n)+)", PAGE.rea
 
 
 def printed_by(code, name):
-    rx.use(fresh_book())
+    rx.use(fresh_engine())
     printed = io.StringIO()
     with contextlib.redirect_stdout(printed):
         exec(compile(code, name, "exec"), {})

@@ -1,76 +1,32 @@
-"""What the operators stand on: a book, the objects that its numbers stand for, and the queue of what is to be told.
+"""What the operators stand on: an engine, and RxPY's manners.
 
-Of every call on the book the notes and the tags are taken while the lock is held, and put in order into one queue; one thread at a
-time serves it, outside the lock. What is projected goes before it, into a queue of its own, which is served at once: also by
-a thread that comes while another is at an observer, so that a slow observer does not keep an emitter waiting.
+A command is made, and what comes of it is told before the call returns, in its thread: closings first, then each lane that nobody
+serves. What an observer or a release raises is raised by the outermost call of the thread that emitted, or heard by the hook.
 """
 from __future__ import annotations
 
+import atexit
+import os
 import sys
 import threading
-from bisect import bisect_left
-from collections import deque
-from operator import itemgetter
-from threading import get_ident
-from typing import Any, Callable, Deque, Dict, List, Optional, Tuple
+from typing import Any, Callable, List, NamedTuple, Optional, Tuple
 
-from ..book import AUTO, FLAT, MANUAL, NEXT, ON_COMPLETED, PROJECT, SOURCE, Book, Calls, Refused
+from ..book import REFUSALS, Refused
+from ._cellar import (ABORT, CONNECT, CONNECTED, DECLINE, DISCONNECT, FAIL, FULL, GONE, HUB_ORDER, LANE_OF_NODE, LEAF, NO_HUB, NO_MEMORY,
+                      NOT_CONNECTED, NOTHING_OWED, OF_PROJECTIONS, OPEN, PASS, PUT, ROOT, SHUT, SOURCE, USING, WISHES)
+from ._crossing import C, bind
 
-_ONLY = object()  # the argument of a call that takes none
-_first_of = itemgetter(0)
-#: When what a node held is done with: this package's own while the lock is held, before anybody is told, or behind what is
-#: projected; the user's in the order of the queue.
-NOW, SOON, BEHIND, DUE = range(4)
-_NOTHING = (NOW, int)
-_LEVELS = 8  # of shares below each other, each with a part of the hubs
-_CHECKPOINT = 1 << 16  # events behind which a checkpoint is made
+Leaf, Root, Key = C.Leaf, C.Root, C.Key
 
 
-class _Thread:
-    """How deep a thread is in calls of this package, what was raised meanwhile, and the work that it put off."""
-
-    __slots__ = ("depth", "is_projecting", "errors", "trampoline")
-
-    def __init__(self) -> None:
-        self.depth = 0
-        self.is_projecting = False  # whether it serves what is projected
-        self.errors: Optional[List[BaseException]] = None
-        self.trampoline: Optional[Deque[Callable[[], Any]]] = None
-
-    def leave(self) -> None:
-        """The end of a call."""
-        self.depth -= 1
-        if self.errors:
-            self.raise_first()
-
-    def raise_first(self) -> None:
-        """The outermost call raises the first of what observers and releases raised."""
-        if self.errors and not self.depth:
-            first = self.errors.pop(0)
-            self.hand_over()
-            raise first
-
-    def hand_over(self) -> None:
-        """What no call raises goes to the hook."""
-        errors, self.errors = self.errors, None
-        for it in errors or ():
-            on_unhandled(it)
-
-    def run(self) -> None:
-        """Does what was put off, in order."""
-        trampoline = self.trampoline
-        while trampoline:
-            trampoline.popleft()()
-
-
-class _Here(threading.local):
-    """The state of this thread."""
-
-    def __init__(self) -> None:
-        self.it = _Thread()
-
-
-here = _Here()
+def refuse(status: int) -> None:
+    """Raises what a status other than 0 stands for."""
+    if status == NO_MEMORY:
+        raise MemoryError
+    if status == NO_HUB:
+        raise RuntimeError("no hub is left for this share: there are 1,024, of which half are for publish() and half for ref_count() and "
+                           "share(), and each that has a subscriber or is connected takes one")
+    raise Refused(REFUSALS.get(status, f"status {status}"))
 
 
 def on_unhandled(error: BaseException) -> None:
@@ -85,509 +41,170 @@ def _print(error: BaseException) -> None:
 _hook: List[Callable[[BaseException], Any]] = [_print]
 
 
+class Totals(NamedTuple):
+    """What is open and held, what waits, and what ever was: accepted = held + waiting + taken. `effects` wait in lanes."""
+
+    nodes: int
+    held: int
+    waiting: int
+    leases: int
+    accepted: int
+    taken: int
+    events: int
+    effects: int
+
+
 class At:
-    """A place in a book at which an observable opens something."""
+    """A place at which an observable opens something."""
 
-    __slots__ = ("engine", "place", "above", "root", "scheduler", "hub", "is_exchange", "tag")
+    __slots__ = ("engine", "place", "above", "root", "scheduler", "is_exchange", "flags", "top", "node", "solo")
 
-    def __init__(self, engine: "Engine", place: int, above: Any, root: Optional["Root"], scheduler: Any, hub: Optional[int],
-                 is_exchange: bool = False, tag: int = 0):
+    def __init__(self, engine: "Engine", place: int, above: Any, root: Any, scheduler: Any, is_exchange: bool = False, top: Any = None,
+                 flags: int = 0):
         self.engine, self.place, self.above, self.root, self.scheduler = engine, place, above, root, scheduler
-        self.hub = hub  # the place in the order of hubs of the one below whose connection this is
         self.is_exchange = is_exchange  # whether what stands at this place gives way
-        # of what the node above holds, where what stands here closes with it: a mirroring node's source; or by itself or with it:
-        # an inner source of a FlatMap
-        self.tag = tag
+        self.top = top if root is None else root  # the root of the subscription, if there is one
+        self.flags = flags
+        self.node: Any = None  # what was opened here
+        self.solo: Any = root  # the root, where nothing but this source feeds it
 
     def below(self, place: int, above: Any) -> "At":
-        return At(self.engine, place, above, None, self.scheduler, self.hub)
+        return At(self.engine, place, above, None, self.scheduler, False, self.top)
 
-
-class Root:
-    """A subscription. Its head is the first of the functions through which its notes go, if there are any; it is itself the last
-    of them."""
-
-    __slots__ = ("engine", "key", "number", "head", "is_stopped", "is_over", "is_inner", "_on_next", "_on_error", "_on_completed")
-
-    def __init__(self, engine: "Engine", on_next: Callable[[Any], Any], on_error: Callable[[Exception], Any],
-                 on_completed: Callable[[], Any], is_inner: bool = False):
-        self.engine, self.key, self.number = engine, None, -1
-        self.head: Any = None
-        self._on_next, self._on_error, self._on_completed = on_next, on_error, on_completed
-        self.is_stopped = False  # nothing is told any more
-        self.is_over = False  # the book has ended it
-        self.is_inner = is_inner  # its observer is this package's own
-
-    # what the queue calls
-
-    def told_next(self, value: Any) -> None:
-        if not self.is_stopped:
-            try:
-                if self.head is None:
-                    self._on_next(value)
-                else:
-                    self.head.on_next(value)
-            except BaseException:
-                self.dispose()
-                raise
-
-    def told_error(self, error: Exception) -> None:
-        self.is_over = True
-        if not self.is_stopped:
-            (self.head or self).on_error(error)
-
-    def told_completed(self, _: Any) -> None:
-        self.is_over = True
-        if not self.is_stopped:
-            (self.head or self).on_completed()
-
-    # what the last of its functions calls
-
-    def on_next(self, value: Any) -> None:
-        if not self.is_stopped:
-            self._on_next(value)
-
-    def on_error(self, error: Exception) -> None:
-        if not self.is_stopped:
-            self.is_stopped = True
-            try:
-                self._on_error(error)
-            finally:
-                self.dispose()
-
-    def on_completed(self) -> None:
-        if not self.is_stopped:
-            self.is_stopped = True
-            try:
-                self._on_completed()
-            finally:
-                self.dispose()
-
-    def dispose(self) -> None:
-        self.is_stopped = True
-        if not self.is_over and self.key is not None:
-            self.is_over = True
-            self.engine.dispose(self)
-
-
-class Leaf:
-    """A source's end of the book: what it is told goes into it."""
-
-    __slots__ = ("engine", "key", "is_stopped")
-
-    def __init__(self, engine: "Engine"):
-        self.engine, self.key, self.is_stopped = engine, None, False
-
-    def on_next(self, value: Any) -> None:
-        if not self.is_stopped and not self.engine.next(self.key, value):
-            self.is_stopped = True
-
-    def on_error(self, error: Exception) -> None:
-        if not self.is_stopped:
-            self.is_stopped = True
-            self.engine.end(self.key, error)
-
-    def on_completed(self) -> None:
-        if not self.is_stopped:
-            self.is_stopped = True
-            self.engine.end(self.key, None)
-
-    def closed(self) -> None:
-        self.is_stopped = True
+    def inside(self, above: Any) -> "At":
+        """The place below a node that has this source alone."""
+        at = At(self.engine, SOURCE, above, None, self.scheduler, False, self.top)
+        at.solo = self.solo
+        return at
 
 
 class Engine:
-    """A book with what the operators need around it."""
+    """An engine of libcellarcliff."""
 
-    def __init__(self, book: Optional[Calls] = None):
-        self.book: Calls = Book() if book is None else book
-        self.lock = threading.RLock()
-        self._roots: Dict[int, Root] = {}
-        self._merging: Dict[int, Callable[[Any], None]] = {}
-        self._values: Dict[int, Any] = {}  # by index, while the book may tell them
-        self._index = 0
-        self._tag = 0
-        self._kept: Dict[int, Tuple[int, Callable[..., Any]]] = {}  # by tag, what is done when it is handed back
-        self._also: Dict[int, Dict[int, Callable[[], Any]]] = {}  # and what is done besides, by node, while the lock is held
-        self._tag_of: Dict[int, int] = {}  # of inner sources, the tag with which they are there
-        self._first: Deque[Callable[[], Any]] = deque()
-        self._projections: Deque[Tuple[Callable[[Any], Any], Any, int]] = deque()
-        self.queue: Deque[Tuple[Callable[..., Any], Any, int]] = deque()
-        self._projecting, self._serving = threading.Lock(), threading.Lock()
-        self._events, self._checkpoint_at = 0, _CHECKPOINT
-        self._hubs: List[int] = []
-        self._free: Dict[int, List[int]] = {AUTO: [], MANUAL: []}
+    opens: Any = None  # what opens a root that the user subscribes: open_root() of _observable.py
 
-    # calls on the book; each takes what it told
+    def __init__(self, max_events: int = 0) -> None:
+        bind(refuse, on_unhandled)
+        self.core = C.Core(max_events)
 
-    def _fill(self) -> None:
-        """Puts what was told into the queues. The lock is held."""
-        book, me = self.book, get_ident()
-        mail, tags = book.mail, book.tags
-        while mail:
-            to, kind, value = mail.popleft()
-            if kind == PROJECT:
-                project = self._merging.get(to)
-                if project is not None:
-                    self._projections.append((project, self._values[value], me))
-                continue
-            root = self._roots.get(to) if kind == NEXT else self._roots.pop(to, None)
-            if root is None:
-                continue
-            queue = self._projections if root.is_inner else self.queue
-            if kind == NEXT:
-                queue.append((root.told_next, self._values[value], me))
-            elif kind == ON_COMPLETED:
-                queue.append((root.told_completed, None, me))
-            else:
-                queue.append((root.told_error, self._values[value], me))
-        if tags:
-            self._set_free(tags, me)
-
-    def _set_free(self, tags: Deque[int], me: int) -> None:
-        due, kept, also = None, self._kept, self._also
-        while tags:
-            when, call = kept.pop(tags[0], _NOTHING)
-            tag = tags.popleft()
-            if tag in also:
-                for number, close in also.pop(tag).items():
-                    self._tag_of.pop(number, None)
-                    close()
-            if when == NOW:
-                call()
-            elif when == SOON:
-                self._first.append(call)
-            elif when == BEHIND:
-                self._projections.append((call, None, me))
-            elif due is None:
-                due = [(tag, call)]
-            else:
-                due.append((tag, call))
-        if due:
-            if len(due) > 1:
-                due.sort(key=_first_of, reverse=True)  # what was taken last is released first, as along a chain of disposables
-            for _, call in due:
-                self.queue.append((call, _ONLY, me))
-
-    def _checkpoint(self) -> None:
-        """Puts what is open in the place of the history, so that that does not grow. The lock is held."""
-        self.book.checkpoint()
-        self._events, self._checkpoint_at = 0, max(_CHECKPOINT, 4 * self.book.counts().nodes)
-
-    def _heard(self) -> None:
-        """The end of an event: what it told is taken, and the history does not grow. The lock is held."""
-        book = self.book
-        if book.mail or book.tags:
-            self._fill()
-        self._events += 3
-        if self._events > self._checkpoint_at:
-            self._checkpoint()
-
-    def _first_of_all(self) -> None:
-        """Does what comes before anybody is told."""
-        while self._first:
-            self._first.popleft()()
-        if self._projections:
-            self._project()
-
-    def hold(self, node: Any, when: int, call: Callable[..., Any]) -> None:
-        """Lets a node hold something. The lock is held."""
-        self._tag = tag = self._tag + 1
-        self.book.hold_tag(node, tag)
-        self._kept[tag] = when, call
-
-    def open(self, at: At, kind: int, when: int = NOW, call: Optional[Callable[..., Any]] = None) -> Any:
-        """Opens a node, which calls this when it closes."""
-        book, root = self.book, at.root
-        with self.lock:
-            node, _ = book.open(at.place, at.above, kind)
-            if root is not None:
-                root.key, root.number = node, node.number
-                self._roots[root.number] = root
-            if call is not None:
-                if when == NOW and at.tag in self._kept:
-                    number = node.number
-                    if at.place != SOURCE:
-                        self._tag_of[number] = at.tag
-                    if at.tag in self._also:
-                        self._also[at.tag][number] = call
-                    else:
-                        self._also[at.tag] = {number: call}
-                else:
-                    self._tag = tag = self._tag + 1
-                    book.hold_tag(node, tag)
-                    self._kept[tag] = when, call
-            if book.mail or book.tags:
-                self._fill()
-        if self._first or self._projections or at.is_exchange:
-            self.opened(at)
-        return node
-
-    def opened(self, at: At) -> None:
-        """Behind an opening: what it closed is released before more is made, where it took the place of something."""
-        if self._first or self._projections:
-            self._first_of_all()
-        if at.is_exchange and self.queue:
-            # the new one stands where it does: whatever is projected meanwhile comes behind it
-            if here.it.is_projecting:
-                here.it.is_projecting = False
-                self._projecting.release()
-            self.serve()
-
-    def _bind(self, at: At, node: Any) -> None:
+    def open(self, at: At, kind: int, close: Any = None, project: Optional[Callable[[Any], Any]] = None) -> Any:
+        """Opens a node: `close` is a leaf that stops, or is called, as it closes; `project` is given what a FlatMap or Switch is to
+        project."""
         root = at.root
-        if root is not None:
-            root.key, root.number = node, node.number
-            self._roots[root.number] = root
+        what = OPEN | at.place << 8 | kind << 16 | (at.flags | (WISHES if close is not None else 0)) << 24
+        at.node = self.core.open(what, at.above, None if root is close is project is None else (root, close, project), None, at.is_exchange)
+        return at.node
 
-    def open_merging(self, at: At, kind: int, project: Callable[[Any], None], inner: Optional[At] = None) -> Any:
-        """Opens a FlatMap or a Switch; `inner` becomes the place of its inner observables."""
-        with self.lock:
-            node, _ = self.book.open(at.place, at.above, kind)
-            self._bind(at, node)
-            number = node.number
-            self._merging[number] = project
-            self.hold(node, NOW, lambda: self._merging.pop(number, None))
-            if inner is not None:
-                inner.above = node
-                inner.tag = self._tag if kind == FLAT else 0
-            if self.book.mail or self.book.tags:
-                self._fill()
-        self.opened(at)
-        return node
+    def using(self, at: At, factory: Callable[[], Any]) -> Tuple[At, Any]:
+        """Calls the factory, and opens a node that holds the resource: the place below it, and the resource."""
+        if at.is_exchange:  # what stands there gives way before the resource is made
+            key = self.open(at, PASS)
+            resource = self.core.hold(key, factory)
+        else:
+            key, resource = self.core.using(USING | at.place << 8 | at.flags << 24, at.above, None if at.root is None else (at.root, None, None),
+                                            factory)
+            at.node = key
+        return at.inside(key), resource
 
-    def using(self, at: At, release: Callable[[], Any]) -> At:
-        """Opens a node that holds a resource of the user's: the place below it."""
-        book, root = self.book, at.root
-        with self.lock:
-            self._tag = tag = self._tag + 1
-            self._kept[tag] = DUE, release
-            try:
-                node = book.open_using(at.place, at.above, tag)
-            except Exception:
-                del self._kept[tag]
-                raise
-            if root is not None:
-                root.key, root.number = node, node.number
-                self._roots[root.number] = root
-            if book.mail or book.tags:
-                self._fill()
-        if self._first or self._projections or at.is_exchange:
-            self.opened(at)
-        return At(self, SOURCE, node, None, at.scheduler, at.hub, False, tag)
+    def finally_(self, at: At, action: Callable[[], Any]) -> At:
+        """Opens a node, as whose resource this is called: the place below it."""
+        root = at.root
+        at.node = self.core.open(USING | at.place << 8 | at.flags << 24, at.above, None if root is None else (root, None, None), action,
+                                 at.is_exchange)
+        return at.inside(at.node)
 
-    def keep(self, node: Any, release: Callable[[], Any]) -> None:
-        """Lets a node hold a resource of the user's; where the node is closed it is released."""
-        try:
-            with self.lock:
-                self.hold(node, DUE, release)
-        except Refused as why:
-            self.put(release)
-            if why.name != "Gone":
-                raise
+    def hold(self, node: Any, call: Callable[..., Any], *given: Any) -> Any:
+        """Calls this, and lets the node hold what it answers; where the node is closed that is released at once."""
+        return self.core.hold(node, call, *given)
 
-    def next(self, leaf: Any, value: Any) -> bool:
-        """Whether the leaf was open for the item."""
-        book = self.book
-        with self.lock:
-            self._index = index = self._index + 1
-            self._values[index] = value
-            try:
-                book.next(leaf, index)
-                if len(book.mail) == 1 and not book.tags:  # as is usual
-                    to, kind, _ = book.mail[0]
-                    if kind == NEXT:
-                        root = self._roots.get(to)
-                        if root is not None and not root.is_inner:
-                            self.queue.append((root.told_next, value, get_ident()))
-                            del book.mail[0]
-            except Refused as why:
-                if why.name != "Gone":
-                    raise
-                return False
-            finally:
-                if book.mail or book.tags:
-                    self._fill()
-                del self._values[index]
-            self._events += 3
-            if self._events > self._checkpoint_at:
-                self._checkpoint()
-        if self._first or self._projections:
-            self._first_of_all()
-        return True
+    def answered(self, _: At, node: Any, call: Callable[..., Any], *given: Any) -> Any:
+        """The same of what a function of the user's answers."""
+        return self.core.hold(node, call, *given)
 
-    def _ended(self, number: int) -> None:
-        """An inner source ended by itself."""
-        tag = self._tag_of.pop(number, None)
-        if tag is not None:
-            self._also[tag].pop(number)()
-            if not self._also[tag]:
-                del self._also[tag]
-
-    def _with_error(self, call: Callable[..., Any], node: Any, error: Optional[Exception]) -> None:
-        with self.lock:
-            self._index = index = self._index + 1
-            code = None if error is None else index & 0xFFFFFFFF
-            if code is not None:
-                self._values[code] = error
-            try:
-                call(node, code)
-                if self._tag_of:
-                    self._ended(node.number)
-            except Refused as why:
-                if why.name not in ("Gone", "NothingOwed"):
-                    raise
-            finally:
-                self._heard()
-                if code is not None:
-                    del self._values[code]
-        if self._first or self._projections:
-            self._first_of_all()
-
-    def end(self, leaf: Any, error: Optional[Exception]) -> None:
-        """The leaf completes, or fails."""
-        self._with_error(self.book.end, leaf, error)
+    def _do(self, what: int, node: Any, value: Any = None, *fine: int) -> int:
+        status = int(self.core.do(what, node, value))
+        if status and status not in fine:
+            refuse(status)
+        return status
 
     def fail(self, merging: Any, error: Exception) -> None:
         """A FlatMap or Switch fails in the place of an inner observable."""
-        self._with_error(self.book.fail, merging, error)
-
-    def _plainly(self, call: Callable[[Any], Any], word: Any) -> None:
-        with self.lock:
-            try:
-                call(word)
-            except Refused as why:
-                if why.name not in ("Gone", "NothingOwed", "NotConnected"):
-                    raise
-            self._heard()
-        if self._first or self._projections:
-            self._first_of_all()
+        self._do(FAIL, merging, error, GONE, NOTHING_OWED)
 
     def decline(self, merging: Any) -> None:
-        self._plainly(self.book.decline, merging)
+        self._do(DECLINE, merging, None, GONE, NOTHING_OWED)
 
-    def dispose(self, root: Root) -> None:
-        """Unsubscribes; a second time is none."""
-        lock = self.lock
-        if lock._is_owned():  # type: ignore[attr-defined]
-            # a finalizer that runs in the midst of a call on the book; what is under way does it next
-            self._first.append(lambda: self.dispose(root))
-            return
-        with lock:
-            self._roots.pop(root.number, None)
+    def failed(self, at: At, error: Exception) -> None:
+        """What was to be opened here raised: the place fails. Where it is taken, what stands there; or else the subscription."""
+        if at.node is None:
             try:
-                self.book.dispose(root.key)
+                leaf = Leaf(self.core)
+                self.open(at, LEAF, leaf)
+                leaf.on_error(error)
+                return
             except Refused as why:
-                if why.name != "Gone":
-                    raise
-            self._heard()
-        if self._first or self._projections:
-            self._first_of_all()
-
-    def disconnect(self, hub: int) -> None:
-        self._plainly(self.book.disconnect, hub)
-
-    # the queues
-
-    def put(self, call: Callable[[], Any]) -> None:
-        """Puts a call of the user's behind what waits."""
-        self.queue.append((call, _ONLY, get_ident()))
-
-    def _project(self) -> None:
-        own = here.it.trampoline is None
-        if own:
-            here.it.trampoline = deque()
-        try:
-            while True:
-                while self._projections and self._projecting.acquire(False):
-                    here.it.is_projecting = True
-                    try:
-                        while self._projections and here.it.is_projecting:
-                            call, value, thread = self._projections.popleft()
-                            try:
-                                call(value)
-                            except Exception as error:
-                                self._raised(error, thread)
-                    finally:
-                        if here.it.is_projecting:
-                            here.it.is_projecting = False
-                            self._projecting.release()
-                # what a source put off comes behind, where what it emits is projected at once
-                if not own or not here.it.trampoline:
+                if why.name == "Gone":
                     return
-                here.it.trampoline.popleft()()
-        finally:
-            if own:
-                here.it.trampoline = None
-
-    def serve(self) -> None:
-        """Tells observers and releases, in order, unless a thread is at it; this one may be, further out."""
-        while self.queue and self._serving.acquire(False):
-            try:
-                queue = self.queue
-                while queue:
-                    call, value, thread = queue.popleft()
-                    try:
-                        if value is _ONLY:
-                            call()
-                        else:
-                            call(value)
-                    except Exception as error:
-                        self._raised(error, thread)
-            finally:
-                self._serving.release()
-
-    def _raised(self, error: Exception, thread: int) -> None:
-        """What an observer or a release raised: the thread that emitted raises it, if it is this one."""
-        if thread == get_ident() and here.it.depth:
-            if here.it.errors is None:
-                here.it.errors = []
-            here.it.errors.append(error)
+        elif self.core.do(ABORT, at.node, error) in (0, GONE):
+            return
+        if at.top is not None:
+            at.top.on_error(error)
         else:
             on_unhandled(error)
 
-    # hubs, by their place in the order in which they were made
+    def put(self, node: Any, call: Callable[[], Any], is_projected: bool = False) -> bool:
+        """Puts a call into the lane of a node, or of what is projected to it: whether that is open."""
+        status = self.core.put(PUT | (OF_PROJECTIONS << 24 if is_projected else 0), node, call)
+        if status not in (0, GONE):
+            refuse(status)
+        return not status
 
-    def take_hub(self, mode: int, level: int, limit: Optional[int]) -> Optional[int]:
-        """A hub that is free, by its place in their order; None where all that are free are behind the limit. Below the
-        connection of a hub only those before it may be subscribed to, so a level, which is higher the more shares stand below
-        this one, says where to look first. The lock is held."""
-        most = self.book.most_hubs
-        if not self._hubs:
-            self._hubs = [self.book.hub(index % 2) for index in range(most)]
-            for each in (AUTO, MANUAL):
-                self._free[each] = list(range(each, most, 2))
-        free = self._free[mode]
-        end = len(free) if limit is None else bisect_left(free, limit)
-        at = bisect_left(free, min(level, _LEVELS - 1) * (most // _LEVELS))
-        if at >= end:
-            at = end - 1
-        if not free:
-            raise RuntimeError(
-                f"no hub is left for this share: a book has {most:,}, of which half are for publish() and half for ref_count() and "
-                "share(), and each that has a subscriber or is connected takes one")
-        return None if at < 0 else free.pop(at)
+    # shares
 
-    def hub_number(self, index: int) -> int:
-        return self._hubs[index]
+    def share(self, at: At, share: Any, level: int) -> Tuple[int, Any]:
+        """Opens a subscriber of a share: the status, and the connection if there is a new one."""
+        root = at.root
+        status, node, connection = self.core.share(OPEN | at.place << 8 | share.kind << 16 | at.flags << 24 | level << 32, at.above,
+                                                   None if root is None else (root, None, None), share, at.is_exchange)
+        if status and status != HUB_ORDER:
+            refuse(status)
+        at.node = node
+        return status, connection
 
-    def give_hub(self, index: int) -> None:
-        """The hub has neither subscriber nor connection. The lock is held."""
-        free = self._free[index % 2]
-        free.insert(bisect_left(free, index), index)
+    def connect(self, share: Any, level: int, closed: Callable[[], Any]) -> Any:
+        """The connection, if there was none."""
+        status, _, connection = self.core.share(CONNECT | WISHES << 24 | level << 32, None, (None, closed, None), share, False)
+        if status and status != CONNECTED:
+            refuse(status)
+        return connection
+
+    def disconnect(self, share: Any) -> None:
+        status = self.core.share(DISCONNECT, None, None, share, False)[0]
+        if status not in (0, GONE, NOT_CONNECTED):
+            refuse(status)
+
+    # the end
 
     def close(self) -> None:
         """Closes all, and releases what is held."""
-        here.it.depth += 1
-        try:
-            with self.lock:
-                self.book.close()
-                self._fill()
-                self._roots.clear()
-            self._first_of_all()
-            self.serve()
-        finally:
-            here.it.leave()
+        C.call(self._close)
+
+    def _close(self) -> None:
+        for _ in range(100):  # a release may subscribe
+            for _ in range(self.core.totals()[0]):  # each closes a root or a connection, or more
+                if self._do(SHUT, None, None, GONE) or not self.core.totals()[0]:
+                    break
+            self.core.serve_left()
+            if not any(self.core.totals()[:3]):
+                return
+
+    def counts(self) -> Totals:
+        """How much is open and held."""
+        return Totals(*self.core.totals())
+
+    def __repr__(self) -> str:
+        counts = self.counts()
+        return f"<Engine: {counts.nodes} nodes, {counts.held} resources>"
 
 
 _engine: List[Optional[Engine]] = [None]
@@ -603,7 +220,27 @@ def current() -> Engine:
     return engine
 
 
-def use(book: Optional[Calls]) -> Engine:
-    """Subscribes from now on in this book; with None, in a new one over librx. Answers its engine."""
-    _engine[0] = engine = Engine(book)
+def use(engine: Optional[Engine] = None) -> Engine:
+    """Subscribes from now on in this engine; with None, in a new one. Answers it."""
+    _engine[0] = engine = engine or Engine()
     return engine
+
+
+def _at_exit() -> None:
+    if _engine[0] is not None:
+        _engine[0].close()
+
+
+def _in_child() -> None:
+    """A child has an engine of its own, and no part in what its parent opened."""
+    global _making
+    _making = threading.Lock()
+    C.forked()
+    _engine[0] = None
+
+
+atexit.register(_at_exit)
+if hasattr(os, "register_at_fork"):
+    os.register_at_fork(after_in_child=_in_child)
+
+__all__ = ["At", "C", "Engine", "FULL", "Leaf", "LANE_OF_NODE", "ROOT", "Root", "current", "use"]

@@ -5,13 +5,6 @@ from threading import RLock
 from typing import Any, Callable, List, Optional
 
 
-def __getattr__(name: str) -> Any:
-    if name == "ScheduledDisposable":
-        raise NotImplementedError("cellarcliff.rx.disposable has no ScheduledDisposable: schedule the disposal, as in "
-                                  "scheduler.schedule(lambda *_: disposable.dispose()), or give RxPY's own, which serves here too")
-    raise AttributeError(f"module {__name__!r} has no attribute {name!r}")
-
-
 class Disposable:
     """Calls its action once, with the first `dispose`."""
 
@@ -216,3 +209,24 @@ class RefCountDisposable(Disposable):
                 return Disposable()
             self.count += 1
             return self.InnerDisposable(self)
+
+
+class ScheduledDisposable(Disposable):
+    """Disposes of what it was given by a scheduler."""
+
+    def __init__(self, scheduler: Any, disposable: Any):
+        super().__init__()
+        self.scheduler = scheduler
+        self.disposable = SingleAssignmentDisposable()
+        self.disposable.disposable = disposable
+
+    @property
+    def is_disposed(self) -> bool:
+        return self.disposable.is_disposed
+
+    @is_disposed.setter
+    def is_disposed(self, _: bool) -> None:
+        pass
+
+    def dispose(self) -> None:
+        self.scheduler.schedule(lambda *_: self.disposable.dispose())

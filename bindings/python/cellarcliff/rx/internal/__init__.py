@@ -27,3 +27,7 @@ class WouldBlockException(Exception):
 
     def __init__(self, msg: str = "Would block"):
         super().__init__(msg)
+
+
+class Missing(NotImplementedError, AttributeError):
+    """A name of RxPY's that is not here: an AttributeError too, so that hasattr() answers, and `from .. import` raises ImportError."""

@@ -1,24 +1,33 @@
-"""Schedulers: the two that sources use where they are given none, and the immediate one.
+"""Schedulers, with the names and the manners of RxPY's.
 
 Any scheduler of RxPY may be given in their place: what is called of one is `now`, `to_seconds`, `to_timedelta`, `schedule`,
 `schedule_relative`, `schedule_absolute` and `schedule_periodic`. Times are seconds, or timedelta.
 """
 from __future__ import annotations
 
+import heapq
+import itertools
 import threading
-from collections import deque
+import time
+from concurrent.futures import ThreadPoolExecutor
 from datetime import datetime, timedelta, timezone
-from typing import Any, Callable, Union
+from typing import TYPE_CHECKING, Any, Callable, List, Optional, Tuple, Union
 
-from .._engine import here
+from .._crossing import C
 from ..disposable import Disposable, MultipleAssignmentDisposable, SerialDisposable, SingleAssignmentDisposable
-from ..internal import WouldBlockException
+from ..internal import Missing, WouldBlockException
 
-
-def __getattr__(name: str) -> Any:
-    if name.endswith("Scheduler") or name in ("eventloop", "mainloop"):
-        raise NotImplementedError(f"cellarcliff.rx.scheduler has no {name}: give one of RxPY's own, which serves here too")
-    raise AttributeError(f"module {__name__!r} has no attribute {name!r}")
+if not TYPE_CHECKING:
+    def __getattr__(name: str) -> Any:
+        if name in ("VirtualTimeScheduler", "HistoricalScheduler"):
+            from .. import testing
+            return getattr(testing, name)
+        if name == "eventloop":
+            import importlib
+            return importlib.import_module(f"{__name__}.eventloop")
+        if name.endswith("Scheduler") or name in ("mainloop", "ScheduledItem"):
+            raise Missing(f"cellarcliff.rx.scheduler has no {name}: give one of RxPY's own, which serves here too")
+        raise AttributeError(f"module {__name__!r} has no attribute {name!r}")
 
 
 RelativeTime = Union[float, timedelta]
@@ -110,19 +119,58 @@ class CurrentThreadScheduler(_Shared):
     """Does it in this thread, behind what is under way."""
 
     def schedule_required(self) -> bool:
-        return here.it.trampoline is None
+        """Whether nothing is under way."""
+        return not C.is_putting_off()
+
+    def ensure_trampoline(self, action: Action) -> Any:
+        """Does it at once, with what that schedules behind it."""
+        return self.schedule(action) if self.schedule_required() else action(self, None)
 
     def schedule(self, action: Action, state: Any = None) -> Any:
         whole = SingleAssignmentDisposable()
         act = self._into(whole, action, state)
-        if here.it.trampoline is not None:
-            here.it.trampoline.append(act)
-            return whole
-        here.it.trampoline = deque([act])
-        try:
-            here.it.run()
-        finally:
-            here.it.trampoline = None
+        if not C.put_off(act):
+            C.trampolined(act)
+        return whole
+
+    def schedule_relative(self, duetime: RelativeTime, action: Action, state: Any = None) -> Any:
+        due, whole = time.monotonic() + max(0.0, self.to_seconds(duetime)), SingleAssignmentDisposable()
+        act = self._into(whole, action, state)
+
+        def wait() -> None:
+            if not whole.is_disposed:
+                time.sleep(max(0.0, due - time.monotonic()))
+                act()
+        if not C.put_off(wait):
+            C.trampolined(wait)
+        return whole
+
+
+class TrampolineScheduler(CurrentThreadScheduler):
+    """The same, of one's own."""
+
+
+class _Threaded(_Shared):
+    """Does it in a thread, when its time has come."""
+
+    def _in_thread(self, work: Callable[[], Any]) -> None:
+        thread = threading.Thread(target=work, daemon=True)
+        thread.start()
+
+    def schedule(self, action: Action, state: Any = None) -> Any:
+        whole = SingleAssignmentDisposable()
+        self._in_thread(self._into(whole, action, state))
+        return whole
+
+    def schedule_relative(self, duetime: RelativeTime, action: Action, state: Any = None) -> Any:
+        seconds, whole, over = max(0.0, self.to_seconds(duetime)), SerialDisposable(), threading.Event()
+        act = self._into(whole, action, state)
+        whole.disposable = Disposable(over.set)
+
+        def wait() -> None:
+            if not over.wait(seconds):
+                act()
+        self._in_thread(wait)
         return whole
 
 
@@ -139,3 +187,129 @@ class TimeoutScheduler(_Shared):
         whole.disposable = Disposable(timer.cancel)
         timer.start()
         return whole
+
+
+class NewThreadScheduler(_Threaded):
+    """Does each in a thread of its own."""
+
+    def __init__(self, thread_factory: Optional[Callable[[Callable[[], Any]], Any]] = None):
+        self.thread_factory = thread_factory
+
+    def _in_thread(self, work: Callable[[], Any]) -> None:
+        if self.thread_factory is None:
+            super()._in_thread(work)
+        else:
+            self.thread_factory(work).start()
+
+    def schedule_periodic(self, period: RelativeTime, action: Callable[[Any], Any], state: Any = None) -> Any:
+        seconds, over = max(0.0, self.to_seconds(period)), threading.Event()
+
+        def work() -> None:
+            nonlocal state
+            while not over.wait(seconds):
+                answer = action(state)
+                state = state if answer is None else answer
+        self._in_thread(work)
+        return Disposable(over.set)
+
+
+class ThreadPoolScheduler(_Threaded):
+    """Does it in one of so many threads."""
+
+    def __init__(self, max_workers: Optional[int] = None):
+        self.executor = ThreadPoolExecutor(max_workers=max_workers)
+
+    def _in_thread(self, work: Callable[[], Any]) -> None:
+        self.executor.submit(work)
+
+
+class EventLoopScheduler(_Shared):
+    """Does all in one thread of its own, in order."""
+
+    def __init__(self, thread_factory: Optional[Callable[[Callable[[], Any]], Any]] = None, exit_if_empty: bool = False):
+        self._factory = thread_factory or (lambda work: threading.Thread(target=work, daemon=True))
+        self._is_disposed, self._exit_if_empty = False, exit_if_empty
+        self._condition, self._thread = threading.Condition(threading.RLock()), None  # type: Any, Any
+        self._queue: List[Tuple[float, int, Callable[[], Any]]] = []
+        self._numbers = itertools.count()
+
+    def _put(self, due: float, act: Callable[[], Any]) -> None:
+        with self._condition:
+            if self._is_disposed:
+                from ..internal import DisposedException
+                raise DisposedException()
+            heapq.heappush(self._queue, (due, next(self._numbers), act))
+            if self._thread is None:
+                self._thread = self._factory(self._run)
+                self._thread.start()
+            self._condition.notify()
+
+    def schedule(self, action: Action, state: Any = None) -> Any:
+        whole = SingleAssignmentDisposable()
+        self._put(time.monotonic(), self._into(whole, action, state))
+        return whole
+
+    def schedule_relative(self, duetime: RelativeTime, action: Action, state: Any = None) -> Any:
+        whole = SingleAssignmentDisposable()
+        self._put(time.monotonic() + max(0.0, self.to_seconds(duetime)), self._into(whole, action, state))
+        return whole
+
+    def _next(self) -> Optional[Callable[[], Any]]:
+        with self._condition:
+            while not self._is_disposed:
+                if self._queue:
+                    left = self._queue[0][0] - time.monotonic()
+                    if left <= 0:
+                        return heapq.heappop(self._queue)[2]
+                    self._condition.wait(left)
+                elif self._exit_if_empty:
+                    break
+                else:
+                    self._condition.wait()
+            self._thread = None
+            return None
+
+    def _run(self) -> None:
+        while True:
+            act = self._next()
+            if act is None:
+                return
+            act()
+
+    def dispose(self) -> None:
+        """Does nothing more."""
+        with self._condition:
+            self._is_disposed = True
+            del self._queue[:]
+            self._condition.notify()
+
+
+class CatchScheduler(Scheduler):
+    """Another scheduler, whose actions' exceptions go to a handler; it answers whether that was all."""
+
+    def __init__(self, scheduler: Any, handler: Callable[[Exception], bool]):
+        self._scheduler, self._handler = scheduler, handler
+
+    @property
+    def now(self) -> datetime:
+        return self._scheduler.now  # type: ignore[no-any-return]
+
+    def _caught(self, action: Action) -> Action:
+        def act(_: Any, state: Any = None) -> Any:
+            try:
+                return action(self, state)
+            except Exception as error:
+                if not self._handler(error):
+                    raise
+                return Disposable()
+        return act
+
+    def schedule(self, action: Action, state: Any = None) -> Any:
+        return self._scheduler.schedule(self._caught(action), state)
+
+    def schedule_relative(self, duetime: RelativeTime, action: Action, state: Any = None) -> Any:
+        return self._scheduler.schedule_relative(duetime, self._caught(action), state)
+
+    def schedule_absolute(self, duetime: AbsoluteTime, action: Action, state: Any = None) -> Any:
+        return self._scheduler.schedule_absolute(duetime, self._caught(action), state)
+

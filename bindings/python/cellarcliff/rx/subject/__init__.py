@@ -1,51 +1,67 @@
 """Subjects."""
 from __future__ import annotations
 
-from collections import deque
-from threading import Lock, get_ident
-from typing import Any, Deque, Dict, List, Optional, Tuple
+import math
+from typing import TYPE_CHECKING, Any, Dict, List, Optional, TypeVar
 
-from ...book import LEAF
-from .._engine import NOW, At, Leaf, here
-from .._observable import Makes, Observer, _chained, _Source
+from .._cellar import LEAF
+from .._engine import At, C, Leaf
+from .._functions import chained
+from .._observable import Observable
+from .._observer import Observer
 from ..internal import DisposedException
 
-_NEXT, _ERROR, _COMPLETED = range(3)
+__all__ = ["AsyncSubject", "BehaviorSubject", "ReplaySubject", "Subject"]
 
 
-def __getattr__(name: str) -> Any:
-    if name in ("BehaviorSubject", "ReplaySubject", "AsyncSubject"):
-        raise NotImplementedError(f"cellarcliff.rx.subject has no {name}: RxPY's own may stand wherever an observable of this package may")
-    raise AttributeError(f"module {__name__!r} has no attribute {name!r}")
+S = TypeVar("S")
+if TYPE_CHECKING:
+    class _Base:
+        """Of the extension, or of _slow.py."""
+
+        is_stopped: bool
+        is_disposed: bool
+        _ups: Dict[Any, Any]
+        _memory: Any
+        _limit: int
+
+        def _join(self, up: Any, leaf: Any) -> bool: ...
+        def _next_kept(self, value: Any, kept: Any) -> None: ...
+        def _end(self, error: Any) -> None: ...
+        def _forget(self) -> None: ...
+else:
+    _Base = C.Subject
 
 
-def _tell(up: Any, kind: int, value: Any) -> None:
-    if kind == _NEXT:
-        up.on_next(value)
-    elif kind == _ERROR:
-        up.on_error(value)
-    else:
-        up.on_completed()
-
-
-class Subject(_Source, Observer):
+class Subject(_Base, Observable[S], Observer):
     """An observable and an observer: it hands what it receives to each subscriber, in the order of their subscriptions.
 
-    Several threads may call it: if one is at work, it delivers the other's note after its own, so that no item overtakes another.
+    Several threads may call it: all of its observers hear the same order, each one item at a time.
     """
 
+    if TYPE_CHECKING:
+        def on_next(self, value: S) -> None: ...
+
+    _is_hot = True
+
     def __init__(self) -> None:
-        self.is_stopped = self.is_disposed = False
         self.exception: Optional[Exception] = None
-        self._lock = Lock()
-        self._ups: Dict[int, Tuple[Any, Leaf]] = {}
-        self._emissions: Deque[Tuple[Deque[Tuple[Any, Leaf]], int, Any]] = deque()
-        self._owner = 0
+        self._solos: Any = None
+
+    def __init_subclass__(cls, **words: Any) -> None:
+        super().__init_subclass__(**words)
+        if "_on_next_core" in cls.__dict__:  # RxPY's way to a subject of one's own
+            def on_next(self: Any, value: Any) -> None:
+                if self.is_stopped:
+                    self.check_disposed()
+                else:
+                    self._on_next_core(value)
+            setattr(cls, "on_next", on_next)
 
     @property
     def observers(self) -> List[Any]:
         """Those that subscribed."""
-        return [up for up, _ in self._ups.values()]
+        return [up for up, _ in tuple(self._ups.values())]
 
     def check_disposed(self) -> None:
         if self.is_disposed:
@@ -54,126 +70,148 @@ class Subject(_Source, Observer):
     def _open(self, at: At) -> None:
         self._open_with(at, ())
 
-    def _open_with(self, at: At, makes: Makes) -> bool:
-        if self.is_disposed:
-            raise DisposedException()
-        engine, ups = at.engine, self._ups
-        leaf = Leaf(engine)
-
-        def closed() -> None:
-            leaf.is_stopped = True
-            ups.pop(id(leaf), None)
-        leaf.key = engine.open(at, LEAF, NOW, closed)
-        up = _chained(makes, leaf) if makes else leaf
-        if leaf.is_stopped:
-            return True
-        with self._lock:
-            is_open = not self.is_stopped
-            if is_open:
-                ups[id(leaf)] = (up, leaf)
-        if not is_open:
-            if self.exception is not None:
-                up.on_error(self.exception)
-            else:
-                up.on_completed()
-        elif leaf.is_stopped:
-            ups.pop(id(leaf), None)
+    def _open_with(self, at: At, makes: Any) -> bool:
+        self.check_disposed()
+        leaf = Leaf(at.engine.core)
+        at.engine.open(at, LEAF, leaf)
+        if at.solo is not None:
+            if self._solos is None:
+                self._solos = {}
+            solos = self._solos
+            solos[leaf] = at.solo
+            leaf.on_closed = lambda: solos.pop(leaf, None)
+        up = chained(makes, leaf) if makes else leaf
+        if not leaf.is_stopped and not self._join(up, leaf):
+            self._tell_end(up)
         return True
 
-    def on_next(self, value: Any) -> None:
-        """Tells the item to each that subscribed."""
-        if self.is_stopped:
-            self.check_disposed()
-            return
-        self._emit(_NEXT, value)
+    def _tell_end(self, up: Any) -> None:
+        if self.exception is not None:
+            up.on_error(self.exception)
+        else:
+            up.on_completed()
 
     def on_error(self, error: Exception) -> None:
         """Hands on the error; later subscribers receive it too."""
         self.check_disposed()
-        self._end(_ERROR, error)
+        if not self.is_stopped:
+            self.exception = error
+            self._on_error_core(error)
+
+    def _on_error_core(self, error: Exception) -> None:
+        self.is_stopped, self.exception = True, error
+        self._end(error)
 
     def on_completed(self) -> None:
         """Hands on the completion; later subscribers receive it too."""
         self.check_disposed()
-        self._end(_COMPLETED, None)
+        if not self.is_stopped:
+            self._on_completed_core()
 
-    def _end(self, kind: int, error: Optional[Exception]) -> None:
-        with self._lock:
-            if self.is_stopped:
-                return
-            self.is_stopped, self.exception = True, error
-        self._emit(kind, error)
-
-    def _emit(self, kind: int, value: Any) -> None:
-        me, thread = get_ident(), here.it
-        thread.depth += 1
-        try:
-            with self._lock:
-                ups, owner, alone = tuple(self._ups.values()), self._owner, None
-                if len(ups) == 1 and not self._emissions and owner in (0, me):
-                    alone = ups[0]  # nothing is under way, and one has subscribed
-                else:
-                    self._emissions.append((deque(ups), kind, value))
-                    if owner not in (0, me):
-                        return
-                self._owner = me
-            try:
-                if alone is not None:
-                    up, leaf = alone
-                    if kind == _NEXT:
-                        up.on_next(value)
-                    else:
-                        _tell(up, kind, value)
-                    if leaf.engine.queue:
-                        leaf.engine.serve()
-                if alone is None or self._emissions:
-                    self._go_on(not owner)
-            finally:
-                if not owner:
-                    with self._lock:
-                        if not self._emissions:
-                            self._owner = 0
-                    if self._owner == me:
-                        self._leave(me)
-        finally:
-            thread.depth -= 1
-            if thread.errors:
-                thread.raise_first()
-
-    def _leave(self, me: int) -> None:
-        """The outermost has told all, or was cut off."""
-        while True:
-            with self._lock:
-                if not self._emissions or self._owner != me:
-                    if self._owner == me:
-                        self._owner = 0
-                    return
-            self._go_on(True)
-
-    def _go_on(self, is_outermost: bool) -> None:
-        """Tells what is to be told, oldest first. Who calls this from within goes on with what is under way further out."""
-        emissions, engine = self._emissions, None
-        while True:
-            with self._lock:
-                while emissions and not emissions[0][0]:
-                    emissions.popleft()
-                if not emissions:
-                    if is_outermost:
-                        self._owner = 0
-                    break
-                ups, kind, value = emissions[0]
-                up, leaf = ups.popleft()
-            engine = leaf.engine
-            if not leaf.is_stopped:
-                _tell(up, kind, value)
-            if not ups:
-                engine.serve()
-        if engine is not None:
-            engine.serve()
+    def _on_completed_core(self) -> None:
+        self.is_stopped = True
+        self._end(None)
 
     def dispose(self) -> None:
         """Lets go of all subscribers, and refuses further calls."""
-        with self._lock:
-            self.is_disposed = self.is_stopped = True
-            self._ups.clear()
-            self.exception = None
+        self.is_disposed = self.is_stopped = True
+        self._forget()
+        self.exception = None
+
+    def __del__(self) -> None:
+        """Nobody can tell its subscribers anything any more: those that hear of nothing else go."""
+        solos = self.__dict__.get("_solos")
+        if solos:
+            for root in tuple(solos.values()):
+                root.dispose()
+
+    def __repr__(self) -> str:
+        state = "disposed" if self.is_disposed else "ended" if self.is_stopped else "open"
+        return f"<{type(self).__name__}: {state}, {len(self._ups)} observers>"
+
+
+class BehaviorSubject(Subject[S]):
+    """A subject that tells who comes the latest item first."""
+
+    def __init__(self, value: S) -> None:
+        super().__init__()
+        self._limit: int = 1
+        self._memory: Any = [(None, value)]
+
+    @property
+    def value(self) -> S:
+        """The latest item."""
+        found: S = self._memory[-1][1]
+        return found
+
+    def _join(self, up: Any, leaf: Any) -> bool:
+        if self.is_stopped:
+            return False
+        return bool(super()._join(up, leaf))
+
+    def _on_next_core(self, value: Any) -> None:
+        self._next_kept(value, (None, value))
+
+    def dispose(self) -> None:
+        super().dispose()
+        self._memory = [(None, None)]
+
+
+class ReplaySubject(Subject[S]):
+    """A subject that tells who comes what it told before: at most so many items, and none that is older than the window."""
+
+    def __init__(self, buffer_size: Optional[int] = None, window: Any = None, scheduler: Any = None) -> None:
+        super().__init__()
+        from ..scheduler import CurrentThreadScheduler
+        self.buffer_size = 2**63 - 1 if buffer_size is None else buffer_size
+        self.scheduler = scheduler or CurrentThreadScheduler.singleton()
+        self.window = math.inf if window is None else self.scheduler.to_seconds(window)
+        self._limit = -1 if buffer_size is None else buffer_size
+        self._memory: Any = []
+
+    def _now(self) -> Any:
+        return None if self.window == math.inf else self.scheduler.to_seconds(self.scheduler.now)
+
+    def _trim(self) -> None:
+        if self.window != math.inf:
+            oldest, memory = self._now() - self.window, self._memory
+            while memory and memory[0][0] < oldest:
+                del memory[0]
+
+    def _join(self, up: Any, leaf: Any) -> bool:
+        self._trim()
+        return bool(super()._join(up, leaf))
+
+    def _on_next_core(self, value: Any) -> None:
+        self._trim()
+        self._next_kept(value, (self._now(), value))
+
+    def dispose(self) -> None:
+        super().dispose()
+        del self._memory[:]
+
+
+class AsyncSubject(Subject[S]):
+    """A subject that tells its last item when it completes, and who comes later the same."""
+
+    def __init__(self) -> None:
+        super().__init__()
+        self._last: List[Any] = []
+
+    def _on_next_core(self, value: Any) -> None:
+        self._last = [value]
+
+    def _on_completed_core(self) -> None:
+        self.is_stopped = True
+        for up, _ in tuple(self._ups.values()):
+            self._tell_end(up)
+
+    def _tell_end(self, up: Any) -> None:
+        if self.exception is None:
+            for it in self._last:
+                up.on_next(it)
+        super()._tell_end(up)
+
+    def dispose(self) -> None:
+        super().dispose()
+        self._last = []

@@ -11,65 +11,20 @@ import heapq
 import itertools
 import sys
 from datetime import datetime
-from typing import Any, Callable, List, Optional, Tuple
+from typing import TYPE_CHECKING, Any, Callable, List, Optional, Tuple
 
-from .._observable import Makes, Observable, _create
+from .._observable import Observable, create
+from .._notification import OnCompleted, OnError, OnNext
 from ..disposable import CompositeDisposable, Disposable, SingleAssignmentDisposable
+from ..internal import Missing
 from ..scheduler import Scheduler
 
 
-def __getattr__(name: str) -> Any:
-    if name in ("MockDisposable", "OnErrorPredicate", "OnNextPredicate", "is_prime"):
-        raise NotImplementedError(f"cellarcliff.rx.testing has no {name}: RxPY's own rx.testing drives this package as well")
-    raise AttributeError(f"module {__name__!r} has no attribute {name!r}")
-
-
-class _Notification:
-    kind = ""
-
-    def __eq__(self, other: object) -> bool:
-        return str(self) == str(other)
-
-    def __repr__(self) -> str:
-        return str(self)
-
-    __hash__ = None  # type: ignore[assignment]
-
-
-class OnNext(_Notification):
-    kind, has_value = "N", True
-
-    def __init__(self, value: Any):
-        self.value = value
-
-    def accept(self, observer: Any) -> None:
-        observer.on_next(self.value)
-
-    def __str__(self) -> str:
-        return f"OnNext({self.value})"
-
-
-class OnError(_Notification):
-    kind, has_value = "E", False
-
-    def __init__(self, error: Any):
-        self.exception = error if isinstance(error, Exception) else Exception(error)
-
-    def accept(self, observer: Any) -> None:
-        observer.on_error(self.exception)
-
-    def __str__(self) -> str:
-        return f"OnError({self.exception})"
-
-
-class OnCompleted(_Notification):
-    kind, has_value = "C", False
-
-    def accept(self, observer: Any) -> None:
-        observer.on_completed()
-
-    def __str__(self) -> str:
-        return "OnCompleted()"
+if not TYPE_CHECKING:
+    def __getattr__(name: str) -> Any:
+        if name in ("MockDisposable", "OnErrorPredicate", "OnNextPredicate", "is_prime"):
+            raise Missing(f"cellarcliff.rx.testing has no {name}: RxPY's own rx.testing drives this package as well")
+        raise AttributeError(f"module {__name__!r} has no attribute {name!r}")
 
 
 class Recorded:
@@ -166,6 +121,12 @@ class VirtualTimeScheduler(Scheduler):
         if self._is_enabled:
             return
         self._is_enabled = True
+        try:
+            self._do_until(until)
+        finally:
+            self._is_enabled = False
+
+    def _do_until(self, until: Optional[float]) -> None:
         spinning = 0
         while self._is_enabled and self._queue and (until is None or self._queue[0][0] <= until):
             duetime, _, act = heapq.heappop(self._queue)
@@ -175,7 +136,6 @@ class VirtualTimeScheduler(Scheduler):
                 self.clock, spinning = self.clock + 1, 0
             spinning += 1
             act()
-        self._is_enabled = False
 
     def start(self) -> Any:
         """Does all work, and what that schedules."""
@@ -196,7 +156,14 @@ class VirtualTimeScheduler(Scheduler):
         self.advance_to(self.clock + self.to_seconds(time))
 
 
-class _Recording(Observable):
+class HistoricalScheduler(VirtualTimeScheduler):
+    """The same, of times since 1970."""
+
+    def __init__(self, initial_clock: Any = 0):
+        super().__init__(self.to_seconds(initial_clock))
+
+
+class _Recording(Observable[Any]):
     """An observable that notes from when to when it was subscribed to."""
 
     def __init__(self, scheduler: VirtualTimeScheduler, messages: List[Recorded]):
@@ -215,8 +182,8 @@ class _Recording(Observable):
     def _open(self, at: Any) -> None:
         self._open_with(at, [])
 
-    def _open_with(self, at: Any, makes: Makes) -> bool:
-        _create(self._subscribe_core, at, makes)
+    def _open_with(self, at: Any, makes: Any) -> bool:
+        create(self._subscribe_core, at, makes)
         return True
 
     def _subscribe_core(self, observer: Any, scheduler: Any = None) -> Any:

@@ -4,29 +4,29 @@ from __future__ import annotations
 from datetime import datetime
 from typing import Any
 
-from ..book import LEAF
-from ._engine import NOW, At, Leaf
-from ._observable import Makes, _chained, _Emitter, _Source
-from .disposable import MultipleAssignmentDisposable
-from .scheduler import TimeoutScheduler
+from .._cellar import LEAF
+from .._engine import At, C, Leaf
+from .._functions import chained
+from .._observable import Observable
+from ..disposable import MultipleAssignmentDisposable
+from ..scheduler import TimeoutScheduler
 
 
-class Timer(_Source):
+class Timer(Observable[Any]):
     """Emits 0 when it is due, and with a period 1, 2 and so on; without one it completes."""
 
     def __init__(self, duetime: Any, period: Any, scheduler: Any):
         self._duetime, self._period, self._scheduler = duetime, period, scheduler
 
-    def _open_with(self, at: At, makes: Makes) -> bool:
-        engine, leaf = at.engine, Leaf(at.engine)
-        leaf.key = engine.open(at, LEAF, NOW, leaf.closed)
-        emitter = _Emitter(_chained(makes, leaf), leaf)
+    def _open_with(self, at: At, makes: Any) -> bool:
+        engine, leaf = at.engine, Leaf(at.engine.core)
+        engine.open(at, LEAF, leaf)
+        emitter = C.Emitter(chained(makes, leaf), leaf)
         if not leaf.is_stopped:
-            scheduler = self._scheduler or at.scheduler or TimeoutScheduler.singleton()
-            engine.keep(leaf.key, self._start(scheduler, emitter).dispose)
+            engine.hold(leaf, self._start, self._scheduler or at.scheduler or TimeoutScheduler.singleton(), emitter)
         return True
 
-    def _start(self, scheduler: Any, emitter: _Emitter) -> Any:
+    def _start(self, scheduler: Any, emitter: Any) -> Any:
         def once(*_: Any) -> None:
             emitter.on_next(0)
             emitter.on_completed()

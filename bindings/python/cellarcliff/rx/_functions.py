@@ -1,0 +1,230 @@
+"""Functions on items, which are no nodes.
+
+A chain of them stands at a source, where items go through it on their way into the engine; or at a root, where they go through it
+on their way to the observer; or, in the midst of a tree, in a relay, or at a source that a subscription of its own feeds.
+"""
+from __future__ import annotations
+
+from typing import Any, Callable, List, Sequence, Tuple
+
+from ..book import Refused
+from ._cellar import FLAT, INNER, LEAF, NOTIFIER, PASS, ROOT, SOURCE, UNTIL
+from ._engine import At, C, Leaf, Root
+from ._observable import Observable, open_below, open_root, to_observable
+from ._observer import noop
+
+
+class Stage:
+    """A function on items on their way: told by what is above it, it tells `down`."""
+
+    __slots__ = ("down",)
+
+    def __init__(self, down: Any):
+        self.down = down
+
+    def start(self) -> None:
+        """Before the source is subscribed to."""
+
+    def on_next(self, value: Any) -> None:
+        self.down.on_next(value)
+
+    def on_error(self, error: Exception) -> None:
+        self.down.on_error(error)
+
+    def on_completed(self) -> None:
+        self.down.on_completed()
+
+
+#: What makes stages, the observer's side first: each of what is below it.
+Makes = Sequence[Any]
+
+
+class Make:
+    """Makes a stage that is a function alone: kind 0 maps, 1 filters."""
+
+    __slots__ = ("kind", "function")
+
+    def __init__(self, kind: int, function: Callable[[Any], Any]):
+        self.kind, self.function = kind, function
+
+
+def chained(makes: Makes, down: Any) -> Any:
+    """What the source tells, the functions being listed from the observer's side; the outermost starts first."""
+    at = 0
+    while at < len(makes):
+        end = at
+        while end < len(makes) and type(makes[end]) is Make:
+            end += 1
+        if end > at:
+            run: List[Any] = list(makes[at:end])[::-1]
+            down, at = C.Chain(down, bytes(it.kind for it in run), tuple(it.function for it in run)), end
+        else:
+            down, at = makes[at](down), at + 1
+            down.start()
+    return down
+
+
+#: How a function behaves in the midst of a tree: it tells at most one item for each, and passes ends on as they are; or so, but
+#: it may complete by itself; or it hears of ends.
+PLAIN, ENDING, HEARING = range(3)
+
+
+class Fn(Observable[Any]):
+    """A function on the notes of a source, of which `make` makes a Stage."""
+
+    def __init__(self, source: Any, make: Any, manner: int = HEARING):
+        self._source, self._make, self._manner = to_observable(source), make, manner
+
+    def _below(self) -> Tuple[Any, ...]:
+        return (self._source,)
+
+    def _open_with(self, at: At, makes: Any) -> bool:
+        return False
+
+    def _open(self, at: At) -> None:
+        makes: List[Any] = []
+        manner, core = PLAIN, self  # type: Tuple[int, Observable[Any]]
+        while isinstance(core, Fn):
+            makes.append(core._make)
+            manner, core = max(manner, core._manner), core._source
+        is_hot = core._is_hot
+        if at.root is not None and is_hot:
+            self._at_root(core, at, makes)
+        elif is_hot and any(type(it) is not Make for it in makes):
+            linked(core, at, makes)
+        elif core._open_with(at, makes):
+            pass
+        elif at.root is not None:
+            self._at_root(core, at, makes)
+        elif manner == HEARING:
+            linked(core, at, makes)
+        else:
+            _Relay(core, at, makes, manner == ENDING)
+
+    @staticmethod
+    def _at_root(core: Observable[Any], at: At, makes: Makes) -> None:
+        root = at.root
+        root.head = chained(makes, root)
+        if not root.is_stopped:
+            core._open(at)
+
+
+class _Relay:
+    """Functions in the midst of a tree: a FlatMap whose items go through them, and out of one inner source. So the engine
+    closes all of it in one."""
+
+    __slots__ = ("_engine", "_node", "_inner", "_leaf", "_stop", "_up", "_is_owed", "_node_is")
+
+    def __init__(self, core: Observable[Any], at: At, makes: Makes, is_ending: bool):
+        engine = self._engine = at.engine
+        self._leaf: Any = None
+        self._stop: Any = None  # the notifier that ends the source
+        self._is_owed = False
+        self._node_is = Leaf(engine.core)
+        self._node = engine.open(at, FLAT, self._node_is, self._project)
+        self._inner = at.below(INNER, self._node)
+        below = engine.open(at.below(SOURCE, self._node), UNTIL if is_ending else PASS, self._source_closed)
+        if is_ending:
+            self._stop = Leaf(engine.core)
+            engine.open(at.below(NOTIFIER, below), LEAF, self._stop)
+        self._up = chained(makes, self)
+        open_below(core, at.below(SOURCE, below))
+
+    def _project(self, value: Any) -> None:
+        if self._node_is.is_stopped:
+            return
+        self._is_owed = True
+        try:
+            self._up.on_next(value)
+        except Refused as why:  # it was closed while the item stood in its lane
+            if why.name not in ("Gone", "NothingOwed"):
+                raise
+            return
+        except BaseException:
+            self._engine.decline(self._node)
+            raise
+        if self._is_owed:
+            self._engine.decline(self._node)
+
+    def _source_closed(self) -> None:
+        """The source is closed. If it failed, or something further out closed it, so is all else; what was projected comes first."""
+        if not self._node_is.is_stopped:
+            self._engine.put(self._node, self._over, True)
+
+    def _over(self) -> None:
+        if self._leaf is not None:
+            self._leaf.on_completed()
+
+    # what the last of the functions calls
+
+    def on_next(self, value: Any) -> None:
+        if self._leaf is None:
+            self._leaf = Leaf(self._engine.core)
+            self._engine.open(self._inner, LEAF, self._leaf)
+        else:
+            self._engine.decline(self._node)
+        self._is_owed = False
+        self._leaf.on_next(value)
+
+    def on_error(self, error: Exception) -> None:
+        self._is_owed = False
+        self._engine.fail(self._node, error)
+
+    def on_completed(self) -> None:
+        if self._leaf is not None:
+            self._leaf.on_completed()
+        if self._is_owed:
+            self._is_owed = False
+            self._engine.decline(self._node)
+        self._stop.on_completed()
+
+
+def linked(core: Observable[Any], at: At, makes: Makes) -> None:
+    """A source which a subscription of its own feeds; that goes when the source does."""
+    engine, leaf = at.engine, Leaf(at.engine.core)
+    root = Root(engine.core, noop, noop, noop)
+    leaf.on_closed = root.dispose
+    engine.open(at, LEAF, leaf)
+    root.head = _Last(chained(makes, leaf), root)
+    if not leaf.is_stopped:
+        inner = At(engine, ROOT, None, root, at.scheduler)
+        inner.solo = at.solo
+        C.subscribe(root, open_root, core, inner)
+
+
+class _Last:
+    """Tells the head of a chain, and lets its root go once that has ended."""
+
+    __slots__ = ("_up", "_root", "on_next")
+
+    def __init__(self, up: Any, root: Any):
+        self._up, self._root, self.on_next = up, root, up.on_next
+
+    def on_error(self, error: Exception) -> None:
+        self._root.dispose()
+        C.finish(self._root)  # what it held is released before anything takes its place
+        self._up.on_error(error)
+
+    def on_completed(self) -> None:
+        self._root.dispose()
+        C.finish(self._root)
+        self._up.on_completed()
+
+
+class Indexed:
+    """For each subscription a function of its own, with a count."""
+
+    __slots__ = ("_function",)
+
+    def __init__(self, function: Callable[[Any, int], Any]):
+        self._function = function
+
+    def __call__(self) -> Callable[[Any], Any]:
+        count, function = -1, self._function
+
+        def call(value: Any) -> Any:
+            nonlocal count
+            count += 1
+            return function(value, count)
+        return call
+

@@ -1,0 +1,140 @@
+"""An operator that has subscriptions of its own: one leaf of the engine, and roots that feed it.
+
+All of its roots, and the calls that its timers make, stand in one lane: so what it does is done one thing at a time and in
+order, with no lock. When the leaf goes the roots go, and with them what they hold.
+"""
+from __future__ import annotations
+
+from typing import Any, Callable, Dict, Optional, Tuple
+
+from ._cellar import LEAF, ROOT
+from ._engine import LANE_OF_NODE, At, C, Leaf, Root
+from ._functions import chained
+from ._observable import Observable, open_root, to_observable
+from ._observer import noop
+
+Call = Callable[..., Any]
+
+
+class Link:
+    """What an operator's function is given: what it tells goes to the observer."""
+
+    __slots__ = ("engine", "scheduler", "leaf", "up", "on_next", "_keeper", "_roots", "_target")
+
+    def __init__(self, at: At, makes: Any):
+        self.engine, self.scheduler = at.engine, at.scheduler
+        self.leaf = leaf = Leaf(at.engine.core)
+        self._roots: Dict[Any, None] = {}
+        leaf.on_closed = self._closed
+        self.engine.open(at, LEAF, leaf)
+        self._keeper = Root(at.engine.core, noop, noop, noop)
+        self.engine.open(At(at.engine, ROOT, None, self._keeper, None), LEAF)
+        self.up = chained(makes, leaf)
+        self.on_next = self.up.on_next
+
+    def _closed(self) -> None:
+        roots, self._roots = self._roots, {}
+        for it in (*reversed(tuple(roots)), self._keeper):
+            it.dispose()
+
+    # what is told
+
+    @property
+    def is_stopped(self) -> bool:
+        """Whether nobody is told anything any more."""
+        return bool(self.leaf.is_stopped)
+
+    @property
+    def is_over(self) -> bool:
+        """Whether it hears of nothing any more."""
+        return bool(self.leaf.is_stopped)
+
+    def on_error(self, error: Exception) -> None:
+        self.up.on_error(error)
+
+    def on_completed(self) -> None:
+        self.up.on_completed()
+
+    # what it hears of
+
+    def subscribe(self, source: Any, on_next: Optional[Call] = None, on_error: Optional[Call] = None, on_completed: Optional[Call] = None,
+                  scheduler: Any = None) -> Any:
+        """Subscribes to an observable: what it tells is heard in the operator's lane, and an error ends the operator unless it is
+        heard. Answers the subscription, which has a `dispose`."""
+        roots = self._roots
+
+        def failed(error: Exception) -> None:
+            roots.pop(root, None)
+            self.later(lambda: (on_error or self.on_error)(error))  # behind what it releases
+
+        def completed() -> None:
+            roots.pop(root, None)
+            self.later(on_completed or self.on_completed)
+        root = Root(self.engine.core, on_next or self.on_next, failed, completed)
+        if self.is_over:
+            root.is_stopped = root.is_over = True
+            return root
+        roots = self._roots
+        roots[root] = None
+        at = At(self.engine, ROOT, self._keeper, root, scheduler or self.scheduler, flags=LANE_OF_NODE)
+        try:
+            C.subscribe(root, open_root, to_observable(source), at)
+        except Exception as error:
+            roots.pop(root, None)
+            self.on_error(error)
+        return root
+
+    def drop(self, root: Any) -> None:
+        """Disposes of a subscription, and forgets it."""
+        self._roots.pop(root, None)
+        root.dispose()
+
+    def later(self, call: Call) -> None:
+        """Calls this in the operator's lane, behind what is there: so also behind what is released."""
+        if not self.is_over:
+            self.engine.put(self._keeper, call)
+
+    def follow(self, call: Call) -> None:
+        """Calls this once all that the commands under way released is released: for what takes the place of something."""
+        def act() -> None:
+            C.settle()
+            call()
+        self.later(act)
+
+    def hold(self, disposable: Any) -> Any:
+        """Something that is disposed of when the operator goes."""
+        return self.engine.hold(self._keeper, lambda: disposable)
+
+    def schedule(self, scheduler: Any, due: Any, call: Call) -> Any:
+        """Calls this in the operator's lane, at once by the scheduler or after so long: a disposable."""
+        def action(*_: Any) -> None:
+            C.call(self.later, call)
+        return scheduler.schedule(action) if due is None else scheduler.schedule_relative(due, action)
+
+    def behind(self, call: Call) -> None:
+        """Calls this behind what was told."""
+        if not self.leaf.is_stopped:
+            self.engine.put(self.leaf, call)
+
+
+class Linked(Observable[Any]):
+    """An operator that is a function of its link."""
+
+    __slots__ = ("_run", "_sources", "_name")
+
+    def __init__(self, run: Callable[[Link], Any], *sources: Any, name: str = ""):
+        self._run, self._sources, self._name = run, sources, name
+
+    def _below(self) -> Tuple[Any, ...]:
+        return tuple(it for it in self._sources if isinstance(it, Observable))
+
+    def _open_with(self, at: At, makes: Any) -> bool:
+        link = Link(at, makes)
+        if not link.is_stopped:
+            try:
+                self._run(link)
+            except Exception as error:
+                if link.is_stopped:
+                    raise
+                link.on_error(error)
+        return True

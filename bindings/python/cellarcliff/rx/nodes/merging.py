@@ -1,0 +1,70 @@
+"""flat_map(), flat_map_latest() and their like, and defer()."""
+from __future__ import annotations
+
+from typing import Any, Callable, Tuple
+
+from ...book import Refused
+from .._cellar import FLAT, INNER, PASS, SOURCE, SWITCH
+from .._engine import At, C, Leaf
+from .._observable import Observable, open_below, to_observable
+from ..sources import Throw
+
+
+class Merging(Observable[Any]):
+    """FlatMap, or Switch where `is_switch`: each item of the source becomes an observable."""
+
+    def __init__(self, source: Any, mapper: Callable[[Any], Any], is_switch: bool):
+        self._source, self._mapper, self._is_switch = to_observable(source), mapper, is_switch
+
+    def _below(self) -> Tuple[Any, ...]:
+        return (self._source,)
+
+    def _open_with(self, at: At, makes: Any) -> bool:
+        return False
+
+    def _open(self, at: At) -> None:
+        engine, mapper, is_switch = at.engine, self._mapper, self._is_switch
+        # whether it is closed: an item may stand in its lane meanwhile, and is not projected then
+        node_is = Leaf(engine.core)
+
+        def opens(value: Any) -> None:
+            observable = to_observable(mapper(value))
+            if node_is.is_stopped:
+                return
+            at = At(engine, INNER, node, None, scheduler, is_switch, top)
+            C.projected(observable._open, at)
+
+        def project(value: Any) -> None:
+            if node_is.is_stopped:
+                return
+            try:
+                opens(value)
+            except Refused as why:
+                if why.name not in ("Gone", "NothingOwed"):
+                    engine.fail(node, why)
+            except Exception as error:
+                engine.fail(node, error)
+            except BaseException:
+                engine.decline(node)
+                raise
+        scheduler, top = at.scheduler, at.top
+        node = engine.open(at, SWITCH if is_switch else FLAT, node_is, project)
+        open_below(self._source, at.below(SOURCE, node))
+
+
+class Defer(Observable[Any]):
+    """defer()."""
+
+    def __init__(self, factory: Callable[[Any], Any]):
+        self._factory = factory
+
+    def _open_with(self, at: At, makes: Any) -> bool:
+        return False
+
+    def _open(self, at: At) -> None:
+        node = at.engine.open(at, PASS)
+        try:
+            source = self._factory(at.scheduler)
+        except Exception as error:
+            source = Throw(error, None)
+        open_below(source, at.inside(node))

@@ -1,0 +1,142 @@
+"""publish(), ref_count(), share(): a hub of the engine."""
+from __future__ import annotations
+
+from itertools import count
+from typing import Any, List
+
+from .._cellar import PUBLISHED, SHARED, SOURCE, UNKNOWN_HUB
+from .._engine import At, C, Engine, current
+from .._functions import linked
+from .._observable import Observable, open_below, to_observable
+from ..disposable import CompositeDisposable, Disposable
+from ..nodes import Defer, Merging, Using
+
+_words = count(1)
+
+
+class _Share:
+    """A source that a hub shares, which the engine gives it for as long as it has a subscriber or is connected."""
+
+    def __init__(self, source: Observable[Any], kind: int):
+        self.source, self.kind, self.word = source, kind, next(_words)
+        self.hub = UNKNOWN_HUB  # the last that it had
+        self.connection: Any = None
+
+    def open(self, at: At) -> bool:
+        """Opens a subscriber; False where the order of hubs forbids it there."""
+        status, connection = at.engine.share(at, self, level(self.source))
+        if connection is not None:
+            open_below(self.source, At(at.engine, SOURCE, connection, None, at.scheduler))
+        return not status
+
+    def _closed(self) -> None:
+        self.connection = None
+
+    def connect(self, engine: Engine, scheduler: Any) -> Any:
+        """The connection, which is made if there is none."""
+        connection = engine.connect(self, level(self.source), self._closed)
+        if connection is None:
+            return self.connection
+        C.trampolined(open_below, self.source, At(engine, SOURCE, connection, None, scheduler))
+        return connection
+
+    def disconnect(self, engine: Engine, connection: Any) -> None:
+        if self.connection is connection:
+            engine.disconnect(self)
+
+
+def level(observable: Observable[Any]) -> int:
+    """How many shares stand one below another, as far as can be seen; a mapper may make more."""
+    if isinstance(observable, (RefCount, Published)):
+        return 1 + level(observable._share.source)
+    least = 3 if isinstance(observable, (Merging, Using, Defer)) else 0
+    return max([least, *map(level, observable._below())])
+
+
+class ConnectableObservable(Observable[Any]):
+    """An observable that can be connected and disconnected: of a source and a subject, through which its items go."""
+
+    def __init__(self, source: Any, subject: Any):
+        self.source, self.subject = to_observable(source), subject
+        self._subscription: Any = None
+
+    def _below(self) -> Any:
+        return (self.source,)
+
+    def _open_with(self, at: At, makes: Any) -> bool:
+        return to_observable(self.subject)._open_with(at, makes)
+
+    def connect(self, scheduler: Any = None) -> Any:
+        """Subscribes the subject to the source, if it is not subscribed."""
+        if self._subscription is None:
+            def forget() -> None:
+                self._subscription = None
+            whole = CompositeDisposable(Disposable(forget))
+            self._subscription = whole
+            whole.add(self.source.subscribe(self.subject, scheduler=scheduler))
+            return whole
+        return self._subscription
+
+    def auto_connect(self, subscriber_count: int = 1) -> Observable[Any]:
+        """An observable that connects this one with so many subscribers, and never disconnects it."""
+        from ..sources import Created
+        many: List[int] = [0]
+        connection: List[Any] = []
+        if subscriber_count == 0:
+            connection.append(self.connect())
+
+        def subscribe(observer: Any, scheduler: Any = None) -> Any:
+            many[0] += 1
+            is_due = many[0] == subscriber_count and not connection
+            subscription = self.subscribe(observer, scheduler=scheduler)
+            if is_due:
+                connection.append(self.connect(scheduler))
+
+            def dispose() -> None:
+                subscription.dispose()
+                many[0] -= 1
+                if not many[0] and subscriber_count:
+                    connection.clear()
+            return Disposable(dispose)
+        return Created(subscribe)
+
+
+class Published(ConnectableObservable):
+    """publish(): a hub that is connected by hand."""
+
+    def __init__(self, source: Any):
+        self.source = to_observable(source)
+        self._share = _Share(self.source, PUBLISHED)
+        self._connected: List[Any] = [None, None]
+
+    def _open_with(self, at: At, makes: Any) -> bool:
+        return False
+
+    def _open(self, at: At) -> None:
+        if not self._share.open(at):
+            linked(self, at, [])
+
+    def connect(self, scheduler: Any = None) -> Any:
+        """Connects it to its source, if it is not connected. Answers the disposable that disconnects it."""
+        engine = current()
+        connection = C.call(self._share.connect, engine, scheduler)
+        if connection is None or connection is not self._connected[0]:
+            self._connected[:] = connection, Disposable(lambda: C.call(self._share.disconnect, engine, connection))
+        return self._connected[1]
+
+
+class RefCount(Observable[Any]):
+    """ref_count(): a hub that is connected while it has subscribers."""
+
+    def __init__(self, source: Any):
+        self._share = _Share(to_observable(source), SHARED)
+
+    def _below(self) -> Any:
+        return (self._share.source,)
+
+    def _open_with(self, at: At, makes: Any) -> bool:
+        return False
+
+    def _open(self, at: At) -> None:
+        if not self._share.open(at):
+            linked(self, at, [])

@@ -1,0 +1,1436 @@
+/* The engine for cellarcliff/rx: commands, the serving of lanes, and the usual way of an item, with no bytecode between what has to
+ * stand together. Without this file rx/_crossing.py does the same in Python, by ctypes.
+ *
+ * A word of the engine is the address of an object, to which the engine has one reference for each time that it will give the word
+ * back. The GIL is the lock: nothing of Python runs between a command and the taking in of its answer, which stands on the stack of the
+ * call. Whatever the user wrote is called with nothing locked but the lane that is served. An interrupt comes between two
+ * bytecodes, so in what is called from here and never here: what was taken was told, or is given back.
+ *
+ * It is on Python's limited interface, one file for every Python from 3.10 on, and is linked with nothing: the addresses of the library's
+ * calls are given to `bind`. */
+#define PY_SSIZE_T_CLEAN
+#define Py_LIMITED_API 0x030A0000
+#include <Python.h>
+#include <stddef.h>
+#include <structmember.h>
+
+#include "cellarcliff.h"
+
+#define CALL1(f, x) PyObject_CallFunctionObjArgs(f, x, NULL)
+#define CALL0(f) PyObject_CallFunctionObjArgs(f, NULL)
+#define ITEM PyTuple_GetItem
+#define MANY PyTuple_Size
+#define FAST(f) ((PyCFunction)(void (*)(void))(f))
+
+/* The calls, in the order of `_CALLS` in _crossing.py. */
+static struct {
+  uint32_t (*abi)(void);
+  uint32_t (*size)(uint32_t);
+  uint8_t (*begin)(struct cellar *, uint32_t);
+  uint8_t (*make)(struct cellar *, const struct cellar_command *, struct cellar_answer *);
+  uint8_t (*take)(struct cellar *, uint64_t, uint64_t, struct cellar_effect *, uint64_t *);
+  uint8_t (*give_up)(struct cellar *, uint64_t, uint64_t, const struct cellar_effect *, uint64_t, uint64_t *);
+  uint8_t (*left)(struct cellar *, uint64_t, uint64_t *, uint64_t *);
+  uint8_t (*rest)(struct cellar *, uint8_t, uint64_t, uint64_t *, size_t, uint64_t *);
+  uint8_t (*totals)(struct cellar *, struct cellar_totals *);
+  uint8_t (*event)(struct cellar *, uint64_t, struct cellar_event *);
+  uint8_t (*dump)(struct cellar *, uint8_t *, size_t, uint64_t *);
+  uint8_t (*finish)(struct cellar *);
+  void (*drop)(struct cellar *);
+} calls;
+
+typedef struct {
+  PyObject_HEAD
+  struct cellar_node node;
+} Key;
+
+typedef struct {
+  PyObject_HEAD
+  struct cellar engine;
+  uint64_t *closed;                   /* a ring: words of nodes that closed and did not hear of it yet */
+  size_t room, first, many, wishes;   /* its size, a power of two, is at least `wishes`: nodes that are to hear of it */
+  int64_t kept;                       /* how many references the engine has */
+  unsigned generation;                /* a child of a fork has no part in an engine of its parent */
+  char is_left;                       /* an interrupt may have left lanes that nobody serves */
+} Core;
+
+typedef struct {
+  PyObject_HEAD
+  Core *core;
+  struct cellar_node node;
+  PyObject *head, *on_next, *on_error, *on_completed; /* head: the first of the functions through which its notes go, or NULL */
+  PyObject *target;                                   /* what an item is told to: `on_next` of the head, where there is one */
+  struct Leaf *into;                                  /* whose `on_next` the root's is, or NULL */
+  PyObject *references;                               /* weak ones */
+  char is_keyed, is_stopped, is_over;
+} Root;
+
+typedef struct Subject Subject;
+
+typedef struct Leaf {
+  PyObject_HEAD
+  Core *core;
+  struct cellar_node node;
+  Subject *owner;      /* not held: a subject that goes sets it to NULL */
+  PyObject *on_closed; /* what is called once the node has closed, or NULL */
+  char is_keyed, is_stopped;
+} Leaf;
+
+typedef struct {
+  PyObject_HEAD
+  PyObject *down, *down_next, *steps; /* steps: functions, of each a kind: 0 map, 1 filter */
+  Leaf *leaf;                         /* down, where that is a leaf */
+  Py_ssize_t many;
+  char *kinds;
+} Chain;
+
+struct Subject {
+  PyObject_HEAD
+  PyObject *ups, *all;        /* by leaf, what it is told by; and the values of that, until they change */
+  PyObject *memory;           /* a list of (time, item) for who comes later, or NULL */
+  Py_ssize_t limit;           /* how many it has, or -1 */
+  char is_stopped, is_disposed;
+};
+
+typedef struct {
+  PyObject_HEAD
+  PyObject *up;
+  Leaf *leaf;
+} Emitter;
+
+static PyTypeObject *key_type, *root_type, *leaf_type, *chain_type, *subject_type;
+static PyObject *s_on_next, *s_on_error, *s_on_completed, *s_dispose, *s_check, *s_hub, *s_word, *s_connection;
+static PyObject *refuse, *unhandled; /* what a status is raised by, and what hears of an error that nobody raises */
+static unsigned generation;
+
+/* This thread: how deep it is in calls of the package, what was raised meanwhile, which lane it serves, the innermost, and what
+ * sources put off: till the call further out goes on, or behind what that lane projects. */
+static _Thread_local struct Mine {
+  int depth, is_closing, has_lane;
+  uint64_t lane;
+  PyObject *errors, *trampoline, *put_off;
+  struct Lanes *due;
+} mine;
+
+static PyObject *word(uint64_t it) { return (PyObject *)(uintptr_t)it; }
+static uint64_t me(void) { return PyThread_get_thread_ident(); }
+static PyObject *new_of(PyObject *it) {
+  Py_INCREF(it);
+  return it;
+}
+static int is_a(PyObject *it, PyTypeObject *type) { return Py_TYPE(it) == type || PyType_IsSubtype(Py_TYPE(it), type); }
+static int number(PyObject *value, uint64_t *to) {
+  *to = PyLong_AsUnsignedLongLong(value);
+  return !(*to == (uint64_t)-1 && PyErr_Occurred());
+}
+static int plain(PyObject *answer) {
+  Py_XDECREF(answer);
+  return answer ? 0 : -1;
+}
+static void keep(Core *core, PyObject *it, uint64_t times) {
+  for (core->kept += (int64_t)times; times; times--) Py_INCREF(it);
+}
+/* Gives a reference back; what was raised stays so. */
+static void let_go(Core *core, PyObject *it) {
+  PyObject *type, *value, *trace;
+  core->kept--;
+  PyErr_Fetch(&type, &value, &trace);
+  Py_DECREF(it);
+  PyErr_Restore(type, value, trace);
+}
+static int refused(uint8_t status) {
+  if (status == CELLAR_NO_MEMORY) return PyErr_NoMemory(), -1;
+  return plain(PyObject_CallFunction(refuse, "i", status));
+}
+
+/* What is raised ---------------------------------------------------------------------------------------------------------------*/
+
+static void to_hook(PyObject *error) {
+  if (plain(CALL1(unhandled, error))) PyErr_WriteUnraisable(unhandled);
+}
+/* The exception that is raised, taken away: a new reference. */
+static PyObject *caught_one(void) {
+  PyObject *type, *error, *trace;
+  PyErr_Fetch(&type, &error, &trace);
+  PyErr_NormalizeException(&type, &error, &trace);
+  if (trace) PyException_SetTraceback(error, trace);
+  Py_XDECREF(type);
+  Py_XDECREF(trace);
+  return error;
+}
+static void raise_again(PyObject *error) {
+  PyErr_Restore(new_of((PyObject *)Py_TYPE(error)), error, PyException_GetTraceback(error));
+}
+/* What an observer or a release raised: the thread that emitted raises it, if it is this one; else the hook hears it. -1 where it is
+ * no Exception, and goes on. */
+static int caught(uint64_t by) {
+  if (!PyErr_ExceptionMatches(PyExc_Exception)) return -1;
+  PyObject *error = caught_one();
+  int is_mine = by == me() && mine.depth;
+  if (is_mine && !mine.errors) mine.errors = PyList_New(0);
+  if (!is_mine || !mine.errors || PyList_Append(mine.errors, error)) {
+    PyErr_Clear();
+    to_hook(error);
+  }
+  Py_DECREF(error);
+  return 0;
+}
+static void enter(void) { mine.depth++; }
+/* The end of a call. The outermost raises the first of what observers and releases raised, unless something is raised already, or the
+ * caller needs the answer. */
+static int leave(int failed, int is_quiet) {
+  if (--mine.depth || !mine.errors) return failed;
+  PyObject *errors = mine.errors, *first = failed ? caught_one() : NULL;
+  mine.errors = NULL;
+  for (Py_ssize_t i = 0; i < PyList_Size(errors); i++) {
+    PyObject *it = PyList_GetItem(errors, i);
+    if (first || is_quiet) to_hook(it);
+    else first = new_of(it);
+  }
+  Py_DECREF(errors);
+  if (!first) return failed;
+  raise_again(first);
+  return -1;
+}
+
+/* Commands ---------------------------------------------------------------------------------------------------------------------*/
+
+/* Room for one more that is to hear of its closing. */
+static int reserve(Core *core) {
+  if (core->wishes < core->room) return 0;
+  size_t room = core->room ? 2 * core->room : 64;
+  uint64_t *all = PyMem_Malloc(room * sizeof *all);
+  if (!all) return PyErr_NoMemory(), -1;
+  for (size_t i = 0; i < core->many; i++) all[i] = core->closed[(core->first + i) & (core->room - 1)];
+  PyMem_Free(core->closed);
+  core->closed = all, core->room = room, core->first = 0;
+  return 0;
+}
+static void put_closed(Core *core, uint64_t it) {
+  PyObject *close = ITEM(word(it), 1);
+  if (is_a(close, leaf_type)) ((Leaf *)close)->is_stopped = 1;
+  core->closed[(core->first + core->many++) & (core->room - 1)] = it;
+}
+/* Makes a command, and takes in what it closed: the status. */
+static uint8_t command(Core *core, struct cellar_command *c, struct cellar_answer *a, PyObject *value) {
+  if (core->generation != generation) return CELLAR_GONE;
+  c->by = me();
+  uint8_t status = calls.make(&core->engine, c, a);
+  if (status) return status;
+  if (value && a->copies) keep(core, value, a->copies);
+  for (uint64_t i = 0; i < a->closed && i < CELLAR_ROOM; i++) put_closed(core, a->closings[i]);
+  for (uint64_t at = CELLAR_ROOM, count; at < a->closed; at += count) {
+    uint64_t more[64];
+    calls.rest(&core->engine, 0, at, more, 64, &count);
+    for (uint64_t i = 0; i < count; i++) put_closed(core, more[i]);
+  }
+  return 0;
+}
+
+/* Lanes that are to be served. Where there is no memory for all of them, they are found as what is left. */
+typedef struct Lanes {
+  uint64_t here[2 * CELLAR_ROOM], *all;
+  size_t at, many, room; /* those from `at` on are not served yet */
+  Core *core;
+  struct Lanes *outer;   /* those of the command further out of this thread */
+} Lanes;
+static void lanes_begin(Lanes *it, Core *core) { it->all = it->here, it->at = it->many = 0, it->room = 2 * CELLAR_ROOM, it->core = core; }
+static void lanes_end(Lanes *it) {
+  if (it->all != it->here) PyMem_Free(it->all);
+}
+static void lanes_add(Lanes *it, Core *core, const struct cellar_answer *a) {
+  if (it->many + a->due > it->room) {
+    size_t room = 2 * (it->many + a->due);
+    uint64_t *all = PyMem_Malloc(room * sizeof *all);
+    if (!all) {
+      core->is_left = 1;
+      return;
+    }
+    memcpy(all, it->all, it->many * sizeof *all);
+    lanes_end(it);
+    it->all = all, it->room = room;
+  }
+  uint64_t here = a->due < CELLAR_ROOM ? a->due : CELLAR_ROOM, count;
+  memcpy(it->all + it->many, a->lanes, here * sizeof *it->all);
+  if (a->due > here) calls.rest(&core->engine, 1, here, it->all + it->many + here, a->due - here, &count);
+  it->many += a->due;
+}
+
+/* Serving ----------------------------------------------------------------------------------------------------------------------*/
+
+static int chain_tell(Chain *, PyObject *);
+static int emit(Leaf *, PyObject *);
+static int root_dispose(Root *);
+
+static int dispose_and_go_on(Root *root) {
+  PyObject *error = caught_one();
+  if (root_dispose(root)) {
+    Py_DECREF(error);
+    return -1;
+  }
+  raise_again(error);
+  return -1;
+}
+/* Tells a root an item. What it raises disposes of it, and is raised. */
+static int root_tell(Root *root, PyObject *value) {
+  if (root->is_stopped) return 0;
+  int status;
+  PyObject *target;
+  if (root->head && Py_TYPE(root->head) == chain_type) {
+    target = new_of(root->head);
+    status = chain_tell((Chain *)target, value);
+  } else if (!root->head && root->into) {
+    target = new_of((PyObject *)root->into);
+    status = emit((Leaf *)target, value);
+  } else {
+    target = new_of(root->target ? root->target : root->on_next);
+    status = plain(CALL1(target, value));
+  }
+  Py_DECREF(target);
+  return status ? dispose_and_go_on(root) : 0;
+}
+/* The observer hears an end, unless it is stopped; then nothing of it stays. */
+static int root_end(Root *root, PyObject *error) {
+  if (root->is_stopped) return 0;
+  root->is_stopped = 1;
+  PyObject *call = new_of(error ? root->on_error : root->on_completed);
+  int status = plain(error ? CALL1(call, error) : CALL0(call));
+  Py_DECREF(call);
+  return status ? dispose_and_go_on(root) : root_dispose(root);
+}
+static int root_ended(Root *root, PyObject *error) {
+  root->is_over = 1;
+  if (root->is_stopped) return 0;
+  if (!root->head) return root_end(root, error);
+  PyObject *head = new_of(root->head);
+  int status = plain(PyObject_CallMethodObjArgs(head, error ? s_on_error : s_on_completed, error, NULL));
+  Py_DECREF(head);
+  return status;
+}
+/* A resource: a callable, or one in a tuple whose `dispose` is called. */
+static int release(PyObject *tag) {
+  return plain(PyTuple_Check(tag) ? PyObject_CallMethodObjArgs(ITEM(tag, 0), s_dispose, NULL) : CALL0(tag));
+}
+/* Does what an effect says. */
+static int tell(Core *core, const struct cellar_effect *e, PyObject *value) {
+  PyObject *user = word(e->user);
+  int status = 0;
+  Py_INCREF(user);
+  switch (e->kind) {
+    case CELLAR_E_NEXT: status = root_tell((Root *)ITEM(user, 0), value); break;
+    case CELLAR_E_PROJECT: status = plain(CALL1(ITEM(user, 2), value)); break;
+    case CELLAR_E_COMPLETED: status = root_ended((Root *)ITEM(user, 0), NULL); break;
+    case CELLAR_E_FAILED: status = root_ended((Root *)ITEM(user, 0), value); break;
+    case CELLAR_E_GONE: ((Root *)ITEM(user, 0))->is_over = ((Root *)ITEM(user, 0))->is_stopped = 1; break;
+    case CELLAR_E_RELEASE: status = release(user); break;
+    case CELLAR_E_PUT: status = plain(CALL0(ITEM(user, 0))); break;
+  }
+  if (!status && (e->kind == CELLAR_E_NEXT || e->kind == CELLAR_E_PROJECT)) Py_DECREF(user); /* the usual way: nothing is raised */
+  else {
+    let_go(core, user);
+    core->kept++;
+    if (e->kind != CELLAR_E_NEXT && e->kind != CELLAR_E_PROJECT) let_go(core, user);
+  }
+  if (e->carries && value) let_go(core, value);
+  return status;
+}
+static int is_some(PyObject *queue) { return queue && PyList_Size(queue) > 0; }
+static PyObject *pop(PyObject *queue) {
+  PyObject *it = new_of(PyList_GetItem(queue, 0));
+  if (PyList_SetSlice(queue, 0, 1, NULL)) Py_CLEAR(it);
+  return it;
+}
+/* Does the first of what was put off; what that puts off comes behind it. */
+static int go_on(PyObject *queue) {
+  PyObject *before = mine.trampoline, *it = pop(queue);
+  if (!it) return -1;
+  mine.trampoline = queue;
+  int status = plain(CALL0(it));
+  mine.trampoline = before;
+  Py_DECREF(it);
+  return status;
+}
+/* Serves a lane until it has nothing, or another is at it: 0, or -1 where what is no Exception goes on. */
+static int serve(Core *core, uint64_t lane, struct cellar_effect *e, PyObject *value, int has, uint64_t by) {
+  struct Mine *here = &mine;
+  uint64_t of = by, many, before = here->lane, unused;
+  PyObject *put_off = here->put_off;
+  int status = 0, had = here->has_lane;
+  here->lane = lane, here->has_lane = 1, here->put_off = NULL;
+  for (;; has = 0) {
+    if (!has && is_some(here->put_off)) status = go_on(here->put_off);
+    else {
+      if (!has) {
+        if (core->generation != generation) break;
+        calls.take(&core->engine, lane, by, e, &many);
+        if (!many) break;
+        value = e->carries && e->value ? word(e->value) : NULL;
+      }
+      of = e->by;
+      status = tell(core, e, value);
+    }
+    if (status && (status = caught(of))) {
+      if (!(lane & CELLAR_INSIDE) && core->generation == generation) calls.give_up(&core->engine, lane, by, e, 0, &unused);
+      core->is_left = 1;
+      break;
+    }
+  }
+  Py_XDECREF(here->put_off);
+  here->lane = before, here->has_lane = had, here->put_off = put_off;
+  return status;
+}
+/* Tells those that closed, the first first: only the outermost does, so that nothing recurses. */
+static int hear_closed(Core *core) {
+  int status = 0;
+  if (mine.is_closing) return 0;
+  mine.is_closing = 1;
+  while (!status && core->many) {
+    PyObject *it = word(core->closed[core->first]), *close = ITEM(it, 1);
+    core->first = (core->first + 1) & (core->room - 1);
+    core->many--, core->wishes--;
+    if (is_a(close, leaf_type)) {
+      Subject *owner = ((Leaf *)close)->owner;
+      if (owner) {
+        ((Leaf *)close)->owner = NULL;
+        Py_CLEAR(owner->all);
+        if (PyDict_DelItem(owner->ups, close)) PyErr_Clear();
+      }
+      PyObject *call = ((Leaf *)close)->on_closed;
+      ((Leaf *)close)->on_closed = NULL;
+      if (call && plain(CALL0(call))) status = caught(me());
+      Py_XDECREF(call);
+    } else if (plain(CALL0(close))) status = caught(me());
+    let_go(core, it);
+  }
+  mine.is_closing = 0;
+  return status;
+}
+static int serve_left(Core *core) {
+  uint64_t from = 0, lane;
+  struct cellar_effect e;
+  if (!core->is_left || core->generation != generation) return 0;
+  core->is_left = 0;
+  if (hear_closed(core)) return core->is_left = 1, -1;
+  for (;;) {
+    if (calls.left(&core->engine, from, &lane, &from) || lane == UINT64_MAX) return 0;
+    if (serve(core, lane, &e, NULL, 0, me())) return -1;
+  }
+}
+/* An effect that was handed out and not told stands first in its lane again, which others may serve. */
+static void give_back(Core *core, uint64_t lane, uint64_t by, struct cellar_effect *handed) {
+  uint64_t unused;
+  calls.give_up(&core->engine, lane & ~CELLAR_INSIDE, by, handed, 1, &unused);
+  core->is_left = 1;
+}
+/* All that comes of one or more commands: closings, then each lane, of whose first `handed` was taken already, or is NULL. Where
+ * `is_exchange` what stands in the place of something stands where it does: whatever is projected from now on comes behind it, and need
+ * not wait. */
+static int come_of(Core *core, Lanes *lanes, int is_exchange, struct cellar_effect *handed, PyObject *value) {
+  int status = 0;
+  uint64_t unused, by = me(), lane = lanes->here[0];
+  struct cellar_effect e;
+  if (is_exchange && mine.has_lane && !(mine.lane & CELLAR_INSIDE)) calls.give_up(&core->engine, mine.lane, by, &e, 0, &unused);
+  lanes->outer = mine.due, mine.due = lanes;
+  if (core->many) status = hear_closed(core);
+  if (handed && (status || !lanes->many)) give_back(core, lane, by, handed);
+  for (; !status && lanes->at < lanes->many; handed = NULL)
+    status = handed ? serve(core, lanes->all[lanes->at++], handed, value, 1, by) : serve(core, lanes->all[lanes->at++], &e, NULL, 0, by);
+  mine.due = lanes->outer;
+  if (status) core->is_left = 1;
+  return status;
+}
+/* The same of one answer. */
+static int settle(Core *core, struct cellar_answer *a, PyObject *value, int is_exchange) {
+  struct cellar_effect *handed = a->handed ? &a->effect : NULL;
+  if (handed && a->due == 1 && !core->many) return serve(core, a->lanes[0], handed, value, 1, me());
+  if (!a->due && !core->many && !is_exchange) return 0;
+  Lanes lanes;
+  lanes_begin(&lanes, core);
+  lanes_add(&lanes, core, a);
+  lanes.here[0] = a->lanes[0];
+  int status = come_of(core, &lanes, is_exchange, handed, value);
+  lanes_end(&lanes);
+  return status;
+}
+
+/* Leaves, functions, emitters --------------------------------------------------------------------------------------------------*/
+
+/* An item into the engine by one leaf, and to whoever is to hear it. The caller holds the value. */
+static int emit(Leaf *leaf, PyObject *value) {
+  if (leaf->is_stopped) return 0;
+  Core *core = leaf->core;
+  struct cellar_command c = {.what = CELLAR_NEXT, .node = leaf->node, .value = (uintptr_t)value};
+  struct cellar_answer a;
+  uint8_t status = command(core, &c, &a, NULL);
+  if (status == CELLAR_GONE) return leaf->is_stopped = 1, 0;
+  if (status) return refused(status);
+  if (a.handed && a.due == 1 && !core->many) { /* it is told while the caller holds it: no reference is taken */
+    a.effect.carries = 0;
+    return serve(core, a.lanes[0], &a.effect, value, 1, c.by);
+  }
+  keep(core, value, a.copies);
+  return settle(core, &a, value, 0);
+}
+/* The leaf completes, or fails. */
+static int end_leaf(Leaf *leaf, PyObject *error) {
+  if (leaf->is_stopped) return 0;
+  leaf->is_stopped = 1;
+  struct cellar_command c = {.what = error ? CELLAR_ERROR : CELLAR_COMPLETE, .node = leaf->node, .value = (uintptr_t)error};
+  struct cellar_answer a;
+  uint8_t status = command(leaf->core, &c, &a, error);
+  if (status) return status == CELLAR_GONE ? 0 : refused(status);
+  return settle(leaf->core, &a, error, 0);
+}
+/* An item through functions: a new reference to what comes out; NULL where nothing does, with `failed` -1 where that is raised. */
+static PyObject *through(Chain *chain, PyObject *value, int *failed) {
+  *failed = 0;
+  Py_INCREF(value);
+  for (Py_ssize_t i = 0; i < chain->many; i++) {
+    PyObject *answer = CALL1(ITEM(chain->steps, i), value);
+    int passes = !answer ? -1 : !chain->kinds[i] || answer == Py_True ? 1 : answer == Py_False ? 0 : PyObject_IsTrue(answer);
+    if (passes > 0 && !chain->kinds[i]) {
+      Py_DECREF(value);
+      value = answer;
+      continue;
+    }
+    Py_XDECREF(answer);
+    if (passes > 0) continue;
+    Py_DECREF(value);
+    if (!passes) return NULL;
+    if (!PyErr_ExceptionMatches(PyExc_Exception)) return *failed = -1, NULL;
+    PyObject *error = caught_one();
+    *failed = plain(PyObject_CallMethodObjArgs(chain->down, s_on_error, error, NULL));
+    Py_DECREF(error);
+    return NULL;
+  }
+  return value;
+}
+static int chain_tell(Chain *chain, PyObject *value) {
+  int failed;
+  PyObject *it = through(chain, value, &failed);
+  if (!it) return failed;
+  if (chain->leaf) failed = emit(chain->leaf, it);
+  else if (chain->down_next) failed = plain(CALL1(chain->down_next, it));
+  else if (!((Root *)chain->down)->is_stopped) failed = plain(CALL1(((Root *)chain->down)->on_next, it));
+  Py_DECREF(it);
+  return failed;
+}
+static int tell_up(PyObject *up, PyObject *value) {
+  if (Py_TYPE(up) == leaf_type) return emit((Leaf *)up, value);
+  if (Py_TYPE(up) == chain_type) return chain_tell((Chain *)up, value);
+  return plain(PyObject_CallMethodObjArgs(up, s_on_next, value, NULL));
+}
+
+static PyObject *none_or_null(int status) {
+  if (status) return NULL;
+  Py_RETURN_NONE;
+}
+static PyObject *leaf_next(Leaf *self, PyObject *value) { return none_or_null(emit(self, value)); }
+static PyObject *leaf_error(Leaf *self, PyObject *error) { return none_or_null(end_leaf(self, error)); }
+static PyObject *leaf_completed(Leaf *self, PyObject *unused) {
+  (void)unused;
+  return none_or_null(end_leaf(self, NULL));
+}
+static int leaf_init(Leaf *self, PyObject *given, PyObject *named) {
+  (void)named;
+  PyObject *core;
+  if (!PyArg_ParseTuple(given, "O", &core)) return -1;
+  self->core = (Core *)new_of(core);
+  return 0;
+}
+static PyObject *leaf_repr(Leaf *self) { return PyUnicode_FromFormat("<Leaf %s>", self->is_stopped ? "stopped" : "open"); }
+static PyMethodDef leaf_methods[] = {{"on_next", (PyCFunction)leaf_next, METH_O, NULL}, {"on_error", (PyCFunction)leaf_error, METH_O, NULL},
+                                     {"on_completed", (PyCFunction)leaf_completed, METH_NOARGS, NULL}, {NULL, NULL, 0, NULL}};
+static PyMemberDef leaf_members[] = {{"number", T_ULONGLONG, offsetof(Leaf, node.number), READONLY, NULL}, {"is_stopped", T_BOOL, offsetof(Leaf, is_stopped), 0, NULL}, {"on_closed", T_OBJECT, offsetof(Leaf, on_closed), 0, NULL},
+                                     {NULL, 0, 0, 0, NULL}};
+static int leaf_traverse(Leaf *self, visitproc visit, void *arg) {
+  Py_VISIT(Py_TYPE(self));
+  Py_VISIT(self->core);
+  Py_VISIT(self->on_closed);
+  return 0;
+}
+static int leaf_clear(Leaf *self) {
+  self->is_stopped = 1;
+  Py_CLEAR(self->core);
+  Py_CLEAR(self->on_closed);
+  return 0;
+}
+
+static int chain_init(Chain *self, PyObject *given, PyObject *named) {
+  (void)named;
+  PyObject *down, *kinds, *steps;
+  if (!PyArg_ParseTuple(given, "OO!O!", &down, &PyBytes_Type, &kinds, &PyTuple_Type, &steps)) return -1;
+  self->down = new_of(down), self->steps = new_of(steps);
+  self->many = MANY(steps);
+  if (!(self->kinds = PyMem_Malloc(self->many + 1))) return PyErr_NoMemory(), -1;
+  memcpy(self->kinds, PyBytes_AsString(kinds), self->many);
+  if (Py_TYPE(down) == leaf_type) self->leaf = (Leaf *)down;
+  else if (!is_a(down, root_type) && !(self->down_next = PyObject_GetAttr(down, s_on_next))) return -1;
+  return 0;
+}
+static PyObject *chain_next(Chain *self, PyObject *value) { return none_or_null(chain_tell(self, value)); }
+static PyObject *chain_error(Chain *self, PyObject *error) { return PyObject_CallMethodObjArgs(self->down, s_on_error, error, NULL); }
+static PyObject *chain_completed(Chain *self, PyObject *unused) {
+  (void)unused;
+  return PyObject_CallMethodObjArgs(self->down, s_on_completed, NULL);
+}
+static PyMethodDef chain_methods[] = {{"on_next", (PyCFunction)chain_next, METH_O, NULL}, {"on_error", (PyCFunction)chain_error, METH_O, NULL},
+                                      {"on_completed", (PyCFunction)chain_completed, METH_NOARGS, NULL}, {NULL, NULL, 0, NULL}};
+static PyMemberDef chain_members[] = {{"down", T_OBJECT, offsetof(Chain, down), READONLY, NULL}, {NULL, 0, 0, 0, NULL}};
+static int chain_traverse(Chain *self, visitproc visit, void *arg) {
+  Py_VISIT(Py_TYPE(self)); Py_VISIT(self->down); Py_VISIT(self->down_next); Py_VISIT(self->steps);
+  return 0;
+}
+static int chain_clear(Chain *self) {
+  Py_CLEAR(self->down); Py_CLEAR(self->down_next); Py_CLEAR(self->steps);
+  self->leaf = NULL, self->many = 0;
+  return 0;
+}
+
+/* What create() gives, and timers have: what is emitted from anywhere is told before the call ends. */
+static int emitter_init(Emitter *self, PyObject *given, PyObject *named) {
+  (void)named;
+  PyObject *up, *leaf;
+  if (!PyArg_ParseTuple(given, "OO!", &up, leaf_type, &leaf)) return -1;
+  self->up = new_of(up), self->leaf = (Leaf *)new_of(leaf);
+  return 0;
+}
+static int emitter_done(Emitter *self, int status) {
+  if (!status && self->leaf->core->is_left) status = serve_left(self->leaf->core);
+  return leave(status, 0);
+}
+static PyObject *emitter_next(Emitter *self, PyObject *value) {
+  if (self->leaf->is_stopped) Py_RETURN_NONE;
+  enter();
+  return none_or_null(emitter_done(self, tell_up(self->up, value)));
+}
+static PyObject *emitter_end(Emitter *self, PyObject *error) {
+  if (self->leaf->is_stopped) Py_RETURN_NONE;
+  enter();
+  int status = Py_TYPE(self->up) == leaf_type || Py_TYPE(self->up) == chain_type
+                   ? plain(PyObject_CallMethodObjArgs(self->up, error ? s_on_error : s_on_completed, error, NULL))
+                   : plain(PyObject_CallMethodObjArgs(self->up, error ? s_on_error : s_on_completed, error, NULL));
+  return none_or_null(emitter_done(self, status));
+}
+static PyObject *emitter_completed(Emitter *self, PyObject *unused) {
+  (void)unused;
+  return emitter_end(self, NULL);
+}
+static PyObject *emitter_is_stopped(Emitter *self, void *unused) {
+  (void)unused;
+  return PyBool_FromLong(self->leaf->is_stopped);
+}
+static PyObject *emitter_dispose(PyObject *self, PyObject *unused) {
+  (void)self, (void)unused;
+  Py_RETURN_NONE;
+}
+static PyMethodDef emitter_methods[] = {
+    {"on_next", (PyCFunction)emitter_next, METH_O, NULL}, {"on_error", (PyCFunction)emitter_end, METH_O, NULL},
+    {"on_completed", (PyCFunction)emitter_completed, METH_NOARGS, NULL}, {"dispose", emitter_dispose, METH_NOARGS, NULL}, {NULL, NULL, 0, NULL}};
+static PyGetSetDef emitter_getset[] = {{"is_stopped", (getter)emitter_is_stopped, NULL, NULL, NULL}, {NULL, NULL, NULL, NULL, NULL}};
+static int emitter_traverse(Emitter *self, visitproc visit, void *arg) {
+  Py_VISIT(Py_TYPE(self)); Py_VISIT(self->up); Py_VISIT(self->leaf);
+  return 0;
+}
+static int emitter_clear(Emitter *self) {
+  Py_CLEAR(self->up); Py_CLEAR(self->leaf);
+  return 0;
+}
+
+/* Roots ------------------------------------------------------------------------------------------------------------------------*/
+
+static int root_dispose(Root *root) {
+  root->is_stopped = 1;
+  if (root->is_over || !root->is_keyed) return 0;
+  root->is_over = 1;
+  struct cellar_command c = {.what = CELLAR_DISPOSE, .node = root->node};
+  struct cellar_answer a;
+  uint8_t status = command(root->core, &c, &a, NULL);
+  if (status) return status == CELLAR_GONE ? 0 : refused(status);
+  return settle(root->core, &a, NULL, 0);
+}
+static int root_init(Root *self, PyObject *given, PyObject *named) {
+  (void)named;
+  PyObject *core, *next, *error, *completed;
+  if (!PyArg_ParseTuple(given, "OOOO", &core, &next, &error, &completed)) return -1;
+  self->core = (Core *)new_of(core), self->on_next = new_of(next), self->on_error = new_of(error), self->on_completed = new_of(completed);
+  if (Py_TYPE(next) == &PyCFunction_Type && PyCFunction_GetFunction(next) == (PyCFunction)leaf_next) self->into = (Leaf *)PyCFunction_GetSelf(next);
+  return 0;
+}
+static PyObject *root_disposed(Root *self, PyObject *unused) {
+  (void)unused;
+  return none_or_null(root_dispose(self));
+}
+/* The same as a call of the user's. */
+static PyObject *root_unsubscribe(Root *self, PyObject *unused) {
+  (void)unused;
+  if (!self->core) Py_RETURN_NONE;
+  enter();
+  int status = root_dispose(self);
+  if (!status) status = serve_left(self->core);
+  return none_or_null(leave(status, 0));
+}
+static PyObject *root_next(Root *self, PyObject *value) {
+  if (self->is_stopped) Py_RETURN_NONE;
+  return CALL1(self->on_next, value);
+}
+static PyObject *root_error(Root *self, PyObject *error) { return none_or_null(root_end(self, error)); }
+static PyObject *root_completed(Root *self, PyObject *unused) {
+  (void)unused;
+  return none_or_null(root_end(self, NULL));
+}
+static PyObject *root_head(Root *self, void *unused) {
+  (void)unused;
+  return new_of(self->head ? self->head : Py_None);
+}
+static int root_set_head(Root *self, PyObject *it, void *unused) {
+  (void)unused;
+  Py_CLEAR(self->head); Py_CLEAR(self->target);
+  if (!it || it == Py_None) return 0;
+  self->head = new_of(it);
+  self->target = PyObject_GetAttr(it, s_on_next);
+  return self->target ? 0 : -1;
+}
+static PyMethodDef root_methods[] = {
+    {"on_next", (PyCFunction)root_next, METH_O, NULL}, {"on_error", (PyCFunction)root_error, METH_O, NULL},
+    {"on_completed", (PyCFunction)root_completed, METH_NOARGS, NULL}, {"dispose", (PyCFunction)root_disposed, METH_NOARGS, NULL},
+    {"unsubscribe", (PyCFunction)root_unsubscribe, METH_NOARGS, NULL}, {NULL, NULL, 0, NULL}};
+static PyGetSetDef root_getset[] = {{"head", (getter)root_head, (setter)root_set_head, NULL, NULL}, {NULL, NULL, NULL, NULL, NULL}};
+static PyMemberDef root_members[] = {{"is_stopped", T_BOOL, offsetof(Root, is_stopped), 0, NULL}, {"is_over", T_BOOL, offsetof(Root, is_over), 0, NULL},
+                                     {"number", T_ULONGLONG, offsetof(Root, node.number), READONLY, NULL},
+                                     {"__weaklistoffset__", T_PYSSIZET, offsetof(Root, references), READONLY, NULL}, {NULL, 0, 0, 0, NULL}};
+static int root_traverse(Root *self, visitproc visit, void *arg) {
+  Py_VISIT(Py_TYPE(self)); Py_VISIT(self->core); Py_VISIT(self->head); Py_VISIT(self->target);
+  Py_VISIT(self->on_next); Py_VISIT(self->on_error); Py_VISIT(self->on_completed);
+  return 0;
+}
+static int root_clear(Root *self) {
+  self->is_stopped = self->is_over = 1, self->into = NULL;
+  Py_CLEAR(self->core); Py_CLEAR(self->head); Py_CLEAR(self->target);
+  Py_CLEAR(self->on_next); Py_CLEAR(self->on_error); Py_CLEAR(self->on_completed);
+  return 0;
+}
+
+/* Subjects ---------------------------------------------------------------------------------------------------------------------*/
+
+/* All leaves by a command of this kind: each has it in its lane before anybody is told, so every observer hears one order. */
+static int tell_all(PyObject *all, uint8_t what, PyObject *value) {
+  Py_ssize_t n = MANY(all), ready = 0;
+  PyObject *here[16], **values = n > 16 ? PyMem_Malloc(n * sizeof *values) : here;
+  if (!values) return PyErr_NoMemory(), -1;
+  int status = 0, is_one = 1;
+  Core *core = ((Leaf *)ITEM(ITEM(all, 0), 1))->core;
+  for (; ready < n && !status; ready++) { /* functions first */
+    PyObject *up = ITEM(ITEM(all, ready), 0);
+    Leaf *leaf = (Leaf *)ITEM(ITEM(all, ready), 1);
+    values[ready] = NULL;
+    if (leaf->core != core) is_one = 0;
+    if (what == CELLAR_NEXT && up != (PyObject *)leaf) values[ready] = leaf->is_stopped ? NULL : through((Chain *)up, value, &status);
+    else values[ready] = new_of(value);
+  }
+  if (!status && !is_one) { /* an engine was exchanged meanwhile */
+    for (Py_ssize_t i = 0; i < n && !status; i++) {
+      Leaf *leaf = (Leaf *)ITEM(ITEM(all, i), 1);
+      if (values[i]) status = what == CELLAR_NEXT ? emit(leaf, values[i]) : end_leaf(leaf, what == CELLAR_ERROR ? value : NULL);
+    }
+  } else if (!status) {
+    Lanes lanes;
+    struct cellar_command c = {.what = what, .flags = what == CELLAR_NEXT ? CELLAR_QUEUES : 0};
+    struct cellar_answer a;
+    uint8_t refusal = 0;
+    lanes_begin(&lanes, core);
+    for (Py_ssize_t i = 0; i < n; i++) {
+      Leaf *leaf = (Leaf *)ITEM(ITEM(all, i), 1);
+      if (!values[i] || leaf->is_stopped) continue;
+      if (what != CELLAR_NEXT) leaf->is_stopped = 1;
+      c.node = leaf->node, c.value = what == CELLAR_COMPLETE ? 0 : (uintptr_t)values[i];
+      uint8_t found = command(core, &c, &a, what == CELLAR_COMPLETE ? NULL : values[i]);
+      if (!found) lanes_add(&lanes, core, &a);
+      else if (found == CELLAR_GONE) leaf->is_stopped = 1;
+      else refusal = found;
+    }
+    status = come_of(core, &lanes, 0, NULL, NULL);
+    lanes_end(&lanes);
+    if (refusal && !status) status = refused(refusal);
+  }
+  PyObject *error = status ? caught_one() : NULL;
+  for (Py_ssize_t i = 0; i < ready; i++) Py_XDECREF(values[i]);
+  if (values != here) PyMem_Free(values);
+  if (error) raise_again(error);
+  return status;
+}
+/* Those that have subscribed: a new reference. */
+static PyObject *subscribers(Subject *self) {
+  if (!self->all) {
+    PyObject *list = PyDict_Values(self->ups);
+    self->all = list ? PyList_AsTuple(list) : NULL;
+    Py_XDECREF(list);
+    if (!self->all) return NULL;
+  }
+  return new_of(self->all);
+}
+static int remember(Subject *self, PyObject *kept) {
+  if (!self->memory) return 0;
+  if (PyList_Append(self->memory, kept)) return -1;
+  Py_ssize_t more = self->limit < 0 ? 0 : PyList_Size(self->memory) - self->limit;
+  return more > 0 ? PyList_SetSlice(self->memory, 0, more, NULL) : 0;
+}
+static int subject_tell(Subject *self, uint8_t what, PyObject *value) {
+  PyObject *all = subscribers(self);
+  if (!all) return -1;
+  Py_ssize_t n = MANY(all);
+  int status = 0;
+  if (n) {
+    Core *core = (Core *)new_of((PyObject *)((Leaf *)ITEM(ITEM(all, 0), 1))->core);
+    enter();
+    status = n == 1 && what == CELLAR_NEXT ? tell_up(ITEM(ITEM(all, 0), 0), value) : tell_all(all, what, value);
+    if (!status && core->is_left) status = serve_left(core);
+    status = leave(status, 0);
+    PyObject *error = status ? caught_one() : NULL;
+    Py_DECREF(core);
+    Py_DECREF(all);
+    if (error) raise_again(error);
+    return status;
+  }
+  Py_DECREF(all);
+  return status;
+}
+/* One argument, by its place or as `value`. */
+static PyObject *the_value(PyObject *const *given, Py_ssize_t many, PyObject *names) {
+  if (many == 1 && !names) return given[0];
+  if (many == 0 && names && MANY(names) == 1 && !PyUnicode_CompareWithASCIIString(ITEM(names, 0), "value")) return given[0];
+  return PyErr_Format(PyExc_TypeError, "on_next() takes one argument, value");
+}
+static PyObject *subject_next(Subject *self, PyObject *const *given, Py_ssize_t many, PyObject *names) {
+  PyObject *value = the_value(given, many, names);
+  if (!value) return NULL;
+  if (self->is_stopped) {
+    if (self->is_disposed) return PyObject_CallMethodObjArgs((PyObject *)self, s_check, NULL);
+    Py_RETURN_NONE;
+  }
+  return none_or_null(subject_tell(self, CELLAR_NEXT, value));
+}
+/* An item for all, and what is remembered of it for who comes later. */
+static PyObject *subject_next_kept(Subject *self, PyObject *const *given, Py_ssize_t many) {
+  if (many != 2) return PyErr_Format(PyExc_TypeError, "an item and what is kept of it are wanted");
+  if (self->is_stopped) Py_RETURN_NONE;
+  return none_or_null(remember(self, given[1]) || subject_tell(self, CELLAR_NEXT, given[0]) ? -1 : 0);
+}
+/* The end for all: of an error that, else None. */
+static PyObject *subject_end(Subject *self, PyObject *error) {
+  return none_or_null(subject_tell(self, error == Py_None ? CELLAR_COMPLETE : CELLAR_ERROR, error));
+}
+/* A newcomer, who hears at once what is remembered, and from then on what is emitted. Where the subject has ended, only that: the end is
+ * the caller's. */
+static PyObject *subject_join(Subject *self, PyObject *const *given, Py_ssize_t many) {
+  if (many != 2 || Py_TYPE(given[1]) != leaf_type) return PyErr_Format(PyExc_TypeError, "what is told and its leaf are wanted");
+  Leaf *leaf = (Leaf *)given[1];
+  int status = 0, is_open = !self->is_stopped;
+  if (is_open && !leaf->is_stopped) {
+    PyObject *both = PyTuple_Pack(2, given[0], given[1]);
+    if (!both) return NULL;
+    Py_CLEAR(self->all);
+    status = PyDict_SetItem(self->ups, (PyObject *)leaf, both);
+    Py_DECREF(both);
+    if (status) return NULL;
+    leaf->owner = self;
+  }
+  PyObject *items = self->memory ? PyList_GetSlice(self->memory, 0, PyList_Size(self->memory)) : NULL;
+  if (self->memory && !items) return NULL;
+  if (items && given[0] == given[1]) { /* put into its lane before anybody can emit */
+    Lanes lanes;
+    struct cellar_command c = {.what = CELLAR_NEXT, .flags = CELLAR_QUEUES, .node = leaf->node};
+    struct cellar_answer a;
+    lanes_begin(&lanes, leaf->core);
+    for (Py_ssize_t i = 0; i < PyList_Size(items) && !leaf->is_stopped; i++) {
+      PyObject *value = ITEM(PyList_GetItem(items, i), 1);
+      c.value = (uintptr_t)value;
+      uint8_t found = command(leaf->core, &c, &a, value);
+      if (!found) lanes_add(&lanes, leaf->core, &a);
+      else if (found == CELLAR_GONE) leaf->is_stopped = 1;
+      else if ((status = refused(found))) break;
+    }
+    if (!status) status = come_of(leaf->core, &lanes, 0, NULL, NULL);
+    lanes_end(&lanes);
+  } else if (items) {
+    for (Py_ssize_t i = 0; !status && i < PyList_Size(items); i++) status = tell_up(given[0], ITEM(PyList_GetItem(items, i), 1));
+  }
+  Py_XDECREF(items);
+  if (status) return NULL;
+  return PyBool_FromLong(is_open);
+}
+static int forget(Subject *self) {
+  PyObject *key, *value;
+  Py_ssize_t at = 0;
+  while (self->ups && PyDict_Next(self->ups, &at, &key, &value))
+    if (Py_TYPE(key) == leaf_type) ((Leaf *)key)->owner = NULL;
+  return 0;
+}
+static PyObject *subject_forget(Subject *self, PyObject *unused) {
+  (void)unused;
+  forget(self);
+  Py_CLEAR(self->all);
+  PyDict_Clear(self->ups);
+  Py_RETURN_NONE;
+}
+static PyObject *subject_new(PyTypeObject *type, PyObject *given, PyObject *named) {
+  (void)given, (void)named;
+  Subject *self = (Subject *)PyType_GenericAlloc(type, 0);
+  if (self && !(self->ups = PyDict_New())) Py_CLEAR(self);
+  if (self) self->limit = -1;
+  return (PyObject *)self;
+}
+static PyMethodDef subject_methods[] = {
+    {"on_next", FAST(subject_next), METH_FASTCALL | METH_KEYWORDS, "on_next($self, value)\n--\n\nTells the item to each that subscribed."},
+    {"_on_next_core", FAST(subject_next), METH_FASTCALL | METH_KEYWORDS, NULL}, {"_next_kept", FAST(subject_next_kept), METH_FASTCALL, NULL},
+    {"_end", (PyCFunction)subject_end, METH_O, NULL}, {"_join", FAST(subject_join), METH_FASTCALL, NULL},
+    {"_forget", (PyCFunction)subject_forget, METH_NOARGS, NULL}, {NULL, NULL, 0, NULL}};
+static PyMemberDef subject_members[] = {
+    {"_ups", T_OBJECT, offsetof(Subject, ups), READONLY, NULL}, {"_memory", T_OBJECT, offsetof(Subject, memory), 0, NULL},
+    {"_limit", T_PYSSIZET, offsetof(Subject, limit), 0, NULL}, {"is_stopped", T_BOOL, offsetof(Subject, is_stopped), 0, NULL},
+    {"is_disposed", T_BOOL, offsetof(Subject, is_disposed), 0, NULL}, {NULL, 0, 0, 0, NULL}};
+static int subject_traverse(Subject *self, visitproc visit, void *arg) {
+  Py_VISIT(Py_TYPE(self)); Py_VISIT(self->ups); Py_VISIT(self->all); Py_VISIT(self->memory);
+  return 0;
+}
+static int subject_clear(Subject *self) {
+  forget(self);
+  Py_CLEAR(self->ups); Py_CLEAR(self->all); Py_CLEAR(self->memory);
+  return 0;
+}
+
+/* Commands of the Python side --------------------------------------------------------------------------------------------------*/
+
+static int node_of(PyObject *it, struct cellar_node *to) {
+  if (it == Py_None) return 1;
+  if (Py_TYPE(it) == key_type) *to = ((Key *)it)->node;
+  else if (Py_TYPE(it) == leaf_type) *to = ((Leaf *)it)->node;
+  else if (is_a(it, root_type)) *to = ((Root *)it)->node;
+  else return PyErr_Format(PyExc_TypeError, "a node is wanted"), 0;
+  return 1;
+}
+static Key *new_key(void) { return (Key *)PyType_GenericAlloc(key_type, 0); }
+/* How often the engine gives back the word of what is opened. */
+static uint64_t roles_of(const struct cellar_command *c) {
+  uint64_t wishes = c->flags & CELLAR_WISHES ? 1 : 0;
+  if (c->what == CELLAR_CONNECT) return wishes;
+  return wishes + (c->place == CELLAR_ROOT) + (c->what == CELLAR_OPEN && (c->kind == CELLAR_FLAT || c->kind == CELLAR_SWITCH));
+}
+/* Makes an opening: what it is for is kept, and knows its key. */
+static int opened(Core *core, struct cellar_command *c, struct cellar_answer *a, PyObject *thing, uint8_t *status) {
+  uint64_t roles = thing == Py_None ? 0 : roles_of(c);
+  if (c->flags & CELLAR_WISHES && reserve(core)) return -1;
+  if (roles) c->user = (uintptr_t)thing, keep(core, thing, roles);
+  if ((*status = command(core, c, a, NULL))) {
+    for (; roles; roles--) let_go(core, thing);
+    return 0;
+  }
+  if (c->flags & CELLAR_WISHES) core->wishes++;
+  if (thing != Py_None && c->what != CELLAR_CONNECT) {
+    PyObject *hears = ITEM(thing, 0), *close = ITEM(thing, 1);
+    if (c->place == CELLAR_ROOT && is_a(hears, root_type)) ((Root *)hears)->node = a->node, ((Root *)hears)->is_keyed = 1;
+    if (Py_TYPE(close) == leaf_type) ((Leaf *)close)->node = a->node, ((Leaf *)close)->is_keyed = 1;
+  }
+  return 0;
+}
+/* what, the node above, (root, what closes, what projects) or None, a release or None, whether it takes the place of something: the key. */
+static PyObject *core_open(Core *self, PyObject *const *given, Py_ssize_t many) {
+  struct cellar_command c = {0};
+  struct cellar_answer a;
+  uint64_t what;
+  uint8_t status;
+  if (many != 5 || !number(given[0], &what)) return many == 5 ? NULL : PyErr_Format(PyExc_TypeError, "five arguments are wanted");
+  memcpy(&c, &what, 8);
+  if (!node_of(given[1], &c.node)) return NULL;
+  Key *key = new_key();
+  if (!key) return NULL;
+  if (given[3] != Py_None) c.value = (uintptr_t)given[3], keep(self, given[3], 1);
+  if (opened(self, &c, &a, given[2], &status)) status = CELLAR_NO_MEMORY;
+  if (status) {
+    if (given[3] != Py_None) let_go(self, given[3]);
+    Py_DECREF(key);
+    if (!PyErr_Occurred()) refused(status);
+    return NULL;
+  }
+  key->node = a.node;
+  if (settle(self, &a, NULL, given[4] == Py_True)) Py_CLEAR(key);
+  return (PyObject *)key;
+}
+/* The answer is in the book, or released at once; its place in the tuple was made before. */
+static int held(Core *core, struct cellar_command *c, struct cellar_answer *a, PyObject *tag, PyObject *thing, uint8_t *status) {
+  c->value = (uintptr_t)tag;
+  keep(core, tag, 1);
+  if (thing ? opened(core, c, a, thing, status) : (*status = command(core, c, a, NULL), 0)) *status = CELLAR_NO_MEMORY;
+  if (!*status) return 0;
+  PyObject *error = PyErr_Occurred() ? caught_one() : NULL;
+  int failed = release(tag);
+  if (failed) failed = caught(me());
+  let_go(core, tag);
+  if (!error) return failed;
+  if (failed) Py_DECREF(error);
+  else raise_again(error);
+  return -1;
+}
+/* what, the node above, (root, None, None) or None, a factory: calls it, and opens a node that holds its answer, with nothing between.
+ * Answers the key and the resource. */
+static PyObject *core_using(Core *self, PyObject *const *given, Py_ssize_t many) {
+  struct cellar_command c = {0};
+  struct cellar_answer a;
+  uint64_t what;
+  uint8_t status = 0;
+  if (many != 4 || !number(given[0], &what)) return many == 4 ? NULL : PyErr_Format(PyExc_TypeError, "four arguments are wanted");
+  memcpy(&c, &what, 8);
+  if (!node_of(given[1], &c.node)) return NULL;
+  Key *key = new_key();
+  PyObject *tag = key ? PyTuple_New(1) : NULL, *answer = tag ? PyTuple_New(2) : NULL, *resource = answer ? CALL0(given[3]) : NULL;
+  if (!resource) {
+    Py_XDECREF(key), Py_XDECREF(tag), Py_XDECREF(answer);
+    return NULL;
+  }
+  PyTuple_SetItem(tag, 0, new_of(resource));
+  PyTuple_SetItem(answer, 1, resource);
+  PyTuple_SetItem(answer, 0, (PyObject *)key);
+  int failed = 0;
+  if (resource == Py_None) {
+    c.what = CELLAR_OPEN, c.kind = CELLAR_PASS;
+    failed = opened(self, &c, &a, given[2], &status);
+  } else failed = held(self, &c, &a, tag, given[2], &status);
+  Py_DECREF(tag);
+  if (!failed && status) failed = refused(status);
+  if (!failed) {
+    key->node = a.node;
+    failed = settle(self, &a, NULL, 0);
+  }
+  if (failed) Py_CLEAR(answer);
+  return answer;
+}
+/* A node, a function and its arguments: calls it, and lets the node hold the answer, with nothing between: something with `dispose`, a
+ * function, or None. Where the node is closed it is released at once. */
+static PyObject *core_hold(Core *self, PyObject *const *given, Py_ssize_t many) {
+  struct cellar_command c = {.what = CELLAR_HOLD};
+  struct cellar_answer a;
+  uint8_t status;
+  if (many < 2 || !node_of(given[0], &c.node)) return NULL;
+  PyObject *words = PyTuple_New(many - 2), *tag = words ? PyTuple_New(1) : NULL;
+  if (!tag) {
+    Py_XDECREF(words);
+    return NULL;
+  }
+  for (Py_ssize_t i = 2; i < many; i++) PyTuple_SetItem(words, i - 2, new_of(given[i]));
+  PyObject *resource = PyObject_CallObject(given[1], words);
+  Py_DECREF(words);
+  if (!resource || resource == Py_None) {
+    Py_DECREF(tag);
+    return resource;
+  }
+  if (PyObject_HasAttr(resource, s_dispose)) PyTuple_SetItem(tag, 0, new_of(resource));
+  else {
+    Py_DECREF(tag);
+    tag = new_of(resource);
+  }
+  int failed = held(self, &c, &a, tag, NULL, &status);
+  Py_DECREF(tag);
+  if (!failed && status && status != CELLAR_GONE) failed = refused(status);
+  if (failed) Py_CLEAR(resource);
+  return resource;
+}
+static int attribute(PyObject *of, PyObject *name, uint64_t *to) {
+  PyObject *it = PyObject_GetAttr(of, name);
+  int is_there = it && number(it, to);
+  Py_XDECREF(it);
+  return is_there;
+}
+/* what, the node above, (root, what closes, None) or None, the share, whether it takes the place of something: (status, key, connection). */
+static PyObject *core_share(Core *self, PyObject *const *given, Py_ssize_t many) {
+  struct cellar_command c = {0};
+  struct cellar_answer a;
+  uint64_t what;
+  uint8_t status;
+  if (many != 5 || !number(given[0], &what)) return many == 5 ? NULL : PyErr_Format(PyExc_TypeError, "five arguments are wanted");
+  memcpy(&c, &what, 8);
+  if (!node_of(given[1], &c.node)) return NULL;
+  if (!attribute(given[3], s_hub, &c.hub) || !attribute(given[3], s_word, &c.value)) return NULL;
+  PyObject *answer = NULL;
+  Key *node = new_key(), *other = node ? new_key() : NULL;
+  if (!other || opened(self, &c, &a, given[2], &status)) goto end;
+  if (status) {
+    answer = Py_BuildValue("(iOO)", status, Py_None, Py_None);
+    goto end;
+  }
+  node->node = a.node, other->node = a.other;
+  if (c.what == CELLAR_CONNECT && PyObject_SetAttr(given[3], s_connection, (PyObject *)other)) goto end;
+  if (c.what != CELLAR_DISCONNECT && a.hub != c.hub) {
+    PyObject *new = PyLong_FromUnsignedLongLong(a.hub);
+    if (!new || PyObject_SetAttr(given[3], s_hub, new)) PyErr_Clear(); /* it is a hint */
+    Py_XDECREF(new);
+  }
+  if (!settle(self, &a, NULL, given[4] == Py_True))
+    answer = Py_BuildValue("(iOO)", 0, node, a.is_connected && c.what == CELLAR_OPEN ? (PyObject *)other : c.what == CELLAR_CONNECT ? (PyObject *)other : Py_None);
+end:
+  Py_XDECREF(node), Py_XDECREF(other);
+  return answer;
+}
+/* what, the node, a value or None: the status. */
+static PyObject *core_do(Core *self, PyObject *const *given, Py_ssize_t many) {
+  struct cellar_command c = {0};
+  struct cellar_answer a;
+  uint64_t what;
+  if (many != 3 || !number(given[0], &what)) return many == 3 ? NULL : PyErr_Format(PyExc_TypeError, "three arguments are wanted");
+  memcpy(&c, &what, 8);
+  if (!node_of(given[1], &c.node)) return NULL;
+  PyObject *value = given[2] == Py_None ? NULL : given[2];
+  c.value = (uintptr_t)value;
+  uint8_t status = command(self, &c, &a, value);
+  if (!status && settle(self, &a, value, 0)) return NULL;
+  return PyLong_FromLong(status);
+}
+/* what, the node, a call: it stands in the node's lane. The status. */
+static PyObject *core_put(Core *self, PyObject *const *given, Py_ssize_t many) {
+  struct cellar_command c = {0};
+  struct cellar_answer a;
+  uint64_t what;
+  if (many != 3 || !number(given[0], &what)) return many == 3 ? NULL : PyErr_Format(PyExc_TypeError, "three arguments are wanted");
+  memcpy(&c, &what, 8);
+  if (!node_of(given[1], &c.node)) return NULL;
+  PyObject *thing = PyTuple_Pack(1, given[2]);
+  if (!thing) return NULL;
+  c.user = (uintptr_t)thing;
+  keep(self, thing, 1);
+  uint8_t status = command(self, &c, &a, NULL);
+  if (status) let_go(self, thing);
+  Py_DECREF(thing);
+  if (!status && settle(self, &a, NULL, 0)) return NULL;
+  return PyLong_FromLong(status);
+}
+static PyObject *core_serve_left(Core *self, PyObject *unused) {
+  (void)unused;
+  self->is_left = 1;
+  return none_or_null(serve_left(self));
+}
+static PyObject *core_totals(Core *self, PyObject *unused) {
+  (void)unused;
+  struct cellar_totals t = {0};
+  if (self->generation == generation) calls.totals(&self->engine, &t);
+  return Py_BuildValue("(KKKKKKKK)", t.nodes, t.held, t.waiting, t.leases, t.accepted, t.taken, t.events, t.effects);
+}
+/* The calls themselves, as bytes, for the courses that each crossing runs: a command: (status, answer, closings, lanes). */
+static PyObject *words_of(Core *self, uint8_t which, uint64_t many, const uint64_t *first) {
+  PyObject *bytes = PyBytes_FromStringAndSize(NULL, (Py_ssize_t)(many * 8));
+  uint64_t here = many < CELLAR_ROOM ? many : CELLAR_ROOM, count;
+  if (!bytes) return NULL;
+  memcpy(PyBytes_AsString(bytes), first, here * 8);
+  if (many > here) calls.rest(&self->engine, which, here, (uint64_t *)(void *)PyBytes_AsString(bytes) + here, many - here, &count);
+  return bytes;
+}
+static PyObject *core_raw_make(Core *self, PyObject *given) {
+  struct cellar_command c;
+  struct cellar_answer a;
+  if (!PyBytes_Check(given) || PyBytes_Size(given) != sizeof c) return PyErr_Format(PyExc_TypeError, "the bytes of a command are wanted");
+  memcpy(&c, PyBytes_AsString(given), sizeof c);
+  memset(&a, 0, sizeof a);
+  uint8_t status = calls.make(&self->engine, &c, &a);
+  PyObject *closings = words_of(self, 0, status ? 0 : a.closed, a.closings), *lanes = words_of(self, 1, status ? 0 : a.due, a.lanes);
+  if (!closings || !lanes) return NULL;
+  return Py_BuildValue("(iy#NN)", status, (const char *)&a, (Py_ssize_t)sizeof a, closings, lanes);
+}
+static PyObject *core_raw_take(Core *self, PyObject *given) {
+  unsigned long long lane, by;
+  struct cellar_effect e;
+  uint64_t many;
+  if (!PyArg_ParseTuple(given, "KK", &lane, &by)) return NULL;
+  calls.take(&self->engine, lane, by, &e, &many);
+  return PyBytes_FromStringAndSize((const char *)&e, many ? (Py_ssize_t)sizeof e : 0);
+}
+static PyObject *core_raw_give_up(Core *self, PyObject *given) {
+  unsigned long long lane, by;
+  const char *bytes;
+  Py_ssize_t size;
+  struct cellar_effect e = {0};
+  uint64_t is_left = 0;
+  if (!PyArg_ParseTuple(given, "KKy#", &lane, &by, &bytes, &size)) return NULL;
+  if (size == (Py_ssize_t)sizeof e) memcpy(&e, bytes, sizeof e);
+  uint8_t status = calls.give_up(&self->engine, lane, by, &e, size ? 1 : 0, &is_left);
+  return Py_BuildValue("(iK)", status, (unsigned long long)is_left);
+}
+static PyObject *core_raw_left(Core *self, PyObject *from) {
+  uint64_t at, lane, next;
+  if (!number(from, &at)) return NULL;
+  calls.left(&self->engine, at, &lane, &next);
+  return Py_BuildValue("(KK)", (unsigned long long)lane, (unsigned long long)next);
+}
+static PyObject *core_dump(Core *self, PyObject *unused) {
+  (void)unused;
+  uint64_t size = 0;
+  uint8_t none[8];
+  uint8_t status = calls.dump(&self->engine, none, 0, &size);
+  if (status != CELLAR_SMALL && status != CELLAR_DONE) return refused(status), NULL;
+  PyObject *bytes = PyBytes_FromStringAndSize(NULL, (Py_ssize_t)size);
+  if (bytes && (status = calls.dump(&self->engine, (uint8_t *)PyBytes_AsString(bytes), size, &size))) {
+    Py_CLEAR(bytes);
+    refused(status);
+  }
+  return bytes;
+}
+static PyObject *core_finish(Core *self, PyObject *unused) {
+  (void)unused;
+  return PyLong_FromLong(calls.finish(&self->engine));
+}
+static PyObject *core_new(PyTypeObject *type, PyObject *given, PyObject *named) {
+  (void)named;
+  unsigned long events = 0;
+  if (!PyArg_ParseTuple(given, "|k", &events)) return NULL;
+  Core *self = (Core *)PyType_GenericAlloc(type, 0);
+  if (!self) return NULL;
+  self->generation = generation;
+  if (calls.begin(&self->engine, (uint32_t)events)) {
+    Py_DECREF(self);
+    return PyErr_NoMemory();
+  }
+  return (PyObject *)self;
+}
+static void core_dealloc(Core *self) {
+  PyTypeObject *type = Py_TYPE(self);
+  calls.drop(&self->engine);
+  PyMem_Free(self->closed);
+  ((freefunc)PyType_GetSlot(type, Py_tp_free))(self);
+  Py_DECREF(type);
+}
+static PyMethodDef core_methods[] = {
+    {"open", FAST(core_open), METH_FASTCALL, NULL}, {"using", FAST(core_using), METH_FASTCALL, NULL}, {"hold", FAST(core_hold), METH_FASTCALL, NULL},
+    {"share", FAST(core_share), METH_FASTCALL, NULL}, {"do", FAST(core_do), METH_FASTCALL, NULL}, {"put", FAST(core_put), METH_FASTCALL, NULL},
+    {"serve_left", (PyCFunction)core_serve_left, METH_NOARGS, NULL}, {"totals", (PyCFunction)core_totals, METH_NOARGS, NULL},
+    {"dump", (PyCFunction)core_dump, METH_NOARGS, NULL},
+    {"raw_make", (PyCFunction)core_raw_make, METH_O, NULL}, {"raw_take", (PyCFunction)core_raw_take, METH_VARARGS, NULL},
+    {"raw_give_up", (PyCFunction)core_raw_give_up, METH_VARARGS, NULL}, {"raw_left", (PyCFunction)core_raw_left, METH_O, NULL}, {"finish", (PyCFunction)core_finish, METH_NOARGS, NULL}, {NULL, NULL, 0, NULL}};
+static PyMemberDef core_members[] = {{"kept", T_LONGLONG, offsetof(Core, kept), READONLY, NULL}, {NULL, 0, 0, 0, NULL}};
+
+/* This thread ------------------------------------------------------------------------------------------------------------------*/
+
+/* Does what was put off, in order. */
+static int run_all(PyObject *queue) {
+  while (is_some(queue)) {
+    PyObject *it = pop(queue);
+    if (!it) return -1;
+    int status = plain(CALL0(it));
+    Py_DECREF(it);
+    if (status) return -1;
+  }
+  return 0;
+}
+/* Calls, and behind that does what sources put off meanwhile; unless a call further out does. */
+static PyObject *trampolined(PyObject *call, PyObject *given) {
+  if (mine.trampoline) return PyObject_CallObject(call, given);
+  PyObject *queue = PyList_New(0), *answer;
+  if (!queue) return NULL;
+  mine.trampoline = queue;
+  answer = PyObject_CallObject(call, given);
+  if (answer && run_all(queue)) Py_CLEAR(answer);
+  mine.trampoline = NULL;
+  Py_DECREF(queue);
+  return answer;
+}
+static PyObject *split(PyObject *given, PyObject **first, Py_ssize_t from) {
+  if (MANY(given) < from) return PyErr_Format(PyExc_TypeError, "more arguments are wanted");
+  *first = ITEM(given, from - 1);
+  return PyTuple_GetSlice(given, from, MANY(given));
+}
+static PyObject *module_trampolined(PyObject *module, PyObject *given) {
+  (void)module;
+  PyObject *call, *rest = split(given, &call, 1), *answer = rest ? trampolined(call, rest) : NULL;
+  Py_XDECREF(rest);
+  return answer;
+}
+/* A root, a function and its arguments, which opens it: where that is interrupted nothing stays open. What was raised meanwhile is raised
+ * where the subscription is over, and else heard by the hook, so that the caller gets his disposable. */
+static PyObject *subscribe(PyObject *module, PyObject *given) {
+  (void)module;
+  PyObject *call, *rest = split(given, &call, 2);
+  if (!rest) return NULL;
+  Root *root = (Root *)ITEM(given, 0);
+  enter();
+  PyObject *answer = trampolined(call, rest);
+  Py_DECREF(rest);
+  int status = answer ? 0 : -1;
+  if (!status && root->core->is_left) status = serve_left(root->core);
+  if (status) dispose_and_go_on(root);
+  if (leave(status, !root->is_over)) Py_CLEAR(answer);
+  return answer;
+}
+/* A call of the user's: what observers and releases raise meanwhile is raised at its end. */
+static PyObject *module_call(PyObject *module, PyObject *given) {
+  (void)module;
+  PyObject *call, *rest = split(given, &call, 1);
+  if (!rest) return NULL;
+  enter();
+  PyObject *answer = PyObject_CallObject(call, rest);
+  Py_DECREF(rest);
+  if (leave(answer ? 0 : -1, 0)) Py_CLEAR(answer);
+  return answer;
+}
+/* What is projected is opened: what its sources put off comes behind what its lane projects. */
+static PyObject *projected(PyObject *module, PyObject *given) {
+  (void)module;
+  PyObject *call, *rest = split(given, &call, 1), *answer;
+  if (!rest) return NULL;
+  if (mine.trampoline || !mine.has_lane || (!mine.put_off && !(mine.put_off = PyList_New(0)))) answer = mine.trampoline ? PyObject_CallObject(call, rest) : trampolined(call, rest);
+  else {
+    mine.trampoline = mine.put_off;
+    answer = PyObject_CallObject(call, rest);
+    mine.trampoline = NULL;
+  }
+  Py_DECREF(rest);
+  return answer;
+}
+/* With nothing put off behind what is under way. */
+static PyObject *apart(PyObject *module, PyObject *given) {
+  (void)module;
+  PyObject *call, *rest = split(given, &call, 1), *before = mine.trampoline;
+  if (!rest) return NULL;
+  mine.trampoline = NULL;
+  PyObject *answer = PyObject_CallObject(call, rest);
+  mine.trampoline = before;
+  Py_DECREF(rest);
+  return answer;
+}
+static PyObject *put_off(PyObject *module, PyObject *call) {
+  (void)module;
+  if (!mine.trampoline) Py_RETURN_FALSE;
+  if (PyList_Append(mine.trampoline, call)) return NULL;
+  Py_RETURN_TRUE;
+}
+static PyObject *is_putting_off(PyObject *module, PyObject *unused) {
+  (void)module, (void)unused;
+  return PyBool_FromLong(mine.trampoline != NULL);
+}
+/* Something was raised by what is none of a call's own. */
+static PyObject *raised(PyObject *module, PyObject *error) {
+  (void)module;
+  raise_again(new_of(error));
+  return none_or_null(caught(me()));
+}
+/* Serves what commands further out of this thread have still to serve: so what they released is released. */
+static PyObject *settle_all(PyObject *module, PyObject *unused) {
+  (void)module, (void)unused;
+  struct cellar_effect e;
+  for (Lanes *it = mine.due; it; it = it->outer)
+    while (it->at < it->many)
+      if (serve(it->core, it->all[it->at++], &e, NULL, 0, me())) return NULL;
+  Py_RETURN_NONE;
+}
+/* Serves the rest of the lane that is served: of a root that has ended, what it held. */
+static PyObject *finish_lane(PyObject *module, PyObject *root) {
+  (void)module;
+  struct cellar_effect e;
+  if (!mine.has_lane) Py_RETURN_NONE;
+  return none_or_null(serve(((Root *)root)->core, mine.lane, &e, NULL, 0, me()));
+}
+static PyObject *forked(PyObject *module, PyObject *unused) {
+  (void)module, (void)unused;
+  generation++;
+  Py_RETURN_NONE;
+}
+/* What is told, its leaf, and an iterator: its items, until the leaf is closed. Whether it came to its end. */
+static PyObject *pull(PyObject *module, PyObject *const *given, Py_ssize_t many) {
+  (void)module;
+  if (many != 3 || Py_TYPE(given[1]) != leaf_type) return PyErr_Format(PyExc_TypeError, "what is told, its leaf and an iterator are wanted");
+  Leaf *leaf = (Leaf *)given[1];
+  for (unsigned count = 1; !leaf->is_stopped; count++) {
+    PyObject *value = PyIter_Next(given[2]);
+    if (!value) {
+      if (PyErr_Occurred()) return NULL;
+      Py_RETURN_TRUE;
+    }
+    int status = tell_up(given[0], value);
+    if (status) {
+      PyObject *error = caught_one();
+      Py_DECREF(value);
+      raise_again(error);
+      return NULL;
+    }
+    Py_DECREF(value);
+    if ((leaf->core->is_left && serve_left(leaf->core)) || PyErr_CheckSignals()) return NULL;
+    if (!(count & 4095)) { /* where neither side is Python, no other thread would come */
+      Py_BEGIN_ALLOW_THREADS
+      Py_END_ALLOW_THREADS
+    }
+  }
+  Py_RETURN_FALSE;
+}
+
+/* The module -------------------------------------------------------------------------------------------------------------------*/
+
+static PyObject *bind(PyObject *module, PyObject *given) {
+  (void)module;
+  void *found[sizeof calls / sizeof(void *)];
+  PyObject *addresses;
+  if (!PyArg_ParseTuple(given, "OOO", &addresses, &refuse, &unhandled)) return NULL;
+  Py_INCREF(refuse), Py_INCREF(unhandled);
+  for (size_t i = 0; i < sizeof found / sizeof *found; i++) {
+    PyObject *address = PySequence_GetItem(addresses, (Py_ssize_t)i);
+    if (!address) return NULL;
+    found[i] = PyLong_AsVoidPtr(address);
+    Py_DECREF(address);
+  }
+  memcpy(&calls, found, sizeof calls);
+  static const size_t sizes[] = {sizeof(struct cellar), sizeof(struct cellar_command), sizeof(struct cellar_answer), sizeof(struct cellar_effect),
+                                 sizeof(struct cellar_totals), sizeof(struct cellar_event)};
+  uint32_t abi = calls.abi();
+  int fits = abi >> 16 == CELLAR_ABI >> 16 && (abi & 0xFFFF) + 1 > (CELLAR_ABI & 0xFFFF);
+  for (uint32_t i = 0; i < 6; i++) fits = fits && calls.size(i) == sizes[i];
+  if (!fits) return PyErr_Format(PyExc_ImportError, "libcellarcliff is of another version than this package");
+  Py_RETURN_NONE;
+}
+#define DEALLOC(Name, clear, more) \
+  static void Name##_dealloc(Name *self) { PyTypeObject *type = Py_TYPE(self); PyObject_GC_UnTrack(self); clear(self); more; ((freefunc)PyType_GetSlot(type, Py_tp_free))(self); Py_DECREF(type); }
+DEALLOC(Subject, subject_clear, )
+DEALLOC(Leaf, leaf_clear, )
+DEALLOC(Root, root_clear, PyObject_ClearWeakRefs((PyObject *)self))
+DEALLOC(Emitter, emitter_clear, )
+DEALLOC(Chain, chain_clear, PyMem_Free(self->kinds))
+#define COLLECTED(Name, name) {Py_tp_dealloc, Name##_dealloc}, {Py_tp_methods, name##_methods}, {Py_tp_traverse, name##_traverse}, {Py_tp_clear, name##_clear}
+static PyType_Slot core_slots[] = {{Py_tp_new, core_new}, {Py_tp_dealloc, core_dealloc}, {Py_tp_methods, core_methods}, {Py_tp_members, core_members}, {0, NULL}};
+static PyMemberDef key_members[] = {{"number", T_ULONGLONG, offsetof(Key, node.number), READONLY, NULL}, {NULL, 0, 0, 0, NULL}};
+static PyType_Slot key_slots[] = {{Py_tp_members, key_members}, {0, NULL}};
+static PyType_Slot root_slots[] = {COLLECTED(Root, root), {Py_tp_init, root_init}, {Py_tp_getset, root_getset}, {Py_tp_members, root_members}, {0, NULL}};
+static PyType_Slot leaf_slots[] = {COLLECTED(Leaf, leaf), {Py_tp_init, leaf_init}, {Py_tp_members, leaf_members}, {Py_tp_repr, leaf_repr}, {0, NULL}};
+static PyType_Slot chain_slots[] = {COLLECTED(Chain, chain), {Py_tp_init, chain_init}, {Py_tp_members, chain_members}, {0, NULL}};
+static PyType_Slot subject_slots[] = {COLLECTED(Subject, subject), {Py_tp_new, subject_new}, {Py_tp_members, subject_members}, {0, NULL}};
+static PyType_Slot emitter_slots[] = {COLLECTED(Emitter, emitter), {Py_tp_init, emitter_init}, {Py_tp_getset, emitter_getset}, {0, NULL}};
+#define GC (Py_TPFLAGS_DEFAULT | Py_TPFLAGS_HAVE_GC)
+static PyType_Spec core_spec = {"cellarcliff._engine.Core", sizeof(Core), 0, Py_TPFLAGS_DEFAULT, core_slots};
+static PyType_Spec key_spec = {"cellarcliff._engine.Key", sizeof(Key), 0, Py_TPFLAGS_DEFAULT, key_slots};
+static PyType_Spec root_spec = {"cellarcliff._engine.Root", sizeof(Root), 0, GC | Py_TPFLAGS_BASETYPE, root_slots};
+static PyType_Spec leaf_spec = {"cellarcliff._engine.Leaf", sizeof(Leaf), 0, GC, leaf_slots};
+static PyType_Spec chain_spec = {"cellarcliff._engine.Chain", sizeof(Chain), 0, GC, chain_slots};
+static PyType_Spec subject_spec = {"cellarcliff._engine.Subject", sizeof(Subject), 0, GC | Py_TPFLAGS_BASETYPE, subject_slots};
+static PyType_Spec emitter_spec = {"cellarcliff._engine.Emitter", sizeof(Emitter), 0, GC, emitter_slots};
+
+static PyMethodDef functions[] = {
+    {"bind", bind, METH_VARARGS, NULL}, {"pull", FAST(pull), METH_FASTCALL, NULL}, {"subscribe", subscribe, METH_VARARGS, NULL},
+    {"call", module_call, METH_VARARGS, NULL}, {"trampolined", module_trampolined, METH_VARARGS, NULL}, {"projected", projected, METH_VARARGS, NULL},
+    {"apart", apart, METH_VARARGS, NULL}, {"put_off", put_off, METH_O, NULL}, {"is_putting_off", is_putting_off, METH_NOARGS, NULL},
+    {"raised", raised, METH_O, NULL}, {"settle", settle_all, METH_NOARGS, NULL}, {"finish", finish_lane, METH_O, NULL}, {"forked", forked, METH_NOARGS, NULL}, {NULL, NULL, 0, NULL}};
+static struct PyModuleDef definition = {PyModuleDef_HEAD_INIT, "_engine", NULL, -1, functions, NULL, NULL, NULL, NULL};
+
+PyMODINIT_FUNC PyInit__engine(void) {
+  if (PyInterpreterState_GetID(PyInterpreterState_Get()) != 0)
+    return PyErr_Format(PyExc_ImportError, "cellarcliff.rx is of the main interpreter alone: it has one engine for the process");
+  PyObject *module = PyModule_Create(&definition);
+  struct { const char *name; PyType_Spec *spec; PyTypeObject **to; } all[] = {
+      {"Core", &core_spec, NULL}, {"Key", &key_spec, &key_type}, {"Root", &root_spec, &root_type}, {"Leaf", &leaf_spec, &leaf_type},
+      {"Chain", &chain_spec, &chain_type}, {"Subject", &subject_spec, &subject_type}, {"Emitter", &emitter_spec, NULL}};
+  if (!module) return NULL;
+  for (size_t i = 0; i < sizeof all / sizeof *all; i++) {
+    PyObject *type = PyType_FromSpec(all[i].spec);
+    if (!type) return NULL;
+    Py_INCREF(type);
+    if (all[i].to) *all[i].to = (PyTypeObject *)type;
+    if (PyModule_AddObject(module, all[i].name, type)) return NULL;
+  }
+  struct { const char *text; PyObject **to; } names[] = {
+      {"on_next", &s_on_next}, {"on_error", &s_on_error}, {"on_completed", &s_on_completed}, {"dispose", &s_dispose}, {"check_disposed", &s_check},
+      {"hub", &s_hub}, {"word", &s_word}, {"connection", &s_connection}};
+  for (size_t i = 0; i < sizeof names / sizeof *names; i++)
+    if (!(*names[i].to = PyUnicode_InternFromString(names[i].text))) return NULL;
+  return module;
+}
