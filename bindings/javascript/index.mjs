@@ -1,0 +1,2 @@
+import './src/engine/load.mjs';
+export * from './src/index.mjs';

@@ -1,0 +1,8 @@
+/** A class that older classes may extend too, which call it without `new`. */
+export function callable(made) {
+  const seen = new Proxy(made, {
+    apply: (target, self, words) => Reflect.construct(target, words, Object.getPrototypeOf(self)?.constructor ?? target),
+  });
+  Object.defineProperty(made.prototype, 'constructor', { value: seen, writable: true, configurable: true });
+  return seen;
+}

@@ -1,0 +1,110 @@
+// A leaf of the engine: what a source tells goes in here, through the functions on items that stand before the book.
+import { realm } from '../engine/realm.mjs';
+import { COMPLETION, Subscriber, collecting, errorOf } from './subscriber.mjs';
+import { stopped } from './config.mjs';
+import { UnsubscriptionError } from './errors.mjs';
+
+/** The end of a chain of functions on items: the engine. */
+export const TERMINAL = {
+  hooked: false,
+  next(value, leaf) {
+    if (leaf._queues === null) realm.engine.next(leaf._node, value);
+    else realm.engine.queue(leaf._node, value, leaf._queues);
+  },
+  error(error, leaf) {
+    leaf._serve();
+    leaf.isStopped = true;
+    realm.engine.error(leaf._node, error);
+  },
+  complete(leaf) {
+    leaf._serve();
+    leaf.isStopped = true;
+    realm.engine.complete(leaf._node);
+  },
+};
+
+/** A function on items, or several ends: it passes on to the one above it. `hooked` if it ends by itself or does something at an end. */
+export class Stage {
+  constructor(up, hooked = false) {
+    this.up = up;
+    this.hooked = hooked || up.hooked;
+  }
+  next(value, leaf) { this.up.next(value, leaf); }
+  error(error, leaf) { this.up.error(error, leaf); }
+  complete(leaf) { this.up.complete(leaf); }
+}
+
+/** An error for it, as soon as there is room to tell it. */
+export function failing(to, error) { realm.engine.surely(() => to.error(error)); }
+
+/** What the function of a source is given. */
+export class Leaf extends Subscriber {
+  constructor(way) {
+    super();
+    this._way = way;
+    this._used = true;
+    this._node = null;
+    this._root = null; // who hears, where this leaf is the whole tree
+    this._subject = this._before = this._after = null; // whose list it is on, and between which
+    this._queues = null; // lanes that are due, while one item is put into many
+  }
+
+  // An end that there is no room for is refused before anything is changed.
+  error(error) {
+    if (this.isStopped) return stopped(errorOf(error), this);
+    realm.engine.room();
+    this.isStopped = true;
+    this._error(error);
+  }
+  complete() {
+    if (this.isStopped) return stopped(COMPLETION, this);
+    realm.engine.room();
+    this.isStopped = true;
+    this._complete();
+  }
+
+  _next(value) { this._way.next(value, this); }
+  _error(error) { this._way.error(error, this); }
+  _complete() { this._way.complete(this); }
+
+  /** An item that is put into a lane and not told yet. */
+  queue(value, lanes) {
+    if (this.isStopped) return;
+    this._queues = lanes;
+    try { this._next(value); } finally { this._queues = null; }
+  }
+  _serve() {
+    const lanes = this._queues;
+    if (lanes && lanes.length) realm.engine.serve(lanes.splice(0));
+  }
+
+  /** The engine has closed it. */
+  shut() {
+    this.closed = this.isStopped = true;
+    if (this._subject !== null) this._subject._left(this);
+  }
+
+  add(teardown) {
+    if (this._root !== null) this._root.add(teardown);
+    else super.add(teardown);
+  }
+  remove(teardown) {
+    if (this._root !== null) this._root.remove(teardown);
+    else super.remove(teardown);
+  }
+  _opened(thing, root) {
+    this._node = thing;
+    if (root !== null) this._root = root;
+    else this._thing = thing;
+  }
+
+  /** Leaves quietly: its resources are released, and nothing comes of it any more. */
+  unsubscribe() {
+    if (this._root !== null) return this._root.unsubscribe();
+    if (this.closed) return;
+    realm.engine.room();
+    this.shut();
+    const errors = this._tag ? collecting(this._tag, false) : this._finalized(null);
+    if (errors !== null) throw new UnsubscriptionError(errors);
+  }
+}

@@ -1,0 +1,38 @@
+import { realm } from '../engine/realm.mjs';
+import { failing } from './leaf.mjs';
+import { Subscriber } from './subscriber.mjs';
+
+/** Hears one observable for an operator, and is left with what it tells (`destination`). What its functions throw is an error there. */
+export class Link extends Subscriber {
+  constructor(destination, next, complete, error, finalize) {
+    super(destination);
+    this._onNext = next;
+    this._onComplete = complete;
+    this._onError = error;
+    if (finalize) this.initialTeardown = finalize;
+  }
+  get _isInner() { return true; }
+
+  /** Leaves what has ended: what that held is released now, before another one is subscribed to. */
+  leave() {
+    if (this._heard) realm.engine.goOn();
+    this.unsubscribe();
+  }
+  _next(value) {
+    const { destination, _onNext } = this;
+    if (!_onNext) return destination.next(value);
+    try { _onNext(value); } catch (error) { failing(destination, error); }
+  }
+  _error(error) {
+    const { destination, _onError } = this;
+    try {
+      if (_onError) _onError(error); else destination.error(error);
+    } catch (why) { failing(destination, why); } finally { this.unsubscribe(); }
+  }
+  _complete() {
+    const { destination, _onComplete } = this;
+    try {
+      if (_onComplete) _onComplete(); else destination.complete();
+    } catch (error) { failing(destination, error); } finally { this.unsubscribe(); }
+  }
+}

@@ -1,0 +1,78 @@
+import { config, inContext } from './config.mjs';
+import { Link } from './link.mjs';
+import { openLeaf, rootFor } from './place.mjs';
+import { SafeSubscriber, Subscriber, isSubscriber } from './subscriber.mjs';
+import { Leaf, failing } from './leaf.mjs';
+import { isFunction, observable, pipeFromArray } from './util.mjs';
+
+/** What tells items over time to each that subscribes. */
+export class Observable {
+  constructor(subscribe) { if (subscribe) this._subscribe = subscribe; }
+
+  static create(subscribe) { return new Observable(subscribe); }
+
+  lift(operator) {
+    const made = new Observable();
+    made.source = this;
+    made.operator = operator;
+    return made;
+  }
+
+  subscribe(observerOrNext, error, complete) {
+    const subscriber = isSubscriber(observerOrNext) ? observerOrNext : new SafeSubscriber(observerOrNext, error, complete);
+    const is_new = subscriber instanceof Subscriber && !subscriber._used && !(subscriber instanceof Leaf);
+    const root = is_new ? subscriber : new Link(subscriber);
+    root._used = true;
+    if (config.useDeprecatedSynchronousErrorHandling) inContext(() => this._open(rootFor(root)));
+    else this._open(rootFor(root));
+    return subscriber;
+  }
+
+  /** Opens this observable at a place of a tree. */
+  _open(at) {
+    const { operator, source } = this;
+    if (operator && operator.opens) return operator.opens(at, source);
+    const leaf = openLeaf(at);
+    if (leaf === null || leaf.closed) return;
+    leaf.add(operator ? this._called(operator, leaf, source) : source ? this._subscribe(leaf) : this._trySubscribe(leaf));
+  }
+
+  _called(operator, leaf, source) {
+    try { return operator.call(leaf, source); } catch (error) { failing(leaf, error); }
+  }
+  _trySubscribe(leaf) {
+    try { return this._subscribe(leaf); } catch (error) { failing(leaf, error); }
+  }
+  _subscribe(subscriber) { return this.source?.subscribe(subscriber); }
+
+  forEach(next, promiseCtor) {
+    return new (promiseOf(promiseCtor))((resolve, reject) => {
+      const subscriber = new SafeSubscriber({
+        next: (value) => {
+          try { next(value); } catch (error) {
+            reject(error);
+            subscriber.unsubscribe();
+          }
+        },
+        error: reject,
+        complete: resolve,
+      });
+      this.subscribe(subscriber);
+    });
+  }
+
+  pipe(...operators) { return pipeFromArray(operators)(this); }
+
+  toPromise(promiseCtor) {
+    return new (promiseOf(promiseCtor))((resolve, reject) => {
+      let value;
+      this.subscribe((it) => (value = it), reject, () => resolve(value));
+    });
+  }
+
+  [observable]() { return this; }
+}
+
+const promiseOf = (given) => given ?? config.Promise ?? Promise;
+export const isOurs = (value) => !!value && isFunction(value._open) && isFunction(value.lift);
+export const isObservable = (value) => !!value && (value instanceof Observable || (isFunction(value.lift) && isFunction(value.subscribe)));

@@ -1,0 +1,38 @@
+// How operators are made: of functions on items, of nodes, and of links.
+import { from } from '../sources/from.mjs';
+import { Observable, isOurs } from './observable.mjs';
+import { failing } from './leaf.mjs';
+import { openLeaf } from './place.mjs';
+import { isFunction } from './util.mjs';
+
+/** An operator by what it opens at a place. */
+export class Operator {
+  constructor(opens) { this.opens = opens; }
+
+  /** As another library calls it. */
+  call(subscriber, source) {
+    const made = new Observable();
+    made.source = from(source);
+    made.operator = this;
+    return made.subscribe(subscriber);
+  }
+}
+
+export const operator = (opens) => {
+  const made = new Operator(opens);
+  return (source) => {
+    if (isOurs(source)) return source.lift(made);
+    if (!source || !isFunction(source.lift)) throw new TypeError('Unable to lift unknown Observable type');
+    return from(source).lift(made);
+  };
+};
+
+/** A function on items, or what does something at an end: a stage before the book. `make(up)` is called for each subscription. */
+export const staged = (make) => operator((at, source) => source._open(at.through(make(at.way))));
+
+/** What listens by links, and tells a leaf: `init(source, leaf)`. */
+export const operate = (init) => operator((at, source) => {
+  const leaf = openLeaf(at);
+  if (leaf === null) return;
+  try { leaf.add(init(source, leaf)); } catch (error) { failing(leaf, error); }
+});

@@ -1,0 +1,91 @@
+// Where something is to be opened, and how: nodes of the engine, and links, which lead from a tree to another one below it.
+import { GONE, LEAF, PASS, ROOT, SOURCE, WISHES } from '../engine/codes.mjs';
+import { NOWHERE } from '../engine/crossing.mjs';
+import { realm } from '../engine/realm.mjs';
+import { Thing } from '../engine/thing.mjs';
+import { traced } from '../engine/tracing.mjs';
+import { Leaf, TERMINAL } from './leaf.mjs';
+import { Link } from './link.mjs';
+
+/** A place in a tree: below which node, who hears (of a root), and the functions that items go through. */
+export class Place {
+  constructor(place, above, hears = null, way = TERMINAL, leaves = null) {
+    this.place = place;
+    this.above = above;
+    this.hears = hears;
+    this.way = way;
+    this.leaves = leaves; // what is called once the node there has closed
+  }
+  through(way) { return new Place(this.place, this.above, this.hears, way, this.leaves); }
+}
+export const rootFor = (hears) => new Place(ROOT, NOWHERE, hears);
+
+const unopened = new WeakSet(); // errors for which nothing was opened
+
+/** Opens a node there: the thing, or null where the place is closed; then a tag was not taken. */
+export function openNode(at, kind, body = null, tag = null, share = null) {
+  const hears = at.place === ROOT ? at.hears : null, { engine } = realm;
+  let status = GONE, thing = null;
+  try {
+    engine.begins();
+    if (hears === null || !hears.closed) {
+      thing = new Thing(hears, body);
+      thing.leaves = at.leaves;
+      if (hears !== null && !(hears instanceof Link)) traced(thing, 'subscription');
+      status = engine.open(at.place, kind, (body !== null && body.wishes !== false) || at.leaves !== null ? WISHES : 0, at.above, thing, tag, share);
+    }
+  } catch (error) {
+    unopened.add(error);
+    throw error;
+  }
+  if (share !== null) share.status = status;
+  if (status) return null;
+  if (hears !== null && !hears.closed) hears._roots(thing);
+  return thing;
+}
+
+/** Opens a leaf there: what tells it, or null. */
+export function openLeaf(at) {
+  const leaf = new Leaf(at.way), thing = openNode(at, LEAF, leaf);
+  if (thing === null) return null;
+  leaf._opened(thing, at.place === ROOT ? at.hears : null);
+  return leaf;
+}
+
+/** Opens a node that passes everything, with a resource; the place below it, or null. */
+export function openUsing(at, tag) {
+  const thing = openNode(at, PASS, null, tag);
+  return thing && new Place(SOURCE, thing, null, at.way);
+}
+
+/** Opens a node that passes everything: the place below it, or null. */
+export function openPass(at) {
+  const thing = openNode(at, PASS);
+  return thing && new Place(SOURCE, thing, null, at.way);
+}
+/** A resource for the node above a place; released at once where that has closed. */
+export function holdAt(below, tag) {
+  let status = 1;
+  try { status = realm.engine.hold(below.above, tag); } finally { if (status) tag.release(); }
+}
+
+/** A tree of its own that tells a leaf at this place: the place of its root, or null. */
+export function linked(at) {
+  const leaf = openLeaf(at);
+  return leaf && rootFor(new Link(leaf));
+}
+
+/** The place itself, or that of a link where functions before the book do something at an end that a node would come to. */
+export const settled = (at) => (at.way.hooked ? linked(at) : at);
+
+/** Fails there. */
+export function failAt(at, error) { openLeaf(at)?.error(error); }
+
+/** Opens an observable below what is open: where there is no room for it, that is an error there, once there is. */
+export function openAt(source, at) {
+  try { source._open(at); } catch (error) {
+    if (!unopened.has(error)) throw error;
+    realm.engine.surely(() => failAt(at, error));
+  }
+}
+

@@ -1,0 +1,195 @@
+import { realm } from '../engine/realm.mjs';
+import { ROOT } from '../engine/codes.mjs';
+import { ObjectUnsubscribedError } from './errors.mjs';
+import { Leaf, TERMINAL } from './leaf.mjs';
+import { Observable } from './observable.mjs';
+import { failAt, openLeaf } from './place.mjs';
+import { Subscription } from './subscription.mjs';
+
+/** A subscriber of another make on a subject's list. */
+class Guest {
+  constructor(subscriber) {
+    this.subscriber = subscriber;
+    this._subject = this._before = this._after = null;
+  }
+  next(value) { this.subscriber.next(value); }
+  queue(value) { this.subscriber.next(value); }
+  error(error) { this.subscriber.error(error); }
+  complete() { this.subscriber.complete(); }
+}
+
+/** What it is told it tells to each that subscribed, each in order. */
+export class Subject extends Observable {
+  constructor() {
+    super();
+    this.closed = this.isStopped = this.hasError = false;
+    this.thrownError = null;
+    this._first = this._last = null; // its leaves, in a ring of their own
+    this._size = 0;
+    this._list = null; // all of them, until one comes or goes
+  }
+
+  static create(destination, source) { return new AnonymousSubject(destination, source); }
+
+  lift(operator) {
+    const made = new AnonymousSubject(this, this);
+    made.operator = operator;
+    return made;
+  }
+
+  get observed() { return this._size > 0; }
+  get observers() { return this.closed ? null : this._all().map((it) => (it instanceof Guest ? it.subscriber : it)); }
+  _all() {
+    if (this._list !== null) return this._list;
+    const list = [];
+    for (let it = this._first; it !== null; it = it._after) list.push(it);
+    return (this._list = list);
+  }
+
+  _throwIfClosed() { if (this.closed) throw new ObjectUnsubscribedError(); }
+
+  next(value) {
+    this._throwIfClosed();
+    if (this.isStopped) return;
+    if (this._size <= 1) {
+      if (this._first !== null) this._first.next(value);
+      return;
+    }
+    const list = this._all(), lanes = [];
+    for (const leaf of list) leaf.queue(value, lanes);
+    realm.engine.serve(lanes);
+  }
+  error(error) {
+    this._throwIfClosed();
+    if (this.isStopped) return;
+    this.hasError = this.isStopped = true;
+    this.thrownError = error;
+    for (const leaf of this._emptied()) leaf.error(error);
+  }
+  complete() {
+    this._throwIfClosed();
+    if (this.isStopped) return;
+    this.isStopped = true;
+    for (const leaf of this._emptied()) leaf.complete();
+  }
+  unsubscribe() {
+    this.isStopped = this.closed = true;
+    this._emptied();
+  }
+  _emptied() {
+    const leaves = this._all();
+    for (const it of leaves) it._subject = null;
+    this._first = this._last = this._list = null;
+    this._size = 0;
+    return leaves;
+  }
+  _left(leaf) {
+    if (leaf._subject !== this) return;
+    leaf._subject = null;
+    const before = leaf._before, after = leaf._after;
+    if (before === null) this._first = after; else before._after = after;
+    if (after === null) this._last = before; else after._before = before;
+    this._size--;
+    this._list = null;
+  }
+
+  _open(at) {
+    if (this.operator || this.source) return super._open(at);
+    if (this.closed) {
+      if (at.place === ROOT && at.way === TERMINAL) throw new ObjectUnsubscribedError();
+      return failAt(at, new ObjectUnsubscribedError());
+    }
+    const leaf = openLeaf(at);
+    if (leaf !== null) leaf.add(this._subscribe(leaf));
+  }
+  _trySubscribe(subscriber) {
+    this._throwIfClosed();
+    return this._subscribe(subscriber);
+  }
+  _subscribe(subscriber) {
+    this._ended(subscriber);
+    return this._joined(subscriber);
+  }
+  /** Tells an end that has been. */
+  _ended(subscriber) {
+    if (this.hasError) subscriber.error(this.thrownError);
+    else if (this.isStopped) subscriber.complete();
+  }
+  _joined(subscriber) {
+    if (this.hasError || this.isStopped || subscriber.closed) return Subscription.EMPTY;
+    const is_leaf = subscriber instanceof Leaf, leaf = is_leaf ? subscriber : new Guest(subscriber), last = this._last;
+    leaf._subject = this;
+    leaf._before = last;
+    leaf._after = null;
+    if (last === null) this._first = leaf; else last._after = leaf;
+    this._last = leaf;
+    this._size++;
+    this._list = null;
+    return is_leaf ? undefined : new Subscription(() => this._left(leaf));
+  }
+
+  asObservable() {
+    const made = new Observable();
+    made.source = this;
+    made._open = (at) => this._open(at);
+    return made;
+  }
+}
+
+/** A subject that tells one observer and is told by an observable. */
+export class AnonymousSubject extends Subject {
+  constructor(destination, source) {
+    super();
+    this.destination = destination;
+    this.source = source;
+  }
+  next(value) { this.destination?.next?.(value); }
+  error(error) { this.destination?.error?.(error); }
+  complete() { this.destination?.complete?.(); }
+  _subscribe(subscriber) { return this.source?.subscribe(subscriber) ?? Subscription.EMPTY; }
+  get observed() { return super.observed; }
+}
+
+export class BehaviorSubject extends Subject {
+  constructor(value) {
+    super();
+    this._value = value;
+  }
+  get value() { return this.getValue(); }
+  getValue() {
+    if (this.hasError) throw this.thrownError;
+    this._throwIfClosed();
+    return this._value;
+  }
+  next(value) { super.next(this._value = value); }
+  _subscribe(subscriber) {
+    const subscription = super._subscribe(subscriber);
+    if (!this.hasError && !this.isStopped && !subscriber.closed) subscriber.next(this._value);
+    return subscription;
+  }
+}
+
+/** Tells only the last item, with the end. */
+export class AsyncSubject extends Subject {
+  _value = null;
+  _hasValue = false;
+  _isComplete = false;
+
+  _ended(subscriber) {
+    if (this.hasError) return subscriber.error(this.thrownError);
+    if (!this.isStopped && !this._isComplete) return;
+    if (this._hasValue) subscriber.next(this._value);
+    subscriber.complete();
+  }
+  next(value) {
+    if (this.isStopped) return;
+    this._value = value;
+    this._hasValue = true;
+  }
+  complete() {
+    if (this._isComplete) return;
+    this._isComplete = true;
+    if (this._hasValue) super.next(this._value);
+    super.complete();
+  }
+}

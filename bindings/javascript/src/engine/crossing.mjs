@@ -1,0 +1,443 @@
+// The crossing: commands go in as numbers of 32 bits in the engine's memory, and what they come to is told to the things that words name.
+//
+// A word is a place in a table. A word is free behind the last effect that has it; a value, behind the last that carries it.
+// All of an answer is read before anything is called, since what is called may make commands.
+//
+// The stack has three marks. An item is made, and an effect taken, where there is room to tell it and for what that leads to; an end is told and
+// a node opened where two thirds of that are left; any other command where a third is. What a command hands out is told later
+// where there is no room for that. So what an effect leads to always finds room, and RangeError means that nothing was done.
+import { COMPLETE, DECLINE, DISPOSE, DONE, ERROR, FAIL, FLAT, HOLD, LEAF, NEXT, OPEN, PUT, QUEUES, REMOVE, ROOT, SHARED, SHUT, SWITCH, USING, WISHES } from './codes.mjs';
+import { LAYOUT } from './glue.mjs';
+import { Table } from './table.mjs';
+import { Lane } from './thing.mjs';
+
+const REFUSED = { 4: 'no memory is left', 16: 'too much is open', 29: 'a node holds too many resources' };
+const NEXT_QUEUES = NEXT | QUEUES << 24;
+
+export class Crossing {
+  #realm; #wasm; #glue; #base; #places; #c; #a; #e; #left; #words;
+  #things = new Table(); #values = new Table();
+  #postponed = null; #depth = 0; #made = 0;
+  #ending = []; // lanes in which an end is being told, each because of the one before
+  dead = null; // why no command can be made any more
+  tracing = false;
+
+  constructor(wasm, glue, realm) {
+    this.#realm = realm;
+    this.#wasm = wasm;
+    this.#base = Number(wasm.place(1024n));
+    this.#places = Object.fromEntries(Object.entries(LAYOUT).map(([name, at]) => [name, BigInt(this.#base + at)]));
+    new Uint8Array(wasm.memory.buffer, this.#base, 1024).fill(0);
+    if (wasm.cellar_abi() >>> 16 !== 1) throw new Error('cellarcliff: the module has another interface');
+    const status = wasm.cellar_new(this.#places.engine, 0);
+    if (status) throw new Error(`cellarcliff: no engine was made (${status})`);
+    const globals = ['engine', 'command', 'answer', 'effect', 'count'].map((it) => [it, new WebAssembly.Global({ value: 'i64' }, this.#places[it])]);
+    const base = new WebAssembly.Global({ value: 'i32' }, this.#base);
+    this.#glue = new WebAssembly.Instance(glue, { e: { ...wasm, base, ...Object.fromEntries(globals) } }).exports;
+    this.#look();
+  }
+
+  // Memory that has grown detaches each view of it: then all are made anew.
+  #look() {
+    const { buffer } = this.#wasm.memory, at = (place) => this.#base + LAYOUT[place];
+    this.#c = new Int32Array(buffer, at('command'), 16);
+    this.#a = new Int32Array(buffer, at('answer'), 64);
+    this.#e = new Int32Array(buffer, at('effect'), 10); // the count stands behind it
+    this.#left = new Int32Array(buffer, at('left'), 3);
+    this.#words = new Int32Array(buffer, at('words'), 2 * LAYOUT.room);
+  }
+
+  // What a call threw: for want of stack nothing was done; a trap leaves the engine dead.
+  #failed(error) {
+    if (this.dead !== null || this.#glue.entered.value === 0) return error;
+    this.dead = error instanceof Error ? error : new Error(String(error));
+    const dies = () => { throw new Error(`cellarcliff: the engine stopped within a call and is dead: ${this.dead.message}`, { cause: this.dead }); };
+    this.#glue = { room: dies, make: dies, open: dies, next: dies, take: dies, takeOn: dies, giveUp: dies, entered: { value: 1 } };
+    this.#wasm = { ...this.#wasm, cellar_totals: dies, cellar_dump: dies, cellar_rest: dies };
+    try { return dies(); } catch (why) { return why; }
+  }
+
+  /** Throws RangeError where the stack has no room for a command and for what leads to it. */
+  room() { this.#glue.room(1); }
+
+  // Commands. Each answers its status, and first does what was put off for want of stack.
+
+  #begins() {
+    if (this.#postponed !== null && this.#depth === 0) this.#resume();
+  }
+  /** Does what was put off, before somebody looks whether a place is open. */
+  begins() { this.#begins(); }
+
+  #make(what, node, user, value, opens = false) {
+    if (this.#c.length === 0) this.#look();
+    const c = this.#c;
+    c[0] = what;
+    c[4] = node.slot, c[5] = node.top, c[6] = node.lo, c[7] = node.hi;
+    c[8] = user, c[10] = value;
+    let status;
+    // an opening wants more room, so that a resource can be held behind it
+    try { status = opens ? this.#glue.open() : this.#glue.make(); } catch (error) { throw this.#failed(error); }
+    this.#made++;
+    if (this.#a.length === 0) this.#look();
+    return status;
+  }
+
+  #refused(status) {
+    if (REFUSED[status]) throw new Error(`cellarcliff: ${REFUSED[status]}`);
+    return status;
+  }
+
+  /** Opens a node of this kind at a place, of which a thing is told; behind `begins`. A tag is held by it from the start; a share has its word and hub. */
+  open(place, kind, flags, above, thing, tag = null, share = null) {
+    const owed = (place === ROOT ? 1 : 0) + (kind === FLAT || kind === SWITCH ? 1 : 0) + (flags & WISHES);
+    const user = owed ? this.#things.take(thing) : 0, tagWord = tag === null ? 0 : this.#things.take(tag);
+    if (this.#c.length === 0) this.#look();
+    const c = this.#c;
+    c[1] = share === null ? 0 : share.level;
+    c[2] = share === null ? 0 : share.hub, c[3] = share === null ? 0 : share.hubHigh;
+    let status = -1;
+    try {
+      status = this.#make((tag === null ? OPEN : USING) | place << 8 | kind << 16 | flags << 24, above, user,
+        tag !== null ? tagWord : share !== null ? share.word : 0, true);
+    } finally {
+      if (status !== DONE) {
+        if (tag !== null) this.#things.free(tagWord);
+        if (owed) this.#things.free(user);
+      }
+    }
+    if (status !== DONE) return this.#refused(status);
+    const a = this.#a;
+    thing.owed = owed;
+    thing.is_lone = place === ROOT && (kind === LEAF || kind === SHARED);
+    thing.slot = a[0], thing.top = a[1], thing.lo = a[2], thing.hi = a[3];
+    if (tag !== null) this.#named(tag);
+    if (share !== null) {
+      share.hub = a[10], share.hubHigh = a[11];
+      share.connection = a[8] ? this.#named(share.make()) : null;
+    }
+    if (a[14] !== 0 || a[16] !== 0) this.#act(undefined);
+    return DONE;
+  }
+
+  #named(thing) {
+    const a = this.#a;
+    thing.slot = a[4], thing.top = a[5], thing.lo = a[6], thing.hi = a[7];
+    return thing;
+  }
+
+  /** A resource for a node: its tag gets the resource's key. */
+  hold(node, tag) {
+    this.#begins();
+    const word = this.#things.take(tag);
+    let status = -1;
+    try { status = this.#make(HOLD, node, 0, word); } finally { if (status !== DONE) this.#things.free(word); }
+    if (status !== DONE) return this.#refused(status);
+    node.is_lone = false;
+    this.#named(tag);
+    return DONE;
+  }
+
+  /** Lets a resource go before its node closes. */
+  remove(tag) { return this.#ends(REMOVE, tag); }
+
+  /** An item. */
+  next(node, value) {
+    this.#begins();
+    const word = this.#values.next();
+    let status;
+    try { status = this.#glue.next(NEXT, node.slot, node.top, node.lo, node.hi, word); } catch (error) { throw this.#failed(error); }
+    const made = ++this.#made;
+    if (this.#a.length === 0) this.#look();
+    if (status !== DONE) return status;
+    const a = this.#a;
+    if (a[18] === 0 || a[14] !== 0 || a[58] !== 0) return this.#act(value);
+    // the usual case: one observer, who is told now
+    const low = a[36], high = a[37], { hears } = this.#things.get(a[52]);
+    this.#depth++;
+    try { hears.hear(value); } catch (error) { this.#report(error); }
+    if (this.#made === made) this.#leave(low, high); else this.#serve(low, high);
+    this.#end();
+    return DONE;
+  }
+
+  /** An item that is not handed out: the lanes that are due are added to a list. */
+  queue(node, value, lanes) {
+    this.#begins();
+    const word = this.#values.next();
+    let status;
+    try { status = this.#glue.next(NEXT_QUEUES, node.slot, node.top, node.lo, node.hi, word); } catch (error) { throw this.#failed(error); }
+    this.#made++;
+    if (this.#a.length === 0) this.#look();
+    if (status !== DONE) return status;
+    const a = this.#a;
+    if (a[14] !== 0 || a[16] !== 1) return this.#act(value, lanes);
+    if (a[12] !== 0) this.#values.keep(value, a[12]);
+    lanes.push(a[36], a[37]);
+    return DONE;
+  }
+
+  complete(node) { return this.#ends(COMPLETE, node); }
+  error(node, error) { return this.#fails(ERROR, node, error); }
+  fail(node, error) { return this.#fails(FAIL, node, error); }
+  decline(node) { return this.#ends(DECLINE, node); }
+  dispose(node) { return this.#ends(DISPOSE, node); }
+  /** Closes all that is open: each command one root, connection or lease. What is opened meanwhile stays. */
+  shut() {
+    for (let many = this.totals().nodes; many > 0 && this.#ends(SHUT, NOWHERE) === DONE; many--) if (this.totals().nodes === 0) break;
+  }
+  #ends(what, node) {
+    this.#begins();
+    return this.#make(what, node, 0, 0) || this.#act(undefined);
+  }
+  #fails(what, node, error) {
+    this.#begins();
+    return this.#make(what, node, 0, this.#values.next()) || this.#act(error);
+  }
+
+  /** Something of the package's own that is done behind whatever the node's lane has. */
+  put(node, act) {
+    this.#begins();
+    const word = this.#things.take(new Errand(act));
+    let status = -1;
+    try { status = this.#make(PUT, node, word, this.#values.next()); } finally { if (status !== DONE) this.#things.free(word); }
+    if (status === DONE) this.#act(undefined);
+    return status;
+  }
+
+  // What a command came to: closings first, then what was handed out, then each lane.
+
+  #act(value, queues = null) {
+    const a = this.#a, copies = a[12], closed = a[14], due = a[16];
+    if (a[18] !== 0) return this.#handed(value);
+    if (copies !== 0) this.#values.keep(value, copies);
+    if (closed === 0 && due === 0) return DONE;
+    if (due <= 1) {
+      const low = a[36], high = a[37];
+      if (closed !== 0) this.#close(closed);
+      if (due === 0) return DONE;
+      if (queues !== null) queues.push(low, high);
+      else this.#begin(low, high);
+      return DONE;
+    }
+    const lanes = insideFirst(this.#rest(36, due, 1));
+    if (closed !== 0) this.#close(closed);
+    if (queues !== null) for (const it of lanes) queues.push(it);
+    else this.serve(lanes);
+    return DONE;
+  }
+
+  // The effect of an answer, told at once where there is room.
+  #handed(value) {
+    const a = this.#a, low = a[36], high = a[37], user = a[52], kind = a[58];
+    if (a[14] !== 0) this.#close(a[14]);
+    this.#depth++;
+    try { this.#glue.room(2); } catch (error) {
+      if (this.dead !== null) throw error;
+      this.#depth--;
+      this.#postpone(() => {
+        this.#tell(user, kind, value, low, high);
+        this.#serve(low, high);
+      });
+      return DONE;
+    }
+    const made = this.#made, is_left = this.#tell(user, kind, value, low, high);
+    // a projection that has let its lane go leaves nothing to serve
+    if (kind !== 1 || is_left !== true) {
+      if (this.#made === made) this.#leave(low, high); else this.#serve(low, high);
+    }
+    this.#end();
+    return DONE;
+  }
+
+  // A lane of which all was told, and into which nothing can have come, since no command was made: it is left with the next call.
+  #leave(low, high) {
+    if (this.#left.length === 0) this.#look();
+    const left = this.#left;
+    left[0] = low, left[1] = high, left[2] = 1;
+  }
+
+  #begin(low, high) {
+    this.#depth++;
+    this.#serve(low, high);
+    this.#end();
+  }
+  #end() {
+    if (--this.#depth === 0 && this.#postponed !== null) this.#resume();
+  }
+
+  /** Serves each of the lanes (a list of their halves), until it has nothing. */
+  serve(lanes) {
+    if (lanes.length === 0) return;
+    this.#depth++;
+    for (let i = 0; i < lanes.length; i += 2) this.#serve(lanes[i], lanes[i + 1]);
+    this.#end();
+  }
+
+  // A list of the answer, both halves of each word: the first eight stand in it. First of all that is read of it.
+  #rest(at, count, which) {
+    const found = [];
+    for (let i = 0; i < count && i < 8; i++) found.push(this.#a[at + 2 * i], this.#a[at + 2 * i + 1]);
+    while (found.length < 2 * count) {
+      const { engine, words, count: told } = this.#places;
+      this.#wasm.cellar_rest(engine, which, BigInt(found.length / 2), words, BigInt(LAYOUT.room), told);
+      for (let i = 0; i < 2 * this.#e[8]; i++) found.push(this.#words[i]);
+    }
+    return found;
+  }
+
+  #close(count) {
+    if (count === 1) return this.#closeOne(this.#a[20]);
+    const words = this.#rest(20, count, 0), things = [];
+    for (let i = 0; i < words.length; i += 2) things.push(this.#things.get(words[i]));
+    for (const thing of things) if (thing.body !== null) thing.body.shut(thing);
+    for (let i = 0; i < things.length; i++) this.#drop(words[2 * i], things[i]);
+    for (const thing of things) if (thing.leaves !== null) thing.leaves(thing);
+  }
+  #closeOne(word) {
+    const thing = this.#things.get(word);
+    if (thing.body !== null) thing.body.shut(thing);
+    this.#drop(word, thing);
+    if (thing.leaves !== null) thing.leaves(thing);
+  }
+
+  #drop(word, thing) { if (--thing.owed === 0) this.#things.free(word); }
+
+  // A lane that cannot be served for want of stack is served once there is more.
+  #serve(low, high) {
+    for (let is_first = true; ; is_first = false) {
+      let count;
+      try { count = is_first ? this.#glue.take(low, high) : this.#glue.takeOn(low, high); } catch (error) {
+        const why = this.#failed(error);
+        if (this.dead !== null) throw why;
+        return this.#postpone(() => this.#serve(low, high));
+      }
+      if (count === 0) return;
+      if (this.#e.length === 0) this.#look();
+      const e = this.#e, kind = e[6], made = this.#made;
+      const it = this.#tell(e[0], kind, e[7] ? this.#values.give(e[2]) : undefined, low, high);
+      // a root alone, which held nothing, is told nothing more in its lane
+      if (kind === 4 && it === true && this.#made === made) return this.#leave(low, high);
+    }
+  }
+
+  /** What cannot be done for want of stack is done once there is more: with the next command, or in a turn of its own. */
+  #postpone(act) {
+    if (this.#postponed !== null) return void this.#postponed.push(act);
+    this.#postponed = [act];
+    queueMicrotask(() => { if (this.#depth === 0 && this.#postponed !== null) this.#resume(); });
+  }
+  /** Does it, or later where there is no room for it. */
+  surely(act) {
+    try {
+      this.#glue.room(2);
+    } catch (error) {
+      if (this.dead !== null) throw error;
+      return this.#postpone(act);
+    }
+    return act();
+  }
+
+  // The stack may still be as full: then all of it stays for a turn of its own.
+  #resume() {
+    try { this.#glue.room(2); } catch { return; }
+    const acts = this.#postponed;
+    this.#postponed = null;
+    this.#depth++;
+    for (const act of acts) try { act(); } catch (error) { this.#report(error); }
+    this.#depth--;
+  }
+
+  // No effect is lost by what another one throws: each catches what it calls, and what is left is reported.
+  #tell(user, kind, value, low, high) {
+    const thing = this.#things.get(user);
+    try {
+      switch (kind) {
+        case 0: return thing.hears.hear(value);
+        case 1: return thing.body.project(thing, value, new Lane(low, high));
+        case 2: case 3: return this.#tellEnd(user, thing, kind, value, new Lane(low, high));
+        case 4: return this.#drop(user, thing), thing.hears.heardGone(), thing.is_lone;
+        case 5: return this.#drop(user, thing), thing.release();
+        case 6: return this.#drop(user, thing), thing.act(new Lane(low, high));
+        case 7: return this.#drop(user, thing);
+      }
+    } catch (error) { this.#report(error); }
+  }
+
+  #tellEnd(user, thing, kind, value, lane) {
+    this.#drop(user, thing);
+    this.#ending.push(lane);
+    try {
+      if (kind === 2) thing.hears.heardEnd(); else thing.hears.heardError(value);
+    } finally { this.#ending.pop(); }
+  }
+
+  #report(error) {
+    try { (this.#realm.report ?? later)(error); } catch { this.#postpone(() => (this.#realm.report ?? later)(error)); }
+  }
+
+  /** Lets a lane go in the midst of serving it, so that a projection from within an inner observable comes at once. */
+  giveUp({ low, high }) {
+    this.#made++;
+    try { return this.#glue.giveUp(low, high) !== 0; } catch (error) { throw this.#failed(error); }
+  }
+
+  /** Serves what stands behind the end that is being told, and behind those that it comes of: what they held is released now. */
+  goOn() {
+    for (const it of [...this.#ending]) if (this.giveUp(it)) this.#serve(it.low, it.high);
+  }
+  /** What a program does as it hears an end does not come of that end: answers what `together` takes. */
+  apart() {
+    const ends = this.#ending;
+    this.#ending = [];
+    return ends;
+  }
+  together(ends) { this.#ending = ends; }
+
+  // What the engine can say of itself.
+
+  totals() {
+    this.#glue.take(-1, -1); // leaves the lane that is left with the next call
+    this.#wasm.cellar_totals(this.#places.engine, this.#places.words);
+    if (this.#c.length === 0) this.#look();
+    const words = new BigUint64Array(this.#wasm.memory.buffer, Number(this.#places.words), 8);
+    const [nodes, held, waiting, leases, accepted, taken, events, effects] = Array.from(words, Number);
+    return { nodes, held, waiting, leases, accepted, taken, events, effects };
+  }
+
+  /** All things that are open. */
+  things() { return this.#things.all(); }
+
+  /** The history, as a dump; null where it has been cut. */
+  dump() {
+    this.room();
+    const { engine, count } = this.#places;
+    let size = 65536;
+    for (;;) {
+      const at = this.#wasm.place(BigInt(size));
+      if (at === 0n) throw new Error('cellarcliff: no memory is left');
+      const status = this.#wasm.cellar_dump(engine, at, BigInt(size), count);
+      this.#look();
+      const told = Number(new BigUint64Array(this.#wasm.memory.buffer, Number(count), 1)[0]);
+      const bytes = new Uint8Array(this.#wasm.memory.buffer, Number(at), Math.min(told, size)).slice();
+      this.#wasm.unplace(at);
+      if (status !== 7) return status ? null : bytes;
+      size = Math.max(told, 2 * size);
+    }
+  }
+}
+
+/** What is done once, when its turn comes. */
+class Errand {
+  owed = 1;
+  constructor(act) { this.act = act; }
+}
+/** A key that names nothing. */
+export const NOWHERE = { slot: -1, top: -1, lo: -1, hi: -1 };
+const later = (error) => { setTimeout(() => { throw error; }); };
+// What is released within a lane that is being served comes before what is projected, so that nothing is made before it. The highest bit
+// of a lane's name says so.
+function insideFirst(lanes) {
+  const inside = [], others = [];
+  for (let i = 0; i < lanes.length; i += 2) (lanes[i + 1] < 0 ? inside : others).push(lanes[i], lanes[i + 1]);
+  return inside.length ? inside.concat(others) : lanes;
+}

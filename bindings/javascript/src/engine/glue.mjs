@@ -1,0 +1,93 @@
+// A small module of WebAssembly between the package and the engine, written here byte by byte: it takes numbers of 32 bits, which cost
+// nothing to pass, where the engine's calls have 64, and looks at the stack before each call.
+//
+// `room(n)` looks for n + 1 times STEP bytes of stack: its frame is so large, since the branch that is never taken keeps so many numbers over a
+// call, and a platform compares with its limit as a function of that size is entered. Where there is less, that is a RangeError and
+// the engine was not called. `entered` is 1 within a call of the engine: a trap has then left it in the midst of one. The engine's
+// own calls were seen to need less than 2,000 bytes; the rest of a step is for what the package does around them.
+const STEP = 24576;
+
+const unsigned = (n) => (n < 128 ? [n] : [n % 128 | 128, ...unsigned(Math.floor(n / 128))]);
+const signed = (n) => (n >= -64 && n < 64 ? [n & 127] : [n & 127 | 128, ...signed(n >> 7)]);
+const text = (it) => [...unsigned(it.length), ...[...it].map((c) => c.charCodeAt(0))];
+const list = (items) => [...unsigned(items.length), ...items.flat()];
+const sized = (body) => [...unsigned(body.length), ...body];
+const section = (number, items) => [number, ...sized(list(items))];
+
+const I32 = 0x7f, I64 = 0x7e, FUNCTION = 0, MEMORY = 2, GLOBAL = 3, IF = [0x04, 0x40], END = [0x0b], DROP = [0x1a], TRAP = [0x00];
+const ADD = 0x7c, ELSE = [0x05], MORE = [0x4a], LESS_ONE = [0x41, 1, 0x6b], SHIFT = [0x86], OR = [0x84], LONG = [0xad];
+const type = (from, to) => [0x60, ...list(from.map((it) => [it])), ...list(to.map((it) => [it]))];
+const get = (n) => [0x20, ...unsigned(n)], call = (n) => [0x10, ...unsigned(n)];
+const constant = (n) => [0x41, ...signed(n)], long = (n) => [0x42, ...signed(n)];
+const global = (n) => [0x23, ...unsigned(n)], setGlobal = (n) => [0x24, ...unsigned(n)];
+const load64 = (at) => [0x29, 3, ...unsigned(at)], store64 = (at) => [0x37, 3, ...unsigned(at)];
+const load32 = (at) => [0x28, 2, ...unsigned(at)], store32 = (at) => [0x36, 2, ...unsigned(at)];
+const code = (locals, ...body) => sized([...list(locals), ...body.flat(), ...END]);
+
+// Numbers of functions and of globals, and of a command's fields.
+const MAKE = 0, TAKE = 1, GIVE_UP = 2, ROOM = 3, TAKES = 4, TAKES_ON = 9;
+const BASE = 0, ENGINE = 1, COMMAND = 2, ANSWER = 3, EFFECT = 4, COUNT = 5, ENTERED = 6;
+/** Bytes behind the base at which the engine's handle, a command, an answer, an effect, a count and the lane that is left stand. */
+export const LAYOUT = { engine: 0, command: 64, answer: 128, effect: 384, count: 416, left: 432, words: 448, room: 64 };
+const field = (at, value) => [...global(BASE), ...value, ...store32(LAYOUT.command + at)];
+const entering = (...it) => [...global(ENTERED), ...IF, ...TRAP, ...END, ...constant(1), ...setGlobal(ENTERED), ...it.flat(), ...constant(0), ...setGlobal(ENTERED)];
+const lane = [...get(1), ...LONG, ...long(32), ...SHIFT, ...get(0), ...LONG, ...OR]; // of its two halves
+const left = (at) => [...global(BASE), ...load32(LAYOUT.left + at)];
+// The lane that was told all is left with the next command, so that an item costs one call. If something were in it, that is a trap.
+const leaving = [...left(8), ...IF, ...left(0), ...left(4), ...call(TAKES), ...IF, ...TRAP, ...END, ...global(BASE), ...constant(0), ...store32(LAYOUT.left + 8), ...END];
+const roomy = (n) => [...constant(n), ...call(ROOM)];
+
+function room() {
+  const many = STEP / 8, body = [1, ...unsigned(many), I64, ...get(0), ...constant(1000), ...MORE, ...IF];
+  // numbers of up to 21 bits in three bytes, which is quick to write
+  const number = (n) => body.push(n & 127 | 128, n >> 7 & 127 | 128, n >> 14);
+  for (let i = 1; i <= many; i++) {
+    body.push(0x20, 0, 0x29, 3);
+    number(8 * i);
+    body.push(0x21);
+    number(i);
+  }
+  // the sum begins with what is read behind the call, so that all numbers are kept over it
+  body.push(...constant(0), ...call(ROOM), ...get(0), ...get(0), ...load64(0));
+  for (let i = 1; i <= many; i++) {
+    body.push(0x20);
+    number(i);
+    body.push(ADD);
+  }
+  body.push(...store64(0), ...ELSE, ...get(0), ...IF, ...get(0), ...LESS_ONE, ...call(ROOM), ...END, ...END, ...END);
+  return body;
+}
+
+const makes = entering(leaving, global(ENGINE), global(COMMAND), global(ANSWER), call(MAKE));
+const EXPORTS = { room: ROOM, make: 5, open: 6, next: 7, take: 8, takeOn: TAKES_ON, giveUp: 10 };
+const header = () => [0, 0x61, 0x73, 0x6d, 1, 0, 0, 0,
+  ...section(1, [type([I64, I64, I64], [I32]), type([I64, I64, I64, I64, I64], [I32]), type([I64, I64, I64, I64, I64, I64], [I32]),
+    type([I32], []), type([], [I32]), type([I32, I32, I32, I32, I32, I32], [I32]), type([I32, I32], [I32])]),
+  ...section(2, [
+    ...['cellar_make', 'cellar_take', 'cellar_give_up'].map((it, i) => [...text('e'), ...text(it), FUNCTION, i]), [...text('e'), ...text('memory'), MEMORY, 0, 0],
+    ...['base', 'engine', 'command', 'answer', 'effect', 'count'].map((it) => [...text('e'), ...text(it), GLOBAL, it === 'base' ? I32 : I64, 0])]),
+  ...section(3, [[3], [6], [4], [4], [5], [6], [6], [6]]),
+  ...section(6, [[I32, 1, ...constant(0), ...END]]),
+  ...section(7, [...Object.entries(EXPORTS).map(([name, n]) => [...text(name), FUNCTION, n]), [...text('entered'), GLOBAL, ENTERED]]),
+];
+const small = () => [
+    code([], global(ENGINE), lane, long(0), global(EFFECT), global(COUNT), call(TAKE), DROP, global(BASE), load32(LAYOUT.count)),
+    code([], roomy(0), makes), // a command that was written
+    code([], roomy(1), makes), // an opening
+    // an item: what and flags, the four parts of the node's key, the value's word
+    code([], roomy(2), field(0, get(0)), field(16, get(1)), field(20, get(2)), field(24, get(3)), field(28, get(4)), field(32, constant(0)),
+      field(40, get(5)), makes),
+    code([], roomy(2), get(0), get(1), call(TAKES_ON)), // the next effect of a lane; and of one that has been looked at from the same depth
+    code([], entering(leaving, get(0), get(1), call(TAKES))),
+    code([], roomy(0), entering(leaving, global(ENGINE), lane, long(0), global(EFFECT), long(0), global(COUNT), call(GIVE_UP), DROP),
+      global(BASE), load32(LAYOUT.count)),
+];
+/** The bytes of the module; the large function is put in its place as it is. */
+export function glue() {
+  const large = room(), others = small(), before = [others.length + 1, ...unsigned(large.length)], behind = others.flat();
+  const head = [...header(), 10, ...unsigned(before.length + large.length + behind.length), ...before], bytes = new Uint8Array(head.length + large.length + behind.length);
+  bytes.set(head);
+  bytes.set(large, head.length);
+  bytes.set(behind, head.length + large.length);
+  return bytes;
+}

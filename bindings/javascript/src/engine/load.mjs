@@ -1,0 +1,18 @@
+// The module of the engine: compiled as this is imported, by whatever the platform has.
+import { glue } from './glue.mjs';
+import { realm } from './realm.mjs';
+
+const IS_NODE = typeof process === 'object' && !!process.versions?.node;
+
+/** The compiled module, of the file beside the package. */
+async function compiled() {
+  const place = new URL('../../engine.wasm', import.meta.url);
+  if (!IS_NODE) return WebAssembly.compileStreaming(fetch(place));
+  const { readFileSync } = await import(/* webpackIgnore: true */ 'node:fs');
+  return new WebAssembly.Module(readFileSync(process.env.CELLARCLIFF_WASM || place));
+}
+
+if (!realm.engine) {
+  const [module, between] = await Promise.all([compiled(), WebAssembly.compile(glue())]);
+  realm.start(module, between);
+}

@@ -1,0 +1,21 @@
+// One engine for a realm, however often and in whichever form the package is loaded.
+import { Crossing } from './crossing.mjs';
+
+const KEY = Symbol.for('cellarcliff.realm.1');
+
+export const realm = globalThis[KEY] ??= {
+  engine: null,
+  report: null, // where an error goes that nobody hears
+  /** Makes the engine of its module and of the one between, unless another copy of the package has made it. */
+  start(module, glue) {
+    if (this.engine) return;
+    this.engine = new Crossing(new WebAssembly.Instance(module).exports, glue, this);
+    atTheEnd(() => { if (this.engine.dead === null) this.engine.shut(); });
+  },
+};
+
+/** Does it at the end of a process or of a page, where the platform tells of that: not of a page that is kept to be shown again. */
+function atTheEnd(act) {
+  if (typeof process === 'object' && typeof process.on === 'function' && process.versions?.node) process.on('exit', act);
+  else if (typeof document === 'object' && typeof addEventListener === 'function') addEventListener('pagehide', (event) => { if (!event.persisted) act(); });
+}

@@ -1,0 +1,68 @@
+// An observable for each item and what has come of the others before it.
+import { FLAT, SWITCH } from '../engine/codes.mjs';
+import { Stage } from '../core/leaf.mjs';
+import { Link } from '../core/link.mjs';
+import { operate } from '../core/operator.mjs';
+import { innerFrom } from '../sources/from.mjs';
+import { scheduleFor } from '../schedulers/schedule.mjs';
+import { Bounded, Projects, projecting } from './flat.mjs';
+
+/** Sees each item of the inner observables as it passes. */
+class Sees extends Stage {
+  constructor(up, see) {
+    super(up);
+    this.see = see;
+  }
+  next(value, leaf) {
+    this.see(value);
+    this.up.next(value, leaf);
+  }
+}
+
+const scanning = (kind, make) => (accumulator, seed, concurrent = Infinity) => projecting(kind, (way) => {
+  let state = seed;
+  return make((value, index) => accumulator(state, value, index), new Sees(way, (value) => { state = value; }), concurrent);
+});
+export const mergeScan = scanning(FLAT, (call, way, bound) => (bound === Infinity ? new Projects(call, way) : new Bounded(call, way, bound)));
+export const switchScan = (accumulator, seed) => scanning(SWITCH, (call, way) => new Projects(call, way))(accumulator, seed);
+
+/** An observable for each item, those of these observables too. What waits is in a list, so that depth costs no stack. */
+export function expand(project, concurrent = Infinity, scheduler) {
+  if (!(concurrent >= 1)) concurrent = Infinity;
+  return operate((source, to) => {
+    const waiting = [];
+    let active = 0, index = 0, is_over = false, is_busy = false;
+    const ends = () => { if (is_over && active === 0 && waiting.length === 0) to.complete(); };
+    const start = (value) => {
+      if (to.closed) return;
+      to.next(value);
+      active++;
+      let is_complete = false;
+      innerFrom(project(value, index++)).subscribe(new Link(to, take, () => { is_complete = true; }, undefined, () => {
+        if (!is_complete) return;
+        active--;
+        goOn();
+        ends();
+      }));
+    };
+    const goOn = () => {
+      if (is_busy) return;
+      is_busy = true;
+      try {
+        while (waiting.length && active < concurrent && !to.closed) {
+          const value = waiting.shift();
+          if (scheduler && concurrent !== Infinity) scheduleFor(to, scheduler, () => start(value));
+          else start(value);
+        }
+      } catch (error) { to.error(error); } finally { is_busy = false; }
+    };
+    const take = (value) => {
+      waiting.push(value);
+      goOn();
+    };
+    return source.subscribe(new Link(to, take, () => {
+      is_over = true;
+      ends();
+    }));
+  });
+}

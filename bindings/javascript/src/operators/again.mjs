@@ -1,0 +1,138 @@
+// The same again, or another one in its place: at an error, at the end, or when an observable says so.
+import { Link } from '../core/link.mjs';
+import { operate } from '../core/operator.mjs';
+import { noop } from '../core/util.mjs';
+import { Subject } from '../core/subject.mjs';
+import { innerFrom } from '../sources/from.mjs';
+import { EMPTY } from '../sources/simple.mjs';
+import { timer } from '../sources/timer.mjs';
+
+/** Subscribes again and again without depth: `start` is called while somebody asked for it meanwhile. */
+function looping(start) {
+  let is_busy = false, is_asked = false;
+  return () => {
+    is_asked = true;
+    if (is_busy) return;
+    is_busy = true;
+    try {
+      while (is_asked) {
+        is_asked = false;
+        start();
+      }
+    } finally { is_busy = false; }
+  };
+}
+
+export const catchError = (selector) => operate((source, to) => {
+  const caught = catchError(selector)(source);
+  let inner = null, other = null;
+  inner = new Link(to, undefined, undefined, (error) => {
+    other = innerFrom(selector(error, caught));
+    inner.leave();
+    other.subscribe(to);
+  });
+  source.subscribe(inner);
+});
+
+export function repeat(countOrConfig) {
+  let count = Infinity, delay;
+  if (countOrConfig != null) {
+    if (typeof countOrConfig === 'object') ({ count = Infinity, delay } = countOrConfig);
+    else count = countOrConfig;
+  }
+  if (count <= 0) return () => EMPTY;
+  return operate((source, to) => {
+    let so_far = 0;
+    const again = looping(() => {
+      if (to.closed || to.isStopped) return;
+      const inner = new Link(to, undefined, () => {
+        if (++so_far >= count) return to.complete();
+        inner.leave();
+        waits(delay, so_far, to, again);
+      });
+      source.subscribe(inner);
+    });
+    again();
+  });
+}
+
+export function retry(configOrCount = Infinity) {
+  const { count = Infinity, delay, resetOnSuccess = false } = configOrCount && typeof configOrCount === 'object' ? configOrCount : { count: configOrCount };
+  if (count <= 0) return (source) => source;
+  return operate((source, to) => {
+    let so_far = 0;
+    const again = looping(() => {
+      if (to.closed || to.isStopped) return;
+      const inner = new Link(to, (value) => {
+        if (resetOnSuccess) so_far = 0;
+        to.next(value);
+      }, undefined, (error) => {
+        if (so_far++ >= count) return to.error(error);
+        inner.leave();
+        waits(typeof delay === 'function' ? (many) => delay(error, many) : delay, so_far, to, again);
+      });
+      source.subscribe(inner);
+    });
+    again();
+  });
+}
+
+/** Goes on at once, after so many milliseconds, or when an observable tells; its end without an item is the end. */
+function waits(delay, many, to, goOn) {
+  if (delay == null) return goOn();
+  const notifier = typeof delay === 'number' ? timer(delay) : innerFrom(delay(many));
+  const link = new Link(to, () => {
+    link.unsubscribe();
+    goOn();
+  }, () => to.complete());
+  notifier.subscribe(link);
+}
+
+/** An observable of ends says when to go on. */
+const when = (of_error) => (notifier) => operate((source, to) => {
+  let inner = null, ends = null, is_source_over = false, is_notifier_over = false;
+  const done = () => is_notifier_over && is_source_over && (to.complete(), true);
+  const told = () => {
+    if (ends) return ends;
+    ends = new Subject();
+    innerFrom(notifier(ends)).subscribe(new Link(to, () => (inner ? again() : (is_asked = true)), of_error ? undefined : () => {
+      is_notifier_over = true;
+      done();
+    }));
+    return ends;
+  };
+  let is_asked = false;
+  const again = looping(() => {
+    if (to.closed) return;
+    is_source_over = is_asked = false;
+    const it = inner = new Link(to, undefined, of_error ? undefined : () => {
+      is_source_over = true;
+      it.leave();
+      if (!done()) told().next(undefined);
+    }, of_error ? (error) => {
+      it.leave();
+      told().next(error);
+    } : undefined);
+    source.subscribe(it);
+    if (is_asked) again();
+  });
+  again();
+});
+export const repeatWhen = when(false);
+export const retryWhen = when(true);
+
+export function onErrorResumeNextWith(source, others) {
+  const all = [source, ...others];
+  return operate((_, to) => {
+    const again = looping(() => {
+      if (to.closed) return;
+      if (all_left.length === 0) return to.complete();
+      let next;
+      try { next = innerFrom(all_left.shift()); } catch { return again(); }
+      const inner = new Link(to, undefined, () => inner.leave(), () => inner.leave(), () => again());
+      next.subscribe(inner);
+    });
+    const all_left = [...all];
+    again();
+  })(source);
+}

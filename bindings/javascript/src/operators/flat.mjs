@@ -1,0 +1,116 @@
+// FlatMap and Switch of the engine: an observable for each item, so many at a time, or the latest alone.
+import { FLAT, INNER, SOURCE, SWITCH } from '../engine/codes.mjs';
+import { realm } from '../engine/realm.mjs';
+import { TERMINAL } from '../core/leaf.mjs';
+import { Place, openAt, openNode, settled } from '../core/place.mjs';
+import { operator } from '../core/operator.mjs';
+import { identity, isFunction } from '../core/util.mjs';
+import { innerFrom } from '../sources/from.mjs';
+import { map } from './items.mjs';
+
+/** What a node that projects is for: it opens an observable for each item. */
+class Projects {
+  index = 0;
+  wishes = false;
+  constructor(call, way) {
+    this.call = call;
+    this.way = way;
+  }
+  opened(thing) { this.place = new Place(INNER, thing, null, this.way); }
+
+  // The lane of projections is let go before the inner observable is opened, so that what that tells from within comes at once.
+  start(thing, value, lane) {
+    let inner;
+    try { inner = innerFrom(this.call(value, this.index++)); } catch (error) {
+      realm.engine.fail(thing, error);
+      return false;
+    }
+    const is_left = lane === null || realm.engine.giveUp(lane);
+    openAt(inner, this.place);
+    return !is_left;
+  }
+  project(thing, value, lane) { return this.start(thing, value, lane); }
+  shut() {}
+}
+
+/** So many at a time; items that wait are owed to the engine, which so keeps the node open. */
+class Bounded extends Projects {
+  wishes = true;
+  active = 0;
+  waiting = [];
+  is_over = false;
+  constructor(call, way, bound) {
+    super(call, way);
+    this.bound = bound;
+  }
+  opened(thing) {
+    this.place = new Place(INNER, thing, null, this.way, () => {
+      this.active--;
+      if (this.waiting.length && !this.is_over) realm.engine.surely(() => realm.engine.put(thing, (lane) => this.goOn(thing, lane)));
+    });
+  }
+  project(thing, value, lane) {
+    if (this.active < this.bound) return this.start(thing, value, lane);
+    this.waiting.push(value);
+    return false;
+  }
+  start(thing, value, lane) {
+    this.active++;
+    return super.start(thing, value, lane);
+  }
+  goOn(thing, lane) {
+    realm.engine.giveUp(lane);
+    while (this.waiting.length && this.active < this.bound && !this.is_over) this.start(thing, this.waiting.shift(), null);
+  }
+  shut() {
+    this.is_over = true;
+    this.waiting = [];
+  }
+}
+
+/** One at a time; what comes meanwhile is left out. */
+class Exhausts extends Bounded {
+  project(thing, value, lane) {
+    if (this.active === 0) return this.start(thing, value, lane);
+    realm.engine.decline(thing);
+    return false;
+  }
+}
+
+const projecting = (kind, make) => operator((at, source) => {
+  const place = settled(at);
+  if (place === null) return;
+  const body = make(place.way), thing = openNode(place, kind, body);
+  if (thing === null) return;
+  body.opened(thing);
+  openAt(source, new Place(SOURCE, thing, null, TERMINAL));
+});
+
+const selecting = (project, resultSelector) => (a, i) => map((b, ii) => resultSelector(a, b, i, ii))(innerFrom(project(a, i)));
+
+export function mergeMap(project, resultSelector, concurrent = Infinity) {
+  if (isFunction(resultSelector)) return mergeMap(selecting(project, resultSelector), concurrent);
+  if (typeof resultSelector === 'number') concurrent = resultSelector;
+  return projecting(FLAT, (way) => (concurrent === Infinity ? new Projects(project, way) : new Bounded(project, way, concurrent)));
+}
+export const flatMap = mergeMap;
+export const mergeMapTo = (inner, resultSelector, concurrent = Infinity) =>
+  (isFunction(resultSelector) ? mergeMap(() => inner, resultSelector, concurrent)
+    : mergeMap(() => inner, typeof resultSelector === 'number' ? resultSelector : concurrent));
+export const concatMap = (project, resultSelector) =>
+  (isFunction(resultSelector) ? mergeMap(project, resultSelector, 1) : mergeMap(project, 1));
+export const concatMapTo = (inner, resultSelector) =>
+  (isFunction(resultSelector) ? concatMap(() => inner, resultSelector) : concatMap(() => inner));
+export const mergeAll = (concurrent = Infinity) => mergeMap(identity, concurrent);
+export const concatAll = () => mergeAll(1);
+
+export const switchMap = (project, resultSelector) =>
+  projecting(SWITCH, (way) => new Projects(isFunction(resultSelector) ? selecting(project, resultSelector) : project, way));
+export const switchMapTo = (inner, resultSelector) =>
+  (isFunction(resultSelector) ? switchMap(() => inner, resultSelector) : switchMap(() => inner));
+export const switchAll = () => switchMap(identity);
+
+export const exhaustMap = (project, resultSelector) =>
+  projecting(FLAT, (way) => new Exhausts(isFunction(resultSelector) ? selecting(project, resultSelector) : project, way, 1));
+export const exhaustAll = () => exhaustMap(identity);
+export { exhaustAll as exhaust, projecting, Projects, Bounded };

@@ -1,0 +1,28 @@
+import { staged } from '../core/operator.mjs';
+import { Notification, observeNotification } from '../core/notification.mjs';
+import { Hooked } from './ends.mjs';
+
+class Materialize extends Hooked {
+  next(value, leaf) { this.up.next(Notification.createNext(value), leaf); }
+  error(error, leaf) {
+    this.up.next(Notification.createError(error), leaf);
+    this.up.complete(leaf);
+  }
+  complete(leaf) {
+    this.up.next(Notification.createComplete(), leaf);
+    this.up.complete(leaf);
+  }
+}
+export const materialize = () => staged((up) => new Materialize(up));
+
+class Dematerialize extends Hooked {
+  next(notification, leaf) {
+    const { up } = this;
+    try {
+      observeNotification(notification, {
+        next: (value) => up.next(value, leaf), error: (error) => up.error(error, leaf), complete: () => up.complete(leaf),
+      });
+    } catch (error) { up.error(error, leaf); }
+  }
+}
+export const dematerialize = () => staged((up) => new Dematerialize(up));

@@ -1,0 +1,143 @@
+// One subscription for many: a share of the engine, or a subject that a program chose.
+import { DONE, HUB_ORDER, NO_HUB, ROOT, SHARED, SOURCE } from '../engine/codes.mjs';
+import { Tag, Thing } from '../engine/thing.mjs';
+import { TERMINAL } from '../core/leaf.mjs';
+import { Place, linked, openAt, openNode, openUsing } from '../core/place.mjs';
+import { operate, operator } from '../core/operator.mjs';
+import { SafeSubscriber } from '../core/subscriber.mjs';
+import { ReplaySubject } from '../core/replay-subject.mjs';
+import { Subject } from '../core/subject.mjs';
+import { innerFrom } from '../sources/from.mjs';
+
+let words = 0;
+
+/** What the commands of one share have: its word, its hub, and how many shares stand below it. */
+class Share {
+  word = (words = words % 0xfffffffe + 1);
+  hub = -1; hubHigh = -1;
+  connection = null;
+  status = DONE; // of the last command
+  constructor(level) { this.level = level; }
+  make() { return new Thing(null, null); }
+}
+
+/** How many shares stand one below another in an observable, as far as can be seen. */
+export function levelOf(it) {
+  let level = 0;
+  for (let i = 0; it && i < 64; i++, it = it.source) if (it._isShare) level++;
+  return level;
+}
+
+/** By the engine: connected while it has a subscriber. Where each hub of the engine serves another share it is by a subject, until that is left. */
+function shared() {
+  return (source) => {
+    const share = new Share(levelOf(source));
+    let other = null, many = 0; // by a subject, and how many subscribers that has
+    const made = operator((at, it) => {
+      const place = at.place === ROOT && at.way === TERMINAL ? at : linked(at);
+      if (place === null) return;
+      if (many === 0) {
+        if (openNode(place, SHARED, null, null, share) !== null) {
+          const { connection } = share;
+          share.connection = null;
+          if (connection !== null) openAt(it, new Place(SOURCE, connection));
+          return;
+        }
+        if (share.status !== NO_HUB && share.status !== HUB_ORDER) return;
+        other = bySubject({})(it);
+      }
+      const below = openUsing(place, new Tag(() => { many--; }));
+      if (below === null) return;
+      many++;
+      openAt(other, below);
+    })(source);
+    made._isShare = true;
+    return made;
+  };
+}
+
+export function share(options = {}) {
+  const { connector = null, resetOnError = true, resetOnComplete = true, resetOnRefCountZero = true } = options;
+  return !connector && resetOnError === true && resetOnComplete === true && resetOnRefCountZero === true ? shared() : bySubject(options);
+}
+
+/** By a subject: whatever is to happen at an end, or when nobody is left. */
+function bySubject({ connector = null, resetOnError = true, resetOnComplete = true, resetOnRefCountZero = true }) {
+  return (whole) => {
+    let connection = null, reset = null, subject = null, many = 0, has_ended = false, has_failed = false;
+    const cancels = () => {
+      reset?.unsubscribe();
+      reset = null;
+    };
+    const resets = () => {
+      cancels();
+      connection = subject = null;
+      has_ended = has_failed = false;
+    };
+    const resetsAndLeaves = () => {
+      const it = connection;
+      resets();
+      it?.unsubscribe();
+    };
+    return operate((source, to) => {
+      many++;
+      if (!has_failed && !has_ended) cancels();
+      const mine = (subject ??= (connector ?? (() => new Subject()))());
+      to.add(() => {
+        many--;
+        if (many === 0 && !has_failed && !has_ended) reset = resetBy(resetsAndLeaves, resetOnRefCountZero);
+      });
+      mine.subscribe(to);
+      if (connection || many === 0) return;
+      connection = new SafeSubscriber({
+        next: (value) => mine.next(value),
+        error: (error) => {
+          has_failed = true;
+          cancels();
+          reset = resetBy(resets, resetOnError, error);
+          mine.error(error);
+        },
+        complete: () => {
+          has_ended = true;
+          cancels();
+          reset = resetBy(resets, resetOnComplete);
+          mine.complete();
+        },
+      });
+      innerFrom(source).subscribe(connection);
+    })(whole);
+  };
+}
+
+// A function or a notifier that fails resets too: the source is not kept for nobody.
+function resetBy(act, on, ...words) {
+  if (on === true) {
+    act();
+    return null;
+  }
+  if (on === false) return null;
+  const once = new SafeSubscriber({
+    next: () => {
+      once.unsubscribe();
+      act();
+    },
+    error: (error) => {
+      act();
+      throw error;
+    },
+  });
+  try { return innerFrom(on(...words)).subscribe(once); } catch (error) {
+    act();
+    throw error;
+  }
+}
+
+export function shareReplay(configOrSize, windowTime, scheduler) {
+  let size = configOrSize ?? Infinity, refCount = false;
+  if (configOrSize && typeof configOrSize === 'object') {
+    ({ bufferSize: size = Infinity, windowTime = Infinity, refCount = false, scheduler } = configOrSize);
+  }
+  return share({
+    connector: () => new ReplaySubject(size, windowTime, scheduler), resetOnError: true, resetOnComplete: false, resetOnRefCountZero: refCount,
+  });
+}

@@ -1,0 +1,48 @@
+// TakeUntil of the engine, and what leaves out items until another observable tells.
+import { NOTIFIER, SOURCE, UNTIL } from '../engine/codes.mjs';
+import { Stage, TERMINAL, failing } from '../core/leaf.mjs';
+import { Link } from '../core/link.mjs';
+import { Observable } from '../core/observable.mjs';
+import { Place, openAt, openLeaf, openNode, settled } from '../core/place.mjs';
+import { operate, operator } from '../core/operator.mjs';
+import { Subject } from '../core/subject.mjs';
+import { noop } from '../core/util.mjs';
+import { innerFrom } from '../sources/from.mjs';
+
+/** Whether it opens a leaf and nothing else. */
+const isLeaf = (it) => !it.operator && !it.source && (it._open === Observable.prototype._open || it._open === Subject.prototype._open);
+
+/** The end of a notifier says nothing: it only leaves. */
+class Notifies extends Stage {
+  constructor(up) { super(up, true); }
+  complete(leaf) { leaf.unsubscribe(); }
+}
+
+// What a notifier holds besides its leaf is a tree of its own, which is left at its end.
+function notifies(other, place) {
+  if (isLeaf(other)) return openAt(other, place);
+  const leaf = openLeaf(place);
+  if (leaf === null) return;
+  const link = new Link(leaf, undefined, () => link.leave());
+  try { other.subscribe(link); } catch (error) { failing(leaf, error); }
+}
+
+export function takeUntil(notifier) {
+  return operator((at, source) => {
+    const other = innerFrom(notifier), place = settled(at), thing = place && openNode(place, UNTIL);
+    if (!thing) return;
+    notifies(other, new Place(NOTIFIER, thing, null, new Notifies(TERMINAL)));
+    openAt(source, new Place(SOURCE, thing, null, place.way));
+  });
+}
+
+export const skipUntil = (notifier) => operate((source, to) => {
+  let is_taking = false;
+  const until = new Link(to, () => {
+    until.unsubscribe();
+    is_taking = true;
+  }, noop);
+  innerFrom(notifier).subscribe(until);
+  if (to.closed) return;
+  source.subscribe(new Link(to, (value) => is_taking && to.next(value)));
+});

@@ -1,0 +1,85 @@
+// Sources that tell at once, or nothing, or what a function answers.
+import { Observable } from '../core/observable.mjs';
+import { failAt, holdAt, openAt, openPass } from '../core/place.mjs';
+import { Tag } from '../engine/thing.mjs';
+import { traced } from '../engine/tracing.mjs';
+import { isFunction, isScheduler, noop, popScheduler } from '../core/util.mjs';
+import { fromArray, innerFrom } from './from.mjs';
+import { scheduled } from '../schedulers/scheduled.mjs';
+
+export const EMPTY = new Observable((subscriber) => subscriber.complete());
+export const NEVER = new Observable(noop);
+export const never = () => NEVER;
+export const empty = (scheduler) => (scheduler
+  ? new Observable((subscriber) => scheduler.schedule(() => subscriber.complete())) : EMPTY);
+
+export function of(...items) {
+  const scheduler = popScheduler(items);
+  return scheduler ? scheduled(items, scheduler) : fromArray(items);
+}
+
+export function throwError(errorOrFactory, scheduler) {
+  const make = isFunction(errorOrFactory) ? errorOrFactory : () => errorOrFactory;
+  const tell = (subscriber) => subscriber.error(make());
+  return new Observable(scheduler ? (subscriber) => scheduler.schedule(tell, 0, subscriber) : tell);
+}
+
+/** An observable by what it opens at a place. */
+export function opened(opens) {
+  const made = new Observable();
+  made._open = opens;
+  return made;
+}
+
+/** What a function answers, anew for each that subscribes. */
+export const defer = (factory) => opened((at) => {
+  let source;
+  try { source = innerFrom(factory()); } catch (error) { return failAt(at, error); }
+  source._open(at);
+});
+
+export const iif = (condition, trueResult, falseResult) => defer(() => (condition() ? trueResult : falseResult));
+
+/** A resource for each that subscribes, which is released once, whatever the function that makes the source does. */
+export const using = (resourceFactory, observableFactory) => opened((at) => {
+  // The node is open before the resource is made: so what an exchange releases is released before.
+  const below = openPass(at);
+  if (below === null) return;
+  let resource, source;
+  try { resource = resourceFactory(); } catch (error) { return failAt(below, error); }
+  holdAt(below, traced(new Tag(() => resource && resource.unsubscribe()), 'resource'));
+  try {
+    const made = observableFactory(resource);
+    source = made ? innerFrom(made) : EMPTY;
+  } catch (error) { return failAt(below, error); }
+  openAt(source, below);
+});
+
+export function range(start, count, scheduler) {
+  if (count === undefined) [start, count] = [0, start];
+  if (count <= 0) return EMPTY;
+  const end = start + count;
+  return new Observable(scheduler ? (subscriber) => {
+    let n = start;
+    return scheduler.schedule(function again() {
+      if (n >= end) return subscriber.complete();
+      subscriber.next(n++);
+      this.schedule();
+    });
+  } : (subscriber) => {
+    for (let n = start; n < end && !subscriber.closed && !subscriber.isStopped; n++) subscriber.next(n);
+    subscriber.complete();
+  });
+}
+
+export function generate(initialOrOptions, condition, iterate, resultOrScheduler, scheduler) {
+  let initial = initialOrOptions, result = resultOrScheduler;
+  if (arguments.length === 1) ({ initialState: initial, condition, iterate, resultSelector: result, scheduler } = initialOrOptions);
+  else if (!result || isScheduler(result)) [result, scheduler] = [undefined, result];
+  function* items() {
+    for (let state = initial; !condition || condition(state); state = iterate(state)) yield result ? result(state) : state;
+  }
+  return defer(() => (scheduler ? scheduled(items(), scheduler) : items()));
+}
+
+export const pairs = (object, scheduler) => (scheduler ? scheduled(Object.entries(object), scheduler) : fromArray(Object.entries(object)));

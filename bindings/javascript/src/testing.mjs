@@ -1,0 +1,1 @@
+export { TestScheduler } from './testing/test-scheduler.mjs';

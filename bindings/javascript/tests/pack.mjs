@@ -1,0 +1,55 @@
+// Makes the archive of the package, installs it without a network, and runs programs over it: ES modules, CommonJS, both at once, types.
+//
+// Usage: node pack.mjs, with engine.wasm beside the package, or named by CELLARCLIFF_WASM. It needs npm, and Debian's node-typescript for types.
+import { execFileSync } from 'node:child_process';
+import { copyFileSync, existsSync, mkdirSync, mkdtempSync, readFileSync, rmSync, statSync, writeFileSync } from 'node:fs';
+import { tmpdir } from 'node:os';
+import { dirname, join } from 'node:path';
+import { fileURLToPath } from 'node:url';
+
+const top = dirname(dirname(fileURLToPath(import.meta.url))), work = mkdtempSync(join(tmpdir(), 'pack.'));
+const { CELLARCLIFF_WASM: given, ...rest } = process.env, env = { ...rest, npm_config_cache: join(work, 'cache'), npm_config_offline: 'true', npm_config_update_notifier: 'false' };
+const run = (words, cwd) => execFileSync(words[0], words.slice(1), { cwd, env, encoding: 'utf8', stdio: ['ignore', 'pipe', 'pipe'] });
+const is = (what, got, wanted) => {
+  if (got.trim() !== wanted) throw new Error(`${what}: ${got.trim()}, and it is ${wanted}`);
+  console.log(`${what}: as it is to be`);
+};
+const PROGRAM = `const told = [];
+rx.of(1, 2, 3).pipe(rx.map((x) => x * 2), ops.filter((x) => x > 2)).subscribe((x) => told.push(x));
+told.push(typeof testing.TestScheduler, rx.counts().nodes);
+console.log(JSON.stringify(told));`;
+const SAID = '[4,6,"function",0]';
+
+try {
+  if (given && !existsSync(join(top, 'engine.wasm'))) copyFileSync(given, join(top, 'engine.wasm'));
+  const archive = JSON.parse(run(['npm', 'pack', '--json', '--pack-destination', work], top).replace(/^[^[]*/, ''))[0];
+  console.log(`${archive.filename}: ${archive.files.length} files, ${archive.size} bytes, ${archive.unpackedSize} unpacked`);
+  const home = join(work, 'home');
+  mkdirSync(home);
+  writeFileSync(join(home, 'package.json'), '{ "name": "home", "version": "1.0.0", "private": true }');
+  run(['npm', 'install', '--no-audit', '--no-fund', join(work, archive.filename)], home);
+  const lock = JSON.parse(readFileSync(join(home, 'package-lock.json'), 'utf8'));
+  is('packages that came with it', String(Object.keys(lock.packages).length - 1), '1');
+  writeFileSync(join(home, 'a.mjs'), `import * as rx from 'cellarcliff';\nimport * as ops from 'cellarcliff/operators';\nimport * as testing from 'cellarcliff/testing';\n${PROGRAM}`);
+  writeFileSync(join(home, 'b.cjs'), `const rx = require('cellarcliff'), ops = require('cellarcliff/operators'), testing = require('cellarcliff/testing');\n${PROGRAM}`);
+  writeFileSync(join(home, 'both.mjs'), `import { createRequire } from 'node:module';
+import * as rx from 'cellarcliff';
+const other = createRequire(import.meta.url)('cellarcliff'), subject = new other.Subject();
+const sub = rx.merge(subject, new rx.Subject()).subscribe((x) => console.log(x));
+subject.next(rx.counts().nodes === other.counts().nodes && rx.counts().nodes > 0);
+sub.unsubscribe();
+console.log(rx.counts().nodes, subject.observed, other.isObservable(rx.NEVER));`);
+  is('as ES modules', run(['node', 'a.mjs'], home), SAID);
+  is('as CommonJS', run(['node', 'b.cjs'], home), SAID);
+  is('both in one realm', run(['node', 'both.mjs'], home), 'true\n0 false true');
+  for (const [file, type] of [['t.mts', 'module'], ['u.cts', 'commonjs']]) {
+    writeFileSync(join(home, file), `import { of, map, Observable } from 'cellarcliff';\nimport { concat } from 'cellarcliff/operators';
+import { TestScheduler } from 'cellarcliff/testing';\nexport const it: Observable<number> = of('a').pipe(concat(of('b')), map((x: string) => x.length));\nexport const made = TestScheduler;\n`);
+    run(['tsc', '--strict', '--noEmit', '--target', 'es2020', '--module', 'node16', '--moduleResolution', 'node16', file], home);
+    console.log(`types, ${type}: as they are to be`);
+  }
+  console.log(`a page needs ${statSync(join(home, 'node_modules/cellarcliff/engine.wasm')).size} bytes of WebAssembly`);
+} catch (error) {
+  console.log(error.stdout ?? '', error.stderr ?? '', error.message);
+  process.exitCode = 1;
+} finally { rmSync(work, { recursive: true, force: true }); }

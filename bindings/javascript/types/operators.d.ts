@@ -1,0 +1,2 @@
+export * from './piped';
+export * from './old';
