@@ -1,23 +1,38 @@
-//! Where the library rx is: in the folder that RX_LIB_DIR names, or where pkg-config says. With RX_STATIC it is linked in.
+//! Where the libraries are, rx with the book and cellarcliff with the engine: in the folder that RX_LIB_DIR names (for the engine
+//! CELLARCLIFF_LIB_DIR, if it is set), or where pkg-config says. A folder without the second has its calls in the first. With RX_STATIC
+//! they are linked in.
 use std::env;
+use std::path::Path;
 use std::process::Command;
 
-fn from_pkg_config() -> Option<String> {
-    let told = Command::new("pkg-config").args(["--variable=libdir", "rx"]).output().ok()?;
+fn from_pkg_config(name: &str) -> Option<String> {
+    let told = Command::new("pkg-config").args(["--variable=libdir", name]).output().ok()?;
     let folder = String::from_utf8(told.stdout).ok()?.trim().to_string();
     (told.status.success() && !folder.is_empty()).then_some(folder)
 }
 
-fn main() {
-    for name in ["RX_LIB_DIR", "RX_STATIC", "PKG_CONFIG_PATH"] {
-        println!("cargo:rerun-if-env-changed={name}");
-    }
-    if let Some(folder) = env::var("RX_LIB_DIR").ok().or_else(from_pkg_config) {
+fn link(name: &str, folder: &Option<String>) {
+    let is_static = env::var_os("RX_STATIC").is_some();
+    if let Some(folder) = folder {
         println!("cargo:rustc-link-search=native={folder}");
-        if env::var_os("RX_STATIC").is_none() {
+        if !is_static {
             println!("cargo:rustc-link-arg=-Wl,-rpath,{folder}");
         }
     }
-    let kind = if env::var_os("RX_STATIC").is_some() { "static" } else { "dylib" };
-    println!("cargo:rustc-link-lib={kind}=rx");
+    println!("cargo:rustc-link-lib={}={name}", if is_static { "static" } else { "dylib" });
+}
+
+fn main() {
+    println!("cargo:rustc-check-cfg=cfg(cellarcliff_helgrind)");
+    for name in ["RX_LIB_DIR", "CELLARCLIFF_LIB_DIR", "RX_STATIC", "PKG_CONFIG_PATH"] {
+        println!("cargo:rerun-if-env-changed={name}");
+    }
+    let named = |name| env::var(name).ok();
+    let book = named("RX_LIB_DIR").or_else(|| from_pkg_config("rx"));
+    let engine = named("CELLARCLIFF_LIB_DIR").or_else(|| named("RX_LIB_DIR")).or_else(|| from_pkg_config("cellarcliff")).or_else(|| book.clone());
+    link("rx", &book);
+    let is_there = |folder: &String| ["so", "a"].iter().any(|kind| Path::new(folder).join(format!("libcellarcliff.{kind}")).exists());
+    if engine.as_ref().map_or(true, is_there) {
+        link("cellarcliff", &engine);
+    }
 }

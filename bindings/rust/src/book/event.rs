@@ -1,5 +1,5 @@
 //! An event of a history, in the form that it has in a dump.
-use crate::ffi;
+use super::ffi;
 use std::fmt;
 
 /// An event of the history. Its text is its form in a dump (docs/reference/history.md).

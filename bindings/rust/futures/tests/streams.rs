@@ -1,0 +1,128 @@
+//! Streams both ways, and tasks that are aborted once.
+use cellarcliff::sync::{Observable, Subject};
+use cellarcliff::Note;
+use cellarcliff_futures::*;
+use futures::executor::block_on;
+use futures::{stream, Stream, StreamExt};
+use std::pin::Pin;
+use std::sync::atomic::{AtomicUsize, Ordering::SeqCst};
+use std::sync::Arc;
+use std::task::{Context, Poll};
+use std::time::Duration;
+
+fn runtime() -> tokio::runtime::Runtime {
+    tokio::runtime::Builder::new_multi_thread().worker_threads(2).enable_time().build().unwrap()
+}
+
+/// A stream that counts its drops.
+struct Counted<S>(S, Arc<AtomicUsize>);
+
+impl<S: Stream + Unpin> Stream for Counted<S> {
+    type Item = S::Item;
+    fn poll_next(mut self: Pin<&mut Self>, context: &mut Context<'_>) -> Poll<Option<S::Item>> {
+        Pin::new(&mut self.0).poll_next(context)
+    }
+}
+
+impl<S> Drop for Counted<S> {
+    fn drop(&mut self) {
+        self.1.fetch_add(1, SeqCst);
+    }
+}
+
+#[test]
+fn a_stream_is_a_source_and_is_dropped_at_its_end() {
+    let (runtime, dropped) = (runtime(), Arc::new(AtomicUsize::new(0)));
+    let (count, on) = (dropped.clone(), runtime.handle().clone());
+    let source = from_stream(move || Counted(stream::iter([Ok(1), Ok(2), Err("broken")]), count.clone()), move |it| drop(on.spawn(it)));
+    let (_subscription, heard) = source.map(|it| it + 1).channel();
+    assert_eq!(heard.iter().collect::<Vec<_>>(), [Note::Next(2), Note::Next(3), Note::Error("broken")]);
+    drop(runtime);
+    assert_eq!(dropped.load(SeqCst), 1);
+}
+
+#[test]
+fn a_stream_that_waits_is_dropped_as_its_subscription_is_disposed_of() {
+    let (runtime, dropped) = (runtime(), Arc::new(AtomicUsize::new(0)));
+    let (count, on) = (dropped.clone(), runtime.handle().clone());
+    let source = from_stream::<u32, (), _>(move || Counted(stream::pending(), count.clone()), move |it| drop(on.spawn(it)));
+    for round in 0..100 {
+        let subscription = source.each(drop);
+        if round % 2 == 0 {
+            std::thread::sleep(Duration::from_micros(50));
+        }
+        subscription.dispose();
+        assert_eq!(dropped.load(SeqCst), round + 1);
+    }
+}
+
+#[test]
+fn an_observable_is_a_stream_with_a_bounded_queue() {
+    let subject = Subject::<u32, &str>::new();
+    let source = subject.observable();
+    let (oldest, newest) = (into_stream(&source, 2, Overflow::Oldest), into_stream(&source, 2, Overflow::Newest));
+    let dropped = into_stream(&source, 1, Overflow::Oldest);
+    assert_eq!(subject.observers(), 3);
+    drop(dropped);
+    assert_eq!(subject.observers(), 2);
+    (1..5).for_each(|it| subject.next(it));
+    subject.error("broken");
+    assert_eq!((oldest.lost(), newest.lost()), (2, 2));
+    assert_eq!(block_on(oldest.collect::<Vec<_>>()), [Ok(3), Ok(4), Err("broken")]);
+    assert_eq!(block_on(newest.collect::<Vec<_>>()), [Ok(1), Ok(2), Err("broken")]);
+}
+
+#[test]
+fn whoever_emits_waits_for_room_and_nothing_is_lost() {
+    let subject = Subject::<u32>::new();
+    let items = into_stream(&subject.observable(), 3, Overflow::Wait);
+    let emits = std::thread::spawn(move || {
+        (0..1000).for_each(|it| subject.next(it));
+        subject.completed();
+    });
+    assert_eq!(block_on(items.map(Result::unwrap).collect::<Vec<_>>()), (0..1000).collect::<Vec<_>>());
+    emits.join().unwrap();
+}
+
+#[test]
+fn a_task_is_aborted_once_with_its_subscription() {
+    struct Ends(Arc<AtomicUsize>);
+    impl Drop for Ends {
+        fn drop(&mut self) {
+            self.0.fetch_add(1, SeqCst);
+        }
+    }
+    let (runtime, ended) = (runtime(), Arc::new(AtomicUsize::new(0)));
+    let count = ended.clone();
+    let ticks = task::<u32, std::convert::Infallible, _>(runtime.handle().clone(), move |to| {
+        let ends = Ends(count.clone());
+        async move {
+            let _ends = ends;
+            for it in 0.. {
+                to.next(it);
+                tokio::time::sleep(Duration::from_millis(1)).await;
+            }
+        }
+    });
+    let words = Subject::<u32>::new();
+    let latest = ticks.clone();
+    let (subscription, heard) = words.observable().switch_map(move |_| latest.clone()).channel();
+    for it in 0..5 {
+        words.next(it);
+        while heard.recv() != Ok(Note::Next(0)) {} // some of the task before may have been told still
+    }
+    let three = ticks.take(3).channel().1;
+    drop((subscription, three));
+    drop(runtime);
+    assert_eq!(ended.load(SeqCst), 6);
+}
+
+#[test]
+fn a_stream_goes_through_an_observable_and_is_a_stream_again() {
+    let runtime = runtime();
+    let on = runtime.handle().clone();
+    let source: Observable<u32, String> = from_stream(|| stream::iter((0..100).map(Ok)), move |it| drop(on.spawn(it)));
+    let shared = source.filter(|it| it % 2 == 0).share();
+    let all = into_stream(&shared, 100, Overflow::Newest);
+    assert_eq!(block_on(all.collect::<Vec<_>>()).len(), 50);
+}

@@ -1,0 +1,361 @@
+//! The calls of cellarcliff.h in Rust, for the tests of this crate's own code: a small engine without shares, which keeps count. It
+//! looks at each pointer, word and handle, and lets no two calls on one handle run at once.
+#![allow(unsafe_op_in_unsafe_fn)]
+
+use super::ffi::{Answer, Command, Effect, Handle, Key, Totals, ROOM};
+use super::{effect, flag, kind, place, what, INSIDE};
+use std::collections::{BTreeMap, BTreeSet, VecDeque};
+use std::sync::{Mutex, MutexGuard, PoisonError};
+
+const GONE: u8 = 17;
+/// An engine of so many events is refused.
+pub(crate) const REFUSED: u32 = 13;
+
+struct Node {
+    above: Option<u64>,
+    place: u8,
+    kind: u8,
+    user: u64,
+    wishes: bool,
+    lane: u64,
+    projects: u64,
+    owes: u64,
+    is_over: bool, // its source
+    tags: Vec<u64>,
+}
+
+#[derive(Default)]
+struct Lane {
+    front: VecDeque<Effect>,
+    queue: VecDeque<Effect>,
+    server: Option<u64>,
+}
+
+/// What a word is owed: as a root, a FlatMap, a node whose closing is heard, a tag, what was put.
+#[derive(Clone, Copy, PartialEq, Eq, PartialOrd, Ord)]
+enum Role {
+    Hears,
+    Merges,
+    Closes,
+    Tag,
+    Put,
+}
+
+struct Counted {
+    nodes: BTreeMap<u64, Node>,
+    lanes: Vec<Lane>,
+    made: u64,
+    owed: BTreeMap<(Role, u64), u64>,
+    closings: Vec<u64>,
+    touched: Vec<u64>,
+    due: Vec<u64>,
+    copies: u64,
+    events: u64,
+}
+
+/// All engines that live, by what their handles keep; how many were made and freed, and what was owed to words of those that were freed.
+pub(crate) struct Count {
+    live: BTreeMap<u64, Counted>,
+    pub made: u64,
+    pub freed: u64,
+    pub lost: u64,
+}
+
+static COUNT: Mutex<Count> = Mutex::new(Count { live: BTreeMap::new(), made: 0, freed: 0, lost: 0 });
+static BUSY: Mutex<BTreeSet<u64>> = Mutex::new(BTreeSet::new());
+
+fn locked<T>(it: &Mutex<T>) -> MutexGuard<'_, T> {
+    it.lock().unwrap_or_else(PoisonError::into_inner)
+}
+
+pub(crate) fn count() -> MutexGuard<'static, Count> {
+    locked(&COUNT)
+}
+
+impl Counted {
+    fn owe(&mut self, role: Role, word: u64) {
+        *self.owed.entry((role, word)).or_insert(0) += 1;
+    }
+
+    fn pay(&mut self, role: Role, word: u64) {
+        let left = self.owed.get_mut(&(role, word)).expect("a word is told what it is not owed");
+        *left -= 1;
+        if *left == 0 {
+            self.owed.remove(&(role, word));
+        }
+    }
+
+    fn push(&mut self, lane: u64, by: u64, kind: u32, user: u64, value: Option<u64>) {
+        let it = Effect { user, value: value.unwrap_or(0), by, kind, carries: value.is_some() as u32 };
+        self.copies += value.is_some() as u64;
+        let at = &mut self.lanes[lane as usize];
+        if kind == effect::RELEASE && at.server == Some(by) { &mut at.front } else { &mut at.queue }.push_back(it);
+        if !self.touched.contains(&lane) {
+            self.touched.push(lane);
+        }
+    }
+
+    /// Closes a node and all below it; its own word and tags last.
+    fn close(&mut self, number: u64, by: u64) -> Node {
+        let below: Vec<u64> = self.nodes.iter().filter(|it| it.1.above == Some(number)).map(|it| *it.0).collect();
+        below.into_iter().for_each(|it| drop(self.close(it, by)));
+        let node = self.nodes.remove(&number).unwrap();
+        self.events += 1;
+        if node.wishes {
+            self.pay(Role::Closes, node.user);
+            self.closings.push(node.user);
+        }
+        node.tags.iter().for_each(|tag| self.push(node.lane, by, effect::RELEASE, *tag, None));
+        if node.kind == kind::FLAT || node.kind == kind::SWITCH {
+            self.push(node.projects, by, effect::MERGED, node.user, None);
+        }
+        node
+    }
+
+    /// A node ends: completed, or failed with this error.
+    fn end(&mut self, number: u64, by: u64, error: Option<u64>) {
+        let node = self.close(number, by);
+        let Some(above) = node.above else {
+            return self.push(node.lane, by, if error.is_some() { effect::FAILED } else { effect::COMPLETED }, node.user, error);
+        };
+        let at = self.nodes.get_mut(&above).unwrap();
+        at.is_over |= node.place == place::SOURCE;
+        let is_over = at.is_over && at.owes == 0;
+        let has_inner = || self.nodes.values().any(|it| it.above == Some(above) && it.place == place::INNER);
+        if error.is_some() || is_over && node.place != place::NOTIFIER && !has_inner() {
+            self.end(above, by, error)
+        }
+    }
+
+    fn next(&mut self, leaf: u64, by: u64, value: u64) {
+        let mut number = leaf;
+        loop {
+            let node = &self.nodes[&number];
+            let Some(above) = node.above else { return self.push(node.lane, by, effect::NEXT, node.user, Some(value)) };
+            match node.place {
+                place::NOTIFIER => return self.end(above, by, None),
+                place::SOURCE if [kind::FLAT, kind::SWITCH].contains(&self.nodes[&above].kind) => {
+                    let at = self.nodes.get_mut(&above).unwrap();
+                    at.owes += 1;
+                    let (lane, user) = (at.projects, at.user);
+                    return self.push(lane, by, effect::PROJECT, user, Some(value));
+                }
+                _ => number = above,
+            }
+        }
+    }
+
+    fn lane(&mut self) -> u64 {
+        self.lanes.push(Lane::default());
+        self.lanes.len() as u64 - 1
+    }
+
+    fn open(&mut self, it: &Command, answer: &mut Answer) -> u8 {
+        let is_root = it.place == place::ROOT;
+        let named = self.nodes.get(&it.node.number).map(|it| (it.kind, it.lane));
+        if named.is_none() && (!is_root || it.flags & flag::LANE_OF_NODE != 0) {
+            return GONE;
+        }
+        let above = (!is_root).then_some(it.node.number);
+        if it.place == place::INNER {
+            if named.unwrap().0 == kind::SWITCH {
+                let before = self.nodes.iter().find(|one| one.1.above == above && one.1.place == place::INNER).map(|it| *it.0);
+                before.into_iter().for_each(|one| drop(self.close(one, it.by)));
+            }
+            let at = self.nodes.get_mut(&it.node.number).unwrap();
+            at.owes = at.owes.checked_sub(1).expect("it is owed");
+        }
+        let (kind, merges) = if it.what == what::USING { (kind::PASS, false) } else { (it.kind, [kind::FLAT, kind::SWITCH].contains(&it.kind)) };
+        assert!(kind <= kind::UNTIL, "no shares here");
+        let lane = if is_root && it.flags & flag::LANE_OF_NODE == 0 { self.lane() } else { named.unwrap().1 };
+        let projects = if merges { self.lane() } else { lane };
+        let wishes = it.flags & flag::WISHES != 0;
+        for (role, owes) in [(Role::Hears, is_root), (Role::Merges, merges), (Role::Closes, wishes)] {
+            if owes {
+                self.owe(role, it.user);
+            }
+        }
+        let node = Node { above, place: it.place, kind, user: it.user, wishes, lane, projects, owes: 0, is_over: false, tags: vec![] };
+        self.nodes.insert(self.made, node);
+        answer.node = Key { slot: 7, number: self.made };
+        self.made += 1;
+        if it.what == what::USING { self.hold(answer.node.number, it.value) } else { 0 }
+    }
+
+    fn hold(&mut self, number: u64, tag: u64) -> u8 {
+        self.owe(Role::Tag, tag);
+        self.nodes.get_mut(&number).unwrap().tags.push(tag);
+        0
+    }
+
+    fn perform(&mut self, it: &Command, answer: &mut Answer) -> u8 {
+        let (number, by) = (it.node.number, it.by);
+        match it.what {
+            what::OPEN | what::USING => return self.open(it, answer),
+            what::SHUT => {
+                let Some(root) = self.nodes.iter().find(|it| it.1.above.is_none()).map(|it| *it.0) else { return GONE };
+                let node = self.close(root, by);
+                self.push(node.lane, by, effect::GONE, node.user, None);
+                return 0;
+            }
+            _ if it.node.slot != 7 || !self.nodes.contains_key(&number) => return GONE,
+            what::HOLD => return self.hold(number, it.value),
+            what::NEXT => self.next(number, by, it.value),
+            what::COMPLETE => self.end(number, by, None),
+            what::ERROR | what::FAIL => self.end(number, by, Some(it.value)),
+            what::DISPOSE => {
+                let node = self.close(number, by);
+                self.push(node.lane, by, effect::GONE, node.user, None);
+            }
+            what::PUT => {
+                self.owe(Role::Put, it.user);
+                let lane = self.nodes[&number].lane;
+                self.push(lane, by, effect::PUT, it.user, None);
+            }
+            other => panic!("no command: {other}"),
+        }
+        0
+    }
+
+    fn make(&mut self, it: &Command, answer: &mut Answer) -> u8 {
+        assert_eq!(it.spare, 0);
+        (self.closings, self.touched, self.due, self.copies) = (vec![], vec![], vec![], 0);
+        *answer = Answer::default();
+        let status = self.perform(it, answer);
+        for lane in std::mem::take(&mut self.touched) {
+            let at = &mut self.lanes[lane as usize];
+            match at.server {
+                None => (at.server, _) = (Some(it.by), self.due.push(lane)),
+                Some(by) if by == it.by && !at.front.is_empty() => self.due.push(lane | INSIDE),
+                Some(_) => (),
+            }
+        }
+        (answer.copies, answer.closed, answer.due) = (self.copies, self.closings.len() as u64, self.due.len() as u64);
+        for (place, word) in self.closings.iter().take(ROOM).enumerate() {
+            answer.closings[place] = *word;
+        }
+        for (place, lane) in self.due.iter().take(ROOM).enumerate() {
+            answer.lanes[place] = *lane;
+        }
+        if let Some(it) = self.due.first().copied().filter(|lane| lane & INSIDE == 0).and_then(|lane| self.take(lane, it.by)) {
+            (answer.handed, answer.effect) = (1, it);
+        }
+        status
+    }
+
+    fn take(&mut self, lane: u64, by: u64) -> Option<Effect> {
+        let at = &mut self.lanes[(lane & !INSIDE) as usize];
+        if at.server != Some(by) {
+            return None;
+        }
+        let it = at.front.pop_front().or_else(|| if lane & INSIDE == 0 { at.queue.pop_front() } else { None });
+        match it {
+            Some(it) => {
+                match it.kind {
+                    effect::COMPLETED | effect::FAILED | effect::GONE => self.pay(Role::Hears, it.user),
+                    effect::MERGED => self.pay(Role::Merges, it.user),
+                    effect::RELEASE => self.pay(Role::Tag, it.user),
+                    effect::PUT => self.pay(Role::Put, it.user),
+                    _ => assert!(self.owed.contains_key(&(if it.kind == effect::NEXT { Role::Hears } else { Role::Merges }, it.user))),
+                }
+                Some(it)
+            }
+            None if lane & INSIDE == 0 => {
+                at.server = None;
+                None
+            }
+            None => None,
+        }
+    }
+}
+
+/// Looks at the pointers of a call, and lets no other on the handle run beside it.
+unsafe fn call<R>(handle: *mut Handle, pointers: &[*const u8], work: impl FnOnce(&mut Counted) -> R) -> R {
+    for (place, it) in pointers.iter().enumerate() {
+        assert!(!it.is_null() && *it as usize % 8 == 0 && *it != handle as *const u8 && !pointers[..place].contains(it));
+    }
+    let at = (*handle).at;
+    assert!(locked(&BUSY).insert(at), "two calls on one handle");
+    let done = work(count().live.get_mut(&at).expect("a call on a handle that keeps nothing"));
+    locked(&BUSY).remove(&at);
+    done
+}
+
+pub unsafe extern "C" fn cellar_abi() -> u32 {
+    super::ABI
+}
+
+pub unsafe extern "C" fn cellar_size(which: u32) -> u32 {
+    [8, 64, 256, 32, 64, 32][which as usize]
+}
+
+pub unsafe extern "C" fn cellar_new(engine: *mut Handle, max_events: u32) -> u8 {
+    assert_eq!((*engine).at, 0, "a handle that keeps an engine");
+    if max_events == REFUSED {
+        return 4;
+    }
+    let mut count = count();
+    count.made += 1;
+    let (nodes, owed) = (BTreeMap::new(), BTreeMap::new());
+    let it = Counted { nodes, lanes: vec![], made: 0, owed, closings: vec![], touched: vec![], due: vec![], copies: 0, events: 0 };
+    (*engine).at = count.made;
+    let at = count.made;
+    count.live.insert(at, it);
+    0
+}
+
+pub unsafe extern "C" fn cellar_make(engine: *mut Handle, command: *const Command, answer: *mut Answer) -> u8 {
+    call(engine, &[command.cast(), answer.cast_const().cast()], |it| it.make(&*command, &mut *answer))
+}
+
+pub unsafe extern "C" fn cellar_take(engine: *mut Handle, lane: u64, by: u64, effect: *mut Effect, many: *mut u64) -> u8 {
+    let it = call(engine, &[effect.cast_const().cast(), many.cast_const().cast()], |it| it.take(lane, by));
+    *many = it.is_some() as u64;
+    it.into_iter().for_each(|it| *effect = it);
+    0
+}
+
+pub unsafe extern "C" fn cellar_give_up(_: *mut Handle, _: u64, _: u64, _: *const Effect, _: u64, _: *mut u64) -> u8 {
+    unreachable!("no operator gives up")
+}
+
+pub unsafe extern "C" fn cellar_left(_: *mut Handle, _: u64, _: *mut u64, _: *mut u64) -> u8 {
+    unreachable!("no operator asks for what is left")
+}
+
+pub unsafe extern "C" fn cellar_rest(engine: *mut Handle, which: u8, from: u64, words: *mut u64, room: usize, many: *mut u64) -> u8 {
+    call(engine, &[words.cast_const().cast(), many.cast_const().cast()], |it| {
+        let all = if which == 0 { &it.closings } else { &it.due };
+        let found = &all[from as usize..all.len().min(from as usize + room)];
+        std::ptr::copy_nonoverlapping(found.as_ptr(), words, found.len());
+        *many = found.len() as u64;
+    });
+    0
+}
+
+pub unsafe extern "C" fn cellar_totals(engine: *mut Handle, totals: *mut Totals) -> u8 {
+    *totals = call(engine, &[totals.cast_const().cast()], |it| Totals { nodes: it.nodes.len() as u64, events: it.events, ..Totals::default() });
+    0
+}
+
+fn free(at: u64) {
+    let mut count = count();
+    let it = count.live.remove(&at).expect("a handle that keeps an engine");
+    count.freed += 1;
+    count.lost += it.owed.values().sum::<u64>();
+}
+
+pub unsafe extern "C" fn cellar_finish(engine: *mut Handle) -> u8 {
+    if call(engine, &[], |it| !it.owed.is_empty()) {
+        return 6;
+    }
+    free(std::mem::take(&mut (*engine).at));
+    0
+}
+
+pub unsafe extern "C" fn cellar_drop(engine: *mut Handle) {
+    let at = std::mem::take(&mut (*engine).at);
+    if at != 0 {
+        free(at)
+    }
+}

@@ -1,0 +1,143 @@
+//! A source's end of the engine.
+use super::form::{AThing, AWay, Lock, Ref};
+use super::place::Place;
+use super::scope::Thing;
+use super::way::{End, Tip};
+use super::words::Word;
+use crate::engine::{kind, what, Command, NOTHING};
+use crate::rx::late::LateKey;
+use crate::Refusal;
+use crate::rx::atomic::AtomicU8;
+use std::sync::atomic::Ordering::{Relaxed, SeqCst};
+
+// What a leaf is: open, and it may be that things stand in its list; or closed.
+const OPEN: u8 = 0;
+const LISTED: u8 = 1;
+const CLOSED: u8 = 2;
+
+pub(crate) struct Leaf<'a, T, E> {
+    pub way: Ref<AWay<'a, T, E>>,
+    node: LateKey,
+    state: AtomicU8,
+    closes: Lock<Vec<Ref<AThing<'a>>>>,
+}
+
+impl<'a, T, E> Leaf<'a, T, E> {
+    #[inline]
+    pub fn tip(&self) -> Tip {
+        Tip { node: self.node.get(), end: End::Leaf }
+    }
+
+    #[inline]
+    pub fn is_closed(&self) -> bool {
+        self.state.load(Relaxed) == CLOSED
+    }
+
+    /// Is told when the leaf closes; at once, if it is closed.
+    pub fn when_closed(&self, thing: Ref<AThing<'a>>) {
+        let late = self.closes.with(|all| {
+            all.push(thing);
+            match self.state.compare_exchange(OPEN, LISTED, SeqCst, SeqCst) {
+                Err(CLOSED) => all.pop(), // it found no list, or a list without this one
+                _ => None,
+            }
+        });
+        if let Some(thing) = late {
+            thing.closed();
+        }
+    }
+}
+
+impl<T, E> Thing for Leaf<'_, T, E> {
+    fn closed(&self) {
+        if self.state.swap(CLOSED, SeqCst) == LISTED {
+            let all = self.closes.with(std::mem::take);
+            all.into_iter().for_each(|it| it.closed());
+        }
+    }
+}
+
+/// Through which a source tells its items and its end. It may be kept, cloned, and used after its subscription is closed, which
+/// then does nothing.
+pub struct Emitter<'a, T, E = std::convert::Infallible> {
+    pub(crate) leaf: Ref<Leaf<'a, T, E>>,
+}
+
+impl<T, E> Clone for Emitter<'_, T, E> {
+    fn clone(&self) -> Self {
+        Emitter { leaf: self.leaf.clone() }
+    }
+}
+
+/// What is closed takes nothing, and that is no fault.
+pub(crate) fn unless_gone<T>(done: Result<T, Refusal>) -> Result<(), Refusal> {
+    match done {
+        Ok(_) | Err(Refusal::Gone) => Ok(()),
+        Err(why) => Err(why),
+    }
+}
+
+/// As the standard library does where it has no memory for an answer.
+pub(crate) fn or_panic(done: Result<(), Refusal>) {
+    if let Err(why) = unless_gone(done) {
+        panic!("the engine refuses a call: {why:?}")
+    }
+}
+
+impl<'a, T: 'a, E: 'a> Emitter<'a, T, E> {
+    pub(crate) fn open(place: Place<'a, T, E>) -> Result<Self, Refusal> {
+        let Place { mut spot, way } = place;
+        let above = spot.closes.take();
+        let leaf = Ref::new(Leaf { way, node: LateKey::new(NOTHING), state: AtomicU8::new(OPEN), closes: Lock::new(Vec::new()) });
+        above.into_iter().for_each(|it| leaf.when_closed(it));
+        spot.closes = Some(leaf.clone());
+        leaf.node.set(spot.open(leaf.way.root(), kind::LEAF, None, None)?.node);
+        Ok(Emitter { leaf })
+    }
+}
+
+impl<'a, T, E> Emitter<'a, T, E> {
+    /// Tells an item. What is due is told before it returns, but for what stands behind an observer that is being told.
+    ///
+    /// # Panics
+    /// If a function panics that this calls; if the engine has no memory ([`try_next`](Self::try_next) answers then).
+    #[inline]
+    pub fn next(&self, item: T) {
+        or_panic(self.try_next(item))
+    }
+
+    /// Tells an item; refused if the engine has no memory, and then nobody was told.
+    #[inline]
+    pub fn try_next(&self, item: T) -> Result<(), Refusal> {
+        if self.is_closed() {
+            return Ok(());
+        }
+        unless_gone(self.leaf.way.next(self.leaf.tip(), item))
+    }
+
+    /// Fails.
+    pub fn error(&self, error: E) {
+        if !self.is_closed() {
+            or_panic(self.leaf.way.error(self.leaf.tip(), error))
+        }
+    }
+
+    /// Completes.
+    pub fn completed(&self) {
+        if !self.is_closed() {
+            or_panic(self.leaf.way.completed(self.leaf.tip()))
+        }
+    }
+
+    /// Whether nobody listens any more.
+    #[inline]
+    pub fn is_closed(&self) -> bool {
+        self.leaf.is_closed()
+    }
+
+    /// Keeps a resource until the source is closed, then drops it once; at once, if it is closed.
+    pub fn hold<R: super::Moves + 'a>(&self, resource: R) {
+        let command = Command { what: what::HOLD, node: self.leaf.tip().node, ..Command::default() };
+        or_panic(self.leaf.way.root().engine.make(command, Word::default(), Some(Box::new(resource)), |_| ()).map(drop))
+    }
+}

@@ -1,0 +1,91 @@
+//! A subscription's root, or the connection of a share: what a panic closes, and what a subscription disposes of.
+use super::form::Ref;
+use super::scope::{Engine, Thing};
+use super::words::Word;
+use crate::engine::{what, Command, Key, NOTHING, UNKNOWN_HUB};
+use crate::rx::{late::LateKey, panics::discard};
+use std::panic::{catch_unwind, resume_unwind, AssertUnwindSafe};
+use crate::rx::atomic::AtomicBool;
+use std::sync::atomic::Ordering::{Relaxed, SeqCst};
+
+pub(crate) struct Root<'a> {
+    pub engine: Ref<Engine<'a>>,
+    share: Option<u64>,
+    key: LateKey,
+    is_stopped: AtomicBool,
+}
+
+/// What ends at a root.
+pub(crate) trait Rooted<'a> {
+    fn root(&self) -> &Root<'a>;
+}
+
+impl<'a> Rooted<'a> for Root<'a> {
+    fn root(&self) -> &Root<'a> {
+        self
+    }
+}
+
+impl<'a> Root<'a> {
+    pub fn new(engine: Ref<Engine<'a>>, share: Option<u64>) -> Self {
+        Root { engine, share, key: LateKey::new(NOTHING), is_stopped: AtomicBool::new(false) }
+    }
+
+    #[inline]
+    pub fn is_stopped(&self) -> bool {
+        self.is_stopped.load(Relaxed)
+    }
+
+    #[inline]
+    pub fn stop(&self) {
+        self.is_stopped.store(true, Relaxed);
+    }
+
+    /// Its node is open.
+    pub fn set(&self, key: Key) {
+        self.key.set(key)
+    }
+
+    /// As `set`, where others may have closed it before its key was known: answers whether it is to be closed now. One of this and
+    /// `close` comes behind the other, and sees what that has written.
+    pub fn set_late(&self, key: Key) -> bool {
+        self.key.set(key);
+        self.is_stopped.fetch_or(false, SeqCst)
+    }
+
+    /// Nothing more is told; all is released.
+    pub fn close(&self) {
+        self.stop();
+        let mut node = self.key.get();
+        if node == NOTHING {
+            self.is_stopped.fetch_or(true, SeqCst);
+            node = self.key.get();
+        }
+        let command = match self.share {
+            Some(value) => Command { what: what::DISCONNECT, value, hub: UNKNOWN_HUB, ..Command::default() },
+            None if node == NOTHING => return,
+            None => Command { what: what::DISPOSE, node, ..Command::default() },
+        };
+        let _ = self.engine.make(command, Word::default(), None, |_| ()); // refused if it is closed
+    }
+}
+
+/// Calls a user's function; if that panics, the root is closed before the panic goes on.
+#[inline]
+pub(crate) fn call<'r, 'a: 'r, R>(root: impl FnOnce() -> &'r Root<'a>, f: impl FnOnce() -> R) -> R {
+    catch_unwind(AssertUnwindSafe(f)).unwrap_or_else(|why| {
+        if let Err(other) = catch_unwind(AssertUnwindSafe(|| root().close())) {
+            discard(other)
+        }
+        resume_unwind(why)
+    })
+}
+
+/// Disposes of a root with the leaf that it tells.
+pub(crate) struct Follows<R: ?Sized>(pub Ref<R>);
+
+impl<'a, R: Rooted<'a> + ?Sized> Thing for Follows<R> {
+    fn closed(&self) {
+        self.0.root().close()
+    }
+}

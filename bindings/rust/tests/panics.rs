@@ -1,0 +1,219 @@
+//! A panic in an observer, in a function on items, in a `drop`: nothing leaks, nothing is released twice, and the panic goes on.
+use cellarcliff::local::{Observable, Scope, Subject};
+use std::cell::{Cell, RefCell};
+use std::panic::{catch_unwind, panic_any, AssertUnwindSafe};
+use std::rc::Rc;
+
+/// Counts how often it was dropped.
+struct File(Rc<Cell<u32>>);
+
+impl Drop for File {
+    fn drop(&mut self) {
+        self.0.set(self.0.get() + 1);
+    }
+}
+
+fn panics(work: impl FnOnce()) -> String {
+    let why = catch_unwind(AssertUnwindSafe(work)).expect_err("it panics");
+    why.downcast_ref::<&str>().map(|it| it.to_string()).or_else(|| why.downcast_ref::<String>().cloned()).unwrap()
+}
+
+fn with_file(dropped: &Rc<Cell<u32>>, source: Observable<'static, i32>) -> Observable<'static, i32> {
+    let dropped = dropped.clone();
+    Observable::using(move || File(dropped.clone()), move |_| source.clone())
+}
+
+#[test]
+fn a_panic_in_an_observer_goes_to_who_emitted_and_releases_what_it_had() {
+    let (dropped, heard) = (Rc::new(Cell::new(0)), Rc::new(RefCell::new(vec![])));
+    let subject = Subject::<i32>::new();
+    let bad = with_file(&dropped, subject.observable()).each(|it| if it == 2 { panic!("broken") });
+    let notes = heard.clone();
+    let good = subject.observable().each(move |it| notes.borrow_mut().push(it));
+    subject.next(1);
+    assert_eq!(panics(|| subject.next(2)), "broken");
+    assert_eq!((dropped.get(), subject.observers()), (1, 1));
+    subject.next(3);
+    assert_eq!(*heard.borrow(), [1, 2, 3], "another observer hears all");
+    drop((bad, good));
+    assert_eq!((dropped.get(), subject.observers()), (1, 0));
+}
+
+#[test]
+fn a_panic_in_a_mapper_goes_to_who_emitted_and_releases_what_it_had() {
+    let dropped = Rc::new(Cell::new(0));
+    let subject = Subject::<i32>::new();
+    let subscription = with_file(&dropped, subject.observable()).map(|it| if it == 2 { panic!("broken") } else { it }).each(drop);
+    subject.next(1);
+    assert_eq!(panics(|| subject.next(2)), "broken");
+    assert_eq!((dropped.get(), subject.observers()), (1, 0));
+    drop(subscription);
+    assert_eq!(dropped.get(), 1);
+}
+
+#[test]
+fn a_panic_in_a_function_that_makes_an_inner_observable_releases_what_it_had() {
+    let dropped = Rc::new(Cell::new(0));
+    let (subject, inner) = (Subject::<i32>::new(), Subject::<i32>::new());
+    let (within, count) = (inner.clone(), dropped.clone());
+    let _subscription = with_file(&dropped, subject.observable())
+        .flat_map(move |it| if it == 2 { panic!("broken") } else { with_file(&count, within.observable()) })
+        .each(drop);
+    subject.next(1);
+    assert_eq!(inner.observers(), 1);
+    assert_eq!(panics(|| subject.next(2)), "broken");
+    assert_eq!((dropped.get(), subject.observers(), inner.observers()), (2, 0, 0));
+}
+
+#[test]
+fn a_panic_as_it_subscribes_leaves_nothing_open() {
+    let dropped = Rc::new(Cell::new(0));
+    let source = Observable::<i32>::create(|_| -> () { panic!("broken") });
+    let whole = with_file(&dropped, source);
+    assert_eq!(panics(|| drop(whole.each(drop))), "broken");
+    assert_eq!(dropped.get(), 1);
+}
+
+struct Breaks(Rc<Cell<u32>>);
+
+impl Drop for Breaks {
+    fn drop(&mut self) {
+        self.0.set(self.0.get() + 1);
+        panic!("broken");
+    }
+}
+
+#[test]
+fn a_panic_in_a_drop_goes_on_and_the_other_resources_are_dropped_too() {
+    let (dropped, broke) = (Rc::new(Cell::new(0)), Rc::new(Cell::new(0)));
+    let subject = Subject::<i32>::new();
+    let (source, count) = (with_file(&dropped, subject.observable()), broke.clone());
+    let breaking = Observable::using(move || Breaks(count.clone()), move |_| source.clone());
+    let whole = with_file(&dropped, breaking);
+    let subscription = whole.each(drop);
+    assert_eq!(panics(|| subscription.dispose()), "broken");
+    assert_eq!((dropped.get(), broke.get(), subject.observers()), (2, 1, 0));
+    whole.each(drop).detach();
+    assert_eq!(panics(|| subject.completed()), "broken");
+    assert_eq!((dropped.get(), broke.get()), (4, 2));
+}
+
+#[test]
+fn the_first_of_two_panics_goes_on() {
+    let (dropped, broke) = (Rc::new(Cell::new(0)), Rc::new(Cell::new(0)));
+    let (subject, count) = (Subject::<i32>::new(), broke.clone());
+    let source = with_file(&dropped, subject.observable());
+    let breaking = Observable::using(move || Breaks(count.clone()), move |_| source.clone());
+    let subscription = with_file(&dropped, breaking).each(|_| panic!("the observer"));
+    assert_eq!(panics(|| subject.next(1)), "the observer");
+    drop(subscription);
+    assert_eq!((dropped.get(), broke.get(), subject.observers()), (2, 1, 0));
+}
+
+#[test]
+fn what_is_disposed_of_as_a_panic_unwinds_is_released_and_that_panic_goes_on() {
+    let (dropped, broke) = (Rc::new(Cell::new(0)), Rc::new(Cell::new(0)));
+    let (subject, count) = (Subject::<i32>::new(), broke.clone());
+    let source = with_file(&dropped, subject.observable());
+    let breaking = Observable::using(move || Breaks(count.clone()), move |_| source.clone());
+    let why = panics(|| {
+        let scope = Scope::new().unwrap();
+        breaking.observe_in(&scope, drop).unwrap().detach();
+        let _subscription = breaking.each(drop);
+        panic!("the program")
+    });
+    assert_eq!((why.as_str(), dropped.get(), broke.get(), subject.observers()), ("the program", 2, 2, 0));
+}
+
+#[test]
+fn a_panic_of_one_subscriber_of_a_share_keeps_nothing_from_the_other() {
+    let (dropped, heard) = (Rc::new(Cell::new(0)), Rc::new(RefCell::new(vec![])));
+    let (subject, notes) = (Subject::<i32>::new(), heard.clone());
+    let shared = with_file(&dropped, subject.observable()).share();
+    let bad = [shared.each(|it| if it == 2 { panic!("broken") }), shared.map(|it| if it == 3 { panic!("broken") }).each(drop)];
+    let good = shared.flat_map(|it| Observable::of([it, it])).each(move |it| notes.borrow_mut().push(it));
+    subject.next(1);
+    assert_eq!(panics(|| subject.next(2)), "broken");
+    assert_eq!(panics(|| subject.next(3)), "broken");
+    subject.next(4);
+    assert_eq!((heard.borrow().as_slice(), dropped.get()), (&[1, 1, 2, 2, 3, 3, 4, 4][..], 0));
+    assert!(bad.iter().all(|it| it.is_closed()));
+    drop(good);
+    assert_eq!((dropped.get(), subject.observers()), (1, 0));
+}
+
+/// Drops loudly, if it is told so.
+#[derive(Clone)]
+struct Loud(i32);
+
+impl Drop for Loud {
+    fn drop(&mut self) {
+        if self.0 == 2 && !std::thread::panicking() {
+            panic!("broken")
+        }
+    }
+}
+
+#[test]
+fn a_panic_in_any_function_of_an_operator_releases_what_it_had() {
+    let broken = |it: i32| if it == 2 { panic!("broken") } else { it };
+    let dropped = Rc::new(Cell::new(0));
+    let count = dropped.clone();
+    let inner = move |it: i32| with_file(&count, Observable::of([broken(it)]));
+    let [one, two, three, four] = [(); 4].map(|()| inner.clone());
+    type Makes = Box<dyn Fn(&Observable<'static, i32>) -> Observable<'static, i32>>;
+    let all: Vec<(&str, Makes)> = vec![
+        ("filter", Box::new(move |it| it.filter(move |it| broken(*it) > 0))),
+        ("scan", Box::new(move |it| it.scan(0, move |sum, it| sum + broken(it)))),
+        ("flat_map", Box::new(move |it| it.flat_map(one.clone()))),
+        ("switch_map", Box::new(move |it| it.switch_map(two.clone()))),
+        ("concat_map", Box::new(move |it| it.concat_map(three.clone()))),
+        ("flat_map_at_most", Box::new(move |it| it.flat_map_at_most(2, four.clone()))),
+        ("defer", Box::new(move |it| it.flat_map(move |it| Observable::defer(move || Observable::of([broken(it)]))))),
+        ("using", Box::new(move |it| it.flat_map(move |it| Observable::using(move || broken(it), |it| Observable::of([*it]))))),
+        ("create", Box::new(move |it| it.flat_map(move |it| Observable::create(move |to| to.next(broken(it)))))),
+        ("finalize", Box::new(move |it| it.flat_map(move |it| Observable::of([it]).finalize(move || _ = broken(it))))),
+        ("a drop of an item", Box::new(move |it| it.map(Loud).filter(|it| it.0 != 2).map(|it| it.0))),
+    ];
+    for (name, make) in all {
+        dropped.set(0);
+        let subject = Subject::<i32>::new();
+        let subscription = make(&with_file(&dropped, subject.observable())).each(drop);
+        subject.next(1);
+        let before = dropped.get();
+        assert_eq!(panics(|| subject.next(2)), "broken", "{name}");
+        assert!(name == "finalize" || subscription.is_closed(), "{name}"); // a release that panics ends nothing
+        drop(subscription);
+        assert!(subject.observers() == 0 && dropped.get() > before, "{name}");
+        let at_the_end = dropped.get();
+        subject.next(3);
+        assert_eq!(dropped.get(), at_the_end, "{name}");
+    }
+}
+
+/// A payload that panics as it is dropped.
+struct Payload;
+
+impl Drop for Payload {
+    fn drop(&mut self) {
+        panic!("the payload")
+    }
+}
+
+#[test]
+fn a_second_panic_whose_payload_panics_is_no_end_of_the_program() {
+    struct Bad(Rc<Cell<u32>>);
+    impl Drop for Bad {
+        fn drop(&mut self) {
+            self.0.set(self.0.get() + 1);
+            panic_any(Payload)
+        }
+    }
+    let (subject, count) = (Subject::<i32>::new(), Rc::new(Cell::new(0)));
+    let (source, kept) = (subject.observable(), count.clone());
+    let whole = Observable::using(move || Bad(kept.clone()), move |_| source.clone());
+    let subscription = whole.each(|_| panic!("the observer"));
+    assert_eq!(panics(|| subject.next(1)), "the observer");
+    drop(subscription);
+    assert_eq!((count.get(), subject.observers()), (1, 0));
+}

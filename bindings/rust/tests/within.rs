@@ -1,0 +1,84 @@
+//! Observers that emit, subscribe, dispose and complete from within.
+use cellarcliff::{local, Note};
+use std::cell::{Cell, RefCell};
+use std::rc::Rc;
+
+/// Counts how often it was dropped.
+struct File(Rc<Cell<u32>>);
+
+impl Drop for File {
+    fn drop(&mut self) {
+        self.0.set(self.0.get() + 1);
+    }
+}
+
+fn with_file(dropped: &Rc<Cell<u32>>, source: local::Observable<'static, i32>) -> local::Observable<'static, i32> {
+    let dropped = dropped.clone();
+    local::Observable::using(move || File(dropped.clone()), move |_| source.clone())
+}
+
+#[test]
+fn an_observer_that_emits_from_within_is_told_behind_what_it_hears() {
+    let subject = local::Subject::<i32>::new();
+    let (heard, within) = (Rc::new(RefCell::new(vec![])), subject.clone());
+    let notes = heard.clone();
+    let _subscription = subject.observable().each(move |it| {
+        if it < 5 {
+            within.next(it + 1);
+        }
+        notes.borrow_mut().push(it);
+    });
+    subject.next(1);
+    assert_eq!(*heard.borrow(), [1, 2, 3, 4, 5]);
+}
+
+#[test]
+fn an_observer_that_disposes_from_within_has_released_as_that_returns() {
+    let (dropped, kept) = (Rc::new(Cell::new(0)), Rc::new(RefCell::new(None::<local::Subscription>)));
+    let subject = local::Subject::<i32>::new();
+    let (holder, count, told) = (kept.clone(), dropped.clone(), Rc::new(Cell::new(0)));
+    let many = told.clone();
+    let subscription = with_file(&dropped, subject.observable()).each(move |_| {
+        many.set(many.get() + 1);
+        drop(holder.borrow_mut().take());
+        assert_eq!(count.get(), 1);
+    });
+    *kept.borrow_mut() = Some(subscription);
+    subject.next(1);
+    subject.next(2);
+    assert_eq!((told.get(), dropped.get()), (1, 1));
+}
+
+#[test]
+fn an_observer_that_completes_its_source_and_subscribes_again_hears_both() {
+    let subject = local::Subject::<i32>::new();
+    let (heard, within, kept) = (Rc::new(RefCell::new(vec![])), subject.clone(), Rc::new(RefCell::new(vec![])));
+    let (notes, holder) = (heard.clone(), kept.clone());
+    let _subscription = subject.observable().observe(move |note| {
+        if note == Note::Next(1) {
+            let notes = notes.clone();
+            holder.borrow_mut().push(within.observable().observe(move |note| notes.borrow_mut().push((2, note))));
+            within.completed();
+        }
+        notes.borrow_mut().push((1, note));
+    });
+    subject.next(1);
+    let mut heard = heard.borrow().clone();
+    heard.sort_by_key(|it| it.0);
+    assert_eq!(heard, [(1, Note::Next(1)), (1, Note::Completed), (2, Note::Completed)]);
+}
+
+#[test]
+fn what_borrows_from_the_stack_is_observed_within_a_scope() {
+    let (total, text) = (Cell::new(0), String::from("abc"));
+    {
+        let scope = local::Scope::new().unwrap();
+        let subject = local::Subject::<usize>::new();
+        let longer = subject.observable().map(|it| it + text.len());
+        let subscription = longer.observe_in(&scope, |note| if let Note::Next(it) = note { total.set(total.get() + it) }).unwrap();
+        subject.next(1);
+        subscription.detach();
+        subject.next(2);
+    }
+    assert_eq!(total.get(), 9);
+}
