@@ -1,0 +1,57 @@
+// What a report says: what is open, by the lines that made it, and how that grew.
+import { relative } from 'node:path';
+
+const began = Date.now(), counted = new Map();
+let reports = 0;
+
+const shownFile = (file) => {
+  const near = relative(process.cwd(), file);
+  return near.startsWith('..') ? file : near;
+};
+const shown = (place) => (place === null ? 'a place that no stack tells' : `${shownFile(place.file)}:${place.line}${place.function ? ` in ${place.function}` : ''}`);
+const seconds = (from) => ((Date.now() - from) / 1000).toFixed(1);
+
+/** Rows of what is open: first what only grows, then what there is most of. A teardown of a subscription that is told already is not told again. */
+function rows(open) {
+  const groups = new Map(), subscribed = new Set(open.filter((it) => it.what === 'subscription').map((it) => shown(it.place)));
+  for (const it of open) {
+    if (it.what === 'teardown' && subscribed.has(shown(it.place))) continue;
+    const name = `${it.what}, made at ${shown(it.place)}`;
+    if (!groups.has(name)) groups.set(name, []);
+    groups.get(name).push(it);
+  }
+  reports++;
+  for (const name of new Set([...groups.keys(), ...counted.keys()])) {
+    if (!counted.has(name)) counted.set(name, Array(reports - 1).fill(0));
+    counted.get(name).push(groups.get(name)?.length ?? 0);
+  }
+  const found = [...groups].map(([name, its]) => {
+    const counts = counted.get(name).slice(-6), many = its.length;
+    const grows = counts.length > 1 && counts[counts.length - 1] > counts[0] && counts.every((it, i) => i === 0 || it >= counts[i - 1]);
+    const [what, ...rest] = name.split(', made at ');
+    const words = `${many} ${what}${many > 1 ? 's' : ''}, made at ${rest.join(', made at ')}, ${many > 1 ? 'the oldest ' : ''}for ${seconds(Math.min(...its.map((it) => it.since)))} s`;
+    return { grows, many, text: `${grows ? 'GROWS ' : ''}${words}${counts.length > 1 ? ` (at each report: ${counts.join(', ')})` : ''}` };
+  });
+  return found.sort((a, b) => b.grows - a.grows || b.many - a.many);
+}
+
+/** The report on what is open, as a text. */
+export function reported(open, isWhole) {
+  const found = rows(open), many = found.reduce((sum, it) => sum + it.many, 0);
+  const head = `cellarcliff/watch: after ${seconds(began)} s ${many ? `${many} of what the program made ${many > 1 ? 'are' : 'is'} open` : 'nothing that the program made is open'}`;
+  const tail = isWhole ? [] : ['the engine made a checkpoint, so the history is not whole: this is made of what is open'];
+  return `${[head, ...found.map((it) => it.text), ...tail].join('\n  ')}\n`;
+}
+
+/** The history with the lines of the program as names, for `rxbook picture`; null where it is not whole. */
+export function named(history, open) {
+  if (history === null) return null;
+  const text = new TextDecoder().decode(history), names = {}, events = JSON.parse(text);
+  for (const it of open) {
+    if (it.place === null) continue;
+    const label = `${it.place.file.split('/').pop()}:${it.place.line}`;
+    if (it.what === 'subscription') names[it.node] = label;
+    else if (events[it.node]?.[0] === 'accept') names[it.node] = `${it.what} ${label}`;
+  }
+  return `{"dump":${text},"names":${JSON.stringify(names)}}`;
+}

@@ -1,0 +1,109 @@
+"""python3 -m cellarcliff.watch [--whole] [--picture FILE] [--fail] PROGRAM ARGS ..
+       python3 -m cellarcliff.watch [OPTION ..] -m MODULE ARGS ..
+
+Runs a program that is written for RxPY (`rx`, or `reactivex`) over this package, and tells on standard error what it left open, by the lines
+that subscribed to it or made it: at its end, and whenever it gets the signal USR1.
+
+    --whole         the engine makes no checkpoint: the history stays whole, and takes memory for each item
+    --picture FILE  the history as a picture, where it is whole, with these lines as names
+    --fail          the status is 3 where something was left open, if the program's own is 0
+
+What this package lacks is RxPY's own, where that is installed. A process that is killed, or ends by os._exit, tells nothing.
+"""
+from __future__ import annotations
+
+import builtins
+import os
+import pathlib
+import runpy
+import sys
+import threading
+import types
+from typing import Any, List, Optional, Tuple
+
+from . import begin, on_signal, report, reports
+
+
+_kept: List[Any] = []
+
+
+class Words:
+    """What the command line says."""
+
+    def __init__(self, words: List[str]):
+        self.whole = self.fails = self.is_module = False
+        self.picture: Optional[str] = None
+        while words and words[0].startswith("-"):
+            word = words.pop(0)
+            if word == "--whole":
+                self.whole = True
+            elif word == "--fail":
+                self.fails = True
+            elif word == "--picture" and words:
+                self.picture = words.pop(0)
+            elif word == "-m" and words:
+                self.is_module = True
+                break
+            elif word in ("-h", "--help"):
+                print(__doc__)
+                sys.exit()
+            else:
+                sys.exit(f"cellarcliff.watch: {word} is no option, or lacks its word; --help tells more")
+        if not words:
+            sys.exit("cellarcliff.watch: no program is named; --help tells more")
+        self.program, self.arguments = words[0], words[1:]
+
+
+def draw(file: str) -> None:
+    from .. import audit
+    named = reports().named()
+    if named is None:
+        sys.stderr.write("cellarcliff.watch: there is no picture, since the history is not whole; --whole keeps it\n")
+        return
+    try:
+        pathlib.Path(file).write_text(audit.picture(named))
+    except (OSError, AttributeError, audit.FaultyInput) as why:
+        sys.stderr.write(f"cellarcliff.watch: there is no picture: {why}\n")
+
+
+def run(words: Words) -> None:
+    """Runs the program as the module `__main__`, whose names live until the process ends, as those of any program do."""
+    sys.argv = [words.program, *words.arguments]
+    if words.is_module:
+        sys.path[0] = os.getcwd()
+        _kept.append(runpy.run_module(words.program, run_name="__main__", alter_sys=True))
+        return
+    try:
+        source = pathlib.Path(words.program).read_bytes()
+    except OSError as why:
+        sys.exit(f"cellarcliff.watch: {words.program} cannot be read: {why.strerror}")
+    sys.path[0] = os.path.dirname(os.path.abspath(words.program))
+    main = types.ModuleType("__main__")
+    main.__dict__.update(__file__=words.program, __builtins__=builtins)
+    sys.modules["__main__"] = main
+    exec(compile(source, words.program, "exec"), main.__dict__)
+
+
+def main() -> None:
+    words = Words(sys.argv[1:])
+    begin(words.whole)
+    on_signal()
+    status: Tuple[Any, ...] = (0,)
+    try:
+        run(words)
+    except SystemExit as end:
+        status = (end.code,)
+    finally:
+        # (threads of the program that are no daemons go on; what they leave is told once they have ended)
+        for it in threading.enumerate():
+            if it is not threading.current_thread() and not it.daemon:
+                it.join()
+        report(sys.stderr)
+        if words.picture:
+            draw(words.picture)
+    left = bool(reports().engine.open_now())
+    sys.exit(3 if words.fails and left and status[0] in (0, None) else status[0])
+
+
+if __name__ == "__main__":
+    main()
