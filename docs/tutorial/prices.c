@@ -1,84 +1,135 @@
-/* Keeps the subscriptions of a price view in a live book: the program of the tutorial, in C. It prints each answer.
- * Built as `gcc prices.c $(pkg-config --cflags --libs rx) -o prices`. */
+/* Keeps the subscriptions of a price view: the program of the tutorial, in C. It prints what stands in prices.out.
+ * Built as `gcc prices.c $(pkg-config --cflags --libs cellarcliff) -o prices`. It has one thread, and so no lock. */
+#include <cellarcliff.h>
 #include <stdio.h>
 #include <stdlib.h>
-#include <string.h>
-#include <rx.h>
 
-static uint8_t answer[65536];
+static struct cellar engine;
+static struct cellar_node mapping, lines; /* a FlatMap or Switch, and what its latest file tells */
+#define MAKE(...) make((struct cellar_command){__VA_ARGS__})
+static struct cellar_answer make(struct cellar_command command);
+static struct cellar_node leaf_of(struct cellar_node node);
 
-/* Ends the program where a call failed. */
-static void check(uint8_t status) {
-  if (status != RX_LIVE_DONE) exit(status);
+/* The engine's word for an observer: here the address of its name. */
+static uint64_t word(const char *name) { return (uintptr_t)name; }
+
+/* A file for each item but 11. */
+static void file_for(uint64_t item) {
+  if (item == 11) {
+    MAKE(.what = CELLAR_DECLINE, .node = mapping);
+    return;
+  }
+  struct cellar_node file = MAKE(.what = CELLAR_USING, .place = CELLAR_INNER, .node = mapping, .value = item).node;
+  lines = leaf_of(file);
 }
 
-/* Sends one command, and prints the answer. In the text of the command ' stands for ". */
-static void send(struct rx_live *book, const char *command) {
-  uint8_t line[256];
-  size_t length = strlen(command), told = 0;
-  for (size_t i = 0; i < length; i++) line[i] = command[i] == '\'' ? '"' : command[i];
-  check(rx_live_send(book, line, length, answer, sizeof answer, &told));
-  printf("%.*s\n", (int)told, (const char *)answer);
+/* Does what an effect says. */
+static void tell(struct cellar_effect it) {
+  const char *name = (const char *)(uintptr_t)it.user;
+  if (it.kind == CELLAR_E_NEXT) printf("%s receives %d\n", name, (int)it.value);
+  if (it.kind == CELLAR_E_COMPLETED) printf("%s receives the end\n", name);
+  if (it.kind == CELLAR_E_PROJECT) file_for(it.value);
+  if (it.kind == CELLAR_E_RELEASE) printf("release file %d\n", (int)it.user); /* a real program closes it here */
 }
+
+/* Does all that a command came to. */
+static void serve(const struct cellar_answer *answer) {
+  struct cellar_effect effect;
+  if (answer->handed) tell(answer->effect);
+  for (uint64_t i = 0, count; i < answer->due; i++) /* here never more than eight: cellar_rest has what is behind */
+    while (cellar_take(&engine, answer->lanes[i], 0, &effect, &count) == CELLAR_DONE && count) tell(effect);
+}
+
+/* Makes a command that this program can make: a refusal ends it. */
+static struct cellar_answer make(struct cellar_command command) {
+  struct cellar_answer answer;
+  if (cellar_make(&engine, &command, &answer) != CELLAR_DONE) abort();
+  serve(&answer);
+  return answer;
+}
+
+/* A leaf at the source of a node. */
+static struct cellar_node leaf_of(struct cellar_node node) {
+  return MAKE(.what = CELLAR_OPEN, .place = CELLAR_SOURCE, .kind = CELLAR_LEAF, .node = node).node;
+}
+
+static void next(struct cellar_node leaf, uint64_t item) { MAKE(.what = CELLAR_NEXT, .node = leaf, .value = item); }
 
 /* One observer with a file, and the source that it mirrors. */
-static void watch(struct rx_live *book) {
-  send(book, "{'do':'using','name':'prices','place':'root','res':'file-7'}");
-  send(book, "{'do':'open','name':'ticks','place':'source','of':'prices','kind':'leaf'}");
-  send(book, "{'do':'next','node':'ticks','value':101}");
-  send(book, "{'do':'end','node':'ticks'}");
+static void watch(void) {
+  struct cellar_node prices = MAKE(.what = CELLAR_USING, .place = CELLAR_ROOT, .user = word("prices"), .value = 7).node;
+  struct cellar_node ticks = leaf_of(prices);
+  next(ticks, 101);
+  MAKE(.what = CELLAR_COMPLETE, .node = ticks);
+}
+
+/* An observer of the feed, a share. Its first one connects it: then `other` of the answer is the connection. */
+static struct cellar_answer subscribe(const char *name) {
+  return MAKE(.what = CELLAR_OPEN, .place = CELLAR_ROOT, .kind = CELLAR_SHARED, .user = word(name), .value = word("feed"),
+              .hub = CELLAR_UNKNOWN_HUB);
 }
 
 /* Two observers of one source: its file is opened with the first, and comes back with the last. */
-static void share(struct rx_live *book) {
-  send(book, "{'do':'hub','name':'feed','mode':'auto'}");
-  send(book, "{'do':'open','name':'first','place':'root','kind':'sub','hub':'feed','connection':'link'}");
-  send(book, "{'do':'open','name':'second','place':'root','kind':'sub','hub':'feed'}");
-  send(book, "{'do':'using','name':'line','place':'source','of':'link','res':'file-9'}");
-  send(book, "{'do':'open','name':'ticks','place':'source','of':'line','kind':'leaf'}");
-  send(book, "{'do':'next','node':'ticks','value':102}");
-  send(book, "{'do':'dispose','node':'first'}");
-  send(book, "{'do':'dispose','node':'second'}");
+static void share(void) {
+  struct cellar_answer first = subscribe("first"), second = subscribe("second");
+  if (first.is_connected) {
+    struct cellar_node line = MAKE(.what = CELLAR_USING, .place = CELLAR_SOURCE, .node = first.other, .value = 9).node;
+    struct cellar_node ticks = leaf_of(line);
+    next(ticks, 102);
+  }
+  MAKE(.what = CELLAR_DISPOSE, .node = first.node);
+  MAKE(.what = CELLAR_DISPOSE, .node = second.node);
 }
 
 /* A file for the first item that comes, none for the second (FlatMap). */
-static void merge(struct rx_live *book) {
-  send(book, "{'do':'open','name':'merged','place':'root','kind':'flat'}");
-  send(book, "{'do':'open','name':'names','place':'source','of':'merged','kind':'leaf'}");
-  send(book, "{'do':'next','node':'names','value':10}");
-  send(book, "{'do':'next','node':'names','value':11}");
-  send(book, "{'do':'using','name':'file','place':'inner','of':'merged','res':'file-10'}");
-  send(book, "{'do':'open','name':'lines','place':'source','of':'file','kind':'leaf'}");
-  send(book, "{'do':'decline','node':'merged'}");
-  send(book, "{'do':'next','node':'lines','value':103}");
-  send(book, "{'do':'end','node':'names'}");
-  send(book, "{'do':'end','node':'lines'}");
+static void merge(void) {
+  mapping = MAKE(.what = CELLAR_OPEN, .place = CELLAR_ROOT, .kind = CELLAR_FLAT, .user = word("merged")).node;
+  struct cellar_node names = leaf_of(mapping);
+  next(names, 10);
+  next(names, 11);
+  next(lines, 103);
+  MAKE(.what = CELLAR_COMPLETE, .node = names);
+  MAKE(.what = CELLAR_COMPLETE, .node = lines);
+}
+
+/* A file for each item; the new one takes the place of the old one (Switch). */
+static void latest(void) {
+  mapping = MAKE(.what = CELLAR_OPEN, .place = CELLAR_ROOT, .kind = CELLAR_SWITCH, .user = word("latest")).node;
+  struct cellar_node names = leaf_of(mapping);
+  next(names, 12);
+  next(names, 13);
+  next(lines, 104);
+  MAKE(.what = CELLAR_DISPOSE, .node = mapping);
 }
 
 /* A request borrows the file of a subscription, and outlives it. */
-static void lend(struct rx_live *book) {
-  send(book, "{'do':'using','name':'page','place':'root','res':'file-15'}");
-  send(book, "{'do':'lease','res':'file-15','name':'request'}");
-  send(book, "{'do':'dispose','node':'page'}");
-  send(book, "{'do':'apply','res':'file-15','word':3}");
-  send(book, "{'do':'return','lease':'request'}");
+static void lend(void) {
+  struct cellar_answer page = MAKE(.what = CELLAR_USING, .place = CELLAR_ROOT, .user = word("page"), .value = 15);
+  struct cellar_node request = MAKE(.what = CELLAR_LEASE, .node = page.other).other;
+  MAKE(.what = CELLAR_DISPOSE, .node = page.node);
+  puts("the page is gone, the request goes on");
+  MAKE(.what = CELLAR_GIVE_BACK, .node = request);
 }
 
 /* A subscription that nobody ends. */
-static void forget(struct rx_live *book) {
-  send(book, "{'do':'using','name':'forgotten','place':'root','res':'file-8'}");
+static void forget(void) { MAKE(.what = CELLAR_USING, .place = CELLAR_ROOT, .user = word("forgotten"), .value = 8); }
+
+/* Closes one of what is open after the other, and frees the engine. */
+static int close_all(void) {
+  struct cellar_command shut = {.what = CELLAR_SHUT};
+  struct cellar_answer answer;
+  while (cellar_make(&engine, &shut, &answer) == CELLAR_DONE) serve(&answer);
+  return cellar_finish(&engine);
 }
 
 int main(void) {
-  struct rx_live book = {0};
-  size_t told = 0;
-  check(rx_live_new(&book, 1000000));
-  watch(&book);
-  share(&book);
-  merge(&book);
-  lend(&book);
-  forget(&book);
-  check(rx_live_end(&book, answer, sizeof answer, &told));
-  printf("%.*s\n", (int)told, (const char *)answer);
-  return 0;
+  static void (*const parts[])(void) = {watch, share, merge, latest, lend, forget};
+  static const char *const names[] = {"watch", "share", "merge", "latest", "lend", "forget"};
+  if (cellar_new(&engine, 0) != CELLAR_DONE) return 1;
+  for (int i = 0; i < 6; i++) {
+    printf("-- %s\n", names[i]);
+    parts[i]();
+  }
+  puts("-- close");
+  return close_all();
 }

@@ -1,114 +1,87 @@
-"""Keeps the subscriptions of a price view in a live book: the program of the tutorial, in Python.
-
-Run as `python3 docs/tutorial/prices.py ./rxbook live`. It needs Python's standard library, and nothing else.
-"""
-import json
-import subprocess
-import sys
+"""Keeps the subscriptions of a price view: the program of the tutorial, in Python. It prints what stands in prices.out."""
+from cellarcliff import rx
+from cellarcliff.rx import operators as ops
+from cellarcliff.rx.disposable import Disposable, RefCountDisposable
+from cellarcliff.rx.subject import Subject
 
 
-class Book:
-    """A live book in a process of its own: a line goes in, a line comes out."""
-
-    def __init__(self, command):
-        self.process = subprocess.Popen(command, stdin=subprocess.PIPE, stdout=subprocess.PIPE, encoding="ascii")
-
-    def send(self, do, **members):
-        """Sends one command, and does what the answer asks for."""
-        print(json.dumps({"do": do, **members}), file=self.process.stdin, flush=True)
-        serve(json.loads(self.process.stdout.readline()))
-
-    def close(self):
-        """Closes everything, and does what is left to do."""
-        self.process.stdin.close()
-        serve(json.loads(self.process.stdout.readline()))
+def file(number):
+    """A stand-in for an open file, which says when it is closed."""
+    return Disposable(lambda: print("release file", number))
 
 
-def serve(answer):
-    """Tells the observers, then releases what is due."""
-    for note in answer.get("notes", []):
-        print(note["to"], "receives", received(note))
-    for name in answer.get("release", []):
-        print("release", name)  # here a real program closes its file
-    if "ok" not in answer and "closed" not in answer:
-        print("not done:", answer)
+def tell(name):
+    """An observer: what it does with an item, with an error, with the end."""
+    return lambda item: print(name, "receives", item), None, lambda: print(name, "receives the end")
 
 
-def received(note):
-    if "next" in note:
-        return note["next"]
-    if "project" in note:
-        return f"{note['project']} to project"
-    return f"the error {note['error']}" if "error" in note else "the end"
+def watch():
+    """An observer with a file."""
+    ticks = Subject()
+    prices = rx.using(lambda: file(7), lambda opened: ticks)
+    prices.subscribe(*tell("prices"))
+    ticks.on_next(101)
+    ticks.on_completed()
 
 
-def watch(book):
-    """One observer with a file, and the source that it mirrors."""
-    book.send("using", name="prices", place="root", res="file-7")
-    book.send("open", name="ticks", place="source", of="prices", kind="leaf")
-    book.send("next", node="ticks", value=101)
-    book.send("end", node="ticks")
+def share():
+    """Two observers of one source, and its file."""
+    ticks = Subject()
+    feed = rx.using(lambda: file(9), lambda opened: ticks).pipe(ops.share())
+    first = feed.subscribe(*tell("first"))
+    second = feed.subscribe(*tell("second"))
+    ticks.on_next(102)
+    first.dispose()
+    second.dispose()
 
 
-def share(book):
-    """Two observers of one source: its file is opened with the first, and comes back with the last."""
-    book.send("hub", name="feed", mode="auto")
-    book.send("open", name="first", place="root", kind="sub", hub="feed", connection="link")
-    book.send("open", name="second", place="root", kind="sub", hub="feed")
-    book.send("using", name="line", place="source", of="link", res="file-9")
-    book.send("open", name="ticks", place="source", of="line", kind="leaf")
-    book.send("next", node="ticks", value=102)
-    book.send("dispose", node="first")
-    book.send("dispose", node="second")
-
-
-def merge(book):
+def merge():
     """A file for the first item that comes, none for the second (FlatMap)."""
-    book.send("open", name="merged", place="root", kind="flat")
-    book.send("open", name="names", place="source", of="merged", kind="leaf")
-    book.send("next", node="names", value=10)
-    book.send("next", node="names", value=11)
-    book.send("using", name="file", place="inner", of="merged", res="file-10")
-    book.send("open", name="lines", place="source", of="file", kind="leaf")
-    book.send("decline", node="merged")
-    book.send("next", node="lines", value=103)
-    book.send("end", node="names")
-    book.send("end", node="lines")
+    names, lines = Subject(), Subject()
+
+    def file_of(name):
+        return rx.empty() if name == 11 else rx.using(lambda: file(name), lambda opened: lines)
+
+    names.pipe(ops.flat_map(file_of)).subscribe(*tell("merged"))
+    names.on_next(10)
+    names.on_next(11)
+    lines.on_next(103)
+    names.on_completed()
+    lines.on_completed()
 
 
-def latest(book):
+def latest():
     """A file for each item; the new one takes the place of the old one (Switch)."""
-    book.send("open", name="latest", place="root", kind="switch")
-    book.send("open", name="names", place="source", of="latest", kind="leaf")
-    book.send("next", node="names", value=12)
-    book.send("using", name="old", place="inner", of="latest", res="file-12")
-    book.send("next", node="names", value=13)
-    book.send("using", name="new", place="inner", of="latest", res="file-13")
-    book.send("dispose", node="latest")
+    names, lines = Subject(), Subject()
+    files = names.pipe(ops.flat_map_latest(lambda name: rx.using(lambda: file(name), lambda opened: lines)))
+    latest = files.subscribe(*tell("latest"))
+    names.on_next(12)
+    names.on_next(13)
+    lines.on_next(104)
+    latest.dispose()
 
 
-def lend(book):
+def lend():
     """A request borrows the file of a subscription, and outlives it."""
-    book.send("using", name="page", place="root", res="file-15")
-    book.send("lease", res="file-15", name="request")
-    book.send("dispose", node="page")
-    book.send("apply", res="file-15", word=3)
+    lent = RefCountDisposable(file(15))
+    page = rx.using(lambda: lent, lambda opened: rx.never()).subscribe()
+    request = lent.disposable
+    page.dispose()
     print("the page is gone, the request goes on")
-    book.send("return", lease="request")
+    request.dispose()
 
 
-def forget(book):
+def forget():
     """A subscription that nobody ends."""
-    book.send("using", name="forgotten", place="root", res="file-8")
+    rx.using(lambda: file(8), lambda opened: rx.never()).subscribe()
 
 
 def main():
-    book = Book(sys.argv[1:])
     for part in watch, share, merge, latest, lend, forget:
-        print(f"-- {part.__name__}")
-        part(book)
+        print("--", part.__name__)
+        part()
     print("-- close")
-    book.close()
+    rx.current().close()
 
 
 main()
