@@ -42,6 +42,6 @@ int main(void) {
   subject = make(CELLAR_OPEN, CELLAR_SOURCE, CELLAR_LEAF, exchange, 0);
   for (int i = 0; i < 2; i++) pthread_create(&threads[i], NULL, emit, &first[i]);
   for (int i = 0; i < 2; i++) pthread_join(threads[i], NULL);
-  make(CELLAR_SHUT, 0, 0, subject, 0);
+  make(CELLAR_SHUT, 0, 0, subject, 0); /* one call for each root that is open */
   printf("%lu told, %lu released, %s\n", told, released, cellar_finish(&engine) == CELLAR_DONE ? "all is done" : "something waits");
 }

@@ -164,7 +164,7 @@ int main(void) {
     in_all = asked;
     unseen += starved == last && in_all > n; /* growth that was refused asks for less before it gives up */
     left = 0; /* from here on each request would be refused, and none is made */
-    done(CELLAR_SHUT, none, 0);
+    while (make(CELLAR_SHUT, 0, 0, none, 0) == 0) continue;
     takes_none = 1;
     while (cellar_left(&engine, 0, &word, &next) == 0 && word != UINT64_MAX)
       while (cellar_take(&engine, word, 1, &it, &count) == 0 && count) tell(&it);

@@ -198,7 +198,7 @@ int main(int count, char **words) {
   pages = memory();
   for (int i = 0; i < THREADS; i++) pthread_join(threads[i], NULL);
   struct cellar_command shut = {.what = CELLAR_SHUT, .by = THREADS};
-  MUST(cellar_make(&engine, &shut, &answer) == 0);
+  while (cellar_make(&engine, &shut, &answer) == 0) continue;
   MUST(cellar_totals(&engine, &totals) == 0);
   while (totals.effects > 0) {
     serve_what_is_left(&ones[THREADS]);

@@ -43,18 +43,19 @@ class Beside:
         step = ['make', self.written(c), {'status': made.status} if made.status else {}]
         self.steps.append(step)
         self.way.told += self.cellar.events()
-        wanted = self.model.make(c)
+        wanted = self.model.made(c)
         self.same('status', made.status, wanted.status)
         self.same('events', len(self.way.told), len(self.model.h))
-        for member in ('node', 'other', 'is_connected', 'hub', 'copies', 'handed'):
+        for member in ('node', 'other', 'is_connected', 'hub', 'copies'):
             self.same(member, getattr(made, member), getattr(wanted, member))
+        self.same('whether an effect is handed out', made.handed is not None, wanted.hands is not None)
         self.same('closings', sorted(made.closings), sorted(wanted.closings))
         for which, n in enumerate((made.node, made.other)):
             if n is not None:
                 self.made[n] = [len(self.steps) - 1, which]
         if not made.status:
             self.lists = made.closings, made.lanes
-        self.match(made.lanes, wanted)
+        self.match(made.lanes, wanted, made.handed)
         said = {'node': int(made.node is not None), 'other': int(made.other is not None), 'connected': made.is_connected, 'hub': made.hub,
                 'copies': made.copies, 'closings': list(made.closings), 'handed': list(made.handed or ()),
                 'lanes': [self.lane_at(word) for word in made.lanes]}
@@ -70,23 +71,39 @@ class Beside:
         """The place of a lane among those that were named, and whether it is served further out."""
         return [self.order.index(self.names[word & ~INSIDE]), int(word >= INSIDE)]
 
-    def match(self, words: tuple[int, ...], wanted: Answer) -> None:
+    def match(self, words: tuple[int, ...], wanted: Answer, handed: Effect | None) -> None:
         """The words of the lanes that are due, each with its lane. Of lanes that who is gone has, any may be named first."""
         self.same('how many lanes are due', len(words), len(wanted.lanes))
         due = list(wanted.lanes)
-        for word in words:
+        for i, word in enumerate(words):
             may = [it for it in due if it.by == due[0].by]
             name = self.names.get(word & ~INSIDE)
             found = [it for it in may if it.lane == name] if name is not None else [it for it in may if it.lane not in self.words]
             if not found:
                 raise Differs(f'lane {word:x} is due, and it is one of {may}')
-            it, effect = (found[0], None) if len(found) == 1 else self.told_apart(word, found)
+            is_handed = i == 0 and handed is not None
+            if is_handed:
+                it, effect = self.handed(handed, found), None
+            else:
+                it, effect = (found[0], None) if len(found) == 1 else self.told_apart(word, found)
             self.same('whether it is served further out', word >= INSIDE, it.inside)
             self.bind(word & ~INSIDE, it.lane)
             if effect:
                 place, _ = self.lane_at(word)
                 self.steps += [['take', place, 0, 0, list(effect)], ['give up', place, 0, list(effect), DONE, 1]]
             due.remove(it)
+            if is_handed:
+                self.first(it.lane, handed)
+                self.model.hand(wanted, it)
+                self.same('what is handed out', handed, wanted.handed)
+
+    def handed(self, effect: Effect | None, found: list[Any]) -> Any:
+        """The lane of the effect that was handed out."""
+        for it in found:
+            line = self.model.lanes[it.lane].line()
+            if effect in [w.effect for w in line if w.part == line[0].part]:
+                return it
+        raise Differs(f'{effect} was handed out, and it is of one of {found}')
 
     def told_apart(self, word: int, found: list[Any]) -> Any:
         """Lanes that were never named, and are due by what says no order: the effects of one say which it is. They are given back."""
@@ -379,10 +396,10 @@ class Course:
         if rng.random() < 0.3 and engine.finish() == DONE:
             return
         if rng.random() < 0.9:
-            made, _ = engine.make(Command(SHUT, by=2))
-            if rng.random() < 0.4 and engine.finish() == DONE:
-                return
-            self.served += [(word, 2, None) for word in made.lanes]
+            while (made := engine.make(Command(SHUT, by=2))[0]).status == DONE:
+                self.served += [(word, 2, None) for word in made.lanes]
+                if rng.random() < 0.1 and engine.finish() == DONE:
+                    return
             for word, by, _ in reversed(self.served):
                 while engine.take(word, by):
                     pass

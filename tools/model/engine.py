@@ -166,6 +166,7 @@ class Answer:
     closings: tuple[int, ...] = ()
     handed: Effect | None = None
     lanes: tuple[Due, ...] = ()
+    hands: int | None = None  # who is handed the first effect of a lane that is named first
 
 
 class Stands(Exception):
@@ -231,6 +232,18 @@ class Engine:
     # Commands
 
     def make(self, c: Command) -> Answer:
+        """A command, and the effect that is handed out with it, of the lane that is named first."""
+        answer = self.made(c)
+        if answer.hands is not None:
+            self.hand(answer, answer.lanes[0])
+        return answer
+
+    def hand(self, answer: Answer, due: Due) -> None:
+        """The caller takes the first effect of this lane, and serves it."""
+        assert answer.hands is not None
+        answer.handed = self.take(due.lane, due.inside, answer.hands)
+
+    def made(self, c: Command) -> Answer:
         """A command that is refused changes nothing but the history's beginning: behind a checkpoint it may not be full any more."""
         if not is_known(c):
             return Answer(NO_SUCH_CODE)
@@ -307,12 +320,14 @@ class Engine:
         return self.settled(c, answer, told)
 
     def shut(self, c: Command, answer: Answer) -> Answer:
-        """Whatever may be given back, unsubscribed or disconnected, one after another."""
-        effects: list[Sent] = []
-        while free := [e for e in [*(Return(l) for l in range(len(self.h)) if is_out(self.h, l)), *(Close(n) for n in open_nodes(self.h))]
-                       if is_allowed(self.h, e)]:
-            effects += self.settles(c, self.happens([self.way.choose(self.h, free)]))
-        return self.delivered(c, answer, effects)
+        """The oldest lease is given back, or else the oldest root unsubscribed, or else the oldest hub disconnected."""
+        nodes = [n for n in open_nodes(self.h) if is_allowed(self.h, Close(n))]
+        connections = sorted((e.hub, n) for n in nodes if isinstance(e := at(self.h, n), Connect))
+        free = [*(Return(l) for l in range(len(self.h)) if is_out(self.h, l)), *(Close(n) for n in nodes if not isinstance(at(self.h, n), Connect)),
+                *(Close(n) for _, n in connections)]
+        if not free:
+            raise Stands('Gone')
+        return self.settled(c, answer, self.happens([free[0]]))
 
     # Which lane, and which hub
 
@@ -428,13 +443,10 @@ class Engine:
             if n in self.hub_of:
                 self.hubs[self.hub_of.pop(n)].many -= 1
         self.gone = []
-        if len(effects) == 1 and effects[0].effect.kind in (E_NEXT, E_PROJECT) and not c.flags & QUEUES:
-            name = effects[0].lane
-            if len(self.lanes[name].line()) == 1 and self.lanes[name].server is None:
-                answer.handed, answer.lanes = self.take(name, False, c.by), (Due(name, False, 0),)
-                return answer
         answer.lanes = tuple(Due(name, lane.server is not None, first) for name, first in fresh.items()
                              for lane in [self.lanes[name]] if lane.server is None or lane.server == c.by and lane.front)
+        if c.what == NEXT and not c.flags & QUEUES and answer.lanes:
+            answer.hands = c.by
         return answer
 
     def part(self, name: int) -> None:

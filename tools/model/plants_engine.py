@@ -65,7 +65,7 @@ planted('copies are one too few', Engine, 'delivered', lambda was: lambda s, c, 
     it := was(s, c, answer, effects), copies=max(0, it.copies - (it.copies > 1))))
 planted('closings of a connection are not told', Engine, 'connect', lambda was: lambda s, c, answer: was(
     s, replace(c, flags=c.flags & ~WISHES), answer))
-planted('what is full stays full', Engine, 'make', lambda was: lambda s, c: (setattr(s, 'limit', s.limit and s.limit - 1), was(s, c), setattr(
+planted('what is full stays full', Engine, 'made', lambda was: lambda s, c: (setattr(s, 'limit', s.limit and s.limit - 1), was(s, c), setattr(
     s, 'limit', s.limit and s.limit + 1))[1])
 
 

@@ -138,6 +138,23 @@ class Examples(unittest.TestCase):
         self.assertEqual((self.taken(told.lanes[0]), self.taken(item.lanes[0])), ([(E_COMPLETED, 7, 0)], [(E_MERGED, 7, 0)]))
         self.assertEqual(ended.copies, 0)
 
+    def test_an_item_hands_out_the_first_of_many_unless_it_queues(self):
+        share = self.make(OPEN, kind=SHARED, value=1, user=7)
+        self.make(OPEN, kind=SHARED, value=1, user=8)
+        leaf = self.make(OPEN, place=1, node=share.other).node
+        item = self.make(NEXT, node=leaf, value=5)
+        self.assertEqual((item.handed, len(item.lanes)), (Effect(E_NEXT, 7, 5, 1, 1), 2))
+        self.assertEqual([self.taken(due) for due in item.lanes], [[], [(E_NEXT, 8, 5)]])
+        self.assertEqual(self.make(NEXT, node=leaf, value=6, flags=QUEUES).handed, None)
+
+    def test_what_is_open_is_shut_one_by_one(self):
+        first, second = self.make(OPEN, user=7).node, self.make(USING, user=8, value=42)
+        lease = self.make(LEASE, node=second.other).other
+        self.make(SHUT)
+        self.assertEqual(self.engine.make(Command(GIVE_BACK, node=lease)).status, REFUSED['NoLease'])
+        self.assertEqual([self.taken(self.make(SHUT).lanes[0]) for _ in (first, second.node)], [[(E_GONE, 7, 0)], [(E_GONE, 8, 0), (E_RELEASE, 42, 0)]])
+        self.assertEqual(self.engine.make(Command(SHUT)).status, REFUSED['Gone'])
+
     def test_a_share_below_a_share_has_an_earlier_hub(self):
         outer = self.make(OPEN, kind=SHARED, value=1, level=1)
         inner = self.make(OPEN, kind=SHARED, value=2, place=1, node=outer.other)

@@ -11,6 +11,7 @@ mod leases;
 mod meetings;
 mod parts;
 mod rows;
+mod seats;
 mod storms;
 mod ticks;
 mod trials;

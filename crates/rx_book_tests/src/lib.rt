@@ -19,6 +19,8 @@ mod desks;
 #[cfg(test)]
 mod fates;
 #[cfg(test)]
+mod given_back;
+#[cfg(test)]
 mod just;
 #[cfg(test)]
 mod load;

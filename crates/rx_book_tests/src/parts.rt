@@ -5,6 +5,7 @@
 mod disposable;
 mod note;
 mod resource;
+mod room;
 mod scarce;
 mod slots;
 mod time;

@@ -38,7 +38,7 @@ fn is_refused_memory(book: &mut Probe<Sample>, asking: Asking) -> bool {
 }
 
 // Leaves one block of memory, until it is dropped.
-fn leave_one_block(alloc: Global) -> Result<Scarce, AllocError> {
+pub(super) fn leave_one_block(alloc: Global) -> Result<Scarce, AllocError> {
     let block: Vec<u8> = Vec::with_capacity(alloc, BLOCK)?;
     let scarce = Scarce::new(alloc)?;
     drop(block);

@@ -60,7 +60,7 @@ module _ {old mid : Stage} (lines texts : List (List ℕ)) where
   owes_sent line buffer buffer' told status (call.has_mail waits now done kept) owes =
       owes_as _ lines _ texts (sym now) (ap (λ (n : ℕ). taken n line ++ lines) done)
       (ap (λ (n : ℕ). handed n told buffer' ++ texts) done) owes
-  owes_sent line buffer buffer' told status (call.is_starved {s} {t} was off now done silent) owes =
+  owes_sent line buffer buffer' told status (call.is_starved {s} {t} was off free now done silent) owes =
       let rest : HasServed t lines texts = subst (λ (m : Stage). Owes m lines texts) now owes in
       owes_as _ lines _ texts was (ap (λ (n : ℕ). taken n line ++ lines) done)
       (ap (λ (n : ℕ). handed n told buffer' ++ texts) done)

@@ -84,7 +84,7 @@ module _ (g : Ghosts Token) where
       by_code (mode_of mode) status c (λ m o. let p = said s t status o in one p.1 (a_hub m p.0)) (λ k done. stays s t (same_Some t s k.0))
   by_export {s} {t} (connects {status = status} hub c) = let p = said s t status c in one p.1 (connect hub p.0)
   by_export {s} {t} (disconnects {status = status} hub c) = let p = said s t status c in one p.1 (disconnect hub p.0)
-  by_export {s} {t} (applies {status = status} res c) = let p = said s t status c in one p.1 (apply res p.0)
+  by_export {s} {t} (applies {status = status} res word c) = let p = said s t status c in one p.1 (apply res word p.0)
   by_export {s} {t} (removes {status = status} res c) = let p = said s t status c in one p.1 (remove res p.0)
   by_export {s} {t} (leases {status = status} res c) = let p = said s t status c in one p.1 (lease res p.0)
   by_export {s} {t} (gives_back {status = status} key c) = let p = said s t status c in one p.1 (give_back key p.0)
@@ -95,9 +95,9 @@ module _ (g : Ghosts Token) where
   by_export {s} {t} (closes {status = status} c) = let p = said s t status c in one p.1 (close p.0)
   by_export {s} {t} (opens_told {status = status} place above kind hub told told' c) =
       by_code (asked_of place above kind hub) status c
-      (λ asked o. let p = said s t status o in tell p.1 p.0 (open_node asked.0 asked.1 p.0.says)) (λ k done. stays_untold s t told told' k.0 k.2)
+      (λ asked o. let p = said s t status o in tell p.1 p.0.tells (open_node asked.0 asked.1 p.0.tells.says)) (λ k done. stays_untold s t told told' k.0 k.2)
   by_export {s} {t} (opens_using_told {used = used} {status = status} place above tag told told' c) =
-      by_code (place_at place above) status c (λ at o. let p = said s t status o in tell p.1 p.0 (using at tag p.0.says))
+      by_code (place_at place above) status c (λ at o. let p = said s t status o in tell p.1 p.0.tells (using at tag p.0.tells.says))
       (λ k done. subst (λ (n : ℕ). Course g s (taken_in n used.res.number tag ++ all_told told') t) (sym done)
       (stays_untold s t told told' k.0 k.2))
   by_export {s} {t} (next_told {status = status} leaf value told told' c) = let p = said s t status c in tell p.1 p.0 (a_next leaf value p.0.says)

@@ -20,7 +20,7 @@ use Rattle.rx_typed.specs.Codes.{asked_of, place_at, terminal_of, mode_of, no_no
 use Rattle.rx_typed.specs.Calls.{IsCalled, IsDecoded, IsNext, IsNextAll, IsEnd, IsAbort, IsFail, IsDecline, IsDispose, IsOpen, IsUsing}
 use Rattle.rx_typed.specs.Calls.{IsHold, IsHub, IsConnect, IsDisconnect, IsApply, IsRemove, IsLease, IsGiveBack, IsTaken, IsMailTaken}
 use Rattle.rx_typed.specs.Calls.{new_book, IsMade, IsClosed, IsFinished, IsCheckpoint, IsAsked, IsAskedHeld, IsOwed, IsCounted, no_counts}
-use Rattle.rx_typed.specs.Told.{IsThenTold, no_told, drained_of}
+use Rattle.rx_typed.specs.Told.{IsThenTold, IsThenPlaced, no_told, drained_of}
 use Rattle.rx_typed.specs.Courses.{Act, Course, taken_in, given_back, note_told, all_drained, Leads, notes_made, notes_told, notes_left}
 use Rattle.rx_c.specs.Answers.{IsSilent}
 use Rattle.rx_c.specs.Dumped.{IsDumped}
@@ -57,7 +57,7 @@ pub data IsExport (g : Ghosts Token) (s : State) : List Act → State → Type 0
   connects : {t : State} {connection : RxNode} {status : ℕ} (hub : ℕ) → On (IsConnect hub connection) (connection ≡ no_node) s t status
       → IsExport g s [] t
   disconnects : {t : State} {place status : ℕ} (hub : ℕ) → On (IsDisconnect hub place) (place ≡ 0) s t status → IsExport g s [] t
-  applies : {t : State} {answer status : ℕ} (res : RxRes) → On (IsApply res answer) (answer ≡ 0) s t status → IsExport g s [] t
+  applies : {t : State} {answer status : ℕ} (res : RxRes) (word : ℕ) → On (IsApply res word answer) (answer ≡ 0) s t status → IsExport g s [] t
   removes : {t : State} {place status : ℕ} (res : RxRes) → On (IsRemove res place) (place ≡ 0) s t status → IsExport g s [] t
   leases : {t : State} {lease : RxLease} {status : ℕ} (res : RxRes) → On (IsLease res lease) (lease ≡ no_lease) s t status → IsExport g s [] t
   gives_back : {t : State} {place status : ℕ} (lease : RxLease) → On (IsGiveBack lease place) (place ≡ 0) s t status → IsExport g s [] t
@@ -71,11 +71,11 @@ pub data IsExport (g : Ghosts Token) (s : State) : List Act → State → Type 0
   closes : {t : State} {status : ℕ} → On IsClosed Unit s t status → IsExport g s [] t
   -- calls that tell
   opens_told : {t : State} {opened : RxOpened} {status : ℕ} (place : ℕ) (above : RxNode) (kind hub : ℕ) (told told' : RxTold)
-      → IsDecoded (asked_of place above kind hub) (λ asked. On (IsThenTold g (IsOpen asked.0 asked.1 opened) told told')
+      → IsDecoded (asked_of place above kind hub) (λ asked. On (IsThenPlaced g (IsOpen asked.0 asked.1 opened) opened.node.number told told')
       ((opened ≡ no_opened) × (told' ≡ no_told told)) s t) ((Some t ≡ Some s) × (opened ≡ no_opened) × (told' ≡ no_told told)) status
       → IsExport g s (all_told told') t
   opens_using_told : {t : State} {used : RxUsing} {status : ℕ} (place : ℕ) (above : RxNode) (tag : ℕ) (told told' : RxTold)
-      → IsDecoded (place_at place above) (λ at. On (IsThenTold g (IsUsing g at tag used) told told')
+      → IsDecoded (place_at place above) (λ at. On (IsThenPlaced g (IsUsing g at tag used) used.node.number told told')
       ((used ≡ no_used) × (told' ≡ no_told told)) s t) ((Some t ≡ Some s) × (used ≡ no_used) × (told' ≡ no_told told)) status
       → IsExport g s (taken_in status used.res.number tag ++ all_told told') t
   next_told : {t : State} {status : ℕ} (leaf : RxNode) (value : ℤ) (told told' : RxTold)

@@ -2,7 +2,8 @@
 -- one outcome, with its status:
 --     0 done        1 the buffer is too small, the answer waits        2 the handle keeps nothing        3 an answer waits
 --     4 memory was refused        5 the handle keeps something already        6 nothing waits
-use Rattle.std.specs.Prelude.{◌≡◌, ℕ, List, length}
+use Rattle.std.specs.Prelude.{◌≡◌, ℕ, List, length, None, IsUtf8}
+use Rattle.rx_line.specs.FreeCommands.{free_in}
 use Rattle.rx_live.specs.Session.{Session}
 use Rattle.rx_live.specs.Lines.{IsPutOff, Sends, Ends, IsFresh}
 use Rattle.rx_c.specs.Stages.{Stage, absent, opened, waiting, ended, IsPresent, Waits}
@@ -15,7 +16,8 @@ pub data IsMade (max_events : ℕ) (old new : Stage) (status : ℕ) : Type 0 whe
   is_held : IsPresent old → new ≡ old → status ≡ 5 → IsMade max_events old new status
 
 module _ (old new : Stage) (line buffer buffer' : List ℕ) (told status : ℕ) where
-  -- a line that got 0 or 1 was taken, once; with any other status it was not, and with 4 a checkpoint may have been made
+  -- a line that got 0 or 1 was taken, once; with any other status it was not, and with 4 a checkpoint may have been made; a command that
+  -- takes no memory never gets 4
   pub data IsSent : Type 0 where
     sends : {s t : Session} {text : List ℕ} → old ≡ opened s → Sends s line text t → new ≡ opened t
         → status ≡ 0 → IsGiven text buffer buffer' told → IsSent
@@ -24,7 +26,7 @@ module _ (old new : Stage) (line buffer buffer' : List ℕ) (told status : ℕ) 
     has_none : old ≡ absent → new ≡ old → status ≡ 2 → IsSilent buffer buffer' told → IsSent
     has_mail : {text : List ℕ} → Waits text old → new ≡ old → status ≡ 3
         → IsUntouched (length text) buffer buffer' told → IsSent
-    is_starved : {s t : Session} → old ≡ opened s → IsPutOff line s t → new ≡ opened t
+    is_starved : {s t : Session} → old ≡ opened s → IsPutOff line s t → (IsUtf8 line → free_in line ≡ None) → new ≡ opened t
         → status ≡ 4 → IsSilent buffer buffer' told → IsSent
 
 module _ (old new : Stage) (buffer buffer' : List ℕ) (told status : ℕ) where

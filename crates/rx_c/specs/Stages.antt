@@ -1,7 +1,7 @@
 -- What a handle keeps, as a caller sees it.
-use Rattle.std.specs.Prelude.{ℕ, Bool, cond, List, length, Option, None, Some, string_bytes}
+use Rattle.std.specs.Prelude.{ℕ, Bool, cond, List, length, Option, None, Some}
 use Rattle.rx_live.specs.Session.{Session}
-use Rattle.rx_live.specs.Live.{session}
+use Rattle.rx_live.specs.Live.{session, answer}
 use Rattle.rx_c.specs.declared.kept.Kept.{Kept}
 use Rattle.rx_c.specs.declared.kept.Unread.{Unread}
 use Rattle.rx_c.specs.declared.kept.Unread.TheVariants.{Nothing, Answer, Last}
@@ -13,19 +13,22 @@ pub data Stage : Type 0 where
   waiting : Session → List ℕ → Stage
   ended : List ℕ → Stage
 
--- a book, by what of its answers waits
-abbrev pub stage_by : Session → Unread → Stage
-stage_by s Nothing = opened s
-stage_by s (Answer text) = waiting s (string_bytes text)
-stage_by s (Last text) = ended (string_bytes text)
+-- a book and its last answer, by whether that waits
+abbrev pub stage_by : Session → (text : List ℕ) → Unread → Stage
+stage_by s text Nothing = opened s
+stage_by s text Answer = waiting s text
+stage_by s text Last = ended text
 
-abbrev pub unread_length : Unread → Option ℕ
-unread_length Nothing = None
-unread_length (Answer text) = Some (length (string_bytes text))
-unread_length (Last text) = Some (length (string_bytes text))
+abbrev pub length_by : (text : List ℕ) → Unread → Option ℕ
+length_by text Nothing = None
+length_by text Answer = Some (length text)
+length_by text Last = Some (length text)
+
+abbrev pub unread_length : Kept → Option ℕ
+unread_length kept = length_by (answer kept.live) kept.unread
 
 abbrev pub stage_of : Kept → Stage
-stage_of kept = stage_by (session kept.live) kept.unread
+stage_of kept = stage_by (session kept.live) (answer kept.live) kept.unread
 
 abbrev pub stage : Option Kept → Stage
 stage None = absent

@@ -9,27 +9,14 @@ use crate::handing::fits;
 use crate::status::{ANSWER_WAITS, DONE, NOTHING_WAITS, OUT_OF_MEMORY, TOO_SMALL};
 use rx_live::Live;
 
-/// What is still to be handed out.
-#[derive(Drop)]
+/// Whether the last answer of a book is still to be handed out.
+#[derive(Clone, Copy)]
 pub enum Unread {
     Nothing,
-    /// An answer.
-    Answer(String),
-    /// The last answer: the book was ended.
-    Last(String),
-}
-
-impl Unread {
-    // The length of the answer that waits.
-    fn length(&self) -> Option<usize>
-        ensures { result ≡ unread_length self.now }
-    {
-        match self {
-            Unread::Nothing => None,
-            Unread::Answer(text) => Some(text.len()),
-            Unread::Last(text) => Some(text.len()),
-        }
-    }
+    /// That to a line.
+    Answer,
+    /// That to the end: the book was ended.
+    Last,
 }
 
 /// A live book, and what of its answers waits.
@@ -50,21 +37,32 @@ impl Kept {
         }
     }
 
+    // The length of the answer that waits.
+    fn length(&self) -> Option<usize>
+        ensures { result ≡ unread_length self.now }
+    {
+        match self.unread {
+            Unread::Nothing => None,
+            Unread::Answer => Some(self.live.answer().len()),
+            Unread::Last => Some(self.live.answer().len()),
+        }
+    }
+
     /// Sends a line, unless an answer waits.
     pub fn send(&mut self, line: &[u8], buffer: &mut [u8], told: &mut usize) -> u8
         ensures { IsSent (stage_of self.old) (stage_of self.new) line.now buffer.old buffer.new told.new result }
     {
         *told = 0;
-        if let Some(length) = self.unread.length() {
+        if let Some(length) = self.length() {
             *told = length;
             return ANSWER_WAITS;
         }
         match self.live.send(line) {
-            Ok(text) => {
-                if fits(text.as_bytes(), buffer, told) {
+            Ok(()) => {
+                if fits(self.live.answer().as_bytes(), buffer, told) {
                     return DONE;
                 }
-                self.unread = Unread::Answer(text);
+                self.unread = Unread::Answer;
                 TOO_SMALL
             }
             Err(_) => OUT_OF_MEMORY,
@@ -76,17 +74,17 @@ impl Kept {
         ensures { IsRead (stage_of self.old) (left result.1 self.new) buffer.old buffer.new told.new result.0 }
     {
         *told = 0;
-        match &self.unread {
+        match self.unread {
             Unread::Nothing => (NOTHING_WAITS, false),
-            Unread::Answer(text) => {
-                if !fits(text.as_bytes(), buffer, told) {
+            Unread::Answer => {
+                if !fits(self.live.answer().as_bytes(), buffer, told) {
                     return (TOO_SMALL, false);
                 }
                 self.unread = Unread::Nothing;
                 (DONE, false)
             }
-            Unread::Last(text) => {
-                if fits(text.as_bytes(), buffer, told) {
+            Unread::Last => {
+                if fits(self.live.answer().as_bytes(), buffer, told) {
                     (DONE, true)
                 } else {
                     (TOO_SMALL, false)
@@ -100,16 +98,16 @@ impl Kept {
         ensures { IsEnded (stage_of self.old) (left result.1 self.new) buffer.old buffer.new told.new result.0 }
     {
         *told = 0;
-        if let Some(length) = self.unread.length() {
+        if let Some(length) = self.length() {
             *told = length;
             return (ANSWER_WAITS, false);
         }
         match self.live.end() {
-            Ok(last) => {
-                if fits(last.as_bytes(), buffer, told) {
+            Ok(()) => {
+                if fits(self.live.answer().as_bytes(), buffer, told) {
                     return (DONE, true);
                 }
-                self.unread = Unread::Last(last);
+                self.unread = Unread::Last;
                 (TOO_SMALL, false)
             }
             Err(_) => (OUT_OF_MEMORY, false),

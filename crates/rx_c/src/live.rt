@@ -23,7 +23,9 @@ pub extern "C" fn rx_live_new(alloc: Global, handle: &mut Handle, max_events: u3
         handle.put(kept, alloc);
         return HELD;
     }
-    let live = Live::new(alloc, max_events.into());
+    let Ok(live) = Live::new(alloc, max_events.into()) else {
+        return OUT_OF_MEMORY;
+    };
     match Box::new(alloc, Kept::new(live)) {
         Ok(kept) => {
             handle.put(kept, alloc);

@@ -4,6 +4,7 @@
 mod asking;
 mod book;
 mod live;
+mod memory;
 mod showing;
 mod starved;
 mod telling;

@@ -32,7 +32,8 @@ use Rattle.rx_engine.specs.Openings.{connects_none, opening_request}
 use Rattle.rx_engine.specs.Usings.{stands_using}
 use Rattle.rx_engine.specs.Holdings.{held_request}
 use Rattle.rx_engine.specs.States.{State, IsTied}
-use Rattle.rx_engine.proofs.NamedLanes.{role_named, found_lane}
+use Rattle.rx_engine.proofs.NamedLanes.{role_named}
+use Rattle.rx_engine.proofs.Laws.EffectsInLanes.{found_lane}
 use Rattle.rx_steps.proofs.Laws.JustThose.{among_all}
 
 -- keys -----------------------------------------------------------------------------------------------

@@ -12,7 +12,8 @@ use Rattle.rx_roles.proofs.Laws.LastEffects.{names_without}
 use Rattle.rx_engine.specs.declared.parts.Parts.{Parts}
 use Rattle.rx_engine.specs.Deliveries.{many_at, Leaves, one_left}
 use Rattle.rx_engine.specs.Rooms.{named}
-use Rattle.rx_engine.proofs.NamedLanes.{role_named, found_lane}
+use Rattle.rx_engine.proofs.NamedLanes.{role_named}
+use Rattle.rx_engine.proofs.Laws.EffectsInLanes.{found_lane}
 use Rattle.rx_engine.proofs.LanesServed.{parted_many}
 
 -- one left its lane, where it had one

@@ -4,7 +4,6 @@ use Rattle.std.proofs.lemmas.Option.{same_Some}
 use Rattle.std.specs.List.{cons_option}
 use Rattle.std.specs.Option.{option_to_list}
 use Rattle.rx_roles.specs.declared.roles.Role.{Role}
-use Rattle.rx_roles.specs.Roles.{role_of}
 use Rattle.rx_pool.specs.declared.search.PooledHub.{PooledHub}
 use Rattle.rx_pool.specs.Pool.{is_used}
 use Rattle.rx_pool.specs.Choice.{passes}

@@ -14,7 +14,7 @@ use Rattle.rx_engine.specs.declared.homes.Home.{Home}
 use Rattle.rx_engine.specs.Deliveries.{many_of, many_at}
 use Rattle.rx_engine.specs.Rooms.{role_if, named, role_count, name_count, IsRoomier}
 use Rattle.rx_engine.specs.Openings.{IsLaneFor, Gives, Enters}
-use Rattle.rx_engine.proofs.NamedLanes.{same_name, other_name}
+use Rattle.rx_engine.proofs.Laws.EffectsInLanes.{same_name, other_name}
 use Rattle.rx_engine.proofs.LanesJoined.{names_few, joined_many, joins_kept}
 
 opened_many : (s t : State Effect) (name : LaneName) → Opens s t name → (other : LaneName) →

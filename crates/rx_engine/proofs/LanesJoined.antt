@@ -1,5 +1,5 @@
 -- One more role names a lane.
-use Rattle.std.proofs.Common.{◌≡◌, ℕ, suc, ◌+◌, ◌≤◌, if◌then◌else◌, Option, Some, None, IsSome, Bool, true, false, List, [], ◌∷◌, ◌++◌, length, refl, sym, ap, ◌∙◌, arith}
+use Rattle.std.proofs.Common.{◌≡◌, ℕ, suc, ◌+◌, ◌≤◌, if◌then◌else◌, Some, Bool, true, false, List, [], ◌∷◌, ◌++◌, length, refl, sym, ap, ◌∙◌, arith}
 use Rattle.rx_lanes.specs.declared.names.LaneName.{LaneName}
 use Rattle.rx_lanes.specs.Courses.{is_name}
 use Rattle.rx_lanes.specs.Lane.{Lane}
@@ -12,7 +12,7 @@ use Rattle.rx_engine.specs.declared.parts.Parts.{Parts}
 use Rattle.rx_engine.specs.Deliveries.{many_of, many_at, Joins}
 use Rattle.rx_engine.specs.Rooms.{named, name_count}
 use Rattle.rx_engine.specs.Holdings.{Keeps}
-use Rattle.rx_engine.proofs.NamedLanes.{same_name, other_name}
+use Rattle.rx_engine.proofs.Laws.EffectsInLanes.{same_name, other_name}
 
 pub names_few : (name : LaneName) (rs : List Role) → names_of name rs ≤ length rs
 names_few name [] = omega arith
@@ -48,10 +48,6 @@ keeps_named p q number tag name many k n =
     let homes = ap (names_of n) k.homes in
     let one = names-append n p.holds.list ((record { number = number; word = tag; lane = name }) ∷ []) in
     omega (arith, more, had, h, m, held, homes, one)
-
-pub some_lane : (o : Option (Lane Effect)) → IsSome o → (l : Lane Effect) × (o ≡ Some l)
-some_lane None is = absurd (cc)
-some_lane (Some l) is = (l, refl)
 
 pub joins_kept : (s s' t : LanesState Effect) (name : LaneName) → KeepsLanes s s' → Joins s' t name → Joins s t name
 joins_kept s s' t name k j = record {

@@ -16,12 +16,12 @@ use Rattle.rx_roles.specs.declared.roles.Role.{Role}
 use Rattle.rx_roles.specs.Roles.{without_all}
 use Rattle.rx_roles.specs.Effects.{after_all, all_told, all_last}
 use Rattle.rx_engine.specs.Deliveries.{Delivers, none_delivered, one_delivered, Leaves, none_left, one_left}
-use Rattle.rx_engine.specs.Rooms.{named, IsReady, IsRoomier}
+use Rattle.rx_engine.specs.Rooms.{IsRoomier}
 use Rattle.rx_pool.specs.Moves.{left_all}
 use Rattle.rx_shares.specs.Places.{places_left}
 use Rattle.rx_engine.specs.Settlements.{mail_left, all_given, closed_of, effects_told, taken_out, Releases, Settles}
 use Rattle.rx_engine.specs.States.{State as EngineState, IsTied}
-use Rattle.rx_engine.proofs.NamedLanes.{same_name, other_name}
+use Rattle.rx_engine.proofs.Laws.EffectsInLanes.{same_name, other_name}
 
 or_none : (a b : Bool) → (a || b) ≡ false → b ≡ false
 or_none true b is = absurd (false≢true (sym is))
@@ -175,6 +175,8 @@ settles_roomier g by value mid p p' t q r s = record {
       (λ i. all_told by value (r.hears i) (r.merges i) (mail_left mid) ++ all_last by (after_all (r.hears i) (mail_left mid)) (r.merges i) (closed_of mid))
       s.releases);
   none_waits = s.none_waits;
+  base = s.base;
+  limit = s.limit;
   homes = s.homes ∙ (λ i. without_all (r.homes i) (closed_of mid));
   shares = s.shares ∙ (λ i. without_all (r.shares i) (closed_of mid));
   hubs = s.hubs ∙ (λ i. left_all (places_left (r.shares i) (closed_of mid)) (r.hubs i));

@@ -1,4 +1,5 @@
 pub mod MailLeft
+pub mod Laws
 pub mod NamedLanes
 pub mod LanesServed
 pub mod HomesLeft
@@ -16,13 +17,9 @@ pub mod SharesGiven
 pub mod TiedAfterSharing
 pub mod SharesChosen
 pub mod TiedAfterHub
-pub mod LawsOfShares
 pub mod NewEngine
 pub mod HomesFound
 pub mod HandedOut
+pub mod NothingLeft
+pub mod KeysKept
 pub mod TiedAfterPutting
-pub mod LawsOfCourses
-pub mod ClosingsOfCourses
-pub mod OrderOfCourses
-pub mod TellingsOfCourses
-pub mod RunsOfLanes

@@ -1,16 +1,13 @@
 -- What holds behind each plain command.
-use Rattle.std.proofs.Common.{◌≡◌, ℕ, ℤ, length, ◌≤◌, Bool, true, false, List, map, refl, ap, arith}
+use Rattle.std.proofs.Common.{◌≡◌, ℕ, ℤ, length, ◌≤◌, false, List, refl, arith}
 use Rattle.rx_resource.specs.declared.Resource.{Ghosts}
 use Rattle.rx_resource.specs.declared.token.Token.{Token}
 use Rattle.rx_event.specs.declared.event.Event.{Event}
-use Rattle.rx_event.specs.declared.event.Event.TheVariants.{Item, End, Decline, Close, Use, Remove, Lease, Return, Hub}
+use Rattle.rx_event.specs.declared.event.Event.TheVariants.{Item, End}
 use Rattle.rx_event.proofs.Laws.Common.{mail_of}
 use Rattle.rx_event.specs.Events.{is_item}
 use Rattle.rx_event.specs.Notes.{notes}
 use Rattle.rx_slots.specs.declared.Key.{Key}
-use Rattle.rx_event.specs.Calls.{Call, Emitting}
-use Rattle.rx_note.specs.declared.note.Terminal.TheVariants.{Error}
-use Rattle.rx_register.proofs.Laws.Follow.{disconnecting_one}
 use Rattle.rx_book.specs.State.{State as BookState, IsPromised as IsBookPromised}
 use Rattle.rx_book.specs.Requests.{Request, next_request}
 use Rattle.rx_book.specs.Answers.{Accepts}
@@ -20,101 +17,12 @@ use Rattle.rx_engine.specs.States.{State, IsTied}
 use Rattle.rx_engine.specs.Rooms.{IsReady}
 use Rattle.rx_engine.specs.Settlements.{mail_left, closed_of, Settles}
 use Rattle.rx_engine.specs.Closings.{Closes}
-use Rattle.rx_engine.specs.Plain.{IsPlain, emits, ends, aborts, declines, fails, disposes, applies, removes, leases, gives_back, publishes, disconnects}
+use Rattle.rx_engine.specs.Plain.{IsPlain, emits}
 use Rattle.rx_pool.specs.Moves.{MayLeaveAll}
 use Rattle.rx_shares.specs.Places.{places_left}
 use Rattle.rx_shares.proofs.Laws.SharesAfterStep.{may_leave}
-use Rattle.rx_engine.proofs.TiedAfterCall.{IsPlainCall, left_few, shared_mid, tied_after}
-
-abbrev pub is_emitting : Call → Bool
-is_emitting (Emitting leaf value) = true
-is_emitting _ = false
-
--- the call's own event
-pub record HasEvent (s : BookState) (asked : Request) (mid : BookState) : Type 0 where
-  pub event : Event
-  pub call : IsPlainCall s asked event mid
-  pub quiet : is_emitting asked.call ≡ false → is_item event ≡ false
-
-pub plain_call : (s : BookState) (asked : Request) (mid : BookState) → IsBookPromised s → IsPlain s asked → Accepts s asked mid → HasEvent s asked mid
-plain_call s asked mid kept (emits leaf value) accepts =
-    record {
-      event = Item leaf.number value;
-      call = record { promised = kept; accepts = accepts; one = refl; plain = refl; unheld = refl; keeps = refl };
-      quiet = λ q. q;
-    }
-plain_call s asked mid kept (ends leaf terminal) accepts =
-    record {
-      event = End leaf.number terminal;
-      call = record { promised = kept; accepts = accepts; one = refl; plain = refl; unheld = refl; keeps = refl };
-      quiet = λ q. refl;
-    }
-plain_call s asked mid kept (aborts node code) accepts =
-    record {
-      event = End node.number (Error code);
-      call = record { promised = kept; accepts = accepts; one = refl; plain = refl; unheld = refl; keeps = refl };
-      quiet = λ q. refl;
-    }
-plain_call s asked mid kept (declines merging) accepts =
-    record {
-      event = Decline merging.number;
-      call = record { promised = kept; accepts = accepts; one = refl; plain = refl; unheld = refl; keeps = refl };
-      quiet = λ q. refl;
-    }
-plain_call s asked mid kept (fails merging code) accepts =
-    record {
-      event = End merging.number (Error code);
-      call = record {
-        promised = kept;
-        accepts = accepts;
-        one = refl;
-        plain = refl;
-        unheld = refl;
-        keeps = refl;
-      };
-      quiet = λ q. refl;
-    }
-plain_call s asked mid kept (disposes root) accepts =
-    record {
-      event = Close root.number;
-      call = record { promised = kept; accepts = accepts; one = refl; plain = refl; unheld = refl; keeps = refl };
-      quiet = λ q. refl;
-    }
-plain_call s asked mid kept (applies res) accepts =
-    record {
-      event = Use res.number;
-      call = record { promised = kept; accepts = accepts; one = refl; plain = refl; unheld = refl; keeps = refl };
-      quiet = λ q.
-          refl;
-    }
-plain_call s asked mid kept (removes res) accepts =
-    record {
-      event = Remove res.number;
-      call = record { promised = kept; accepts = accepts; one = refl; plain = refl; unheld = refl; keeps = refl };
-      quiet = λ q. refl;
-    }
-plain_call s asked mid kept (leases res) accepts =
-    record {
-      event = Lease res.number;
-      call = record { promised = kept; accepts = accepts; one = refl; plain = refl; unheld = refl; keeps = refl };
-      quiet = λ q.
-          refl;
-    }
-plain_call s asked mid kept (gives_back lease) accepts =
-    record {
-      event = Return lease.number;
-      call = record { promised = kept; accepts = accepts; one = refl; plain = refl; unheld = refl; keeps = refl };
-      quiet = λ q. refl;
-    }
-plain_call s asked mid kept (publishes mode) accepts =
-    record { event = Hub mode; call = record { promised = kept; accepts = accepts; one = refl; plain = refl; unheld = refl; keeps = refl }; quiet = λ q. refl }
-plain_call s asked mid kept (disconnects hub) accepts =
-    let one = disconnecting_one s.base s.history hub kept.lawful accepts.no_cause in
-    record {
-      event = Close one.0;
-      call = record { promised = kept; accepts = accepts; one = ap (map (λ (c : ℕ). Close c)) one.1; plain = refl; unheld = refl; keeps = refl };
-      quiet = λ q. refl;
-    }
+use Rattle.rx_engine.proofs.Laws.PlainCalls.{left_few, is_emitting, plain_call}
+use Rattle.rx_engine.proofs.TiedAfterCall.{shared_mid, tied_after}
 
 -- only an item tells items
 quiet_items : (h : List Event) (e : Event) → is_item e ≡ false → items_in (mail_of h e) ≡ 0

@@ -1,17 +1,14 @@
 -- A hub that was chosen is there, and the node that is made may join it.
-use Rattle.std.proofs.Common.{◌≡◌, ℕ, zero, suc, ◌+◌, ◌<◌, ◌≤◌, ◌^◌, Bool, true, false, List, [], ◌∷◌, length, Option, Some, None, Ok, refl, sym, ap, ◌∙◌, arith, subst, if◌then◌else◌}
+use Rattle.std.proofs.Common.{◌≡◌, ℕ, zero, suc, ◌+◌, ◌<◌, Bool, true, false, List, length, Option, Some, None, Ok, refl, sym, ap, ◌∙◌, arith, subst, if◌then◌else◌}
 use Rattle.std.proofs.lemmas.Bool.{false≢true}
 use Rattle.std.proofs.lemmas.Option.{same_Some}
 use Rattle.rx_event.specs.declared.event.Event.{Event}
-use Rattle.rx_event.specs.declared.event.Event.TheVariants.{Open, Connect}
-use Rattle.rx_event.specs.declared.event.Kind.TheVariants.{Sub}
 use Rattle.rx_event.specs.Events.{is_root, is_merging}
 use Rattle.rx_event.specs.Tree.{at}
 use Rattle.rx_event.proofs.Laws.Common.{slice_get, option_map_or, none-some}
-use Rattle.rx_book.specs.declared.answer.At.{At}
-use Rattle.rx_book.specs.State.{State as BookState, IsPromised as IsBookPromised}
-use Rattle.rx_book.specs.Requests.{Request, open_request, connect_request, place_of}
-use Rattle.rx_book.specs.Answers.{Accepts, makes_connection, connection_made}
+use Rattle.rx_book.specs.State.{State as BookState}
+use Rattle.rx_book.specs.Requests.{Request}
+use Rattle.rx_book.specs.Answers.{makes_connection, connection_made}
 use Rattle.rx_pool.specs.declared.search.PooledHub.{PooledHub}
 use Rattle.rx_pool.specs.declared.search.Share.{Share}
 use Rattle.rx_pool.specs.Choice.{choice, last_before, passes}
@@ -31,7 +28,7 @@ use Rattle.rx_engine.proofs.LanesGiven.{IsOpenAt}
 use Rattle.rx_engine.proofs.RoomGotten.{ready_roomier, still_at}
 use Rattle.rx_engine.proofs.TiedAfterCall.{tied_roomier}
 use Rattle.rx_engine.specs.Closings.{AreWishes}
-use Rattle.rx_engine.proofs.TiedAfterOpening.{IsMakingCall, is_opening, making, none_beyond, none_housed_beyond}
+use Rattle.rx_engine.proofs.TiedAfterOpening.{IsMakingCall, making, none_beyond, none_housed_beyond}
 
 -- nothing changed
 pub seen_itself : (s : State) → IsSeenAs s s

@@ -1,17 +1,15 @@
 -- What comes in for a node that names a hub, and for the connection that came with it.
-use Rattle.std.proofs.Common.{◌≡◌, ℕ, ◌+◌, ◌<◌, ◌≤◌, Bool, true, false, List, [], ◌∷◌, ◌++◌, length, Option, Some, None, refl, sym, ap, ◌∙◌, arith, subst, if◌then◌else◌, append-nil}
+use Rattle.std.proofs.Common.{◌≡◌, ℕ, ◌+◌, ◌<◌, ◌≤◌, Bool, true, false, List, [], ◌∷◌, ◌++◌, Option, Some, None, refl, sym, ap, ◌∙◌, arith, subst, if◌then◌else◌, append-nil}
 use Rattle.std.proofs.lemmas.Bool.{ne_eqb}
 use Rattle.rx_lanes.specs.declared.names.LaneName.{LaneName}
-use Rattle.rx_pool.specs.declared.search.PooledHub.{PooledHub}
 use Rattle.rx_pool.specs.Pool.{changed, joined}
 use Rattle.rx_roles.specs.declared.roles.Role.{Role}
 use Rattle.rx_roles.specs.Roles.{AreBelow}
 use Rattle.rx_roles.proofs.Laws.RolesTaken.{role_of-append}
-use Rattle.rx_shares.specs.Places.{State, place_role}
+use Rattle.rx_shares.specs.Places.{place_role}
 use Rattle.rx_engine.specs.declared.parts.Parts.{Parts}
 use Rattle.rx_engine.specs.declared.homes.Home.{Home}
 use Rattle.rx_engine.specs.Deliveries.{many_at}
-use Rattle.rx_engine.specs.Openings.{Enters}
 use Rattle.rx_engine.specs.Rooms.{role_if, role_count, named, IsReady, IsRoomier}
 use Rattle.rx_engine.specs.Sharings.{connection_home, Names, Connects, ConnectsIf, Subscribes}
 use Rattle.rx_engine.proofs.LanesGiven.{enters_many, enters_few, enters_from}

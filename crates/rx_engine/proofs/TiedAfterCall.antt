@@ -1,29 +1,25 @@
 -- What an engine promises holds behind a call by one event that makes no node.
-use Rattle.std.proofs.Common.{◌≡◌, ℕ, suc, zero, ◌<◌, ◌≤◌, ◌==◌, ◌&&◌, ◌||◌, ◌⊎◌, inl, inr, nat_lt, not, Bool, true, false, cond, List, [], ◌∷◌, ◌++◌, length, drop, Some, refl, sym, ap, ◌∙◌, arith, subst, IsTrue}
-use Rattle.std.proofs.Math.Seq.{drop-append_seam}
-use Rattle.std.proofs.lemmas.Bool.{eqb-true, eq-eqb, and_parts, false≢true, both_ways, cases_lt, le-ltb}
+use Rattle.std.proofs.Common.{◌≡◌, ℕ, ◌<◌, ◌≤◌, ◌==◌, ◌&&◌, ◌⊎◌, inl, inr, nat_lt, not, Bool, true, false, cond, List, [], ◌∷◌, ◌++◌, length, Some, refl, sym, ap, ◌∙◌, arith, subst}
+use Rattle.std.proofs.lemmas.Bool.{false≢true, cases_lt, le-ltb}
 use Rattle.std.proofs.lemmas.List.{append-nil}
 use Rattle.rx_resource.specs.declared.Resource.{Ghosts}
 use Rattle.rx_resource.specs.declared.token.Token.{Token}
 use Rattle.rx_event.specs.declared.event.Event.{Event}
 use Rattle.rx_event.specs.declared.event.Event.TheVariants.{Take}
 use Rattle.rx_event.specs.declared.mail.Mail.{Mail}
-use Rattle.rx_event.proofs.Laws.Common.{Kept, at, is_open, notes, mail_of, makes_node, makes_resource, is_root, is_merging, IsSettled, IsForcedOn, MayFollow, forced, allowed}
-use Rattle.rx_event.specs.Allowed.{IsAllowed}
-use Rattle.rx_event.specs.Lawful.{opened_with}
-use Rattle.rx_event.specs.Calls.{outside_of}
+use Rattle.rx_event.proofs.Laws.Common.{at, is_open, notes, makes_node, is_root, is_merging, IsForcedOn}
 use Rattle.rx_event.proofs.Laws.Counts.{notes-push}
 use Rattle.rx_event.proofs.Laws.Places.{at-append}
 use Rattle.rx_event.proofs.Laws.Openness.{is_open_within}
 use Rattle.rx_book.specs.State.{State as BookState, IsPromised as IsBookPromised, is_kept}
 use Rattle.rx_book.specs.Requests.{Request}
-use Rattle.rx_book.specs.Answers.{Accepts, AnswersHanded}
-use Rattle.rx_book.proofs.Laws.LastsThroughSteps.{keeps_resources, kept_same, kept_taken}
+use Rattle.rx_book.specs.Answers.{AnswersHanded}
+use Rattle.rx_book.proofs.Laws.LastsThroughSteps.{kept_same, kept_taken}
 use Rattle.rx_roles.specs.declared.roles.Role.{Role}
 use Rattle.rx_roles.specs.declared.effect.Effect.{Effect}
 use Rattle.rx_roles.specs.Roles.{without_all, AreRolesOf}
 use Rattle.rx_engine.specs.declared.parts.Parts.{Parts}
-use Rattle.rx_roles.specs.Effects.{after_all, ends_of, items_in}
+use Rattle.rx_roles.specs.Effects.{after_all, ends_of}
 use Rattle.rx_roles.proofs.Laws.RolesTaken.{roles_same, roles_taken, roles_taken_all, after_all_ends, without_all-append}
 use Rattle.rx_steps.proofs.Laws.NodesAfterStep.{first_follows, taken_forces_none, open_past_taking, StepMakes, is_new, is_new_none, makes_none_more, grows_on, same_sort as node_still, open_node}
 use Rattle.rx_event.specs.Gone.{goes}
@@ -33,10 +29,11 @@ use Rattle.rx_pool.specs.declared.search.PooledHub.{PooledHub}
 use Rattle.rx_pool.specs.Moves.{left_all}
 use Rattle.rx_shares.specs.Places.{places_left, AreShared}
 use Rattle.rx_shares.proofs.Laws.SharesAfterStep.{IsShareStep, shares_plain, shared_after}
-use Rattle.rx_steps.proofs.Laws.NotesOfStep.{StepTells, step_tells, of_sort}
+use Rattle.rx_steps.proofs.Laws.NotesOfStep.{of_sort}
 use Rattle.rx_steps.proofs.Laws.RolesAfterStep.{AreClosed, are_closed, hears_after, merges_after}
 use Rattle.rx_engine.specs.States.{State, IsTied, hears_in, merges_in}
 use Rattle.rx_engine.specs.Closings.{AreWishes, Closes}
+use Rattle.rx_engine.proofs.Laws.PlainCalls.{IsPlainCall, tells, left_is}
 use Rattle.rx_engine.proofs.WishesKept.{wishes_same, wishes_closed}
 use Rattle.rx_engine.specs.Rooms.{IsReady, IsRoomier}
 use Rattle.rx_engine.specs.Settlements.{mail_left, all_given, closed_of, effects_told, Releases, none_released, one_released, Settles}
@@ -46,20 +43,6 @@ node_after p h events n o = at-append p h events n (is_open_within h n o)
 
 -- one call -------------------------------------------------------------------------------------------
 
--- the book accepted a call by one event of a caller that makes no node and accepts or takes no resource
-pub record IsPlainCall (s : BookState) (asked : Request) (e : Event) (mid : BookState) : Type 0 where
-  pub promised : IsBookPromised s
-  pub accepts : Accepts s asked mid
-  pub one : outside_of s.history asked.call ≡ e ∷ []
-  pub plain : makes_node e ≡ false
-  pub unheld : makes_resource e ≡ false
-  pub keeps : keeps_resources asked.call ≡ true
-
-may_be : (base : Kept) (h : List Event) (e : Event) → MayFollow base h e → IsSettled base h → makes_resource e ≡ false → IsAllowed base h e
-may_be base h e (forced f) settled plain = absurd (settled.none e f)
-may_be base h e (allowed settled a) still plain = a
-may_be base h e (opened_with is one o) settled plain = absurd (false≢true (sym plain))
-
 -- who is open is a node
 pub node_sort : (h : List Event) (n : ℕ) → of_sort makes_node h n ≡ is_open h n
 node_sort h n = by_open (is_open h n) refl where
@@ -68,50 +51,33 @@ node_sort h n = by_open (is_open h n) refl where
   by_open false o = refl
 
 module _ {s mid : BookState} {asked : Request} {e : Event} (c : IsPlainCall s asked e mid) where
-  steps : IsForcedOn s.base (s.history ++ e ∷ []) mid.history
-  steps = subst (λ (es : List Event). IsForcedOn s.base (s.history ++ es) mid.history) c.one c.accepts.step.forced
-
-  pub tells : StepTells s.history mid.history (items_in (mail_of s.history e))
-  tells = step_tells s.base s.history e mid.history c.promised.lawful c.promised.settled
-      (may_be s.base s.history e (first_follows s.base s.history e mid.history c.promised.lawful c.accepts.step.lawful steps) c.promised.settled c.unheld)
-      c.plain steps
-
-  -- the notes that are left are those that the call told
-  pub left_is : s.given ≡ length (notes s.history) → mail_left mid ≡ tells.rest
-  left_is all = ap (λ (n : ℕ). drop n (notes mid.history)) (c.accepts.given ∙ all) ∙ ap (drop (length (notes s.history))) tells.is
-      ∙ drop-append_seam (notes s.history) tells.rest
-
-  -- of which no more are items than the call's own event tells
-  pub left_few : s.given ≡ length (notes s.history) → items_in (mail_left mid) ≤ items_in (mail_of s.history e)
-  left_few all = subst (λ (ms : List Mail). items_in ms ≤ items_in (mail_of s.history e)) (sym (left_is all)) tells.few
-
   closings : AreClosed s.history mid.history (closed_of mid)
-  closings = are_closed (tells.makes) c.accepts.closed
+  closings = are_closed (tells c).makes c.accepts.closed
 
   pub hears_mid : {hears : List Role} → s.given ≡ length (notes s.history) → AreRolesOf (hears_in s.history) hears →
       AreRolesOf (hears_in mid.history) (without_all (after_all hears (mail_left mid)) (closed_of mid))
   hears_mid {hears} all roles =
-      let ended : List ℕ = ends_of tells.rest in
+      let ended : List ℕ = ends_of (tells c).rest in
       let list : without_all (after_all hears (mail_left mid)) (closed_of mid) ≡ without_all hears (ended ++ closed_of mid) =
-      ap (λ (ms : List Mail). without_all (after_all hears ms) (closed_of mid)) (left_is all)
-      ∙ ap (λ (rs : List Role). without_all rs (closed_of mid)) (after_all_ends hears tells.rest)
+      ap (λ (ms : List Mail). without_all (after_all hears ms) (closed_of mid)) (left_is c all)
+      ∙ ap (λ (rs : List Role). without_all rs (closed_of mid)) (after_all_ends hears (tells c).rest)
       ∙ sym (without_all-append hears ended (closed_of mid)) in
       subst (AreRolesOf (hears_in mid.history)) (sym list)
-      (roles_same (roles_taken_all (ended ++ closed_of mid) roles) (hears_after tells closings is_root))
+      (roles_same (roles_taken_all (ended ++ closed_of mid) roles) (hears_after (tells c) closings is_root))
 
   pub homes_mid : {homes : List Role} → AreRolesOf (is_open s.history) homes → AreRolesOf (is_open mid.history) (without_all homes (closed_of mid))
   homes_mid roles = roles_same
-      (roles_same (roles_taken_all (closed_of mid) (roles_same roles (λ n. sym (node_sort s.history n)))) (merges_after tells closings makes_node))
+      (roles_same (roles_taken_all (closed_of mid) (roles_same roles (λ n. sym (node_sort s.history n)))) (merges_after (tells c) closings makes_node))
       (node_sort mid.history)
 
   pub merges_mid : {merges : List Role} → AreRolesOf (merges_in s.history) merges → AreRolesOf (merges_in mid.history) (without_all merges (closed_of mid))
-  merges_mid roles = roles_same (roles_taken_all (closed_of mid) roles) (merges_after tells closings is_merging)
+  merges_mid roles = roles_same (roles_taken_all (closed_of mid) roles) (merges_after (tells c) closings is_merging)
 
   pub wishes_mid : {wishes : List Role} → AreWishes s.history wishes → AreWishes mid.history (without_all wishes (closed_of mid))
   wishes_mid wishes = wishes_closed closings wishes
 
   pub shared_mid : {list : List Role} {hubs : List PooledHub} → AreShared s.history list hubs → IsShareStep s.history mid.history [] (closed_of mid) list hubs
-  shared_mid shared = shares_plain tells.makes c.accepts.closed shared
+  shared_mid shared = shares_plain (tells c).makes c.accepts.closed shared
 
   pub holds_mid : {holds : List Role} → AreRolesOf (is_kept s.history) holds → AreRolesOf (is_kept mid.history) holds
   holds_mid roles = roles_same roles (λ r. sym (kept_same asked.call c.accepts.step c.keeps r))

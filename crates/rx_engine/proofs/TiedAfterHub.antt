@@ -1,12 +1,12 @@
 -- What an engine promises holds behind the making of a hub of the pool.
-use Rattle.std.proofs.Common.{◌≡◌, ℕ, ◌+◌, ◌<◌, ◌&&◌, ◌⊎◌, inl, inr, not, Bool, true, false, List, [], ◌∷◌, ◌++◌, length, Some, refl, sym, ap, ◌∙◌, arith, subst, length-append}
+use Rattle.std.proofs.Common.{◌≡◌, ℕ, ◌+◌, ◌&&◌, ◌⊎◌, inl, inr, not, Bool, true, false, List, [], ◌∷◌, ◌++◌, length, refl, sym, ap, ◌∙◌, arith, subst, length-append}
 use Rattle.rx_resource.specs.declared.Resource.{Ghosts}
 use Rattle.rx_resource.specs.declared.token.Token.{Token}
 use Rattle.rx_event.specs.declared.event.Event.{Event}
 use Rattle.rx_event.specs.declared.event.Event.TheVariants.{Hub}
 use Rattle.rx_event.specs.declared.event.Mode.{Mode}
 use Rattle.rx_event.specs.Gone.{goes}
-use Rattle.rx_event.proofs.Laws.Common.{is_open, IsForcedOn}
+use Rattle.rx_event.proofs.Laws.Common.{is_open}
 use Rattle.rx_event.proofs.Laws.Calm.{closes_none_kept}
 use Rattle.rx_event.proofs.Laws.Openness.{is_open_unchanged}
 use Rattle.rx_book.specs.State.{State as BookState, IsPromised as IsBookPromised}
@@ -31,8 +31,9 @@ use Rattle.rx_event.specs.declared.refusal.Refusal.{Refusal}
 use Rattle.rx_event.specs.declared.refusal.Refusal.TheVariants.{NoMemory}
 use Rattle.rx_engine.specs.Hubs.{AddsHub, mode_at}
 use Rattle.rx_engine.specs.Plain.{publishes}
-use Rattle.rx_engine.proofs.PlainCommands.{HasEvent, plain_call, ready_for}
-use Rattle.rx_engine.proofs.TiedAfterCall.{IsPlainCall, tells, homes_mid, hears_mid, merges_mid, holds_mid, wishes_mid, IsBehind, tied_settled}
+use Rattle.rx_engine.proofs.PlainCommands.{ready_for}
+use Rattle.rx_engine.proofs.TiedAfterCall.{homes_mid, hears_mid, merges_mid, holds_mid, wishes_mid, IsBehind, tied_settled}
+use Rattle.rx_engine.proofs.Laws.PlainCalls.{IsPlainCall, tells}
 use Rattle.rx_engine.proofs.TiedAfterHolding.{none_listed}
 
 -- the book made a hub, and the pool has it

@@ -1,5 +1,5 @@
 -- What an engine promises holds behind an opening at any place, of a node that names no hub.
-use Rattle.std.proofs.Common.{◌≡◌, ℕ, ◌+◌, ◌&&◌, Bool, true, false, List, [], ◌∷◌, ◌++◌, length, map, drop, refl, sym, ap, ◌∙◌, subst}
+use Rattle.std.proofs.Common.{◌≡◌, ℕ, ◌+◌, ◌&&◌, Bool, true, false, List, [], ◌∷◌, ◌++◌, length, drop, refl, sym, ap, ◌∙◌, subst}
 use Rattle.std.proofs.Math.Seq.{drop-length}
 use Rattle.std.proofs.lemmas.Bool.{false≢true, eq-eqb}
 use Rattle.std.proofs.lemmas.List.{append-nil}
@@ -42,7 +42,7 @@ use Rattle.rx_engine.specs.Rooms.{role_if, IsReady, HasRoomFor, IsRoomier}
 use Rattle.rx_engine.specs.Settlements.{mail_left, closed_of, Settles}
 use Rattle.rx_engine.proofs.RoomGotten.{ready_with, ready_entered}
 use Rattle.rx_engine.proofs.LanesGiven.{enters_from}
-use Rattle.rx_engine.proofs.TiedAfterCall.{node_sort, IsBehind, tied_settled}
+use Rattle.rx_engine.proofs.TiedAfterCall.{node_sort, tied_settled}
 use Rattle.rx_engine.proofs.WishesKept.{wishes_made}
 
 -- such a node names no hub

@@ -17,8 +17,9 @@ use Rattle.rx_engine.specs.Rooms.{IsReady, IsRoomier}
 use Rattle.rx_engine.specs.Closings.{WishState, AreWishes}
 use Rattle.rx_engine.specs.Puttings.{own, PutsOwn}
 use Rattle.rx_engine.specs.States.{State, IsTied, hears_in, merges_in}
-use Rattle.rx_engine.proofs.NamedLanes.{arrives_gets, delivered_many}
-use Rattle.rx_engine.proofs.LanesJoined.{some_lane}
+use Rattle.rx_engine.proofs.NamedLanes.{delivered_many}
+use Rattle.rx_engine.proofs.Laws.EffectsInLanes.{arrives_gets}
+use Rattle.rx_engine.proofs.Laws.EffectsInLanes.{some_lane}
 use Rattle.rx_engine.proofs.LanesServed.{delivers_kept}
 
 -- one effect is delivered

@@ -9,7 +9,7 @@ use Rattle.rx_slots.specs.declared.Key.{Key}
 use Rattle.rx_tree.specs.declared.node.ResKey.{ResKey}
 use Rattle.rx_book.specs.State.{State as BookState}
 use Rattle.rx_book.specs.Requests.{Request, hold_request}
-use Rattle.rx_book.specs.Answers.{Accepts, IsCauseOrWant}
+use Rattle.rx_book.specs.Answers.{Accepts, IsCauseOrWant, IsNewResKey}
 use Rattle.rx_lanes.specs.declared.names.LaneName.{LaneName}
 use Rattle.rx_engine.specs.Deliveries.{Joins}
 use Rattle.rx_engine.specs.declared.parts.Parts.{Parts}
@@ -46,7 +46,7 @@ pub record IsHoldDone (g : Ghosts Token) (node : Key) (tag by : ℕ) (s t : Stat
 
 pub record IsHoldMade (g : Ghosts Token) (node : Key) (tag by : ℕ) (s t : State) (answer : Result ResKey Refusal) : Type
     0 where
-  pub ok : IfOk answer (λ k. k.number ≡ length s.book.history)
+  pub ok : IfOk answer (IsNewResKey t.book (length s.book.history))
   pub done : OnOk answer (IsHoldDone g node tag by s t)
   pub refused : IfErr answer (λ why. (why ≡ NoMemory) ⊎ IsCauseOrWant s.book (held_request g s.book node tag) why)
   pub kept : OnErr answer (IsSeenAs s t)

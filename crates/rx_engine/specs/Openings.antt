@@ -12,7 +12,7 @@ use Rattle.rx_slots.specs.declared.Key.{Key}
 use Rattle.rx_book.specs.declared.answer.At.{At}
 use Rattle.rx_book.specs.State.{State as BookState}
 use Rattle.rx_book.specs.Requests.{Request, open_request, place_of}
-use Rattle.rx_book.specs.Answers.{Accepts, IsCauseOrWant}
+use Rattle.rx_book.specs.Answers.{Accepts, IsCauseOrWant, IsNewKey}
 use Rattle.rx_lanes.specs.declared.names.LaneName.{LaneName}
 use Rattle.rx_lanes.specs.State.{State as LanesState, Opens, KeepsLanes}
 use Rattle.rx_roles.specs.declared.effect.Effect.{Effect}
@@ -81,11 +81,11 @@ pub record IsOpenDone (g : Ghosts Token) (at : At) (kind : Kind) (user : User) (
   pub settles : Settles g by 0 mid entered t.book t.parts
   pub closes : Closes mid (with_wish s.wishes.roles.list (length s.book.history) user) t.wishes
 
--- done, and the node's number is the place of its event; or refused, for want of memory or as the book refuses, and
+-- done, and the key is that of the open node which was made by this event; or refused, for want of memory or as the book refuses, and
 -- nothing changed but room
 pub record IsOpenMade (g : Ghosts Token) (at : At) (kind : Kind) (user : User) (by : ℕ) (s t : State)
     (answer : Result Key Refusal) : Type 0 where
-  pub ok : IfOk answer (λ k. k.number ≡ length s.book.history)
+  pub ok : IfOk answer (IsNewKey t.book (length s.book.history))
   pub done : OnOk answer (IsOpenDone g at kind user by s t)
   pub refused : IfErr answer (λ why. (why ≡ NoMemory) ⊎ IsCauseOrWant s.book (opening_request s.book at kind user.lane)
       why)

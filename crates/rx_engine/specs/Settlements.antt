@@ -1,10 +1,13 @@
 -- What one call of the book comes to.
-use Rattle.std.specs.Prelude.{◌≡◌, ℕ, List, [], ◌∷◌, ◌++◌, map, drop, length, Some}
+use Rattle.std.specs.Prelude.{◌≡◌, ℕ, List, [], ◌∷◌, ◌++◌, map, drop, length, Some, IsTrue}
 use Rattle.rx_resource.specs.declared.Resource.{Ghosts}
 use Rattle.rx_resource.specs.declared.token.Token.{Token}
 use Rattle.rx_event.specs.declared.mail.Mail.{Mail}
 use Rattle.rx_event.specs.Notes.{notes}
-use Rattle.rx_book.specs.State.{State as BookState, IsPromised}
+use Rattle.rx_slots.specs.declared.Key.{Key}
+use Rattle.rx_tree.specs.declared.node.ResKey.{ResKey}
+use Rattle.rx_ground.specs.declared.leases.LeaseKey.{LeaseKey}
+use Rattle.rx_book.specs.State.{State as BookState, IsPromised, has_key, has_res_key, has_lease_key}
 use Rattle.rx_book.specs.Answers.{AnswersHanded}
 use Rattle.rx_roles.specs.declared.roles.Role.{Role}
 use Rattle.rx_roles.specs.declared.effect.Effect.{Effect}
@@ -37,6 +40,12 @@ pub data Releases (g : Ghosts Token) (by : ℕ) (s : BookState) (holds : List Ro
       Releases g by s holds effects t holds' effects' → IsPromised t → AnswersHanded g t u (Some (number, token)) →
       Releases g by s holds effects u (without holds' number) (effects' ++ released by holds' number)
 
+-- each key that found what is there finds it still
+pub record KeepsKeys (s t : BookState) : Type 0 where
+  pub keys : (k : Key) → IsTrue (has_key s.keys k) → IsTrue (has_key t.keys k)
+  pub res_keys : (k : ResKey) → IsTrue (has_res_key s.res_keys k) → IsTrue (has_res_key t.res_keys k)
+  pub lease_keys : (k : LeaseKey) → IsTrue (has_lease_key s.lease_keys k) → IsTrue (has_lease_key t.lease_keys k)
+
 -- the effects before the releases: what is told, and the last of what was closed
 abbrev pub effects_told : (by value : ℕ) → BookState → Parts → List Effect
 effects_told by value mid p =
@@ -49,7 +58,7 @@ taken_out roles [] = []
 taken_out roles (n ∷ ns) = option_to_list (role_of roles n) ++ taken_out (without roles n) ns
 
 -- from mid, and these parts: what was closed has left its lane and its hub, all is told, the roles of what was closed have ended, nothing waits, each
--- effect is in its lane, what got something is due, and so many effects carry the value
+-- effect is in its lane, what got something is due, and so many effects carry the value; the book's base and its limit are as before
 pub record Settles (g : Ghosts Token) (by value : ℕ) (mid : BookState) (p : Parts) (t : BookState) (q : Parts) : Type 0 where
   pub homes : q.homes.list ≡ without_all p.homes.list (closed_of mid)
   pub left : LanesState Effect
@@ -65,3 +74,5 @@ pub record Settles (g : Ghosts Token) (by value : ℕ) (mid : BookState) (p : Pa
   pub lanes : q.lanes ≡ settled by put
   pub copies : q.copies ≡ copies_in effects
   pub none_waits : t.waiting ≡ []
+  pub base : t.base ≡ mid.base
+  pub limit : t.limit ≡ mid.limit

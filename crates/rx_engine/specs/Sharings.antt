@@ -1,5 +1,5 @@
 -- Subscribing to a share, connecting and disconnecting one: the pool says which hub, and the node that is made names it.
-use Rattle.std.specs.Prelude.{◌≡◌, ℕ, ◌+◌, ◌<◌, ◌≤◌, ◌^◌, Bool, true, false, List, length, slice_get, option_map, Option, Some, None, Ok, Err, Result, IfOk, IfErr, OnErr}
+use Rattle.std.specs.Prelude.{◌≡◌, ℕ, Bool, true, false, length, slice_get, option_map, Option, Some, None, Ok, Err, Result, IfOk, IfErr, IfSome, OnErr, IsTrue}
 use Rattle.rx_resource.specs.declared.Resource.{Ghosts}
 use Rattle.rx_resource.specs.declared.token.Token.{Token}
 use Rattle.rx_event.specs.declared.event.Event.TheVariants.{Open}
@@ -8,11 +8,10 @@ use Rattle.rx_event.specs.declared.refusal.Refusal.{Refusal}
 use Rattle.rx_event.specs.declared.event.Mode.TheVariants.{Manual}
 use Rattle.rx_event.specs.declared.refusal.Refusal.TheVariants.{Gone, NoMemory, NotConnected}
 use Rattle.rx_event.specs.Events.{is_root}
-use Rattle.rx_slots.specs.declared.Key.{Key}
 use Rattle.rx_book.specs.declared.answer.At.{At}
-use Rattle.rx_book.specs.State.{State as BookState}
+use Rattle.rx_book.specs.State.{State as BookState, has_key}
 use Rattle.rx_book.specs.Requests.{Request, open_request, connect_request, disconnect_request, place_of}
-use Rattle.rx_book.specs.Answers.{Accepts, IsCauseOrWant, connection_made}
+use Rattle.rx_book.specs.Answers.{Accepts, IsCauseOrWant, IsNewKey, connection_made}
 use Rattle.rx_lanes.specs.declared.names.LaneName.{LaneName}
 use Rattle.rx_pool.specs.declared.search.PooledHub.{PooledHub}
 use Rattle.rx_pool.specs.declared.search.Share.{Share}
@@ -93,7 +92,8 @@ pub record IsSubscribeDone (g : Ghosts Token) (at : At) (share : Share) (user : 
 
 -- done, with the node, the connection that came with it, and the place of the hub; or refused, and nothing changed but room
 pub record IsSubscribeMade (g : Ghosts Token) (at : At) (share : Share) (user : User) (by : ℕ) (s t : State) (answer : Result Subscribed Refusal) : Type 0 where
-  pub key : IfOk answer (λ u. u.key.number ≡ length s.book.history)
+  pub key : IfOk answer (λ u. IsNewKey t.book (length s.book.history) u.key)
+  pub connection : IfOk answer (λ u. IfSome u.connection (λ k. IsTrue (has_key t.book.keys k)))
   pub done : IfOk answer (λ u. (d : IsSubscribeDone g at share user by u.place s t) × (option_map (λ k. k.number) u.connection ≡ connection_made s.book.history d.mid.history))
   pub refused : IfErr answer (IsShareRefused s (is_housed s.book (whose at user.lane)) share (limit_for s at user.lane) (λ hub. open_request s.book at (Sub hub)))
   pub kept : OnErr answer (IsSeenAs s t)
@@ -109,7 +109,7 @@ pub record IsConnectDone (g : Ghosts Token) (share : Share) (user : User) (by pl
   pub closes : Closes mid (with_wish s.wishes.roles.list (length s.book.history) user) t.wishes
 
 pub record IsConnectMade (g : Ghosts Token) (share : Share) (user : User) (by : ℕ) (s t : State) (answer : Result Connected Refusal) : Type 0 where
-  pub key : IfOk answer (λ u. u.key.number ≡ length s.book.history)
+  pub key : IfOk answer (λ u. IsNewKey t.book (length s.book.history) u.key)
   pub done : IfOk answer (λ u. IsConnectDone g share user by u.place s t)
   pub refused : IfErr answer (IsShareRefused s true share no_limit connect_request)
   pub kept : OnErr answer (IsSeenAs s t)

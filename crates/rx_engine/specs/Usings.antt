@@ -1,5 +1,5 @@
 -- Opening a node that holds a tag from then on, in one command.
-use Rattle.std.specs.Prelude.{◌≡◌, ℕ, ◌+◌, Bool, true, Option, List, [], length, Result, IfOk, IfErr, OnErr, ◌⊎◌}
+use Rattle.std.specs.Prelude.{◌≡◌, ℕ, Bool, true, Option, [], length, Result, IfOk, IfErr, OnErr, ◌⊎◌}
 use Rattle.rx_resource.specs.declared.Resource.{Ghosts}
 use Rattle.rx_resource.specs.declared.Life.TheVariants.{Live}
 use Rattle.rx_resource.specs.declared.token.Token.{Token}
@@ -13,7 +13,7 @@ use Rattle.rx_slots.specs.declared.Key.{Key}
 use Rattle.rx_book.specs.declared.answer.At.{At}
 use Rattle.rx_book.specs.State.{State as BookState}
 use Rattle.rx_book.specs.Requests.{open_request, place_of, is_fresh_in}
-use Rattle.rx_book.specs.Answers.{Accepts}
+use Rattle.rx_book.specs.Answers.{Accepts, IsNewKey, IsNewResKey}
 use Rattle.rx_event.specs.Causes.{by_key}
 use Rattle.rx_ground.specs.OpeningHolding.{opening_holding_causes}
 use Rattle.rx_lanes.specs.declared.names.LaneName.{LaneName}
@@ -55,11 +55,11 @@ pub record IsUsingDone (g : Ghosts Token) (at : At) (kind : Kind) (user : User) 
   pub settles : Settles g by 0 mid with_tag t.book t.parts
   pub closes : Closes mid (with_wish s.wishes.roles.list (length s.book.history) user) t.wishes
 
--- done, and the numbers are the places of the two events, between which is what the opening forces; or refused, for want of memory or as the book refuses, and nothing changed
--- but room
+-- done, and the keys are those of the open node and of the held resource which were made by the two events, between which is what the
+-- opening forces; or refused, for want of memory or as the book refuses, and nothing changed but room
 pub record IsUsingMade (g : Ghosts Token) (at : At) (kind : Kind) (user : User) (tag by : ℕ) (s t : State)
     (answer : Result Used Refusal) : Type 0 where
-  pub key : IfOk answer (λ u. u.key.number ≡ length s.book.history)
-  pub done : IfOk answer (λ u. (d : IsUsingDone g at kind user tag by s t) × (d.node ≡ u.key) × (u.res.number ≡ length d.middle.history))
+  pub key : IfOk answer (λ u. IsNewKey t.book (length s.book.history) u.key)
+  pub done : IfOk answer (λ u. (d : IsUsingDone g at kind user tag by s t) × (d.node ≡ u.key) × IsNewResKey t.book (length d.middle.history) u.res)
   pub refused : IfErr answer (λ why. (why ≡ NoMemory) ⊎ IsRefusal (stands_using s.book at kind user.lane (is_fresh_in g (record { tag = tag; life = Live; uses = 0 }))) why)
   pub kept : OnErr answer (IsSeenAs s t)

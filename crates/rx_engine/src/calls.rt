@@ -3,6 +3,7 @@
 ghost use Rattle.std.specs.Prelude.{◌≡◌, length, pos, slice_get, IfOk};
 ghost use Rattle.rx_book.specs.Requests.{next_request, dispose_request, end_request, abort_request, fail_request, decline_request};
 ghost use Rattle.rx_book.specs.Requests.{apply_request, remove_request, lease_request, give_back_request, hub_request, disconnect_request};
+ghost use Rattle.rx_book.specs.Answers.{IsNewLeaseKey};
 ghost use Rattle.rx_engine.specs.Commands.{IsFreeMade, IsCostlyMade};
 
 use crate::engine::Engine;
@@ -139,7 +140,7 @@ impl Engine {
     pub fn lease(&mut self, res: ResKey, by: u64) -> Result<LeaseKey, Refusal>
         ensures made { IsCostlyMade ⟦<Token as Resource>⟧ (λ s. lease_request s.book res) by 0
             self.old self.new result }
-        ensures key { IfOk result (λ k. k.number ≡ length self.old.book.history) }
+        ensures key { IfOk result (IsNewLeaseKey self.new.book (length self.old.book.history)) }
     {
         self.book.promise();
         match self.book.lease(res) {

@@ -4,17 +4,11 @@ ghost use Rattle.std.specs.Prelude.{◌≡◌, ◌+◌, ◌≤◌, ◌<◌, [], 
 ghost use Rattle.rx_lanes.specs.declared.names.LaneName.{LaneName};
 ghost use Rattle.rx_lanes.specs.Lane.{Lane};
 ghost use Rattle.rx_lanes.specs.State.{lane, Gets};
-ghost use Rattle.rx_roles.specs.Effects.{is_release, is_last, carries, copies_in};
+ghost use Rattle.rx_roles.specs.Effects.{is_last, carries, copies_in};
 ghost use Rattle.rx_engine.specs.Deliveries.{many_at, put_by, Arrives, Delivers, AreNamed, less};
 
 use rx_lanes::Lanes;
 use rx_roles::{Effect, Effects, What, carries};
-
-fn is_release(what: What) -> bool
-    ensures { result ≡ is_release what }
-{
-    matches!(what, What::Release)
-}
 
 fn is_last(what: What) -> bool
     ensures { result ≡ is_last what }
@@ -35,7 +29,7 @@ fn put_one(lanes: &mut Lanes<Effect>, by: u64, effect: Effect)
         Gets lanes.old lanes.new effect.lane (put_by by effect l) }
     ensures spare { lanes.new.spare + 1 ≡ lanes.old.spare }
 {
-    if is_release(effect.what) {
+    if matches!(effect.what, What::Release) {
         lanes.set_free(effect.lane, by, effect);
     } else {
         lanes.put(effect.lane, effect);

@@ -15,17 +15,6 @@ use rx_shares::Shares;
 use std::alloc::Global;
 use std::marker::Model;
 
-// In free cells.
-fn blank() -> Effect {
-    Effect {
-        lane: LaneName { place: 0, turn: 0 },
-        user: 0,
-        value: 0,
-        by: 0,
-        what: What::Next,
-    }
-}
-
 /// An engine.
 #[derive(Drop)]
 pub struct Engine {
@@ -69,6 +58,14 @@ impl Engine {
         ensures wishes { result.wishes.roles.list ≡ [] }
         ensures closings { result.wishes.closings ≡ [] }
     {
+        // In free cells.
+        let blank = Effect {
+            lane: LaneName { place: 0, turn: 0 },
+            user: 0,
+            value: 0,
+            by: 0,
+            what: What::Next,
+        };
         Engine {
             book: Book::new(alloc, max_events),
             parts: Parts {
@@ -78,7 +75,7 @@ impl Engine {
                 holds: Roles::new(alloc),
                 shares: Shares::new(alloc),
                 effects: Effects::new(alloc),
-                lanes: Lanes::new(alloc, blank()),
+                lanes: Lanes::new(alloc, blank),
                 copies: 0,
             },
             wishes: Wishes::new(alloc),

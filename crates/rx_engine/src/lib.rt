@@ -12,20 +12,21 @@
 //!   whose effects go there and by the homes, and by nothing else.
 //! - A **wish** is a role whose last word is no effect: it stands among the **closings** of the command that
 //!   closes its node ([`Engine::nth_closing`]).
+//! - An engine is **ended** by letting go of one thing after another ([`Engine::close_next`]) and serving what each
+//!   comes to, until nothing is left ([`Engine::is_done`]).
+//! - A **checkpoint** ([`Engine::checkpoint`]) puts what the history leaves in place of its events. Keys, roles,
+//!   homes, shares and wishes stay, and so does what waits in lanes.
 //!
 //! # Promises
 //!
 //! Each command has its result pinned, keeps the promise of every engine, and changes nothing but room where it
 //! is refused. What ends, closes, takes or gives back needs no memory: each role has the room of its last effect
 //! from the moment at which it came in.
-//!
-//! # State
-//!
-//! Not here yet: checkpoints.
 #![tactic(auto)]
 
 mod calls;
-mod course_laws;
+mod checkpoint;
+mod closing;
 mod delivering;
 mod engine;
 mod entering;
@@ -33,24 +34,19 @@ mod holding;
 mod homes;
 mod hubs;
 mod leaving;
+mod looking;
 mod opening;
 mod parts;
 mod putting;
 mod serving;
 mod settling;
-mod share_laws;
 mod sharing;
 mod telling;
 mod using;
 mod wishes;
 
-pub use course_laws::{
-    closings_once, each_is_told_once, lanes_run, no_note_is_lost, tags_once, tells_in_order,
-    words_end_once,
-};
 pub use engine::Engine;
 pub use homes::LaneOf;
 pub use parts::{Parts, Used, User};
-pub use share_laws::shares_are_served;
 pub use sharing::{Connected, Subscribed};
 pub use wishes::Wishes;

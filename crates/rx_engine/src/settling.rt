@@ -4,7 +4,7 @@ ghost use Rattle.rx_roles.specs.Effects.{items_in};
 ghost use Rattle.rx_engine.specs.Rooms.{IsReady};
 ghost use Rattle.rx_pool.specs.Moves.{MayLeaveAll};
 ghost use Rattle.rx_shares.specs.Places.{places_left};
-ghost use Rattle.rx_engine.specs.Settlements.{mail_left, closed_of, Settles};
+ghost use Rattle.rx_engine.specs.Settlements.{mail_left, closed_of, Settles, KeepsKeys};
 ghost use Rattle.rx_engine.specs.Closings.{Closes};
 
 use crate::delivering::deliver;
@@ -28,6 +28,7 @@ pub(crate) fn settle(
     ensures settles { Settles ⟦<Token as Resource>⟧ by value book.old parts.old book.new parts.new }
     ensures closes { Closes book.old wishes.old.roles.list wishes.new }
     ensures ready { IsReady 0 parts.new }
+    ensures keys { KeepsKeys book.old book.new }
 {
     wishes.close(book);
     leave_hubs(book, &mut parts.shares);

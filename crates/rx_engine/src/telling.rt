@@ -3,7 +3,7 @@
 ghost use Rattle.std.specs.Prelude.{◌≡◌, ◌+◌, ◌≤◌, ◌++◌, [], length};
 ghost use Rattle.rx_roles.specs.Roles.{without_all};
 ghost use Rattle.rx_roles.specs.Effects.{all_told, after_all, items_in, all_last};
-ghost use Rattle.rx_engine.specs.Settlements.{mail_left, all_given, closed_of, Releases};
+ghost use Rattle.rx_engine.specs.Settlements.{mail_left, all_given, closed_of, Releases, KeepsKeys};
 
 use rx_book::{Book, Resource};
 use rx_resource::Token;
@@ -62,6 +62,9 @@ pub(crate) fn set_free(book: &mut Book<Token>, holds: &mut Roles, effects: &mut 
     ensures releases { Releases ⟦<Token as Resource>⟧ by book.old holds.old.list effects.old.list
         book.new holds.new.list effects.new.list }
     ensures none_waits { book.new.waiting ≡ [] }
+    ensures keys { KeepsKeys book.old book.new }
+    ensures base { book.new.base ≡ book.old.base }
+    ensures limit { book.new.limit ≡ book.old.limit }
     ensures room { effects.old.room + length holds.new.list ≤ effects.new.room + length holds.old.list }
 {
     book.promise();

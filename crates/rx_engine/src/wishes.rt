@@ -4,7 +4,7 @@ ghost use Rattle.std.specs.Prelude.{◌≡◌, ◌+◌, ◌<◌, ◌≤◌, ◌+
 ghost use Rattle.std.specs.Option.{option_to_list};
 ghost use Rattle.rx_roles.specs.Roles.{AreBelow, role_of, without, without_all};
 ghost use Rattle.rx_engine.specs.Settlements.{closed_of};
-ghost use Rattle.rx_engine.specs.Closings.{nowhere, words_taken, with_wish, Closes};
+ghost use Rattle.rx_engine.specs.Closings.{words_taken, with_wish, Closes};
 
 use crate::entering::put_if;
 use crate::parts::User;
@@ -14,13 +14,6 @@ use rx_resource::Token;
 use rx_roles::{Role, Roles};
 use std::alloc::Global;
 use std::marker::Model;
-
-// A closing goes to no lane.
-fn nowhere() -> LaneName
-    ensures { result ≡ nowhere }
-{
-    LaneName { place: 0, turn: 0 }
-}
 
 // One node that was closed.
 fn close_one(roles: &mut Roles, closings: &mut Vec<u64>, number: u64)
@@ -120,7 +113,8 @@ impl Wishes {
             Role {
                 number,
                 word: user.word,
-                lane: nowhere(),
+                // A closing goes to no lane.
+                lane: LaneName { place: 0, turn: 0 },
             },
         );
     }

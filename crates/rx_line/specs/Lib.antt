@@ -1,3 +1,4 @@
+pub mod FreeCommands
 pub mod Names
 pub mod Orders
 pub mod Pieces

@@ -5,6 +5,7 @@
 //! - A **line** is the JSON text of one task, of `is`, `list` or `dump`, or of an array of such; [`read_line`] reads
 //!   it as a JSON value, and [`order_of`] such a value as an [`Order`]. A [`Task`] is a command of a scenario, or an
 //!   `open` with the member `res`. Which values are orders, and which order, is defined in `specs/Orders.antt`.
+//! - A **free command** is one that takes no memory, and is read without any: [`free_command_in`] (`specs/FreeCommands.antt`).
 //! - An **answer** is written of pieces, which are defined in `specs/Pieces.antt`: what was accepted, refused or
 //!   faulty, and a note that an observer is told.
 //! - [`Names`] is a space of names, each of which stands for one number (`specs/Names.antt`).
@@ -19,13 +20,15 @@
 //! - Of the words with which a line or a value is called faulty nothing is promised.
 #![tactic(auto)]
 
+mod free;
 mod names;
 mod order;
 mod outcome;
 mod pieces;
 mod wanted;
 
+pub use free::{FreeCommand, free_command_in};
 pub use names::{Names, Spot, Twice};
 pub use order::{Order, Task, Unread, order_of, read_line};
 pub use outcome::{Cause, Outcome};
-pub use pieces::{faulty_text, note_text, ok_text, put, refused_text};
+pub use pieces::{faulty_text, note_text, ok_text, put, put_ok, put_refused, refused_text};

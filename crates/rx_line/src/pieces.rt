@@ -6,6 +6,7 @@ ghost use Rattle.rx_line.specs.Pieces.{refusal_name, cause_name, faulty_text, to
 ghost use Rattle.rx_line.specs.Pieces.{project_text, completed_text, error_text, note_text, ok_text, refused_text};
 
 use crate::outcome::Cause;
+use itoa::Buffer;
 use rx_event::{Refusal, Terminal};
 use rx_note::Note;
 use serde_json::Value;
@@ -18,7 +19,8 @@ const PIECE: usize = 32;
 const NOTE: usize = 48;
 
 fn refusal_name(why: Refusal) -> &'static str
-    ensures { result.now ≡ refusal_name why }
+    ensures name { result.now ≡ refusal_name why }
+    ensures short { length result.now ≤ 12 }
 {
     match why {
         Refusal::NoMemory => "NoMemory",
@@ -44,7 +46,8 @@ fn refusal_name(why: Refusal) -> &'static str
 
 // The name of a cause.
 fn cause_name(why: Cause) -> &'static str
-    ensures { result.now ≡ cause_name why }
+    ensures name { result.now ≡ cause_name why }
+    ensures short { length result.now ≤ 12 }
 {
     match why {
         Cause::NoName => "NoName",
@@ -153,4 +156,29 @@ pub fn put(text: &mut String, piece: &str)
         Ok(()) => {}
         Err(_) => unreachable!(),
     }
+}
+
+/// Puts the front of the answer to what is accepted at this place behind a text that has room for it. It takes no memory.
+#[tactic(auto, unfolding(crate::specs::Pieces::ok_text))]
+pub fn put_ok(text: &mut String, place: u64)
+    requires room { string_len text.old + 26 ≤ string_capacity text.old }
+    ensures bytes { string_bytes text.new ≡ string_bytes text.old ++ ok_text place }
+    ensures len { string_len text.new ≤ string_len text.old + 26 }
+    ensures capacity { string_capacity text.old ≤ string_capacity text.new }
+{
+    let mut digits = Buffer::new();
+    put(text, "{\"ok\":");
+    put(text, digits.format(place));
+}
+
+/// Puts the answer to what is refused behind a text that has room for it. It takes no memory.
+#[tactic(auto, unfolding(crate::specs::Pieces::refused_text))]
+pub fn put_refused(text: &mut String, why: Cause)
+    requires room { string_len text.old + 26 ≤ string_capacity text.old }
+    ensures bytes { string_bytes text.new ≡ string_bytes text.old ++ refused_text why }
+    ensures capacity { string_capacity text.old ≤ string_capacity text.new }
+{
+    put(text, "{\"refused\":\"");
+    put(text, cause_name(why));
+    put(text, "\"}");
 }

@@ -40,7 +40,7 @@ went old new x2 carries = search rules
 
 -- the same names are held -----------------------------------------------------------------------------
 
-same_held : (old new : Session) → new.resources ≡ old.resources → new.unnamed ≡ old.unnamed → (n : Name) → has_resource new n ≡ has_resource old n
+pub same_held : (old new : Session) → new.resources ≡ old.resources → new.unnamed ≡ old.unnamed → (n : Name) → has_resource new n ≡ has_resource old n
 same_held old new resources unnamed n = λ i. is_some (spot_of (resources i) n) || option_map_or (bytes_eq n) (unnamed i) false
 
 one_held : (old new : Session) (name : Name) (number : ℕ) → NamesOne old.resources name number new.resources → new.unnamed ≡ old.unnamed →

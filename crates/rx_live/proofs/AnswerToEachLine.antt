@@ -52,7 +52,7 @@ carried_out {old} done new k begun front said text does is closed tells =
     }
 
 -- what is asked
-answered_one : (old new : Session) (asked : Option Order) (text : List ℕ) (t : Task) → asked ≡ Some (task t) → CarriesOut old t text new →
+pub answered_one : (old new : Session) (asked : Option Order) (text : List ℕ) (t : Task) → asked ≡ Some (task t) → CarriesOut old t text new →
     Answered old asked new text
 answered_one old new asked text t order (refuses why does alive is) =
     record { acts = []; answer = is_refused t why order does alive is; leads = no_act (alike_held old new (refused_alike old new t why does)) }

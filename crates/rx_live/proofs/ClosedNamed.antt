@@ -4,7 +4,7 @@ use Rattle.rx_live.proofs.Common.{option_map, refl, sym, ap, ◌∙◌, arith, s
 use Rattle.rx_live.proofs.Common.{map-append, take_more, take_all, filter_map-append, Name, Key, name_text, member_text, joined, is_nil, Session, closed_at}
 use Rattle.rx_live.proofs.Common.{closed_texts}
 use Rattle.std.proofs.lemmas.Option.{slice_get-get_or}
-use Rattle.rx_live.specs.Closings.{name_beside, names_closed, WritesClosed}
+use Rattle.rx_live.specs.Closings.{name_beside, names_closed, WritesClosed, none_said}
 use Rattle.rx_live.proofs.Listings.{range_more}
 use Rattle.std.proofs.Common.{rules}
 
@@ -55,18 +55,39 @@ pub whole_member : (s : Session) (asked : Option ℕ) {first : Bool} (text begun
 whole_member s asked text begun before is first lead names closing = search (rules, codes, length, some_named, all_texts)
 
 -- where nothing is to be named
-none_closed : (s : Session) (asked : Option ℕ) (ks : List Key) → length ks ≡ 0 → filter_map (name_beside s.nodes asked) ks ≡ []
-none_closed s asked [] none = refl
-none_closed s asked (k ∷ ks) none = absurd (omega (arith, none))
+same_nil : (names : List Name) → is_nil (map name_text names) ≡ is_nil names
+same_nil [] = refl
+same_nil (name ∷ names) = refl
+
+nil_is : (names : List Name) → is_nil names ≡ true → names ≡ []
+nil_is [] is = refl
+nil_is (name ∷ names) is = absurd (cc)
+
+is_nil_closed : (s : Session) (asked : Option ℕ) → is_nil (closed_texts s asked (length s.book.closed)) ≡ is_nil (names_closed s asked)
+is_nil_closed s asked = ap is_nil (all_texts s asked) ∙ same_nil (names_closed s asked)
 
 pub says_nothing : {names : List Name} (begun : List ℕ) → names ≡ [] → WritesClosed names begun begun
 says_nothing begun none = search (rules, codes, map, append-nil)
 
-pub none_at_all : (is_call : Bool) (s : Session) (asked : Option ℕ) → length s.book.closed ≡ 0 → (if is_call then names_closed s asked else []) ≡ []
-none_at_all x0 s asked none = search (rules, none_closed)
+pub none_at_all : (is_call : Bool) (s : Session) (asked : Option ℕ) → is_nil (closed_texts s asked (length s.book.closed)) ≡ true →
+    (if is_call then names_closed s asked else []) ≡ []
+none_at_all true s asked none = nil_is (names_closed s asked) (sym (is_nil_closed s asked) ∙ none)
+none_at_all false s asked none = refl
 
 pub says_all : {names : List Name} (begun text : List ℕ) → text ≡ begun ++ member_text (codes "closed") (map name_text names) → WritesClosed names begun text
 says_all {names} begun text is = search (rules, codes, map)
 
-pub says_null : {names : List Name} (begun mid text : List ℕ) → mid ≡ begun → text ≡ mid ++ codes ",\"closed\":null" → WritesClosed names begun text
-says_null begun mid text same is = search (rules, codes)
+some_at_all : (s : Session) (asked : Option ℕ) → is_nil (closed_texts s asked (length s.book.closed)) ≡ false → names_closed s asked ≡ [] → ⊥
+some_at_all s asked some none =
+    let nil : is_nil (names_closed s asked) ≡ true = ap is_nil none in
+    let not : is_nil (names_closed s asked) ≡ false = sym (is_nil_closed s asked) ∙ some in absurd (cc)
+
+pub says_null : (is_call : Bool) (s : Session) (asked : Option ℕ) (begun mid text : List ℕ) → is_call ≡ true →
+    is_nil (closed_texts s asked (length s.book.closed)) ≡ false → mid ≡ begun → text ≡ mid ++ codes ",\"closed\":null" →
+    WritesClosed (if is_call then names_closed s asked else []) begun text
+says_null true s asked begun mid text is some same written = record {
+  said = codes ",\"closed\":null";
+  says = none_said (some_at_all s asked some) refl;
+  written = written ∙ ap (λ (t : List ℕ). t ++ codes ",\"closed\":null") same;
+}
+says_null false s asked begun mid text is some same written = absurd (cc)

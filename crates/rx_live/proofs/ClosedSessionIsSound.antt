@@ -9,7 +9,7 @@ kept_shape : (made held gone : Bool) → (made && not gone) ≡ true → (held �
 kept_shape made x1 gone p = search rules
 
 -- what is kept is held or waits
-kept_where : (h : List Event) (r : ℕ) → is_kept h r ≡ true → (is_held h r ≡ true) ⊎ (is_waiting h r ≡ true)
+pub kept_where : (h : List Event) (r : ℕ) → is_kept h r ≡ true → (is_held h r ≡ true) ⊎ (is_waiting h r ≡ true)
 unfolding is_waiting is_taken is_kept
 kept_where h r kept = kept_shape (at makes_resource h r) (is_held h r) (list_any (is_take_of r) h) kept
 

@@ -37,6 +37,9 @@ pub never_none : (result : Option (String Global)) (named : Option Name) (P : Ty
     IfNone result P
 never_none x0 named x2 value some = search (rules, is_some)
 
+pub none_left : (result : Option (String Global)) (P : Type 0) → P → IfNone result P
+none_left x0 P holds = search rules
+
 -- of the names t, what is told of resource q is gone, and was its name
 pub record IsForgotten (s : Session) (q : ℕ) (told : Option (String Global)) (t : Names) : Type 0 where
   pub paired : IsPaired t
@@ -133,7 +136,7 @@ wrote_no_name s new begun same none = search (rules, none_taken)
 
 -- many ------------------------------------------------------------------------------------------------
 
-takes_on : {a b c : State} → Takes a b → Takes b c → Takes a c
+pub takes_on : {a b c : State} → Takes a b → Takes b c → Takes a c
 takes_on p none_taken = p
 takes_on p (one_taken mid r before accepts) = one_taken mid r (takes_on p before) accepts
 
@@ -142,7 +145,7 @@ names_rest : (a b c : Session) → b ≡ record a { book = b.book; resources = b
     c ≡ record a { book = c.book; resources = c.resources; unnamed = c.unnamed }
 names_rest a b c p q = search rules
 
-drop_leads : (a b : Session) (name : Name) → DropsName a name b → Leads (has_resource a) (released name ∷ []) (has_resource b)
+pub drop_leads : (a b : Session) (name : Name) → DropsName a name b → Leads (has_resource a) (released name ∷ []) (has_resource b)
 drop_leads a b name drops = releases name drops.was (no_act drops.held)
 
 pub names_begun : (old now : Session) (begun text : List ℕ) → WritesName old begun (codes ",\"release\":[") now text → AreNamesWritten old begun now text

@@ -20,3 +20,7 @@ pub mod ConnectionAnswered
 pub mod AnswerToEachLine
 pub mod AnswersOfArrays
 pub mod Ties
+pub mod NeverFull
+pub mod FreeAnswered
+pub mod ShutSound
+pub mod ReleasedToTheEnd

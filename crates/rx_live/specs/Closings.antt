@@ -1,5 +1,5 @@
 -- Which nodes an answer names as closed.
-use Rattle.std.specs.Prelude.{◌≡◌, ℕ, ◌==◌, ◌++◌, Bool, true, false, List, [], codes, map, filter_map, Option, None, option_map, if◌then◌else◌}
+use Rattle.std.specs.Prelude.{◌≡◌, ◌≢◌, ℕ, ◌==◌, ◌++◌, Bool, true, false, List, [], codes, map, filter_map, Option, None, option_map, if◌then◌else◌}
 use Rattle.std.specs.Option.{option_map_or}
 use Rattle.rx_scenario.specs.Scenario.{Name, end, abort, fail, dispose, drain, checkpoint}
 use Rattle.rx_slots.specs.declared.Key.{Key}
@@ -35,10 +35,10 @@ names_closed s asked = filter_map (name_beside s.nodes asked) s.book.closed
 abbrev pub closed_names : (old : Session) → Task → (done : Session) → List Name
 closed_names old t done = if is_call t then names_closed done (asked_node old t) else []
 
--- the member that names them; in want of memory it names none, and says so
+-- the member that names them; where there are some, in want of memory it names none, and says so
 pub data SaysClosed (names : List Name) (said : List ℕ) : Type 0 where
   all_said : said ≡ member_text (codes "closed") (map name_text names) → SaysClosed names said
-  none_said : said ≡ codes ",\"closed\":null" → SaysClosed names said
+  none_said : names ≢ [] → said ≡ codes ",\"closed\":null" → SaysClosed names said
 
 -- it stands behind what was written
 pub record WritesClosed (names : List Name) (begun text : List ℕ) : Type 0 where

@@ -7,6 +7,7 @@ pub mod Given
 pub mod Openings
 pub mod Promise
 pub mod Answers
+pub mod Shut
 pub mod Steps
 pub mod Renewals
 pub mod Listed

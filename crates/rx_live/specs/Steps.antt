@@ -1,4 +1,4 @@
--- One step of a telling. No public clause cites this module.
+-- One step of a telling.
 use Rattle.std.specs.Prelude.{◌≡◌, ℕ, ◌+◌, ◌<◌, Bool, true, false, List, ◌∷◌, ◌++◌, codes, map, length, Some, None}
 use Rattle.std.specs.Option.{option_map_or}
 use Rattle.rx_event.specs.declared.mail.Mail.{Mail}

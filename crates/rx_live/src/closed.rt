@@ -1,6 +1,7 @@
 //! What an answer says of the nodes that were closed.
 
-ghost use Rattle.std.specs.Prelude.{◌≡◌, ◌+◌, ◌++◌, [], codes, length, map, option_map, string_bytes, if◌then◌else◌, IfOk, OnOk, OnErr};
+ghost use Rattle.std.specs.Prelude.{◌≡◌, ◌≤◌, ◌+◌, ◌++◌, [], codes, length, map, option_map, string_bytes, if◌then◌else◌, IfOk, OnOk, OnErr};
+ghost use Rattle.std.specs.String.{string_capacity};
 ghost use Rattle.rx_scenario.specs.Scenario.{command_of};
 ghost use Rattle.rx_line.specs.Orders.{plain, task_of};
 ghost use Rattle.rx_line.specs.Pieces.{name_text, member_text, joined};
@@ -24,8 +25,8 @@ pub struct Closing {
     pub asked: Option<u64>,
 }
 
-// The number of the node of this name.
-fn number_of(engine: &Engine, node: &str) -> Option<u64>
+/// The number of the node of this name.
+pub fn number_of(engine: &Engine, node: &str) -> Option<u64>
     ensures { result ≡ option_map (λ k. k.number) (node_of (session_of engine.now) node.now) }
 {
     let key = engine.node(node)?;
@@ -135,6 +136,19 @@ fn closed_text(engine: &Engine, asked: Option<u64>) -> Result<String, AllocError
     Ok(text)
 }
 
+// Whether there are none. It takes no memory.
+fn names_none(engine: &Engine, asked: Option<u64>) -> bool
+    ensures { result ≡ is_nil (closed_texts (session_of engine.now) asked (length engine.now.book.closed)) }
+{
+    let mut is_none = true;
+    'places: for place in 0..engine.book.closed_count() {
+        if let Some(_name) = closed_at(engine, asked, place) {
+            is_none = false;
+        }
+    }
+    is_none
+}
+
 // Writes it; where it finds no room, nothing is written.
 fn push_member(
     engine: &Engine,
@@ -146,27 +160,29 @@ fn push_member(
         ++ member_text (codes "closed") (map name_text (names_closed (session_of engine.now) asked))) }
     ensures err { OnErr result (string_bytes text.new ≡ string_bytes text.old) }
     ensures room { KeepsRoom rest text.old text.new }
+    ensures capacity { string_capacity text.old ≤ string_capacity text.new }
 {
     let said = closed_text(engine, asked)?;
     push_piece(text, "", said.as_str(), rest)
 }
 
 /// Names what a task closed beside the node that it asks for; where memory is refused for that, it says so. Where
-/// nothing was closed, it takes no memory.
+/// nothing is to be named, it takes no memory.
 pub fn push_closed(engine: &Engine, text: &mut String, closing: Closing, rest: u32)
     requires room { HasRoom (rest + 29) text.old }
     ensures said { WritesClosed (if closing.is_call then names_closed (session_of engine.now) closing.asked else [])
         (string_bytes text.old) (string_bytes text.new) }
     ensures room { HasRoom (rest + 15) text.new }
+    ensures capacity { string_capacity text.old ≤ string_capacity text.new }
 {
     if !closing.is_call {
         return;
     }
-    let count = engine.book.closed_count();
-    if count == 0 {
+    if names_none(engine, closing.asked) {
         return;
     }
-    if push_member(engine, text, closing.asked, rest).is_err() {
-        put(text, ",\"closed\":null");
+    match push_member(engine, text, closing.asked, rest) {
+        Ok(()) => {}
+        Err(_) => put(text, ",\"closed\":null"),
     }
 }

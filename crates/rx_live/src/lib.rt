@@ -32,6 +32,9 @@
 //!   before it is handed in again, and no other name is ([`names_are_released_once`]).
 //! - Of any list of lines: the answers tell the notes of the events that were written, each once and in order
 //!   ([`notes_are_told_in_order`]).
+//! - A line that is a command which takes no memory (`specs/FreeCommands.antt` of `rx_line`) is never refused for want of it, and
+//!   what ends a session needs none: [`Live::shut`], and each [`Live::next_release`] behind it
+//!   ([`names_are_released_to_the_end`]).
 //! - Where memory is refused a line was not taken, and nothing has changed, but that a checkpoint may have been
 //!   made. While something is late no name of a node is forgotten.
 //! - Nothing is promised of the text with which `list` is answered, nor of the words of a faulty line. That
@@ -45,6 +48,7 @@ mod closing;
 mod connected;
 mod dumping;
 mod engine;
+mod free;
 mod holder;
 mod holding;
 mod lines;
@@ -55,9 +59,12 @@ mod query;
 mod renewing;
 mod running;
 mod sending;
+mod shutting;
 mod telling;
 mod theorems;
 
 pub use live::Live;
 pub use rx_line::faulty_text;
-pub use theorems::{names_are_released_once, notes_are_told_in_order};
+pub use theorems::{
+    names_are_released_once, names_are_released_to_the_end, notes_are_told_in_order,
+};

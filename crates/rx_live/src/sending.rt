@@ -1,6 +1,7 @@
 //! What is asked, and its answer.
 
-ghost use Rattle.std.specs.Prelude.{◌≡◌, ◌+◌, ◌++◌, ◌&&◌, true, codes, length, string_bytes, IfOk, OnOk, OnErr};
+ghost use Rattle.std.specs.Prelude.{◌≡◌, ◌≤◌, ◌+◌, ◌++◌, ◌&&◌, true, codes, length, string_bytes, IfOk, OnOk, OnErr};
+ghost use Rattle.std.specs.String.{string_capacity};
 ghost use Rattle.rx_device.specs.Part.{part_data};
 ghost use Rattle.rx_line.specs.Orders.{task_of, order_in};
 ghost use Rattle.rx_live.specs.Session.{session_of, IsSound};
@@ -37,6 +38,7 @@ fn close_text(text: &mut String, late: bool, rest: u32)
     requires room { HasRoom (rest + 13) text.old }
     ensures text { string_bytes text.new ≡ string_bytes text.old ++ late_text late ++ codes "}" }
     ensures room { HasRoom rest text.new }
+    ensures capacity { string_capacity text.old ≤ string_capacity text.new }
 {
     if late {
         put(text, ",\"late\":true");
@@ -44,13 +46,14 @@ fn close_text(text: &mut String, late: bool, rest: u32)
     put(text, "}");
 }
 
-// Tells all that is to be told behind the front of an answer, and closes that.
-fn tell(engine: &mut Engine, text: &mut String, rest: u32)
+/// Tells all that is to be told behind the front of an answer, and closes that.
+pub fn tell(engine: &mut Engine, text: &mut String, rest: u32)
     requires sound { IsSound (session_of engine.old) }
     requires room { HasRoom (rest + 15) text.old }
     ensures tells { TellsAll (session_of engine.old) (string_bytes text.old) (session_of engine.new) (string_bytes text.new) }
     ensures sound { IsSound (session_of engine.new) }
     ensures room { HasRoom rest text.new }
+    ensures capacity { string_capacity text.old ≤ string_capacity text.new }
 {
     tell_notes(engine, text, rest);
     tell_releases(engine, text, rest);

@@ -1,6 +1,7 @@
 //! What an answer tells beside its outcome: notes, and what is to be released.
 
-ghost use Rattle.std.specs.Prelude.{◌≡◌, ◌+◌, ◌++◌, None, [], string_bytes, IfOk, IfSome, IfNone, OnOk, OnErr};
+ghost use Rattle.std.specs.Prelude.{◌≡◌, ◌≤◌, ◌+◌, ◌++◌, None, [], string_bytes, IfOk, IfSome, IfNone, OnOk, OnErr};
+ghost use Rattle.std.specs.String.{string_capacity};
 ghost use Rattle.rx_line.specs.Pieces.{name_text};
 ghost use Rattle.rx_live.specs.Session.{session_of, IsSound};
 ghost use Rattle.rx_live.specs.Answers.{told_of, told_text, to_tell, WritesNotes, WritesNames};
@@ -21,6 +22,7 @@ pub fn push_piece(text: &mut String, lead: &str, piece: &str, rest: u32) -> Resu
     ensures ok { OnOk result (string_bytes text.new ≡ string_bytes text.old ++ lead.now ++ piece.now) }
     ensures err { OnErr result (string_bytes text.new ≡ string_bytes text.old) }
     ensures room { KeepsRoom rest text.old text.new }
+    ensures capacity { string_capacity text.old ≤ string_capacity text.new }
 {
     let wanted = lead.len().saturating_add(piece.len());
     text.reserve(wanted.saturating_add(rest as usize + ROOM))?;
@@ -50,6 +52,7 @@ fn push_mail(
     ensures ok { OnOk result (string_bytes text.new ≡ string_bytes text.old ++ lead.now ++ told_text (told_of engine.now.nodes mail.now)) }
     ensures err { OnErr result (string_bytes text.new ≡ string_bytes text.old) }
     ensures room { KeepsRoom rest text.old text.new }
+    ensures capacity { string_capacity text.old ≤ string_capacity text.new }
 {
     let piece = mail_text(engine, mail)?;
     push_piece(text, lead, piece.as_str(), rest)
@@ -74,12 +77,13 @@ fn next_mail(engine: &mut Engine) -> Option<Mail>
     }
 }
 
-// Writes the next note behind this lead. False where there is none, or no memory for it: it is told later.
-fn push_next(engine: &mut Engine, text: &mut String, lead: &str, rest: u32) -> bool
+/// Writes the next note behind this lead. False where there is none, or no memory for it: it is told later.
+pub fn push_next(engine: &mut Engine, text: &mut String, lead: &str, rest: u32) -> bool
     requires { IsSound (session_of engine.old) }
     ensures told { MayWriteNote result (session_of engine.old) (string_bytes text.old) lead.now (session_of engine.new) (string_bytes text.new) }
     ensures sound { IsSound (session_of engine.new) }
     ensures room { KeepsRoom rest text.old text.new }
+    ensures capacity { string_capacity text.old ≤ string_capacity text.new }
 {
     let Some(mail) = next_mail(engine) else {
         return false;
@@ -98,6 +102,7 @@ pub fn tell_notes(engine: &mut Engine, text: &mut String, rest: u32)
     ensures told { WritesNotes (session_of engine.old) (string_bytes text.old) (session_of engine.new) (string_bytes text.new) }
     ensures sound { IsSound (session_of engine.new) }
     ensures room { HasRoom (rest + 14) text.new }
+    ensures capacity { string_capacity text.old ≤ string_capacity text.new }
 {
     if !push_next(engine, text, ",\"notes\":[", rest) {
         return;
@@ -122,13 +127,14 @@ fn take_name(engine: &mut Engine) -> Option<String>
     engine.resources.forget(number)
 }
 
-// The name of the resource that is to be released next: the one that was not told in want of memory, or
-// one that waits in the book.
-fn next_name(engine: &mut Engine) -> Option<String>
+/// The name of the resource that is to be released next: the one that was not told in want of memory, or
+/// one that waits in the book.
+pub fn next_name(engine: &mut Engine) -> Option<String>
     requires { IsSound (session_of engine.old) }
     ensures some { IfSome result (λ name. DropsName (session_of engine.old) (string_bytes name) (session_of engine.new)) }
     ensures none { IfNone result (session_of engine.new ≡ session_of engine.old) }
     ensures all { IfNone result (engine.old.book.waiting ≡ []) }
+    ensures gone { IfNone result ((session_of engine.old).unnamed ≡ None) }
     ensures sound { IsSound (session_of engine.new) }
 {
     match engine.unnamed.take() {
@@ -143,6 +149,7 @@ pub fn push_quoted(text: &mut String, lead: &str, name: &str, rest: u32) -> Resu
     ensures ok { OnOk result (string_bytes text.new ≡ string_bytes text.old ++ lead.now ++ name_text name.now) }
     ensures err { OnErr result (string_bytes text.new ≡ string_bytes text.old) }
     ensures room { KeepsRoom rest text.old text.new }
+    ensures capacity { string_capacity text.old ≤ string_capacity text.new }
 {
     let wanted = lead.len().saturating_add(name.len());
     text.reserve(wanted.saturating_add(rest as usize + (2 + ROOM)))?;
@@ -159,6 +166,7 @@ fn push_name(engine: &mut Engine, text: &mut String, lead: &str, rest: u32) -> b
     ensures told { MayWriteName result (session_of engine.old) (string_bytes text.old) lead.now (session_of engine.new) (string_bytes text.new) }
     ensures sound { IsSound (session_of engine.new) }
     ensures room { KeepsRoom rest text.old text.new }
+    ensures capacity { string_capacity text.old ≤ string_capacity text.new }
 {
     let Some(name) = next_name(engine) else {
         return false;
@@ -177,6 +185,7 @@ pub fn tell_releases(engine: &mut Engine, text: &mut String, rest: u32)
     ensures told { WritesNames (session_of engine.old) (string_bytes text.old) (session_of engine.new) (string_bytes text.new) }
     ensures sound { IsSound (session_of engine.new) }
     ensures room { HasRoom (rest + 13) text.new }
+    ensures capacity { string_capacity text.old ≤ string_capacity text.new }
 {
     if !push_name(engine, text, ",\"release\":[", rest) {
         return;

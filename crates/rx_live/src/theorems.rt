@@ -1,11 +1,18 @@
 //! Laws of sessions, which no call needs and a caller may cite.
 
 ghost use Rattle.rx_live.specs.Sessions.{AreNamesKept, AreNotesTold};
+ghost use Rattle.rx_live.specs.Shut.{AreNamesKeptToTheEnd};
 
 /// Of any list of lines: each name that a `using` or a `hold` was answered `ok` for stands in exactly one
 /// `release` behind that, before it is handed in again, up to the last line; and no other name does.
 pub fn names_are_released_once()
     ensures { AreNamesKept }
+{}
+
+/// The same where the session ends by [`Live::shut`](crate::Live::shut) and the releases behind it, for which no memory is
+/// needed.
+pub fn names_are_released_to_the_end()
+    ensures { AreNamesKeptToTheEnd }
 {}
 
 /// Of any list of lines: the answers tell the notes of the events that the lines wrote, each once and in order.

@@ -264,7 +264,7 @@ module _ (g : Ghosts Token) (names : (tag : ℕ) → g.tag_of (fresh tag) ≡ ta
   by_call {s} {t} kept (hub mode says) = answered s t _ says.answer says.says refl
   by_call {s} {t} kept (connect number says) = answered s t _ says.answer says.says refl
   by_call {s} {t} kept (disconnect number says) = answered s t _ says.answer says.says refl
-  by_call {s} {t} kept (apply res says) = answered s t _ says.answer says.says refl
+  by_call {s} {t} kept (apply res word says) = answered s t _ says.answer says.says refl
   by_call {s} {t} kept (remove res says) = answered s t _ says.answer says.says refl
   by_call {s} {t} kept (lease res says) = answered s t _ says.answer says.says refl
   by_call {s} {t} kept (give_back key says) = answered s t _ says.answer says.says refl

@@ -162,7 +162,7 @@ module _ (g : Ghosts Token) where
   by_call {s} {t} kept (hub mode says) = answered s t _ says.answer says.says kept.given
   by_call {s} {t} kept (connect number says) = answered s t _ says.answer says.says kept.given
   by_call {s} {t} kept (disconnect number says) = answered s t _ says.answer says.says kept.given
-  by_call {s} {t} kept (apply res says) = answered s t _ says.answer says.says kept.given
+  by_call {s} {t} kept (apply res word says) = answered s t _ says.answer says.says kept.given
   by_call {s} {t} kept (remove res says) = answered s t _ says.answer says.says kept.given
   by_call {s} {t} kept (lease res says) = answered s t _ says.answer says.says kept.given
   by_call {s} {t} kept (give_back key says) = answered s t _ says.answer says.says kept.given

@@ -39,7 +39,7 @@ use Rattle.rx_typed.specs.declared.shapes.RxOpened.{RxOpened}
 use Rattle.rx_typed.specs.declared.shapes.RxUsing.{RxUsing}
 use Rattle.rx_typed.specs.declared.shapes.RxCounts.{RxCounts}
 use Rattle.rx_typed.specs.Codes.{key_of, res_key_of, lease_key_of, mail_of, no_mail, no_taken, status_told, status_given_back}
-use Rattle.rx_typed.specs.Codes.{place_told, opened_told, refused_told, used_told, res_told, node_told, lease_told}
+use Rattle.rx_typed.specs.Codes.{place_told, word_told, opened_told, refused_told, used_told, res_told, node_told, lease_told}
 use Rattle.rx_typed.specs.Tokens.{fresh}
 
 -- the book that is kept
@@ -140,9 +140,10 @@ IsDisconnect hub place s t status = IsPlaced (AnswersPlace s (disconnect_request
 abbrev pub IsHub : Mode → (place : ℕ) → State → State → (status : ℕ) → Type 0
 IsHub mode place s t status = IsPlaced (AnswersPlaceOrWant s (hub_request mode) t) place status
 
--- a resource is used, and its word is told
-abbrev pub IsApply : RxRes → (word : ℕ) → State → State → (status : ℕ) → Type 0
-IsApply res word s t status = IsPlaced (AnswersWord s (apply_request s (res_key_of res)) t) word status
+-- a resource is used on a word, which is told
+abbrev pub IsApply : RxRes → (word answer : ℕ) → State → State → (status : ℕ) → Type 0
+IsApply res word answer s t status =
+    IsAnswered (AnswersWord s (apply_request s (res_key_of res)) t) (word_told word) status_told answer status
 
 -- what the history leaves stands in its place
 abbrev pub IsCheckpoint : (place : ℕ) → State → State → (status : ℕ) → Type 0

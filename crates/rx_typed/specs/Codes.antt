@@ -135,6 +135,11 @@ abbrev pub place_told : Result ℕ Refusal → ℕ
 place_told (Ok place) = place
 place_told (Err why) = 0
 
+-- the word that a resource was used on, where it was
+abbrev pub word_told : (word : ℕ) → Result ℕ Refusal → ℕ
+word_told word (Ok its) = word
+word_told word (Err why) = 0
+
 abbrev pub opened_told : Result Opened Refusal → RxOpened
 opened_told (Ok o) = opened_of o
 opened_told (Err why) = no_opened

@@ -64,7 +64,7 @@ pub data IsCall (g : Ghosts Token) (s : State) : List Act → State → Type 0 w
   hub : {t : State} {place status : ℕ} (mode : Mode) → IsHub mode place s t status → IsCall g s [] t
   connect : {t : State} {connection : RxNode} {status : ℕ} (number : ℕ) → IsConnect number connection s t status → IsCall g s [] t
   disconnect : {t : State} {place status : ℕ} (number : ℕ) → IsDisconnect number place s t status → IsCall g s [] t
-  apply : {t : State} {word status : ℕ} (res : RxRes) → IsApply res word s t status → IsCall g s [] t
+  apply : {t : State} {answer status : ℕ} (res : RxRes) (word : ℕ) → IsApply res word answer s t status → IsCall g s [] t
   remove : {t : State} {place status : ℕ} (res : RxRes) → IsRemove res place s t status → IsCall g s [] t
   lease : {t : State} {given : RxLease} {status : ℕ} (res : RxRes) → IsLease res given s t status → IsCall g s [] t
   give_back : {t : State} {place status : ℕ} (key : RxLease) → IsGiveBack key place s t status → IsCall g s [] t

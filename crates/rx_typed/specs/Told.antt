@@ -25,3 +25,8 @@ pub record IsThenTold (g : Ghosts Token) (Says : State → State → ℕ → Typ
   pub says : Says s mid status
   pub promised : IsPromised mid
   pub drains : IsDrainedCall g told.mail told'.mail told.resource told'.resource (drained_of told') mid t
+
+-- the same, where the place that is told is that of the call's own event
+pub record IsThenPlaced (g : Ghosts Token) (Says : State → State → ℕ → Type 0) (place : ℕ) (told told' : RxTold) (s t : State) (status : ℕ) : Type 0 where
+  pub tells : IsThenTold g Says told told' s t status
+  pub is : told'.place ≡ place

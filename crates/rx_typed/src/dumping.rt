@@ -7,9 +7,10 @@ ghost use Rattle.rx_typed.specs.Events.{IsEventTold, event_of, no_event, place_c
 use crate::Typed;
 use crate::shapes::RxEvent;
 use crate::status::{DONE, NOTHING_WAITS};
-use rx_book::{Event, Kind, Mode, Terminal};
+use rx_book::{Book, Event, Kind, Mode, Terminal};
 use rx_dump::push_dump;
 use rx_event::Place;
+use rx_resource::Token;
 use std::alloc::{AllocError, Global};
 
 /// No event.
@@ -139,40 +140,48 @@ impl Typed {
         }
     }
 
-    // Whether no checkpoint took events away.
-    fn is_whole(&self) -> bool
-        ensures whole { result ≡ true → self.now.book.base.at_length ≡ 0 }
-        ensures cut { result ≡ false → self.now.book.base.at_length ≢ 0 }
-    {
-        self.book.promise();
-        self.book.len() == 0 || self.book.event(0).is_some()
-    }
-
-    // All events, oldest first, where there was no checkpoint.
-    fn events(&self, alloc: Global) -> Result<Vec<Event>, AllocError>
-        requires { self.now.book.base.at_length ≡ 0 }
-        ensures { IfOk result (λ events. events.items ≡ self.now.book.history) }
-    {
-        let mut events = Vec::new(alloc);
-        'places: for place in 0..self.book.len() {
-            if let Some(event) = self.book.event(place) {
-                events.push(event)?;
-            }
-        }
-        Ok(events)
-    }
-
     /// The dump of the history, or None where a checkpoint took events away.
     pub fn dump(&self, alloc: Global) -> Result<Option<String>, AllocError>
         ensures { IfOk result (λ text. MatchOption text (self.now.book.base.at_length ≢ 0)
             (λ t. (self.now.book.base.at_length ≡ 0) × (string_bytes t ≡ dump self.now.book.history))) }
     {
-        if !self.is_whole() {
-            return Ok(None);
-        }
-        let events = self.events(alloc)?;
-        let mut text = String::new(alloc);
-        push_dump(&mut text, events.as_slice())?;
-        Ok(Some(text))
+        dump_of(&self.book, alloc)
     }
+}
+
+// Whether no checkpoint took events away.
+fn is_whole(book: &Book<Token>) -> bool
+    ensures whole { result ≡ true → book.now.base.at_length ≡ 0 }
+    ensures cut { result ≡ false → book.now.base.at_length ≢ 0 }
+{
+    book.promise();
+    book.len() == 0 || book.event(0).is_some()
+}
+
+// All events, oldest first, where there was no checkpoint.
+fn events_of(book: &Book<Token>, alloc: Global) -> Result<Vec<Event>, AllocError>
+    requires { book.now.base.at_length ≡ 0 }
+    ensures { IfOk result (λ events. events.items ≡ book.now.history) }
+{
+    let mut events = Vec::new(alloc);
+    'places: for place in 0..book.len() {
+        if let Some(event) = book.event(place) {
+            events.push(event)?;
+        }
+    }
+    Ok(events)
+}
+
+/// The dump of a book's history, or None where a checkpoint took events away.
+pub fn dump_of(book: &Book<Token>, alloc: Global) -> Result<Option<String>, AllocError>
+    ensures { IfOk result (λ text. MatchOption text (book.now.base.at_length ≢ 0)
+        (λ t. (book.now.base.at_length ≡ 0) × (string_bytes t ≡ dump book.now.history))) }
+{
+    if !is_whole(book) {
+        return Ok(None);
+    }
+    let events = events_of(book, alloc)?;
+    let mut text = String::new(alloc);
+    push_dump(&mut text, events.as_slice())?;
+    Ok(Some(text))
 }

@@ -38,13 +38,14 @@ mod typed;
 pub use codes::{asked, kind_of, mode_of, place_at, terminal_of};
 pub use course_laws::{notes_are_told_once, resources_are_handed_back_once};
 pub use draining::drain;
-pub use dumping::no_event;
+pub use dumping::{dump_of, event_of, no_event};
 pub use rx_resource::Token;
 pub use shapes::{
     RxCounts, RxDrained, RxEvent, RxLease, RxMail, RxNode, RxOpened, RxRes, RxTaken, RxTold,
-    RxUsing, no_lease, no_mail, no_node, no_opened, no_res, no_taken, no_used,
+    RxUsing, key_of, no_lease, no_mail, no_node, no_opened, no_res, no_taken, no_used, node_of,
 };
 pub use status::{
     CUT, DONE, HELD, NO_MEMORY, NO_SUCH_CODE, NOTHING_KEPT, NOTHING_WAITS, SMALL, UNTAKEN,
+    status_of,
 };
 pub use typed::Typed;

@@ -212,11 +212,20 @@ impl Typed {
         place_told(self.book.disconnect(hub), place)
     }
 
-    /// A resource is used on a word.
+    /// A resource is used on a word, which is answered: what the caller's resource makes of it, the caller knows.
     pub fn apply(&mut self, res: RxRes, word: u64, answer: &mut u64) -> u8
-        ensures { IsApply res answer.new self.old.book self.new.book result }
+        ensures { IsApply res word answer.new self.old.book self.new.book result }
     {
-        place_told(self.book.apply(res_key_of(res), word), answer)
+        match self.book.apply(res_key_of(res), word) {
+            Ok(_) => {
+                *answer = word;
+                DONE
+            }
+            Err(why) => {
+                *answer = 0;
+                status_of(why)
+            }
+        }
     }
 
     /// A resource is taken away from its node.

@@ -54,13 +54,26 @@ fn faulty(alloc: Global, told: &str) -> Result<String, AllocError> {
     faulty_text(alloc, String::from_str(alloc, told)?)
 }
 
-// Writes an answer and the end of its line.
-fn write_line<W: Write>(output: &mut W, answer: Result<String, AllocError>) -> IoResult<()> {
-    match answer {
-        Ok(text) => output.write_all(text.as_str().as_bytes())?,
-        Err(_) => output.write_all(NO_MEMORY.as_bytes())?,
-    }
+// Writes a text and the end of its line.
+fn write_line<W: Write>(output: &mut W, text: &str) -> IoResult<()> {
+    output.write_all(text.as_bytes())?;
     output.write_all(b"\n")
+}
+
+// Writes the answer to a faulty line.
+fn write_faulty<W: Write>(alloc: Global, output: &mut W, told: &str) -> IoResult<()> {
+    match faulty(alloc, told) {
+        Ok(text) => write_line(output, text.as_str()),
+        Err(_) => write_line(output, NO_MEMORY),
+    }
+}
+
+// Sends a line, and writes its answer.
+fn send<W: Write>(live: &mut Live, line: &[u8], output: &mut W) -> IoResult<()> {
+    match live.send(line) {
+        Ok(()) => write_line(output, live.answer()),
+        Err(_) => write_line(output, NO_MEMORY),
+    }
 }
 
 // Answers a line that ends with this piece of the input. One that lies in it whole is read there.
@@ -72,16 +85,16 @@ fn answer<W: Write>(
     output: &mut W,
 ) -> IoResult<()> {
     if line.is_empty() && piece.len() <= MOST_BYTES {
-        return write_line(output, live.send(piece));
+        return send(live, piece, output);
     }
     line.take_in(piece);
-    let answer = if line.is_long {
-        faulty(alloc, "a line has at most 65536 bytes")
+    let answered = if line.is_long {
+        write_faulty(alloc, output, "a line has at most 65536 bytes")
     } else {
-        live.send(line.bytes.as_slice())
+        send(live, line.bytes.as_slice(), output)
     };
     line.clear();
-    write_line(output, answer)
+    answered
 }
 
 // Answers each line that ends in this piece of the input, and keeps what is left.
@@ -136,9 +149,51 @@ fn answer_input<R: Read, W: Write>(
     }
     if !line.is_empty() {
         let told = "the input ends before this line does, so it was not carried out";
-        write_line(output, faulty(alloc, told))?;
+        write_faulty(alloc, output, told)?;
     }
     Ok(())
+}
+
+// Writes the names of what waits, each as it is released.
+fn write_releases<W: Write>(live: &mut Live, output: &mut W) -> IoResult<()> {
+    let mut lead = ",\"release\":[\"";
+    while let Some(name) = live.next_release() {
+        output.write_all(lead.as_bytes())?;
+        output.write_all(name.as_bytes())?;
+        output.write_all(b"\"")?;
+        lead = ",\"";
+    }
+    if lead.len() == 2 {
+        output.write_all(b"]")?;
+    }
+    Ok(())
+}
+
+// Writes the notes that were not told yet, for as many as there is memory.
+fn write_notes<W: Write>(live: &mut Live, output: &mut W) -> IoResult<()> {
+    let mut lead = ",\"notes\":[";
+    while live.next_note() {
+        output.write_all(lead.as_bytes())?;
+        output.write_all(live.answer().as_bytes())?;
+        lead = ",";
+    }
+    if lead.len() == 1 {
+        output.write_all(b"]")?;
+    }
+    Ok(())
+}
+
+// Closes all, and writes the last line piece by piece, for which no memory is needed.
+fn end<W: Write>(live: &mut Live, output: &mut W) -> IoResult<()> {
+    live.shut();
+    output.write_all(b"{\"closed\":true")?;
+    write_releases(live, output)?;
+    write_notes(live, output)?;
+    if live.is_late() {
+        output.write_all(b",\"late\":true")?;
+    }
+    output.write_all(b"}\n")?;
+    output.flush()
 }
 
 /// Serves a live book: a line in and a line out, and at the end of the input the line that closes it.
@@ -151,11 +206,12 @@ pub fn serve<R: Read, W: Write>(alloc: Global, input: &mut R, output: &mut W) ->
     let Ok(mut piece) = vec![in alloc; 0u8; MOST_BYTES] else {
         return 4;
     };
-    let mut live = Live::new(alloc, MOST_EVENTS);
+    let Ok(mut live) = Live::new(alloc, MOST_EVENTS) else {
+        return 4;
+    };
     let piece = piece.as_mut_slice();
     let served = answer_input(alloc, &mut live, &mut line, piece, input, output);
-    let closed = live.end();
-    if write_line(output, closed).is_ok() && output.flush().is_ok() && served.is_ok() {
+    if end(&mut live, output).is_ok() && served.is_ok() {
         0
     } else {
         1

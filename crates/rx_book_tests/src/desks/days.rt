@@ -68,6 +68,30 @@ fn two_seats_and_a_true_receipt_agree_with_the_book(rt: HostRuntime) {
     assert_all(&rt, rt.alloc(), &AGREED);
 }
 
+// The event at place 2 is another.
+const CLOSES_LEAF: Receipt = Receipt {
+    place: 2,
+    event: Event::Close(5),
+};
+
+const FORGED: [(Trial, &str); 1] = [(
+    Trial::Work(true, true, &[CLOSES_LEAF]),
+    "\
+Ok(0)
+Ok(2)
+Some((1, 7, 0))
+(4, None)
+Err(Receipt { place: 2 })
+Some(4)
+Closed { released: 0, faults: 0 }
+",
+)];
+
+#[test]
+fn a_receipt_of_another_event_is_told_with_its_place(rt: HostRuntime) {
+    assert_all(&rt, rt.alloc(), &FORGED);
+}
+
 const NONE_ACCEPTED: &str = "\
 Ok(0)
 Ok(2)

@@ -9,6 +9,7 @@ use super::endless::{LIMIT, storm};
 use super::leases::passed_on;
 use super::meetings::{both_release, wakes};
 use super::parts::{blanks, number_of, tell};
+use super::seats::{SEEN, give_a_past, split_all};
 use super::want::feed_in_the_end;
 use super::workers::work_thrice;
 use rx_book::Book;
@@ -43,6 +44,10 @@ pub(super) enum Trial {
     Closed,
     // Feeds and checkpoints without end.
     Endless,
+    // A desk that is made of a book with a past.
+    Past,
+    // A seat that is split as often as it can be.
+    Split,
 }
 
 // How many events the book may have.
@@ -89,6 +94,8 @@ fn tried<
         Trial::Lease => passed_on(rt, alloc, desk, seat, told),
         Trial::Closed => eight_knock(rt, alloc, desk, seat, told),
         Trial::Endless => storm(rt, alloc, desk, seat, told),
+        Trial::Past => Some(make_all(rt, alloc, desk, seat, &mut NO_SLOTS, &SEEN, told)),
+        Trial::Split => Some(split_all(seat, told)),
     }
 }
 
@@ -121,7 +128,10 @@ fn at_desk<
     requires accepted { Opens A.name A.parts blanks.1.name blanks.1.parts }
     requires taken { Opens K.name K.parts blanks.2.name blanks.2.parts }
 {
-    let book = Book::new(alloc, u64::from(limit_of(trial)));
+    let mut book = Book::new(alloc, u64::from(limit_of(trial)));
+    if let Trial::Past = trial {
+        give_a_past(&mut book);
+    }
     let (desk, seat) = Desk::<Sample, I, A, K>::new(book, blanks.0, blanks.1, blanks.2);
     let seat = tried(rt, alloc, &desk, seat, trial, told);
     end(alloc, desk, seat, receipts_of(trial), told);

@@ -75,6 +75,21 @@ fn a_group_serves_generic_callers(rt: HostRuntime) {
     same(&rt, list.as_slice(), [(1, 'y'), (2, 'z')].as_slice());
 }
 
+#[test]
+fn a_group_that_is_cleared_takes_more_and_one_that_is_disposed_of_takes_none(rt: HostRuntime) {
+    let mut group = Group::new(rt.alloc());
+    let added = [told(group.add('x')), told(group.add('y'))];
+    let removed = [group.remove(0), group.remove(0)];
+    same(&rt, (added, removed), ([Ok(0), Ok(1)], [Some('x'), None]));
+    let mut cleared = group.clear();
+    same(&rt, cleared.next(), Some((1, 'y')));
+    same(&rt, (cleared.next(), told(group.add('z'))), (None, Ok(2)));
+    let mut disposed = group.dispose();
+    same(&rt, disposed.next(), Some((2, 'z')));
+    let denied = Err((Why::Disposed, 'w'));
+    same(&rt, (disposed.next(), told(group.add('w'))), (None, denied));
+}
+
 // Adds the numbers up to 40 in want of memory: each refusal hands the number back, and then one block is given
 // back. How often memory was refused.
 fn add_in_the_end(rt: &impl Abort, group: &mut Group<u64>, scarce: &mut Scarce) -> u32 {

@@ -33,7 +33,7 @@ pub extern "C" fn rx_book_apply(
     word: u64,
     answer: &mut u64,
 ) -> u8
-    ensures { IsCalled (IsApply res answer.new) (answer.new ≡ 0)
+    ensures { IsCalled (IsApply res word answer.new) (answer.new ≡ 0)
         (book_of handle.old.kept) (book_of handle.new.kept) result }
 {
     on_book!(alloc, handle: apply(res, word, answer) else *answer = 0)

@@ -1,7 +1,7 @@
 //! Events that answer at once what they told.
 
 ghost use Rattle.std.specs.Prelude.{◌≡◌};
-ghost use Rattle.rx_typed.specs.Told.{IsThenTold, no_told};
+ghost use Rattle.rx_typed.specs.Told.{IsThenTold, IsThenPlaced, no_told};
 ghost use Rattle.rx_typed.specs.Calls.{IsCalled, IsNext, IsEnd, IsDispose, IsAbort};
 ghost use Rattle.rx_typed.specs.Calls.{IsFail, IsDecline, IsDisconnect, IsRemove, IsGiveBack};
 ghost use Rattle.rx_typed.specs.Calls.{IsOpen, IsUsing, IsDecoded, book_of};
@@ -162,7 +162,8 @@ pub extern "C" fn rx_book_open_told(
     told: &mut RxTold,
 ) -> u8
     ensures { IsDecoded (asked_of place above kind hub)
-        (λ asked. IsCalled (IsThenTold ⟦<Token as Resource>⟧ (IsOpen asked.0 asked.1 opened.new) told.old told.new)
+        (λ asked. IsCalled (IsThenPlaced ⟦<Token as Resource>⟧ (IsOpen asked.0 asked.1 opened.new)
+        opened.new.node.number told.old told.new)
         ((opened.new ≡ no_opened) × (told.new ≡ no_told told.old)) (book_of handle.old.kept) (book_of handle.new.kept))
         ((book_of handle.new.kept ≡ book_of handle.old.kept) × (opened.new ≡ no_opened) ×
         (told.new ≡ no_told told.old)) result }
@@ -183,8 +184,8 @@ pub extern "C" fn rx_book_using_told(
     told: &mut RxTold,
 ) -> u8
     ensures { IsDecoded (place_at place above)
-        (λ at. IsCalled (IsThenTold ⟦<Token as Resource>⟧
-        (IsUsing ⟦<Token as Resource>⟧ at tag used.new) told.old told.new)
+        (λ at. IsCalled (IsThenPlaced ⟦<Token as Resource>⟧
+        (IsUsing ⟦<Token as Resource>⟧ at tag used.new) used.new.node.number told.old told.new)
         ((used.new ≡ no_used) × (told.new ≡ no_told told.old)) (book_of handle.old.kept) (book_of handle.new.kept))
         ((book_of handle.new.kept ≡ book_of handle.old.kept) × (used.new ≡ no_used) ×
         (told.new ≡ no_told told.old)) result }

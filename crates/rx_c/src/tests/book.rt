@@ -158,7 +158,11 @@ impl Bench {
             Call::Hub => rx_book_hub(alloc, handle, how, &mut self.hub),
             Call::Connect => rx_book_connect(alloc, handle, number, &mut node),
             Call::Disconnect => rx_book_disconnect(alloc, handle, number, &mut place),
-            Call::Apply => rx_book_apply(alloc, handle, self.res, 1, &mut place),
+            // A token answers the word itself.
+            Call::Apply => match rx_book_apply(alloc, handle, self.res, 1, &mut place) {
+                0 if place != 1 => 255,
+                why => why,
+            },
             Call::Remove => rx_book_remove(alloc, handle, self.res, &mut place),
             Call::Lease => {
                 let mut lease = no_lease();
@@ -172,8 +176,8 @@ impl Bench {
         }
     }
 
-    // Calls on the book as a whole. Where it gave something, a taking answers its tag, and a draining the value of the
-    // second note.
+    // Calls on the book as a whole. A dump of number 0 has a small buffer. Where it gave something, a taking answers its
+    // tag, and a draining the value of the second note.
     fn on_book(&mut self, step: Step) -> u8 {
         let (call, _, _, number) = step;
         let (alloc, handle) = (self.alloc, &mut self.handle);
@@ -204,8 +208,9 @@ impl Bench {
             }
             Call::Event => rx_book_event(alloc, handle, number, &mut no_event()),
             Call::Dump => {
-                let mut buffer = [0u8; 24];
-                rx_book_dump(alloc, handle, &mut buffer, &mut told)
+                let mut buffer = [0u8; 2048];
+                let room = if number == 0 { 24 } else { 2048 };
+                rx_book_dump(alloc, handle, &mut buffer[..room], &mut told)
             }
             Call::Checkpoint => rx_book_checkpoint(alloc, handle, &mut place),
             Call::Close => rx_book_close(alloc, handle),
@@ -331,7 +336,7 @@ const REFUSED: [Step; 24] = [
 ];
 
 // To the end of that book, and of one that is full.
-const ENDED: [Step; 21] = [
+const ENDED: [Step; 22] = [
     (Call::Remove, 0, 0, 0),
     (Call::GiveBack, 0, 0, 0),
     (Call::Remove, 0, 0, 0),
@@ -341,6 +346,7 @@ const ENDED: [Step; 21] = [
     (Call::NextAll, 0, 5, 0),
     (Call::Event, 0, 0, 900),
     (Call::Dump, 0, 0, 0),
+    (Call::Dump, 0, 0, 1),
     (Call::Checkpoint, 0, 0, 0),
     (Call::Drain, 0, 0, 0),
     (Call::Drain, 0, 0, 0),
@@ -357,7 +363,7 @@ const ENDED: [Step; 21] = [
 
 const ANSWERED: &str = "1 1 1 1 1 1 1 1 1 1 1 1 1 1 1 1 1 1 1 1 1 1 1 1 1 0 \n\
         3 5 5 5 5 5 17 22 0 0 25 0 24 0 18 0 19 28 21 18 30 0 0 31 \n\
-        31 0 27 0 0 20 0 2 7 32 2 0 0 8 0 6 0 6 71 2 0 ";
+        31 0 27 0 0 20 0 2 7 0 32 2 0 0 8 0 6 0 6 71 2 0 ";
 
 #[test]
 fn each_call_has_a_status_for_each_refusal(rt: HostRuntime) -> Result<(), Fail> {

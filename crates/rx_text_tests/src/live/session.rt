@@ -12,12 +12,12 @@ pub(super) type Part = (u32, &'static [Row]);
 
 // Whether a line is answered so.
 fn is_answered(live: &mut Live, (line, answer): Row) -> Result<bool, AllocError> {
-    let told = if line.is_empty() {
-        live.end()?
+    if line.is_empty() {
+        live.end()?;
     } else {
-        live.send(line.as_bytes())?
-    };
-    Ok(told.as_str().ends_with(answer))
+        live.send(line.as_bytes())?;
+    }
+    Ok(live.answer().ends_with(answer))
 }
 
 // The first line of these that is answered otherwise.
@@ -36,7 +36,7 @@ pub(super) fn first_other(
     limit: u32,
     parts: &[Part],
 ) -> Result<Option<&'static str>, AllocError> {
-    let mut live = Live::new(alloc, u64::from(limit));
+    let mut live = Live::new(alloc, u64::from(limit))?;
     for (times, rows) in parts {
         for _ in 0..*times {
             if let Some(line) = first_of(&mut live, rows)? {

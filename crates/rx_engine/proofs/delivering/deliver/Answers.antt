@@ -4,7 +4,8 @@ use Rattle.rx_roles.specs.declared.effect.Effect.{Effect}
 use Rattle.rx_roles.specs.Effects.{carries, copies_in, lasts_at}
 use Rattle.rx_engine.specs.Deliveries.{many_at, less, Delivers, none_delivered, one_delivered, AreNamed}
 use Rattle.rx_engine.proofs.MailLeft.{drop_one, get_within, get_past}
-use Rattle.rx_engine.proofs.NamedLanes.{found_lane, arrives_gets, delivered_many, named_same, twice_less}
+use Rattle.rx_engine.proofs.NamedLanes.{delivered_many, named_same, twice_less}
+use Rattle.rx_engine.proofs.Laws.EffectsInLanes.{found_lane, arrives_gets}
 use Rattle.rx_engine.proofs.delivering.deliver.Goals as goal
 
 copy_most : (b : Bool) → (if b then 1 else 0) ≤ 1

@@ -3,7 +3,7 @@ use Rattle.std.proofs.lemmas.Option.{same_Some}
 use Rattle.rx_lanes.specs.Lane.{Lane}
 use Rattle.rx_roles.specs.declared.effect.Effect.{Effect}
 use Rattle.rx_engine.specs.Deliveries.{put_by, PartsIf}
-use Rattle.rx_engine.proofs.NamedLanes.{found_lane, put_many}
+use Rattle.rx_engine.proofs.Laws.EffectsInLanes.{found_lane, put_many}
 use Rattle.rx_engine.proofs.delivering.deliver_one.Goals as goal
 
 pub leave-requires-clause-open : goal.leave-requires-clause-open

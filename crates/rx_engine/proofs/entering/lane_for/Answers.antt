@@ -2,7 +2,7 @@ use Rattle.std.proofs.Common.{Option, refl, sym, subst}
 use Rattle.rx_lanes.specs.declared.names.LaneName.{LaneName}
 use Rattle.rx_lanes.specs.State.{lane}
 use Rattle.rx_engine.specs.Openings.{IsLaneFor}
-use Rattle.rx_engine.proofs.LanesJoined.{some_lane}
+use Rattle.rx_engine.proofs.Laws.EffectsInLanes.{some_lane}
 use Rattle.rx_engine.proofs.entering.lane_for.Goals as goal
 
 pub returns-in-Some-clause-given : goal.returns-in-Some-clause-given

@@ -2,7 +2,8 @@ use Rattle.std.proofs.Common.{Option, IsSome, refl, sym, ap, ◌∙◌, arith, s
 use Rattle.std.proofs.lemmas.Option.{same_Some}
 use Rattle.rx_lanes.specs.Lane.{Lane}
 use Rattle.rx_roles.specs.declared.effect.Effect.{Effect}
-use Rattle.rx_engine.proofs.NamedLanes.{role_named, found_lane}
+use Rattle.rx_engine.proofs.NamedLanes.{role_named}
+use Rattle.rx_engine.proofs.Laws.EffectsInLanes.{found_lane}
 use Rattle.rx_engine.proofs.leaving.leave_one.Goals as goal
 
 pub leave-requires-clause-open : goal.leave-requires-clause-open

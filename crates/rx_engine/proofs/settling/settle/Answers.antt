@@ -1,4 +1,5 @@
-use Rattle.std.proofs.Common.{length, ap, ◌∙◌, arith}
+use Rattle.std.proofs.Common.{length, ap, ◌∙◌, arith, subst}
+use Rattle.rx_book.specs.State.{State as BookState}
 use Rattle.rx_resource.specs.contracts.token.TokenResource.TheImpl.{ghosts}
 use Rattle.rx_lanes.specs.State.{State}
 use Rattle.rx_roles.specs.declared.effect.Effect.{Effect}
@@ -6,7 +7,7 @@ use Rattle.rx_roles.specs.declared.roles.Role.{Role}
 use Rattle.rx_roles.specs.Roles.{without_all}
 use Rattle.rx_roles.specs.Effects.{names_of}
 use Rattle.rx_engine.specs.Deliveries.{many_at}
-use Rattle.rx_engine.specs.Settlements.{closed_of}
+use Rattle.rx_engine.specs.Settlements.{closed_of, KeepsKeys}
 use Rattle.rx_engine.proofs.NamedLanes.{told_all, all_named, all_length, all_at}
 use Rattle.rx_engine.proofs.HomesLeft.{left_ready}
 use Rattle.rx_engine.proofs.settling.settle.Goals as goal
@@ -70,3 +71,8 @@ returns-clause-ready c =
           let same = ap (λ (x : State Effect). x.spare) c.settle-many.ensures.settles in
           omega (arith, length_is, h, m, had, kept, put, same);
     }
+
+pub returns-clause-keys : goal.returns-clause-keys
+returns-clause-keys c =
+    let freed = subst (λ (b : BookState). KeepsKeys b c.set_free.new.book) c.tell.ensures.book c.set_free.ensures.keys in
+    record { keys = freed.keys; res_keys = freed.res_keys; lease_keys = freed.lease_keys }

@@ -1,4 +1,4 @@
-use Rattle.std.proofs.Common.{◌≡◌, ◌++◌, List, length, sym, ap, ◌∙◌, arith, subst, Option}
+use Rattle.std.proofs.Common.{refl, ◌≡◌, ◌++◌, List, length, sym, ap, ◌∙◌, arith, subst, Option}
 use Rattle.rx_resource.specs.contracts.token.TokenResource.TheImpl.{ghosts}
 use Rattle.std.specs.Option.{option_to_list}
 use Rattle.rx_roles.specs.declared.roles.Role.{Role}
@@ -8,10 +8,11 @@ use Rattle.rx_roles.specs.Roles.{role_of, without}
 use Rattle.rx_roles.specs.Effects.{effects_for}
 use Rattle.rx_roles.proofs.Laws.RolesTaken.{fewer}
 use Rattle.rx_engine.specs.Settlements.{Releases, none_released, one_released}
+use Rattle.rx_engine.proofs.KeysKept.{keeps_taken, keeps_itself, keeps_on}
 use Rattle.rx_engine.proofs.telling.set_free.Goals as goal
 
 pub loop-handed-init : goal.loop-handed-init
-loop-handed-init c = record { promised = c.promise.ensures; releases = none_released; room = omega arith }
+loop-handed-init c = record { promised = c.promise.ensures; releases = none_released; keys = keeps_itself c.args.book.now; base = refl; limit = refl; room = omega arith }
 
 pub loop-handed-preserved : goal.loop-handed-preserved
 loop-handed-preserved c =
@@ -29,6 +30,10 @@ loop-handed-preserved c =
           (subst (λ (es : List Effect). Releases ghosts c.args.by c.args.book.now c.args.holds.now.list c.args.effects.now.list c.take.new.self
           (without holds number) es)
           (sym effects) (one_released i.releases i.promised c.in-Some.ensures));
+      keys = keeps_on c.args.book.now c.loop-handed.book c.take.new.self i.keys
+          (keeps_taken ghosts c.loop-handed.book c.take.new.self number c.in-Some.handed.1 i.promised c.promise-in-Some.ensures c.in-Some.ensures);
+      base = c.in-Some.ensures.accepted.base ∙ i.base;
+      limit = c.in-Some.ensures.accepted.limit ∙ i.limit;
       room =
           let f = fewer holds number in
           let a = ap (length {A = Role}) list in

@@ -1,5 +1,5 @@
 use Rattle.rx_live.proofs.Common.{option_map, string_bytes, sym, ap, ◌∙◌, session_of}
-use Rattle.rx_live.proofs.Drops.{dropped_unnamed, dropped_taken}
+use Rattle.rx_live.proofs.Drops.{dropped_unnamed, dropped_taken, none_left}
 use Rattle.rx_live.proofs.telling.next_name.Goals as goal
 use Rattle.std.proofs.Common.{rules}
 
@@ -11,3 +11,6 @@ returns-in-Some-clause-some c =
 
 pub returns-in-None-clause-some : goal.returns-in-None-clause-some
 returns-in-None-clause-some c = search (rules, option_map, string_bytes, dropped_taken)
+
+pub returns-in-None-clause-gone : goal.returns-in-None-clause-gone
+returns-in-None-clause-gone c = none_left c.take_name.result _ (ap (option_map string_bytes) (sym c.take.ensures.value ∙ c.in-None.is))

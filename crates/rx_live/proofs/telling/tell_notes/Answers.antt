@@ -8,6 +8,7 @@ notes-init c = record {
       c.if-not-push_next.ensures.told;
   sound = c.push_next.ensures.sound;
   room = c.push_next.ensures.room (c.args.rest + 15) (omega arith) c.requires.room;
+  capacity = c.push_next.ensures.capacity;
 }
 
 pub notes-preserved : goal.notes-preserved
@@ -16,6 +17,7 @@ notes-preserved c = record {
       (string_bytes c.notes.text) (string_bytes c.push_next-in-notes.new.text) c.notes.invariant.written c.notes-test.ensures.told;
   sound = c.push_next-in-notes.ensures.sound;
   room = c.push_next-in-notes.ensures.room (c.args.rest + 15) (omega arith) c.notes.invariant.room;
+  capacity = (let was = c.notes.invariant.capacity in let more = c.push_next-in-notes.ensures.capacity in omega (arith, was, more));
 }
 
 pub returns-clause-told : goal.returns-clause-told
@@ -40,3 +42,9 @@ pub returns-clause-room : goal.returns-clause-room
 returns-clause-room c =
     let r : HasRoom (c.args.rest + 15) c.push_next-in-notes.new.text = c.push_next-in-notes.ensures.room (c.args.rest + 15) (omega arith)
     c.notes.invariant.room in omega (arith, r, c.put.ensures.len, c.put.ensures.capacity)
+
+pub returns-clause-capacity : goal.returns-clause-capacity
+returns-clause-capacity c =
+    let was = c.notes.invariant.capacity in
+    let more = c.push_next-in-notes.ensures.capacity in
+    omega (arith, was, more, c.put.ensures.capacity)

@@ -9,6 +9,7 @@ names-init c = record {
       c.if-not-push_name.ensures.told;
   sound = c.push_name.ensures.sound;
   room = c.push_name.ensures.room (c.args.rest + 14) (omega arith) c.requires.room;
+  capacity = c.push_name.ensures.capacity;
 }
 
 pub names-preserved : goal.names-preserved
@@ -17,6 +18,7 @@ names-preserved c = record {
       (string_bytes c.names.text) (string_bytes c.push_name-in-names.new.text) c.names.invariant.written c.names-test.ensures.told;
   sound = c.push_name-in-names.ensures.sound;
   room = c.push_name-in-names.ensures.room (c.args.rest + 14) (omega arith) c.names.invariant.room;
+  capacity = (let was = c.names.invariant.capacity in let more = c.push_name-in-names.ensures.capacity in omega (arith, was, more));
 }
 
 pub returns-clause-told : goal.returns-clause-told
@@ -44,3 +46,9 @@ returns-clause-room c =
 
 pub returns-then-not-push_name-clause-told : goal.returns-then-not-push_name-clause-told
 returns-then-not-push_name-clause-told c = search (rules, names_none, string_bytes)
+
+pub returns-clause-capacity : goal.returns-clause-capacity
+returns-clause-capacity c =
+    let was = c.names.invariant.capacity in
+    let more = c.push_name-in-names.ensures.capacity in
+    omega (arith, was, more, c.put.ensures.capacity)

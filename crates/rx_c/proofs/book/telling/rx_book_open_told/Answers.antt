@@ -11,4 +11,4 @@ returns-in_default-take c =
 pub returns : goal.returns
 returns c =
     decodes (sym c.asked.ensures ∙ c.in-Some.is)
-    (called c.in-Some-take.ensures.taken c.put.ensures.kept c.deref_mut.ensures.value c.put.ensures.promised c.open_told-status.ensures.told)
+    (called c.in-Some-take.ensures.taken c.put.ensures.kept c.deref_mut.ensures.value c.put.ensures.promised (record { tells = c.open_told-status.ensures.told; is = c.open_told-status.ensures.place }))

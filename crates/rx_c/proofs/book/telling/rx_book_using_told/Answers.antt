@@ -11,4 +11,4 @@ returns-in_default-take c =
 pub returns : goal.returns
 returns c =
     decodes (sym c.place_at.ensures ∙ c.in-Some.is)
-    (called c.in-Some-take.ensures.taken c.put.ensures.kept c.deref_mut.ensures.value c.put.ensures.promised c.using_told-status.ensures.told)
+    (called c.in-Some-take.ensures.taken c.put.ensures.kept c.deref_mut.ensures.value c.put.ensures.promised (record { tells = c.using_told-status.ensures.told; is = c.using_told-status.ensures.place }))

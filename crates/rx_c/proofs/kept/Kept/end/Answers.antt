@@ -1,35 +1,39 @@
-use Rattle.std.proofs.Common.{refl, sym, ap}
-use Rattle.std.specs.String.{string_bytes}
-use Rattle.rx_live.specs.Session.{Session}
-use Rattle.rx_live.specs.Live.{session}
+use Rattle.std.proofs.Common.{◌∙◌, refl, sym, ap}
+use Rattle.rx_live.specs.Live.{session, answer}
 use Rattle.rx_c.specs.Answers.{IsGiven, IsTooLong}
 use Rattle.rx_c.specs.Calls.{ends, ends_on, has_mail, is_starved}
-use Rattle.rx_c.specs.Stages.{stage_by}
-use Rattle.rx_c.proofs.WhatWaits.{has_unread, none_unread}
+use Rattle.rx_c.specs.Stages.{opened}
+use Rattle.rx_c.proofs.WhatWaits.{has_unread, none_unread, still_none}
 use Rattle.rx_c.proofs.kept.Kept.end.Goals as goal
 
 pub returns-in-Some : goal.returns-in-Some
 returns-in-Some c =
-    let it = has_unread (session c.args.self.now.live) c.args.self.now.unread c.in-Some.length (sym c.in-Some.ensures)
+    let live = c.args.self.now.live in
+    let it = has_unread (session live) (answer live) c.args.self.now.unread c.in-Some.length (sym c.in-Some.ensures)
     in has_mail it.waits refl refl (record { kept = refl; count = it.is })
 
 pub returns-then-fits : goal.returns-then-fits
 returns-then-fits c =
-    let text = string_bytes c.in-Ok.last in
-    let given : IsGiven text c.args.buffer.now c.fits.new.buffer c.fits.new.told =
-    rw (← c.as_bytes.ensures.value) (c.fits.ensures.given c.if-fits.true)
-    in ends (none_unread (session c.args.self.now.live) c.args.self.now.unread (sym c.in_default.ensures))
+    let live = c.args.self.now.live in
+    let given : IsGiven (answer c.end.new.self) c.args.buffer.now c.fits.new.buffer c.fits.new.told =
+    rw (← c.answer.ensures, ← c.as_bytes.ensures) (c.fits.ensures.given c.if-fits.true)
+    in ends (none_unread (session live) (answer live) c.args.self.now.unread (sym c.in_default.ensures))
     c.in-Ok.ensures.ok refl refl given
 
 pub returns-else-fits : goal.returns-else-fits
 returns-else-fits c =
-    let text = string_bytes c.in-Ok.last in
-    let long : IsTooLong text c.args.buffer.now c.fits.new.buffer c.fits.new.told =
-    rw (← c.as_bytes.ensures.value) (c.fits.ensures.too_long c.if-fits.false)
-    in ends_on (none_unread (session c.args.self.now.live) c.args.self.now.unread (sym c.in_default.ensures))
+    let live = c.args.self.now.live in
+    let long : IsTooLong (answer c.end.new.self) c.args.buffer.now c.fits.new.buffer c.fits.new.told =
+    rw (← c.answer.ensures, ← c.as_bytes.ensures) (c.fits.ensures.too_long c.if-fits.false)
+    in ends_on (none_unread (session live) (answer live) c.args.self.now.unread (sym c.in_default.ensures))
     c.in-Ok.ensures.ok refl refl long
 
 pub returns-in-Err : goal.returns-in-Err
 returns-in-Err c =
-    is_starved (none_unread (session c.args.self.now.live) c.args.self.now.unread (sym c.in_default.ensures))
-    (ap (λ (s : Session). stage_by s c.args.self.now.unread) c.in-Err.ensures.err) refl (record { kept = refl; count = refl })
+    let live = c.args.self.now.live in
+    let unread = c.args.self.now.unread in
+    let was = none_unread (session live) (answer live) unread (sym c.in_default.ensures) in
+    is_starved was
+    (still_none (session c.end.new.self) (answer live) (answer c.end.new.self) unread (sym c.in_default.ensures)
+    ∙ ap opened c.in-Err.ensures.err ∙ sym was)
+    refl (record { kept = refl; count = refl })

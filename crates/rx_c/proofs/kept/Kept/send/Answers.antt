@@ -1,34 +1,39 @@
 use Rattle.std.proofs.Common.{refl, sym}
-use Rattle.std.specs.String.{string_bytes}
-use Rattle.rx_live.specs.Live.{session}
+use Rattle.rx_live.specs.Live.{session, answer}
 use Rattle.rx_c.specs.Answers.{IsGiven, IsTooLong}
 use Rattle.rx_c.specs.Calls.{sends, sends_on, has_mail, is_starved}
-use Rattle.rx_c.proofs.WhatWaits.{has_unread, none_unread}
+use Rattle.rx_c.proofs.WhatWaits.{has_unread, none_unread, still_none}
 use Rattle.rx_c.proofs.kept.Kept.send.Goals as goal
 
 pub returns-in-Some : goal.returns-in-Some
 returns-in-Some c =
-    let it = has_unread (session c.args.self.now.live) c.args.self.now.unread c.in-Some.length (sym c.in-Some.ensures)
+    let live = c.args.self.now.live in
+    let it = has_unread (session live) (answer live) c.args.self.now.unread c.in-Some.length (sym c.in-Some.ensures)
     in has_mail it.waits refl refl (record { kept = refl; count = it.is })
 
 pub returns-then-fits : goal.returns-then-fits
 returns-then-fits c =
-    let text = string_bytes c.in-Ok.text in
+    let live = c.args.self.now.live in
+    let unread = c.args.self.now.unread in
+    let text = answer c.send.new.self in
     let given : IsGiven text c.args.buffer.now c.fits.new.buffer c.fits.new.told =
-    rw (← c.as_bytes.ensures.value) (c.fits.ensures.given c.if-fits.true)
-    in sends (none_unread (session c.args.self.now.live) c.args.self.now.unread (sym c.in_default.ensures)) c.in-Ok.ensures.ok
-    (none_unread (session c.send.new.self) c.args.self.now.unread (sym c.in_default.ensures)) refl given
+    rw (← c.answer.ensures, ← c.as_bytes.ensures) (c.fits.ensures.given c.if-fits.true)
+    in sends (none_unread (session live) (answer live) unread (sym c.in_default.ensures)) c.in-Ok.ensures.ok
+    (still_none (session c.send.new.self) (answer live) text unread (sym c.in_default.ensures)) refl given
 
 pub returns-else-fits : goal.returns-else-fits
 returns-else-fits c =
-    let text = string_bytes c.in-Ok.text in
+    let live = c.args.self.now.live in
+    let text = answer c.send.new.self in
     let long : IsTooLong text c.args.buffer.now c.fits.new.buffer c.fits.new.told =
-    rw (← c.as_bytes.ensures.value) (c.fits.ensures.too_long c.if-fits.false)
-    in sends_on (none_unread (session c.args.self.now.live) c.args.self.now.unread (sym c.in_default.ensures))
+    rw (← c.answer.ensures, ← c.as_bytes.ensures) (c.fits.ensures.too_long c.if-fits.false)
+    in sends_on (none_unread (session live) (answer live) c.args.self.now.unread (sym c.in_default.ensures))
     c.in-Ok.ensures.ok refl refl long
 
 pub returns-in-Err : goal.returns-in-Err
 returns-in-Err c =
-    is_starved (none_unread (session c.args.self.now.live) c.args.self.now.unread (sym c.in_default.ensures)) c.in-Err.ensures.err
-    (none_unread (session c.send.new.self) c.args.self.now.unread (sym c.in_default.ensures)) refl
+    let live = c.args.self.now.live in
+    let unread = c.args.self.now.unread in
+    is_starved (none_unread (session live) (answer live) unread (sym c.in_default.ensures)) c.in-Err.ensures.err c.in-Err.ensures.free
+    (still_none (session c.send.new.self) (answer live) (answer c.send.new.self) unread (sym c.in_default.ensures)) refl
     (record { kept = refl; count = refl })

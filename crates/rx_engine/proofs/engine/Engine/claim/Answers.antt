@@ -4,7 +4,7 @@ use Rattle.rx_lanes.specs.State.{lane}
 use Rattle.rx_engine.specs.States.{State}
 use Rattle.rx_engine.specs.Ties.{state_of}
 use Rattle.rx_engine.proofs.LanesServed.{claimed_many, turns_many, tied_served}
-use Rattle.rx_engine.proofs.LanesJoined.{some_lane}
+use Rattle.rx_engine.proofs.Laws.EffectsInLanes.{some_lane}
 use Rattle.rx_engine.proofs.engine.Engine.claim.Goals as goal
 
 pub invariant_of-self : goal.invariant_of-self

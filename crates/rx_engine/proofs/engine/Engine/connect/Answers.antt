@@ -1,4 +1,4 @@
-use Rattle.std.proofs.Common.{◌≡◌, ℕ, List, length, Ok, Err, refl, sym, ◌∙◌, subst}
+use Rattle.std.proofs.Common.{◌≡◌, List, length, Ok, Err, refl, sym, ◌∙◌, subst}
 use Rattle.rx_resource.specs.contracts.token.TokenResource.TheImpl.{ghosts}
 use Rattle.rx_event.specs.declared.event.Event.TheVariants.{Connect}
 use Rattle.rx_event.specs.declared.refusal.Refusal.TheVariants.{NoMemory}
@@ -140,7 +140,7 @@ returns-in-Ok-connect c =
     (Ok (record { key = c.in-Ok-connect.key; place = c.in-Ok.place })))
     c.self.view_is
     (record {
-      key = connecting.number_is;
+      key = record { number = connecting.number_is; listed = c.settle.ensures.keys.keys c.in-Ok-connect.key c.in-Ok-connect.ensures.ok.listed };
       done = record {
         chosen = chosen;
         mid = c.connect.new.self;

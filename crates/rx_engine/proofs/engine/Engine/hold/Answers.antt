@@ -99,7 +99,7 @@ returns-in-Ok c =
     (record { book = c.settle.new.book; parts = c.settle.new.parts; wishes = c.settle.new.wishes }) (Ok c.in-Ok.res))
     c.self.view_is
     (record {
-      ok = keeping.number_is;
+      ok = record { number = keeping.number_is; listed = c.settle.ensures.keys.res_keys c.in-Ok.res c.in-Ok.ensures.ok.listed };
       done = record {
         mid = c.hold.new.self;
         accepts = keeping.holds.accepts;

@@ -1,7 +1,6 @@
 use Rattle.std.proofs.Common.{◌<◌, ◌++◌, ◌∷◌, [], ℕ, sym, ap, ◌∙◌, subst}
 use Rattle.rx_resource.specs.contracts.token.TokenResource.TheImpl.{ghosts}
 use Rattle.rx_event.proofs.Laws.Common.{slice_get}
-use Rattle.rx_pool.specs.declared.search.PooledHub.{PooledHub}
 use Rattle.rx_pool.specs.Pool.{new_hub}
 use Rattle.rx_shares.specs.Places.{State as SharesState}
 use Rattle.rx_shares.proofs.Laws.SharesAfterStep.{hub_made}

@@ -1,4 +1,4 @@
-use Rattle.std.proofs.Common.{◌<◌, ◌-◌, length, sym, ap, ◌∙◌, arith, subst}
+use Rattle.std.proofs.Common.{length, ap, ◌∙◌, arith, subst}
 use Rattle.rx_resource.specs.contracts.token.TokenResource.TheImpl.{ghosts}
 use Rattle.rx_event.specs.declared.event.Mode.{Mode}
 use Rattle.rx_engine.specs.Hubs.{mode_at, IsHubDone, none_made, one_made, room_gotten}

@@ -1,4 +1,4 @@
-use Rattle.std.proofs.Common.{pos, refl, sym, arith, subst, List, Ok}
+use Rattle.std.proofs.Common.{pos, sym, arith, subst, List, Ok}
 use Rattle.rx_pool.specs.declared.search.PooledHub.{PooledHub}
 use Rattle.rx_pool.specs.Moves.{MayLeaveAll}
 use Rattle.rx_roles.specs.declared.roles.Role.{Role}

@@ -11,8 +11,8 @@ use Rattle.rx_engine.specs.States.{State}
 use Rattle.rx_engine.specs.Closings.{with_wish, Closes}
 use Rattle.rx_engine.specs.Homes.{whose, is_housed, home_of}
 use Rattle.rx_engine.specs.Ties.{state_of}
-use Rattle.rx_engine.specs.Openings.{connects_none, Enters, IsOpenMade}
-use Rattle.rx_engine.proofs.HomesFound.{housed_home, not_housed, asked_same, gone_opening}
+use Rattle.rx_engine.specs.Openings.{Enters, IsOpenMade}
+use Rattle.rx_engine.proofs.HomesFound.{housed_home, asked_same}
 use Rattle.rx_engine.proofs.LanesGiven.{IsOpenAt}
 use Rattle.rx_engine.proofs.RoomGotten.{ready_roomier, still_at}
 use Rattle.rx_engine.proofs.TiedAfterOpening.{is_opening, IsEntering, ready_opened, leave_opened, enters_first, none_beyond, none_housed_beyond, tied_opened}
@@ -116,7 +116,7 @@ returns-in-Ok c =
     (record { book = c.settle.new.book; parts = c.settle.new.parts; wishes = c.settle.new.wishes }) (Ok c.in-Ok.opened.key))
     c.self.view_is
     (record {
-      ok = entering.number_is;
+      ok = record { number = entering.number_is; listed = c.settle.ensures.keys.keys c.in-Ok.opened.key c.in-Ok.ensures.ok.key.listed };
       done = record {
         mid = c.open.new.self;
         accepts = c.in-Ok.ensures.accepted;

@@ -1,4 +1,4 @@
-use Rattle.std.proofs.Common.{◌≡◌, ℕ, List, length, Option, Some, None, Ok, Err, option_map, if◌then◌else◌, refl, sym, ap, ◌∙◌, subst}
+use Rattle.std.proofs.Common.{◌≡◌, List, length, Some, None, Ok, Err, option_map, if◌then◌else◌, refl, sym, ap, ◌∙◌, subst}
 use Rattle.rx_resource.specs.contracts.token.TokenResource.TheImpl.{ghosts}
 use Rattle.rx_event.specs.declared.event.Event.TheVariants.{Open}
 use Rattle.rx_event.specs.declared.event.Kind.TheVariants.{Sub}
@@ -21,12 +21,14 @@ use Rattle.rx_engine.proofs.LanesGiven.{IsOpenAt}
 use Rattle.rx_engine.proofs.SharesChosen.{seen_itself, chosen_there, IsReserved, may_share}
 use Rattle.rx_engine.proofs.TiedAfterOpening.{is_opening}
 use Rattle.rx_engine.proofs.TiedAfterSharing.{IsSubscribing, leave_subscribed, ready_subscribed, subscribes_first, tied_subscribed}
+use Rattle.rx_engine.proofs.KeysKept.{second_listed}
 use Rattle.rx_engine.proofs.WishesKept.{none_wished_beyond}
 use Rattle.rx_engine.proofs.engine.Engine.subscribe.Goals as goal
 
 pub returns-in_default : goal.returns-in_default
 returns-in_default c = record {
   key = tt;
+  connection = tt;
   done = tt;
   refused = is_gone (not_housed (is_housed c.args.self.now.book (whose c.args.at c.args.user.lane)) (home_of c.args.self.now c.args.at c.args.user.lane) c.in_default.ensures.home);
   kept = seen_itself c.args.self.now;
@@ -37,6 +39,7 @@ returns-in-Err c =
     let housed = housed_home (is_housed c.args.self.now.book (whose c.args.at c.args.user.lane)) c.in-Some.home (home_of c.args.self.now c.args.at c.args.user.lane) c.in-Some.ensures.home in
     record {
       key = tt;
+      connection = tt;
       done = tt;
       refused = none_chosen housed.0
           (ap (λ (h : Home). choice c.args.self.now.parts.shares.hubs c.args.share h.limit) (sym housed.1) ∙
@@ -63,6 +66,7 @@ returns-then-not-make_room_to_share c =
     (record { book = c.self.inside.book; parts = c.make_room_to_share.new.self; wishes = c.self.inside.wishes }) (Err NoMemory)) c.self.view_is
     (record {
       key = tt;
+      connection = tt;
       done = tt;
       refused = is_wanting housed.0 chosen;
       kept = record { book = refl; parts = c.make_room_to_share.ensures.same; wishes = refl; closings = refl };
@@ -83,6 +87,7 @@ returns-then-not-make_room c =
     (record { book = c.self.inside.book; parts = c.make_room_to_share.new.self; wishes = c.make_room.new.self }) (Err NoMemory)) c.self.view_is
     (record {
       key = tt;
+      connection = tt;
       done = tt;
       refused = is_wanting housed.0 chosen;
       kept = record { book = refl; parts = c.make_room_to_share.ensures.same; wishes = c.make_room.ensures.roles; closings = c.make_room.ensures.closings };
@@ -190,7 +195,8 @@ returns-in-Ok-open c =
     (Ok (record { key = c.in-Ok-open.opened.key; connection = c.in-Ok-open.opened.connected; place = c.in-Ok.place })))
     c.self.view_is
     (record {
-      key = subscribing.number_is;
+      key = record { number = subscribing.number_is; listed = c.settle.ensures.keys.keys c.in-Ok-open.opened.key c.in-Ok-open.ensures.ok.key.listed };
+      connection = second_listed c.open.new.self c.settle.new.book c.settle.ensures.keys c.in-Ok-open.opened.connected c.in-Ok-open.ensures.ok.connected;
       done = (
         record {
           housed = housed.0;
@@ -224,6 +230,7 @@ returns-in-Err-open c =
     (record { book = c.open.new.self; parts = c.make_room_to_share.new.self; wishes = c.make_room.new.self }) (Err c.in-Err-open.why)) c.self.view_is
     (record {
       key = tt;
+      connection = tt;
       done = tt;
       refused = is_refused housed.0 chosen c.in-Err-open.ensures.refused;
       kept = record {

@@ -1,4 +1,4 @@
-use Rattle.std.proofs.Common.{◌≡◌, ◌+◌, ◌<◌, Bool, List, [], length, Some, None, Ok, Err, inr, if◌then◌else◌, refl, sym, ◌∙◌, arith, subst}
+use Rattle.std.proofs.Common.{◌≡◌, ◌<◌, Bool, List, [], length, Some, None, Ok, Err, inr, if◌then◌else◌, refl, sym, ◌∙◌, arith, subst}
 use Rattle.rx_resource.specs.contracts.token.TokenResource.TheImpl.{ghosts}
 use Rattle.rx_resource.specs.declared.Life.TheVariants.{Live}
 use Rattle.rx_resource.specs.declared.token.Token.{Token}
@@ -197,7 +197,7 @@ returns-in-Ok c =
     (record { book = c.settle.new.book; parts = c.settle.new.parts; wishes = c.settle.new.wishes }) (Ok (record { key = node; res = c.in-Ok.used.res })))
     c.self.view_is
     (record {
-      key = used.number_is;
+      key = record { number = used.number_is; listed = c.settle.ensures.keys.keys node o.opened.key.listed };
       done = (
         record {
           middle = o.middle;
@@ -219,7 +219,7 @@ returns-in-Ok c =
           closes = closes;
         },
         refl,
-        used.res_is,
+        record { number = used.res_is; listed = c.settle.ensures.keys.res_keys c.in-Ok.used.res o.res.listed },
       );
       refused = tt;
       kept = tt;

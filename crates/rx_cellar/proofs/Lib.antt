@@ -1,0 +1,2 @@
+pub mod WordsFilled
+pub mod WordsFind

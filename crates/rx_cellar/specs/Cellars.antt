@@ -1,0 +1,134 @@
+-- An engine with what is counted beside it, and what a command makes of it.
+use Rattle.std.specs.Prelude.{◌≡◌, ◌≢◌, ℕ, ◌+◌, ◌*◌, ◌-◌, ◌^◌, nat_lt, min, max, Bool, true, false, List, [], ◌∷◌, length, map, Option, Some, None, option_map, Result, Ok, Err}
+use Rattle.rx_resource.specs.declared.Resource.{Ghosts}
+use Rattle.rx_resource.specs.declared.token.Token.{Token}
+use Rattle.rx_event.specs.declared.refusal.Refusal.{Refusal}
+use Rattle.rx_event.specs.declared.refusal.Refusal.TheVariants.{Full}
+use Rattle.rx_event.specs.Totals.{open_count, held_count}
+use Rattle.rx_roles.specs.declared.effect.Effect.{Effect as Sent}
+use Rattle.rx_roles.specs.declared.effect.What.{What}
+use Rattle.rx_roles.specs.declared.effect.What.TheVariants.{Release}
+use Rattle.rx_engine.specs.States.{State}
+use Rattle.rx_engine.specs.Checkpoints.{IsCheckpointMade}
+use Rattle.rx_engine.specs.Servings.{IsHand}
+use Rattle.rx_typed.specs.Codes.{refusal_status}
+use Rattle.rx_cellar.specs.declared.shapes.Command.{Command}
+use Rattle.rx_cellar.specs.declared.shapes.Answer.{Answer}
+use Rattle.rx_cellar.specs.declared.making.Made.{Made}
+use Rattle.rx_cellar.specs.declared.asked.Asked.{Asked}
+use Rattle.rx_cellar.specs.declared.asked.Asked.TheVariants.{Next}
+use Rattle.rx_cellar.specs.declared.cellar.Cellar.{Cellar}
+use Rattle.rx_cellar.specs.Asking.{asked_of}
+use Rattle.rx_cellar.specs.Crossings.{effect_of, no_answer}
+use Rattle.rx_cellar.specs.Makings.{IsPerformed}
+use Rattle.rx_cellar.specs.Words.{word_of_due}
+
+-- the largest number that is counted
+abbrev pub most : ℕ
+most = 2 ^ 64 - 1
+
+-- where the engine chooses: 65,536 events, and four times what is open and held where that is more
+abbrev pub most_since : State → ℕ
+most_since s = max (min (min (open_count s.book.history + held_count s.book.history) most * 4) most) 65536
+
+abbrev pub is_past : (at count : ℕ) → Option ℕ → Bool
+is_past at count None = false
+is_past at count (Some until) = nat_lt until (count - at)
+
+-- a checkpoint is to be made
+abbrev pub is_due : Cellar → Bool
+is_due s = is_past s.at (length s.engine.book.history) s.until
+
+-- a checkpoint was made, from which events are counted then; or it was refused, and nothing changed
+abbrev pub counts_from : Result ℕ Refusal → State → Cellar → Cellar
+counts_from (Ok at) e s = record s { engine = e; at = at; until = option_map (λ _. most_since e) s.until }
+counts_from (Err why) e s = record s { engine = e }
+
+pub record Tidies (s t : Cellar) : Type 0 where
+  pub answer : Result ℕ Refusal
+  pub made : IsCheckpointMade s.engine t.engine answer
+  pub counts : t ≡ counts_from answer t.engine s
+
+abbrev pub IsTidyIf : Bool → Cellar → Cellar → Type 0
+IsTidyIf true s t = Tidies s t
+IsTidyIf false s t = t ≡ s
+
+-- where one is to be made
+abbrev pub IsTidy : Cellar → Cellar → Type 0
+IsTidy s t = IsTidyIf (is_due s) s t
+
+-- the engine made it, and nothing else changed
+pub record Performs (g : Ghosts Token) (asked : Asked) (by : ℕ) (s t : Cellar) (answer : Result Made Refusal) : Type 0 where
+  pub performed : IsPerformed g asked by s.engine t.engine answer
+  pub only : t ≡ record s { engine = t.engine }
+
+-- made or refused; where the history was full, that is what the second try came to, behind a checkpoint
+pub data IsTried (g : Ghosts Token) (asked : Asked) (by : ℕ) (s t : Cellar) : Result Made Refusal → Type 0 where
+  at_once : {answer : Result Made Refusal} → answer ≢ Err Full → Performs g asked by s t answer → IsTried g asked by s t answer
+  once_more : {answer : Result Made Refusal} (u v : Cellar) → Performs g asked by s u (Err Full) → Tidies u v → Performs g asked by v t answer → IsTried g asked by s t answer
+
+-- so many releases were told with this effect, and without it
+abbrev pub counted : What → ℕ → ℕ
+counted Release n = min (n + 1) most
+counted _ n = n
+
+abbrev pub uncounted : What → ℕ → ℕ
+uncounted Release n = n - 1
+uncounted _ n = n
+
+-- the front of these words is the list, as far as they go
+abbrev pub filled : List ℕ → List ℕ → List ℕ
+filled [] words = words
+filled (x ∷ xs) [] = []
+filled (x ∷ xs) (w ∷ words) = x ∷ filled xs words
+
+-- what was done, as the answer tells it
+abbrev pub told : Made → State → Answer → Answer
+told m e a = record a {
+  node = m.node;
+  other = m.other;
+  is_connected = m.is_connected;
+  hub = m.hub;
+  copies = e.parts.copies;
+  closed = length e.wishes.closings;
+  due = length e.parts.lanes.due;
+  closings = filled e.wishes.closings a.closings;
+  lanes = filled (map word_of_due e.parts.lanes.due) a.lanes;
+}
+
+abbrev pub counted_if : Option Sent → ℕ → ℕ
+counted_if None n = n
+counted_if (Some sent) n = counted sent.what n
+
+abbrev pub with_handed : Option Sent → Answer → Answer
+with_handed None a = a
+with_handed (Some sent) a = record a { handed = 1; effect = effect_of sent }
+
+-- the first effect of the first lane that is due is handed out, by which its release is told
+pub record IsHanded (by : ℕ) (s t : Cellar) (a b : Answer) : Type 0 where
+  pub given : Option Sent
+  pub hand : IsHand s.engine.parts.lanes.due by s.engine t.engine given
+  pub counts : t ≡ record s { engine = t.engine; released = counted_if given s.released }
+  pub answer : b ≡ with_handed given a
+
+abbrev pub HandsOut : Bool → (by : ℕ) → Cellar → Cellar → Answer → Answer → Type 0
+HandsOut true by s t a b = IsHanded by s t a b
+HandsOut false by s t a b = (t ≡ s) × (b ≡ a)
+
+-- only an item hands out, where it says so
+abbrev pub hands : Asked → Bool
+hands (Next leaf value is_asked) = is_asked
+hands _ = false
+
+-- done, and all of it told; or refused, and nothing is told
+pub data IsAskedMade (g : Ghosts Token) (asked : Asked) (by : ℕ) (s t : Cellar) (a b : Answer) : ℕ → Type 0 where
+  is_done : (made : Made) (u v : Cellar) → IsTidy s u → IsTried g asked by u v (Ok made) → HandsOut (hands asked) by v t (told made v.engine a) b → IsAskedMade g asked by s t a b 0
+  is_refused : (why : Refusal) (u : Cellar) → IsTidy s u → IsTried g asked by u t (Err why) → b ≡ a → IsAskedMade g asked by s t a b (refusal_status why)
+
+-- a command, by its numbers
+abbrev pub IsMadeIf : Ghosts Token → Option Asked → (by : ℕ) → Cellar → Cellar → Answer → Answer → ℕ → Type 0
+IsMadeIf g None by s t a b status = (status ≡ 5) × (t ≡ s) × (b ≡ a)
+IsMadeIf g (Some asked) by s t a b status = IsAskedMade g asked by s t a b status
+
+abbrev pub IsCommandMade : Ghosts Token → Command → Cellar → Cellar → Answer → Answer → ℕ → Type 0
+IsCommandMade g c s t a b status = IsMadeIf g (asked_of c) c.by s t (no_answer a) b status

@@ -1,0 +1,185 @@
+//! Who serves a lane takes its effects, by the lane's word.
+
+ghost use Rattle.std.specs.Prelude.{◌≡◌};
+ghost use Rattle.rx_cellar.specs.Words.{named};
+ghost use Rattle.rx_cellar.specs.Serving.{IsTaken, undone_in, sent_of, left_number, given_up_status, IsGivenUp, IsLeftTold, IsRest};
+ghost use Rattle.rx_cellar.specs.Serving.{Gives, uncounted_where, IsTakeTold};
+
+use crate::cellar::{Cellar, counted, uncounted};
+use crate::rest::{fill_closings, fill_lanes};
+use crate::shapes::{Effect, effect_of, inner_of, what_of};
+use crate::words::{is_inside, is_named, place_in, word_of};
+use rx_book::Refusal;
+use rx_lanes::LaneName;
+use rx_roles::Effect as Sent;
+use rx_typed::{DONE, NO_SUCH_CODE, status_of};
+
+// No lane.
+const NO_LANE: u64 = u64::MAX;
+
+// What comes back: nothing, or one effect of a kind that is one.
+fn undone_in(untold: &[Effect]) -> Option<Option<Effect>>
+    ensures { result ≡ undone_in untold.now }
+{
+    if untold.len() == 0 {
+        return Some(None);
+    }
+    if untold.len() > 1 {
+        return None;
+    }
+    let only = untold[0];
+    match what_of(only.kind) {
+        Some(_what) => Some(Some(only)),
+        None => None,
+    }
+}
+
+// What comes back to this lane.
+fn sent_of(name: LaneName, undone: Option<Effect>) -> Option<Sent>
+    ensures { result ≡ sent_of name undone }
+{
+    match undone {
+        Some(effect) => inner_of(name, effect),
+        None => None,
+    }
+}
+
+// Whether something is left, as a number.
+fn left_number(answer: Option<bool>) -> u64
+    ensures { result ≡ left_number answer }
+{
+    match answer {
+        Some(true) => 1,
+        Some(false) => 0,
+        None => 0,
+    }
+}
+
+// Whether it was given up.
+fn given_up_status(answer: Option<bool>) -> u8
+    ensures { result ≡ given_up_status answer }
+{
+    match answer {
+        Some(_left) => DONE,
+        None => status_of(Refusal::Gone),
+    }
+}
+
+// So many releases were told, without what came back, where it was taken back.
+fn uncounted_where(answer: Option<bool>, sent: Option<Sent>, released: u64) -> u64
+    ensures { result ≡ uncounted_where answer sent released }
+{
+    if answer.is_none() {
+        return released;
+    }
+    match sent {
+        Some(effect) => uncounted(effect.what, released),
+        None => released,
+    }
+}
+
+impl Cellar {
+    // The lane that a word names.
+    fn named(&self, word: u64) -> Option<LaneName>
+        ensures { result ≡ named self.now.engine.parts.lanes word }
+    {
+        let name = self.engine.lanes().name_at(place_in(word))?;
+        if is_named(word, name) {
+            Some(name)
+        } else {
+            None
+        }
+    }
+
+    /// Takes the next effect of a lane, for who serves it or may.
+    pub fn take(&mut self, word: u64, by: u64) -> Option<Effect>
+        ensures { IsTaken word by self.old self.new result }
+    {
+        let Some(name) = self.named(word) else {
+            return None;
+        };
+        match self.engine.take(name, is_inside(word), by) {
+            Some(sent) => {
+                self.released = counted(sent.what, self.released);
+                Some(effect_of(sent))
+            }
+            None => None,
+        }
+    }
+
+    /// Takes the next effect, and tells whether there was one.
+    pub fn take_told(&mut self, word: u64, by: u64, effect: &mut Effect, count: &mut u64) -> u8
+        ensures { IsTakeTold word by self.old self.new effect.old effect.new count.new result }
+    {
+        match self.take(word, by) {
+            Some(given) => {
+                *effect = given;
+                *count = 1;
+            }
+            None => *count = 0,
+        }
+        DONE
+    }
+
+    // Lets others serve this lane.
+    fn give(&mut self, name: LaneName, by: u64, sent: Option<Sent>, is_left: &mut u64) -> u8
+        ensures { Gives name by sent self.old self.new is_left.new result }
+    {
+        let answer = self.engine.give_up(name, by, sent);
+        self.released = uncounted_where(answer, sent, self.released);
+        *is_left = left_number(answer);
+        given_up_status(answer)
+    }
+
+    /// Lets others serve a lane; what was taken and not told comes first again.
+    pub fn give_up(&mut self, word: u64, by: u64, untold: &[Effect], is_left: &mut u64) -> u8
+        ensures { IsGivenUp word by untold.now self.old self.new is_left.new result }
+    {
+        *is_left = 0;
+        let Some(undone) = undone_in(untold) else {
+            return NO_SUCH_CODE;
+        };
+        match self.named(word) {
+            Some(name) => self.give(name, by, sent_of(name, undone), is_left),
+            None => status_of(Refusal::Gone),
+        }
+    }
+
+    /// A lane from a place on that has something, and that nobody serves: its word, and the place behind it.
+    pub fn left(&self, from: u64, lane: &mut u64, next: &mut u64) -> u8
+        ensures told { IsLeftTold from self.now lane.new next.new }
+        ensures done { result ≡ 0 }
+    {
+        match self.engine.lanes().left(from as usize) {
+            Some(name) => {
+                *lane = word_of(name);
+                *next = (name.place as u64).saturating_add(1);
+            }
+            None => {
+                *lane = NO_LANE;
+                *next = from;
+            }
+        }
+        DONE
+    }
+
+    /// The rest of the last accepted command's closings (0) or lanes (1), from one on.
+    pub fn rest(&self, which: u8, from: u64, words: &mut [u64], count: &mut u64) -> u8
+        ensures { IsRest which from self.now.engine words.old words.new count.new result }
+    {
+        match which {
+            0 => {
+                *count = fill_closings(&self.engine, from as usize, words) as u64;
+                DONE
+            }
+            1 => {
+                *count = fill_lanes(&self.engine, from as usize, words) as u64;
+                DONE
+            }
+            _ => {
+                *count = 0;
+                NO_SUCH_CODE
+            }
+        }
+    }
+}

@@ -1,0 +1,3 @@
+pub mod CallOnEngine
+pub mod Common
+pub mod Values

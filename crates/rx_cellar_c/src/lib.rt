@@ -1,0 +1,25 @@
+//! The calls of `cellarcliff.h`: an engine behind a handle.
+//!
+//! A call takes a [`CellarHandle`] and numbers, and answers a status of `rx_typed`. Each does what `rx_cellar` says
+//! of the call of its name, on the engine that the handle keeps; where it keeps none nothing is done, and the status
+//! is 1.
+//!
+//! # Promised, and not
+//!
+//! - Each call is one line of `specs/Calls.antt`: what the handle keeps before and after it, and what is told.
+//! - A handle owns what it keeps. Otherwise no pointer is kept: all that a call uses is the caller's, or given back
+//!   before it answers.
+//! - What a C caller must ensure is in the header: no clause can say it.
+#![tactic(auto)]
+
+mod handing;
+mod handle;
+mod loose;
+mod making;
+mod reading;
+mod serving;
+
+pub use handle::CellarHandle;
+pub use making::{cellar_abi, cellar_drop, cellar_finish, cellar_make, cellar_new, cellar_size};
+pub use reading::{cellar_dump, cellar_event, cellar_totals};
+pub use serving::{cellar_give_up, cellar_left, cellar_rest, cellar_take};

@@ -1,0 +1,17 @@
+pub mod MovesOfLanes
+pub mod HubsTellNone
+pub mod RunsOfCommands
+pub mod LawsOfShares
+pub mod LawsOfCourses
+pub mod ClosingsOfCourses
+pub mod OrderOfCourses
+pub mod TellingsOfCourses
+pub mod RunsOfLanes
+pub mod OneAtATime
+pub mod NotesOfCommands
+pub mod EndsOfRoots
+pub mod NotesOfRoots
+pub mod ValuesOfCourses
+pub mod CallsAreCommands
+pub mod BehindLastEffects
+pub mod RefusedCommands

@@ -1,0 +1,11 @@
+pub mod Calls
+pub mod Courses
+pub mod NotesTold
+pub mod NothingBehind
+pub mod Refused
+pub mod RootsTold
+pub mod Runs
+pub mod Serving
+pub mod SharesServed
+pub mod Tellings
+pub mod Values

@@ -1,0 +1,4 @@
+pub mod EffectsInLanes
+pub mod PlainCalls
+pub mod AcrossCheckpoint
+pub mod ClosingEnds

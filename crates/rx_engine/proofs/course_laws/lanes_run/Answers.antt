@@ -1,6 +1,0 @@
-use Rattle.rx_resource.specs.contracts.token.TokenResource.TheImpl.{ghosts}
-use Rattle.rx_engine.proofs.RunsOfLanes.{lanes_run}
-use Rattle.rx_engine.proofs.course_laws.lanes_run.Goals as goal
-
-pub returns : goal.returns
-returns c = lanes_run ghosts

@@ -1,6 +1,0 @@
-use Rattle.rx_resource.specs.contracts.token.TokenResource.TheImpl.{ghosts}
-use Rattle.rx_engine.proofs.LawsOfCourses.{no_note_is_lost}
-use Rattle.rx_engine.proofs.course_laws.no_note_is_lost.Goals as goal
-
-pub returns : goal.returns
-returns c = no_note_is_lost ghosts

@@ -1,6 +1,0 @@
-use Rattle.rx_resource.specs.contracts.token.TokenResource.TheImpl.{ghosts}
-use Rattle.rx_engine.proofs.OrderOfCourses.{tells_in_order}
-use Rattle.rx_engine.proofs.course_laws.tells_in_order.Goals as goal
-
-pub returns : goal.returns
-returns c = tells_in_order ghosts

@@ -1,6 +1,0 @@
-use Rattle.rx_resource.specs.contracts.token.TokenResource.TheImpl.{ghosts}
-use Rattle.rx_engine.proofs.LawsOfCourses.{words_end_once}
-use Rattle.rx_engine.proofs.course_laws.words_end_once.Goals as goal
-
-pub returns : goal.returns
-returns c = words_end_once ghosts

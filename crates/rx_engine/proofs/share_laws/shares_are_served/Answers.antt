@@ -1,6 +1,0 @@
-use Rattle.rx_resource.specs.contracts.token.TokenResource.TheImpl.{ghosts}
-use Rattle.rx_engine.proofs.LawsOfShares.{serves_shares}
-use Rattle.rx_engine.proofs.share_laws.shares_are_served.Goals as goal
-
-pub returns : goal.returns
-returns c = serves_shares ghosts

@@ -1,0 +1,12 @@
+use Rattle.std.proofs.Common.{List, ℕ, take, sym, ap, subst, ◌≡◌, ◌∙◌}
+use Rattle.std.specs.Prelude.{IsUtf8}
+use Rattle.std.specs.List.{prefix_len}
+use Rattle.rx_scenario.specs.Reading.{is_name_byte}
+use Rattle.rx_line.proofs.WordsLexed.{word_utf8}
+use Rattle.rx_line.proofs.free.word_in.Goals as goal
+
+pub unreachable-requires : goal.unreachable-requires
+unreachable-requires c =
+    let q : List ℕ = c.in_ok-quoted.quoted.now in
+    let word : IsUtf8 (take c.name_len-len.result q) = subst (λ n. IsUtf8 (take n q)) (sym c.name_len-len.ensures.value) (word_utf8 q) in
+    c.in-Err.ensures.cases.0 word
