@@ -71,7 +71,17 @@ impl Effects {
         ensures list { self.new.list ≡ self.old.list }
         ensures room { self.old.room ≤ self.new.room }
     {
-        self.list.reserve(many)
+        if many <= self.list.capacity() - self.list.len() {
+            return Ok(());
+        }
+        if self
+            .list
+            .reserve_exact(many.saturating_add(many / 4))
+            .is_ok()
+        {
+            return Ok(());
+        }
+        self.list.reserve_exact(many)
     }
 
     /// Puts an effect behind the others. It takes no memory.

@@ -1,12 +1,11 @@
 //! Roles by the number of their node.
 
-ghost use Rattle.std.specs.Prelude.{◌≡◌, ◌+◌, ◌<◌, ◌≤◌, [], ◌∷◌, ◌++◌, OnOk, option_map, length};
+ghost use Rattle.std.specs.Prelude.{ℕ, ◌≡◌, ◌≢◌, ◌+◌, ◌-◌, ◌<◌, ◌≤◌, [], ◌∷◌, ◌++◌, OnOk, IfSome, IfNone, option_map, length, vec_capacity, vec_len, None};
 ghost use Rattle.rx_roles.specs.Roles.{role_of, without, AreBelow};
-ghost use Rattle.rx_roles.specs.RolesByNumber.{role_said};
+ghost use Rattle.rx_roles.specs.RolesByNumber.{role_said, row_at, roles_in, IsRising, IsKept, Keeps};
 
 use rx_lanes::LaneName;
 use std::alloc::{AllocError, Global};
-use std::collections::HashMap;
 use std::marker::Model;
 
 /// What a node or a resource has to end with one last effect.
@@ -27,21 +26,34 @@ pub(crate) struct Said {
     pub(crate) lane: LaneName,
 }
 
-/// The roles of one sort, found by number in a number of steps that does not grow with them.
+// A number, and its role; none where it was taken.
+#[derive(Clone, Copy)]
+pub(crate) struct Row {
+    pub(crate) number: u64,
+    pub(crate) said: Option<Said>,
+}
+
+/// The roles of one sort, in the order of their numbers. What is looked up is sought from the newest on, in steps
+/// that double: the newest are asked for most.
 ///
 /// Contracts see them as a list in the order of their numbers.
 #[derive(Drop)]
 pub struct Roles {
-    by_number: HashMap<u64, Said>,
+    // Their numbers rise.
+    rows: Vec<Row>,
+    // How many of the rows have a role.
+    live: usize,
 }
 
 impl Model for Roles {
     ghost use Rattle.rx_roles.specs.Roles.{Table};
-    ghost use Rattle.rx_roles.specs.RolesByNumber.{table_of};
+    ghost use Rattle.rx_roles.specs.RolesByNumber.{table_of, IsKept};
 
     ghost Value = { Table };
 
     ghost view = { table_of };
+
+    ghost invariant = { λ s. IsKept s.rows.items s.live };
 }
 
 // What is kept under a number, with the number.
@@ -59,13 +71,134 @@ fn role_said(number: u64, said: Option<Said>) -> Option<Role>
     }
 }
 
+// The place of the row of a number.
+fn place_of(rows: &Vec<Row>, number: u64) -> Option<usize>
+    requires { IsRising rows.now.items }
+    ensures some { IfSome result (λ i. (i < length rows.now.items) × ((row_at rows.now.items i).number ≡ number)) }
+    ensures none { IfNone result ((i : ℕ) → i < length rows.now.items → (row_at rows.now.items i).number ≢ number) }
+{
+    let mut low = 0;
+    let mut high = rows.len();
+    let mut step = 1;
+    while low < high {
+        let middle = if step < high - low {
+            high - step
+        } else {
+            low + (high - low) / 2
+        };
+        if rows[middle].number < number {
+            low = middle + 1;
+            step = usize::MAX;
+        } else {
+            high = middle;
+            step = step.saturating_mul(2);
+        }
+    }
+    if low < rows.len() && rows[low].number == number {
+        Some(low)
+    } else {
+        None
+    }
+}
+
+// The last row goes, where its role was taken.
+fn drop_taken(rows: &mut Vec<Row>)
+    requires { IsRising rows.old.items }
+    ensures same { roles_in rows.new.items ≡ roles_in rows.old.items }
+    ensures rising { IsRising rows.new.items }
+{
+    let many = rows.len();
+    if many > 0 && rows[many - 1].said.is_none() {
+        rows.truncate(many - 1);
+    }
+}
+
+// The last rows go, whose numbers are not below this one, where no role has such a number.
+fn drop_above(rows: &mut Vec<Row>, number: u64)
+    requires rising { IsRising rows.old.items }
+    requires below { AreBelow (roles_in rows.old.items) number }
+    ensures same { roles_in rows.new.items ≡ roles_in rows.old.items }
+    ensures rising { IsRising rows.new.items }
+    ensures below { (i : ℕ) → i < length rows.new.items → (row_at rows.new.items i).number < number }
+    ensures capacity { vec_capacity rows.new ≡ vec_capacity rows.old }
+    ensures shorter { length rows.new.items ≤ length rows.old.items }
+{
+    let mut many = rows.len();
+    while many > 0 && rows[many - 1].number >= number {
+        many -= 1;
+    }
+    rows.truncate(many);
+}
+
+// The row at a place is the next that is left, behind so many, where it has a role. How many are left then.
+#[inline(always)]
+fn keep_row(rows: &mut Vec<Row>, at: usize, kept: usize) -> usize
+    requires within { at < length rows.old.items }
+    requires before { kept ≤ at }
+    ensures { Keeps rows.old.items rows.new.items at kept result }
+{
+    let row = rows[at];
+    if row.said.is_none() {
+        return kept;
+    }
+    rows[kept] = row;
+    kept + 1
+}
+
+// Only the rows that have a role are left.
+#[cold]
+#[inline(never)]
+fn squeeze(rows: &mut Vec<Row>)
+    requires { IsRising rows.old.items }
+    ensures same { roles_in rows.new.items ≡ roles_in rows.old.items }
+    ensures rising { IsRising rows.new.items }
+{
+    let mut kept = 0;
+    for at in 0..rows.len() {
+        kept = keep_row(rows, at, kept);
+    }
+    rows.truncate(kept);
+}
+
+// The role of the row at a place is taken, where so many rows have one. How many have one then.
+#[inline(always)]
+fn take_at(rows: &mut Vec<Row>, place: usize, live: usize) -> usize
+    requires within { place < length rows.old.items }
+    requires kept { IsKept rows.old.items live }
+    ensures same { roles_in rows.new.items ≡ without (roles_in rows.old.items) (row_at rows.old.items place).number }
+    ensures kept { IsKept rows.new.items result }
+{
+    let row = rows[place];
+    rows[place] = Row {
+        number: row.number,
+        said: None,
+    };
+    if row.said.is_none() {
+        return live;
+    }
+    live - 1
+}
+
+// Room for so many more, or for a quarter of them where that is more and there is memory for it.
+fn lengthen(rows: &mut Vec<Row>, many: usize) -> Result<(), AllocError>
+    ensures ok { OnOk result (many ≤ vec_capacity rows.new - vec_len rows.new) }
+    ensures same { rows.new.items ≡ rows.old.items }
+{
+    let quarter = rows.len() / 4;
+    if many < quarter && rows.reserve_exact(quarter).is_ok() {
+        return Ok(());
+    }
+    rows.reserve_exact(many)
+}
+
 impl Roles {
     /// No role. It takes no memory.
     pub fn new(alloc: Global) -> Roles
         ensures { result.list ≡ [] }
     {
         Roles {
-            by_number: HashMap::new(alloc),
+            rows: Vec::new(alloc),
+            live: 0,
         }
     }
 
@@ -73,7 +206,7 @@ impl Roles {
     pub fn len(&self) -> usize
         ensures { result ≡ length self.now.list }
     {
-        self.by_number.len()
+        self.live
     }
 
     /// Gets room for so many more.
@@ -81,7 +214,13 @@ impl Roles {
         ensures ok { OnOk result (many ≤ self.new.room) }
         ensures list { self.new.list ≡ self.old.list }
     {
-        self.by_number.reserve(many)
+        if many <= self.rows.capacity() - self.rows.len() {
+            return Ok(());
+        }
+        if self.live <= self.rows.len() / 2 {
+            squeeze(&mut self.rows);
+        }
+        lengthen(&mut self.rows, many)
     }
 
     /// Adds a role, whose number lies above all others. It takes no memory.
@@ -91,20 +230,23 @@ impl Roles {
         ensures list { self.new.list ≡ self.old.list ++ role ∷ [] }
         ensures room { self.old.room ≤ self.new.room + 1 }
     {
-        let said = Said {
-            word: role.word,
-            lane: role.lane,
-        };
-        let Ok(_) = self.by_number.insert(role.number, said) else {
-            unreachable!()
-        };
+        drop_above(&mut self.rows, role.number);
+        self.rows.push_reserved(Row {
+            number: role.number,
+            said: Some(Said {
+                word: role.word,
+                lane: role.lane,
+            }),
+        });
+        self.live += 1;
     }
 
     /// The role of this number.
     pub fn get(&self, number: u64) -> Option<Role>
         ensures { result ≡ role_of self.now.list number }
     {
-        role_said(number, self.by_number.get(&number).copied())
+        let place = place_of(&self.rows, number)?;
+        role_said(number, self.rows[place].said)
     }
 
     /// Takes the role of this number away. It takes no memory.
@@ -112,6 +254,11 @@ impl Roles {
         ensures value { result ≡ role_of self.old.list number }
         ensures list { self.new.list ≡ without self.old.list number }
     {
-        role_said(number, self.by_number.remove(&number))
+        let place = place_of(&self.rows, number)?;
+        let said = self.rows[place].said;
+        self.live = take_at(&mut self.rows, place, self.live);
+        drop_taken(&mut self.rows);
+        drop_taken(&mut self.rows);
+        role_said(number, said)
     }
 }
