@@ -23,8 +23,8 @@
 //!   completion back: a FlatMap completes once its source and all inners have completed and nothing is
 //!   owed, a Switch once its source and its latest inner have. That inners are opened by hand, and what
 //!   is owed counts, is this project's own.
-//! - A **resource** is **held** as long as its node is open or a **lease** of it is out, **waits** from
-//!   then on, and is **taken** by [`Book::take`], which gives it as an `rx_resource::Handed` that can only
+//! - A **resource** is **held** as long as its node is open and it was not removed, or a **lease** of it is
+//!   out, **waits** from then on, and is **taken** by [`Book::take`], which gives it as an `rx_resource::Handed` that can only
 //!   be released. A lease is given out by [`Book::lease`] and named by a [`LeaseKey`].
 //! - A **note** tells the observer at a root of an item or of the end. [`Book::take_mail`] hands the
 //!   notes out as [`Mail`].

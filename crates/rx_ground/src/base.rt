@@ -229,8 +229,9 @@ impl<R: Resource> Ground<R> {
     /// Gets room for what is wanted in all, with what is kept for closing everything counted in. Where there
     /// are hubs, a subscriber may then stand at each slot of the tree.
     ///
-    /// An error comes where memory is refused, and where the count of nodes or of hubs would pass `usize`; then
-    /// some of the room may have been gotten, and nothing else changed.
+    /// An error comes where memory is refused, where a store would have more than 536,870,912 entries, and where
+    /// the count of nodes or of hubs would pass `usize`; then some of the room may have been gotten, and nothing
+    /// else changed.
     #[inline(always)]
     pub fn reserve(&mut self, wanted: Wanted) -> Result<(), AllocError>
         requires within { length self.old.register.history + wanted.events ≤ self.old.register.base.at_length +

@@ -205,8 +205,8 @@ impl<R: Resource> Ground<R> {
 
     /// Gets room for what a call wants, beside what is kept for closing everything.
     ///
-    /// `NoMemory` where memory is refused; then some of the room may have been gotten, and nothing else
-    /// changed.
+    /// `NoMemory` where memory is refused, or a store would have more than 536,870,912 entries; then some of
+    /// the room may have been gotten, and nothing else changed.
     #[inline(always)]
     pub fn make_room(&mut self, wanted: Wanted) -> Result<(), Refusal>
         requires standing { IsStanding R.Resource self.old }

@@ -87,7 +87,8 @@ impl Leases {
 
     /// Makes room for `additional` leases more, so that giving out as many takes no memory.
     ///
-    /// Refused only where there was less room and memory was refused. No lease changes either way.
+    /// Refused only where there was less room, and memory was refused or there would be more than
+    /// 536,870,912 leases. No lease changes either way.
     #[inline(always)]
     pub(crate) fn reserve(&mut self, additional: usize) -> Result<(), AllocError>
         ensures ok { OnOk result (additional ≤ self.new.room) }

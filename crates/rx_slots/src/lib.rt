@@ -125,7 +125,8 @@ impl<T> Slots<T> {
 
     /// Makes room for `additional` values more, so that as many inserts succeed and take no memory.
     ///
-    /// Refused only where there was less room and memory was refused. No entry changes either way.
+    /// Refused only where there was less room, and memory was refused or there would be more than
+    /// 536,870,912 entries. No entry changes either way.
     #[inline(always)]
     pub fn reserve(&mut self, additional: usize) -> Result<(), AllocError>
         ensures ok { OnOk result (additional ≤ self.new.room) }
@@ -162,8 +163,8 @@ impl<T> Slots<T> {
 
     /// Puts a value at the next slot, under a number that its caller gives.
     ///
-    /// Refused only where there was no room and memory was refused: the value then comes back, and
-    /// the same call uses the same slot once there is memory.
+    /// Refused only where there was no room, and memory was refused or there are 536,870,912 entries: the
+    /// value then comes back, and the same call uses the same slot once there is room.
     pub fn insert(&mut self, number: u64, value: T) -> Result<Key, T>
         // The value goes to the next slot, which was free, and no other slot changes.
         ensures numbered { IfOk result (λ key. key.number ≡ number) }

@@ -213,7 +213,7 @@ impl<T: Drop> Records<T> {
     ghost use Rattle.rx_slots.specs.Slots.{entry_of, slot_count, placed, entry_at, find, Changes, KeepsOthers};
 
     /// Puts a value at the next slot, under a number that its caller gives. Refused only where there was no
-    /// room and memory was refused.
+    /// room, and memory was refused or there are 536,870,912 entries.
     #[inline(always)]
     pub fn insert(&mut self, number: u64, value: T) -> Result<Key, AllocError>
         // The value goes to the next slot, which was free, and no other slot changes.

@@ -102,8 +102,8 @@ impl<R: Resource> Tree<R> {
     }
 
     /// Makes room for `additional` nodes more, so that as many calls of `open` succeed and take no
-    /// memory. Refused only where there was less room and memory was refused. Nothing else changes
-    /// either way.
+    /// memory. Refused only where there was less room, and memory was refused or there would be more
+    /// than 536,870,912. Nothing else changes either way.
     pub fn reserve(&mut self, additional: usize) -> Result<(), AllocError>
         ensures ok { OnOk result (additional ≤ self.new.nodes.room) }
         ensures succeeds { additional ≤ self.old.nodes.room → IsOk result }
@@ -115,8 +115,8 @@ impl<R: Resource> Tree<R> {
     }
 
     /// Makes room for `additional` resources more, so that as many calls of `hold` succeed and take no
-    /// memory. Refused only where there was less room and memory was refused. Nothing else changes
-    /// either way.
+    /// memory. Refused only where there was less room, and memory was refused or there would be more
+    /// than 536,870,912. Nothing else changes either way.
     pub fn reserve_resources(&mut self, additional: usize) -> Result<(), AllocError>
         ensures ok { OnOk result (additional ≤ self.new.resources.room) }
         ensures succeeds { additional ≤ self.old.resources.room → IsOk result }
@@ -287,7 +287,8 @@ impl<R: Resource> Tree<R> {
     ///
     /// The event is the Open or Connect that makes the node, and `above` the key of the node that its
     /// place names, None for a root or a connection; with the key the parent needs no search.
-    /// Refused only where there was no room and memory was refused; then nothing else changes.
+    /// Refused only where there was no room, and memory was refused or there are 536,870,912 nodes; then
+    /// nothing else changes.
     #[inline(always)]
     pub fn open(&mut self, number: u64, made: Event, above: Option<Key>) -> Result<Key, AllocError>
         requires newest { IsNewest self.old number }
@@ -502,8 +503,8 @@ impl<R: Resource> Tree<R> {
 
     /// Adds a resource that is held at the node, and gives its key.
     ///
-    /// Refused only where there was no room and memory was refused: the resource then comes back, and
-    /// nothing else changes.
+    /// Refused only where there was no room, and memory was refused or there are 536,870,912 resources:
+    /// the resource then comes back, and nothing else changes.
     #[inline(always)]
     pub fn hold(&mut self, key: Key, number: u64, resource: R) -> Result<ResKey, R>
         requires open { IsSome (find self.old.nodes key) }
