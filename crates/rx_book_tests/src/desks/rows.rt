@@ -3,7 +3,8 @@
 
 use super::desk_calls::{Ask, Call, Deed, Hub, Use};
 use super::trials::{Trial, assert_all};
-use rx_event::{Kind, Mode, Place, Terminal};
+use rx_event::{Event, Kind, Mode, Place, Terminal};
+use rx_ledger::Receipt;
 
 const DONE: Terminal = Terminal::Completed;
 
@@ -342,7 +343,34 @@ None
 Closed { released: 0, faults: 0 }
 ";
 
-const EXAMPLES: [(Trial, &str); 10] = [
+// An event is at its place for a receipt only while no checkpoint took it away.
+const PAUSED: [Call; 3] = [
+    Call::Using(Place::Root, 7),
+    Call::Hub(Hub::Checkpoint),
+    Call::At(0, Deed::Dispose),
+];
+
+const OF_BOTH: [Receipt; 2] = [
+    Receipt {
+        place: 2,
+        event: Event::Close(0),
+    },
+    Receipt {
+        place: 1,
+        event: Event::Accept(0, 7),
+    },
+];
+
+const PAUSED_TOLD: &str = "\
+Ok(0)
+Ok(2)
+Ok(2)
+Err(Receipt { place: 1 })
+None
+Closed { released: 1, faults: 0 }
+";
+
+const EXAMPLES: [(Trial, &str); 11] = [
     (Trial::Calls(1000, &ASKED, &[]), ASKED_TOLD),
     (Trial::Calls(1000, &PROJECTED, &[]), PROJECTED_TOLD),
     (Trial::Calls(1000, &BY_HAND, &[]), BY_HAND_TOLD),
@@ -353,6 +381,7 @@ const EXAMPLES: [(Trial, &str); 10] = [
     (Trial::Calls(1000, &REMOVED, &[]), REMOVED_TOLD),
     (Trial::Calls(1000, &LENT, &[]), LENT_TOLD),
     (Trial::Calls(8, &LENT_ONCE, &[]), LENT_ONCE_TOLD),
+    (Trial::Calls(1000, &PAUSED, &OF_BOTH), PAUSED_TOLD),
 ];
 
 #[test]
