@@ -1,8 +1,8 @@
 -- What a thread emits, number by number.
-use Rattle.rx_storm.proofs.Common.{◌≡◌, ℕ, zero, suc, ◌+◌, ◌-◌, ◌≤◌, ◌<◌, List, [], ◌∷◌, ◌++◌, map, length, take, refl, sym, ap, ◌∙◌, arith, ◌≢◌, ℤ, pos, Ok}
-use Rattle.rx_storm.proofs.Common.{cond, Result, Err, OnOk, IfErr, map-append, append_assoc, append-nil, sum_by-cons, take-length, sum_by, Completed, Event}
-use Rattle.rx_storm.proofs.Common.{End, Refusal, is_item, Emitting, Shares, Receipt, Pull, Stop, seat_after, event_of, items_in, AreOfPulls, IsFed, count_up}
-use Rattle.rx_storm.proofs.Common.{items_at, events_of, HasEmitted}
+use Rattle.rx_storm.proofs.Common.{◌≡◌, ℕ, zero, suc, ◌+◌, ◌-◌, ◌≤◌, ◌<◌, List, [], ◌∷◌, ◌++◌, map, length, take, refl, sym, ap, ◌∙◌, arith, ◌≢◌, ℤ, pos, Ok, rules}
+use Rattle.rx_storm.proofs.Common.{cond, Result, Err, OnOk, OnErr, IfErr, map-append, append_assoc, append-nil, sum_by-cons, take-length, sum_by, Completed, Event}
+use Rattle.rx_storm.proofs.Common.{End, Refusal, is_item, Shares, Receipt, Pull, Stop, event_of, items_in, AreOfPulls, IsFed, count_up}
+use Rattle.rx_storm.proofs.Common.{items_at, events_of, HasBegun, HasEmitted, HasEmittedSome}
 use Rattle.rx_event.specs.declared.event.Event.TheVariants.{Item}
 use Rattle.rx_crew.specs.declared.working.Stop.TheVariants.{Done, Turns, Refused}
 
@@ -35,28 +35,83 @@ none_counted seat none is =
     ap (λ (n : ℕ). record seat { items = n }) same
 
 -- one number more, with its receipt
-pub items_at-more : (leaf first number : ℕ) (before : List Event) (receipts receipts' : List Receipt) (receipt : Receipt) → first ≤ number
-    → events_of receipts ≡ before ++ items_at leaf first (number - first) → receipts' ≡ receipts ++ receipt ∷ []
-    → receipt.event ≡ Item leaf (pos number) → events_of receipts' ≡ before ++ items_at leaf first (number + 1 - first)
-items_at-more leaf first number before receipts receipts' receipt within so_far kept is =
+pub items_at-more : (leaf first number : ℕ) (before now next : List Event) → first ≤ number
+    → now ≡ before ++ items_at leaf first (number - first) → next ≡ now ++ Item leaf (pos number) ∷ []
+    → next ≡ before ++ items_at leaf first (number + 1 - first)
+items_at-more leaf first number before now next within so_far more =
     let one : number + 1 - first ≡ (number - first) + 1 = omega (arith, within) in
-    let next : first + (number - first) ≡ number = omega (arith, within) in
+    let here : first + (number - first) ≡ number = omega (arith, within) in
     let step : items_at leaf first (number + 1 - first) ≡ items_at leaf first (number - first) ++ Item leaf (pos number) ∷ [] =
     ap (items_at leaf first) one ∙ items_at-add leaf first (number - first) 1
-    ∙ ap (λ (n : ℕ). items_at leaf first (number - first) ++ Item leaf (pos n) ∷ []) next in
-    events_of-kept receipts receipts' receipt kept
-    ∙ ap (λ (l : List Event). l ++ receipt.event ∷ []) so_far
-    ∙ ap (λ (e : Event). before ++ items_at leaf first (number - first) ++ e ∷ []) is
+    ∙ ap (λ (n : ℕ). items_at leaf first (number - first) ++ Item leaf (pos n) ∷ []) here in
+    more ∙ ap (λ (l : List Event). l ++ Item leaf (pos number) ∷ []) so_far
     ∙ append_assoc before (items_at leaf first (number - first)) (Item leaf (pos number) ∷ [])
     ∙ ap (λ (l : List Event). before ++ l) (sym step)
 
 -- the seat counts it
-pub one_counted : (leaf : ℕ) (value : ℤ) (first number : ℕ) (seat now next : Shares) → first ≤ number
-    → now ≡ record seat { items = seat.items + (number - first) } → next ≡ seat_after (Emitting leaf value) now
+pub one_counted : (first number : ℕ) (seat now next : Shares) → first ≤ number
+    → now ≡ record seat { items = seat.items + (number - first) } → next ≡ record now { items = now.items + 1 }
     → next ≡ record seat { items = seat.items + (number + 1 - first) }
-one_counted leaf value first number seat now next within so_far counts =
+one_counted first number seat now next within so_far counts =
     let sum : (seat.items + (number - first)) + 1 ≡ seat.items + (number + 1 - first) = omega (arith, within) in
-    counts ∙ ap (seat_after (Emitting leaf value)) so_far ∙ ap (λ (n : ℕ). record seat { items = n }) sum
+    counts ∙ ap (λ (s : Shares). record s { items = s.items + 1 }) so_far ∙ ap (λ (n : ℕ). record seat { items = n }) sum
+
+-- where a number is refused, those before it are emitted
+pub begun_before : (leaf first number end : ℕ) (seat now seat' : Shares) (receipts kept receipts' : List Receipt) → first ≤ number
+    → number < end → events_of kept ≡ events_of receipts ++ items_at leaf first (number - first)
+    → now ≡ record seat { items = seat.items + (number - first) } → receipts' ≡ kept → seat' ≡ now
+    → HasBegun leaf first end seat seat' receipts receipts'
+begun_before leaf first number end seat now seat' receipts kept receipts' from below so_far counted same still = record {
+  count = number - first;
+  within = omega (arith, from, below);
+  events = ap events_of same ∙ so_far;
+  counted = still ∙ counted;
+}
+
+-- where a batch is refused, those before it and a part of it are emitted
+pub begun_within : (leaf next end items : ℕ) (seat now seat' : Shares) (receipts kept receipts' : List Receipt) → end ≤ items
+    → events_of kept ≡ events_of receipts ++ items_at leaf 0 next → now ≡ record seat { items = seat.items + next }
+    → HasBegun leaf next end now seat' kept receipts' → HasBegun leaf 0 items seat seat' receipts receipts'
+begun_within leaf next end items seat now seat' receipts kept receipts' up so_far counted part =
+    let n = part.count in
+    let within : next + n ≤ end = part.within in
+    let here : 0 + next ≡ next = omega arith in
+    let both : items_at leaf 0 (next + n) ≡ items_at leaf 0 next ++ items_at leaf next n =
+    items_at-add leaf 0 next n ∙ ap (λ (m : ℕ). items_at leaf 0 next ++ items_at leaf m n) here in
+    let sum : (seat.items + next) + n ≡ seat.items + (next + n) = omega arith in
+    record {
+      count = next + n;
+      within = omega (arith, within, up);
+      events = part.events ∙ ap (λ (l : List Event). l ++ items_at leaf next n) so_far
+          ∙ append_assoc (events_of receipts) (items_at leaf 0 next) (items_at leaf next n)
+          ∙ ap (λ (l : List Event). events_of receipts ++ l) (sym both);
+      counted = part.counted ∙ ap (λ (s : Shares). record s { items = s.items + n }) counted ∙ ap (λ (m : ℕ). record seat { items = m }) sum;
+    }
+
+-- where the completion is refused, all are emitted
+pub begun_all : (leaf items : ℕ) (seat seat' : Shares) (receipts kept receipts' : List Receipt)
+    → events_of kept ≡ events_of receipts ++ items_at leaf 0 items → seat' ≡ record seat { items = seat.items + items }
+    → receipts' ≡ kept → HasBegun leaf 0 items seat seat' receipts receipts'
+begun_all leaf items seat seat' receipts kept receipts' all counted same = record {
+  count = items;
+  within = omega arith;
+  events = ap events_of same ∙ all;
+  counted = counted;
+}
+
+-- a thread that had no receipt before
+pub begun_anew : (leaf items : ℕ) (first opened seat : Shares) (receipts receipts' : List Receipt) → receipts ≡ []
+    → opened ≡ record first { accepted = first.accepted + 1 } → HasBegun leaf 0 items opened seat receipts receipts'
+    → HasEmittedSome items first seat receipts'
+begun_anew leaf items first opened seat receipts receipts' none opens begun =
+    let within : 0 + begun.count ≤ items = begun.within in
+    record {
+      leaf = leaf;
+      emitted = begun.count;
+      within = omega (arith, within);
+      events = begun.events ∙ ap (λ (l : List Receipt). events_of l ++ items_at leaf 0 begun.count) none;
+      counted = begun.counted ∙ ap (λ (s : Shares). record s { items = s.items + begun.count }) opens;
+    }
 
 -- the numbers up to one, and then those up to another
 pub items_at-joined : (leaf next end : ℕ) (before now more : List Event) → next ≤ end
@@ -133,6 +188,16 @@ pub never_over : (emitted : Result (Unit {0}) Refusal) (stop : Stop) → OnOk em
     → stop ≢ Turns
 never_over (Ok x) stop done refused = λ is. let told : stop ≡ Done = done in cc
 never_over (Err why) stop done refused = λ is. let told : stop ≡ Refused why = refused in cc
+
+-- where what was refused is passed on
+pub on_err : {A E : Type 0} (result : Result A E) (P : Type 0) → P → OnErr result P
+on_err result P holds = search rules
+
+-- one that is not done got a refusal
+pub refused_alone : (emitted : Result (Unit {0}) Refusal) (stop : Stop) (P : Type 0) → OnOk emitted (stop ≡ Done) → OnErr emitted P
+    → stop ≢ Done → P
+refused_alone (Ok x) stop P done holds is = let told : stop ≡ Done = done in absurd (is told)
+refused_alone (Err why) stop P done holds is = holds
 
 -- a feed of all that such a source gives has emitted it, and its turns are never over
 pub fed_whole : (leaf items count turns : ℕ) (pulls after : List Pull) (first opened seat : Shares) (receipts : List Receipt) (stop : Stop)

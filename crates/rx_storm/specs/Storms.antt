@@ -1,5 +1,5 @@
 -- What a storm gives, and what it tells.
-use Rattle.std.specs.Prelude.{◌≡◌, Option, Some, None, Result, Ok, Err, is_ok, ℕ, zero, suc, pos, ◌+◌, ◌-◌, min, Bool, List, [], ◌∷◌, ◌++◌, codes, length, map}
+use Rattle.std.specs.Prelude.{◌≡◌, Option, Some, None, Result, Ok, Err, is_ok, ℕ, zero, suc, pos, ◌+◌, ◌-◌, ◌≤◌, min, Bool, List, [], ◌∷◌, ◌++◌, codes, length, map}
 use Rattle.std.specs.Fmt.{decimal}
 use Rattle.std.specs.Io.KnownBytes.{Appends}
 use Rattle.rx_note.specs.declared.note.Terminal.TheVariants.{Completed}
@@ -35,16 +35,28 @@ items_at leaf from (suc count) = ItemAt leaf (pos from) ∷ items_at leaf (suc f
 abbrev pub events_of : List Receipt → List Event
 events_of receipts = map (λ r. r.event) receipts
 
--- the receipt of an event at its place
-abbrev pub receipt_at : (place : ℕ) → Event → Receipt
-receipt_at place event = record { place = place; event = event }
-
 -- a thread emitted so many numbers at a leaf, from 0 on, and completed it: it has a receipt for each of these events, in
 -- order, and its seat counts the items and one resource that was accepted
 pub record HasEmitted (count : ℕ) (first seat : Shares) (receipts : List Receipt) : Type 0 where
   pub leaf : ℕ
   pub events : events_of receipts ≡ map (event_of leaf) (count_up 0 count)
   pub counted : seat ≡ record first { items = first.items + count; accepted = first.accepted + 1 }
+
+-- of the numbers from the first one on and below the end a leaf emitted those below another: each has its receipt, and the
+-- seat counts them
+pub record HasBegun (leaf first end : ℕ) (seat seat' : Shares) (receipts receipts' : List Receipt) : Type 0 where
+  pub count : ℕ
+  pub within : first + count ≤ end
+  pub events : events_of receipts' ≡ events_of receipts ++ items_at leaf first count
+  pub counted : seat' ≡ record seat { items = seat.items + count }
+
+-- a thread that was refused emitted so many of these numbers at a leaf, and did not complete it
+pub record HasEmittedSome (count : ℕ) (first seat : Shares) (receipts : List Receipt) : Type 0 where
+  pub leaf : ℕ
+  pub emitted : ℕ
+  pub within : emitted ≤ count
+  pub events : events_of receipts ≡ items_at leaf 0 emitted
+  pub counted : seat ≡ record first { items = first.items + emitted; accepted = first.accepted + 1 }
 
 -- one figure a line, after its name
 unfoldable pub first_lines : Figures → List ℕ

@@ -1,14 +1,14 @@
 //! Items in batches: a feeding thread that takes the desk's lock once for several.
 
-ghost use Rattle.std.specs.Prelude.{◌≡◌, ◌≢◌, ◌<◌, ◌≤◌, ◌+◌, ◌-◌, ◌++◌, ◌∷◌, [], pos, IfSome, IfErr, OnOk};
+ghost use Rattle.std.specs.Prelude.{◌≡◌, ◌≢◌, ◌<◌, ◌≤◌, ◌+◌, ◌-◌, ◌++◌, ◌∷◌, [], pos, vec_len, vec_capacity, IfSome, IfErr, OnOk, OnErr};
 ghost use Rattle.rx_event.specs.declared.event.Event.{Event};
 ghost use Rattle.rx_note.specs.declared.note.Terminal.{Terminal};
 ghost use Rattle.rx_crew.specs.declared.working.Stop.{Stop};
-ghost use Rattle.rx_storm.specs.Storms.{items_at, events_of, receipt_at, HasEmitted};
+ghost use Rattle.rx_storm.specs.Storms.{items_at, events_of, HasBegun, HasEmitted, HasEmittedSome};
 
 use crate::opening::open_leaf;
 use rx_book::Key;
-use rx_crew::{Desk, Fed, Stop};
+use rx_crew::{Desk, Fed, Floor, Stop};
 use rx_event::{Event, Refusal, Terminal};
 use rx_ledger::{Receipt, Seat};
 use rx_resource::Resource;
@@ -40,18 +40,42 @@ fn item_at(leaf: Key, number: u32) -> Event
     Event::Item(leaf.number, i64::from(number))
 }
 
-/// Keeps the receipt of an event at its place; or answers that memory is lacking.
-fn keep_receipt(receipts: &mut Vec<Receipt>, place: u64, event: Event) -> Result<(), Refusal>
-    ensures { OnOk result (receipts.new.items ≡ receipts.old.items ++ receipt_at place event ∷ []) }
+/// Gets room for one receipt more; or answers that memory is lacking.
+fn make_place(receipts: &mut Vec<Receipt>) -> Result<(), Refusal>
+    ensures room { OnOk result (vec_len receipts.new < vec_capacity receipts.new) }
+    ensures same { receipts.new.items ≡ receipts.old.items }
 {
-    match receipts.push(Receipt { place, event }) {
+    match receipts.reserve(1) {
         Ok(()) => Ok(()),
         Err(_) => Err(Refusal::NoMemory),
     }
 }
 
+/// Emits a number at a leaf, and keeps its receipt, for which memory is asked before. A refusal changes nothing.
+fn emit_one<R: Resource, I: Ledger, A: Ledger, K: Ledger>(
+    floor: &mut Floor<R, I, A, K>,
+    seat: &mut Seat<I, A, K>,
+    receipts: &mut Vec<Receipt>,
+    leaf: Key,
+    number: u32,
+) -> Result<(), Refusal>
+    ensures emitted { OnOk result (events_of receipts.new.items
+        ≡ events_of receipts.old.items ++ Event.Item leaf.number (pos number) ∷ []) }
+    ensures counted { OnOk result (seat.new ≡ record seat.old { items = seat.old.items + 1 }) }
+    ensures kept { OnErr result (receipts.new.items ≡ receipts.old.items) }
+    ensures uncounted { OnErr result (seat.new ≡ seat.old) }
+{
+    make_place(receipts)?;
+    let place = floor.next(seat, leaf, i64::from(number))?;
+    receipts.push_reserved(Receipt {
+        place,
+        event: item_at(leaf, number),
+    });
+    Ok(())
+}
+
 /// Emits the numbers from `first` up to `end` at a leaf under one lock, with a receipt for each, and rings the
-/// bell where something waits then.
+/// bell where something waits then. Where one is refused, those before it are emitted.
 fn emit_some<R: Resource, I: Ledger, A: Ledger, K: Ledger>(
     rt: &impl Wait,
     desk: &Desk<R, I, A, K>,
@@ -65,11 +89,11 @@ fn emit_some<R: Resource, I: Ledger, A: Ledger, K: Ledger>(
     ensures emitted { OnOk result (events_of receipts.new.items
         ≡ events_of receipts.old.items ++ items_at leaf.number first (end - first)) }
     ensures counted { OnOk result (seat.new ≡ record seat.old { items = seat.old.items + (end - first) }) }
+    ensures begun { OnErr result (HasBegun leaf.number first end seat.old seat.new receipts.old.items receipts.new.items) }
 {
     let mut floor = desk.floor.lock(rt);
     for number in first..end {
-        let place = floor.next(seat, leaf, i64::from(number))?;
-        keep_receipt(receipts, place, item_at(leaf, number))?;
+        emit_one(&mut floor, seat, receipts, leaf, number)?;
     }
     let waits = floor.waiting() > 0;
     drop(floor);
@@ -79,25 +103,30 @@ fn emit_some<R: Resource, I: Ledger, A: Ledger, K: Ledger>(
     Ok(())
 }
 
-/// Ends a leaf, with a receipt, and rings the bell.
+/// Ends a leaf, with a receipt, for which memory is asked before, and rings the bell.
 fn complete<R: Resource, I: Ledger, A: Ledger, K: Ledger>(
     rt: &impl Wait,
     desk: &Desk<R, I, A, K>,
     receipts: &mut Vec<Receipt>,
     leaf: Key,
 ) -> Result<(), Refusal>
-    ensures { OnOk result (events_of receipts.new.items
+    ensures ended { OnOk result (events_of receipts.new.items
         ≡ events_of receipts.old.items ++ Event.End leaf.number Terminal.Completed ∷ []) }
+    ensures kept { OnErr result (receipts.new.items ≡ receipts.old.items) }
 {
+    make_place(receipts)?;
     let mut floor = desk.floor.lock(rt);
     let place = floor.end(leaf, Terminal::Completed)?;
     drop(floor);
     desk.bell.notify_all();
-    let event = Event::End(leaf.number, Terminal::Completed);
-    keep_receipt(receipts, place, event)
+    receipts.push_reserved(Receipt {
+        place,
+        event: Event::End(leaf.number, Terminal::Completed),
+    });
+    Ok(())
 }
 
-/// Emits the numbers below `items` at a leaf, and completes it.
+/// Emits the numbers below `items` at a leaf, and completes it. Where that is refused, the numbers before are emitted.
 fn emit_each<R: Resource, I: Ledger, A: Ledger, K: Ledger>(
     rt: &impl Wait,
     desk: &Desk<R, I, A, K>,
@@ -109,6 +138,7 @@ fn emit_each<R: Resource, I: Ledger, A: Ledger, K: Ledger>(
     ensures emitted { OnOk result (events_of receipts.new.items ≡ events_of receipts.old.items
         ++ items_at leaf.number 0 items ++ Event.End leaf.number Terminal.Completed ∷ []) }
     ensures counted { OnOk result (seat.new ≡ record seat.old { items = seat.old.items + items }) }
+    ensures begun { OnErr result (HasBegun leaf.number 0 items seat.old seat.new receipts.old.items receipts.new.items) }
 {
     let mut next = 0;
     while next < items {
@@ -131,7 +161,8 @@ fn stop_of(emitted: Result<(), Refusal>) -> Stop
 }
 
 /// Opens a Using root with the resource and a leaf below it, and emits there the numbers below `items`, 16 under
-/// one lock, and a completion. None where the opening was refused.
+/// one lock, and a completion. None where the opening was refused. Where a call is refused later, it has a receipt for
+/// each event that it wrote.
 pub fn emit_batches<R: Resource, I: Ledger, A: Ledger, K: Ledger>(
     rt: &impl Wait,
     alloc: Global,
@@ -141,6 +172,7 @@ pub fn emit_batches<R: Resource, I: Ledger, A: Ledger, K: Ledger>(
     items: u32,
 ) -> Option<Fed<I, A, K>>
     ensures done { IfSome result (λ fed. fed.stop ≡ Stop.Done → HasEmitted items seat fed.seat fed.receipts.items) }
+    ensures begun { IfSome result (λ fed. fed.stop ≢ Stop.Done → HasEmittedSome items seat fed.seat fed.receipts.items) }
     ensures turns { IfSome result (λ fed. fed.stop ≢ Stop.Turns) }
 {
     let mut seat = seat;

@@ -23,7 +23,7 @@
 //! - With `Memory` or `Thread` nothing was written; with `Write` a front of the text may have been.
 //! - A feeding thread that is done has emitted the numbers from 0 up to its count, in order, and completed its
 //!   leaf; it has a receipt for each of these events, and its seat counts the items and one resource. In batches it
-//!   is the same.
+//!   is the same; and one in batches that is refused emitted some of them, with a receipt for each.
 //! - That threads are started and nothing that they gave back is left out, that as many resources were
 //!   released as were taken, that seats and receipts agree with the book, that releases run side by side,
 //!   and that the book is closed also where an error is answered is tested and not proved; so it is that
@@ -215,7 +215,7 @@ pub fn storm<R: Resource, G: Gate, T: Threads + Wait + Sync, W: Write>(
     )
 }
 
-/// The same as [`storm`], with 16 items of a source under one lock. A receipt is asked for after its item.
+/// The same as [`storm`], with 16 items of a source under one lock.
 ///
 /// Refused are `Memory` where memory was refused to the storm or to one of its calls, and else `Thread`
 /// where a thread could not be started: nothing is written then. With `Write` a front of the text may

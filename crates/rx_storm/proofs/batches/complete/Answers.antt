@@ -1,6 +1,8 @@
-use Rattle.std.proofs.lemmas.Result.{on_ok_weaker}
+use Rattle.rx_storm.proofs.Common.{◌++◌, ◌∷◌, [], List, ◌∙◌, ap, Completed, End, Event, Receipt, events_of}
 use Rattle.rx_storm.proofs.Emission.{events_of-kept}
 use Rattle.rx_storm.proofs.batches.complete.Goals as goal
 
-pub returns : goal.returns
-returns g c = on_ok_weaker c.keep_receipt.result (events_of-kept c.args.receipts.now.items _ _) c.keep_receipt.ensures
+pub returns-clause-ended : goal.returns-clause-ended
+returns-clause-ended g c =
+    let last : Event = End c.args.leaf.number Completed in
+    events_of-kept _ _ _ c.push_reserved.ensures.items ∙ ap (λ (l : List Receipt). events_of l ++ last ∷ []) c.make_place.ensures.same

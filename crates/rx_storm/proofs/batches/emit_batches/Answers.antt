@@ -1,5 +1,5 @@
 use Rattle.rx_storm.proofs.Common.{◌≡◌, ◌+◌, [], sym, ap, ◌∙◌, rules, Shares, events_of}
-use Rattle.rx_storm.proofs.Emission.{events_counted, from_nothing, done_alone, never_over}
+use Rattle.rx_storm.proofs.Emission.{events_counted, from_nothing, done_alone, refused_alone, begun_anew, never_over}
 use Rattle.rx_storm.proofs.batches.emit_batches.Goals as goal
 
 pub returns-clause-done : goal.returns-clause-done
@@ -16,3 +16,9 @@ returns-clause-done g c = λ is.
 
 pub returns-clause-turns : goal.returns-clause-turns
 returns-clause-turns g c = never_over _ _ c.stop_of.ensures.done c.stop_of.ensures.refused
+
+pub returns-clause-begun : goal.returns-clause-begun
+returns-clause-begun g c = λ is.
+    let empty : c.new-receipts.result.items ≡ [] = search rules in
+    begun_anew c.in_ok-leaf.leaf.number c.args.items c.args.seat _ _ _ _ empty c.in_ok-leaf.ensures
+    (refused_alone _ _ _ c.stop_of.ensures.done c.emit_each-emitted.ensures.begun is)

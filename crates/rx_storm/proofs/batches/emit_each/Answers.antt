@@ -1,6 +1,6 @@
-use Rattle.rx_storm.proofs.Common.{◌≡◌, ◌≤◌, ◌<◌, ◌+◌, ℕ, List, [], ◌∷◌, ◌++◌, sym, ap, ◌∙◌, refl, arith, append-nil, on_ok_weaker, Completed, Event, End}
+use Rattle.rx_storm.proofs.Common.{◌≡◌, ◌≤◌, ◌<◌, ◌+◌, ℕ, List, [], ◌∷◌, ◌++◌, sym, ap, ◌∙◌, refl, arith, append-nil, on_ok_weaker, on_err_weaker, Completed, Event, End}
 use Rattle.rx_storm.proofs.Common.{items_at, events_of}
-use Rattle.rx_storm.proofs.Emission.{none_counted, items_at-joined, counts_joined}
+use Rattle.rx_storm.proofs.Emission.{none_counted, items_at-joined, counts_joined, begun_within, begun_all, on_err}
 use Rattle.rx_storm.proofs.batches.emit_each.Goals as goal
 
 pub loop-next-init : goal.loop-next-init
@@ -30,7 +30,7 @@ returns-clause-emitted g c =
     let before = events_of c.args.receipts.now.items in
     on_ok_weaker c.complete.result
     (λ told. told ∙ ap (λ (l : List Event). l ++ End c.args.leaf.number Completed ∷ [])
-    (c.loop-next.invariant.emitted ∙ ap (λ (n : ℕ). before ++ items_at c.args.leaf.number 0 n) all)) c.complete.ensures
+    (c.loop-next.invariant.emitted ∙ ap (λ (n : ℕ). before ++ items_at c.args.leaf.number 0 n) all)) c.complete.ensures.ended
 
 pub returns-clause-counted : goal.returns-clause-counted
 returns-clause-counted g c =
@@ -39,4 +39,20 @@ returns-clause-counted g c =
     let all : c.loop-next.next ≡ c.args.items = omega (arith, within, over) in
     let first = c.args.seat.now in
     on_ok_weaker c.complete.result
-    (λ _. c.loop-next.invariant.counted ∙ ap (λ (n : ℕ). record first { items = first.items + n }) all) c.complete.ensures
+    (λ _. c.loop-next.invariant.counted ∙ ap (λ (n : ℕ). record first { items = first.items + n }) all) c.complete.ensures.ended
+
+pub returns-in_err-emit_some-clause-begun : goal.returns-in_err-emit_some-clause-begun
+returns-in_err-emit_some-clause-begun g c = on_err c.from_residual.result _
+    (begun_within c.args.leaf.number c.loop-next.next c.batch_end-end.result c.args.items c.args.seat.now _ _ _ _ _
+    c.batch_end-end.ensures.within.1 c.loop-next.invariant.emitted c.loop-next.invariant.counted c.in_err-emit_some.ensures.begun)
+
+pub returns-clause-begun : goal.returns-clause-begun
+returns-clause-begun g c =
+    let within = c.loop-next.invariant.within in
+    let over = c.loop-next-test.false in
+    let all : c.loop-next.next ≡ c.args.items = omega (arith, within, over) in
+    let before = events_of c.args.receipts.now.items in
+    let first = c.args.seat.now in
+    on_err_weaker c.complete.result (begun_all c.args.leaf.number c.args.items first _ c.args.receipts.now.items c.loop-next.receipts.items _
+    (c.loop-next.invariant.emitted ∙ ap (λ (n : ℕ). before ++ items_at c.args.leaf.number 0 n) all)
+    (c.loop-next.invariant.counted ∙ ap (λ (n : ℕ). record first { items = first.items + n }) all)) c.complete.ensures.kept

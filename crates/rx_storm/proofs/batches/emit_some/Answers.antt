@@ -1,5 +1,5 @@
-use Rattle.rx_storm.proofs.Common.{◌-◌, pos, arith, events_of}
-use Rattle.rx_storm.proofs.Emission.{items_at-none, none_counted, items_at-more, one_counted}
+use Rattle.rx_storm.proofs.Common.{◌-◌, arith, events_of}
+use Rattle.rx_storm.proofs.Emission.{items_at-none, none_counted, items_at-more, one_counted, begun_before, on_err}
 use Rattle.rx_storm.proofs.batches.emit_some.Goals as goal
 
 pub loop-number-init : goal.loop-number-init
@@ -10,8 +10,14 @@ loop-number-init g c = record {
 
 pub loop-number-preserved : goal.loop-number-preserved
 loop-number-preserved g c = record {
-  emitted = items_at-more c.args.leaf.number c.args.first c.loop-number.number _ c.loop-number.receipts.items _ _
-      c.loop-number.auto.number c.loop-number.invariant.emitted c.in_ok-keep_receipt.ensures c.item_at.ensures;
-  counted = one_counted c.args.leaf.number (pos c.loop-number.number) c.args.first c.loop-number.number c.args.seat.now c.loop-number.seat _
-      c.loop-number.auto.number c.loop-number.invariant.counted c.in_ok-place.ensures.counts.counted;
+  emitted = items_at-more c.args.leaf.number c.args.first c.loop-number.number _ _ _ c.loop-number.auto.number
+      c.loop-number.invariant.emitted c.in_ok-emit_one.ensures.emitted;
+  counted = one_counted c.args.first c.loop-number.number c.args.seat.now c.loop-number.seat _ c.loop-number.auto.number
+      c.loop-number.invariant.counted c.in_ok-emit_one.ensures.counted;
 }
+
+pub returns-in_err-emit_one-clause-begun : goal.returns-in_err-emit_one-clause-begun
+returns-in_err-emit_one-clause-begun g c = on_err c.from_residual.result _
+    (begun_before c.args.leaf.number c.args.first c.loop-number.number c.args.end _ _ _ _ _ _
+    c.loop-number.auto.number c.loop-number-test.true c.loop-number.invariant.emitted c.loop-number.invariant.counted
+    c.in_err-emit_one.ensures.kept c.in_err-emit_one.ensures.uncounted)
