@@ -1,2 +1,3 @@
 pub mod WordsFilled
 pub mod WordsFind
+pub mod ItemsEmitted

@@ -1,5 +1,5 @@
 -- An engine with what is counted beside it, and what a command makes of it.
-use Rattle.std.specs.Prelude.{◌≡◌, ◌==◌, ◌&&◌, ◌≢◌, ℕ, ◌+◌, ◌*◌, ◌-◌, ◌^◌, nat_lt, min, max, Bool, true, false, List, [], ◌∷◌, length, map, Option, Some, None, option_map, Result, Ok, Err}
+use Rattle.std.specs.Prelude.{◌≡◌, ◌&&◌, ◌≢◌, ℕ, ◌+◌, ◌*◌, ◌-◌, ◌^◌, nat_lt, min, max, Bool, true, false, List, [], ◌∷◌, length, map, Option, Some, None, option_map, Result, Ok, Err}
 use Rattle.rx_resource.specs.declared.Resource.{Ghosts}
 use Rattle.rx_resource.specs.declared.token.Token.{Token}
 use Rattle.rx_event.specs.declared.refusal.Refusal.{Refusal}
@@ -10,7 +10,7 @@ use Rattle.rx_roles.specs.declared.effect.What.{What}
 use Rattle.rx_roles.specs.declared.effect.What.TheVariants.{Release}
 use Rattle.rx_engine.specs.States.{State}
 use Rattle.rx_engine.specs.Checkpoints.{IsCheckpointMade}
-use Rattle.rx_engine.specs.Servings.{IsHand}
+use Rattle.rx_engine.specs.Servings.{IsHand, comes_to_one}
 use Rattle.rx_typed.specs.Codes.{refusal_status}
 use Rattle.rx_cellar.specs.declared.shapes.Command.{Command}
 use Rattle.rx_cellar.specs.declared.shapes.Answer.{Answer}
@@ -120,10 +120,7 @@ abbrev pub hands : Asked → Bool
 hands (Next leaf value is_asked) = is_asked
 hands _ = false
 
--- all that the last command came to is one item: nothing was closed, so each effect carries the value
-abbrev pub comes_to_one : State → Bool
-comes_to_one s = length s.parts.lanes.due == 1 && (s.parts.copies == 1 && length s.book.closed == 0)
-
+-- and it is where it is all that came of the command
 abbrev pub hands_out : Asked → State → Bool
 hands_out asked s = hands asked && comes_to_one s
 

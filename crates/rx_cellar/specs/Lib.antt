@@ -6,3 +6,4 @@ pub mod Makings
 pub mod Readings
 pub mod Serving
 pub mod Words
+pub mod Emitting

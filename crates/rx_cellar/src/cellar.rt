@@ -3,17 +3,18 @@
 ghost use Rattle.std.specs.Prelude.{◌≡◌, ◌≢◌, true, false, Err};
 ghost use Rattle.rx_event.specs.declared.refusal.Refusal.TheVariants.{Full};
 ghost use Rattle.rx_engine.specs.States.{IsPromised};
-ghost use Rattle.rx_cellar.specs.Cellars.{most_since, is_due, Tidies, IsTidy, IsTried, counted, uncounted, hands, comes_to_one, hands_out};
-ghost use Rattle.rx_cellar.specs.Cellars.{told, IsHanded, HandsOut, IsAskedMade, IsCommandMade};
+ghost use Rattle.rx_cellar.specs.Cellars.{most_since, is_due, Tidies, IsTidy, IsTried, counted, uncounted, hands};
+ghost use Rattle.rx_cellar.specs.Cellars.{told, counted_if, with_handed, IsAskedMade, IsCommandMade};
+ghost use Rattle.rx_cellar.specs.Emitting.{item_of, asked_for, IsEmitted};
 
 use crate::asked::{Asked, asked_of};
-use crate::making::{Made, perform};
+use crate::making::{Made, nothing_made, perform};
 use crate::rest::{fill_closings, fill_lanes};
 use crate::shapes::{Answer, Command, effect_of};
-use rx_book::{Refusal, Resource};
+use rx_book::{Key, Refusal, Resource};
 use rx_engine::Engine;
 use rx_resource::Token;
-use rx_roles::What;
+use rx_roles::{Effect as Sent, What};
 use rx_typed::{DONE, NO_SUCH_CODE, status_of};
 
 // Where the engine chooses, it makes a checkpoint behind so many events at least.
@@ -43,24 +44,40 @@ fn most_since(engine: &Engine) -> u64
     if many < FEW { FEW } else { many }
 }
 
-// Whether what was asked hands out.
-fn hands(asked: Asked) -> bool
-    ensures { result ≡ hands asked }
+/// An item that is handed out: its leaf and its value.
+#[derive(Clone, Copy)]
+pub(crate) struct Item {
+    pub(crate) leaf: Key,
+    pub(crate) value: u64,
+}
+
+// The item that is asked for, where it is to be handed out.
+fn item_of(asked: Asked) -> Option<Item>
+    ensures { result ≡ item_of asked }
 {
     match asked {
-        Asked::Next(_leaf, _value, hands) => hands,
+        Asked::Next(leaf, value, hands) => {
+            if hands {
+                Some(Item { leaf, value })
+            } else {
+                None
+            }
+        }
+        _ => None,
+    }
+}
+
+fn is_full(answer: Result<Made, Refusal>) -> bool
+    ensures full { result ≡ true → answer ≡ Err Full }
+    ensures other { result ≡ false → answer ≢ Err Full }
+{
+    match answer {
+        Err(Refusal::Full) => true,
         _ => false,
     }
 }
 
-// Whether all that the last command came to is one item.
-fn comes_to_one(engine: &Engine) -> bool
-    ensures { result ≡ comes_to_one engine.now }
-{
-    engine.due().len() == 1 && engine.copies() == 1 && engine.book().closed_count() == 0
-}
-
-fn is_full(answer: Result<Made, Refusal>) -> bool
+fn is_item_full(answer: Result<Option<Sent>, Refusal>) -> bool
     ensures full { result ≡ true → answer ≡ Err Full }
     ensures other { result ≡ false → answer ≢ Err Full }
 {
@@ -158,30 +175,57 @@ impl Cellar {
         let _lanes = fill_lanes(&self.engine, 0, &mut answer.lanes);
     }
 
-    // Hands out the first effect of the first lane that is due.
-    fn hand(&mut self, by: u64, answer: &mut Answer)
-        ensures { IsHanded by self.old self.new answer.old answer.new }
+    // The same for an item, which is handed out.
+    fn attempt_handing(&mut self, item: Item, by: u64) -> Result<Option<Sent>, Refusal>
+        ensures { IsEmitted ⟦<Token as Resource>⟧ item by self.old self.new result }
     {
-        if let Some(sent) = self.engine.hand(by) {
+        let first = self.engine.next_handing(item.leaf, by, item.value);
+        if !is_item_full(first) {
+            return first;
+        }
+        self.checkpoint();
+        self.engine.next_handing(item.leaf, by, item.value)
+    }
+
+    // Writes what was handed out.
+    fn tell_handed(&mut self, given: Option<Sent>, answer: &mut Answer)
+        ensures counts { self.new ≡ record self.old { released = counted_if given self.old.released } }
+        ensures answer { answer.new ≡ with_handed given answer.old }
+    {
+        if let Some(sent) = given {
             self.released = counted(sent.what, self.released);
             answer.handed = 1;
             answer.effect = effect_of(sent);
         }
     }
 
-    // Whether what was asked, and done, hands an effect out.
-    fn hands_out(&self, asked: Asked) -> bool
-        ensures { result ≡ hands_out asked self.now.engine }
+    // Emits an item, and hands it out where it is all that comes of it.
+    fn emit(&mut self, item: Item, by: u64, answer: &mut Answer) -> u8
+        ensures { IsAskedMade ⟦<Token as Resource>⟧ (asked_for item) by self.old self.new answer.old answer.new result }
     {
-        hands(asked) && comes_to_one(&self.engine)
+        self.tidy();
+        match self.attempt_handing(item, by) {
+            Ok(given) => {
+                self.tell(nothing_made(), answer);
+                self.tell_handed(given, answer);
+                DONE
+            }
+            Err(why) => status_of(why),
+        }
     }
 
-    // And only where that is so.
-    fn hand_where(&mut self, is_asked: bool, by: u64, answer: &mut Answer)
-        ensures { HandsOut is_asked by self.old self.new answer.old answer.new }
+    // Makes what was asked, which hands out nothing.
+    fn make_plain(&mut self, asked: Asked, by: u64, answer: &mut Answer) -> u8
+        requires { hands asked ≡ false }
+        ensures { IsAskedMade ⟦<Token as Resource>⟧ asked by self.old self.new answer.old answer.new result }
     {
-        if is_asked {
-            self.hand(by, answer);
+        self.tidy();
+        match self.attempt(asked, by) {
+            Ok(made) => {
+                self.tell(made, answer);
+                DONE
+            }
+            Err(why) => status_of(why),
         }
     }
 
@@ -189,15 +233,9 @@ impl Cellar {
     fn make_asked(&mut self, asked: Asked, by: u64, answer: &mut Answer) -> u8
         ensures { IsAskedMade ⟦<Token as Resource>⟧ asked by self.old self.new answer.old answer.new result }
     {
-        self.tidy();
-        match self.attempt(asked, by) {
-            Ok(made) => {
-                self.tell(made, answer);
-                let hands = self.hands_out(asked);
-                self.hand_where(hands, by, answer);
-                DONE
-            }
-            Err(why) => status_of(why),
+        match item_of(asked) {
+            Some(item) => self.emit(item, by, answer),
+            None => self.make_plain(asked, by, answer),
         }
     }
 

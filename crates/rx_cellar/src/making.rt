@@ -29,8 +29,8 @@ pub struct Made {
     pub hub: u64,
 }
 
-// Nothing was opened.
-fn nothing_made() -> Made
+/// Nothing was opened.
+pub(crate) fn nothing_made() -> Made
     ensures { result ≡ nothing_made }
 {
     Made {

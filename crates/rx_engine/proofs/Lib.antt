@@ -19,6 +19,7 @@ pub mod SharesChosen
 pub mod TiedAfterHub
 pub mod NewEngine
 pub mod HomesFound
+pub mod SpreadOut
 pub mod HandedOut
 pub mod NothingLeft
 pub mod KeysKept

@@ -2,6 +2,8 @@ pub mod Checkpoints
 pub mod Closings
 pub mod Commands
 pub mod Deliveries
+pub mod Gatherings
+pub mod Handings
 pub mod Holdings
 pub mod Homes
 pub mod Hubs

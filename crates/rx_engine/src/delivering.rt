@@ -1,25 +1,14 @@
 //! Effects go into their lanes.
 
-ghost use Rattle.std.specs.Prelude.{◌≡◌, ◌+◌, ◌≤◌, ◌<◌, [], length, Some, if◌then◌else◌};
+ghost use Rattle.std.specs.Prelude.{◌≡◌, ◌+◌, ◌≤◌, ◌<◌, [], length, Some};
 ghost use Rattle.rx_lanes.specs.declared.names.LaneName.{LaneName};
 ghost use Rattle.rx_lanes.specs.Lane.{Lane};
 ghost use Rattle.rx_lanes.specs.State.{lane, Gets};
-ghost use Rattle.rx_roles.specs.Effects.{is_last, carries, copies_in};
+ghost use Rattle.rx_roles.specs.Effects.{copies_in};
 ghost use Rattle.rx_engine.specs.Deliveries.{many_at, put_by, Arrives, Delivers, AreNamed, less};
 
 use rx_lanes::Lanes;
-use rx_roles::{Effect, Effects, What, carries};
-
-fn is_last(what: What) -> bool
-    ensures { result ≡ is_last what }
-{
-    match what {
-        What::Next => false,
-        What::Project => false,
-        What::Put => false,
-        _ => true,
-    }
-}
+use rx_roles::{Effect, Effects, What, copies_of, is_last};
 
 // Puts an effect into its lane.
 fn put_one(lanes: &mut Lanes<Effect>, by: u64, effect: Effect)
@@ -48,13 +37,6 @@ fn deliver_one(lanes: &mut Lanes<Effect>, by: u64, effect: Effect)
     if is_last(effect.what) {
         lanes.leave(effect.lane);
     }
-}
-
-// How many copies of the value an effect has.
-fn copies_of(what: What) -> u64
-    ensures { result ≡ (if carries what then 1 else 0) }
-{
-    if carries(what) { 1 } else { 0 }
 }
 
 /// Puts all effects into their lanes, in order, and counts those that carry the value.

@@ -11,7 +11,7 @@ ghost use Rattle.rx_lanes.specs.Lane.{Lane};
 ghost use Rattle.rx_lanes.specs.State.{lane};
 ghost use Rattle.rx_roles.specs.Roles.{AreBelow};
 ghost use Rattle.rx_engine.specs.Deliveries.{many_at};
-ghost use Rattle.rx_engine.specs.Rooms.{name_count, role_if, named, HasRoomToEnter};
+ghost use Rattle.rx_engine.specs.Rooms.{name_count, named, HasRoomToEnter};
 ghost use Rattle.rx_engine.specs.Openings.{IsLaneFor, Gives, Enters};
 ghost use Rattle.rx_engine.specs.Holdings.{Keeps};
 
@@ -86,17 +86,6 @@ fn give(
     if is {
         let lane = lane_for(lanes, at);
         roles.put(Role { number, word, lane });
-    }
-}
-
-/// Adds a role, where there is one to add.
-pub(crate) fn put_if(roles: &mut Roles, is: bool, role: Role)
-    requires room { 0 < roles.old.room }
-    requires below { AreBelow roles.old.list role.number }
-    ensures { roles.new.list ≡ roles.old.list ++ role_if is role }
-{
-    if is {
-        roles.put(role);
     }
 }
 

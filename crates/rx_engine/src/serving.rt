@@ -1,20 +1,13 @@
 //! Who serves a lane takes the effects that wait there.
 
-ghost use Rattle.std.specs.Prelude.{◌≡◌, ◌<◌, IsSome, IfSome, IfNone, slice_get};
+ghost use Rattle.std.specs.Prelude.{◌≡◌, ◌<◌, IsSome, IfSome, IfNone};
 ghost use Rattle.rx_lanes.specs.declared.names.LaneName.{LaneName};
 ghost use Rattle.rx_lanes.specs.State.{lane, IsLeft};
-ghost use Rattle.rx_engine.specs.Servings.{IsTake, IsHand, IsGiveUp, IsClaim};
+ghost use Rattle.rx_engine.specs.Servings.{IsTake, IsGiveUp, IsClaim};
 
 use crate::engine::Engine;
 use rx_lanes::{Due, LaneName};
 use rx_roles::Effect;
-
-// The first of the lanes that are due.
-fn first_due(due: &[Due]) -> Option<Due>
-    ensures { result ≡ slice_get due.now 0 }
-{
-    due.first().copied()
-}
 
 impl Engine {
     /// The next effect of a lane, for who serves it or may. With `inside`, what was set free there further out.
@@ -23,17 +16,6 @@ impl Engine {
     {
         self.parts.lanes.promise();
         self.parts.lanes.take(name, inside, by)
-    }
-
-    /// The first effect of the first lane that the last command's caller is to serve, who serves that lane from
-    /// now on, as by [`Engine::take`]; none where no lane is due.
-    pub fn hand(&mut self, by: u64) -> Option<Effect>
-        ensures { IsHand self.old.parts.lanes.due by self.old self.new result }
-    {
-        match first_due(self.parts.lanes.due()) {
-            Some(due) => self.take(due.lane, due.inside, by),
-            None => None,
-        }
     }
 
     /// Lets others serve a lane. What was taken and not done comes first again.

@@ -1,11 +1,15 @@
 //! What a call of the book leaves to be done.
 
+ghost use Rattle.std.specs.Prelude.{◌≡◌, ◌==◌, IsSome, length, true};
 ghost use Rattle.rx_roles.specs.Effects.{items_in};
 ghost use Rattle.rx_engine.specs.Rooms.{IsReady};
 ghost use Rattle.rx_pool.specs.Moves.{MayLeaveAll};
 ghost use Rattle.rx_shares.specs.Places.{places_left};
 ghost use Rattle.rx_engine.specs.Settlements.{mail_left, closed_of, Settles, KeepsKeys};
+ghost use Rattle.rx_engine.specs.Gatherings.{Gathers, Spreads, IsLoaded};
 ghost use Rattle.rx_engine.specs.Closings.{Closes};
+ghost use Rattle.rx_engine.specs.Handings.{ClaimsIf, GivesIf, SpreadsAndHands};
+ghost use Rattle.rx_engine.specs.Servings.{is_one};
 
 use crate::delivering::deliver;
 use crate::leaving::{leave_homes, leave_hubs};
@@ -14,9 +18,11 @@ use crate::telling::{end_closed, set_free, tell};
 use crate::wishes::Wishes;
 use rx_book::{Book, Resource};
 use rx_resource::Token;
+use rx_roles::Effect;
 
-/// Does all that a call of the book leaves to be done. It takes no memory.
-pub(crate) fn settle(
+/// What a call of the book told, closed and set free becomes effects, and what it closed leaves its lane and its
+/// hub. It takes no memory.
+pub(crate) fn gather(
     book: &mut Book<Token>,
     parts: &mut Parts,
     wishes: &mut Wishes,
@@ -25,9 +31,9 @@ pub(crate) fn settle(
 )
     requires ready { IsReady (items_in (mail_left book.old)) parts.old }
     requires hubs { MayLeaveAll (places_left parts.old.shares.list (closed_of book.old)) parts.old.shares.hubs }
-    ensures settles { Settles ⟦<Token as Resource>⟧ by value book.old parts.old book.new parts.new }
+    ensures gathers { Gathers ⟦<Token as Resource>⟧ by value book.old parts.old book.new parts.new }
     ensures closes { Closes book.old wishes.old.roles.list wishes.new }
-    ensures ready { IsReady 0 parts.new }
+    ensures loaded { IsLoaded parts.new }
     ensures keys { KeepsKeys book.old book.new }
 {
     wishes.close(book);
@@ -49,6 +55,99 @@ pub(crate) fn settle(
         by,
     );
     set_free(book, &mut parts.holds, &mut parts.effects, by);
+}
+
+// All effects go into their lanes, and those that got something are due.
+fn spread(parts: &mut Parts, by: u64)
+    requires { IsLoaded parts.old }
+    ensures spreads { Spreads by parts.old parts.new }
+    ensures ready { IsReady 0 parts.new }
+{
     parts.copies = deliver(&mut parts.effects, &mut parts.lanes, by);
     let _many = parts.lanes.settle(by);
+}
+
+/// Does all that a call of the book leaves to be done. It takes no memory.
+pub(crate) fn settle(
+    book: &mut Book<Token>,
+    parts: &mut Parts,
+    wishes: &mut Wishes,
+    by: u64,
+    value: u64,
+)
+    requires ready { IsReady (items_in (mail_left book.old)) parts.old }
+    requires hubs { MayLeaveAll (places_left parts.old.shares.list (closed_of book.old)) parts.old.shares.hubs }
+    ensures settles { Settles ⟦<Token as Resource>⟧ by value book.old parts.old book.new parts.new }
+    ensures closes { Closes book.old wishes.old.roles.list wishes.new }
+    ensures ready { IsReady 0 parts.new }
+    ensures keys { KeepsKeys book.old book.new }
+{
+    gather(book, parts, wishes, by, value);
+    spread(parts, by);
+}
+
+// Claims the lane of an item that alone is on its way, and answers it; else nothing changes.
+fn claim_only(parts: &mut Parts, by: u64) -> Option<Effect>
+    requires { IsLoaded parts.old }
+    ensures claims { ClaimsIf by result parts.old parts.new }
+    ensures ready { IsSome result → IsReady 0 parts.new }
+{
+    let effect = parts.effects.only_item()?;
+    if parts.lanes.claim_alone(effect.lane, by) {
+        parts.effects.clear();
+        parts.copies = 1;
+        Some(effect)
+    } else {
+        None
+    }
+}
+
+// Whether one lane alone is due, and one effect alone carries the value.
+fn is_one(parts: &Parts) -> bool
+    ensures { result ≡ is_one parts.now }
+{
+    parts.lanes.due().len() == 1 && parts.copies == 1
+}
+
+// Hands the first effect of the first lane that is due out, where one item is all that there is.
+fn hand_one(parts: &mut Parts, by: u64) -> Option<Effect>
+    requires { IsReady 0 parts.old }
+    ensures gives { GivesIf (is_one parts.old) by parts.old.lanes parts.new.lanes result }
+    ensures only { parts.new ≡ record parts.old { lanes = parts.new.lanes } }
+    ensures ready { IsReady 0 parts.new }
+{
+    if is_one(parts) {
+        parts.lanes.take_due(by)
+    } else {
+        None
+    }
+}
+
+// The same with what is on its way: an item that is all of it, for a lane that nobody serves, without being put there.
+fn spread_and_hand_one(parts: &mut Parts, by: u64) -> Option<Effect>
+    requires { IsLoaded parts.old }
+    ensures hands { SpreadsAndHands true by parts.old parts.new result }
+    ensures ready { IsReady 0 parts.new }
+{
+    match claim_only(parts, by) {
+        Some(effect) => Some(effect),
+        None => {
+            spread(parts, by);
+            hand_one(parts, by)
+        }
+    }
+}
+
+/// All effects go into their lanes; and where nothing was closed, and all that there was is one item, that is handed
+/// out.
+pub(crate) fn spread_and_hand(book: &Book<Token>, parts: &mut Parts, by: u64) -> Option<Effect>
+    requires { IsLoaded parts.old }
+    ensures hands { SpreadsAndHands (length book.now.closed == 0) by parts.old parts.new result }
+    ensures ready { IsReady 0 parts.new }
+{
+    if book.closed_count() == 0 {
+        return spread_and_hand_one(parts, by);
+    }
+    spread(parts, by);
+    None
 }

@@ -6,7 +6,6 @@ ghost use Rattle.rx_roles.specs.Roles.{AreBelow, role_of, without, without_all};
 ghost use Rattle.rx_engine.specs.Settlements.{closed_of};
 ghost use Rattle.rx_engine.specs.Closings.{words_taken, with_wish, Closes};
 
-use crate::entering::put_if;
 use crate::parts::User;
 use rx_book::Book;
 use rx_lanes::LaneName;
@@ -107,8 +106,7 @@ impl Wishes {
         ensures roles { self.new.roles.list ≡ with_wish self.old.roles.list number user }
         ensures closings { self.new.closings ≡ self.old.closings }
     {
-        put_if(
-            &mut self.roles,
+        self.roles.put_if(
             user.wished,
             Role {
                 number,

@@ -1,5 +1,5 @@
 -- What a call tells, ends and sets free, as effects.
-use Rattle.std.specs.Prelude.{◌≡◌, ◌==◌, ◌&&◌, ⊤, is_some, ℕ, ◌+◌, ◌-◌, Bool, true, false, Option, option_map, List, [], ◌∷◌, ◌++◌, if◌then◌else◌, vec_len, vec_capacity}
+use Rattle.std.specs.Prelude.{◌≡◌, ◌==◌, ◌&&◌, ⊤, is_some, ℕ, ◌+◌, ◌-◌, Bool, true, false, Option, Some, None, option_map, List, [], ◌∷◌, ◌++◌, if◌then◌else◌, vec_len, vec_capacity}
 use Rattle.std.specs.Option.{option_to_list}
 use Rattle.rx_note.specs.declared.note.Terminal.{Terminal}
 use Rattle.rx_note.specs.declared.note.Terminal.TheVariants.{Completed as Completes, Error}
@@ -33,6 +33,18 @@ carries Project = true
 carries Failed = true
 carries Put = true
 carries _ = false
+
+-- it is an item, to be told or to be projected
+abbrev pub is_item : What → Bool
+is_item Next = true
+is_item Project = true
+is_item _ = false
+
+-- the only effect, where that is an item
+abbrev pub only_item : List Effect → Option Effect
+only_item [] = None
+only_item (e ∷ []) = if is_item e.what then Some e else None
+only_item (e ∷ (f ∷ es)) = None
 
 -- for who has this role, of a call of this caller with this value
 abbrev pub effect_for : (by value : ℕ) → What → Role → Effect

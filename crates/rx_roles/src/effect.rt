@@ -1,6 +1,7 @@
 //! What a face is to do.
 
 ghost use Rattle.std.specs.Prelude.{◌≡◌, ◌+◌, ◌<◌, ◌≤◌, [], ◌∷◌, ◌++◌, OnOk, length, slice_get};
+ghost use Rattle.rx_roles.specs.Effects.{is_last, is_item, only_item};
 
 use rx_lanes::LaneName;
 use std::alloc::{AllocError, Global};
@@ -25,6 +26,29 @@ pub enum What {
     Release,
     /// The face's own, which it put itself.
     Put,
+}
+
+/// Whether such an effect is the last for its role.
+pub fn is_last(what: What) -> bool
+    ensures { result ≡ is_last what }
+{
+    match what {
+        What::Next => false,
+        What::Project => false,
+        What::Put => false,
+        _ => true,
+    }
+}
+
+// Whether it is an item, to be told or to be projected.
+fn is_item(what: What) -> bool
+    ensures { result ≡ is_item what }
+{
+    match what {
+        What::Next => true,
+        What::Project => true,
+        _ => false,
+    }
 }
 
 /// Something that the face is to do.
@@ -105,6 +129,21 @@ impl Effects {
         ensures { result ≡ slice_get self.now.list place }
     {
         self.list.get(place).copied()
+    }
+
+    /// The only effect, where there is but one, and that is an item.
+    pub fn only_item(&self) -> Option<Effect>
+        ensures { result ≡ only_item self.now.list }
+    {
+        if self.len() != 1 {
+            return None;
+        }
+        let effect = self.get(0)?;
+        if is_item(effect.what) {
+            Some(effect)
+        } else {
+            None
+        }
     }
 
     /// Takes all away. It takes no memory.

@@ -1,6 +1,6 @@
 //! Roles by the number of their node.
 
-ghost use Rattle.std.specs.Prelude.{ℕ, ◌≡◌, ◌≢◌, ◌+◌, ◌-◌, ◌<◌, ◌≤◌, [], ◌∷◌, ◌++◌, OnOk, IfSome, IfNone, option_map, length, vec_capacity, vec_len, None};
+ghost use Rattle.std.specs.Prelude.{ℕ, ◌≡◌, ◌≢◌, ◌+◌, ◌-◌, ◌<◌, ◌≤◌, [], ◌∷◌, ◌++◌, OnOk, IfSome, IfNone, option_map, length, vec_capacity, vec_len, None, if◌then◌else◌};
 ghost use Rattle.rx_roles.specs.Roles.{role_of, without, AreBelow};
 ghost use Rattle.rx_roles.specs.RolesByNumber.{role_said, row_at, roles_in, IsRising, IsKept, Keeps};
 
@@ -239,6 +239,17 @@ impl Roles {
             }),
         });
         self.live += 1;
+    }
+
+    /// The same, where there is one to add.
+    pub fn put_if(&mut self, is: bool, role: Role)
+        requires room { 0 < self.old.room }
+        requires below { AreBelow self.old.list role.number }
+        ensures { self.new.list ≡ self.old.list ++ (if is then role ∷ [] else []) }
+    {
+        if is {
+            self.put(role);
+        }
     }
 
     /// The role of this number.

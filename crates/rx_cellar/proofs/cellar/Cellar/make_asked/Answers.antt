@@ -1,20 +1,14 @@
-use Rattle.std.proofs.Common.{Bool, ℕ, Result, subst, sym, refl}
+use Rattle.std.proofs.Common.{subst, sym, ◌∙◌}
 use Rattle.rx_resource.specs.contracts.token.TokenResource.TheImpl.{ghosts}
-use Rattle.rx_event.specs.declared.refusal.Refusal.{Refusal}
-use Rattle.rx_cellar.specs.declared.shapes.Answer.{Answer}
-use Rattle.rx_cellar.specs.declared.making.Made.{Made}
-use Rattle.rx_cellar.specs.Cellars.{IsTried, HandsOut, hands_out, IsAskedMade, is_done, is_refused}
+use Rattle.rx_cellar.specs.declared.asked.Asked.{Asked}
+use Rattle.rx_cellar.specs.Cellars.{IsAskedMade}
+use Rattle.rx_cellar.proofs.ItemsEmitted.{asked_is, hands_not}
 use Rattle.rx_cellar.proofs.cellar.Cellar.make_asked.Goals as goal
 
-pub returns-in-Ok : goal.returns-in-Ok
-returns-in-Ok c =
-    is_done c.in-Ok.made c.tidy.new.self c.attempt.new.self c.tidy.ensures
-    (subst (λ (r : Result Made Refusal). IsTried ghosts c.args.asked c.args.by c.tidy.new.self c.attempt.new.self r) c.in-Ok.is c.attempt.ensures)
-    (subst (λ (a : Answer). HandsOut (hands_out c.args.asked c.attempt.new.self.engine) c.args.by c.attempt.new.self c.hand_where.new.self a c.hand_where.new.answer) c.tell.ensures
-    (subst (λ (b : Bool). HandsOut b c.args.by c.attempt.new.self c.hand_where.new.self c.tell.new.answer c.hand_where.new.answer) c.hands_out-hands.ensures c.hand_where.ensures))
+pub make_plain-requires : goal.make_plain-requires
+make_plain-requires c = hands_not c.args.asked (sym c.item_of.ensures ∙ c.in-None.is)
 
-pub returns-in-Err : goal.returns-in-Err
-returns-in-Err c =
-    subst (λ (n : ℕ). IsAskedMade ghosts c.args.asked c.args.by c.args.self.now c.attempt.new.self c.args.answer.now c.args.answer.now n) (sym c.status_of.ensures)
-    (is_refused c.in-Err.why c.tidy.new.self c.tidy.ensures
-    (subst (λ (r : Result Made Refusal). IsTried ghosts c.args.asked c.args.by c.tidy.new.self c.attempt.new.self r) c.in-Err.is c.attempt.ensures) refl)
+pub returns-in-Some : goal.returns-in-Some
+returns-in-Some c =
+    subst (λ (a : Asked). IsAskedMade ghosts a c.args.by c.args.self.now c.emit.new.self c.args.answer.now c.emit.new.answer c.emit.result)
+    (asked_is c.args.asked c.in-Some.item (sym c.item_of.ensures ∙ c.in-Some.is)) c.emit.ensures

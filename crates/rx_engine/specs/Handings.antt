@@ -1,0 +1,54 @@
+-- What is handed out at once, as by a command and the first take behind it: an item that is all that came of it.
+use Rattle.std.specs.Prelude.{◌≡◌, ◌&&◌, ℕ, Bool, true, false, pos, Option, Some, None, Result, Ok, IfOk, IfErr, OnErr}
+use Rattle.rx_resource.specs.declared.Resource.{Ghosts}
+use Rattle.rx_resource.specs.declared.token.Token.{Token}
+use Rattle.rx_event.specs.declared.refusal.Refusal.{Refusal}
+use Rattle.rx_slots.specs.declared.Key.{Key}
+use Rattle.rx_book.specs.Requests.{next_request}
+use Rattle.rx_book.specs.Answers.{IsCauseOrWant}
+use Rattle.rx_lanes.specs.State.{State as LanesState}
+use Rattle.rx_lanes.specs.Handings.{ClaimsAlone, IsDueGiven}
+use Rattle.rx_roles.specs.declared.effect.Effect.{Effect}
+use Rattle.rx_roles.specs.Effects.{only_item}
+use Rattle.rx_engine.specs.declared.parts.Parts.{Parts}
+use Rattle.rx_engine.specs.States.{State, IsSeenAs}
+use Rattle.rx_engine.specs.Commands.{IsCostlyMade}
+use Rattle.rx_engine.specs.Servings.{is_one, comes_to_one, HandsIf}
+use Rattle.rx_engine.specs.Rooms.{IsReady}
+use Rattle.rx_engine.specs.Gatherings.{Spreads}
+
+-- the first of the first lane that is due is given, or nothing is and nothing changes
+abbrev pub GivesIf : Bool → (by : ℕ) → (s t : LanesState Effect) → Option Effect → Type 0
+GivesIf true by s t given = IsDueGiven s.due by s t given
+GivesIf false by s t given = (given ≡ None) × (t ≡ s)
+
+-- the effect that was on its way is an item, and its lane is claimed for it
+pub record ClaimsOnly (by : ℕ) (e : Effect) (p q : Parts) : Type 0 where
+  pub item : only_item p.effects.list ≡ Some e
+  pub claims : ClaimsAlone e.lane by p.lanes q.lanes
+  pub copies : q.copies ≡ 1
+  pub only : q ≡ record p { effects = q.effects; lanes = q.lanes; copies = q.copies }
+
+abbrev pub ClaimsIf : (by : ℕ) → Option Effect → Parts → Parts → Type 0
+ClaimsIf by None p q = q ≡ p
+ClaimsIf by (Some e) p q = ClaimsOnly by e p q
+
+-- all effects are in their lanes, and then, where one item is all that there was, it is handed out
+pub record SpreadsAndHands (none_closed : Bool) (by : ℕ) (p q : Parts) (given : Option Effect) : Type 0 where
+  pub between : Parts
+  pub spreads : Spreads by p between
+  pub ready : IsReady 0 between
+  pub gives : GivesIf (none_closed && is_one between) by between.lanes q.lanes given
+  pub only : q ≡ record between { lanes = q.lanes }
+
+-- the command was made, and then, where it came to one item, that was handed out
+pub record IsMadeAndHanded (g : Ghosts Token) (leaf : Key) (by value : ℕ) (s t : State) (given : Option Effect) : Type 0 where
+  pub between : State
+  pub made : IsCostlyMade {A = Unit} g (λ x. next_request x.book leaf (pos 0)) by value s between (Ok tt)
+  pub hand : HandsIf (comes_to_one between) by between t given
+
+-- or it was refused, as the command is, and nothing changed but room
+pub record IsNextHanded (g : Ghosts Token) (leaf : Key) (by value : ℕ) (s t : State) (answer : Result (Option Effect) Refusal) : Type 0 where
+  pub done : IfOk answer (IsMadeAndHanded g leaf by value s t)
+  pub refused : IfErr answer (IsCauseOrWant s.book (next_request s.book leaf (pos 0)))
+  pub kept : OnErr answer (IsSeenAs s t)

@@ -1,0 +1,40 @@
+-- What is handed out is the first of the first lane that is due; and what holds where one lane alone is.
+use Rattle.std.proofs.Common.{◌≡◌, ℕ, List, [], ◌∷◌, Option, Some, None, true, false, slice_get, refl, ap, ◌∙◌, subst, true≢false}
+use Rattle.std.proofs.lemmas.Option.{same_Some}
+use Rattle.rx_lanes.specs.declared.names.Due.{Due}
+use Rattle.std.proofs.Math.Bool.{not}
+use Rattle.rx_lanes.specs.declared.names.LaneName.{LaneName}
+use Rattle.rx_lanes.specs.Lane.{Lane, is_empty, is_idle, claimed}
+use Rattle.rx_lanes.specs.State.{State, lane, Turns}
+use Rattle.rx_lanes.specs.Handings.{ClaimsAlone, IsGiven, IsDueGiven}
+
+pub none_of : (xs : List ℕ) → not (is_empty xs) ≡ false → xs ≡ []
+none_of [] e = refl
+none_of (x ∷ xs) e = absurd (true≢false e)
+
+module _ {E : Type 0} where
+  pub due_some : (ds : List Due) (d : Due) (by : ℕ) (s t : State E) (answer : Option E) → Some d ≡ slice_get ds 0 →
+      IsGiven d.lane d.inside by s t answer → IsDueGiven ds by s t answer
+  due_some [] d by s t answer is given = absurd (cc)
+  due_some (x ∷ ds) d by s t answer is given = subst (λ (y : Due). IsGiven y.lane y.inside by s t answer) (same_Some d x is) given
+
+  pub due_none : (ds : List Due) (by : ℕ) (s : State E) → None ≡ slice_get ds 0 → IsDueGiven ds by s s None
+  due_none [] by s is = (refl, refl)
+  due_none (x ∷ ds) by s is = absurd (cc)
+
+  pub claims_alone : (name : LaneName) (by : ℕ) (s m t : State E) (l : Lane E) → lane s name ≡ Some l → is_idle l ≡ true → s.fresh ≡ [] →
+      Turns s m name (Some (claimed by l)) → t ≡ record m { due = record { lane = name; inside = false } ∷ [] } → ClaimsAlone name by s t
+  claims_alone name by s m t l was idle none_fresh turns is = record {
+    before = l;
+    was = was;
+    idle = idle;
+    none_fresh = none_fresh;
+    claims = record {
+      found = ap (λ (x : State E). lane x name) is ∙ turns.found;
+      others = λ other apart. ap (λ (x : State E). lane x other) is ∙ turns.others other apart;
+      fresh_is = ap (λ (x : State E). x.fresh) is ∙ turns.fresh_is;
+      next_turn = ap (λ (x : State E). x.next_turn) is ∙ turns.next_turn;
+      due = refl;
+    };
+    due = ap (λ (x : State E). x.due) is;
+  }
