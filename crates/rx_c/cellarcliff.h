@@ -1,5 +1,5 @@
 /* The library cellarcliff: an engine of observables behind a handle, and what is shown of a text.
- * It takes the place of rx_book.h, beside which it stands for one version; no name is in both.
+ * It takes the place of rx_book.h, beside which it stands for one version; no name is in both. cellarcliff_names.h names the statuses.
  *
  * In one paragraph. A face (the operators of a language) gives each node that it opens a word of its own, each resource a tag,
  * each item a value: numbers or addresses that the engine never reads. It makes one command at a time by cellar_make, under its own
@@ -84,11 +84,13 @@ extern "C" {
  *   - a kind of effect that is new comes only to a node that was opened by a code or a flag that is new. So a face never gets
  *     an effect that it does not know;
  *   - what does not fit becomes a call of another name, beside the old one.
- *   cellar_abi answers the number of the header that the library was built for. A face asks once, and refuses to run where the
- *   upper half differs from CELLAR_ABI's, or the lower half is less. */
+ *   cellar_abi answers the number of the header that the library was built for. A face asks once, by CELLAR_FITS, and refuses to run
+ *   where the upper half differs from CELLAR_ABI's, or the lower half is less; CELLAR_ANOTHER says so. */
 #define CELLAR_ABI UINT32_C(0x00010000) /* upper half: counts changes that break; lower half: what was added since */
 
 uint32_t cellar_abi(void);
+#define CELLAR_FITS() (cellar_abi() >> 16 == CELLAR_ABI >> 16 && (cellar_abi() & 0xFFFF) + 1 > (CELLAR_ABI & 0xFFFF))
+#define CELLAR_ANOTHER "the library cellarcliff is of another version than this program was built for"
 
 /* The size in bytes of a struct of this header as the library has it, 0 for a number that is none: 0 cellar, 1 cellar_command,
  * 2 cellar_answer, 3 cellar_effect, 4 cellar_totals, 5 cellar_event. For bindings that have no C compiler. */
@@ -312,10 +314,10 @@ enum cellar_text_status {
  * `rxbook run --dump --names` does: 0, 1, 3 or 4. A scenario with a checkpoint has none (3). */
 uint8_t cellar_run_names(const uint8_t *scenario, size_t length, uint8_t *buffer, size_t capacity, size_t *told);
 
-/* Draws a history as SVG, as the program rxpicture does: 0, 1, 3 or 4. The input is a dump, or what cellar_run_names writes. */
+/* Draws a history as SVG, as `rxbook picture` does: 0, 1, 3 or 4. The input is a dump, or what cellar_run_names writes. */
 uint8_t cellar_picture(const uint8_t *input, size_t length, uint8_t *buffer, size_t capacity, size_t *told);
 
-/* Says what is wrong with a scenario or a dump, in a sentence, as the program rxexplain does: 5, 1 or 4; or 0, and no text, where
+/* Says what is wrong with a scenario or a dump, in a sentence, as `rxbook explain` does: 5, 1 or 4; or 0, and no text, where
  * the input is a scenario, or a dump whose verdict is `lawful`. */
 uint8_t cellar_explain(const uint8_t *input, size_t length, uint8_t *buffer, size_t capacity, size_t *told);
 

@@ -1,4 +1,5 @@
-/* The library rx: the audit of a dump, the run of a scenario, and a live book behind a handle. Text in, text out.
+/* The library rx: the audit of a dump, the run of a scenario, and a live book behind a handle. Text in, text out. Calls that draw and
+ * explain are in cellarcliff.h.
  *
  * A call that takes a text reads `length` bytes at its pointer; one that answers a text writes it to the front of
  * `buffer`, which has room for `capacity` bytes. Each answers a status. docs/reference/c-library.md lists what a
@@ -72,7 +73,7 @@ enum rx_live_status {
  * checkpoint. */
 uint8_t rx_live_new(struct rx_live *book, uint32_t max_events);
 
-/* Sends a line, a command of the program rxlive without a newline, and writes its answer: 0 to 4. With 0 and 1 the
+/* Sends a line, a command of `rxbook live` without a newline, and writes its answer: 0 to 4. With 0 and 1 the
  * line was taken, with any other status it was not; with 4 the book may have made a checkpoint. */
 uint8_t rx_live_send(struct rx_live *book, const uint8_t *line, size_t length, uint8_t *buffer, size_t capacity,
                      size_t *told);

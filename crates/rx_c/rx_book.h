@@ -1,4 +1,5 @@
-/* The library rx: a book of subscriptions behind a handle, by calls on numbers.
+/* The library rx: a book of subscriptions behind a handle, by calls on numbers. It is here for this version; the engine of cellarcliff.h
+ * takes its place. cellarcliff_names.h names the statuses.
  *
  * A resource stays with the caller. The book holds a tag in its place: any number, such as a file descriptor or an
  * index into a table. Once the node that held it is closed and no lease of it is out, rx_book_take, rx_book_drain or a

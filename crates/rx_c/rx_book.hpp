@@ -14,6 +14,7 @@
 #include <cstdint>
 #include <utility>
 
+#include "cellarcliff_names.h"
 #include "rx_book.h"
 
 namespace rx {
@@ -34,6 +35,8 @@ enum class status : std::uint8_t {};
 constexpr status done = status{RX_BOOK_DONE};
 constexpr bool operator==(status a, rx_book_status b) noexcept { return static_cast<int>(a) == static_cast<int>(b); }
 constexpr bool operator!=(status a, rx_book_status b) noexcept { return !(a == b); }
+// Its name, as reports have it.
+inline const char *name(status it) noexcept { return cellar_status_name(static_cast<unsigned>(it)); }
 
 // A value, or why there is none.
 template <class T>
@@ -146,7 +149,7 @@ class calls {
     status why{rx_book_next_all(&book_, leaf, values ? values : &none, length, &count)};
     return {count, why};
   }
-  result<std::uint64_t> end(node leaf, ending how) noexcept {
+  result<std::uint64_t> end(node leaf, ending how = ending::completed()) noexcept {
     return placed([&](std::uint64_t *place) { return rx_book_end(&book_, leaf, how.how_, how.error_, place); });
   }
   result<std::uint64_t> abort(node at_node, std::uint32_t error) noexcept {
@@ -203,7 +206,7 @@ class calls {
   told next_told(node leaf, std::int64_t value) noexcept {
     return telling([&](rx_told *out) { return rx_book_next_told(&book_, leaf, value, out); });
   }
-  told end_told(node leaf, ending how) noexcept {
+  told end_told(node leaf, ending how = ending::completed()) noexcept {
     return telling([&](rx_told *out) { return rx_book_end_told(&book_, leaf, how.how_, how.error_, out); });
   }
   told abort_told(node at_node, std::uint32_t error) noexcept {

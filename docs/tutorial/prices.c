@@ -125,6 +125,10 @@ static int close_all(void) {
 int main(void) {
   static void (*const parts[])(void) = {watch, share, merge, latest, lend, forget};
   static const char *const names[] = {"watch", "share", "merge", "latest", "lend", "forget"};
+  if (!CELLAR_FITS()) {
+    fputs(CELLAR_ANOTHER "\n", stderr);
+    return 1;
+  }
   if (cellar_new(&engine, 0) != CELLAR_DONE) return 1;
   for (int i = 0; i < 6; i++) {
     printf("-- %s\n", names[i]);

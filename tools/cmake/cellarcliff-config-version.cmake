@@ -1,0 +1,10 @@
+# What find_package(cellarcliff VERSION) asks. A version fits that begins as the name of the library does, and is not newer.
+set(PACKAGE_VERSION "@VERSION@")
+string(REPLACE "." "\\." _cellarcliff_number "@NUMBER@")
+if("${PACKAGE_FIND_VERSION}." MATCHES "^${_cellarcliff_number}\\." AND NOT PACKAGE_FIND_VERSION VERSION_GREATER PACKAGE_VERSION)
+  set(PACKAGE_VERSION_COMPATIBLE TRUE)
+  if(PACKAGE_FIND_VERSION VERSION_EQUAL PACKAGE_VERSION)
+    set(PACKAGE_VERSION_EXACT TRUE)
+  endif()
+endif()
+unset(_cellarcliff_number)
