@@ -296,10 +296,11 @@ uint8_t cellar_finish(struct cellar *engine);
  * and tags that nobody releases then. */
 void cellar_drop(struct cellar *engine);
 
-/* What is shown ----------------------------------------------------------------------------------------------------------------*/
+/* Texts ------------------------------------------------------------------------------------------------------------------------*/
 
 /* A call that takes a text reads `length` bytes at its pointer, and writes its answer to the front of `buffer`, which has room for
- * `capacity` bytes: as the calls of rx.h, with the same duties. docs/reference/c-library.md lists those. */
+ * `capacity` bytes. docs/reference/c-library.md lists what a caller has to ensure. The calls of rx.h are these under their older names, and
+ * stay for this version. */
 
 /* Statuses of the calls that take a text; those of rx.h are the same numbers. */
 enum cellar_text_status {
@@ -307,8 +308,15 @@ enum cellar_text_status {
   CELLAR_TEXT_SMALL = 1,     /* the buffer is too small, and unchanged; *told is the capacity that the text needs */
   CELLAR_TEXT_FAULTY = 3,    /* the input is not what the call takes. The buffer is unchanged, and *told is 0 */
   CELLAR_TEXT_NO_MEMORY = 4, /* memory was refused. The buffer is unchanged, and *told is 0 */
-  CELLAR_TEXT_SAYS = 5       /* cellar_explain: something is wrong, and *told bytes in the buffer say what */
+  CELLAR_TEXT_SAYS = 5       /* *told bytes are in the buffer: cellar_explain says what is wrong; of cellar_audit the verdict is not `lawful` */
 };
+
+/* Judges a dump, as `rxbook audit` does: 0 where the verdict is `lawful`, else 5; or 1, 3 or 4. */
+uint8_t cellar_audit(const uint8_t *dump, size_t length, uint8_t *buffer, size_t capacity, size_t *told);
+
+/* Runs a scenario and writes its report, or the dump of its history, as `rxbook run` and `rxbook run --dump` do: 0, 1, 3 or 4. */
+uint8_t cellar_run(const uint8_t *scenario, size_t length, uint8_t *buffer, size_t capacity, size_t *told);
+uint8_t cellar_run_dump(const uint8_t *scenario, size_t length, uint8_t *buffer, size_t capacity, size_t *told);
 
 /* Runs a scenario and writes its history before the closing, with the names of its nodes, hubs and resources, as
  * `rxbook run --dump --names` does: 0, 1, 3 or 4. A scenario with a checkpoint has none (3). */
@@ -320,6 +328,32 @@ uint8_t cellar_picture(const uint8_t *input, size_t length, uint8_t *buffer, siz
 /* Says what is wrong with a scenario or a dump, in a sentence, as `rxbook explain` does: 5, 1 or 4; or 0, and no text, where
  * the input is a scenario, or a dump whose verdict is `lawful`. */
 uint8_t cellar_explain(const uint8_t *input, size_t length, uint8_t *buffer, size_t capacity, size_t *told);
+
+/* A live book ------------------------------------------------------------------------------------------------------------------*/
+
+/* A book by lines behind a handle, as `rxbook live` keeps one. The handle is used as `struct cellar` is. */
+struct cellar_live {
+  void *at; /* neither read nor written by the caller */
+};
+
+/* As enum rx_live_status of rx.h, where each has its sentence. */
+enum cellar_live_status {
+  CELLAR_LIVE_DONE = 0,
+  CELLAR_LIVE_SMALL = 1,         /* done; the answer waits for cellar_live_read, and the line is not sent again */
+  CELLAR_LIVE_NOTHING_KEPT = 2,
+  CELLAR_LIVE_ANSWER_WAITS = 3,  /* nothing was done */
+  CELLAR_LIVE_NO_MEMORY = 4,     /* nothing was done: make the same call again */
+  CELLAR_LIVE_HELD = 5,
+  CELLAR_LIVE_NOTHING_WAITS = 6
+};
+
+/* Makes a book: 0, 4 or 5. Sends a line without its newline: 0 to 4. Reads an answer that waits: 0, 1, 2 or 6. Closes everything, and
+ * answers what is left to release: 0 to 4. Frees whatever the handle keeps, and cannot fail. */
+uint8_t cellar_live_new(struct cellar_live *book, uint32_t max_events);
+uint8_t cellar_live_send(struct cellar_live *book, const uint8_t *line, size_t length, uint8_t *buffer, size_t capacity, size_t *told);
+uint8_t cellar_live_read(struct cellar_live *book, uint8_t *buffer, size_t capacity, size_t *told);
+uint8_t cellar_live_end(struct cellar_live *book, uint8_t *buffer, size_t capacity, size_t *told);
+void cellar_live_drop(struct cellar_live *book);
 
 /* Checks of pointers ---------------------------------------------------------------------------------------------------------*/
 
