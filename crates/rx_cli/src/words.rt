@@ -11,7 +11,7 @@ use rx_script::Form;
 use std::alloc::{AllocError, Global};
 use std::convert::AsStr;
 
-const VERSION: &str = "0.1.0";
+const VERSION: &str = "0.2.0";
 
 // The usage of the program and of the subcommands that read; `clap` shows it with each usage error too.
 const USAGE: &str = "rxbook [COMMAND] < FILE";

@@ -377,8 +377,8 @@ const HELPS: [Row; 8] = [
     (&["rxbook", "run", "--help"], UNREAD, 0, RUN_HELP, ""),
     (&["rxbook", "audit", "--help"], UNREAD, 0, AUDIT_HELP, ""),
     (&["rxbook", "storm", "--help"], UNREAD, 0, STORM_HELP, ""),
-    (&["rxbook", "--version"], UNREAD, 0, "rxbook 0.1.0\n", ""),
-    (&["rxbook", "-V"], UNREAD, 0, "rxbook 0.1.0\n", ""),
+    (&["rxbook", "--version"], UNREAD, 0, "rxbook 0.2.0\n", ""),
+    (&["rxbook", "-V"], UNREAD, 0, "rxbook 0.2.0\n", ""),
 ];
 
 #[test]
