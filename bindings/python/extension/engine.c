@@ -16,7 +16,12 @@
 
 #include "cellarcliff.h"
 
-#define CALL1(f, x) PyObject_CallFunctionObjArgs(f, x, NULL)
+/* In Python from 3.11 on, and in its limited interface from 3.12 on: NULL where it is not there. */
+extern PyObject *PyObject_Vectorcall(PyObject *, PyObject *const *, size_t, PyObject *) __attribute__((weak));
+static inline PyObject *CALL1(PyObject *f, PyObject *it) {
+  PyObject *given[2] = {NULL, it}; /* the first is for a method's own object */
+  return PyObject_Vectorcall ? PyObject_Vectorcall(f, given + 1, 1 | (size_t)1 << (8 * sizeof(size_t) - 1), NULL) : PyObject_CallFunctionObjArgs(f, it, NULL);
+}
 #define CALL0(f) PyObject_CallFunctionObjArgs(f, NULL)
 #define ITEM PyTuple_GetItem
 #define MANY PyTuple_Size
@@ -87,6 +92,8 @@ typedef struct {
 struct Subject {
   PyObject_HEAD
   PyObject *ups, *all;        /* by leaf, what it is told by; and the values of that, until they change */
+  PyObject *one;              /* not held: what is told where only one has subscribed, of `all` */
+  Leaf *first;                /* not held: the first leaf of `all` */
   PyObject *memory;           /* a list of (time, item) for who comes later, or NULL */
   Py_ssize_t limit;           /* how many it has, or -1 */
   char is_stopped, is_disposed;
@@ -104,16 +111,21 @@ static PyObject *refuse, *unhandled; /* what a status is raised by, and what hea
 static unsigned generation;
 
 /* This thread: how deep it is in calls of the package, what was raised meanwhile, which lane it serves, the innermost, and what
- * sources put off: till the call further out goes on, or behind what that lane projects. */
+ * sources put off: till the call further out goes on, or behind what that lane tells; then it may let go of the lane. */
 static _Thread_local struct Mine {
-  int depth, is_closing, has_lane;
-  uint64_t lane;
+  int depth, is_closing, has_lane, lets_go;
+  uint64_t lane, ident;
   PyObject *errors, *trampoline, *put_off;
   struct Lanes *due;
 } mine;
+/* Asked once on the way of an item: to find what is a thread's own takes a call each time. */
+static __attribute__((noinline)) struct Mine *here_is(void) {
+  if (!mine.ident) mine.ident = PyThread_get_thread_ident();
+  return &mine;
+}
 
 static PyObject *word(uint64_t it) { return (PyObject *)(uintptr_t)it; }
-static uint64_t me(void) { return PyThread_get_thread_ident(); }
+static uint64_t me(void) { return here_is()->ident; }
 static PyObject *new_of(PyObject *it) {
   Py_INCREF(it);
   return it;
@@ -175,13 +187,17 @@ static int caught(uint64_t by) {
   Py_DECREF(error);
   return 0;
 }
-static void enter(void) { mine.depth++; }
+static struct Mine *enter(void) {
+  struct Mine *here = here_is();
+  here->depth++;
+  return here;
+}
 /* The end of a call. The outermost raises the first of what observers and releases raised, unless something is raised already, or the
  * caller needs the answer. */
-static int leave(int failed, int is_quiet) {
-  if (--mine.depth || !mine.errors) return failed;
-  PyObject *errors = mine.errors, *first = failed ? caught_one() : NULL;
-  mine.errors = NULL;
+static int leave(struct Mine *here, int failed, int is_quiet) {
+  if (--here->depth || !here->errors) return failed;
+  PyObject *errors = here->errors, *first = failed ? caught_one() : NULL;
+  here->errors = NULL;
   for (Py_ssize_t i = 0; i < PyList_Size(errors); i++) {
     PyObject *it = PyList_GetItem(errors, i);
     if (first || is_quiet) to_hook(it);
@@ -211,20 +227,26 @@ static void put_closed(Core *core, uint64_t it) {
   if (is_a(close, leaf_type)) ((Leaf *)close)->is_stopped = 1;
   core->closed[(core->first + core->many++) & (core->room - 1)] = it;
 }
-/* Makes a command, and takes in what it closed: the status. */
-static uint8_t command(Core *core, struct cellar_command *c, struct cellar_answer *a, PyObject *value) {
-  if (core->generation != generation) return CELLAR_GONE;
-  c->by = me();
-  uint8_t status = calls.make(&core->engine, c, a);
-  if (status) return status;
-  if (value && a->copies) keep(core, value, a->copies);
+static void take_in_closed(Core *core, const struct cellar_answer *a) {
   for (uint64_t i = 0; i < a->closed && i < CELLAR_ROOM; i++) put_closed(core, a->closings[i]);
   for (uint64_t at = CELLAR_ROOM, count; at < a->closed; at += count) {
     uint64_t more[64];
     calls.rest(&core->engine, 0, at, more, 64, &count);
     for (uint64_t i = 0; i < count; i++) put_closed(core, more[i]);
   }
-  return 0;
+}
+/* Makes a command, and takes in what it closed: the status. */
+static inline uint8_t command_by(struct Mine *here, Core *core, struct cellar_command *c, struct cellar_answer *a) {
+  if (core->generation != generation) return CELLAR_GONE;
+  c->by = here->ident;
+  uint8_t status = calls.make(&core->engine, c, a);
+  if (!status && a->closed) take_in_closed(core, a);
+  return status;
+}
+static uint8_t command(Core *core, struct cellar_command *c, struct cellar_answer *a, PyObject *value) {
+  uint8_t status = command_by(here_is(), core, c, a);
+  if (!status && value && a->copies) keep(core, value, a->copies);
+  return status;
 }
 
 /* Lanes that are to be served. Where there is no memory for all of them, they are found as what is left. */
@@ -258,8 +280,8 @@ static void lanes_add(Lanes *it, Core *core, const struct cellar_answer *a) {
 
 /* Serving ----------------------------------------------------------------------------------------------------------------------*/
 
-static int chain_tell(Chain *, PyObject *);
-static int emit(Leaf *, PyObject *);
+static int chain_tell(struct Mine *, Chain *, PyObject *);
+static int emit(struct Mine *, Leaf *, PyObject *);
 static int root_dispose(Root *);
 
 static int dispose_and_go_on(Root *root) {
@@ -272,18 +294,21 @@ static int dispose_and_go_on(Root *root) {
   return -1;
 }
 /* Tells a root an item. What it raises disposes of it, and is raised. */
-static int root_tell(Root *root, PyObject *value) {
+static inline int root_tell(struct Mine *here, Root *root, PyObject *value) {
   if (root->is_stopped) return 0;
   int status;
   PyObject *target;
-  if (root->head && Py_TYPE(root->head) == chain_type) {
-    target = new_of(root->head);
-    status = chain_tell((Chain *)target, value);
-  } else if (!root->head && root->into) {
+  if (!root->head && !root->into) {
+    target = new_of(root->on_next);
+    status = plain(CALL1(target, value));
+  } else if (!root->head) {
     target = new_of((PyObject *)root->into);
-    status = emit((Leaf *)target, value);
+    status = emit(here, (Leaf *)target, value);
+  } else if (Py_TYPE(root->head) == chain_type) {
+    target = new_of(root->head);
+    status = chain_tell(here, (Chain *)target, value);
   } else {
-    target = new_of(root->target ? root->target : root->on_next);
+    target = new_of(root->target);
     status = plain(CALL1(target, value));
   }
   Py_DECREF(target);
@@ -311,26 +336,31 @@ static int root_ended(Root *root, PyObject *error) {
 static int release(PyObject *tag) {
   return plain(PyTuple_Check(tag) ? PyObject_CallMethodObjArgs(ITEM(tag, 0), s_dispose, NULL) : CALL0(tag));
 }
-/* Does what an effect says. */
+/* Does what an effect says that is no item. */
 static int tell(Core *core, const struct cellar_effect *e, PyObject *value) {
   PyObject *user = word(e->user);
   int status = 0;
   Py_INCREF(user);
   switch (e->kind) {
-    case CELLAR_E_NEXT: status = root_tell((Root *)ITEM(user, 0), value); break;
-    case CELLAR_E_PROJECT: status = plain(CALL1(ITEM(user, 2), value)); break;
     case CELLAR_E_COMPLETED: status = root_ended((Root *)ITEM(user, 0), NULL); break;
     case CELLAR_E_FAILED: status = root_ended((Root *)ITEM(user, 0), value); break;
     case CELLAR_E_GONE: ((Root *)ITEM(user, 0))->is_over = ((Root *)ITEM(user, 0))->is_stopped = 1; break;
     case CELLAR_E_RELEASE: status = release(user); break;
     case CELLAR_E_PUT: status = plain(CALL0(ITEM(user, 0))); break;
   }
-  if (!status && (e->kind == CELLAR_E_NEXT || e->kind == CELLAR_E_PROJECT)) Py_DECREF(user); /* the usual way: nothing is raised */
-  else {
-    let_go(core, user);
-    core->kept++;
-    if (e->kind != CELLAR_E_NEXT && e->kind != CELLAR_E_PROJECT) let_go(core, user);
-  }
+  core->kept++; /* one reference was this call's */
+  let_go(core, user);
+  let_go(core, user);
+  if (e->carries && value) let_go(core, value);
+  return status;
+}
+/* Tells an item, which is to be mapped to an observable or for an observer: the engine keeps its word. */
+static inline int tell_item(struct Mine *here, Core *core, const struct cellar_effect *e, PyObject *value) {
+  PyObject *user = word(e->user);
+  Py_INCREF(user);
+  int status = e->kind == CELLAR_E_NEXT ? root_tell(here, (Root *)ITEM(user, 0), value) : plain(CALL1(ITEM(user, 2), value));
+  if (status) core->kept++, let_go(core, user);
+  else Py_DECREF(user);
   if (e->carries && value) let_go(core, value);
   return status;
 }
@@ -351,15 +381,16 @@ static int go_on(PyObject *queue) {
   return status;
 }
 /* Serves a lane until it has nothing, or another is at it: 0, or -1 where what is no Exception goes on. */
-static int serve(Core *core, uint64_t lane, struct cellar_effect *e, PyObject *value, int has, uint64_t by) {
-  struct Mine *here = &mine;
-  uint64_t of = by, many, before = here->lane, unused;
+static int serve_by(struct Mine *here, Core *core, uint64_t lane, struct cellar_effect *e, PyObject *value, int has) {
+  uint64_t by = here->ident, of = by, many, before = here->lane, unused;
   PyObject *put_off = here->put_off;
-  int status = 0, had = here->has_lane;
-  here->lane = lane, here->has_lane = 1, here->put_off = NULL;
+  int status = 0, had = here->has_lane, let_go = here->lets_go;
+  here->lane = lane, here->has_lane = 1, here->lets_go = 0, here->put_off = NULL;
   for (;; has = 0) {
-    if (!has && is_some(here->put_off)) status = go_on(here->put_off);
-    else {
+    if (!has && is_some(here->put_off)) {
+      if (here->lets_go && !(lane & CELLAR_INSIDE) && core->generation == generation) calls.give_up(&core->engine, lane, by, e, 0, &unused);
+      status = go_on(here->put_off);
+    } else {
       if (!has) {
         if (core->generation != generation) break;
         calls.take(&core->engine, lane, by, e, &many);
@@ -367,7 +398,7 @@ static int serve(Core *core, uint64_t lane, struct cellar_effect *e, PyObject *v
         value = e->carries && e->value ? word(e->value) : NULL;
       }
       of = e->by;
-      status = tell(core, e, value);
+      status = e->kind <= CELLAR_E_PROJECT ? tell_item(here, core, e, value) : tell(core, e, value);
     }
     if (status && (status = caught(of))) {
       if (!(lane & CELLAR_INSIDE) && core->generation == generation) calls.give_up(&core->engine, lane, by, e, 0, &unused);
@@ -376,9 +407,10 @@ static int serve(Core *core, uint64_t lane, struct cellar_effect *e, PyObject *v
     }
   }
   Py_XDECREF(here->put_off);
-  here->lane = before, here->has_lane = had, here->put_off = put_off;
+  here->lane = before, here->has_lane = had, here->lets_go = let_go, here->put_off = put_off;
   return status;
 }
+static int serve(Core *core, uint64_t lane, struct cellar_effect *e, PyObject *value, int has) { return serve_by(here_is(), core, lane, e, value, has); }
 /* Tells those that closed, the first first: only the outermost does, so that nothing recurses. */
 static int hear_closed(Core *core) {
   int status = 0;
@@ -413,7 +445,7 @@ static int serve_left(Core *core) {
   if (hear_closed(core)) return core->is_left = 1, -1;
   for (;;) {
     if (calls.left(&core->engine, from, &lane, &from) || lane == UINT64_MAX) return 0;
-    if (serve(core, lane, &e, NULL, 0, me())) return -1;
+    if (serve(core, lane, &e, NULL, 0)) return -1;
   }
 }
 /* An effect that was handed out and not told stands first in its lane again, which others may serve. */
@@ -434,7 +466,7 @@ static int come_of(Core *core, Lanes *lanes, int is_exchange, struct cellar_effe
   if (core->many) status = hear_closed(core);
   if (handed && (status || !lanes->many)) give_back(core, lane, by, handed);
   for (; !status && lanes->at < lanes->many; handed = NULL)
-    status = handed ? serve(core, lanes->all[lanes->at++], handed, value, 1, by) : serve(core, lanes->all[lanes->at++], &e, NULL, 0, by);
+    status = handed ? serve(core, lanes->all[lanes->at++], handed, value, 1) : serve(core, lanes->all[lanes->at++], &e, NULL, 0);
   mine.due = lanes->outer;
   if (status) core->is_left = 1;
   return status;
@@ -442,7 +474,7 @@ static int come_of(Core *core, Lanes *lanes, int is_exchange, struct cellar_effe
 /* The same of one answer. */
 static int settle(Core *core, struct cellar_answer *a, PyObject *value, int is_exchange) {
   struct cellar_effect *handed = a->handed ? &a->effect : NULL;
-  if (handed && a->due == 1 && !core->many) return serve(core, a->lanes[0], handed, value, 1, me());
+  if (handed && a->due == 1 && !core->many) return serve(core, a->lanes[0], handed, value, 1);
   if (!a->due && !core->many && !is_exchange) return 0;
   Lanes lanes;
   lanes_begin(&lanes, core);
@@ -456,17 +488,17 @@ static int settle(Core *core, struct cellar_answer *a, PyObject *value, int is_e
 /* Leaves, functions, emitters --------------------------------------------------------------------------------------------------*/
 
 /* An item into the engine by one leaf, and to whoever is to hear it. The caller holds the value. */
-static int emit(Leaf *leaf, PyObject *value) {
+static int emit(struct Mine *here, Leaf *leaf, PyObject *value) {
   if (leaf->is_stopped) return 0;
   Core *core = leaf->core;
   struct cellar_command c = {.what = CELLAR_NEXT, .node = leaf->node, .value = (uintptr_t)value};
   struct cellar_answer a;
-  uint8_t status = command(core, &c, &a, NULL);
+  uint8_t status = command_by(here, core, &c, &a);
   if (status == CELLAR_GONE) return leaf->is_stopped = 1, 0;
   if (status) return refused(status);
   if (a.handed && a.due == 1 && !core->many) { /* it is told while the caller holds it: no reference is taken */
     a.effect.carries = 0;
-    return serve(core, a.lanes[0], &a.effect, value, 1, c.by);
+    return serve_by(here, core, a.lanes[0], &a.effect, value, 1);
   }
   keep(core, value, a.copies);
   return settle(core, &a, value, 0);
@@ -505,19 +537,19 @@ static PyObject *through(Chain *chain, PyObject *value, int *failed) {
   }
   return value;
 }
-static int chain_tell(Chain *chain, PyObject *value) {
+static int chain_tell(struct Mine *here, Chain *chain, PyObject *value) {
   int failed;
   PyObject *it = through(chain, value, &failed);
   if (!it) return failed;
-  if (chain->leaf) failed = emit(chain->leaf, it);
+  if (chain->leaf) failed = emit(here, chain->leaf, it);
   else if (chain->down_next) failed = plain(CALL1(chain->down_next, it));
   else if (!((Root *)chain->down)->is_stopped) failed = plain(CALL1(((Root *)chain->down)->on_next, it));
   Py_DECREF(it);
   return failed;
 }
-static int tell_up(PyObject *up, PyObject *value) {
-  if (Py_TYPE(up) == leaf_type) return emit((Leaf *)up, value);
-  if (Py_TYPE(up) == chain_type) return chain_tell((Chain *)up, value);
+static inline int tell_up(struct Mine *here, PyObject *up, PyObject *value) {
+  if (Py_TYPE(up) == leaf_type) return emit(here, (Leaf *)up, value);
+  if (Py_TYPE(up) == chain_type) return chain_tell(here, (Chain *)up, value);
   return plain(PyObject_CallMethodObjArgs(up, s_on_next, value, NULL));
 }
 
@@ -525,7 +557,7 @@ static PyObject *none_or_null(int status) {
   if (status) return NULL;
   Py_RETURN_NONE;
 }
-static PyObject *leaf_next(Leaf *self, PyObject *value) { return none_or_null(emit(self, value)); }
+static PyObject *leaf_next(Leaf *self, PyObject *value) { return none_or_null(emit(here_is(), self, value)); }
 static PyObject *leaf_error(Leaf *self, PyObject *error) { return none_or_null(end_leaf(self, error)); }
 static PyObject *leaf_completed(Leaf *self, PyObject *unused) {
   (void)unused;
@@ -568,7 +600,7 @@ static int chain_init(Chain *self, PyObject *given, PyObject *named) {
   else if (!is_a(down, root_type) && !(self->down_next = PyObject_GetAttr(down, s_on_next))) return -1;
   return 0;
 }
-static PyObject *chain_next(Chain *self, PyObject *value) { return none_or_null(chain_tell(self, value)); }
+static PyObject *chain_next(Chain *self, PyObject *value) { return none_or_null(chain_tell(here_is(), self, value)); }
 static PyObject *chain_error(Chain *self, PyObject *error) { return PyObject_CallMethodObjArgs(self->down, s_on_error, error, NULL); }
 static PyObject *chain_completed(Chain *self, PyObject *unused) {
   (void)unused;
@@ -595,22 +627,20 @@ static int emitter_init(Emitter *self, PyObject *given, PyObject *named) {
   self->up = new_of(up), self->leaf = (Leaf *)new_of(leaf);
   return 0;
 }
-static int emitter_done(Emitter *self, int status) {
+static int emitter_done(struct Mine *here, Emitter *self, int status) {
   if (!status && self->leaf->core->is_left) status = serve_left(self->leaf->core);
-  return leave(status, 0);
+  return leave(here, status, 0);
 }
 static PyObject *emitter_next(Emitter *self, PyObject *value) {
   if (self->leaf->is_stopped) Py_RETURN_NONE;
-  enter();
-  return none_or_null(emitter_done(self, tell_up(self->up, value)));
+  struct Mine *here = enter();
+  return none_or_null(emitter_done(here, self, tell_up(here, self->up, value)));
 }
 static PyObject *emitter_end(Emitter *self, PyObject *error) {
   if (self->leaf->is_stopped) Py_RETURN_NONE;
-  enter();
-  int status = Py_TYPE(self->up) == leaf_type || Py_TYPE(self->up) == chain_type
-                   ? plain(PyObject_CallMethodObjArgs(self->up, error ? s_on_error : s_on_completed, error, NULL))
-                   : plain(PyObject_CallMethodObjArgs(self->up, error ? s_on_error : s_on_completed, error, NULL));
-  return none_or_null(emitter_done(self, status));
+  struct Mine *here = enter();
+  int status = plain(PyObject_CallMethodObjArgs(self->up, error ? s_on_error : s_on_completed, error, NULL));
+  return none_or_null(emitter_done(here, self, status));
 }
 static PyObject *emitter_completed(Emitter *self, PyObject *unused) {
   (void)unused;
@@ -665,10 +695,10 @@ static PyObject *root_disposed(Root *self, PyObject *unused) {
 static PyObject *root_unsubscribe(Root *self, PyObject *unused) {
   (void)unused;
   if (!self->core) Py_RETURN_NONE;
-  enter();
+  struct Mine *here = enter();
   int status = root_dispose(self);
   if (!status) status = serve_left(self->core);
-  return none_or_null(leave(status, 0));
+  return none_or_null(leave(here, status, 0));
 }
 static PyObject *root_next(Root *self, PyObject *value) {
   if (self->is_stopped) Py_RETURN_NONE;
@@ -731,7 +761,7 @@ static int tell_all(PyObject *all, uint8_t what, PyObject *value) {
   if (!status && !is_one) { /* an engine was exchanged meanwhile */
     for (Py_ssize_t i = 0; i < n && !status; i++) {
       Leaf *leaf = (Leaf *)ITEM(ITEM(all, i), 1);
-      if (values[i]) status = what == CELLAR_NEXT ? emit(leaf, values[i]) : end_leaf(leaf, what == CELLAR_ERROR ? value : NULL);
+      if (values[i]) status = what == CELLAR_NEXT ? emit(here_is(), leaf, values[i]) : end_leaf(leaf, what == CELLAR_ERROR ? value : NULL);
     }
   } else if (!status) {
     Lanes lanes;
@@ -766,6 +796,9 @@ static PyObject *subscribers(Subject *self) {
     self->all = list ? PyList_AsTuple(list) : NULL;
     Py_XDECREF(list);
     if (!self->all) return NULL;
+    PyObject *pair = MANY(self->all) ? ITEM(self->all, 0) : NULL;
+    self->first = pair ? (Leaf *)ITEM(pair, 1) : NULL;
+    self->one = pair && MANY(self->all) == 1 ? ITEM(pair, 0) : NULL;
   }
   return new_of(self->all);
 }
@@ -776,24 +809,26 @@ static int remember(Subject *self, PyObject *kept) {
   return more > 0 ? PyList_SetSlice(self->memory, 0, more, NULL) : 0;
 }
 static int subject_tell(Subject *self, uint8_t what, PyObject *value) {
-  PyObject *all = subscribers(self);
+  PyObject *all = subscribers(self), *error;
   if (!all) return -1;
-  Py_ssize_t n = MANY(all);
-  int status = 0;
-  if (n) {
-    Core *core = (Core *)new_of((PyObject *)((Leaf *)ITEM(ITEM(all, 0), 1))->core);
-    enter();
-    status = n == 1 && what == CELLAR_NEXT ? tell_up(ITEM(ITEM(all, 0), 0), value) : tell_all(all, what, value);
-    if (!status && core->is_left) status = serve_left(core);
-    status = leave(status, 0);
-    PyObject *error = status ? caught_one() : NULL;
+  if (!self->first) {
+    Py_DECREF(all);
+    return 0;
+  }
+  Core *core = (Core *)new_of((PyObject *)self->first->core);
+  struct Mine *here = enter();
+  int status = self->one && what == CELLAR_NEXT ? tell_up(here, self->one, value) : tell_all(all, what, value);
+  if (!status && core->is_left) status = serve_left(core);
+  if (!(status = leave(here, status, 0))) {
     Py_DECREF(core);
     Py_DECREF(all);
-    if (error) raise_again(error);
-    return status;
+    return 0;
   }
+  error = caught_one();
+  Py_DECREF(core);
   Py_DECREF(all);
-  return status;
+  raise_again(error);
+  return -1;
 }
 /* One argument, by its place or as `value`. */
 static PyObject *the_value(PyObject *const *given, Py_ssize_t many, PyObject *names) {
@@ -853,7 +888,7 @@ static PyObject *subject_join(Subject *self, PyObject *const *given, Py_ssize_t 
     if (!status) status = come_of(leaf->core, &lanes, 0, NULL, NULL);
     lanes_end(&lanes);
   } else if (items) {
-    for (Py_ssize_t i = 0; !status && i < PyList_Size(items); i++) status = tell_up(given[0], ITEM(PyList_GetItem(items, i), 1));
+    for (Py_ssize_t i = 0; !status && i < PyList_Size(items); i++) status = tell_up(here_is(), given[0], ITEM(PyList_GetItem(items, i), 1));
   }
   Py_XDECREF(items);
   if (status) return NULL;
@@ -909,6 +944,14 @@ static int node_of(PyObject *it, struct cellar_node *to) {
   else return PyErr_Format(PyExc_TypeError, "a node is wanted"), 0;
   return 1;
 }
+/* A command as Python has it: its first eight bytes as a number, the node that it is about, and more, so many in all. */
+static int asked_for(struct cellar_command *c, PyObject *const *given, Py_ssize_t many, Py_ssize_t wanted) {
+  uint64_t what;
+  if (many != wanted) return PyErr_Format(PyExc_TypeError, "%zd arguments are wanted", wanted), 0;
+  if (!number(given[0], &what)) return 0;
+  memcpy(c, &what, 8);
+  return node_of(given[1], &c->node);
+}
 static Key *new_key(void) { return (Key *)PyType_GenericAlloc(key_type, 0); }
 /* How often the engine gives back the word of what is opened. */
 static uint64_t roles_of(const struct cellar_command *c) {
@@ -937,11 +980,8 @@ static int opened(Core *core, struct cellar_command *c, struct cellar_answer *a,
 static PyObject *core_open(Core *self, PyObject *const *given, Py_ssize_t many) {
   struct cellar_command c = {0};
   struct cellar_answer a;
-  uint64_t what;
   uint8_t status;
-  if (many != 5 || !number(given[0], &what)) return many == 5 ? NULL : PyErr_Format(PyExc_TypeError, "five arguments are wanted");
-  memcpy(&c, &what, 8);
-  if (!node_of(given[1], &c.node)) return NULL;
+  if (!asked_for(&c, given, many, 5)) return NULL;
   Key *key = new_key();
   if (!key) return NULL;
   if (given[3] != Py_None) c.value = (uintptr_t)given[3], keep(self, given[3], 1);
@@ -976,11 +1016,8 @@ static int held(Core *core, struct cellar_command *c, struct cellar_answer *a, P
 static PyObject *core_using(Core *self, PyObject *const *given, Py_ssize_t many) {
   struct cellar_command c = {0};
   struct cellar_answer a;
-  uint64_t what;
   uint8_t status = 0;
-  if (many != 4 || !number(given[0], &what)) return many == 4 ? NULL : PyErr_Format(PyExc_TypeError, "four arguments are wanted");
-  memcpy(&c, &what, 8);
-  if (!node_of(given[1], &c.node)) return NULL;
+  if (!asked_for(&c, given, many, 4)) return NULL;
   Key *key = new_key();
   PyObject *tag = key ? PyTuple_New(1) : NULL, *answer = tag ? PyTuple_New(2) : NULL, *resource = answer ? CALL0(given[3]) : NULL;
   if (!resource) {
@@ -1044,11 +1081,8 @@ static int attribute(PyObject *of, PyObject *name, uint64_t *to) {
 static PyObject *core_share(Core *self, PyObject *const *given, Py_ssize_t many) {
   struct cellar_command c = {0};
   struct cellar_answer a;
-  uint64_t what;
   uint8_t status;
-  if (many != 5 || !number(given[0], &what)) return many == 5 ? NULL : PyErr_Format(PyExc_TypeError, "five arguments are wanted");
-  memcpy(&c, &what, 8);
-  if (!node_of(given[1], &c.node)) return NULL;
+  if (!asked_for(&c, given, many, 5)) return NULL;
   if (!attribute(given[3], s_hub, &c.hub) || !attribute(given[3], s_word, &c.value)) return NULL;
   PyObject *answer = NULL;
   Key *node = new_key(), *other = node ? new_key() : NULL;
@@ -1074,10 +1108,7 @@ end:
 static PyObject *core_do(Core *self, PyObject *const *given, Py_ssize_t many) {
   struct cellar_command c = {0};
   struct cellar_answer a;
-  uint64_t what;
-  if (many != 3 || !number(given[0], &what)) return many == 3 ? NULL : PyErr_Format(PyExc_TypeError, "three arguments are wanted");
-  memcpy(&c, &what, 8);
-  if (!node_of(given[1], &c.node)) return NULL;
+  if (!asked_for(&c, given, many, 3)) return NULL;
   PyObject *value = given[2] == Py_None ? NULL : given[2];
   c.value = (uintptr_t)value;
   uint8_t status = command(self, &c, &a, value);
@@ -1088,10 +1119,7 @@ static PyObject *core_do(Core *self, PyObject *const *given, Py_ssize_t many) {
 static PyObject *core_put(Core *self, PyObject *const *given, Py_ssize_t many) {
   struct cellar_command c = {0};
   struct cellar_answer a;
-  uint64_t what;
-  if (many != 3 || !number(given[0], &what)) return many == 3 ? NULL : PyErr_Format(PyExc_TypeError, "three arguments are wanted");
-  memcpy(&c, &what, 8);
-  if (!node_of(given[1], &c.node)) return NULL;
+  if (!asked_for(&c, given, many, 3)) return NULL;
   PyObject *thing = PyTuple_Pack(1, given[2]);
   if (!thing) return NULL;
   c.user = (uintptr_t)thing;
@@ -1247,13 +1275,13 @@ static PyObject *subscribe(PyObject *module, PyObject *given) {
   PyObject *call, *rest = split(given, &call, 2);
   if (!rest) return NULL;
   Root *root = (Root *)ITEM(given, 0);
-  enter();
+  struct Mine *here = enter();
   PyObject *answer = trampolined(call, rest);
   Py_DECREF(rest);
   int status = answer ? 0 : -1;
   if (!status && root->core->is_left) status = serve_left(root->core);
   if (status) dispose_and_go_on(root);
-  if (leave(status, !root->is_over)) Py_CLEAR(answer);
+  if (leave(here, status, !root->is_over)) Py_CLEAR(answer);
   return answer;
 }
 /* A call of the user's: what observers and releases raise meanwhile is raised at its end. */
@@ -1261,25 +1289,36 @@ static PyObject *module_call(PyObject *module, PyObject *given) {
   (void)module;
   PyObject *call, *rest = split(given, &call, 1);
   if (!rest) return NULL;
-  enter();
+  struct Mine *here = enter();
   PyObject *answer = PyObject_CallObject(call, rest);
   Py_DECREF(rest);
-  if (leave(answer ? 0 : -1, 0)) Py_CLEAR(answer);
+  if (leave(here, answer ? 0 : -1, 0)) Py_CLEAR(answer);
   return answer;
 }
-/* What is projected is opened: what its sources put off comes behind what its lane projects. */
-static PyObject *projected(PyObject *module, PyObject *given) {
-  (void)module;
+/* Calls: what sources put off meanwhile comes behind what the lane that is served tells now, unless a call further out goes on with it. */
+static PyObject *behind_the_lane(PyObject *given, int lets_go) {
   PyObject *call, *rest = split(given, &call, 1), *answer;
   if (!rest) return NULL;
-  if (mine.trampoline || !mine.has_lane || (!mine.put_off && !(mine.put_off = PyList_New(0)))) answer = mine.trampoline ? PyObject_CallObject(call, rest) : trampolined(call, rest);
+  if (mine.trampoline) answer = PyObject_CallObject(call, rest);
+  else if (!mine.has_lane || (!mine.put_off && !(mine.put_off = PyList_New(0)))) answer = trampolined(call, rest);
   else {
     mine.trampoline = mine.put_off;
+    mine.lets_go |= lets_go;
     answer = PyObject_CallObject(call, rest);
     mine.trampoline = NULL;
   }
   Py_DECREF(rest);
   return answer;
+}
+/* What is projected is opened. */
+static PyObject *projected(PyObject *module, PyObject *given) {
+  (void)module;
+  return behind_the_lane(given, 0);
+}
+/* What an operator subscribes to as its lane is served emits into that lane: so that it is told at once, the lane is let go for it. */
+static PyObject *fed(PyObject *module, PyObject *given) {
+  (void)module;
+  return behind_the_lane(given, 1);
 }
 /* With nothing put off behind what is under way. */
 static PyObject *apart(PyObject *module, PyObject *given) {
@@ -1314,7 +1353,7 @@ static PyObject *settle_all(PyObject *module, PyObject *unused) {
   struct cellar_effect e;
   for (Lanes *it = mine.due; it; it = it->outer)
     while (it->at < it->many)
-      if (serve(it->core, it->all[it->at++], &e, NULL, 0, me())) return NULL;
+      if (serve(it->core, it->all[it->at++], &e, NULL, 0)) return NULL;
   Py_RETURN_NONE;
 }
 /* Serves the rest of the lane that is served: of a root that has ended, what it held. */
@@ -1322,7 +1361,7 @@ static PyObject *finish_lane(PyObject *module, PyObject *root) {
   (void)module;
   struct cellar_effect e;
   if (!mine.has_lane) Py_RETURN_NONE;
-  return none_or_null(serve(((Root *)root)->core, mine.lane, &e, NULL, 0, me()));
+  return none_or_null(serve(((Root *)root)->core, mine.lane, &e, NULL, 0));
 }
 static PyObject *forked(PyObject *module, PyObject *unused) {
   (void)module, (void)unused;
@@ -1334,13 +1373,14 @@ static PyObject *pull(PyObject *module, PyObject *const *given, Py_ssize_t many)
   (void)module;
   if (many != 3 || Py_TYPE(given[1]) != leaf_type) return PyErr_Format(PyExc_TypeError, "what is told, its leaf and an iterator are wanted");
   Leaf *leaf = (Leaf *)given[1];
+  struct Mine *here = here_is();
   for (unsigned count = 1; !leaf->is_stopped; count++) {
     PyObject *value = PyIter_Next(given[2]);
     if (!value) {
       if (PyErr_Occurred()) return NULL;
       Py_RETURN_TRUE;
     }
-    int status = tell_up(given[0], value);
+    int status = tell_up(here, given[0], value);
     if (status) {
       PyObject *error = caught_one();
       Py_DECREF(value);
@@ -1407,7 +1447,7 @@ static PyType_Spec emitter_spec = {"cellarcliff._engine.Emitter", sizeof(Emitter
 
 static PyMethodDef functions[] = {
     {"bind", bind, METH_VARARGS, NULL}, {"pull", FAST(pull), METH_FASTCALL, NULL}, {"subscribe", subscribe, METH_VARARGS, NULL},
-    {"call", module_call, METH_VARARGS, NULL}, {"trampolined", module_trampolined, METH_VARARGS, NULL}, {"projected", projected, METH_VARARGS, NULL},
+    {"call", module_call, METH_VARARGS, NULL}, {"trampolined", module_trampolined, METH_VARARGS, NULL}, {"projected", projected, METH_VARARGS, NULL}, {"fed", fed, METH_VARARGS, NULL},
     {"apart", apart, METH_VARARGS, NULL}, {"put_off", put_off, METH_O, NULL}, {"is_putting_off", is_putting_off, METH_NOARGS, NULL},
     {"raised", raised, METH_O, NULL}, {"settle", settle_all, METH_NOARGS, NULL}, {"finish", finish_lane, METH_O, NULL}, {"forked", forked, METH_NOARGS, NULL}, {NULL, NULL, 0, NULL}};
 static struct PyModuleDef definition = {PyModuleDef_HEAD_INIT, "_engine", NULL, -1, functions, NULL, NULL, NULL, NULL};

@@ -39,6 +39,7 @@ class _Mine(threading.local):
     trampoline: Optional[Deque[Callable[[], Any]]] = None
     runner: Any = None     # the frame of who goes on with that
     put_off_: Optional[Deque[Callable[[], Any]]] = None
+    lets_go = False
     due: Tuple[Any, ...] = ()
 
 
@@ -219,12 +220,14 @@ class Core:
             raise
 
     def _serve(self, lane: int, effect: Any = None) -> None:
-        by, before = get_ident(), (mine.lane, mine.put_off_)
-        mine.lane, mine.put_off_, of = lane, None, by
+        by, before = get_ident(), (mine.lane, mine.put_off_, mine.lets_go)
+        mine.lane, mine.put_off_, mine.lets_go, of = lane, None, False, by
         try:
             while True:
                 try:
                     if effect is None and mine.put_off_:
+                        if mine.lets_go and not lane & INSIDE and self._generation == _generation[0]:
+                            self.calls.give_up(lane, by)
                         _go_on(mine.put_off_)
                         continue
                     if effect is None:
@@ -244,7 +247,7 @@ class Core:
             self.is_left = True
             raise
         finally:
-            mine.lane, mine.put_off_ = before
+            mine.lane, mine.put_off_, mine.lets_go = before
 
     def _tell(self, user: int, value: int, by: int, kind: int, carries: int) -> None:
         thing, item = self.things[user], self.things[value] if carries and value else None
@@ -677,18 +680,26 @@ def subscribe(root: Root, function: Callable[..., Any], *given: Any) -> Any:
     return answer
 
 
-def projected(function: Callable[..., Any], *given: Any) -> Any:
+def _behind_the_lane(lets_go: bool, function: Callable[..., Any], given: Tuple[Any, ...]) -> Any:
     if _queue() is not None:
         return function(*given)
     if mine.lane is None:
         return trampolined(function, *given)
     if mine.put_off_ is None:
         mine.put_off_ = deque()
-    mine.trampoline, mine.runner = mine.put_off_, sys._getframe()
+    mine.trampoline, mine.runner, mine.lets_go = mine.put_off_, sys._getframe(), mine.lets_go or lets_go
     try:
         return function(*given)
     finally:
         mine.trampoline = mine.runner = None
+
+
+def projected(function: Callable[..., Any], *given: Any) -> Any:
+    return _behind_the_lane(False, function, given)
+
+
+def fed(function: Callable[..., Any], *given: Any) -> Any:
+    return _behind_the_lane(True, function, given)
 
 
 def apart(function: Callable[..., Any], *given: Any) -> Any:
@@ -741,5 +752,5 @@ def pull(up: Any, leaf: Leaf, items: Any) -> bool:
     return False
 
 
-__all__ = ["Chain", "Core", "Emitter", "Key", "Leaf", "Root", "Subject", "apart", "bind", "call", "finish", "forked", "is_putting_off", "projected", "pull",
+__all__ = ["Chain", "Core", "Emitter", "Key", "Leaf", "Root", "Subject", "apart", "bind", "call", "fed", "finish", "forked", "is_putting_off", "projected", "pull",
            "put_off", "raised", "settle", "subscribe", "trampolined", "ROOM", "NO_MEMORY", "LANES"]
