@@ -26,33 +26,40 @@ class AsyncIOScheduler(Scheduler):
     def now(self) -> datetime:
         return self.to_datetime(self._loop.time())
 
+    def _soon(self, act: Callable[[], None]) -> Any:
+        """Calls this in the loop's thread; what it answers has a `cancel`."""
+        return self._loop.call_soon(act)
+
+    def _later(self, seconds: float, act: Callable[[], None]) -> Disposable:
+        return Disposable(self._loop.call_later(seconds, act).cancel)
+
     def schedule(self, action: Action, state: Any = None) -> Any:
         whole = SingleAssignmentDisposable()
-        handle = self._loop.call_soon(self._into(whole, action, state))
-        return CompositeDisposable(whole, Disposable(handle.cancel))
+        return CompositeDisposable(whole, Disposable(self._soon(self._into(whole, action, state)).cancel))
 
     def schedule_relative(self, duetime: RelativeTime, action: Action, state: Any = None) -> Any:
         seconds = self.to_seconds(duetime)
         if seconds <= 0:
             return self.schedule(action, state)
         whole = SingleAssignmentDisposable()
-        handle = self._loop.call_later(seconds, self._into(whole, action, state))
-        return CompositeDisposable(whole, Disposable(handle.cancel))
+        return CompositeDisposable(whole, self._later(seconds, self._into(whole, action, state)))
 
 
 class AsyncIOThreadSafeScheduler(AsyncIOScheduler):
     """Does it in a loop of asyncio's, scheduled in any thread."""
 
-    def _in_loop(self, start: Callable[[], Any]) -> Any:
-        """What is cancelled in the loop's thread, where it is another."""
+    def _soon(self, act: Callable[[], None]) -> Any:
+        return self._loop.call_soon_threadsafe(act)
+
+    def _later(self, seconds: float, act: Callable[[], None]) -> Disposable:
+        """It is cancelled in the loop's thread, where it is disposed of in another."""
         handles: List[Any] = []
-        first = self._loop.call_soon_threadsafe(lambda: handles.append(start()))
+        first = self._soon(lambda: handles.append(self._loop.call_later(seconds, act)))
 
         def cancel() -> None:
             first.cancel()
             for it in handles:
-                if it is not None:
-                    it.cancel()
+                it.cancel()
 
         def dispose() -> None:
             try:
@@ -64,17 +71,3 @@ class AsyncIOThreadSafeScheduler(AsyncIOScheduler):
                 return
             self._loop.call_soon_threadsafe(cancel)
         return Disposable(dispose)
-
-    def schedule(self, action: Action, state: Any = None) -> Any:
-        whole = SingleAssignmentDisposable()
-        handle = self._loop.call_soon_threadsafe(self._into(whole, action, state))
-        return CompositeDisposable(whole, Disposable(handle.cancel))
-
-    def schedule_relative(self, duetime: RelativeTime, action: Action, state: Any = None) -> Any:
-        seconds = self.to_seconds(duetime)
-        if seconds <= 0:
-            return self.schedule(action, state)
-        whole = SingleAssignmentDisposable()
-        act = self._into(whole, action, state)
-        return CompositeDisposable(whole, self._in_loop(lambda: self._loop.call_later(seconds, act)))
-
