@@ -23,6 +23,17 @@ INTERRUPTS = int(os.environ.get("CELLARCLIFF_INTERRUPTS", "300"))
 SECONDS = float(os.environ.get("CELLARCLIFF_SECONDS", "0.3" if is_model() else "1"))
 
 
+def endless(k):
+    """Operators behind which an endless source follows a hot one, and what begins it."""
+    ops = k.ops
+    ends, fails, emits = (lambda it: it.on_completed()), (lambda it: it.on_error(ValueError())), (lambda it: it.on_next(0))
+    return [("concat", ops.concat, ends), ("catch", ops.catch, fails), ("catch by a function", lambda it: ops.catch(lambda *_: it), fails),
+            ("on_error_resume_next", ops.on_error_resume_next, fails), ("flat_map", lambda it: ops.flat_map(lambda _: it), emits),
+            ("flat_map_latest", lambda it: ops.flat_map_latest(lambda _: it), emits),
+            ("exclusive", lambda it: lambda source: source.pipe(ops.map(lambda _: it), ops.exclusive()), emits),
+            ("merge of one at a time", lambda it: lambda source: source.pipe(ops.map(lambda _: it), ops.merge(max_concurrent=1)), emits)]
+
+
 class Hostile(unittest.TestCase):
     def setUp(self):
         self.engine, self.unhandled, self.resources = rx.use(fresh_engine()), [], Resources()
@@ -237,6 +248,33 @@ class Hostile(unittest.TestCase):
         slow.on_next(2)  # waits for who is at it, and keeps nobody waiting
         go_on.set()
         thread.join()
+
+    def test_an_endless_source_behind_a_hot_one_is_told_as_it_emits(self):
+        for make in kits.kits():
+            k = make()
+            for name, operator, begin in endless(k):
+                with self.subTest(name, over=k.name):
+                    subject, told, pulled = k.Subject(), [], []
+
+                    def items():
+                        while len(pulled) < 100:  # in a fault's way it would go on for ever
+                            pulled.append(1)
+                            yield len(pulled)
+                    source = k.rx.from_iterable(items())
+                    subject.pipe(operator(source), k.ops.take(3)).subscribe(told.append, told.append, lambda: told.append("completed"))
+                    begin(subject)
+                    self.assertEqual(told, [1, 2, 3, "completed"])
+                    if k.engine is not None:  # RxPY pulls on behind the end
+                        self.assertEqual(len(pulled), 3)
+
+    def test_many_in_turn_do_not_recurse(self):
+        many = 20 if is_model() else 3000
+        for source, items in (rx.of(1), many), (rx.empty(), 0):
+            log, told, hot = [], [], Subject()
+            using = rx.using(lambda: (log.append("open"), Disposable(lambda: log.append("close")))[1], lambda _: source)
+            rx.concat(hot, *[using] * many).subscribe(told.append, None, lambda: told.append("completed"))
+            hot.on_completed()
+            self.assertEqual((log, told), (["open", "close"] * many, [1] * items + ["completed"]))
 
     def test_an_observer_that_emits_disposes_and_raises(self):
         subject, told, held = Subject(), [], []

@@ -78,7 +78,7 @@ class Link:
         roots[root] = None
         at = At(self.engine, ROOT, self._keeper, root, scheduler or self.scheduler, flags=LANE_OF_NODE)
         try:
-            C.subscribe(root, open_root, to_observable(source), at)
+            C.fed(C.subscribe, root, open_root, to_observable(source), at)
         except Exception as error:
             roots.pop(root, None)
             self.on_error(error)

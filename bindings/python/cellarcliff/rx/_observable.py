@@ -62,6 +62,7 @@ class Observable(Generic[T]):
     """A push-style collection: it can be subscribed to, and piped into operators."""
 
     _is_hot = False  # whether several threads may emit: then functions stand at the root, where its lane has them one at a time
+    _hides = False  # whether it makes observables as it is subscribed to, which _below() does not tell
 
     def __init__(self, subscribe: Optional[Callable[[Any, Any], Any]] = None):
         self._subscribe = subscribe

@@ -13,6 +13,8 @@ from ..sources import Throw
 class Merging(Observable[Any]):
     """FlatMap, or Switch where `is_switch`: each item of the source becomes an observable."""
 
+    _hides = True
+
     def __init__(self, source: Any, mapper: Callable[[Any], Any], is_switch: bool):
         self._source, self._mapper, self._is_switch = to_observable(source), mapper, is_switch
 
@@ -54,6 +56,8 @@ class Merging(Observable[Any]):
 
 class Defer(Observable[Any]):
     """defer()."""
+
+    _hides = True
 
     def __init__(self, factory: Callable[[Any], Any]):
         self._factory = factory

@@ -11,6 +11,8 @@ from ..sources import Throw
 class Using(Observable[Any]):
     """using()."""
 
+    _hides = True
+
     def __init__(self, resource_factory: Callable[[], Any], observable_factory: Callable[[Any], Any]):
         self._make_resource, self._make_source = resource_factory, observable_factory
 

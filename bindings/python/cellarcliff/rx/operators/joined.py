@@ -8,6 +8,7 @@ from .._engine import C
 from .._link import Link, Linked
 from .._observable import Observable, to_observable
 from .._typing import B, Operator, same
+from ..nodes import open_in_turn
 from ..sources import FromIterable
 from .items import NOTHING
 
@@ -16,24 +17,30 @@ if TYPE_CHECKING:
 
 
 def start(link: Link, call: Callable[[], Any]) -> None:
-    """As RxPY's current thread scheduler does it: behind what is under way, or at once."""
+    """As RxPY's current thread scheduler does it: behind what is under way."""
     if link.scheduler is not None:
         link.hold(link.schedule(link.scheduler, None, call))
-    elif not C.put_off(call):
-        call()
+    else:
+        C.fed(C.put_off, lambda: link.later(call))
 
 
 class InTurn(Observable[Any]):
-    """Observables one after another; the next is made behind the releases of the one before. `goes_on` says of an end whether the next
-    one follows."""
+    """Observables one after another; the next is made behind the releases of the one before, where that completed or failed, as is said."""
 
     def __init__(self, sources: Callable[[], Iterable[Any]], on_end: bool, on_error: bool, below: Any = ()):
         self._sources, self._on_end, self._on_error, self._known = sources, on_end, on_error, below
+        self._hides = not on_error
 
     def _below(self) -> Tuple[Any, ...]:
         return tuple(it for it in self._known if isinstance(it, Observable))
 
     def _open_with(self, at: Any, makes: Any) -> bool:
+        if not self._on_error:
+            if not makes:
+                open_in_turn(self._sources, at)
+                return True
+            if at.root is not None:
+                return False  # the functions stand at the root
         link = Link(at, makes)
         if link.is_stopped:
             return True

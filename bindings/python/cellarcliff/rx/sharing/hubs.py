@@ -9,7 +9,6 @@ from .._engine import At, C, Engine, current
 from .._functions import linked
 from .._observable import Observable, open_below, to_observable
 from ..disposable import CompositeDisposable, Disposable
-from ..nodes import Defer, Merging, Using
 
 _words = count(1)
 
@@ -49,8 +48,7 @@ def level(observable: Observable[Any]) -> int:
     """How many shares stand one below another, as far as can be seen; a mapper may make more."""
     if isinstance(observable, (RefCount, Published)):
         return 1 + level(observable._share.source)
-    least = 3 if isinstance(observable, (Merging, Using, Defer)) else 0
-    return max([least, *map(level, observable._below())])
+    return max([3 if observable._hides else 0, *map(level, observable._below())])
 
 
 class ConnectableObservable(Observable[Any]):
