@@ -1337,6 +1337,11 @@ static PyObject *put_off(PyObject *module, PyObject *call) {
   if (PyList_Append(mine.trampoline, call)) return NULL;
   Py_RETURN_TRUE;
 }
+/* What this thread puts off, if somebody goes on with it. */
+static PyObject *queue(PyObject *module, PyObject *unused) {
+  (void)module, (void)unused;
+  return new_of(mine.trampoline ? mine.trampoline : Py_None);
+}
 static PyObject *is_putting_off(PyObject *module, PyObject *unused) {
   (void)module, (void)unused;
   return PyBool_FromLong(mine.trampoline != NULL);
@@ -1448,7 +1453,7 @@ static PyType_Spec emitter_spec = {"cellarcliff._engine.Emitter", sizeof(Emitter
 static PyMethodDef functions[] = {
     {"bind", bind, METH_VARARGS, NULL}, {"pull", FAST(pull), METH_FASTCALL, NULL}, {"subscribe", subscribe, METH_VARARGS, NULL},
     {"call", module_call, METH_VARARGS, NULL}, {"trampolined", module_trampolined, METH_VARARGS, NULL}, {"projected", projected, METH_VARARGS, NULL}, {"fed", fed, METH_VARARGS, NULL},
-    {"apart", apart, METH_VARARGS, NULL}, {"put_off", put_off, METH_O, NULL}, {"is_putting_off", is_putting_off, METH_NOARGS, NULL},
+    {"apart", apart, METH_VARARGS, NULL}, {"put_off", put_off, METH_O, NULL}, {"queue", queue, METH_NOARGS, NULL}, {"is_putting_off", is_putting_off, METH_NOARGS, NULL},
     {"raised", raised, METH_O, NULL}, {"settle", settle_all, METH_NOARGS, NULL}, {"finish", finish_lane, METH_O, NULL}, {"forked", forked, METH_NOARGS, NULL}, {NULL, NULL, 0, NULL}};
 static struct PyModuleDef definition = {PyModuleDef_HEAD_INIT, "_engine", NULL, -1, functions, NULL, NULL, NULL, NULL};
 

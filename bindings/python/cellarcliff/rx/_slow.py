@@ -718,6 +718,11 @@ def put_off(act: Callable[[], Any]) -> bool:
     return True
 
 
+def queue() -> Any:
+    """What this thread puts off, if somebody goes on with it."""
+    return _queue()
+
+
 def is_putting_off() -> bool:
     return _queue() is not None
 
@@ -753,4 +758,4 @@ def pull(up: Any, leaf: Leaf, items: Any) -> bool:
 
 
 __all__ = ["Chain", "Core", "Emitter", "Key", "Leaf", "Root", "Subject", "apart", "bind", "call", "fed", "finish", "forked", "is_putting_off", "projected", "pull",
-           "put_off", "raised", "settle", "subscribe", "trampolined", "ROOM", "NO_MEMORY", "LANES"]
+           "put_off", "queue", "raised", "settle", "subscribe", "trampolined", "ROOM", "NO_MEMORY", "LANES"]

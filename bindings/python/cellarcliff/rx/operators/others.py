@@ -14,18 +14,26 @@ def to_future(future_ctor: Optional[Callable[[], Any]] = None) -> Callable[[Obse
     def operate(source: Any) -> Any:
         import asyncio
         future = future_ctor() if future_ctor else asyncio.get_event_loop().create_future()
+        loop = future.get_loop() if hasattr(future, "get_loop") else None
         last: List[Any] = []
 
+        def end(call: Callable[[Any], Any], value: Any) -> None:
+            def tell() -> None:
+                if not future.done():
+                    call(value)
+            if loop is None or not loop.is_running() or asyncio._get_running_loop() is loop:
+                tell()
+            else:  # in another thread: the loop is woken
+                loop.call_soon_threadsafe(tell)
+
         def on_error(error: Exception) -> None:
-            if not future.cancelled():
-                future.set_exception(error)
+            end(future.set_exception, error)
 
         def on_completed() -> None:
-            if not future.cancelled():
-                if last:
-                    future.set_result(last[0])
-                else:
-                    future.set_exception(SequenceContainsNoElementsError())
+            if last:
+                end(future.set_result, last[0])
+            else:
+                end(future.set_exception, SequenceContainsNoElementsError())
         subscription = source.subscribe_(lambda value: last.__setitem__(slice(None), [value]), on_error, on_completed)
         future.add_done_callback(lambda _: subscription.dispose())
         return future

@@ -15,7 +15,7 @@ from typing import TYPE_CHECKING, Any, Callable, List, Optional, Tuple, Union
 
 from .._crossing import C
 from ..disposable import Disposable, MultipleAssignmentDisposable, SerialDisposable, SingleAssignmentDisposable
-from ..internal import Missing, WouldBlockException
+from ..internal import DisposedException, Missing, WouldBlockException
 
 if not TYPE_CHECKING:
     def __getattr__(name: str) -> Any:
@@ -115,39 +115,125 @@ class ImmediateScheduler(_Shared):
         return self.invoke_action(action, state)
 
 
-class CurrentThreadScheduler(_Shared):
-    """Does it in this thread, behind what is under way."""
+class _Agenda:
+    """What is due, and when, for the one that is at it."""
+
+    def __init__(self) -> None:
+        self.condition, self._numbers = threading.Condition(threading.RLock()), itertools.count()
+        self._heap: List[Tuple[float, int, Callable[[], Any]]] = []
+
+    def put(self, seconds: float, act: Callable[[], Any]) -> None:
+        with self.condition:
+            heapq.heappush(self._heap, (time.monotonic() + max(0.0, seconds), next(self._numbers), act))
+            self.condition.notify()
+
+    def next(self, is_over: Callable[[], bool]) -> Optional[Callable[[], Any]]:
+        """Waits for the next that is due; None where there is none and it is over, which is asked under the lock."""
+        with self.condition:
+            while self._heap or not is_over():
+                left = self._heap[0][0] - time.monotonic() if self._heap else None
+                if left is not None and left <= 0:
+                    return heapq.heappop(self._heap)[2]
+                self.condition.wait(left)
+        return None
+
+    def clear(self) -> None:
+        with self.condition:
+            del self._heap[:]
+            self.condition.notify()
+
+
+class TrampolineScheduler(Scheduler):
+    """Does it behind what it is at, and first what is due first: in the thread that found it at nothing."""
+
+    def __init__(self) -> None:
+        self._agenda, self._is_idle = _Agenda(), True
 
     def schedule_required(self) -> bool:
         """Whether nothing is under way."""
-        return not C.is_putting_off()
+        return self._is_idle
 
     def ensure_trampoline(self, action: Action) -> Any:
         """Does it at once, with what that schedules behind it."""
         return self.schedule(action) if self.schedule_required() else action(self, None)
 
     def schedule(self, action: Action, state: Any = None) -> Any:
-        whole = SingleAssignmentDisposable()
-        act = self._into(whole, action, state)
-        if not C.put_off(act):
-            C.trampolined(act)
-        return whole
+        return self.schedule_relative(0.0, action, state)
 
     def schedule_relative(self, duetime: RelativeTime, action: Action, state: Any = None) -> Any:
-        due, whole = time.monotonic() + max(0.0, self.to_seconds(duetime)), SingleAssignmentDisposable()
-        act = self._into(whole, action, state)
-
-        def wait() -> None:
-            if not whole.is_disposed:
-                time.sleep(max(0.0, due - time.monotonic()))
-                act()
-        if not C.put_off(wait):
-            C.trampolined(wait)
+        whole = SingleAssignmentDisposable()
+        self._put(self.to_seconds(duetime), self._into(whole, action, state), whole)
         return whole
 
+    def _put(self, seconds: float, act: Callable[[], Any], _: Any) -> None:
+        with self._agenda.condition:
+            self._agenda.put(seconds, act)
+            if not self._is_idle:
+                return
+            self._is_idle = False
+        try:
+            while True:
+                due = self._agenda.next(self._ends)
+                if due is None:
+                    return
+                due()
+        except BaseException:
+            self._agenda.clear()
+            self._is_idle = True
+            raise
 
-class TrampolineScheduler(CurrentThreadScheduler):
-    """The same, of one's own."""
+    def _ends(self) -> bool:
+        self._is_idle = True
+        return True
+
+
+class _Later:
+    """What is due later of what this thread put off: it stands there, and waits once nothing else does."""
+
+    def __init__(self) -> None:
+        self._heap: List[Tuple[float, int, Any, Callable[[], Any]]] = []
+
+    def add(self, seconds: float, act: Callable[[], Any], whole: Any) -> None:
+        heapq.heappush(self._heap, (time.monotonic() + seconds, next(_numbers), whole, act))
+
+    def __call__(self) -> None:
+        heap = self._heap
+        while heap and heap[0][2].is_disposed:
+            heapq.heappop(heap)
+        if not heap:
+            return
+        left = heap[0][0] - time.monotonic()
+        if left > 0:
+            C.put_off(self)
+            if len(C.queue()) == 1:
+                time.sleep(left)
+            return
+        act = heapq.heappop(heap)[3]
+        if heap:
+            C.put_off(self)
+        act()
+
+
+_numbers = itertools.count()
+
+
+class CurrentThreadScheduler(TrampolineScheduler, _Shared):
+    """Does it in this thread, behind what is under way there, and first what is due first."""
+
+    def schedule_required(self) -> bool:
+        return not C.is_putting_off()
+
+    def _put(self, seconds: float, act: Callable[[], Any], whole: Any) -> None:
+        call: Any = act
+        if seconds > 0:
+            call = next((it for it in C.queue() or () if type(it) is _Later), None)
+            if call is not None:
+                call.add(seconds, act, whole)
+                return
+            call = _Later()
+            call.add(seconds, act, whole)
+        if not C.put_off(call):
+            C.trampolined(call)
 
 
 class _Threaded(_Shared):
@@ -229,59 +315,43 @@ class EventLoopScheduler(_Shared):
     def __init__(self, thread_factory: Optional[Callable[[Callable[[], Any]], Any]] = None, exit_if_empty: bool = False):
         self._factory = thread_factory or (lambda work: threading.Thread(target=work, daemon=True))
         self._is_disposed, self._exit_if_empty = False, exit_if_empty
-        self._condition, self._thread = threading.Condition(threading.RLock()), None  # type: Any, Any
-        self._queue: List[Tuple[float, int, Callable[[], Any]]] = []
-        self._numbers = itertools.count()
+        self._agenda, self._thread = _Agenda(), None  # type: _Agenda, Any
 
-    def _put(self, due: float, act: Callable[[], Any]) -> None:
-        with self._condition:
+    def _put(self, seconds: float, act: Callable[[], Any]) -> None:
+        with self._agenda.condition:
             if self._is_disposed:
-                from ..internal import DisposedException
                 raise DisposedException()
-            heapq.heappush(self._queue, (due, next(self._numbers), act))
+            self._agenda.put(seconds, act)
             if self._thread is None:
                 self._thread = self._factory(self._run)
                 self._thread.start()
-            self._condition.notify()
 
     def schedule(self, action: Action, state: Any = None) -> Any:
-        whole = SingleAssignmentDisposable()
-        self._put(time.monotonic(), self._into(whole, action, state))
-        return whole
+        return self.schedule_relative(0.0, action, state)
 
     def schedule_relative(self, duetime: RelativeTime, action: Action, state: Any = None) -> Any:
         whole = SingleAssignmentDisposable()
-        self._put(time.monotonic() + max(0.0, self.to_seconds(duetime)), self._into(whole, action, state))
+        self._put(self.to_seconds(duetime), self._into(whole, action, state))
         return whole
 
-    def _next(self) -> Optional[Callable[[], Any]]:
-        with self._condition:
-            while not self._is_disposed:
-                if self._queue:
-                    left = self._queue[0][0] - time.monotonic()
-                    if left <= 0:
-                        return heapq.heappop(self._queue)[2]
-                    self._condition.wait(left)
-                elif self._exit_if_empty:
-                    break
-                else:
-                    self._condition.wait()
+    def _is_over(self) -> bool:
+        over = self._is_disposed or self._exit_if_empty
+        if over:
             self._thread = None
-            return None
+        return over
 
     def _run(self) -> None:
         while True:
-            act = self._next()
+            act = self._agenda.next(self._is_over)
             if act is None:
                 return
             act()
 
     def dispose(self) -> None:
         """Does nothing more."""
-        with self._condition:
+        with self._agenda.condition:
             self._is_disposed = True
-            del self._queue[:]
-            self._condition.notify()
+            self._agenda.clear()
 
 
 class CatchScheduler(Scheduler):
