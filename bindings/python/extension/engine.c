@@ -260,7 +260,12 @@ static void lanes_begin(Lanes *it, Core *core) { it->all = it->here, it->at = it
 static void lanes_end(Lanes *it) {
   if (it->all != it->here) PyMem_Free(it->all);
 }
-static void lanes_add(Lanes *it, Core *core, const struct cellar_answer *a) {
+static void lanes_grow(Lanes *it, Core *core, const struct cellar_answer *a);
+static inline void lanes_add(Lanes *it, Core *core, const struct cellar_answer *a) {
+  if (a->due == 1 && it->many < it->room) it->all[it->many++] = a->lanes[0];
+  else if (a->due) lanes_grow(it, core, a);
+}
+static void lanes_grow(Lanes *it, Core *core, const struct cellar_answer *a) {
   if (it->many + a->due > it->room) {
     size_t room = 2 * (it->many + a->due);
     uint64_t *all = PyMem_Malloc(room * sizeof *all);
@@ -459,15 +464,16 @@ static void give_back(Core *core, uint64_t lane, uint64_t by, struct cellar_effe
  * not wait. */
 static int come_of(Core *core, Lanes *lanes, int is_exchange, struct cellar_effect *handed, PyObject *value) {
   int status = 0;
-  uint64_t unused, by = me(), lane = lanes->here[0];
+  struct Mine *here = here_is();
+  uint64_t unused, by = here->ident, lane = lanes->here[0];
   struct cellar_effect e;
-  if (is_exchange && mine.has_lane && !(mine.lane & CELLAR_INSIDE)) calls.give_up(&core->engine, mine.lane, by, &e, 0, &unused);
-  lanes->outer = mine.due, mine.due = lanes;
+  if (is_exchange && here->has_lane && !(here->lane & CELLAR_INSIDE)) calls.give_up(&core->engine, here->lane, by, &e, 0, &unused);
+  lanes->outer = here->due, here->due = lanes;
   if (core->many) status = hear_closed(core);
   if (handed && (status || !lanes->many)) give_back(core, lane, by, handed);
   for (; !status && lanes->at < lanes->many; handed = NULL)
-    status = handed ? serve(core, lanes->all[lanes->at++], handed, value, 1) : serve(core, lanes->all[lanes->at++], &e, NULL, 0);
-  mine.due = lanes->outer;
+    status = serve_by(here, core, lanes->all[lanes->at++], handed ? handed : &e, handed ? value : NULL, handed != NULL);
+  here->due = lanes->outer;
   if (status) core->is_left = 1;
   return status;
 }
@@ -743,51 +749,70 @@ static int root_clear(Root *self) {
 
 /* Subjects ---------------------------------------------------------------------------------------------------------------------*/
 
-/* All leaves by a command of this kind: each has it in its lane before anybody is told, so every observer hears one order. */
-static int tell_all(PyObject *all, uint8_t what, PyObject *value) {
-  Py_ssize_t n = MANY(all), ready = 0;
-  PyObject *here[16], **values = n > 16 ? PyMem_Malloc(n * sizeof *values) : here;
-  if (!values) return PyErr_NoMemory(), -1;
-  int status = 0, is_one = 1;
-  Core *core = ((Leaf *)ITEM(ITEM(all, 0), 1))->core;
-  for (; ready < n && !status; ready++) { /* functions first */
-    PyObject *up = ITEM(ITEM(all, ready), 0);
-    Leaf *leaf = (Leaf *)ITEM(ITEM(all, ready), 1);
-    values[ready] = NULL;
-    if (leaf->core != core) is_one = 0;
-    if (what == CELLAR_NEXT && up != (PyObject *)leaf) values[ready] = leaf->is_stopped ? NULL : through((Chain *)up, value, &status);
-    else values[ready] = new_of(value);
-  }
-  if (!status && !is_one) { /* an engine was exchanged meanwhile */
-    for (Py_ssize_t i = 0; i < n && !status; i++) {
-      Leaf *leaf = (Leaf *)ITEM(ITEM(all, i), 1);
-      if (values[i]) status = what == CELLAR_NEXT ? emit(here_is(), leaf, values[i]) : end_leaf(leaf, what == CELLAR_ERROR ? value : NULL);
-    }
-  } else if (!status) {
-    Lanes lanes;
-    struct cellar_command c = {.what = what, .flags = what == CELLAR_NEXT ? CELLAR_QUEUES : 0};
-    struct cellar_answer a;
-    uint8_t refusal = 0;
-    lanes_begin(&lanes, core);
-    for (Py_ssize_t i = 0; i < n; i++) {
-      Leaf *leaf = (Leaf *)ITEM(ITEM(all, i), 1);
-      if (!values[i] || leaf->is_stopped) continue;
-      if (what != CELLAR_NEXT) leaf->is_stopped = 1;
-      c.node = leaf->node, c.value = what == CELLAR_COMPLETE ? 0 : (uintptr_t)values[i];
-      uint8_t found = command(core, &c, &a, what == CELLAR_COMPLETE ? NULL : values[i]);
-      if (!found) lanes_add(&lanes, core, &a);
-      else if (found == CELLAR_GONE) leaf->is_stopped = 1;
-      else refusal = found;
-    }
-    status = come_of(core, &lanes, 0, NULL, NULL);
-    lanes_end(&lanes);
-    if (refusal && !status) status = refused(refusal);
-  }
+/* Those that are told, what each is told, or NULL where nothing comes out of its functions, and its leaf. */
+typedef struct {
+  Py_ssize_t many, ready; /* so many are there, and of so many it is known what they are told */
+  PyObject **values, *here[16];
+  Leaf **leaves, *here_too[16];
+} Told;
+
+static int told_begin(Told *it, Py_ssize_t many) {
+  int is_short = many <= (Py_ssize_t)(sizeof it->here / sizeof *it->here);
+  it->many = many, it->ready = 0;
+  it->values = is_short ? it->here : PyMem_Malloc(many * sizeof *it->values);
+  it->leaves = is_short ? it->here_too : PyMem_Malloc(many * sizeof *it->leaves);
+  return it->values && it->leaves ? 0 : (PyErr_NoMemory(), -1);
+}
+/* What was raised stays so. */
+static int told_end(Told *it, int status) {
   PyObject *error = status ? caught_one() : NULL;
-  for (Py_ssize_t i = 0; i < ready; i++) Py_XDECREF(values[i]);
-  if (values != here) PyMem_Free(values);
+  for (Py_ssize_t i = 0; i < it->ready; i++) Py_XDECREF(it->values[i]);
+  if (it->values != it->here) PyMem_Free(it->values);
+  if (it->leaves != it->here_too) PyMem_Free(it->leaves);
   if (error) raise_again(error);
   return status;
+}
+/* Each has a command of this kind in its lane before anybody is told, so every observer hears one order. */
+static int put_all(struct Mine *here, Core *core, Told *it, uint8_t what) {
+  Lanes lanes;
+  struct cellar_command c = {.what = what, .flags = what == CELLAR_NEXT ? CELLAR_QUEUES : 0};
+  struct cellar_answer a;
+  uint8_t refusal = 0;
+  lanes_begin(&lanes, core);
+  for (Py_ssize_t i = 0; i < it->many; i++) {
+    Leaf *leaf = it->leaves[i];
+    PyObject *value = it->values[i];
+    if (!value || leaf->is_stopped) continue;
+    if (what != CELLAR_NEXT) leaf->is_stopped = 1;
+    c.node = leaf->node, c.value = what == CELLAR_COMPLETE ? 0 : (uintptr_t)value;
+    uint8_t found = command_by(here, core, &c, &a);
+    if (found == CELLAR_GONE) leaf->is_stopped = 1;
+    else if (found) refusal = found;
+    else {
+      if (c.value) keep(core, value, a.copies);
+      lanes_add(&lanes, core, &a);
+    }
+  }
+  int status = come_of(core, &lanes, 0, NULL, NULL);
+  lanes_end(&lanes);
+  return refusal && !status ? refused(refusal) : status;
+}
+static int tell_all(struct Mine *here, PyObject *all, uint8_t what, PyObject *value) {
+  Told it;
+  int status = told_begin(&it, MANY(all)), is_one = 1;
+  Core *core = ((Leaf *)ITEM(ITEM(all, 0), 1))->core;
+  for (; !status && it.ready < it.many; it.ready++) { /* functions first */
+    PyObject *pair = ITEM(all, it.ready), *up = ITEM(pair, 0);
+    Leaf *leaf = it.leaves[it.ready] = (Leaf *)ITEM(pair, 1);
+    if (leaf->core != core) is_one = 0;
+    if (what != CELLAR_NEXT || up == (PyObject *)leaf) it.values[it.ready] = new_of(value);
+    else it.values[it.ready] = leaf->is_stopped ? NULL : through((Chain *)up, value, &status);
+  }
+  if (!status && is_one) status = put_all(here, core, &it, what);
+  else /* an engine was exchanged meanwhile */
+    for (Py_ssize_t i = 0; !status && i < it.many; i++)
+      if (it.values[i]) status = what == CELLAR_NEXT ? emit(here, it.leaves[i], it.values[i]) : end_leaf(it.leaves[i], what == CELLAR_ERROR ? value : NULL);
+  return told_end(&it, status);
 }
 /* Those that have subscribed: a new reference. */
 static PyObject *subscribers(Subject *self) {
@@ -817,7 +842,7 @@ static int subject_tell(Subject *self, uint8_t what, PyObject *value) {
   }
   Core *core = (Core *)new_of((PyObject *)self->first->core);
   struct Mine *here = enter();
-  int status = self->one && what == CELLAR_NEXT ? tell_up(here, self->one, value) : tell_all(all, what, value);
+  int status = self->one && what == CELLAR_NEXT ? tell_up(here, self->one, value) : tell_all(here, all, what, value);
   if (!status && core->is_left) status = serve_left(core);
   if (!(status = leave(here, status, 0))) {
     Py_DECREF(core);
