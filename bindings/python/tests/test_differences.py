@@ -1,5 +1,7 @@
 """Where this package differs from RxPY, as README.md has it: what each of the two tells."""
+import asyncio
 import gc
+import time
 import unittest
 
 from cellarcliff import rx
@@ -117,6 +119,20 @@ def expand_below_take(k, told):
     k.rx.of(1).pipe(k.ops.expand(inner), k.ops.take(2)).subscribe(told.append)
 
 
+def an_iterable_behind_the_end(k, told):
+    subject = k.Subject()
+    subject.pipe(k.ops.flat_map(lambda _: k.rx.from_iterable(map(told.append, range(4)))), k.ops.take(2)).subscribe()
+    subject.on_next(0)
+
+
+def a_loop_that_waits_for_another_thread(k, told):
+    async def main():
+        await asyncio.wait_for(k.rx.timer(0.02).pipe(k.ops.to_future()), 1)
+    begin = time.monotonic()
+    asyncio.run(main())
+    told.append("at once" if time.monotonic() - begin < 0.9 else "with the loop's next event")
+
+
 def a_composition_completes(k, told):
     source = k.rx.using(lambda: k.disposable.Disposable(lambda: told.append("released")), lambda _: k.rx.of(1))
     source.pipe(k.ops.timeout(60)).subscribe(told.append, None, lambda: told.append("completed"))
@@ -146,6 +162,8 @@ ROWS = {
     map_indexed_twice: ([0, 1], [0, 0]),
     ref_count_of_one_that_is_connected: (["subscribed"], ["subscribed", "subscribed"]),
     expand_below_take: ([1, "made 1", 2, "made 2", "made 3", "made 4"], [1, "made 1", 2]),
+    an_iterable_behind_the_end: ([0, 1, 2, 3], [0, 1]),
+    a_loop_that_waits_for_another_thread: (["with the loop's next event"], ["at once"]),
     a_composition_completes: ([1, "completed", "released"], [1, "released", "completed"]),
     a_subject_is_dropped: ([], ["released"]),
     one_of_a_group_raises: (["a", "raised"], ["a", "b", "raised"]),
