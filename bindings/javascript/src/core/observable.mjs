@@ -1,3 +1,5 @@
+import { realm } from '../engine/realm.mjs';
+import { farther, taking } from '../engine/tracing.mjs';
 import { config, inContext } from './config.mjs';
 import { Link } from './link.mjs';
 import { openLeaf, rootFor } from './place.mjs';
@@ -23,9 +25,23 @@ export class Observable {
     const is_new = subscriber instanceof Subscriber && !subscriber._used && !(subscriber instanceof Leaf);
     const root = is_new ? subscriber : new Link(subscriber);
     root._used = true;
+    if (realm.engine.tracing) {
+      const limit = taking(), where = root instanceof Link ? null : new Error('subscribed here');
+      Error.stackTraceLimit = limit;
+      this._opensFrom(where, root);
+    } else this._opens(root);
+    return subscriber;
+  }
+
+  // What is made before a command is given, or something else is subscribed to, came of this line.
+  _opensFrom(where, root) {
+    const { engine } = realm, outer = engine.line;
+    engine.line = where;
+    try { this._opens(root); } finally { engine.line = outer; }
+  }
+  _opens(root) {
     if (config.useDeprecatedSynchronousErrorHandling) inContext(() => this._open(rootFor(root)));
     else this._open(rootFor(root));
-    return subscriber;
   }
 
   /** Opens this observable at a place of a tree. */
@@ -57,7 +73,7 @@ export class Observable {
         error: reject,
         complete: resolve,
       });
-      this.subscribe(subscriber);
+      farther(() => this.subscribe(subscriber));
     });
   }
 
@@ -66,7 +82,7 @@ export class Observable {
   toPromise(promiseCtor) {
     return new (promiseOf(promiseCtor))((resolve, reject) => {
       let value;
-      this.subscribe((it) => (value = it), reject, () => resolve(value));
+      farther(() => this.subscribe((it) => (value = it), reject, () => resolve(value)));
     });
   }
 

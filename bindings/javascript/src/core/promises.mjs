@@ -1,10 +1,11 @@
+import { farther } from '../engine/tracing.mjs';
 import { EmptyError } from './errors.mjs';
 import { SafeSubscriber } from './subscriber.mjs';
 
 export function lastValueFrom(source, config) {
   return new Promise((resolve, reject) => {
     let has = false, value;
-    source.subscribe({
+    farther(() => source.subscribe({
       next: (it) => {
         value = it;
         has = true;
@@ -15,7 +16,7 @@ export function lastValueFrom(source, config) {
         else if (config && typeof config === 'object') resolve(config.defaultValue);
         else reject(new EmptyError());
       },
-    });
+    }));
   });
 }
 
@@ -32,6 +33,6 @@ export function firstValueFrom(source, config) {
         else reject(new EmptyError());
       },
     });
-    source.subscribe(subscriber);
+    farther(() => source.subscribe(subscriber));
   });
 }

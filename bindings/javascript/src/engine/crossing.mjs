@@ -21,6 +21,7 @@ export class Crossing {
   #ending = []; // lanes in which an end is being told, each because of the one before
   dead = null; // why no command can be made any more
   tracing = false;
+  line = null; // where the program's own line subscribes, until a command is given
 
   constructor(wasm, glue, realm) {
     this.#realm = realm;
@@ -142,6 +143,7 @@ export class Crossing {
 
   /** An item. */
   next(node, value) {
+    this.line = null;
     this.#begins();
     const word = this.#values.next();
     let status;
@@ -162,6 +164,7 @@ export class Crossing {
 
   /** An item that is not handed out: the lanes that are due are added to a list. */
   queue(node, value, lanes) {
+    this.line = null;
     this.#begins();
     const word = this.#values.next();
     let status;
@@ -186,10 +189,12 @@ export class Crossing {
     for (let many = this.totals().nodes; many > 0 && this.#ends(SHUT, NOWHERE) === DONE; many--) if (this.totals().nodes === 0) break;
   }
   #ends(what, node) {
+    this.line = null;
     this.#begins();
     return this.#make(what, node, 0, 0) || this.#act(undefined);
   }
   #fails(what, node, error) {
+    this.line = null;
     this.#begins();
     return this.#make(what, node, 0, this.#values.next()) || this.#act(error);
   }

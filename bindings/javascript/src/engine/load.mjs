@@ -5,7 +5,7 @@ import { realm } from './realm.mjs';
 const IS_NODE = typeof process === 'object' && !!process.versions?.node;
 
 /** The compiled module, of the file beside the package. */
-async function compiled() {
+export async function compiled() {
   const place = new URL('../../engine.wasm', import.meta.url);
   if (!IS_NODE) return WebAssembly.compileStreaming(fetch(place));
   const { readFileSync } = await import(/* webpackIgnore: true */ 'node:fs');

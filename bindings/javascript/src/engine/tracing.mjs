@@ -2,22 +2,44 @@
 import { realm } from './realm.mjs';
 
 const ROW = /^\s+at (?:(.*?) \()?(?:async )?((?:file|node|https?):[^)]*?|[^ )]*?):(\d+):(\d+)\)?$/;
-const DEPTH = 60; // so many rows, since those of the package come first
+const FAR = 60; // so many rows, since those of the package come first
+const NEAR = 2; // of `subscribe` and of who calls it
 /** The folder of the package, as stacks have it: what lies there is not the program's. */
 const own = (/(?:file:\/\/)?(\/.*?)\/(?:src|dist)\//.exec(new Error().stack ?? '') ?? [null, null])[1];
+
+let near = NEAR;
+
+/** Before the stack of a line of the program is taken within `subscribe`: rows are dear, so it has few. Answers the limit that was there. */
+export function taking() {
+  const { stackTraceLimit } = Error;
+  Error.stackTraceLimit = near;
+  near = NEAR;
+  return stackTraceLimit;
+}
+
+/** Within this `subscribe` is called by the package, so that the line of the program stands farther away. */
+export function farther(act) {
+  near = FAR;
+  try { return act(); } finally { near = NEAR; }
+}
 
 /** Remembers where this was made, and when; with another thing that was made at the same place. */
 export function traced(it, what, other = null) {
   if (other !== null && other.where !== undefined) [it.what, it.where, it.since] = [what, other.where, other.since];
   else if (realm.engine.tracing) {
-    const { stackTraceLimit } = Error;
-    Error.stackTraceLimit = DEPTH;
     it.what = what;
-    it.where = new Error(what === 'subscription' ? 'subscribed here' : `${what} made here`);
+    it.where = realm.engine.line ?? far(`${what} made here`);
     it.since = Date.now();
-    Error.stackTraceLimit = stackTraceLimit;
   }
   return it;
+}
+
+function far(words) {
+  const { stackTraceLimit } = Error;
+  Error.stackTraceLimit = FAR;
+  const where = new Error(words);
+  Error.stackTraceLimit = stackTraceLimit;
+  return where;
 }
 
 const path = (file) => file.replace(/^file:\/\//, '');

@@ -20,7 +20,7 @@ from __future__ import annotations
 
 import json
 import os
-from typing import Any, Callable, Dict, List, Optional, Sequence, Union
+from typing import Any, Callable, Dict, List, Optional, Tuple, Union
 
 from .. import book as _book
 from ..rx.watched import Place, here
@@ -72,7 +72,8 @@ class Written:
     def __init__(self, what: str, name: Optional[str], place: Optional[Place], key: Any, above: "Optional[Written]"):
         self.what, self.name, self.place, self.key, self.above = what, name, place, key, above
         self.ended: Optional[Place] = None  # the line that said that it ended, closed or was released
-        self.lease: Any = None
+        self.lease: Any = None  # of a resource
+        self.connection: Optional[Written] = None  # of a hub: its latest, below which its source is opened
 
     def __str__(self) -> str:
         return f"{self.what} {self.name}" if self.name else f"the {self.what}"
@@ -88,19 +89,19 @@ class History:
 
     # what is opened and held
 
-    def opened(self, kind: Union[str, Sequence[Any]] = "pass", place: str = "root", below: Optional[Written] = None,
+    def opened(self, kind: "Union[str, Tuple[str, Written]]" = "pass", place: str = "root", below: Optional[Written] = None,
                name: Optional[str] = None) -> Written:
         """A subscription of this kind (leaf, pass, flat, switch, until, or `("sub", hub)`) at the place root, or source, inner or
         notifier of what it stands below."""
-        is_sub = not isinstance(kind, str)
-        if place not in PLACES or (kind[0] != "sub" if is_sub else kind not in KINDS) or (below is None) != (place == "root"):
+        what, hub = (kind, None) if isinstance(kind, str) else kind
+        is_kind = what in KINDS if hub is None else what == "sub"
+        if place not in PLACES or not is_kind or (below is None) != (place == "root"):
             raise ValueError(f"no such opening: {kind!r} at {place!r}{'' if below is None else ' below'}")
-        words = (_book.SUB, kind[1].key) if is_sub else (KINDS[str(kind)], 0)
-        key, connection = self._checked(f"a {kind[0] if is_sub else kind} that is opened", below,
-                                        lambda: self._book.open(PLACES[place], below and below.key, *words))
-        if connection is not None:
-            self._made("connection", kind[1].name, connection, kind[1])
-        return self._made(str(kind[0] if is_sub else kind), name, key, below)
+        words = (KINDS[what], 0) if hub is None else (_book.SUB, hub.key)
+        key, connection = self._checked(f"a {what} that is opened", below, lambda: self._book.open(PLACES[place], below and below.key, *words))
+        if connection is not None and hub is not None:
+            hub.connection = self._made("connection", hub.name, connection, hub)
+        return self._made(what, name, key, below)
 
     def held(self, by: Written, name: Optional[str] = None, tag: int = 0) -> Written:
         """A resource that it holds."""
@@ -115,7 +116,8 @@ class History:
 
     def connected(self, hub: Written) -> Written:
         """A hub is connected: the connection."""
-        return self._made("connection", hub.name, self._checked("a connection", hub, lambda: self._book.connect(hub.key)), hub)
+        hub.connection = self._made("connection", hub.name, self._checked("a connection", hub, lambda: self._book.connect(hub.key)), hub)
+        return hub.connection
 
     # what happens
 
