@@ -57,6 +57,37 @@ for (const [name, text] of Object.entries(CLEAN)) {
   check(name, said.status === 0 && said.stderr.includes('nothing that the program made is open'), `${said.status} ${said.stderr}`);
 }
 
+// Whatever subscribes, and whoever calls it: each by the line that asks for it, which says what it makes.
+const LINES = `import { NEVER, Observable, Subject, connectable, debounceTime, defer, filter, finalize, firstValueFrom, lastValueFrom, map, mergeMap, publish, shareReplay, switchMap, using } from 'rxjs';
+lastValueFrom(NEVER); // subscription
+firstValueFrom(NEVER); // subscription
+NEVER.forEach(() => {}); // subscription
+NEVER.toPromise(); // subscription
+const s = NEVER.pipe(shareReplay(1));
+s.subscribe().unsubscribe(); // subscription
+connectable(NEVER).connect(); // subscription
+NEVER.pipe(publish()).connect(); // connection
+const held = (it) => using(() => ({ unsubscribe() {} }), () => it);
+held(NEVER).subscribe(); // subscription resource
+const t = new Subject();
+t.pipe(map((x) => x), filter(Boolean), switchMap(() => held(NEVER)), finalize(() => {})).subscribe(); // subscription finalizer
+t.next(1); // resource
+new Observable((to) => {
+  return held(NEVER).subscribe(to); // resource
+}).subscribe(); // subscription
+const u = new Subject();
+u.pipe(mergeMap(() => held(NEVER))).subscribe(); // subscription
+defer(() => {
+  u.next(1); // resource
+  return held(NEVER);
+}).subscribe(); // subscription resource
+held(new Subject()).pipe(debounceTime(1)).subscribe(); // subscription resource
+`;
+const asked = LINES.split('\n').flatMap((it, i) => (it.split(' // ')[1] ?? '').split(' ').filter(Boolean).map((what) => `${what} ${i + 1}`)).sort();
+const told = watched('lines.mjs', LINES).rows.map((it) => it.replace(/^ +\d+ (\w+), made at lines\.mjs:(\d+).*/, '$1 $2')).sort();
+check('each by its line', JSON.stringify(told) === JSON.stringify(asked), `${told} and not ${asked}`);
+check('a connection that is left', watched('connected.mjs', "import { NEVER, of, publish, refCount } from 'rxjs';\nNEVER.pipe(publish()).connect().unsubscribe();\nof(1).pipe(publish()).connect();\nNEVER.pipe(publish(), refCount()).subscribe().unsubscribe();\n").status === 0, 'is told');
+
 const required = watched('required.cjs', "const { Subject } = require('rxjs'), { map } = require('rxjs/operators');\nconst s = new Subject();\ns.pipe(map(String)).subscribe();\n");
 check('a program that requires', required.rows.some((it) => it.includes('required.cjs:3')), required.stderr);
 const grows = watched('grows.mjs', "import { Subject } from 'rxjs';\nconst s = new Subject();\ns.subscribe();\nfor (let i = 0; i < 3; i++) {\n  s.subscribe(console.log);\n  process.kill(process.pid, 'SIGUSR2');\n  await new Promise((resolve) => setTimeout(resolve, 50));\n}\n");

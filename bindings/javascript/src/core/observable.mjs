@@ -2,7 +2,7 @@ import { realm } from '../engine/realm.mjs';
 import { farther, taking } from '../engine/tracing.mjs';
 import { config, inContext } from './config.mjs';
 import { Link } from './link.mjs';
-import { openLeaf, rootFor } from './place.mjs';
+import { isAsked, openLeaf, rootFor } from './place.mjs';
 import { SafeSubscriber, Subscriber, isSubscriber } from './subscriber.mjs';
 import { Leaf, failing } from './leaf.mjs';
 import { isFunction, observable, pipeFromArray } from './util.mjs';
@@ -26,7 +26,7 @@ export class Observable {
     const root = is_new ? subscriber : new Link(subscriber);
     root._used = true;
     if (realm.engine.tracing) {
-      const limit = taking(), where = root instanceof Link ? null : new Error('subscribed here');
+      const limit = taking(subscriber !== observerOrNext), where = isAsked(root) ? new Error('subscribed here') : null;
       Error.stackTraceLimit = limit;
       this._opensFrom(where, root);
     } else this._opens(root);
@@ -73,7 +73,7 @@ export class Observable {
         error: reject,
         complete: resolve,
       });
-      farther(() => this.subscribe(subscriber));
+      this.subscribe(subscriber);
     });
   }
 

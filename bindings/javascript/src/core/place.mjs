@@ -18,6 +18,8 @@ export class Place {
   }
   through(way) { return new Place(this.place, this.above, this.hears, way, this.leaves); }
 }
+/** Whether a line of the program asks for it, and not an operator: what it is called then, if it is no subscription, is `asked`. */
+export const isAsked = (hears) => !(hears instanceof Link) || hears.asked !== undefined;
 export const rootFor = (hears) => new Place(ROOT, NOWHERE, hears);
 
 const unopened = new WeakSet(); // errors for which nothing was opened
@@ -31,7 +33,7 @@ export function openNode(at, kind, body = null, tag = null, share = null) {
     if (hears === null || !hears.closed) {
       thing = new Thing(hears, body);
       thing.leaves = at.leaves;
-      if (hears !== null && !(hears instanceof Link)) traced(thing, 'subscription');
+      if (hears !== null && isAsked(hears)) traced(thing, hears.asked ?? 'subscription');
       status = engine.open(at.place, kind, (body !== null && body.wishes !== false) || at.leaves !== null ? WISHES : 0, at.above, thing, tag, share);
     }
   } catch (error) {

@@ -33,6 +33,6 @@ export function firstValueFrom(source, config) {
         else reject(new EmptyError());
       },
     });
-    farther(() => source.subscribe(subscriber));
+    source.subscribe(subscriber);
   });
 }

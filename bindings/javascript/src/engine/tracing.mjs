@@ -9,10 +9,11 @@ const own = (/(?:file:\/\/)?(\/.*?)\/(?:src|dist)\//.exec(new Error().stack ?? '
 
 let near = NEAR;
 
-/** Before the stack of a line of the program is taken within `subscribe`: rows are dear, so it has few. Answers the limit that was there. */
-export function taking() {
+/** Before the stack of who subscribes is taken within `subscribe`: rows are dear, so it has few where a line of the program calls that. Answers
+ *  the limit that was there. */
+export function taking(is_near) {
   const { stackTraceLimit } = Error;
-  Error.stackTraceLimit = near;
+  Error.stackTraceLimit = is_near ? near : FAR;
   near = NEAR;
   return stackTraceLimit;
 }

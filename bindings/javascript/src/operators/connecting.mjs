@@ -56,13 +56,15 @@ export class ConnectableObservable extends Observable {
   connect() {
     if (this._connection) return this._connection;
     const connection = this._connection = new Subscription(), subject = this.getSubject(), ends = () => this._ended(connection);
-    connection.add(this.source.subscribe(new Link(subject, undefined, () => {
+    const link = new Link(subject, undefined, () => {
       ends();
       subject.complete();
     }, (error) => {
       ends();
       subject.error(error);
-    }, ends)));
+    }, ends);
+    link.asked = 'connection';
+    connection.add(this.source.subscribe(link));
     return connection.closed ? Subscription.EMPTY : connection;
   }
   refCount() { return refCount()(this); }

@@ -5,6 +5,7 @@ import { VirtualAction, VirtualTimeScheduler } from '../schedulers/virtual.mjs';
 import { animatorOf, timersOf } from './delegates.mjs';
 import { messagesOf, subscriptionsOf } from './marbles.mjs';
 import { ColdObservable, HotObservable } from './observables.mjs';
+import { farther } from '../engine/tracing.mjs';
 
 const MAX_FRAMES = 750;
 const PROVIDERS = { dates, frames, immediates, intervals, moments, timeouts };
@@ -47,7 +48,7 @@ export class TestScheduler extends VirtualTimeScheduler {
   // What an observable tells, into a list; of an observable that it tells, what that tells, from then on.
   #recorded(observable, list, from = 0) {
     const push = (notification) => list.push({ frame: this.frame - from, notification });
-    return observable.subscribe({
+    return farther(() => observable.subscribe({
       next: (value) => {
         if (value instanceof Observable) {
           const inner = [];
@@ -58,7 +59,7 @@ export class TestScheduler extends VirtualTimeScheduler {
       },
       error: (error) => push(errorNotification(error)),
       complete: () => push(COMPLETE_NOTIFICATION),
-    });
+    }));
   }
 
   expectObservable(observable, subscriptionMarbles = null) {
