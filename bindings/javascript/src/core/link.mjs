@@ -1,6 +1,7 @@
 import { realm } from '../engine/realm.mjs';
 import { failing } from './leaf.mjs';
 import { Subscriber } from './subscriber.mjs';
+import { finalizeOne } from './subscription.mjs';
 
 /** Hears one observable for an operator, and is left with what it tells (`destination`). What its functions throw is an error there. */
 export class Link extends Subscriber {
@@ -9,7 +10,7 @@ export class Link extends Subscriber {
     this._onNext = next;
     this._onComplete = complete;
     this._onError = error;
-    if (finalize) this.initialTeardown = finalize;
+    this._onFinalize = finalize;
   }
   get _isInner() { return true; }
 
@@ -17,6 +18,14 @@ export class Link extends Subscriber {
   leave() {
     if (this._heard) realm.engine.goOn();
     this.unsubscribe();
+  }
+  // What it does once it has left comes behind all that it held.
+  _finalized(errors) {
+    errors = super._finalized(errors);
+    const { _onFinalize } = this;
+    if (_onFinalize === undefined) return errors;
+    this._onFinalize = undefined;
+    return finalizeOne(_onFinalize, errors);
   }
   _next(value) {
     const { destination, _onNext } = this;

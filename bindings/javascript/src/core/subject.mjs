@@ -27,6 +27,7 @@ export class Subject extends Observable {
     this._first = this._last = null; // its leaves, in a ring of their own
     this._size = 0;
     this._list = null; // all of them, until one comes or goes
+    this._telling = null; // an item that some of several have not heard yet
   }
 
   static create(destination, source) { return new AnonymousSubject(destination, source); }
@@ -48,27 +49,36 @@ export class Subject extends Observable {
 
   _throwIfClosed() { if (this.closed) throw new ObjectUnsubscribedError(); }
 
+  /** Whether it may tell something; first all hear what it told before. */
+  _tells() {
+    if (this._telling !== null) this._goOn();
+    return !this.isStopped;
+  }
   next(value) {
     this._throwIfClosed();
-    if (this.isStopped) return;
-    if (this._size <= 1) {
-      if (this._first !== null) this._first.next(value);
-      return;
-    }
-    const list = this._all(), lanes = [];
-    for (const leaf of list) leaf.queue(value, lanes);
-    realm.engine.serve(lanes);
+    if (!this._tells()) return;
+    if (this._size > 1) {
+      this._telling = { value, leaves: this._all(), at: 0 };
+      this._goOn();
+    } else if (this._first !== null) this._first.next(value);
+  }
+  /** Tells an item to those that have not heard it. What is told from within comes behind it: for each of them, who so hears all in order. */
+  _goOn() {
+    const telling = this._telling, { value, leaves } = telling;
+    try {
+      while (telling.at < leaves.length) leaves[telling.at++].next(value);
+    } finally { if (this._telling === telling) this._telling = null; }
   }
   error(error) {
     this._throwIfClosed();
-    if (this.isStopped) return;
+    if (!this._tells()) return;
     this.hasError = this.isStopped = true;
     this.thrownError = error;
     for (const leaf of this._emptied()) leaf.error(error);
   }
   complete() {
     this._throwIfClosed();
-    if (this.isStopped) return;
+    if (!this._tells()) return;
     this.isStopped = true;
     for (const leaf of this._emptied()) leaf.complete();
   }

@@ -79,15 +79,14 @@ export function bufferTime(span, ...words) {
 export const bufferToggle = (openings, closingSelector) => operate((source, to) => {
   let buffers = [];
   innerFrom(openings).subscribe(new Link(to, (opening) => {
-    const items = [];
+    const items = [], closings = new Subscription();
     buffers.push(items);
-    const closes = new Link(to, () => {
-      closes.unsubscribe();
-      if (!buffers.includes(items)) return;
+    const closes = () => {
       buffers = buffers.filter((it) => it !== items);
       to.next(items);
-    }, noop);
-    innerFrom(closingSelector(opening)).subscribe(closes);
+      closings.unsubscribe();
+    };
+    closings.add(innerFrom(closingSelector(opening)).subscribe(new Link(to, closes, noop)));
   }, noop));
   if (to.closed || to.isStopped) return;
   source.subscribe(new Link(to, (value) => {

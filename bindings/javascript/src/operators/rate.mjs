@@ -84,11 +84,8 @@ export const throttle = (durationSelector, config) => operate((source, to) => {
     waits = null;
     if (is_over) to.complete();
   };
-  const starts = (value) => {
-    const link = new Link(to, ends, cleans);
-    waits = link;
-    innerFrom(durationSelector(value)).subscribe(link);
-  };
+  // a duration that tells as it is subscribed to is heard on, as in RxJS
+  const starts = (value) => { waits = innerFrom(durationSelector(value)).subscribe(new Link(to, ends, cleans)); };
   const send = () => {
     if (!has) return;
     has = false;

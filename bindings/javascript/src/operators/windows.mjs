@@ -109,9 +109,7 @@ export const windowToggle = (openings, closingSelector) => operate((source, to) 
     let notifier;
     try { notifier = innerFrom(closingSelector(opening)); } catch (error) { return fails(error); }
     to.next(it.asObservable());
-    const link = new Link(to, closes, noop, fails);
-    closings.add(link);
-    notifier.subscribe(link);
+    closings.add(notifier.subscribe(new Link(to, closes, noop, fails)));
   }, noop));
   if (to.closed || to.isStopped) return undefined;
   source.subscribe(new Link(to, (value) => {

@@ -85,7 +85,6 @@ export function sequenceEqual(compareTo, comparator = (a, b) => a === b) {
       }, () => {
         self.is_over = true;
         if (other.is_over) answer(self.items.length === 0 && other.items.length === 0);
-        else if (other.items.length) answer(false);
         link.unsubscribe();
       });
       return link;
