@@ -181,7 +181,8 @@ export const only_ours = {
   }, [5000]),
   'polling by recursion is left': test(async (rx, say) => {
     let rounds = 0, released = 0;
-    const wait = () => rx.from(Promise.resolve()).pipe(rx.finalize(() => { released++; }));
+    // one wait in a hundred is for a turn, so that the test can leave
+    const wait = () => rx.from(rounds % 100 ? Promise.resolve() : turn(0)).pipe(rx.finalize(() => { released++; }));
     const poll = () => rx.defer(() => { rounds++; return wait(); }).pipe(rx.concatMap(() => poll()));
     const sub = poll().subscribe();
     while (rounds < 3000) await turn(1);

@@ -23,6 +23,52 @@ export const tests = {
     s.subscribe(say);
     s.next(1);
   }, [1, 2], [2, 1]),
+  'what the first observer leaves from within hears no more': test((rx, say) => {
+    const s = new rx.Subject();
+    s.subscribe((x) => { if (x === 2) second.unsubscribe(); });
+    const second = s.subscribe(say);
+    [1, 2, 3].forEach((x) => s.next(x));
+  }, [1]),
+  'an exchange comes before the inner observable hears the same item': test((rx, say) => {
+    const s = new rx.Subject();
+    s.pipe(rx.switchMap((x) => s.pipe(rx.map((y) => `${x}${y}`)))).subscribe(say);
+    [1, 2, 3].forEach((x) => s.next(x));
+  }, []),
+  'an end from within comes behind the item, for each observer': test((rx, say) => {
+    const s = new rx.Subject(), to = (name) => ({ next: (x) => say(`${name}${x}`), complete: () => say(`${name} end`) });
+    s.subscribe({ ...to('a'), next: (x) => { say(`a${x}`); s.complete(); } });
+    s.subscribe(to('b'));
+    s.next(1);
+  }, ['a1', 'b1', 'b end', 'a end'], ['a1', 'a end', 'b end']),
+  'three items, each from within the one before, are heard in order by all': test((rx, say) => {
+    const s = new rx.Subject();
+    s.subscribe((x) => { if (x < 3) s.next(x + 1); });
+    for (const name of 'bc') s.subscribe((x) => say(`${name}${x}`));
+    s.next(1);
+  }, ['b1', 'c1', 'b2', 'c2', 'b3', 'c3'], ['b3', 'c3', 'b2', 'c2', 'b1', 'c1']),
+  'the finalizer of a link comes behind what it held': test((rx, say) => {
+    const held = (name) => rx.NEVER.pipe(rx.finalize(() => say(`${name} released`))), s = new rx.Subject();
+    rx.onErrorResumeNext(s.pipe(rx.sample(held('first'))), rx.defer(() => (say('second made'), rx.EMPTY))).subscribe({ complete: () => say('end') });
+    s.complete();
+  }, ['first released', 'second made', 'end']),
+  'sequenceEqual answers when both are known': test((rx, say) => {
+    const a = new rx.Subject(), b = new rx.Subject();
+    a.pipe(rx.sequenceEqual(b)).subscribe({ next: say, complete: () => say('end') });
+    b.next(1);
+    a.complete();
+    say('waits');
+    b.complete();
+  }, ['waits', false, 'end'], ['waits', true, 'end']),
+  'bufferToggle tells what its closing tells at once as often as RxJS does': test((rx, say) => {
+    rx.NEVER.pipe(rx.bufferToggle(rx.of(1), () => rx.of(1, 2))).subscribe((x) => say(x.length));
+  }, [0, 0]),
+  'a duration of throttle that tells at once is heard on': test((rx, say) => {
+    const s = new rx.Subject(), ends = new rx.Subject();
+    s.pipe(rx.throttle(() => ends.pipe(rx.startWith(0)))).subscribe(say);
+    [1, 2].forEach((x) => s.next(x));
+    ends.next(0);
+    s.next(3);
+  }, [1, 3]),
   'an observer that throws loses nothing for others': test(async (rx, say) => {
     const s = new rx.Subject();
     rx.config.onUnhandledError = (error) => say(error.message);

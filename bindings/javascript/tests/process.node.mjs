@@ -2,7 +2,7 @@
 import { spawnSync } from 'node:child_process';
 import { Crossing } from '../src/engine/crossing.mjs';
 import { glue } from '../src/engine/glue.mjs';
-import { Thing } from '../src/engine/thing.mjs';
+import { Tag, Thing } from '../src/engine/thing.mjs';
 
 const INDEX = new URL('../index.mjs', import.meta.url).href;
 /** What a program prints, line by line. */
@@ -29,6 +29,31 @@ export const only_ours = {
     }
     return said;
   }, is: Array(4).fill('cellarcliff: the engine stopped within a call and is dead: unreachable') },
+  'what an engine held that has died is released once, in a turn of its own': { of: async () => {
+    const said = [];
+    let commands = 0;
+    const module = { memory: new WebAssembly.Memory({ initial: 1 }), place: () => 1024n, cellar_abi: () => 0x10000, cellar_new: () => 0, cellar_take: () => 0, cellar_give_up: () => 0,
+      cellar_totals: () => 0, cellar_make: () => { if (++commands === 4) throw new WebAssembly.RuntimeError('unreachable'); return 0; } };
+    const engine = new Crossing(module, new WebAssembly.Module(glue()), { report: (error) => said.push(`reported ${error.message}`) }), thing = new Thing(null, null);
+    engine.open(0, 0, 0, thing, thing);
+    engine.hold(thing, new Tag(() => { engine.room(); said.push('first released'); throw new Error('no'); }));
+    engine.hold(thing, new Tag(() => said.push('second released')));
+    try { engine.next(thing, 1); } catch { said.push('dead'); }
+    await null;
+    await null;
+    try { engine.room(); } catch { said.push('dead'); }
+    return said;
+  }, is: ['dead', 'first released', 'reported no', 'second released', 'dead'] },
+  'a worker has an engine of its own, and closes what is open as it ends': { of: () => program(`
+    const { Worker } = await import('node:worker_threads'), released = new Int32Array(new SharedArrayBuffer(4));
+    const text = \`Promise.all([import('node:worker_threads'), import(${JSON.stringify(INDEX)})]).then(([{ parentPort, workerData }, rx]) => {
+      rx.NEVER.pipe(rx.finalize(() => Atomics.add(workerData, 0, 1))).subscribe();
+      parentPort.postMessage(rx.counts().nodes);
+    });\`;
+    rx.NEVER.subscribe();
+    const worker = new Worker(text, { eval: true, workerData: released });
+    worker.on('message', (nodes) => console.log('there', nodes, 'here', rx.counts().nodes));
+    worker.on('exit', () => console.log('released', released[0]));`), is: ['there 2 here 1', 'released 1'] },
   'for want of stack it is alive': { of: () => {
     let made = 0;
     const module = { memory: new WebAssembly.Memory({ initial: 1 }), place: () => 1024n, cellar_abi: () => 0x10000, cellar_new: () => 0, cellar_make: () => { made++; return 17; },

@@ -9,7 +9,7 @@
 import { COMPLETE, DECLINE, DISPOSE, DONE, ERROR, FAIL, FLAT, HOLD, LEAF, NEXT, OPEN, PUT, QUEUES, REMOVE, ROOT, SHARED, SHUT, SWITCH, USING, WISHES } from './codes.mjs';
 import { LAYOUT } from './glue.mjs';
 import { Table } from './table.mjs';
-import { Lane } from './thing.mjs';
+import { Lane, Tag } from './thing.mjs';
 
 const REFUSED = { 4: 'no memory is left', 16: 'too much is open', 29: 'a node holds too many resources' };
 const NEXT_QUEUES = NEXT | QUEUES << 24;
@@ -55,7 +55,18 @@ export class Crossing {
     const dies = () => { throw new Error(`cellarcliff: the engine stopped within a call and is dead: ${this.dead.message}`, { cause: this.dead }); };
     this.#glue = { room: dies, make: dies, open: dies, next: dies, take: dies, takeOn: dies, giveUp: dies, entered: { value: 1 } };
     this.#wasm = { ...this.#wasm, cellar_totals: dies, cellar_dump: dies, cellar_rest: dies };
+    queueMicrotask(() => this.#releaseAll());
     try { return dies(); } catch (why) { return why; }
+  }
+
+  // What a dead engine held is known by its tags: each is released once, in a turn of its own, where the stack has room. Meanwhile nothing asks for room.
+  #releaseAll() {
+    const glue = this.#glue;
+    this.#glue = { ...glue, room: () => {} };
+    for (const it of this.#things.all()) {
+      if (it instanceof Tag) try { it.release(); } catch (error) { this.#report(error); }
+    }
+    this.#glue = glue;
   }
 
   /** Throws RangeError where the stack has no room for a command and for what leads to it. */
@@ -111,7 +122,7 @@ export class Crossing {
     thing.owed = owed;
     thing.is_lone = place === ROOT && (kind === LEAF || kind === SHARED);
     thing.slot = a[0], thing.top = a[1], thing.lo = a[2], thing.hi = a[3];
-    if (tag !== null) this.#named(tag);
+    if (tag !== null) this.#held(thing, tag);
     if (share !== null) {
       share.hub = a[10], share.hubHigh = a[11];
       share.connection = a[8] ? this.#named(share.make()) : null;
@@ -120,6 +131,14 @@ export class Crossing {
     return DONE;
   }
 
+  // Of a root alone its only tag is remembered, with which its lane ends.
+  #held(node, tag) {
+    this.#named(tag);
+    if (!node.is_lone) return;
+    node.is_lone = !node.has_tag;
+    node.has_tag = true;
+    tag.root = node;
+  }
   #named(thing) {
     const a = this.#a;
     thing.slot = a[4], thing.top = a[5], thing.lo = a[6], thing.hi = a[7];
@@ -133,8 +152,7 @@ export class Crossing {
     let status = -1;
     try { status = this.#make(HOLD, node, 0, word); } finally { if (status !== DONE) this.#things.free(word); }
     if (status !== DONE) return this.#refused(status);
-    node.is_lone = false;
-    this.#named(tag);
+    this.#held(node, tag);
     return DONE;
   }
 
@@ -320,8 +338,8 @@ export class Crossing {
       if (this.#e.length === 0) this.#look();
       const e = this.#e, kind = e[6], made = this.#made;
       const it = this.#tell(e[0], kind, e[7] ? this.#values.give(e[2]) : undefined, low, high);
-      // a root alone, which held nothing, is told nothing more in its lane
-      if (kind === 4 && it === true && this.#made === made) return this.#leave(low, high);
+      // a root alone is told nothing more in its lane once it is gone and what it held is released
+      if (it === true && (kind === 4 || kind === 5) && this.#made === made) return this.#leave(low, high);
     }
   }
 
@@ -360,8 +378,8 @@ export class Crossing {
         case 0: return thing.hears.hear(value);
         case 1: return thing.body.project(thing, value, new Lane(low, high));
         case 2: case 3: return this.#tellEnd(user, thing, kind, value, new Lane(low, high));
-        case 4: return this.#drop(user, thing), thing.hears.heardGone(), thing.is_lone;
-        case 5: return this.#drop(user, thing), thing.release();
+        case 4: return this.#drop(user, thing), thing.is_gone = true, thing.hears.heardGone(), thing.is_lone && !thing.has_tag;
+        case 5: return this.#drop(user, thing), thing.release(), thing.root !== null && thing.root.is_lone && thing.root.is_gone;
         case 6: return this.#drop(user, thing), thing.act(new Lane(low, high));
         case 7: return this.#drop(user, thing);
       }

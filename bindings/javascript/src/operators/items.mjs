@@ -4,16 +4,21 @@ import { staged } from '../core/operator.mjs';
 import { identity } from '../core/util.mjs';
 import { dates } from '../schedulers/providers.mjs';
 
-class MapItems extends Stage {
+/** Calls a function with each item and its number. */
+class Calls extends Stage {
   #call; #self; #at = 0;
   constructor(up, call, self) {
     super(up);
     this.#call = call;
     this.#self = self;
   }
+  called(value) { return this.#call.call(this.#self, value, this.#at++); }
+}
+
+class MapItems extends Calls {
   next(value, leaf) {
     let it;
-    try { it = this.#call.call(this.#self, value, this.#at++); } catch (error) { return this.up.error(error, leaf); }
+    try { it = this.called(value); } catch (error) { return this.up.error(error, leaf); }
     this.up.next(it, leaf);
   }
 }
@@ -24,16 +29,10 @@ export function pluck(...names) {
   return map((value) => names.reduce((it, name) => it?.[name], value));
 }
 
-class Filter extends Stage {
-  #call; #self; #at = 0;
-  constructor(up, call, self) {
-    super(up);
-    this.#call = call;
-    this.#self = self;
-  }
+class Filter extends Calls {
   next(value, leaf) {
     let is_wanted;
-    try { is_wanted = this.#call.call(this.#self, value, this.#at++); } catch (error) { return this.up.error(error, leaf); }
+    try { is_wanted = this.called(value); } catch (error) { return this.up.error(error, leaf); }
     if (is_wanted) this.up.next(value, leaf);
   }
 }

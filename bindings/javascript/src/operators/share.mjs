@@ -62,52 +62,66 @@ export function share(options = {}) {
 }
 
 /** By a subject: whatever is to happen at an end, or when nobody is left. */
-function bySubject({ connector = null, resetOnError = true, resetOnComplete = true, resetOnRefCountZero = true }) {
-  return (whole) => {
-    let connection = null, reset = null, subject = null, many = 0, has_ended = false, has_failed = false;
-    const cancels = () => {
-      reset?.unsubscribe();
-      reset = null;
-    };
-    const resets = () => {
-      cancels();
-      connection = subject = null;
-      has_ended = has_failed = false;
-    };
-    const resetsAndLeaves = () => {
-      const it = connection;
-      resets();
-      it?.unsubscribe();
-    };
-    return operate((source, to) => {
-      many++;
-      if (!has_failed && !has_ended) cancels();
-      const mine = (subject ??= (connector ?? (() => new Subject()))());
-      to.add(() => {
-        many--;
-        if (many === 0 && !has_failed && !has_ended) reset = resetBy(resetsAndLeaves, resetOnRefCountZero);
-      });
-      mine.subscribe(to);
-      if (connection || many === 0) return;
-      connection = new SafeSubscriber({
-        next: (value) => mine.next(value),
-        error: (error) => {
-          has_failed = true;
-          cancels();
-          reset = resetBy(resets, resetOnError, error);
-          mine.error(error);
-        },
-        complete: () => {
-          has_ended = true;
-          cancels();
-          reset = resetBy(resets, resetOnComplete);
-          mine.complete();
-        },
-      });
-      innerFrom(source).subscribe(connection);
-    })(whole);
-  };
+class BySubject {
+  connection = null; subject = null; reset = null;
+  many = 0; has_ended = false; has_failed = false;
+  constructor({ connector = null, resetOnError = true, resetOnComplete = true, resetOnRefCountZero = true }) {
+    this.connector = connector ?? (() => new Subject());
+    this.on = { error: resetOnError, complete: resetOnComplete, nobody: resetOnRefCountZero };
+  }
+
+  cancels() {
+    this.reset?.unsubscribe();
+    this.reset = null;
+  }
+  resets() {
+    this.cancels();
+    this.connection = this.subject = null;
+    this.has_ended = this.has_failed = false;
+  }
+  resetsAndLeaves() {
+    const { connection } = this;
+    this.resets();
+    connection?.unsubscribe();
+  }
+  isOver() { return this.has_failed || this.has_ended; }
+
+  joins(to, source) {
+    this.many++;
+    if (!this.isOver()) this.cancels();
+    const mine = (this.subject ??= this.connector());
+    to.add(() => {
+      if (--this.many === 0 && !this.isOver()) this.reset = resetBy(() => this.resetsAndLeaves(), this.on.nobody);
+    });
+    mine.subscribe(to);
+    if (this.connection || this.many === 0) return;
+    this.connection = this.connects(mine);
+    innerFrom(source).subscribe(this.connection);
+  }
+  connects(mine) {
+    return new SafeSubscriber({
+      next: (value) => mine.next(value),
+      error: (error) => {
+        this.has_failed = true;
+        this.ends(this.on.error, error);
+        mine.error(error);
+      },
+      complete: () => {
+        this.has_ended = true;
+        this.ends(this.on.complete);
+        mine.complete();
+      },
+    });
+  }
+  ends(on, ...words) {
+    this.cancels();
+    this.reset = resetBy(() => this.resets(), on, ...words);
+  }
 }
+const bySubject = (options) => (whole) => {
+  const share = new BySubject(options);
+  return operate((source, to) => share.joins(to, source))(whole);
+};
 
 // A function or a notifier that fails resets too: the source is not kept for nobody.
 function resetBy(act, on, ...words) {

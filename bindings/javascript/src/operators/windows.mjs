@@ -161,48 +161,51 @@ export function groupBy(keySelector, elementOrOptions, duration, connector) {
       tell(to);
     };
     const fails = (error) => toAll((it) => it.error(error));
-    let groups_open = 0, is_left = false;
     const link = new Grouping(to, (value) => {
       try {
-        const key = keySelector(value);
-        let group = groups.get(key);
-        if (!group) {
-          groups.set(key, (group = connector ? connector() : new Subject()));
-          const grouped = observableOf(key, group);
-          to.next(grouped);
-          if (duration) {
-            const lasts = new Link(group, () => {
-              group.complete();
-              lasts.unsubscribe();
-            }, undefined, undefined, () => groups.delete(key));
-            link.add(innerFrom(duration(grouped)).subscribe(lasts));
-          }
-        }
+        const key = keySelector(value), group = groups.get(key) ?? opens(key);
         group.next(element ? element(value) : value);
       } catch (error) { fails(error); }
     }, () => toAll((it) => it.complete()), fails, () => groups.clear());
-    link.leaves = () => {
-      is_left = true;
-      return groups_open === 0;
+    const opens = (key) => {
+      const group = connector ? connector() : new Subject(), grouped = link.observableOf(key, group);
+      groups.set(key, group);
+      to.next(grouped);
+      if (duration) link.add(lasting(group, duration(grouped), () => groups.delete(key)));
+      return group;
     };
     source.subscribe(link);
-    function observableOf(key, group) {
-      const made = new Observable((subscriber) => {
-        groups_open++;
-        const inner = group.subscribe(subscriber);
-        return () => {
-          inner.unsubscribe();
-          if (--groups_open === 0 && is_left) link.unsubscribe();
-        };
-      });
-      made.key = key;
-      return made;
-    }
   });
 }
+/** A group ends with the first item of its duration. */
+function lasting(group, duration, finalize) {
+  const lasts = new Link(group, () => {
+    group.complete();
+    lasts.unsubscribe();
+  }, undefined, undefined, finalize);
+  return innerFrom(duration).subscribe(lasts);
+}
 
-/** A link that stays while it is told that it has to. */
+/** The link of a source that is kept, once it has been left, while a group is subscribed to. */
 class Grouping extends Link {
-  leaves = () => true;
-  unsubscribe() { if (this.isStopped || this.leaves()) super.unsubscribe(); }
+  many = 0; is_left = false;
+  unsubscribe() {
+    if (!this.isStopped) {
+      this.is_left = true;
+      if (this.many > 0) return;
+    }
+    super.unsubscribe();
+  }
+  observableOf(key, group) {
+    const made = new Observable((subscriber) => {
+      this.many++;
+      const inner = group.subscribe(subscriber);
+      return () => {
+        inner.unsubscribe();
+        if (--this.many === 0 && this.is_left) this.unsubscribe();
+      };
+    });
+    made.key = key;
+    return made;
+  }
 }
