@@ -56,11 +56,12 @@ export class ConnectableObservable extends Observable {
   connect() {
     if (this._connection) return this._connection;
     const connection = this._connection = new Subscription(), subject = this.getSubject(), ends = () => this._ended(connection);
+    // the source is released before its end is told
     const link = new Link(subject, undefined, () => {
-      ends();
+      link.leave();
       subject.complete();
     }, (error) => {
-      ends();
+      link.leave();
       subject.error(error);
     }, ends);
     link.asked = 'connection';

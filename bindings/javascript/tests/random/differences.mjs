@@ -30,26 +30,48 @@ function ofOwnResources(lines) {
   }
   return true;
 }
-/** How often each thing is released that the others made too and never released; null where the lines say something else. */
-function released(lines) { return lines.every((it) => parts(it).who === 'released') ? lines.length : null; }
-
-export const NAMES = {
-  'RxJS leaves a resource open': (a, b) => {
-    const more = beyond(wanted(b.lines), wanted(a.lines));
-    return isHeardSame(a, b) && more.length > 0 && released(more) !== null && a.left - b.left >= more.length && ofOwnResources(beyond(wanted(a.lines), wanted(b.lines)));
-  },
-  'nothing is subscribed to for nobody': (a, b) =>
-    isHeardSame(a, b) && beyond(wanted(b.lines), wanted(a.lines)).length === 0 && ofOwnResources(beyond(wanted(a.lines), wanted(b.lines))),
-  'what is done from within comes as soon as the callback returns': (a, b, runs) => beginsWithin(a.lines, b.lines) && isSame(...runs(true)),
-};
-const isSame = (a, b) => compared(a.lines) === compared(b.lines) || RESOURCES.some((it) => NAMES[it](a, b));
-const RESOURCES = ['RxJS leaves a resource open', 'nothing is subscribed to for nobody'];
-/** Whether the first line that differs is told in a step, and behind the moment, in which something was done from within. */
-function beginsWithin(lines, others) {
+const firstUnlike = (lines, others) => {
   let at = 0;
   while (at < lines.length && lines[at] === others[at]) at++;
-  const step = (lines[at] ?? others[at]).split(' ')[0];
-  return lines.slice(0, at).some((it) => it.startsWith(`${step} begins within`));
+  return at;
+};
+/** Who hears, behind these lines. */
+function hearing(lines) {
+  const now = new Set();
+  for (const { who, what } of lines.map(parts)) {
+    const [act, of] = what.split(' ');
+    if (who === 'begins' && act === 'subscribe') now.add(of);
+    else if ((who === 'begins' && act === 'unsubscribe') || /^(error|completed)/.test(what)) now.delete(who === 'begins' ? of : who);
+  }
+  return now;
 }
+/** Whether all that the second tells first is what it releases, and RxJS does not, though nobody hears. */
+function releasesForNobody(lines, others) {
+  const at = firstUnlike(lines, others);
+  return at < others.length && parts(others[at]).who === 'released' && hearing(others.slice(0, at)).size === 0;
+}
+const isActOfRelease = (line) => line.includes(' begins within release');
+const upToWithin = (lines) => lines.slice(0, lines.findIndex(isActOfRelease) + 1 || lines.length);
+const onlyForNobody = (a, b) => beyond(b, a).length === 0 && ofOwnResources(beyond(a, b));
+
+export const NAMES = {
+  'RxJS leaves a resource open': ({ lines: a, left: open }, { lines: b, left }) => {
+    const more = beyond(wanted(b), wanted(a));
+    return more.length > 0 && more.every((it) => parts(it).who === 'released') && open - left >= more.length && ofOwnResources(beyond(wanted(a), wanted(b)))
+      && compared(a, isHeard) === compared(b, isHeard);
+  },
+  'RxJS keeps a source for nobody': ({ lines: a }, { lines: b }) => releasesForNobody(a, b),
+  'nothing is subscribed to for nobody': (a, b) => isHeardSame(a, b) && onlyForNobody(wanted(a.lines), wanted(b.lines)),
+  // what is done within so many releases is then done within another one
+  'nothing is subscribed to for nobody, so another release is the one that acts': ({ lines: a }, { lines: b }) => {
+    const more = beyond(wanted(upToWithin(a)), wanted(b));
+    return a.some(isActOfRelease) && more.some((it) => parts(it).who === 'released') && ofOwnResources(more);
+  },
+  'what is done from within comes as soon as the callback returns': (a, b, runs) => isBehindAct(a.lines, b.lines) && isSame(...runs(true)),
+};
+const RESOURCES = Object.keys(NAMES).slice(0, 3);
+const isSame = (a, b) => compared(a.lines) === compared(b.lines) || RESOURCES.some((it) => NAMES[it](a, b));
+/** Whether something was done from within before the first line that differs. */
+function isBehindAct(lines, others) { return lines.slice(0, firstUnlike(lines, others)).some((it) => it.includes(' begins within ')); }
 /** The name of a difference; `runs` makes both runs again, where what is done from within is put off. */
 export const nameOf = (a, b, runs) => Object.keys(NAMES).find((one) => NAMES[one](a, b, runs)) ?? null;

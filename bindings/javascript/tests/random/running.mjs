@@ -117,8 +117,9 @@ export class Run {
   }
   act([what, ...of]) {
     const [who, value] = of;
+    if (what === 'subscribe' && this.subscriptions[who]) this.act(['unsubscribe', who]);
+    if (what.endsWith('subscribe')) this.say('begins', what, who);
     if (what === 'subscribe') {
-      this.subscriptions[who]?.unsubscribe();
       // known before it tells anything, so that it can be left from within
       const whole = this.subscriptions[who] = new this.rx.Subscriber(this.observer(who));
       this.pipe.subscribe(whole);
