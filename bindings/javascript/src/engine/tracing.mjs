@@ -5,7 +5,7 @@ const ROW = /^\s+at (?:(.*?) \()?(?:async )?((?:file|node|https?):[^)]*?|[^ )]*?
 const FAR = 60; // so many rows, since those of the package come first
 const NEAR = 2; // of `subscribe` and of who calls it
 /** The folder of the package, as stacks have it: what lies there is not the program's. */
-const own = (/(?:file:\/\/)?(\/.*?)\/(?:src|dist)\//.exec(new Error().stack ?? '') ?? [null, null])[1];
+const own = (/(?:file:\/\/)?((?:https?:\/\/[^\s/()]+)?\/?[^\s()]*?)\/(?:src|dist)\//.exec((new Error().stack ?? '').replace(/^.*\n/, '')) ?? [null, null])[1];
 
 let near = NEAR;
 
