@@ -22,6 +22,10 @@
 //!   what it is being told. Another thread's emission into the same subscription is told by the thread that is telling.
 //! - **Releases.** Dropping a [`local::Subscription`] has released its resources when it returns, from within an observer too, unless
 //!   another thread is telling that observer.
+//! - **Functions.** Those on items ([`map`](local::Observable::map), [`scan`](local::Observable::scan)) are called by who emits, before the
+//!   engine has the item. Where an operator has to hear the end of its source ([`fold`](local::Observable::fold),
+//!   [`zip`](local::Observable::zip), [`retry`](local::Observable::retry)), the source has a root of its own in the same lane, and a
+//!   function is called as that is told.
 //! - **Panics.** If an observer, a function on items or a `drop` panics, everything else that is due is told and released first. The
 //!   subscription is closed whose observer or function panicked. Then the first panic goes on to whoever emitted, subscribed or disposed.
 //! - **Memory.** What the engine cannot have it refuses, and nothing has changed. [`local::Scope::new`], `observe_in`, `connect_in` and

@@ -4,7 +4,7 @@
 #![allow(clippy::duplicate_mod)]
 
 pub(crate) mod form {
-    use super::{place::Place, root::Rooted, scope::Thing, using::Held, way::Way};
+    use super::observables::{place::Place, root::Rooted, scope::Thing, using::Held, way::Way, Scope};
     use crate::Refusal;
     use std::cell::RefCell;
     pub(crate) use std::rc::Rc as Ref;
@@ -42,53 +42,15 @@ pub(crate) mod form {
     }
 
     thread_local! {
-        static HERE: super::Scope<'static> = super::Scope::new().expect("there is memory for an engine");
+        static HERE: Scope<'static> = Scope::new().expect("there is memory for an engine");
     }
 
     /// The engine of what borrows nothing: each thread has one.
-    pub(crate) fn with_default<R>(f: impl FnOnce(&super::Scope<'static>) -> R) -> R {
+    pub(crate) fn with_default<R>(f: impl FnOnce(&Scope<'static>) -> R) -> R {
         HERE.with(f)
     }
 }
+#[path = "rx/observables.rs"]
+mod observables;
 pub use form::{Fits, Moves};
-
-#[path = "rx/words.rs"]
-mod words;
-#[path = "rx/scope.rs"]
-mod scope;
-#[path = "rx/root.rs"]
-mod root;
-#[path = "rx/way.rs"]
-mod way;
-#[path = "rx/place.rs"]
-mod place;
-#[path = "rx/leaf.rs"]
-mod leaf;
-#[path = "rx/observer.rs"]
-mod observer;
-#[path = "rx/create.rs"]
-mod create;
-#[path = "rx/using.rs"]
-mod using;
-#[path = "rx/items.rs"]
-mod items;
-#[path = "rx/take.rs"]
-mod take;
-#[path = "rx/merging.rs"]
-mod merging;
-#[path = "rx/at_most.rs"]
-mod at_most;
-#[path = "rx/take_until.rs"]
-mod take_until;
-#[path = "rx/finalize.rs"]
-mod finalize;
-#[path = "rx/share.rs"]
-mod share;
-#[path = "rx/subject.rs"]
-mod subject;
-
-pub use leaf::Emitter;
-pub use observer::{Observable, Subscription};
-pub use scope::Scope;
-pub use share::{Connectable, Connection};
-pub use subject::Subject;
+pub use observables::*;

@@ -10,3 +10,14 @@ pub enum Note<T, E = std::convert::Infallible> {
     /// It completed.
     Completed,
 }
+
+impl<T, E> Note<T, E> {
+    /// The same note of what this one has.
+    pub fn as_ref(&self) -> Note<&T, &E> {
+        match self {
+            Note::Next(item) => Note::Next(item),
+            Note::Error(error) => Note::Error(error),
+            Note::Completed => Note::Completed,
+        }
+    }
+}

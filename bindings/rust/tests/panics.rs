@@ -1,5 +1,6 @@
 //! A panic in an observer, in a function on items, in a `drop`: nothing leaks, nothing is released twice, and the panic goes on.
 use cellarcliff::local::{Observable, Scope, Subject};
+use cellarcliff::Note;
 use std::cell::{Cell, RefCell};
 use std::panic::{catch_unwind, panic_any, AssertUnwindSafe};
 use std::rc::Rc;
@@ -154,17 +155,30 @@ impl Drop for Loud {
     }
 }
 
-#[test]
-fn a_panic_in_any_function_of_an_operator_releases_what_it_had() {
+type Makes = Box<dyn Fn(&Observable<'static, i32>) -> Observable<'static, i32>>;
+
+/// Each operator with a function that panics at 2.
+fn breaking(dropped: &Rc<Cell<u32>>) -> Vec<(&'static str, Makes)> {
     let broken = |it: i32| if it == 2 { panic!("broken") } else { it };
-    let dropped = Rc::new(Cell::new(0));
     let count = dropped.clone();
     let inner = move |it: i32| with_file(&count, Observable::of([broken(it)]));
     let [one, two, three, four] = [(); 4].map(|()| inner.clone());
-    type Makes = Box<dyn Fn(&Observable<'static, i32>) -> Observable<'static, i32>>;
-    let all: Vec<(&str, Makes)> = vec![
+    vec![
         ("filter", Box::new(move |it| it.filter(move |it| broken(*it) > 0))),
         ("scan", Box::new(move |it| it.scan(0, move |sum, it| sum + broken(it)))),
+        ("inspect", Box::new(move |it| it.inspect(move |it| _ = broken(*it)))),
+        ("skip_while", Box::new(move |it| it.skip_while(move |it| broken(*it) > 0))),
+        ("take_while", Box::new(move |it| it.take_while(move |it| broken(*it) > 0))),
+        ("distinct_by", Box::new(move |it| it.distinct_by(move |it| broken(*it)))),
+        ("distinct_until_changed_by", Box::new(move |it| it.distinct_until_changed_by(move |it| broken(*it)))),
+        ("fold", Box::new(move |it| it.fold(0, move |sum, it| sum + broken(it)))),
+        ("reduce", Box::new(move |it| it.reduce(move |sum, it| sum + broken(it)))),
+        ("tap", Box::new(move |it| it.tap(move |note| if let Note::Next(it) = note { broken(*it); }))),
+        ("take_until", Box::new(move |it| it.take_until(it.map(broken).filter(|it| *it > 5)))),
+        ("retry", Box::new(move |it| it.map(broken).retry(None))),
+        ("zip_with", Box::new(move |it| it.zip_with(&it.map(broken)).map(|it| it.0))),
+        ("combine_latest_with", Box::new(move |it| it.map(broken).combine_latest_with(it).map(|it| it.0))),
+        ("with_latest_from", Box::new(move |it| it.with_latest_from(&it.map(broken)).map(|it| it.0))),
         ("flat_map", Box::new(move |it| it.flat_map(one.clone()))),
         ("switch_map", Box::new(move |it| it.switch_map(two.clone()))),
         ("concat_map", Box::new(move |it| it.concat_map(three.clone()))),
@@ -174,8 +188,13 @@ fn a_panic_in_any_function_of_an_operator_releases_what_it_had() {
         ("create", Box::new(move |it| it.flat_map(move |it| Observable::create(move |to| to.next(broken(it)))))),
         ("finalize", Box::new(move |it| it.flat_map(move |it| Observable::of([it]).finalize(move || _ = broken(it))))),
         ("a drop of an item", Box::new(move |it| it.map(Loud).filter(|it| it.0 != 2).map(|it| it.0))),
-    ];
-    for (name, make) in all {
+    ]
+}
+
+#[test]
+fn a_panic_in_any_function_of_an_operator_releases_what_it_had() {
+    let dropped = Rc::new(Cell::new(0));
+    for (name, make) in breaking(&dropped) {
         dropped.set(0);
         let subject = Subject::<i32>::new();
         let subscription = make(&with_file(&dropped, subject.observable())).each(drop);

@@ -120,7 +120,8 @@ fn work(scope: &Scope<'static>) -> bool {
     let file = Observable::using(acquire, move |_| source.clone());
     let (one, two) = (file.clone(), file.clone());
     let inner = file.share().flat_map(move |_| one.take(1)).concat_map(move |_| two.take(1)).switch_map(|it| Observable::of([it]));
-    let whole = inner.take_until(stop.observable()).finalize(|| ()).take(5);
+    let joined = inner.retry(2).with_latest_from(&subject.observable()).map(|it| it.0).distinct_until_changed();
+    let whole = joined.take_until(stop.observable()).finalize(|| ()).take(5).default_if_empty(7);
     let done = catch_unwind(AssertUnwindSafe(|| {
         let subscription = whole.observe_in(scope, drop)?;
         (0..4).for_each(|it| subject.next(it));

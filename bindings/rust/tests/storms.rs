@@ -97,6 +97,31 @@ fn eight_threads_use_most_operators_and_each_resource_is_dropped_once() {
 }
 
 #[test]
+fn eight_threads_use_what_stands_on_roots_of_its_own_and_each_resource_is_dropped_once() {
+    static OPEN: AtomicIsize = AtomicIsize::new(0);
+    let (subject, other) = (Subject::<u32>::new(), Subject::<u32>::new());
+    let (source, beside) = (subject.observable(), other.observable());
+    let whole = Observable::using(|| Socket::open(&OPEN), move |_| source.clone());
+    let shared = Observable::using(|| Socket::open(&OPEN), move |_| beside.clone()).share();
+    let (emits, emits_beside) = (subject.clone(), other.clone());
+    storm(move |thread| {
+        for round in 0..20 {
+            let held = [
+                whole.zip_with(&shared).skip(1).each(drop),
+                whole.combine_latest_with(&shared).take_while(|it| it.0 < 5).each(drop),
+                shared.with_latest_from(&whole).distinct_until_changed().take(2).last().each(drop),
+                whole.take(1).repeat(3).pairwise().each(drop),
+                shared.take(1).concat_with(&whole).fold(0, |sum, it| sum + it).each(drop),
+            ];
+            (0..3).for_each(|it| emits.next(it + thread + round));
+            emits_beside.next(round);
+            drop(held);
+        }
+    });
+    assert_eq!((OPEN.load(SeqCst), subject.observers(), other.observers()), (0, 0, 0));
+}
+
+#[test]
 fn observers_and_functions_that_panic_in_eight_threads_lose_no_resource() {
     static OPEN: AtomicIsize = AtomicIsize::new(0);
     static CAUGHT: AtomicUsize = AtomicUsize::new(0);

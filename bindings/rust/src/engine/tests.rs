@@ -80,7 +80,8 @@ fn tree<'a>(subject: &local::Subject<'a, u32>, stop: &local::Subject<'a, u32>, o
     let file = local::Observable::using(acquire, move |_| source.clone());
     let (one, two) = (file.clone(), file.clone());
     let inner = file.flat_map(move |_| one.take(1)).flat_map_at_most(2, move |_| two.take(1));
-    inner.switch_map(|it| local::Observable::of([it, it])).take_until(stop.observable()).finalize(|| ()).map(|it| it + 1).take(9)
+    let joined = inner.switch_map(|it| local::Observable::of([it, it])).with_latest_from(&subject.observable()).map(|it| it.0).retry(2);
+    joined.tap(|_| ()).take_until(stop.observable()).finalize(|| ()).map(|it| it + 1).take(9).default_if_empty(7)
 }
 
 #[test]

@@ -1,5 +1,5 @@
-//! FlatMap with a bound: at most so many inner observables at a time, and ConcatMap, where that is one. The node is a FlatMap, whose face
-//! puts an inner one off until one before has closed and has released what it had.
+//! FlatMap with a bound: at most so many inner observables at a time; ConcatMap, where that is one; and ExhaustMap, where none waits. The
+//! node is a FlatMap, whose face puts an inner one off until one before has closed and has released what it had, or declines it.
 use super::form::{Lock, Ref};
 use super::leaf::{or_panic, unless_gone};
 use super::merging::{open_merging, Above};
@@ -21,6 +21,7 @@ struct Parts<'a, T, U, E, F> {
     items: Lock<VecDeque<T>>, // whose turn to be projected has not come
     queue: Lock<Queue<T>>,    // who waits for an end
     most: usize,
+    waits: bool,
     above: OnceLock<Above<'a, U, E>>,
     f: Ref<F>,
 }
@@ -33,12 +34,16 @@ struct Turn<'a, T, U, E, F>(Ref<Parts<'a, T, U, E, F>>);
 impl<'a, T, U, E, F> Parts<'a, T, U, E, F> {
     fn close(&self) {
         if let Some(above) = self.above.get() {
-            above.way.root().close()
+            above.way.root().panicked()
         }
     }
 }
 
 impl<'a, T: Moves + 'a, U: 'a, E: Moves + 'a, F: Fn(T) -> Result<Observable<'a, U, E>, E> + Fits + 'a> Parts<'a, T, U, E, F> {
+    fn decline(&self) -> Result<(), Refusal> {
+        self.above.get().map_or(Ok(()), |above| above.way.root().engine.send(what::DECLINE, above.node))
+    }
+
     fn begin(self: &Ref<Self>, item: T) -> Result<(), Refusal> {
         let above = self.above.get().expect("a node is opened before its source");
         if above.is_stopped() || self.queue.with(|it| it.is_closed) {
@@ -61,16 +66,24 @@ impl<'a, T: Moves + 'a, U: 'a, E: Moves + 'a, F: Fn(T) -> Result<Observable<'a, 
     }
 
     fn hear(&self, item: T) {
-        let item = self.0.queue.with(|queue| {
-            if queue.busy == self.0.most {
-                queue.items.push_back(item);
-                return None;
+        let turn = self.0.queue.with(|queue| {
+            if queue.busy < self.0.most {
+                queue.busy += 1;
+                return Ok(item);
             }
-            queue.busy += 1;
-            Some(item)
+            if !self.0.waits {
+                return Err(Some(item));
+            }
+            queue.items.push_back(item);
+            Err(None)
         });
-        if let Some(item) = item {
-            or_panic(self.0.begin(item))
+        match turn {
+            Ok(item) => or_panic(self.0.begin(item)),
+            Err(None) => (),
+            Err(Some(item)) => {
+                drop(item);
+                or_panic(self.0.decline())
+            }
         }
     }
 
@@ -149,10 +162,26 @@ impl<'a, T: Moves + 'a, E: Moves + 'a> Observable<'a, T, E> {
     pub fn try_flat_map_at_most<U: 'a>(
         &self, most: usize, f: impl Fn(T) -> Result<Observable<'a, U, E>, E> + Fits + 'a,
     ) -> Observable<'a, U, E> {
+        self.bounded(most, true, f)
+    }
+
+    /// An observable for an item that comes while none of another is open. The others are left out.
+    pub fn exhaust_map<U: 'a>(&self, f: impl Fn(T) -> Observable<'a, U, E> + Fits + 'a) -> Observable<'a, U, E> {
+        self.try_exhaust_map(move |it| Ok(f(it)))
+    }
+
+    /// As [`exhaust_map`](Self::exhaust_map), or fails.
+    pub fn try_exhaust_map<U: 'a>(&self, f: impl Fn(T) -> Result<Observable<'a, U, E>, E> + Fits + 'a) -> Observable<'a, U, E> {
+        self.bounded(1, false, f)
+    }
+
+    fn bounded<U: 'a>(
+        &self, most: usize, waits: bool, f: impl Fn(T) -> Result<Observable<'a, U, E>, E> + Fits + 'a,
+    ) -> Observable<'a, U, E> {
         let (source, f, most) = (self.clone(), Ref::new(f), most.max(1));
         Observable::new(move |at| {
             let queue = Lock::new(Queue { items: VecDeque::new(), busy: 0, is_closed: false });
-            let parts = Parts { items: Lock::new(VecDeque::new()), queue, most, above: OnceLock::new(), f: f.clone() };
+            let parts = Parts { items: Lock::new(VecDeque::new()), queue, most, waits, above: OnceLock::new(), f: f.clone() };
             open_merging(at, &source, kind::FLAT, Ref::new(AtMost(Ref::new(parts))), |it| &it.0.above)
         })
     }

@@ -1,9 +1,9 @@
-//! Functions on items: map, filter, scan, and those that may fail. They are called in the thread that emits, before the engine has
+//! Functions on items: map, filter, inspect, and those that may fail. They are called in the thread that emits, before the engine has
 //! the item; several threads that emit may call them at once.
-use super::form::{AWay, Lock, Ref};
+use super::form::{AWay, Ref};
 use super::root::{call, Root, Rooted};
 use super::way::{Tip, Way};
-use super::{Fits, Moves, Observable};
+use super::{Fits, Observable};
 use crate::Refusal;
 
 struct Step<W: ?Sized, F> {
@@ -62,41 +62,6 @@ impl<'a, T, E, G, F: Fn(E) -> G> Way<'a, T, E> for Errors<AWay<'a, T, G>, F> {
     }
 }
 
-struct Scan<W: ?Sized, A, F> {
-    way: Ref<W>,
-    sum: Lock<A>,
-    f: Ref<F>,
-}
-
-impl<'a, W: Rooted<'a> + ?Sized, A, F> Rooted<'a> for Scan<W, A, F> {
-    fn root(&self) -> &Root<'a> {
-        self.way.root()
-    }
-}
-
-impl<'a, T, A: Clone, E, F: Fn(&A, T) -> Result<A, E>> Way<'a, T, E> for Scan<AWay<'a, A, E>, A, F> {
-    fn next(&self, from: Tip, item: T) -> Result<(), Refusal> {
-        let sum = call(|| self.way.root(), || {
-            self.sum.with(|sum| {
-                *sum = (self.f)(sum, item)?;
-                Ok(sum.clone())
-            })
-        });
-        match sum {
-            Ok(sum) => self.way.next(from, sum),
-            Err(error) => self.way.error(from, error),
-        }
-    }
-
-    fn error(&self, from: Tip, error: E) -> Result<(), Refusal> {
-        self.way.error(from, error)
-    }
-
-    fn completed(&self, from: Tip) -> Result<(), Refusal> {
-        self.way.completed(from)
-    }
-}
-
 impl<'a, T: 'a, E: 'a> Observable<'a, T, E> {
     /// Maps each item, leaves it out (`None`), or fails.
     pub fn try_filter_map<U: 'a>(&self, f: impl Fn(T) -> Result<Option<U>, E> + Fits + 'a) -> Observable<'a, U, E> {
@@ -124,19 +89,12 @@ impl<'a, T: 'a, E: 'a> Observable<'a, T, E> {
         self.try_filter_map(move |it| Ok(f(&it).then_some(it)))
     }
 
-    /// What comes of all items so far, from `first` on.
-    ///
-    /// `f` is called under a lock of this subscription: it must not emit into its own source.
-    pub fn scan<A: Clone + Moves + Fits + 'a>(&self, first: A, f: impl Fn(&A, T) -> A + Fits + 'a) -> Observable<'a, A, E> {
-        self.try_scan(first, move |sum, it| Ok(f(sum, it)))
-    }
-
-    /// As [`scan`](Self::scan), or fails.
-    pub fn try_scan<A: Clone + Moves + Fits + 'a>(
-        &self, first: A, f: impl Fn(&A, T) -> Result<A, E> + Fits + 'a,
-    ) -> Observable<'a, A, E> {
-        let f = Ref::new(f);
-        self.through(move |way| Ref::new(Scan { way, sum: Lock::new(first.clone()), f: f.clone() }))
+    /// Calls `f` with each item on its way.
+    pub fn inspect(&self, f: impl Fn(&T) + Fits + 'a) -> Self {
+        self.map(move |it| {
+            f(&it);
+            it
+        })
     }
 
     /// Turns an error into one of another type.

@@ -1,6 +1,7 @@
 //! A source's end of the engine.
 use super::form::{AThing, AWay, Lock, Ref};
 use super::place::Place;
+use super::root::{Root, Rooted};
 use super::scope::Thing;
 use super::way::{End, Tip};
 use super::words::Word;
@@ -45,6 +46,12 @@ impl<'a, T, E> Leaf<'a, T, E> {
         if let Some(thing) = late {
             thing.closed();
         }
+    }
+}
+
+impl<'a, T, E> Rooted<'a> for Leaf<'a, T, E> {
+    fn root(&self) -> &Root<'a> {
+        self.way.root()
     }
 }
 

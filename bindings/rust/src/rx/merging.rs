@@ -107,7 +107,7 @@ impl<'a, T, U, E, F> Merging<'a, T, U, E, F> {
 
     fn close(&self) {
         if let Some(above) = self.above.get() {
-            above.way.root().close()
+            above.way.root().panicked()
         }
     }
 }
@@ -199,7 +199,7 @@ impl<'a, T: Moves + 'a, E: Moves + 'a> Observable<'a, T, E> {
 }
 
 impl<'a, T: 'a, E: 'a> Observable<'a, Observable<'a, T, E>, E> {
-    fn of_observables(all: Vec<Observable<'a, T, E>>) -> Self {
+    pub(crate) fn of_observables(all: Vec<Observable<'a, T, E>>) -> Self {
         Observable::create(move |to| {
             all.iter().take_while(|_| !to.is_closed()).for_each(|it| to.next(it.clone()));
             to.completed()

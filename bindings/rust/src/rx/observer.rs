@@ -1,6 +1,6 @@
 //! Observables, and what observes them: a closure or a channel.
 use super::form::{with_default, ARoot, AWay, Lock, Opens, Ref};
-use super::leaf::{unless_gone, Emitter};
+use super::leaf::{unless_gone, Emitter, Leaf};
 use super::place::{Place, Spot};
 use super::root::{Follows, Root, Rooted};
 use super::scope::{Inbox, Scope, Thing};
@@ -101,7 +101,7 @@ impl<T, E, O: FnMut(Note<T, E>)> Inbox<T> for Heard<'_, T, E, O> {
     }
 
     fn panicked(&self) {
-        self.root.close();
+        self.root.panicked();
         self.leave();
     }
 }
@@ -170,7 +170,7 @@ impl<T, E, O: FnMut(Note<T, E>)> Thing for Heard<'_, T, E, O> {
 }
 
 /// A root, perhaps in the lane of another node, and the place of an observable that tells this observer.
-fn rooted<'a, T: Moves + 'a, E: Moves + 'a, O: FnMut(Note<T, E>) + Moves + 'a>(
+pub(crate) fn rooted<'a, T: Moves + 'a, E: Moves + 'a, O: FnMut(Note<T, E>) + Moves + 'a>(
     root: Root<'a>, lane: Option<Key>, observer: O,
 ) -> (Ref<ARoot<'a>>, Place<'a, T, E>) {
     let waiting = Lock::new(Waiting { items: VecDeque::new(), error: None });
@@ -179,23 +179,29 @@ fn rooted<'a, T: Moves + 'a, E: Moves + 'a, O: FnMut(Note<T, E>) + Moves + 'a>(
 }
 
 impl<'a, T: Moves + 'a, E: Moves + 'a> Observable<'a, T, E> {
-    /// Opens a leaf, and a root of its own that tells the leaf and is disposed of with it. So what releases at the end of this one
-    /// does so, though the leaf goes on.
-    pub(crate) fn open_beside(&self, at: Place<'a, T, E>) -> Result<(), Refusal> {
-        let to = Emitter::open(at)?;
-        let (leaf, tells) = (to.leaf.clone(), to);
-        let root = Root::new(leaf.way.root().engine.clone(), None);
-        let (root, place) = rooted(root, Some(leaf.tip().node), move |note| match note {
-            Note::Next(item) => tells.next(item),
-            Note::Error(error) => tells.error(error),
-            Note::Completed => tells.completed(),
-        });
+    /// Opens a root of its own, which is disposed of with this leaf. So what releases at the end of this one does so, though the leaf goes
+    /// on.
+    pub(crate) fn open_to<U: 'a, F: 'a>(
+        &self, leaf: &Ref<Leaf<'a, U, F>>, observer: impl FnMut(Note<T, E>) + Moves + 'a,
+    ) -> Result<(), Refusal> {
+        let (root, place) = rooted(Root::beside(leaf), Some(leaf.tip().node), observer);
         leaf.when_closed(Ref::new(Follows(root.clone())));
         let done = self.open(place);
         if leaf.is_closed() || done.is_err() {
             root.root().close();
         }
         done
+    }
+
+    /// Opens a leaf, and a root of its own that tells it all.
+    pub(crate) fn open_beside(&self, at: Place<'a, T, E>) -> Result<(), Refusal> {
+        let to = Emitter::open(at)?;
+        let leaf = to.leaf.clone();
+        self.open_to(&leaf, move |note| match note {
+            Note::Next(item) => to.next(item),
+            Note::Error(error) => to.error(error),
+            Note::Completed => to.completed(),
+        })
     }
 
     /// Observes within a scope; refused if the engine has no memory, or no place for one more share, and then nothing is open.

@@ -1,5 +1,6 @@
 //! A subscription's root, or the connection of a share: what a panic closes, and what a subscription disposes of.
-use super::form::Ref;
+use super::form::{ARoot, Ref};
+use super::leaf::Leaf;
 use super::scope::{Engine, Thing};
 use super::words::Word;
 use crate::engine::{what, Command, Key, NOTHING, UNKNOWN_HUB};
@@ -11,6 +12,7 @@ use std::sync::atomic::Ordering::{Relaxed, SeqCst};
 pub(crate) struct Root<'a> {
     pub engine: Ref<Engine<'a>>,
     share: Option<u64>,
+    above: Option<Ref<ARoot<'a>>>, // what it is beside
     key: LateKey,
     is_stopped: AtomicBool,
 }
@@ -28,7 +30,12 @@ impl<'a> Rooted<'a> for Root<'a> {
 
 impl<'a> Root<'a> {
     pub fn new(engine: Ref<Engine<'a>>, share: Option<u64>) -> Self {
-        Root { engine, share, key: LateKey::new(NOTHING), is_stopped: AtomicBool::new(false) }
+        Root { engine, share, above: None, key: LateKey::new(NOTHING), is_stopped: AtomicBool::new(false) }
+    }
+
+    /// Of an observable that tells this leaf, by an observer of its own.
+    pub fn beside<T: 'a, E: 'a>(leaf: &Ref<Leaf<'a, T, E>>) -> Self {
+        Root { above: Some(leaf.clone()), ..Root::new(leaf.way.root().engine.clone(), None) }
     }
 
     #[inline]
@@ -53,6 +60,14 @@ impl<'a> Root<'a> {
         self.is_stopped.fetch_or(false, SeqCst)
     }
 
+    /// A function or an observer panicked: the subscription is closed, and all that stands beside it.
+    pub fn panicked(&self) {
+        match &self.above {
+            Some(it) => it.root().panicked(),
+            None => self.close(),
+        }
+    }
+
     /// Nothing more is told; all is released.
     pub fn close(&self) {
         self.stop();
@@ -70,11 +85,11 @@ impl<'a> Root<'a> {
     }
 }
 
-/// Calls a user's function; if that panics, the root is closed before the panic goes on.
+/// Calls a user's function; if that panics, the subscription is closed before the panic goes on.
 #[inline]
 pub(crate) fn call<'r, 'a: 'r, R>(root: impl FnOnce() -> &'r Root<'a>, f: impl FnOnce() -> R) -> R {
     catch_unwind(AssertUnwindSafe(f)).unwrap_or_else(|why| {
-        if let Err(other) = catch_unwind(AssertUnwindSafe(|| root().close())) {
+        if let Err(other) = catch_unwind(AssertUnwindSafe(|| root().panicked())) {
             discard(other)
         }
         resume_unwind(why)

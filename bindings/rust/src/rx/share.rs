@@ -7,6 +7,7 @@ use super::leaf::{or_panic, unless_gone, Emitter, Leaf};
 use super::place::{Place, Spot};
 use super::root::{Follows, Root, Rooted};
 use super::scope::{Engine, Scope, Thing};
+use super::stage::Ends;
 use super::words::Word;
 use super::way::{End, Tip, Way};
 use super::{Fits, Moves, Observable};
@@ -128,33 +129,14 @@ struct Subscriber<'a, T, E> {
     hears: Option<Ref<AThing<'a>>>,
 }
 
-/// The end of a leaf in place of a share's observer.
-struct Ends<'a, T, E> {
-    leaf: Ref<Leaf<'a, T, E>>,
-    error: Lock<Option<E>>,
-}
-
-impl<T, E> Thing for Ends<'_, T, E> {
-    fn tell(&self, _: u32, _: u64) {
-        let (way, tip) = (&self.leaf.way, self.leaf.tip());
-        or_panic(match self.error.with(Option::take) {
-            Some(error) => way.error(tip, error),
-            None => way.completed(tip),
-        })
-    }
-
-    fn panicked(&self) {
-        self.leaf.way.root().close()
-    }
-}
-
 impl<'a, T: Moves + 'a, E: Moves + 'a> Subscriber<'a, T, E> {
     /// Of a leaf the end comes behind all that the share's own end releases: what is subscribed to next finds that released.
     fn end(&self, error: Option<E>) -> Result<(), Refusal> {
         match (&self.to, error) {
             (To::Leaf(leaf), error) => {
-                let ends = Ref::new(Ends { leaf: leaf.clone(), error: Lock::new(error) });
-                self.share.engine.get().into_iter().for_each(|it| it.tell_behind(ends.clone()));
+                if let Some(engine) = self.share.engine.get() {
+                    engine.tell_behind(Ends::of(leaf, error))
+                }
                 Ok(())
             }
             (To::Root(_), Some(error)) => self.to.way().0.error(self.to.way().1, error),
@@ -182,7 +164,7 @@ impl<'a, T: Clone + Moves + 'a, E: Clone + Moves + 'a> Thing for Subscriber<'a, 
     }
 
     fn panicked(&self) {
-        self.to.way().0.root().close();
+        self.to.way().0.root().panicked();
         if let Some(it) = &self.hears {
             it.panicked()
         }

@@ -1,0 +1,150 @@
+//! Functions on items that remember: scan, skip, pairwise and their like. Each subscription remembers its own. They are called in the
+//! thread that emits, before the engine has the item, under a lock of the subscription: a function of these must not emit into its own
+//! source.
+use super::form::{AWay, Lock, Ref};
+use super::root::{call, Root, Rooted};
+use super::way::{Tip, Way};
+use super::{Fits, Moves, Observable};
+use crate::Refusal;
+use std::collections::{HashSet, VecDeque};
+use std::hash::Hash;
+
+struct Remembers<W: ?Sized, S, F> {
+    way: Ref<W>,
+    state: Lock<S>,
+    f: Ref<F>,
+}
+
+impl<'a, W: Rooted<'a> + ?Sized, S, F> Rooted<'a> for Remembers<W, S, F> {
+    fn root(&self) -> &Root<'a> {
+        self.way.root()
+    }
+}
+
+impl<'a, T, U, E, S, F: Fn(&mut S, T) -> Result<Option<U>, E>> Way<'a, T, E> for Remembers<AWay<'a, U, E>, S, F> {
+    fn next(&self, from: Tip, item: T) -> Result<(), Refusal> {
+        match call(|| self.way.root(), || self.state.with(|state| (self.f)(state, item))) {
+            Ok(Some(item)) => self.way.next(from, item),
+            Ok(None) => Ok(()),
+            Err(error) => self.way.error(from, error),
+        }
+    }
+
+    fn error(&self, from: Tip, error: E) -> Result<(), Refusal> {
+        self.way.error(from, error)
+    }
+
+    fn completed(&self, from: Tip) -> Result<(), Refusal> {
+        self.way.completed(from)
+    }
+}
+
+impl<'a, T: 'a, E: 'a> Observable<'a, T, E> {
+    fn remembering<S: Moves + 'a, U: 'a>(
+        &self, first: impl Fn() -> S + Fits + 'a, f: impl Fn(&mut S, T) -> Result<Option<U>, E> + Fits + 'a,
+    ) -> Observable<'a, U, E> {
+        let f = Ref::new(f);
+        self.through(move |way| Ref::new(Remembers { way, state: Lock::new(first()), f: f.clone() }))
+    }
+
+    /// What comes of all items so far, from `first` on.
+    ///
+    /// `f` is called under a lock of this subscription: it must not emit into its own source.
+    pub fn scan<A: Clone + Moves + Fits + 'a>(&self, first: A, f: impl Fn(&A, T) -> A + Fits + 'a) -> Observable<'a, A, E> {
+        self.try_scan(first, move |sum, it| Ok(f(sum, it)))
+    }
+
+    /// As [`scan`](Self::scan), or fails.
+    pub fn try_scan<A: Clone + Moves + Fits + 'a>(
+        &self, first: A, f: impl Fn(&A, T) -> Result<A, E> + Fits + 'a,
+    ) -> Observable<'a, A, E> {
+        self.remembering(move || first.clone(), move |sum, it| {
+            *sum = f(sum, it)?;
+            Ok(Some(sum.clone()))
+        })
+    }
+
+    /// All but the first items.
+    pub fn skip(&self, many: usize) -> Self {
+        self.remembering(move || many, |left, it| match *left {
+            0 => Ok(Some(it)),
+            _ => {
+                *left -= 1;
+                Ok(None)
+            }
+        })
+    }
+
+    /// The items from the first on for which it is false.
+    ///
+    /// `f` is called under a lock of this subscription: it must not emit into its own source.
+    pub fn skip_while(&self, f: impl Fn(&T) -> bool + Fits + 'a) -> Self {
+        self.try_skip_while(move |it| Ok(f(it)))
+    }
+
+    /// As [`skip_while`](Self::skip_while), or fails.
+    pub fn try_skip_while(&self, f: impl Fn(&T) -> Result<bool, E> + Fits + 'a) -> Self {
+        self.remembering(|| true, move |skips, it| {
+            *skips = *skips && f(&it)?;
+            Ok((!*skips).then_some(it))
+        })
+    }
+
+    /// Each item with its number, from 0.
+    pub fn enumerate(&self) -> Observable<'a, (usize, T), E> {
+        self.remembering(|| 0, |next, it| {
+            *next += 1;
+            Ok(Some((*next - 1, it)))
+        })
+    }
+}
+
+impl<'a, T: Moves + 'a, E: 'a> Observable<'a, T, E> {
+    /// All but the last items: each is told once so many have come behind it.
+    pub fn skip_last(&self, many: usize) -> Self {
+        self.remembering(VecDeque::new, move |waiting, it| {
+            waiting.push_back(it);
+            Ok(if waiting.len() > many { waiting.pop_front() } else { None })
+        })
+    }
+
+    /// Each item with the one before it.
+    pub fn pairwise(&self) -> Observable<'a, (T, T), E>
+    where
+        T: Clone,
+    {
+        self.remembering(|| None, |before: &mut Option<T>, it| Ok(before.replace(it.clone()).map(|before| (before, it))))
+    }
+
+    /// The items that differ from the one before.
+    pub fn distinct_until_changed(&self) -> Self
+    where
+        T: Clone + PartialEq,
+    {
+        self.distinct_until_changed_by(T::clone)
+    }
+
+    /// The items whose key differs from that of the one before.
+    pub fn distinct_until_changed_by<K: PartialEq + Moves + 'a>(&self, key: impl Fn(&T) -> K + Fits + 'a) -> Self {
+        self.remembering(|| None, move |before, it| {
+            let key = Some(key(&it));
+            Ok((*before != key).then(|| {
+                *before = key;
+                it
+            }))
+        })
+    }
+
+    /// The items that were not told before. It remembers them all.
+    pub fn distinct(&self) -> Self
+    where
+        T: Clone + Eq + Hash,
+    {
+        self.distinct_by(T::clone)
+    }
+
+    /// The items whose key was not told before. It remembers all keys.
+    pub fn distinct_by<K: Eq + Hash + Moves + 'a>(&self, key: impl Fn(&T) -> K + Fits + 'a) -> Self {
+        self.remembering(HashSet::new, move |before, it| Ok(before.insert(key(&it)).then_some(it)))
+    }
+}
