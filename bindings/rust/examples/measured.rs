@@ -1,6 +1,6 @@
-//! Measures an item, a subscription with a resource and an item, and an item of a flat_map, in both forms, and an item of plain closures:
-//! nanoseconds of processor time, of each the least and the median of nine rounds. `tools/measure-rust` has the same work done in C over
-//! the same engine, in turns with this.
+//! Measures an item, one that goes through a root of an operator's own, a subscription with a resource and an item, and an item of a
+//! flat_map, in both forms, and an item of plain closures: nanoseconds of processor time, of each the least and the median of nine
+//! rounds. `tools/measure-rust` has the same work done in C over the same engine, in turns with this.
 use cellarcliff::{local, sync};
 use std::cell::{Cell, RefCell};
 use std::hint::black_box;
@@ -50,12 +50,14 @@ macro_rules! works {
         let source = $form::Observable::<u64>::create(move |to| {
             keeps.lock().unwrap().replace(to);
         });
-        let subscription = source.each(|it| {
-            black_box(it);
-        });
-        let emitter = kept.lock().unwrap().take().unwrap();
-        measure(concat!(stringify!($form), ", an item"), MANY, || (0..MANY).for_each(|it| emitter.next(it)));
-        drop((subscription, emitter));
+        for (name, source) in [("an item", source.clone()), ("an item of a retry", source.retry(None))] {
+            let subscription = source.each(|it| {
+                black_box(it);
+            });
+            let emitter = kept.lock().unwrap().take().unwrap();
+            measure(&format!("{}, {name}", stringify!($form)), MANY, || (0..MANY).for_each(|it| emitter.next(it)));
+            drop((subscription, emitter));
+        }
 
         let source = $form::Observable::<u64>::create(|to| to.next(1));
         let whole = $form::Observable::using(|| Resource(1), move |_| source.clone());

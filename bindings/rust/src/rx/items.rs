@@ -6,9 +6,10 @@ use super::way::{Tip, Way};
 use super::{Fits, Observable};
 use crate::Refusal;
 
-struct Step<W: ?Sized, F> {
-    way: Ref<W>,
-    f: Ref<F>,
+/// The way of an item through a function, which maps it, leaves it out, or fails.
+pub(crate) struct Step<W: ?Sized, F> {
+    pub way: Ref<W>,
+    pub f: F,
 }
 
 impl<'a, W: Rooted<'a> + ?Sized, F> Rooted<'a> for Step<W, F> {
@@ -66,7 +67,10 @@ impl<'a, T: 'a, E: 'a> Observable<'a, T, E> {
     /// Maps each item, leaves it out (`None`), or fails.
     pub fn try_filter_map<U: 'a>(&self, f: impl Fn(T) -> Result<Option<U>, E> + Fits + 'a) -> Observable<'a, U, E> {
         let f = Ref::new(f);
-        self.through(move |way| Ref::new(Step { way, f: f.clone() }))
+        self.through(move |way| {
+            let f = f.clone();
+            Ref::new(Step { way, f: move |it| f(it) })
+        })
     }
 
     /// Maps each item.

@@ -1,50 +1,21 @@
 //! Functions on items that remember: scan, skip, pairwise and their like. Each subscription remembers its own. They are called in the
 //! thread that emits, before the engine has the item, under a lock of the subscription: a function of these must not emit into its own
 //! source.
-use super::form::{AWay, Lock, Ref};
-use super::root::{call, Root, Rooted};
-use super::way::{Tip, Way};
+use super::form::{Lock, Ref};
+use super::items::Step;
 use super::{Fits, Moves, Observable};
-use crate::Refusal;
 use std::collections::{HashSet, VecDeque};
 use std::hash::Hash;
-
-struct Remembers<W: ?Sized, S, F> {
-    way: Ref<W>,
-    state: Lock<S>,
-    f: Ref<F>,
-}
-
-impl<'a, W: Rooted<'a> + ?Sized, S, F> Rooted<'a> for Remembers<W, S, F> {
-    fn root(&self) -> &Root<'a> {
-        self.way.root()
-    }
-}
-
-impl<'a, T, U, E, S, F: Fn(&mut S, T) -> Result<Option<U>, E>> Way<'a, T, E> for Remembers<AWay<'a, U, E>, S, F> {
-    fn next(&self, from: Tip, item: T) -> Result<(), Refusal> {
-        match call(|| self.way.root(), || self.state.with(|state| (self.f)(state, item))) {
-            Ok(Some(item)) => self.way.next(from, item),
-            Ok(None) => Ok(()),
-            Err(error) => self.way.error(from, error),
-        }
-    }
-
-    fn error(&self, from: Tip, error: E) -> Result<(), Refusal> {
-        self.way.error(from, error)
-    }
-
-    fn completed(&self, from: Tip) -> Result<(), Refusal> {
-        self.way.completed(from)
-    }
-}
 
 impl<'a, T: 'a, E: 'a> Observable<'a, T, E> {
     fn remembering<S: Moves + 'a, U: 'a>(
         &self, first: impl Fn() -> S + Fits + 'a, f: impl Fn(&mut S, T) -> Result<Option<U>, E> + Fits + 'a,
     ) -> Observable<'a, U, E> {
         let f = Ref::new(f);
-        self.through(move |way| Ref::new(Remembers { way, state: Lock::new(first()), f: f.clone() }))
+        self.through(move |way| {
+            let (f, state) = (f.clone(), Lock::new(first()));
+            Ref::new(Step { way, f: move |it| state.with(|state| f(state, it)) })
+        })
     }
 
     /// What comes of all items so far, from `first` on.

@@ -11,71 +11,22 @@ use crate::Refusal;
 use crate::rx::atomic::{AtomicBool, AtomicUsize};
 use std::sync::atomic::Ordering::SeqCst;
 
-struct Take<'a, T, E> {
+/// The way of an item that may be the last.
+struct Ending<'a, T, E, F> {
     way: Ref<AWay<'a, T, E>>,
-    many: usize,
-    begun: AtomicUsize,
-    told: AtomicUsize,
     notifier: Emitter<'a, (), E>,
+    next: F,
 }
 
-impl<'a, T, E> Rooted<'a> for Take<'a, T, E> {
+impl<'a, T, E, F> Rooted<'a> for Ending<'a, T, E, F> {
     fn root(&self) -> &Root<'a> {
         self.way.root()
     }
 }
 
-impl<'a, T, E> Way<'a, T, E> for Take<'a, T, E> {
+impl<'a, T, E, F: Fn(&AWay<'a, T, E>, &Emitter<'a, (), E>, Tip, T) -> Result<(), Refusal>> Way<'a, T, E> for Ending<'a, T, E, F> {
     fn next(&self, from: Tip, item: T) -> Result<(), Refusal> {
-        if self.begun.fetch_update(SeqCst, SeqCst, |it| (it < self.many).then_some(it + 1)).is_err() {
-            return Ok(());
-        }
-        // the end stands behind all items, whichever thread told the last
-        let done = self.way.next(from, item);
-        if self.told.fetch_add(1, SeqCst) + 1 == self.many {
-            self.notifier.next(());
-        }
-        done
-    }
-
-    fn error(&self, from: Tip, error: E) -> Result<(), Refusal> {
-        self.way.error(from, error)
-    }
-
-    fn completed(&self, from: Tip) -> Result<(), Refusal> {
-        self.way.completed(from)
-    }
-}
-
-struct TakeWhile<'a, T, E, F> {
-    way: Ref<AWay<'a, T, E>>,
-    f: Ref<F>,
-    with_last: bool,
-    is_over: AtomicBool,
-    notifier: Emitter<'a, (), E>,
-}
-
-impl<'a, T, E, F> Rooted<'a> for TakeWhile<'a, T, E, F> {
-    fn root(&self) -> &Root<'a> {
-        self.way.root()
-    }
-}
-
-impl<'a, T, E, F: Fn(&T) -> Result<bool, E>> Way<'a, T, E> for TakeWhile<'a, T, E, F> {
-    fn next(&self, from: Tip, item: T) -> Result<(), Refusal> {
-        if self.is_over.load(SeqCst) {
-            return Ok(());
-        }
-        match call(|| self.way.root(), || (self.f)(&item)) {
-            Ok(true) => self.way.next(from, item),
-            Err(error) => self.way.error(from, error),
-            Ok(false) if self.is_over.swap(true, SeqCst) => Ok(()),
-            Ok(false) => {
-                let done = if self.with_last { self.way.next(from, item) } else { Ok(()) };
-                self.notifier.next(());
-                done
-            }
-        }
+        (self.next)(&*self.way, &self.notifier, from, item)
     }
 
     fn error(&self, from: Tip, error: E) -> Result<(), Refusal> {
@@ -88,14 +39,16 @@ impl<'a, T, E, F: Fn(&T) -> Result<bool, E>> Way<'a, T, E> for TakeWhile<'a, T, 
 }
 
 impl<'a, T: 'a, E: 'a> Observable<'a, T, E> {
-    /// The same source, by a way that has a notifier: who tells that ends it.
-    fn ending(&self, way: impl Fn(Ref<AWay<'a, T, E>>, Emitter<'a, (), E>) -> Ref<AWay<'a, T, E>> + Fits + 'a) -> Self {
+    /// The same source, by a way that has a notifier: who tells that ends it. `begin` makes, for each subscription, what hears an item.
+    fn ending<F: Fn(&AWay<'a, T, E>, &Emitter<'a, (), E>, Tip, T) -> Result<(), Refusal> + Fits + 'a>(
+        &self, begin: impl Fn() -> F + Fits + 'a,
+    ) -> Self {
         let source = self.clone();
         Observable::new(move |mut at| {
             let node = at.open(kind::UNTIL, None, None)?.node;
             let notifies = Ref::new(Notifies(at.way.clone()));
             let notifier = Emitter::open(Place { spot: Spot::below(place::NOTIFIER, node), way: notifies })?;
-            source.open(at.down(place::SOURCE, node).by(|above| way(above, notifier)))
+            source.open(at.down(place::SOURCE, node).by(|way| Ref::new(Ending { way, notifier, next: begin() })))
         })
     }
 
@@ -104,8 +57,19 @@ impl<'a, T: 'a, E: 'a> Observable<'a, T, E> {
         if many == 0 {
             return Observable::empty();
         }
-        self.ending(move |way, notifier| {
-            Ref::new(Take { way, many, begun: AtomicUsize::new(0), told: AtomicUsize::new(0), notifier })
+        self.ending(move || {
+            let (begun, told) = (AtomicUsize::new(0), AtomicUsize::new(0));
+            move |way, notifier, from, item| {
+                if begun.fetch_update(SeqCst, SeqCst, |it| (it < many).then_some(it + 1)).is_err() {
+                    return Ok(());
+                }
+                // the end stands behind all items, whichever thread told the last
+                let done = way.next(from, item);
+                if told.fetch_add(1, SeqCst) + 1 == many {
+                    notifier.next(());
+                }
+                done
+            }
         })
     }
 
@@ -131,8 +95,23 @@ impl<'a, T: 'a, E: 'a> Observable<'a, T, E> {
 
     fn taking_while(&self, with_last: bool, f: impl Fn(&T) -> Result<bool, E> + Fits + 'a) -> Self {
         let f = Ref::new(f);
-        self.ending(move |way, notifier| {
-            Ref::new(TakeWhile { way, f: f.clone(), with_last, is_over: AtomicBool::new(false), notifier })
+        self.ending(move || {
+            let (f, is_over) = (f.clone(), AtomicBool::new(false));
+            move |way, notifier, from, item| {
+                if is_over.load(SeqCst) {
+                    return Ok(());
+                }
+                match call(|| way.root(), || f(&item)) {
+                    Ok(true) => way.next(from, item),
+                    Err(error) => way.error(from, error),
+                    Ok(false) if is_over.swap(true, SeqCst) => Ok(()),
+                    Ok(false) => {
+                        let done = if with_last { way.next(from, item) } else { Ok(()) };
+                        notifier.next(());
+                        done
+                    }
+                }
+            }
         })
     }
 }
