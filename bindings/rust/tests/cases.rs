@@ -542,9 +542,9 @@ fn sum(source: &Obs, name: &str, words: &[Json]) -> Option<Obs> {
         "to_list" => source.to_vec().map(listed),
         "default_if_empty" => source.default_if_empty(Item::Plain(words[0].clone())),
         "throw_if_empty" => fails(source.clone(), "no elements"),
-        "first" => fails(is_there().take(1), "no elements"),
-        "first_or_default" => is_there().take(1).default_if_empty(value()),
-        "find" => is_there().take(1).default_if_empty(Item::Plain(Json::Null)),
+        "first" => fails(is_there().first(), "no elements"),
+        "first_or_default" => is_there().first().default_if_empty(value()),
+        "find" => is_there().first().default_if_empty(Item::Plain(Json::Null)),
         "find_index" => {
             let holds = condition(words.first());
             let found = source.enumerate().try_filter_map(move |(at, it)| Ok(holds(&it)?.then_some(at as i128)));

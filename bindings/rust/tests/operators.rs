@@ -165,7 +165,7 @@ fn a_million_items_and_a_thousand_cycles_keep_memory_flat() {
     let inner = source.clone();
     let whole = sync::Observable::using(|| vec![0u8; 64], move |_| inner.clone()).map(|it| it + 1).filter(|it| it % 2 == 0);
     let count = told.clone();
-    let one = whole.each(move |_| {
+    let one = whole.retry(None).each(move |_| {
         count.fetch_add(1, SeqCst);
     });
     let cycles = |many: u64| {
@@ -173,6 +173,7 @@ fn a_million_items_and_a_thousand_cycles_keep_memory_flat() {
             let two = whole.share().take(2).each(drop);
             subject.next(it);
             drop(two);
+            sync::Observable::<u64>::of([it]).repeat(3).last().each(drop).detach();
         }
     };
     (0..100_000).for_each(|it| subject.next(it)); // past the engine's own checkpoint

@@ -4,8 +4,11 @@ use std::panic::{catch_unwind, AssertUnwindSafe};
 use std::sync::atomic::{AtomicIsize, AtomicUsize, Ordering::SeqCst};
 use std::thread;
 
-/// Runs it in eight threads, each with its number; each is joined.
+/// Runs it in eight threads, each with its number; each is joined. What is made once is made before them, since helgrind does not see
+/// the order of that: the engine of all threads, and a table that the first unwinding makes.
 fn storm(work: impl Fn(u32) + Clone + Send + 'static) {
+    drop(Observable::<u32>::never().each(drop));
+    drop(catch_unwind(|| std::panic::resume_unwind(Box::new("the first"))));
     let begin = |thread| {
         let work = work.clone();
         thread::spawn(move || work(thread))
@@ -125,8 +128,6 @@ fn eight_threads_use_what_stands_on_roots_of_its_own_and_each_resource_is_droppe
 fn observers_and_functions_that_panic_in_eight_threads_lose_no_resource() {
     static OPEN: AtomicIsize = AtomicIsize::new(0);
     static CAUGHT: AtomicUsize = AtomicUsize::new(0);
-    // the first unwinding makes a table of the C compiler's once, in an order that helgrind does not see: so before there are threads
-    drop(catch_unwind(|| std::panic::resume_unwind(Box::new("the first"))));
     let subject = Subject::<u32>::new();
     let source = subject.observable();
     let whole = Observable::using(|| Socket::open(&OPEN), move |_| source.clone());

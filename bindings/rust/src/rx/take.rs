@@ -73,6 +73,11 @@ impl<'a, T: 'a, E: 'a> Observable<'a, T, E> {
         })
     }
 
+    /// The first item; nothing if there is none.
+    pub fn first(&self) -> Self {
+        self.take(1)
+    }
+
     /// The items before the first for which it is false.
     pub fn take_while(&self, f: impl Fn(&T) -> bool + Fits + 'a) -> Self {
         self.taking_while(false, move |it| Ok(f(it)))
