@@ -30,6 +30,9 @@ fn main() {
     let named = |name| env::var(name).ok();
     let book = named("RX_LIB_DIR").or_else(|| from_pkg_config("rx"));
     let engine = named("CELLARCLIFF_LIB_DIR").or_else(|| named("RX_LIB_DIR")).or_else(|| from_pkg_config("cellarcliff")).or_else(|| book.clone());
+    if book.is_none() {
+        println!("cargo:warning=pkg-config names no folder of the library rx: unless the linker finds it, install it, and set PKG_CONFIG_PATH or RX_LIB_DIR");
+    }
     link("rx", &book);
     let is_there = |folder: &String| ["so", "a"].iter().any(|kind| Path::new(folder).join(format!("libcellarcliff.{kind}")).exists());
     if engine.as_ref().map_or(true, is_there) {
