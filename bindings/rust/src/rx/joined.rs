@@ -104,7 +104,8 @@ fn join<'a, T: Moves + 'a, U: Moves + 'a, E: Moves + 'a, J: Joins<T, U, E> + Mov
     Observable::new(move |at| {
         let to = Emitter::open(at)?;
         if all.is_empty() {
-            return Ok(to.completed());
+            to.completed();
+            return Ok(());
         }
         let leaf = to.leaf.clone();
         let joined = Ref::new(Lock::new((begin(), Out::new(to))));

@@ -81,22 +81,20 @@ impl<'a, T: Moves + 'a, E: Moves + 'a> Observable<'a, T, E> {
     }
 
     /// A stage that tells something as its source completes. It remembers a value for each subscription.
-    pub(crate) fn summing<S: Moves + 'a, U: Moves + 'a>(
+    pub(crate) fn summing<S: Moves + 'a, U: Moves + 'a, L: IntoIterator<Item = U>>(
         &self, first: impl Fn() -> S + Fits + 'a, hear: impl Fn(&mut S, T, &Out<'a, U, E>) -> Result<(), E> + Fits + 'a,
-        last: impl Fn(S, &Out<'a, U, E>) -> Result<(), E> + Fits + 'a,
+        last: impl Fn(S) -> Result<L, E> + Fits + 'a,
     ) -> Observable<'a, U, E> {
         let (hear, last) = (Ref::new(hear), Ref::new(last));
         self.stage(move || {
             let (mut sum, hear, last) = (Some(first()), hear.clone(), last.clone());
             move |note, out| {
-                let done = match (note, &mut sum) {
-                    (Note::Next(item), Some(sum)) => hear(sum, item, out),
+                let done = match (note, sum.as_mut()) {
+                    (Note::Next(item), Some(sum)) => return hear(sum, item, out).unwrap_or_else(|error| out.end(Some(error))),
                     (Note::Error(error), _) => Err(error),
-                    _ => return out.end(sum.take().and_then(|sum| last(sum, out).err())),
+                    _ => sum.take().map_or(Ok(()), |sum| last(sum).map(|all| all.into_iter().for_each(|it| out.next(it)))),
                 };
-                if let Err(error) = done {
-                    out.end(Some(error))
-                }
+                out.end(done.err())
             }
         })
     }

@@ -18,7 +18,7 @@ impl<'a, T: Moves + 'a, E: Moves + 'a> Observable<'a, T, E> {
             *sum = sum.take().map(|sum| f(sum, it)).transpose()?;
             Ok(())
         };
-        self.summing(move || Some(first.clone()), hear, |sum, to| Ok(sum.into_iter().for_each(|it| to.next(it))))
+        self.summing(move || Some(first.clone()), hear, Ok)
     }
 
     /// What comes of all items, from the first on; nothing if there is none.
@@ -35,7 +35,7 @@ impl<'a, T: Moves + 'a, E: Moves + 'a> Observable<'a, T, E> {
             });
             Ok(())
         };
-        self.summing(|| None, hear, |sum, to| Ok(sum.into_iter().for_each(|it| to.next(it))))
+        self.summing(|| None, hear, Ok)
     }
 
     /// The greatest item, of equal ones the first; nothing if there is none.
@@ -65,10 +65,7 @@ impl<'a, T: Moves + 'a, E: Moves + 'a> Observable<'a, T, E> {
             all.push(it);
             Ok(())
         };
-        self.summing(Vec::new, hear, |all, to| {
-            to.next(all);
-            Ok(())
-        })
+        self.summing(Vec::new, hear, |all| Ok([all]))
     }
 
     /// Lists of so many items (at least one), of which one begins with every so many; as it completes, what has begun.
@@ -88,10 +85,7 @@ impl<'a, T: Moves + 'a, E: Moves + 'a> Observable<'a, T, E> {
             }
             Ok(())
         };
-        self.summing(|| (VecDeque::new(), 0), hear, |(begun, _), to| {
-            begun.into_iter().for_each(|it| to.next(it));
-            Ok(())
-        })
+        self.summing(|| (VecDeque::new(), 0), hear, |(begun, _)| Ok(begun))
     }
 
     /// The last item; nothing if there is none.
@@ -108,10 +102,7 @@ impl<'a, T: Moves + 'a, E: Moves + 'a> Observable<'a, T, E> {
             }
             Ok(())
         };
-        self.summing(VecDeque::new, hear, |all, to| {
-            all.into_iter().for_each(|it| to.next(it));
-            Ok(())
-        })
+        self.summing(VecDeque::new, hear, Ok)
     }
 
     /// This item, if there is none.
@@ -133,12 +124,7 @@ impl<'a, T: Moves + 'a, E: Moves + 'a> Observable<'a, T, E> {
             to.next(it);
             Ok(())
         };
-        self.summing(|| true, hear, move |is_empty, to| {
-            if is_empty {
-                to.next(make()?)
-            }
-            Ok(())
-        })
+        self.summing(|| true, hear, move |is_empty| is_empty.then(&make).transpose())
     }
 
     /// Whether it is true for all items; told at the first for which it is not.
