@@ -15,6 +15,7 @@ import importlib
 import itertools
 from typing import TYPE_CHECKING, Any, Callable, Iterable, Optional, Tuple, Type, TypeVar, Union, overload
 
+from . import _alone  # first: it refuses before ctypes is imported
 from ._engine import _hook, _print, current, use
 from ._observable import Observable, Observer, pipe, to_observable
 from ._typing import Due, Scheduler, Span

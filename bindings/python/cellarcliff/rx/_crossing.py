@@ -1,6 +1,6 @@
 """The way to the engine: the extension, where it is there, else the same in Python by ctypes.
 
-A process has one engine for its main interpreter: elsewhere this refuses with a sentence.
+A process has one engine for its main interpreter: elsewhere `_alone` refuses with a sentence.
 """
 from __future__ import annotations
 
@@ -10,25 +10,6 @@ import sys
 from typing import Any, Callable
 
 from . import _cellar
-
-
-def _is_main() -> bool:
-    for name in ("_interpreters", "_xxsubinterpreters"):
-        try:
-            module = __import__(name)
-        except ImportError:
-            continue
-        current = module.get_current()
-        return int(current[0] if isinstance(current, tuple) else current) == 0
-    return True
-
-
-if hasattr(sys, "_is_gil_enabled"):
-    import sysconfig
-    if sysconfig.get_config_var("Py_GIL_DISABLED"):
-        raise ImportError("cellarcliff.rx needs Python with its global lock: this is a free-threaded build")
-if not _is_main():
-    raise ImportError("cellarcliff.rx is of the main interpreter alone: it has one engine for the process")
 
 
 def _chosen() -> Any:
