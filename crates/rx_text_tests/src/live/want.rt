@@ -20,61 +20,27 @@ const LINES: [&str; 12] = [
     r#"{"do":"drain"}"#,
 ];
 
-// What all answers tell of notes, of what is to be released, and of what was closed, which is not said again.
-#[derive(Drop)]
-struct Told {
-    notes: String,
-    released: String,
-    closed: String,
-    // Whether memory was refused for nothing of the answer to the line at which it was scarce.
-    is_whole: bool,
-}
-
-// Puts behind what was told what a member of an answer has between its brackets.
-fn keep(told: &mut String, answer: &str, member: &str) -> Result<(), AllocError> {
-    if let Some((_, rest)) = answer.split_once(member) {
-        if let Some((piece, _)) = rest.split_once("]") {
-            told.push_str(piece)?;
+// Puts behind what was told the notes and names of an answer: what stands between its square brackets.
+fn keep(told: &mut String, answer: &str) -> Result<(), AllocError> {
+    let mut is_inside = false;
+    for letter in answer.chars() {
+        if letter == '[' {
+            is_inside = true;
+        } else if letter == ']' {
             told.push(',')?;
+            is_inside = false;
+        } else if is_inside {
+            told.push(letter)?;
         }
     }
     Ok(())
 }
 
-impl Told {
-    fn new(alloc: Global) -> Result<Told, AllocError> {
-        Ok(Told {
-            notes: String::with_capacity(alloc, 1_000)?,
-            released: String::with_capacity(alloc, 1_000)?,
-            closed: String::with_capacity(alloc, 1_000)?,
-            is_whole: true,
-        })
-    }
-
-    fn keep(&mut self, answer: &str) -> Result<(), AllocError> {
-        keep(&mut self.notes, answer, "\"notes\":[")?;
-        keep(&mut self.released, answer, "\"release\":[")?;
-        keep(&mut self.closed, answer, "\"closed\":[")
-    }
-
-    // Whether it is as where memory is ample; what was closed is only named where there was memory for it.
-    fn is_as(&self, ample: &Told) -> bool {
-        self.notes.as_str() == ample.notes.as_str()
-            && self.released.as_str() == ample.released.as_str()
-            && (!self.is_whole || self.closed.as_str() == ample.closed.as_str())
-    }
-}
-
-// Sends a line where so many blocks of memory are left, and again, each time with one more, until it is taken.
-fn take_at_last(
-    alloc: Global,
-    live: &mut Live,
-    line: &str,
-    blocks: usize,
-) -> Result<(), AllocError> {
+// Sends a line again and again, each time with one more block of memory, until it is taken.
+fn take_at_last(alloc: Global, live: &mut Live, line: &str) -> Result<(), AllocError> {
     let mut scarce = Scarce::new(alloc)?;
-    for turn in 0..MOST_BLOCKS {
-        if turn >= blocks && live.send(line.as_bytes()).is_ok() {
+    for _turn in 0..MOST_BLOCKS {
+        if live.send(line.as_bytes()).is_ok() {
             return Ok(());
         }
         if !scarce.give_back_one() {
@@ -84,63 +50,41 @@ fn take_at_last(
     Err(AllocError)
 }
 
-// Whether an answer says that memory was refused for a part of it.
-fn lacks_some(answer: &str) -> bool {
-    answer.ends_with(",\"late\":true}") || answer.contains("\"closed\":null")
-}
-
-// All that is told of the lines, where so many blocks are left at the line of this number.
-fn told_of(alloc: Global, scarce_at: usize, blocks: usize) -> Result<Told, AllocError> {
-    let mut told = Told::new(alloc)?;
+// All that is told of the lines, where memory is scarce at the line of this number.
+fn told_of(alloc: Global, scarce_at: usize) -> Result<String, AllocError> {
+    let mut told = String::with_capacity(alloc, 10_000)?;
     let mut live = Live::new(alloc, 1_000)?;
     for (number, line) in LINES.iter().enumerate() {
         if number == scarce_at {
-            take_at_last(alloc, &mut live, line, blocks)?;
-            told.is_whole = !lacks_some(live.answer());
+            take_at_last(alloc, &mut live, line)?;
         } else {
             live.send(line.as_bytes())?;
         }
-        told.keep(live.answer())?;
+        keep(&mut told, live.answer())?;
     }
     live.end()?;
-    told.keep(live.answer())?;
+    keep(&mut told, live.answer())?;
     Ok(told)
 }
 
-// Whether the same is told where no memory is left at the line of this number, where one block is left, and so on until its
-// answer is whole.
-fn is_told_in_the_end(alloc: Global, number: usize, ample: &Told) -> Result<bool, AllocError> {
-    for blocks in 0..MOST_BLOCKS {
-        let told = told_of(alloc, number, blocks)?;
-        if !told.is_as(ample) || told.is_whole {
-            return Ok(told.is_as(ample));
-        }
-    }
-    Ok(false)
-}
+// How many of these lines are not taken without memory. Those behind them are, and what finds none then is told later.
+const TAKING: usize = 9;
 
-// The number of the first of these lines at which something else is told where memory is scarce.
-fn first_other(alloc: Global, first: usize, end: usize) -> Result<Option<usize>, AllocError> {
-    let ample = told_of(alloc, LINES.len(), 0)?;
-    for number in first..end {
-        if !is_told_in_the_end(alloc, number, &ample)? {
+// The number of the first of these at which something else is told where memory is scarce.
+fn first_other(alloc: Global) -> Result<Option<usize>, AllocError> {
+    let ample = told_of(alloc, LINES.len())?;
+    for number in 0..TAKING {
+        let scarce = told_of(alloc, number)?;
+        if scarce.as_str() != ample.as_str() {
             return Ok(Some(number));
         }
     }
     Ok(None)
 }
 
-// How many of these lines are not taken without memory. Those behind them are, and what finds none then is told later.
-const TAKING: usize = 9;
-
 #[test]
 fn the_same_is_told_where_memory_is_refused_at_a_line_that_takes_some(rt: HostRuntime) {
-    assert_eq!(rt; first_other(rt.alloc(), 0, TAKING), Ok(None));
-}
-
-#[test]
-fn what_a_line_that_closes_had_no_memory_to_tell_is_told_later(rt: HostRuntime) {
-    assert_eq!(rt; first_other(rt.alloc(), TAKING, LINES.len()), Ok(None));
+    assert_eq!(rt; first_other(rt.alloc()), Ok(None));
 }
 
 // A root with a resource and a source, and an item, which is emitted so often.
