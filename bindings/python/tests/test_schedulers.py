@@ -11,7 +11,7 @@ from types import SimpleNamespace
 from tests import kits
 from tests.kits import fresh_engine, rxpy
 
-SOON = 0.04  # seconds: what is due later comes later by so much
+SOON = 0.1  # seconds: what is due later comes later by so much
 
 
 def packages():
