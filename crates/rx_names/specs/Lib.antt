@@ -1,0 +1,4 @@
+pub mod Names
+pub mod NamedVerdict
+pub mod Judged
+pub mod Claims
