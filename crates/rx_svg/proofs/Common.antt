@@ -16,7 +16,8 @@ pub use Rattle.rx_picture.specs.declared.points.Point.{Point}
 unfoldable pub use Rattle.rx_svg.specs.Label.{event_text}
 pub use Rattle.rx_svg.specs.Lane.{x_of}
 unfoldable pub use Rattle.rx_svg.specs.Lane.{row_text, tick_text, told_text}
-pub use Rattle.rx_svg.specs.Name.{named_text, byte_text, name_of}
+pub use Rattle.rx_names.specs.Names.{name_of}
+pub use Rattle.rx_svg.specs.Name.{named_text, byte_text}
 unfoldable pub use Rattle.rx_svg.specs.Page.{point_text, listed_text, entry_text, svg_text}
 pub use Rattle.rx_svg.specs.Parts.{Part, words, number, signed}
 unfoldable pub use Rattle.rx_svg.specs.Parts.{text_of}

@@ -1,13 +1,6 @@
--- The names of numbers, and how a name stands in a picture.
-use Rattle.std.specs.Prelude.{ℕ, ◌==◌, Option, Some, None, option_and_then, List, [], ◌∷◌, ◌++◌, codes, flat_map, if◌then◌else◌}
-use Rattle.std.specs.Fmt.{decimal}
-use Rattle.serde_json.specs.Data.{Data}
-use Rattle.serde_json.specs.Find.{get, as_str}
+-- How a name stands in a picture.
+use Rattle.std.specs.Prelude.{ℕ, ◌==◌, Option, Some, None, List, [], ◌∷◌, ◌++◌, codes, flat_map, if◌then◌else◌}
 use Rattle.rx_svg.specs.WellFormed.{is_plain_character}
-
--- the name of a number, by an object that leads from numbers to names
-abbrev pub name_of : Data → ℕ → Option (List ℕ)
-name_of names n = option_and_then as_str (get (decimal n) names)
 
 -- markup stands as a reference, and each byte of a control character or of a letter beyond ASCII as a question mark
 abbrev pub escape : ℕ → List ℕ

@@ -4,16 +4,17 @@ ghost use Rattle.std.specs.Prelude.{◌≡◌, ◌++◌, ◌≤◌, ◌*◌, str
 ghost use Rattle.rx_picture.specs.Rows.{lane_of};
 ghost use Rattle.rx_picture.specs.Leaks.{is_leaking};
 ghost use Rattle.serde_json.specs.View.{view};
-ghost use Rattle.rx_svg.specs.Name.{name_of};
+ghost use Rattle.rx_names.specs.Names.{name_of};
 ghost use Rattle.rx_svg.specs.Lane.{x_of, y_of, has_lane, steps_of, label_text, ending_text, life_text, stretch_text};
 ghost use Rattle.rx_svg.specs.Lane.{held_class, wait_class, owned_text, loan_text, wait_text, release_text};
 ghost use Rattle.rx_svg.specs.Lane.{shape_text, name_text, row_text, use_text, tick_text, told_text};
 
 use crate::labels::push_event;
-use crate::names::{Names, push_named};
+use crate::names::push_named;
 use crate::pieces::put;
 use crate::strokes::{push_bar, push_code, push_leak, push_line, push_marble, push_mark};
 use rx_event::{Event, Mail, Terminal};
+use rx_names::Names;
 use rx_picture::{Drawing, Ending, Point, Row, Shape};
 use std::alloc::AllocError;
 

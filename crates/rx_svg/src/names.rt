@@ -1,23 +1,14 @@
 //! The names of numbers, each written behind a text.
 
-ghost use Rattle.std.specs.Prelude.{◌≡◌, ◌<◌, ◌==◌, ◌∷◌, [], ◌++◌, codes, string_bytes, OnOk, flat_map, option_map, option_and_then};
+ghost use Rattle.std.specs.Prelude.{◌≡◌, ◌<◌, ◌==◌, ◌∷◌, [], ◌++◌, codes, string_bytes, OnOk, flat_map, option_map};
 ghost use Rattle.std.specs.List.{list_any};
-ghost use Rattle.serde_json.specs.Find.{get, as_str};
 ghost use Rattle.serde_json.specs.View.{view};
+ghost use Rattle.rx_names.specs.Names.{name_of};
 ghost use Rattle.rx_svg.specs.WellFormed.{is_plain_character};
-ghost use Rattle.rx_svg.specs.Name.{name_of, escape, byte_text, shown_name, named_text};
+ghost use Rattle.rx_svg.specs.Name.{escape, byte_text, shown_name, named_text};
 
-use serde_json::Value;
-use std::alloc::{AllocError, Global};
-
-/// The names of numbers.
-#[derive(Clone, Copy)]
-pub struct Names<'a> {
-    /// Where a number's text gets its memory.
-    pub alloc: Global,
-    /// An object that leads from numbers to names. Any other value has no names.
-    pub object: &'a Value,
-}
+use rx_names::{Names, name_of};
+use std::alloc::AllocError;
 
 /// Whether markup is made of the byte.
 #[tactic(auto, using(crate::proofs::ShownNames::markup_by_or))]
@@ -101,20 +92,11 @@ fn push_if_named(text: &mut String, name: Option<&str>) -> Result<(), AllocError
     }
 }
 
-/// The text that an object has at a member.
-fn text_at<'a>(object: &'a Value, member: &str) -> Option<&'a str>
-    ensures { option_map (λ s. s.now) result ≡ option_and_then as_str (get member.now (view object.now)) }
-{
-    object.get(member).and_then(Value::as_str)
-}
-
 /// The name of the number, if it has one.
 pub fn push_named(text: &mut String, names: Names<'_>, n: u64) -> Result<(), AllocError>
     ensures { OnOk result (string_bytes text.new ≡ string_bytes text.old
         ++ named_text (name_of (view names.entry.object.now) n)) }
 {
-    let alloc = names.alloc;
-    let number = format!(in alloc; "{n}")?;
-    let name = text_at(names.object, number.as_str());
+    let name = name_of(names, n)?;
     push_if_named(text, name)
 }

@@ -1,38 +1,18 @@
 //! The picture of a JSON value: of a dump, or of an object with a dump and with names.
 
 ghost use Rattle.std.specs.Prelude.{◌≡◌, None, IfOk, IsErrOf, string_bytes};
-ghost use Rattle.serde_json.specs.Data.{null};
 ghost use Rattle.serde_json.specs.View.{view};
 ghost use Rattle.rx_device.specs.declared.shape.ShapeError.{ShapeError};
 ghost use Rattle.rx_dump.specs.History.{history_of};
-ghost use Rattle.rx_svg.specs.Pictured.{dump_in, names_in, IsPictureOn};
+ghost use Rattle.rx_names.specs.Names.{dump_in};
+ghost use Rattle.rx_svg.specs.Pictured.{IsPictureOn};
 
 use crate::svg::named_picture;
 use rx_device::ShapeError;
 use rx_dump::history_of;
+use rx_names::{dump_in, names_or};
 use serde_json::Value;
 use std::alloc::Global;
-
-// The dump in the value: its member `dump`, or the value itself where it has no such member.
-fn dump_in(value: &Value) -> &Value
-    ensures { view result.now ≡ dump_in (view value.now) }
-{
-    match value.get("dump") {
-        Some(dump) => dump,
-        None => value,
-    }
-}
-
-// The names in the value: its member `names`, or this value where it has no such member.
-fn names_or<'a>(value: &'a Value, none: &'a Value) -> &'a Value
-    requires { view none.now ≡ null }
-    ensures { view result.now ≡ names_in (view value.now) }
-{
-    match value.get("names") {
-        Some(names) => names,
-        None => none,
-    }
-}
 
 /// The picture of the history of which the value is the dump. The dump may also be its member `dump`; then the
 /// names of numbers are its member `names`, an object. `Shape` comes where there is no dump.

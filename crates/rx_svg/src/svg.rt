@@ -3,18 +3,19 @@
 ghost use Rattle.std.specs.Prelude.{◌≡◌, ◌+◌, ◌++◌, ◌≤◌, string_bytes, OnOk, IfOk, flat_map};
 ghost use Rattle.serde_json.specs.Data.{null};
 ghost use Rattle.serde_json.specs.View.{view};
-ghost use Rattle.rx_svg.specs.Name.{name_of};
+ghost use Rattle.rx_names.specs.Names.{name_of};
 ghost use Rattle.rx_svg.specs.Lane.{row_text, tick_text, told_text};
 ghost use Rattle.rx_svg.specs.Page.{lanes_shown, places_shown, head_text, point_text, below_text, listed_text, list_text, lawful_text};
 ghost use Rattle.rx_svg.specs.Page.{verdict_text, leak_words, entry_text, leaking_text, leaks_text, leaks_class};
 ghost use Rattle.rx_svg.specs.Page.{break_text, verdict_line, leaks_line, shares_line, under_text, lanes_text, svg_text, IsPicture};
 
 use crate::lanes::{push_row, push_tick, push_told, value_at, x_of};
-use crate::names::{Names, push_named};
+use crate::names::push_named;
 use crate::pieces::put;
 use crate::strokes::{push_broken, push_column};
 use rx_audit::{Verdict, audit};
 use rx_event::{Event, Mail};
+use rx_names::Names;
 use rx_picture::{Drawing, Point, Row, draw};
 use serde_json::Value;
 use std::alloc::{AllocError, Global};
