@@ -1,11 +1,17 @@
 -- What is accepted, by what was read.
 use Rattle.std.proofs.Common.{◌≡◌, ℕ, ◌<◌, ◌≤◌, ◌⊎◌, inl, inr, List, length, take, Option, Some, None}
 use Rattle.std.proofs.Common.{Bool, true, false, refl, ap, sym, subst, ◌∙◌, arith, slice_get}
-use Rattle.std.specs.Prelude.{is_some, is_none, Result, Ok, Err, IfOk, IsUtf8}
+use Rattle.std.specs.Prelude.{is_some, is_none, Result, Ok, Err, IfOk, IsUtf8, codes, unwrap_or, ◌||◌, ◌&&◌, if◌then◌else◌}
+use Rattle.std.specs.List.{list_all}
+use Rattle.std.specs.Ordering.{nat_cmp, match_ordering}
+use Rattle.std.specs.Cmp.Lexicographic.{slice_cmp}
+use Rattle.std.specs.declared.cmp.Ordering.{Ordering}
+use Rattle.std.specs.declared.cmp.Ordering.TheVariants.{Less, Equal, Greater}
+use Rattle.std.proofs.lemmas.Map.Lookups.{exact_bytes}
 use Rattle.std.proofs.lemmas.Bool.{false≢true}
 use Rattle.std.proofs.lemmas.Option.{same_Some, none-some}
-use Rattle.serde_json.specs.Data.{Data, null, boolean, number, string, array, object}
-use Rattle.serde_json.specs.Find.{as_array}
+use Rattle.serde_json.specs.Data.{Data, null, boolean, number, string, array, object, Members, no_members, member}
+use Rattle.serde_json.specs.Find.{as_array, get, get_member}
 use Rattle.serde_json.specs.Read.{read}
 use Rattle.rx_event.specs.declared.event.Event.{Event}
 use Rattle.rx_event.specs.Kept.{nothing_kept}
@@ -18,9 +24,10 @@ use Rattle.rx_audit.specs.declared.verdict.Verdict.TheVariants.{Lawful, Unlawful
 use Rattle.rx_audit.specs.Verdict.{IsVerdict}
 use Rattle.rx_device.specs.Input.{IsJsonOf, most_bytes}
 use Rattle.rx_scenario.specs.Scenario.{Script}
-use Rattle.rx_scenario.specs.Reading.{scenario_of}
+use Rattle.rx_scenario.specs.Reading.{scenario_of, has_only, is_one_of, keys}
 use Rattle.rx_dump.specs.History.{history_of}
 use Rattle.rx_dump.specs.Verdict.{is_lawful}
+use Rattle.rx_names.specs.Names.{dump_in}
 use Rattle.rx_explain.specs.Accepted.{IsScenario, IsLawfulDump, IsTaken, IsAccepted, SaysNothingWhere}
 
 -- one verdict -------------------------------------------------------------------------------------
@@ -96,22 +103,69 @@ dump_array (string s) e is = none-some is.is_verdict.history is.is_verdict.readi
 dump_array (array ds) e is = false≢true (sym e)
 dump_array (object ms) e is = none-some is.is_verdict.history is.is_verdict.reading
 
+and_none : (b : Bool) → (b && false) ≡ false
+and_none true = refl
+and_none false = refl
+
+none_where : {A : Type 0} (b : Bool) (o : Option A) → b ≡ false → (if b then o else None) ≡ None
+none_where false o e = refl
+none_where true o e = absurd (false≢true (sym e))
+
+-- a value without the member `dump` is the dump that is in it
+itself : (d : Data) → get (codes "dump") d ≡ None → dump_in d ≡ d
+itself d e = ap (λ (o : Option Data). unwrap_or o d) e
+
+-- a name that the test refuses is not among those that pass it
+refused_name : (p : List ℕ → Bool) (k l : List ℕ) (e : Data) (ms : Members) (o : Ordering) → slice_cmp nat_cmp k l ≡ o → p k ≡ false
+    → (is_some (get_member k ms) ≡ true → list_all p (keys ms) ≡ false)
+    → is_some (match_ordering o (get_member k ms) (Some e) (get_member k ms)) ≡ true → (p l && list_all p (keys ms)) ≡ false
+refused_name p k l e ms Less is refused rest found = ap (λ (b : Bool). p l && b) (rest found) ∙ and_none (p l)
+refused_name p k l e ms Equal is refused rest found =
+    ap (λ (b : Bool). b && list_all p (keys ms)) (ap p (sym (exact_bytes k l is)) ∙ refused)
+refused_name p k l e ms Greater is refused rest found = ap (λ (b : Bool). p l && b) (rest found) ∙ and_none (p l)
+
+not_only : (p : List ℕ → Bool) (k : List ℕ) (ms : Members) → p k ≡ false → is_some (get_member k ms) ≡ true → list_all p (keys ms) ≡ false
+not_only p k no_members refused found = absurd (false≢true found)
+not_only p k (member l e ms) refused found =
+    refused_name p k l e ms (slice_cmp nat_cmp k l) refl refused (not_only p k ms refused) found
+
+-- an object with a dump is no scenario
+scenario_no_dump : (d : Data) → is_some (get (codes "dump") d) ≡ true → ¬ IsScenario d
+unfolding scenario_of has_only is_one_of
+scenario_no_dump null e is = false≢true e
+scenario_no_dump (boolean b) e is = false≢true e
+scenario_no_dump (number n) e is = false≢true e
+scenario_no_dump (string s) e is = false≢true e
+scenario_no_dump (array ds) e is = false≢true e
+scenario_no_dump (object ms) e is = none-some is.script (sym (none_where _ _ (not_only _ (codes "dump") ms refl e)) ∙ is.reading)
+
 -- what is taken -----------------------------------------------------------------------------------
 
 neither : {A B : Type 0} → ¬ A → ¬ B → ¬ (A ⊎ B)
 neither no_left no_right (inl a) = no_left a
 neither no_left no_right (inr b) = no_right b
 
-pub taken_array : {X E : Type 0} (d : Data) (answer : Result (Option X) E) → is_some (as_array d) ≡ true → IfOk answer (SaysNothingWhere (IsLawfulDump d)) →
-    IfOk answer (SaysNothingWhere (IsTaken d))
-taken_array d (Ok None) e is = inr is
-taken_array d (Ok (Some told)) e is = neither (scenario_no_array d e) is
-taken_array d (Err error) e is = tt
+scenario_no_history : (d : Data) (a b : Bool) → is_some (as_array d) ≡ a → is_some (get (codes "dump") d) ≡ b → (a || b) ≡ true → ¬ IsScenario d
+scenario_no_history d true b is has e = scenario_no_array d is
+scenario_no_history d false true is has e = scenario_no_dump d has
+scenario_no_history d false false is has e = absurd (false≢true e)
 
-pub taken_other : {X E : Type 0} (d : Data) (answer : Result (Option X) E) → is_some (as_array d) ≡ false → IfOk answer (SaysNothingWhere (IsScenario d)) →
-    IfOk answer (SaysNothingWhere (IsTaken d))
+-- what has no dump is none
+no_history : (d : Data) (a : Bool) (o : Option Data) → is_some (as_array d) ≡ a → get (codes "dump") d ≡ o → (a || is_some o) ≡ false → ¬ IsLawfulDump (dump_in d)
+no_history d true o is has e = absurd (false≢true (sym e))
+no_history d false (Some x) is has e = absurd (false≢true (sym e))
+no_history d false None is has e = subst (λ (x : Data). ¬ IsLawfulDump x) (sym (itself d has)) (dump_array d is)
+
+pub taken_history : {X E : Type 0} (d : Data) (answer : Result (Option X) E) → (is_some (as_array d) || is_some (get (codes "dump") d)) ≡ true
+    → IfOk answer (SaysNothingWhere (IsLawfulDump (dump_in d))) → IfOk answer (SaysNothingWhere (IsTaken d))
+taken_history d (Ok None) e is = inr is
+taken_history d (Ok (Some told)) e is = neither (scenario_no_history d (is_some (as_array d)) (is_some (get (codes "dump") d)) refl refl e) is
+taken_history d (Err error) e is = tt
+
+pub taken_other : {X E : Type 0} (d : Data) (answer : Result (Option X) E) → (is_some (as_array d) || is_some (get (codes "dump") d)) ≡ false
+    → IfOk answer (SaysNothingWhere (IsScenario d)) → IfOk answer (SaysNothingWhere (IsTaken d))
 taken_other d (Ok None) e is = inl is
-taken_other d (Ok (Some told)) e is = neither is (dump_array d e)
+taken_other d (Ok (Some told)) e is = neither is (no_history d (is_some (as_array d)) (get (codes "dump") d) refl refl e)
 taken_other d (Err error) e is = tt
 
 -- what is accepted --------------------------------------------------------------------------------

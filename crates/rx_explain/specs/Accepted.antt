@@ -1,4 +1,4 @@
--- What the program accepts: a scenario, or the dump of a history that the audit calls lawful.
+-- What the program accepts: a scenario, or the dump of a history that the audit calls lawful, alone or beside names.
 use Rattle.std.specs.Prelude.{◌≡◌, ℕ, ◌≤◌, ◌⊎◌, true, Option, Some, None, List, length}
 use Rattle.serde_json.specs.Data.{Data}
 use Rattle.rx_audit.specs.declared.verdict.Verdict.{Verdict}
@@ -7,6 +7,7 @@ use Rattle.rx_scenario.specs.Scenario.{Script}
 use Rattle.rx_scenario.specs.Reading.{scenario_of}
 use Rattle.rx_dump.specs.Checking.{IsVerdictOn}
 use Rattle.rx_dump.specs.Verdict.{is_lawful}
+use Rattle.rx_names.specs.Names.{dump_in}
 
 -- the JSON value is a scenario
 pub record IsScenario (d : Data) : Type 0 where
@@ -19,9 +20,9 @@ pub record IsLawfulDump (d : Data) : Type 0 where
   pub is_verdict : IsVerdictOn d verdict
   pub lawful : is_lawful verdict ≡ true
 
--- the program takes the JSON value, as the one or as the other
+-- the program takes the JSON value, as the one or, with the dump that is in it, as the other
 abbrev pub IsTaken : Data → Type 0
-IsTaken d = IsScenario d ⊎ IsLawfulDump d
+IsTaken d = IsScenario d ⊎ IsLawfulDump (dump_in d)
 
 -- the input is not too long, and the text of such a value
 pub record IsAccepted (input : List ℕ) : Type 0 where

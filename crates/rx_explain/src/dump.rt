@@ -125,10 +125,13 @@ fn event_fault(alloc: Global, event: &Value) -> Walk {
     other_fault(alloc, event, word)
 }
 
-/// What is wrong with an array that is not a dump.
+/// What is wrong with an array, or with the member `dump` of an object, that is not a dump.
 pub fn dump_fault(alloc: Global, dump: &Value) -> Walk {
     let Some(events) = dump.as_array() else {
-        return Ok(());
+        let shown = shown(alloc, dump)?;
+        return tell(format!(in alloc;
+            ".dump: an array of events is expected, and this is {shown}"
+        ));
     };
     for (place, event) in events.iter().enumerate() {
         match event_fault(alloc, event) {

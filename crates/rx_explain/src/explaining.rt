@@ -1,12 +1,14 @@
 //! What is wrong with an input, or nothing.
 
-ghost use Rattle.std.specs.Prelude.{◌≡◌, is_some, is_none, IfOk, OnOk};
+ghost use Rattle.std.specs.Prelude.{◌≡◌, ◌||◌, codes, is_some, is_none, IfOk, OnOk};
 ghost use Rattle.serde_json.specs.Data.{Data};
 ghost use Rattle.serde_json.specs.Errors.{IsMemory};
+ghost use Rattle.serde_json.specs.Find.{get, as_array};
 ghost use Rattle.serde_json.specs.View.{view};
 ghost use Rattle.rx_device.specs.Input.{IsJsonOf};
 ghost use Rattle.rx_scenario.specs.Reading.{scenario_of};
 ghost use Rattle.rx_dump.specs.Verdict.{is_lawful};
+ghost use Rattle.rx_names.specs.Names.{dump_in};
 ghost use Rattle.rx_explain.specs.Accepted.{IsScenario, IsLawfulDump, IsTaken, IsAccepted, SaysNothingWhere};
 
 use crate::dump::dump_fault;
@@ -20,6 +22,7 @@ use rx_audit::{Verdict, audit};
 use rx_device::{MOST_BYTES, Part, ScriptError, ShapeError, parse_in_place};
 use rx_dump::{history_of, push_dump};
 use rx_event::Event;
+use rx_names::{Names, dump_in, name_of, name_text, names_or};
 use rx_scenario::scenario_of;
 use serde_json::{Error, Value};
 use std::alloc::{AllocError, Global};
@@ -64,12 +67,36 @@ fn event_text(alloc: Global, event: Event) -> Result<String, AllocError> {
     String::from_str(alloc, inner)
 }
 
+// The number that an event is about, if it is one that rules force.
+fn subject(event: Event) -> Option<u64> {
+    match event {
+        Event::End(number, _) | Event::Close(number) | Event::Connect(number) => Some(number),
+        _ => None,
+    }
+}
+
+// The name of what a forced event is about, as the end of a sentence; nothing if it has none.
+fn subject_named(names: Names<'_>, event: Event) -> Result<String, AllocError> {
+    let alloc = names.alloc;
+    let Some(number) = subject(event) else {
+        return Ok(String::new(alloc));
+    };
+    let name = name_of(names, number)?;
+    if name.is_none() {
+        return Ok(String::new(alloc));
+    }
+    let name = name_text(alloc, name)?;
+    format!(in alloc; ", of{name}")
+}
+
 // What is said of a history after which the rules force something, at this moment.
-fn force(alloc: Global, moment: &str, history: &[Event]) -> Result<String, AllocError> {
+fn force(names: Names<'_>, moment: &str, history: &[Event]) -> Result<String, AllocError> {
+    let alloc = names.alloc;
     match forced_after(alloc, history)? {
         Some(event) => {
             let shown = event_text(alloc, event)?;
-            format!(in alloc; "{moment} the rules force another event, as {shown}")
+            let subject = subject_named(names, event)?;
+            format!(in alloc; "{moment} the rules force another event, as {shown}{subject}")
         }
         None => format!(in alloc; "{moment} the rules force another event"),
     }
@@ -77,7 +104,7 @@ fn force(alloc: Global, moment: &str, history: &[Event]) -> Result<String, Alloc
 
 // Which rule an event breaks that may not follow this history, of which this is the verdict.
 fn reason(
-    alloc: Global,
+    names: Names<'_>,
     front: &[Event],
     verdict: &Verdict,
     event: Event,
@@ -90,24 +117,25 @@ fn reason(
         } => {
             let past = Past {
                 events: front,
+                names,
                 live: live.as_slice(),
                 held: held.as_slice(),
                 waiting: waiting.as_slice(),
             };
             or_else(
-                alloc,
-                broken_rule(alloc, past, event),
+                names.alloc,
+                broken_rule(names.alloc, past, event),
                 "it may not follow the events before it",
             )
         }
-        _ => force(alloc, "before it", front),
+        _ => force(names, "before it", front),
     }
 }
 
 // Which rule an event breaks that may not follow this history.
-fn why(alloc: Global, front: &[Event], event: Event) -> Result<String, AllocError> {
-    match audit(alloc, front) {
-        Ok(verdict) => reason(alloc, front, &verdict, event),
+fn why(names: Names<'_>, front: &[Event], event: Event) -> Result<String, AllocError> {
+    match audit(names.alloc, front) {
+        Ok(verdict) => reason(names, front, &verdict, event),
         Err(_) => Err(AllocError),
     }
 }
@@ -119,23 +147,24 @@ fn placed(alloc: Global, place: u64, event: Event, told: &str) -> Result<String,
 }
 
 // What is said of a history whose event at this place is out of order.
-fn unlawful(alloc: Global, history: &[Event], place: u64) -> Result<String, AllocError> {
+fn unlawful(names: Names<'_>, history: &[Event], place: u64) -> Result<String, AllocError> {
+    let alloc = names.alloc;
     let at = place as usize;
     let (Some(front), Some(event)) = (history.get(..at), history.get(at)) else {
         return format!(in alloc; "event {place}: it may not follow the events before it");
     };
-    let told = why(alloc, front, *event)?;
+    let told = why(names, front, *event)?;
     placed(alloc, place, *event, told.as_str())
 }
 
 // What the verdict on a history leaves to say.
-fn verdict_told(alloc: Global, history: &[Event], verdict: &Verdict) -> Told
+fn verdict_told(names: Names<'_>, history: &[Event], verdict: &Verdict) -> Told
     ensures { IfOk result (λ told. is_none told ≡ is_lawful verdict.now) }
 {
     match verdict {
         Verdict::Lawful { .. } => Ok(None),
-        Verdict::Unlawful { place } => Ok(Some(unlawful(alloc, history, *place)?)),
-        Verdict::Unsettled => Ok(Some(force(alloc, "at the end", history)?)),
+        Verdict::Unlawful { place } => Ok(Some(unlawful(names, history, *place)?)),
+        Verdict::Unsettled => Ok(Some(force(names, "at the end", history)?)),
     }
 }
 
@@ -144,19 +173,46 @@ fn no_dump(alloc: Global, value: &Value) -> Result<String, AllocError> {
     or_else(alloc, dump_fault(alloc, value), "the input is not a dump")
 }
 
-// What is wrong with a value that is to be a dump.
-fn explain_dump(alloc: Global, value: &Value) -> Told
-    ensures { IfOk result (SaysNothingWhere (IsLawfulDump (view value.now))) }
+// What is wrong with a value that is to be a dump, with these names.
+fn explain_dump(names: Names<'_>, dump: &Value) -> Told
+    ensures { IfOk result (SaysNothingWhere (IsLawfulDump (view dump.now))) }
 {
-    let history = match history_of(alloc, value) {
+    let alloc = names.alloc;
+    let history = match history_of(alloc, dump) {
         Ok(history) => history,
         Err(ShapeError::Memory) => return Err(AllocError),
-        Err(ShapeError::Shape) => return Ok(Some(no_dump(alloc, value)?)),
+        Err(ShapeError::Shape) => return Ok(Some(no_dump(alloc, dump)?)),
     };
     match audit(alloc, history.as_slice()) {
-        Ok(verdict) => verdict_told(alloc, history.as_slice(), &verdict),
+        Ok(verdict) => verdict_told(names, history.as_slice(), &verdict),
         Err(_) => Err(AllocError),
     }
+}
+
+// What is wrong with a value that is to be a dump, or to have one, with or without names.
+fn explain_history(alloc: Global, value: &Value) -> Told
+    ensures { IfOk result (SaysNothingWhere (IsLawfulDump (dump_in (view value.now)))) }
+{
+    let none = Value::Null;
+    let object = names_or(value, &none);
+    explain_dump(Names { alloc, object }, dump_in(value))
+}
+
+// Whether a value has the member `dump`.
+fn has_dump(value: &Value) -> bool
+    ensures { result ≡ is_some (get (codes "dump") (view value.now)) }
+{
+    match value.get("dump") {
+        Some(_) => true,
+        None => false,
+    }
+}
+
+// Whether a value is taken for a dump, or for an object that has one.
+fn is_history(value: &Value) -> bool
+    ensures { result ≡ (is_some (as_array (view value.now)) || is_some (get (codes "dump") (view value.now))) }
+{
+    value.is_array() || has_dump(value)
 }
 
 // Whether a JSON text is that of a scenario.
@@ -201,8 +257,8 @@ fn explain_value(alloc: Global, input: &[u8], value: &Value) -> Told
     requires json { IsJsonOf input.now (view value.now) }
     ensures { IfOk result (SaysNothingWhere (IsTaken (view value.now))) }
 {
-    if value.is_array() {
-        explain_dump(alloc, value)
+    if is_history(value) {
+        explain_history(alloc, value)
     } else {
         explain_scenario(alloc, input, value)
     }
@@ -214,7 +270,7 @@ pub fn too_long(alloc: Global) -> Result<String, AllocError> {
 }
 
 /// What is wrong with an input: None for just those that `rxbook run` or `rxbook audit` accepts. An
-/// audit accepts what it calls lawful.
+/// audit accepts what it calls lawful. Sentences on a history say the names that stand beside its dump.
 ///
 /// Err comes where memory is refused.
 #[tactic(auto, using(crate::proofs::AcceptedAsRead::accepted_by, crate::proofs::AcceptedAsRead::too_many, crate::proofs::AcceptedAsRead::no_json))]

@@ -2,17 +2,24 @@
 
 use crate::walk::Stop;
 use rx_event::{Event, Place};
-use std::alloc::Global;
+use rx_names::{Names, label};
+use std::alloc::{AllocError, Global};
 use std::collections::HashSet;
 
-/// A settled history, with the numbers of the open nodes and of the resources that are held and that
-/// wait, as the audit found them.
+/// A settled history, with the names of its numbers, and with the numbers of the open nodes and of the resources that
+/// are held and that wait, as the audit found them.
 #[derive(Clone, Copy)]
 pub struct Past<'a> {
     pub events: &'a [Event],
+    pub names: Names<'a>,
     pub live: &'a [u64],
     pub held: &'a [u64],
     pub waiting: &'a [u64],
+}
+
+/// A number, and its name behind it if it has one.
+pub fn shown(past: Past<'_>, n: u64) -> Result<String, AllocError> {
+    label(past.names, n)
 }
 
 /// The event at a place.

@@ -1,7 +1,7 @@
 //! Which rule an event breaks that comes after a settled history.
 
 use crate::forced::may_follow;
-use crate::past::{Past, end_of, event_at, last_return_of, lease_out, opening_at, place_of};
+use crate::past::{Past, end_of, event_at, last_return_of, lease_out, opening_at, place_of, shown};
 use crate::walk::{Walk, tell};
 use rx_event::{Event, Kind, MOST_NODES, Place};
 use rx_note::Terminal;
@@ -19,12 +19,13 @@ fn not_open(alloc: Global, past: Past<'_>, node: u64) -> Walk {
     if past.live.contains(&node) {
         return Ok(());
     }
+    let shown = shown(past, node)?;
     if !event_at(past.events, node).is_some_and(Event::makes_node) {
-        return tell(format!(in alloc; "there is no node {node}"));
+        return tell(format!(in alloc; "there is no node {shown}"));
     }
     match end_of(past.events, node) {
-        Some(end) => tell(format!(in alloc; "node {node} is closed, by event {end}")),
-        None => tell(format!(in alloc; "node {node} is closed")),
+        Some(end) => tell(format!(in alloc; "node {shown} is closed, by event {end}")),
+        None => tell(format!(in alloc; "node {shown} is closed")),
     }
 }
 
@@ -33,6 +34,7 @@ fn no_hub(alloc: Global, past: Past<'_>, hub: u64) -> Walk {
     if event_at(past.events, hub).is_some_and(Event::makes_hub) {
         return Ok(());
     }
+    let hub = shown(past, hub)?;
     tell(format!(in alloc; "there is no hub {hub}"))
 }
 
@@ -45,6 +47,7 @@ fn no_place(alloc: Global, past: Past<'_>, place: Place) -> Walk {
     let Some(made) = event_at(past.events, node) else {
         return Ok(());
     };
+    let node = shown(past, node)?;
     match place {
         Place::Source(_) if !made.has_source() => tell(format!(in alloc;
             "node {node} has no place for a source"
@@ -75,6 +78,7 @@ fn no_subscriber(alloc: Global, past: Past<'_>, place: Place, hub: u64) -> Walk 
     if past.live.len() as u64 + 1 < MOST_NODES
         && may_follow(alloc, past.events, Event::Open { place, kind })?
     {
+        let hub = shown(past, hub)?;
         return tell(format!(in alloc;
             "a subscriber of hub {hub} may not stand below a connection of that hub or of an earlier one"
         ));
@@ -90,6 +94,7 @@ fn open_rule(alloc: Global, past: Past<'_>, place: Place, kind: Kind) -> Walk {
     }
     match place {
         Place::Inner(node) if (past.live.len() as u64) < MOST_NODES => {
+            let node = shown(past, node)?;
             tell(format!(in alloc; "nothing is owed at node {node}"))
         }
         _ => say(alloc, TOO_MANY),
@@ -109,25 +114,30 @@ fn connection_of(past: Past<'_>, hub: u64) -> Option<u64> {
 // Why a hub may not be connected.
 fn connect_rule(alloc: Global, past: Past<'_>, hub: u64) -> Walk {
     no_hub(alloc, past, hub)?;
+    let shown_hub = shown(past, hub)?;
     if event_at(past.events, hub).is_some_and(Event::is_auto_hub) {
         return tell(format!(in alloc;
-            "hub {hub} has RefCount: it connects when a subscriber waits, and only then"
+            "hub {shown_hub} has RefCount: it connects when a subscriber waits, and only then"
         ));
     }
     match connection_of(past, hub) {
-        Some(node) => tell(format!(in alloc; "hub {hub} is connected already, by node {node}")),
+        Some(node) => {
+            let node = shown(past, node)?;
+            tell(format!(in alloc; "hub {shown_hub} is connected already, by node {node}"))
+        }
         None => say(alloc, TOO_MANY),
     }
 }
 
 // Why there is no such resource, or why it does not wait any more; None where it is held or waits.
 fn gone_resource(alloc: Global, past: Past<'_>, resource: u64) -> Walk {
+    let shown = shown(past, resource)?;
     if !event_at(past.events, resource).is_some_and(Event::makes_resource) {
-        return tell(format!(in alloc; "there is no resource {resource}"));
+        return tell(format!(in alloc; "there is no resource {shown}"));
     }
     match place_of(past.events, Event::Take(resource)) {
         Some(taking) => tell(format!(in alloc;
-            "resource {resource} was handed out, by event {taking}"
+            "resource {shown} was handed out, by event {taking}"
         )),
         None => Ok(()),
     }
@@ -153,20 +163,22 @@ fn unowned(alloc: Global, past: Past<'_>, resource: u64) -> Result<String, Alloc
 fn held_rule(alloc: Global, past: Past<'_>, resource: u64) -> Walk {
     gone_resource(alloc, past, resource)?;
     let reason = unowned(alloc, past, resource)?;
+    let shown = shown(past, resource)?;
     if past.held.contains(&resource) {
-        return tell(format!(in alloc; "only leases hold resource {resource}: {reason}"));
+        return tell(format!(in alloc; "only leases hold resource {shown}: {reason}"));
     }
     let ending = no_lease_left(alloc, past, resource)?;
-    tell(format!(in alloc; "resource {resource} is not held: {reason}{ending}"))
+    tell(format!(in alloc; "resource {shown} is not held: {reason}{ending}"))
 }
 
 // Why a lease is not out.
 fn return_rule(alloc: Global, past: Past<'_>, lease: u64) -> Walk {
+    let shown = shown(past, lease)?;
     if !event_at(past.events, lease).is_some_and(Event::makes_lease) {
-        return tell(format!(in alloc; "there is no lease {lease}"));
+        return tell(format!(in alloc; "there is no lease {shown}"));
     }
     match place_of(past.events, Event::Return(lease)) {
-        Some(end) => tell(format!(in alloc; "lease {lease} was given back, by event {end}")),
+        Some(end) => tell(format!(in alloc; "lease {shown} was given back, by event {end}")),
         None => Ok(()),
     }
 }
@@ -174,12 +186,13 @@ fn return_rule(alloc: Global, past: Past<'_>, lease: u64) -> Walk {
 // Why a resource does not wait to be handed out.
 fn take_rule(alloc: Global, past: Past<'_>, resource: u64) -> Walk {
     gone_resource(alloc, past, resource)?;
+    let shown = shown(past, resource)?;
     match lease_out(alloc, past.events, resource)? {
         Some(lease) => tell(format!(in alloc;
-            "resource {resource} is still held: lease {lease} of it is out"
+            "resource {shown} is still held: lease {lease} of it is out"
         )),
         None => tell(format!(in alloc;
-            "resource {resource} is still held: it waits once it is removed or its node is closed"
+            "resource {shown} is still held: it waits once it is removed or its node is closed"
         )),
     }
 }
@@ -188,6 +201,7 @@ fn take_rule(alloc: Global, past: Past<'_>, resource: u64) -> Walk {
 fn item_rule(alloc: Global, past: Past<'_>, leaf: u64) -> Walk {
     not_open(alloc, past, leaf)?;
     if !event_at(past.events, leaf).is_some_and(Event::is_leaf) {
+        let leaf = shown(past, leaf)?;
         return tell(format!(in alloc; "node {leaf} is not a leaf"));
     }
     say(alloc, "the item would make more than 1048576 visits")
@@ -196,10 +210,11 @@ fn item_rule(alloc: Global, past: Past<'_>, leaf: u64) -> Walk {
 // Why a node may not decline an item.
 fn decline_rule(alloc: Global, past: Past<'_>, node: u64) -> Walk {
     not_open(alloc, past, node)?;
+    let shown = shown(past, node)?;
     if !event_at(past.events, node).is_some_and(Event::is_merging) {
-        return tell(format!(in alloc; "node {node} is neither a FlatMap nor a Switch"));
+        return tell(format!(in alloc; "node {shown} is neither a FlatMap nor a Switch"));
     }
-    tell(format!(in alloc; "nothing is owed at node {node}"))
+    tell(format!(in alloc; "nothing is owed at node {shown}"))
 }
 
 // Why a node may not end so.
@@ -209,6 +224,7 @@ fn end_rule(alloc: Global, past: Past<'_>, node: u64, terminal: Terminal) -> Wal
         Some(made) => made.subscribes_to().is_some(),
         None => false,
     };
+    let node = shown(past, node)?;
     if is_subscriber {
         return tell(format!(in alloc;
             "node {node} is a subscriber: it ends as the connection of its hub does"
@@ -227,11 +243,17 @@ fn end_rule(alloc: Global, past: Past<'_>, node: u64, terminal: Terminal) -> Wal
 // Why a node may not be closed.
 fn close_rule(alloc: Global, past: Past<'_>, node: u64) -> Walk {
     not_open(alloc, past, node)?;
+    let shown_node = shown(past, node)?;
     match event_at(past.events, node) {
-        Some(Event::Connect(hub)) => tell(format!(in alloc;
-            "node {node} is the connection of hub {hub}, which has RefCount: it closes with the last subscriber"
+        Some(Event::Connect(hub)) => {
+            let hub = shown(past, hub)?;
+            tell(format!(in alloc;
+                "node {shown_node} is the connection of hub {hub}, which has RefCount: it closes with the last subscriber"
+            ))
+        }
+        _ => tell(format!(in alloc;
+            "node {shown_node} is not a root: it closes with the node above it"
         )),
-        _ => tell(format!(in alloc; "node {node} is not a root: it closes with the node above it")),
     }
 }
 
