@@ -1,6 +1,7 @@
 -- What `clap` makes of words that are written out.
 use Rattle.rx_cli.proofs.Common.{◌≡◌, [], ◌∷◌, map, codes, refl, fault_of, clap_on_literals, rxbook}
 use Rattle.clap.specs.declared.error.kind.ErrorKind.TheVariants.{ValueValidation}
+use Rattle.rx_names.specs.declared.judging.Labels.TheVariants.{Numbers, Names}
 use Rattle.rx_script.specs.declared.Form.TheVariants.{Report, Dump, NamedDump}
 use Rattle.rx_cli.specs.declared.request.Order.TheVariants.{Run, Audit, Storm}
 use Rattle.rx_cli.specs.Words.{Orders, greatest_storm, storms_beyond, questions, answers, file_words, refusals_of_files}
@@ -28,9 +29,13 @@ pub with_both : Orders (codes "rxbook" ∷ codes "run" ∷ codes "--dump" ∷ co
 unfolding clap_on_literals
 with_both = record { taken = refl; named = refl }
 
-pub with_audit : Orders (codes "rxbook" ∷ codes "audit" ∷ []) Audit
+pub with_audit : Orders (codes "rxbook" ∷ codes "audit" ∷ []) (Audit Numbers)
 unfolding clap_on_literals
 with_audit = record { taken = refl; named = refl }
+
+pub with_audit_names : Orders (codes "rxbook" ∷ codes "audit" ∷ codes "--names" ∷ []) (Audit Names)
+unfolding clap_on_literals
+with_audit_names = record { taken = refl; named = refl }
 
 pub with_storm : Orders (codes "rxbook" ∷ codes "storm" ∷ []) (Storm 4 3 100)
 unfolding clap_on_literals

@@ -1,6 +1,7 @@
 -- A run, an audit or a storm that was not begun.
 use Rattle.rx_cli.proofs.Common.{List, Err, refl, ap, true≢false, Bool, true, false, Result, Memory, Watched, Bytes}
 use Rattle.rx_device.specs.declared.fault.ScriptError.{ScriptError}
+use Rattle.rx_names.specs.declared.judging.Labels.{Labels}
 use Rattle.rx_script.specs.declared.Form.{Form}
 use Rattle.rx_script.specs.Stage.{Ware}
 use Rattle.rx_storm.specs.declared.StormFault.{StormFault}
@@ -29,9 +30,9 @@ ran_without_memory remaining contents stock form input output = record {
 }
 
 -- the same of an audit
-pub audited_without_memory : {I O : Type 0} (remaining : I → Bytes) (contents : O → Bytes) (input : Watched I) (output : Watched O)
-    → Audited remaining contents input input output output (Err Memory)
-audited_without_memory remaining contents input output = record {
+pub audited_without_memory : {I O : Type 0} (remaining : I → Bytes) (contents : O → Bytes) (labels : Labels) (input : Watched I) (output : Watched O)
+    → Audited remaining contents labels input input output output (Err Memory)
+audited_without_memory remaining contents labels input output = record {
   verdict = tt;
   stopped = tt;
   unhurt = tt;

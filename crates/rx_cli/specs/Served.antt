@@ -9,8 +9,9 @@ use Rattle.rx_device.specs.declared.fault.ScriptError.TheVariants.{Read, Write, 
 use Rattle.rx_device.specs.declared.watched.Watched.{Watched}
 use Rattle.rx_device.specs.Device.{device_of, has_failed, has_stopped, HasReadFault, HasWriteFault, AppendsPrefix}
 use Rattle.rx_device.specs.Input.{GivesTooMuch, GivesNoJson}
-use Rattle.rx_dump.specs.Checking.{Judges, GivesNoDump}
 use Rattle.rx_dump.specs.Verdict.{is_lawful}
+use Rattle.rx_names.specs.declared.judging.Labels.{Labels}
+use Rattle.rx_names.specs.Judged.{Judges, GivesNoHistory}
 use Rattle.rx_script.specs.declared.Form.{Form}
 use Rattle.rx_script.specs.Stage.{Ware}
 use Rattle.rx_script.specs.Running.{Runs, LacksOutput}
@@ -49,26 +50,26 @@ pub record Tells {E : Type 0} (contents : E → Bytes) (errors errors' : Watched
 
 -- ---- an audit
 
--- the dump was read from the input and judged, and this is what came of it: the text of the verdict on its history
--- is written where the outcome is Ok, which is whether the verdict is that it is lawful, and a front of that text
+-- the dump, alone or beside names, was read from the input and judged, and this is what came of it: the text of the verdict on
+-- its history, with these labels, is written where the outcome is Ok, which is whether the verdict is that it is lawful, and a front of that text
 -- with a write fault; every other fault comes for its cause, with nothing written
-pub record Audited {I O : Type 0} (remaining : I → Bytes) (contents : O → Bytes)
+pub record Audited {I O : Type 0} (remaining : I → Bytes) (contents : O → Bytes) (labels : Labels)
     (input input' : Watched I) (output output' : Watched O) (outcome : Result Bool ScriptError) : Type 0 where
   pub verdict : IfOk outcome (λ lawful. (v : Verdict) × (lawful ≡ is_lawful v)
-      × Judges v (remaining (device_of input)) (remaining (device_of input'))
+      × Judges labels v (remaining (device_of input)) (remaining (device_of input'))
       (Appends (contents (device_of output)) (contents (device_of output'))))
   pub stopped : OnOk outcome (has_stopped input' ≡ true)
   pub unhurt : OnOk outcome ((has_failed input' ≡ false) × (has_failed output' ≡ false))
   pub moved : OnOk outcome (has_stopped output' ≡ false)
   pub front : IsErrOf outcome Write → (v : Verdict)
-      × Judges v (remaining (device_of input)) (remaining (device_of input'))
+      × Judges labels v (remaining (device_of input)) (remaining (device_of input'))
       (AppendsPrefix (contents (device_of output)) (contents (device_of output')))
   pub silent : IfErr outcome (λ e. e ≢ Write → output' ≡ output)
   pub read : IsErrOf outcome Read → HasReadFault input'
   pub write : IsErrOf outcome Write → HasWriteFault output'
   pub syntax : IsErrOf outcome Syntax → GivesTooMuch (remaining (device_of input)) (remaining (device_of input'))
       ⊎ GivesNoJson (remaining (device_of input)) (remaining (device_of input'))
-  pub shape : IsErrOf outcome Shape → GivesNoDump (remaining (device_of input)) (remaining (device_of input'))
+  pub shape : IsErrOf outcome Shape → GivesNoHistory (remaining (device_of input)) (remaining (device_of input'))
 
 -- the status and the line tell this outcome
 pub record TellsAudit {E : Type 0} (contents : E → Bytes) (errors errors' : Watched E)

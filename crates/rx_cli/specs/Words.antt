@@ -11,6 +11,8 @@ use Rattle.clap.specs.declared.error.kind.ErrorKind.TheVariants.{DisplayHelp, Di
 use Rattle.clap.specs.declared.error.kind.ErrorKind.TheVariants.{InvalidSubcommand, UnknownArgument}
 use Rattle.rx_cli.specs.declared.request.Order.{Order}
 use Rattle.rx_cli.specs.declared.request.Order.TheVariants.{Run, Audit, Storm}
+use Rattle.rx_names.specs.declared.judging.Labels.{Labels}
+use Rattle.rx_names.specs.declared.judging.Labels.TheVariants.{Numbers, Names}
 use Rattle.rx_script.specs.declared.Form.{Form}
 use Rattle.rx_script.specs.declared.Form.TheVariants.{Report, Dump, NamedDump}
 
@@ -20,6 +22,9 @@ flag_rule name = record (new_rule name) { long = Some name; action = Some SetTru
 
 abbrev pub run_app : App
 run_app = with_rule (with_rule (new_app (codes "run")) (flag_rule (codes "dump"))) (flag_rule (codes "names"))
+
+abbrev pub audit_app : App
+audit_app = with_rule (new_app (codes "audit")) (flag_rule (codes "names"))
 
 -- the option `--NAME` of a number from the least to the most, which is the usual one where it is left out
 abbrev pub number_rule : (name usual : Text) → (least most : ℕ) → Rule
@@ -43,7 +48,7 @@ with_version a = record a { top = record a.top { has_version = true } }
 abbrev pub rxbook : App
 rxbook =
     with_subcommand (with_subcommand (with_subcommand (with_version (new_app (codes "rxbook"))) run_app.top)
-    (new_app (codes "audit")).top) storm_app.top
+    audit_app.top) storm_app.top
 
 -- the value of a flag says that it is set
 abbrev pub is_set : Option Text → Bool
@@ -56,6 +61,13 @@ form_by dump names = if is_set names then NamedDump else (if is_set dump then Du
 
 abbrev pub form_of : List Row → Form
 form_of rows = form_by (first_of (codes "dump") rows) (first_of (codes "names") rows)
+
+-- an audit tells names where the flag for them is set
+abbrev pub labels_by : Option Text → Labels
+labels_by names = if is_set names then Names else Numbers
+
+abbrev pub labels_of : List Row → Labels
+labels_of rows = labels_by (first_of (codes "names") rows)
 
 -- the number that the text of an option writes; the least where it writes none from the least to the most,
 -- which `clap` refuses
@@ -74,7 +86,7 @@ storm_by rows =
 abbrev pub order_of : Option (Text × List Row) → Order
 order_of None = Run Report
 order_of (Some p) =
-    if bytes_eq p.0 (codes "audit") then Audit
+    if bytes_eq p.0 (codes "audit") then Audit (labels_of p.1)
     else (if bytes_eq p.0 (codes "storm") then storm_by p.1 else Run (form_of p.1))
 
 -- the numbers of a storm are those that there may be

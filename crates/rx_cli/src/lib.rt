@@ -9,7 +9,8 @@
 //! - The stock is the list of resources that a scenario may hold; [`stock`] of `rx_script` makes it.
 //! - A [`Watched`] input or output notes whether the stream behind it failed, so that the contract of
 //!   [`serve`] can say when a stream is at fault.
-//! - A dump is a history in JSON, and a verdict what the audit says of it, both of `rx_script`.
+//! - A dump is a history in JSON, and a verdict what the audit says of it, both of `rx_dump`; `rx_names` has both with
+//!   names.
 //! - A storm is of `rx_storm`: threads that emit and threads that release, at one book.
 //! - [`serve`] does what the words order, and answers the exit status:
 //!
@@ -27,16 +28,17 @@
 //!
 //! - The order is the one that `clap` matches in the words, a report where they name no subcommand; it is
 //!   refused only where `clap` refuses the words or memory is. What `clap` matches in the words `rxbook`,
-//!   `rxbook run`, `rxbook run --dump`, `rxbook run --names`, `rxbook audit` and `rxbook storm` is proved too, and
-//!   what it makes of `--help`, of `--version` and of a file's name ([`words_have_their_orders`]). The numbers of
+//!   `rxbook run`, `rxbook run --dump`, `rxbook run --names`, `rxbook audit`, `rxbook audit --names` and
+//!   `rxbook storm` is proved too, and what it makes of `--help`, of `--version` and of a file's name ([`words_have_their_orders`]). The numbers of
 //!   a storm lie in their ranges.
 //! - Where the words order a run that is done, no call of a stream failed, each write took a byte, and the
 //!   output got the report of a course of the scenario that the input is, with this stock, or the dump of its
 //!   history, alone or with its names, and nothing else. With a write fault it got a front of one, and with any
 //!   other fault nothing; each fault but want of memory comes only for its cause.
-//! - Where the words order an audit that ends without a fault, the input was a dump, the output got the
-//!   text of the verdict on its history and nothing else, and the status is 0 where that is `lawful`, and
-//!   5 where it is `unlawful` or `unsettled`. Faults are as those of a run.
+//! - Where the words order an audit that ends without a fault, the input was a dump, alone or in an object beside
+//!   names, the output got the text of the verdict on its history and nothing else, with the names of its
+//!   numbers where the words ask for them, and the status is 0 where the verdict is `lawful`, and 5 where it is
+//!   `unlawful` or `unsettled`. Faults are as those of a run.
 //! - Where the words order a storm, nothing is read, and what is written are the figures that `rx_storm`
 //!   promises, or a front of them with a write fault, or nothing. That a storm has so many threads and items
 //!   as ordered is tested alone.
@@ -58,7 +60,8 @@ mod words;
 
 pub use program::serve;
 pub use request::Order;
-pub use rx_script::{Closed, Form, ScriptError, Watched, check, close, run, stock};
+pub use rx_names::{Labels, judge};
+pub use rx_script::{Closed, Form, ScriptError, Watched, close, run, stock};
 pub use statuses::{out_of_memory, weathered};
 pub use usage::refuse_bytes;
 pub use word_laws::words_have_their_orders;

@@ -4,6 +4,7 @@ ghost use Rattle.std.specs.List.{All};
 ghost use Rattle.clap.specs.Words.{IsAmong, fault_of};
 ghost use Rattle.clap.specs.declared.error.kind.ErrorKind.{ErrorKind};
 ghost use Rattle.rx_device.specs.declared.fault.ScriptError.{ScriptError};
+ghost use Rattle.rx_names.specs.declared.judging.Labels.{Labels as Label};
 ghost use Rattle.rx_resource.specs.declared.Life.{Life};
 ghost use Rattle.rx_script.specs.declared.Form.{Form};
 ghost use Rattle.rx_storm.specs.declared.StormFault.{StormFault};
@@ -19,8 +20,9 @@ use crate::usage::refuse;
 use crate::words::order;
 use clap::error::ErrorKind;
 use rx_crew::Gate;
+use rx_names::judge;
 use rx_resource::Resource;
-use rx_script::{Watched, check, run};
+use rx_script::{Watched, run};
 use rx_storm::storm;
 use std::alloc::Global;
 use std::convert::AsStr;
@@ -42,7 +44,7 @@ impl Gate for Open {
 ///
 /// A run writes to `output` the report of the scenario that `input` has left, or its dump, alone or with its
 /// names, or a front of it where `output` fails, or nothing. An audit writes the verdict on the history of which `input` has a dump
-/// left, or a front of it, or nothing. A storm writes its figures, or a front of them, or nothing, and reads
+/// left, alone or beside names, or a front of it, or nothing; it tells the names where the words ask for them. A storm writes its figures, or a front of them, or nothing, and reads
 /// nothing. Neither stream was used through its watch before.
 ///
 /// A run's status is 0 where it is done, 1 where a stream failed, 3 where the input is no scenario, 4
@@ -74,9 +76,9 @@ pub fn serve<T: Threads + Wait + Sync, S: AsStr, R: Resource, I: Read, O: Write,
         × Ran I.remaining O.contents (map (ware_of R.Resource) stock.items) form
         input.old input.new output.old output.new outcome
         × Tells E.contents errors.old errors.new outcome result }
-    ensures audited { Orders (map S.text words.now) Order.Audit
+    ensures audited { (labels : Label) → Orders (map S.text words.now) (Order.Audit labels)
         → (outcome : Result Bool ScriptError)
-        × Audited I.remaining O.contents input.old input.new output.old output.new outcome
+        × Audited I.remaining O.contents labels input.old input.new output.old output.new outcome
         × TellsAudit E.contents errors.old errors.new outcome result }
     ensures stormed { (sources workers items : ℕ) → Orders (map S.text words.now) (Order.Storm sources workers items)
         → (outcome : Result Bool StormFault)
@@ -98,7 +100,7 @@ pub fn serve<T: Threads + Wait + Sync, S: AsStr, R: Resource, I: Read, O: Write,
 {
     match order(alloc, words) {
         Ok(Order::Run(form)) => ended(errors, run(alloc, input, output, stock, form)),
-        Ok(Order::Audit) => judged(errors, check(alloc, input, output)),
+        Ok(Order::Audit(labels)) => judged(errors, judge(alloc, input, output, labels)),
         Ok(
             Order::Storm {
                 sources,

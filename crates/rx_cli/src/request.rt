@@ -1,5 +1,6 @@
 //! What the program is asked to do.
 
+use rx_names::Labels;
 use rx_script::Form;
 
 /// What the words of a command line order.
@@ -7,8 +8,9 @@ use rx_script::Form;
 pub enum Order {
     /// Read a scenario from standard input, run it, and write what the form says.
     Run(Form),
-    /// Read a dump from standard input, judge its history, and write the verdict.
-    Audit,
+    /// Read a dump from standard input, alone or beside names, judge its history, and write the verdict with these
+    /// labels.
+    Audit(Labels),
     /// Run a storm of threads at one book, and write its figures.
     Storm {
         /// How many threads subscribe and emit, 1 to 64.

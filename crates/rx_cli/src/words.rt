@@ -1,12 +1,13 @@
 //! The reading of the words, by `clap`.
 ghost use Rattle.std.specs.Prelude.{◌≡◌, ◌≤◌, false, map, option_map, codes, IfOk};
 ghost use Rattle.clap.specs.Words.{app_of, new_app, rule_of, subcommand_of, subcommand_rows_of, fault_of, found_of, rows_of, FailsBy};
-ghost use Rattle.rx_cli.specs.Words.{rxbook, run_app, storm_app, with_version, flag_rule, number_rule, number_by, storm_by};
-ghost use Rattle.rx_cli.specs.Words.{is_set, form_by, form_of, order_of, IsInRange};
+ghost use Rattle.rx_cli.specs.Words.{rxbook, run_app, audit_app, storm_app, with_version, flag_rule, number_rule, number_by, storm_by};
+ghost use Rattle.rx_cli.specs.Words.{is_set, form_by, form_of, labels_by, labels_of, order_of, IsInRange};
 
 use crate::request::Order;
 use clap::builder::ValueParser;
 use clap::{Arg, ArgAction, ArgMatches, Command, Error};
+use rx_names::Labels;
 use rx_script::Form;
 use std::alloc::{AllocError, Global};
 use std::convert::AsStr;
@@ -18,7 +19,7 @@ const USAGE: &str = "rxbook [COMMAND] < FILE";
 
 const RUN_USAGE: &str = "rxbook run [OPTIONS] < FILE";
 
-const AUDIT_USAGE: &str = "rxbook audit < FILE";
+const AUDIT_USAGE: &str = "rxbook audit [OPTIONS] < FILE";
 
 const NOTES: &str = "\
 Input is standard input, at most 16777216 bytes; a storm reads nothing. No file is opened: hand it in, as in
@@ -48,8 +49,10 @@ The exit status is 0 on success, 1 if reading or writing failed, 3 if the input 
 (rxexplain says why), 4 if out of memory. docs/reference/scenario.md and report.md have it in full.";
 
 const AUDIT_NOTES: &str = "\
-A dump is one JSON array of events, oldest first, of at most 16777216 bytes; as in
+A dump is one JSON array of events, oldest first, of at most 16777216 bytes, or an object that has it beside names, as
+run --names writes; as in
   rxbook audit < dispose-twice.dump
+  rxbook run --names < first-run.json | rxbook audit --names
 
 The exit status is 0 if the history is lawful and settled, otherwise 5; 1 if reading or writing failed,
 3 if the input is not a dump (rxexplain says why), 4 if out of memory. docs/reference/history.md and
@@ -123,13 +126,15 @@ fn run_command<'a>(alloc: Global) -> Result<Command<'a>, AllocError>
 }
 
 // The command `audit`.
-fn audit_command<'a>(alloc: Global) -> Command<'a>
-    ensures { app_of result ≡ new_app (codes "audit") }
+fn audit_command<'a>(alloc: Global) -> Result<Command<'a>, AllocError>
+    ensures { IfOk result (λ c. app_of c ≡ audit_app) }
 {
-    Command::new(alloc, "audit")
+    let bare = Command::new(alloc, "audit")
         .about("Judge the dump on standard input")
         .override_usage(AUDIT_USAGE)
-        .after_help(AUDIT_NOTES)
+        .after_help(AUDIT_NOTES);
+    let help = "Write behind each number the name that the input has for it";
+    bare.arg(flag(alloc, "names", help))
 }
 
 // The program's command without its subcommands.
@@ -149,7 +154,8 @@ fn program<'a>(alloc: Global) -> Result<Command<'a>, AllocError>
 {
     let run = run_command(alloc)?;
     let command = top_command(alloc).subcommand(run)?;
-    let command = command.subcommand(audit_command(alloc))?;
+    let audit = audit_command(alloc)?;
+    let command = command.subcommand(audit)?;
     let storm = storm_command(alloc)?;
     command.subcommand(storm)
 }
@@ -179,6 +185,24 @@ fn form_in(options: &ArgMatches<'_>) -> Form
     ensures { result ≡ form_of (rows_of (found_of options.now)) }
 {
     form_by(options.get_str("dump"), options.get_str("names"))
+}
+
+// The labels that the value of the flag says.
+fn labels_by(names: Option<&str>) -> Labels
+    ensures { result ≡ labels_by (option_map (λ s. s.now) names.entry) }
+{
+    if is_set(names) {
+        Labels::Names
+    } else {
+        Labels::Numbers
+    }
+}
+
+// The labels that an audit's options say.
+fn labels_in(options: &ArgMatches<'_>) -> Labels
+    ensures { result ≡ labels_of (rows_of (found_of options.now)) }
+{
+    labels_by(options.get_str("names"))
 }
 
 // The number that the text writes; `least` where it writes none from `least` to `most`.
@@ -216,7 +240,7 @@ fn order_in(matches: &ArgMatches<'_>) -> Order
 {
     match matches.subcommand() {
         None => Order::Run(Form::Report),
-        Some(("audit", _)) => Order::Audit,
+        Some(("audit", options)) => Order::Audit(labels_in(options)),
         Some(("storm", options)) => storm_in(options),
         Some((_, options)) => Order::Run(form_in(options)),
     }

@@ -4,6 +4,7 @@
 //! Of `NAME.json` the report is `NAME.report` and, where it is there, the dump `NAME.dump`, and the dump with its
 //! names `NAME.named-dump`; where `NAME.no-dump` is there, which is empty, it has none. Of `NAME.dump` the verdict is
 //! `NAME.verdict`, and the picture of its history `NAME.svg`, which is that of `NAME.named-dump` too, with the names.
+//! Of `NAME.named-dump` the verdict is `NAME.verdict`, and with the names `NAME.named-verdict`.
 //! Of `NAME.input` what is said of it, which is faulty, is `NAME.told`. The folders are the current one,
 //! with the examples, and below it `cases`, `histories`, `mistakes` and `pictures`. What is stored and is not
 //! written, or differs, is a line with `DIFFERS`.
@@ -15,6 +16,7 @@
 mod program;
 
 use program::{Asked, answer};
+use rx_names::Labels;
 use rx_script::Form;
 use std::fs::DirEntry;
 use std::rt::Files;
@@ -22,12 +24,18 @@ use std::{fs, io};
 
 /// How the name of a file ends in which something is stored, what is asked of the program, and how the name of the
 /// file ends that it is asked of.
-static STORED: [(&str, Asked, &str); 8] = [
+static STORED: [(&str, Asked, &str); 10] = [
     (".report", Asked::Of(Form::Report), ".json"),
     (".dump", Asked::Of(Form::Dump), ".json"),
     (".no-dump", Asked::Of(Form::Dump), ".json"),
     (".named-dump", Asked::Of(Form::NamedDump), ".json"),
-    (".verdict", Asked::Verdict, ".dump"),
+    (".verdict", Asked::Verdict(Labels::Numbers), ".dump"),
+    (".verdict", Asked::Verdict(Labels::Numbers), ".named-dump"),
+    (
+        ".named-verdict",
+        Asked::Verdict(Labels::Names),
+        ".named-dump",
+    ),
     (".told", Asked::Fault, ".input"),
     (".svg", Asked::Picture, ".dump"),
     (".svg", Asked::Picture, ".named-dump"),
@@ -41,8 +49,16 @@ static TEXTS: [(&str, Asked, bool); 4] = [
         Asked::Of(Form::Report),
         false,
     ),
-    ("schemas/dumps-taken.txt", Asked::Verdict, true),
-    ("schemas/dumps-refused.txt", Asked::Verdict, false),
+    (
+        "schemas/dumps-taken.txt",
+        Asked::Verdict(Labels::Numbers),
+        true,
+    ),
+    (
+        "schemas/dumps-refused.txt",
+        Asked::Verdict(Labels::Numbers),
+        false,
+    ),
 ];
 
 // Tells whether what the program writes for the one file is stored in the other.

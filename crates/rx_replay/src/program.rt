@@ -2,7 +2,8 @@
 
 use rx_device::ShapeError;
 use rx_explain::explain;
-use rx_script::{Form, ScriptError, Watched, check, run, stock};
+use rx_names::{Labels, judge};
+use rx_script::{Form, ScriptError, Watched, run, stock};
 use rx_svg::picture_of;
 use serde_json::Value;
 use std::alloc::{AllocError, Global};
@@ -12,8 +13,8 @@ use std::alloc::{AllocError, Global};
 pub enum Asked {
     /// What a scenario gives in this form.
     Of(Form),
-    /// The verdict on a dump.
-    Verdict,
+    /// The verdict on a dump, alone or beside names, with these labels.
+    Verdict(Labels),
     /// What is wrong with an input.
     Fault,
     /// The picture of the history of a dump, with the names beside it.
@@ -62,7 +63,8 @@ pub fn answer(
     let mut writer = Watched::new(output);
     let fault = match asked {
         Asked::Of(form) => run(alloc, &mut reader, &mut writer, stock(alloc)?, form).err(),
-        _ => check(alloc, &mut reader, &mut writer).err(),
+        Asked::Verdict(labels) => judge(alloc, &mut reader, &mut writer, labels).err(),
+        Asked::Fault | Asked::Picture => None,
     };
     match fault {
         None => Ok(true),

@@ -145,7 +145,14 @@ const SHARED_WITH_NAMES: &str = "\
 
 const FAULTY: &str = "rxbook: faulty input\n";
 
-const OUTCOMES: [Row; 19] = [
+// What is open and held there, by names of which one is missing and one is no plain word.
+const NAMED: &str =
+    "{\"dump\":[[\"open\",\"root\",\"pass\"],[\"accept\",0,7],[\"open\",\"root\",\"leaf\"],[\"accept\",2,8],\
+    [\"close\",2]],\"names\":{\"0\":\"screen\",\"3\":\"a \\\"b\\\"\\n\",\"2\":5}}";
+
+const NAMED_VERDICT: &str = "lawful\nlive: 0 \"screen\"\nheld: 1\nwaiting: 3 \"a \\\"b\\\"\\n\"\n";
+
+const OUTCOMES: [Row; 25] = [
     (&["rxbook"], EMPTY, 0, NOTHING_DONE, ""),
     (&["rxbook", "run"], EMPTY, 0, NOTHING_DONE, ""),
     (&["rxbook", "run", "--dump"], EMPTY, 0, "[]\n", ""),
@@ -173,6 +180,24 @@ const OUTCOMES: [Row; 19] = [
         "",
     ),
     (&["rxbook", "audit"], NOT_CONNECTED, 5, "unsettled\n", ""),
+    (&["rxbook", "audit"], NAMED, 0, HALF_CLOSED_VERDICT, ""),
+    (&["rxbook", "audit", "--names"], NAMED, 0, NAMED_VERDICT, ""),
+    (
+        &["rxbook", "audit", "--names"],
+        HALF_CLOSED,
+        0,
+        HALF_CLOSED_VERDICT,
+        "",
+    ),
+    (
+        &["rxbook", "audit", "--names"],
+        "{\"names\":{\"0\":\"x\"},\"dump\":[[\"take\",0]]}",
+        5,
+        "unlawful 0\n",
+        "",
+    ),
+    (&["rxbook", "audit"], "{\"dump\":7}", 3, "", FAULTY),
+    (&["rxbook", "audit", "--names"], "[7]", 3, "", FAULTY),
     (&["rxbook", "audit"], "[[", 3, "", FAULTY),
     (&["rxbook", "audit"], EMPTY, 3, "", FAULTY),
     (
@@ -187,21 +212,21 @@ const OUTCOMES: [Row; 19] = [
         EMPTY,
         2,
         "",
-        "error: unexpected argument '--dump' found\n\nUsage: rxbook audit < FILE\n\nFor more information, try '--help'.\n",
+        "error: unexpected argument '--dump' found\n\nUsage: rxbook audit [OPTIONS] < FILE\n\nFor more information, try '--help'.\n",
     ),
     (
         &["rxbook", "audit", "x"],
         "[]",
         2,
         "",
-        "error: unexpected argument 'x' found\n\nUsage: rxbook audit < FILE\n\nFor more information, try '--help'.\n",
+        "error: unexpected argument 'x' found\n\nUsage: rxbook audit [OPTIONS] < FILE\n\nFor more information, try '--help'.\n",
     ),
     (
         &["rxbook", "audit", "--run"],
         "[]",
         2,
         "",
-        "error: unexpected argument '--run' found\n\nUsage: rxbook audit < FILE\n\nFor more information, try '--help'.\n",
+        "error: unexpected argument '--run' found\n\nUsage: rxbook audit [OPTIONS] < FILE\n\nFor more information, try '--help'.\n",
     ),
     (
         &["rxbook", "retry.json"],
@@ -339,13 +364,16 @@ The exit status is 0 on success, 1 if reading or writing failed, 3 if the input 
 const AUDIT_HELP: &str = "\
 Judge the dump on standard input
 
-Usage: rxbook audit < FILE
+Usage: rxbook audit [OPTIONS] < FILE
 
 Options:
-  -h, --help  Print help
+      --names  Write behind each number the name that the input has for it
+  -h, --help   Print help
 
-A dump is one JSON array of events, oldest first, of at most 16777216 bytes; as in
+A dump is one JSON array of events, oldest first, of at most 16777216 bytes, or an object that has it beside names, as
+run --names writes; as in
   rxbook audit < dispose-twice.dump
+  rxbook run --names < first-run.json | rxbook audit --names
 
 The exit status is 0 if the history is lawful and settled, otherwise 5; 1 if reading or writing failed,
 3 if the input is not a dump (rxexplain says why), 4 if out of memory. docs/reference/history.md and

@@ -16,9 +16,9 @@ returns-then-eq-clause-ran g c = λ form _. (
 
 -- the same of an audit
 pub returns-then-eq-clause-audited : goal.returns-then-eq-clause-audited
-returns-then-eq-clause-audited g c = λ _. (
+returns-then-eq-clause-audited g c = λ labels _. (
   Err Memory,
-  audited_without_memory _ _ _ _,
+  audited_without_memory _ _ labels _ _,
   record {
     says = c.out_of_memory.ensures.status;
     line = c.out_of_memory.ensures.line;

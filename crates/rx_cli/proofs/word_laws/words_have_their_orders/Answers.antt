@@ -1,4 +1,4 @@
-use Rattle.rx_cli.proofs.Literals.{alone, with_run, with_dump, with_names, with_both, with_audit, with_storm, with_greatest, beyond, with_help, with_files}
+use Rattle.rx_cli.proofs.Literals.{alone, with_run, with_dump, with_names, with_both, with_audit, with_audit_names, with_storm, with_greatest, beyond, with_help, with_files}
 use Rattle.rx_cli.proofs.word_laws.words_have_their_orders.Goals as goal
 
 pub returns-clause-alone : goal.returns-clause-alone
@@ -18,6 +18,9 @@ returns-clause-with_both c = with_both
 
 pub returns-clause-with_audit : goal.returns-clause-with_audit
 returns-clause-with_audit c = with_audit
+
+pub returns-clause-with_audit_names : goal.returns-clause-with_audit_names
+returns-clause-with_audit_names c = with_audit_names
 
 pub returns-clause-with_storm : goal.returns-clause-with_storm
 returns-clause-with_storm c = with_storm

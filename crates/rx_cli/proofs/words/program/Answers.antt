@@ -17,7 +17,7 @@ plain_is e = ap (λ (a : App). a.top.is_plain) e
 pub returns : goal.returns
 returns c =
     let run_is = c.in_ok-run.ensures in
-    let audit_is = c.audit_command.ensures in
+    let audit_is = c.in_ok-audit.ensures in
     let storm_is = c.in_ok-storm.ensures in
     let one = c.in_ok-command.ensures.shape (no_globals _ _ _ _ (plain_is run_is)) ∙ ap₂ with_subcommand c.top_command.ensures (top_is run_is) in
     let two = c.in_ok-command-2.ensures.shape (no_globals _ _ _ _ (plain_is audit_is)) ∙ ap₂ with_subcommand one (top_is audit_is) in
