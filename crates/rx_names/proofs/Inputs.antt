@@ -1,5 +1,6 @@
 -- What bytes that were handed in gave, where a reader was at their end.
-use Rattle.std.proofs.Common.{◌≡◌, ℕ, ◌<◌, ◌≤◌, ◌⊎◌, inl, inr, List, ◌++◌, length, Option, Some, None, refl, ap, sym, subst, ◌∙◌, arith, length-append, append-nil}
+use Rattle.std.proofs.Common.{◌≡◌, ℕ, ◌≤◌, ◌⊎◌, inl, inr, List, ◌++◌, length, Option, Some, None, refl, ap, sym, subst, ◌∙◌}
+use Rattle.std.proofs.Common.{arith, length-append, append-nil}
 use Rattle.std.specs.Io.KnownBytes.{Consumes, IsAtEnd}
 use Rattle.serde_json.specs.Data.{Data, null, boolean, number, string, array, object}
 use Rattle.rx_event.specs.declared.event.Event.{Event}
@@ -45,8 +46,13 @@ no_syntax input left short (inl much) = absurd (not_too_much input left short mu
 no_syntax input left short (inr none) = no_json_given input left none
 
 -- the verdict on the dump that they are
-pub verdict_given : (input : List ℕ) (left : Option (List ℕ)) (v : Verdict) (Writes : List ℕ → Type 0) → Judges v (Some input) left Writes → IsVerdictOf input v
-verdict_given input left v Writes judged = record { value = judged.value; json = json_given input left judged.value judged.gave; verdict = judged.verdict }
+pub verdict_given : (input : List ℕ) (left : Option (List ℕ)) (v : Verdict) (Writes : List ℕ → Type 0)
+    → Judges v (Some input) left Writes → IsVerdictOf input v
+verdict_given input left v Writes judged = record {
+  value = judged.value;
+  json = json_given input left judged.value judged.gave;
+  verdict = judged.verdict;
+}
 
 -- a dump has no members
 pub itself : (d : Data) (h : List Event) → history_of d ≡ Some h → (dump_in d ≡ d) × (names_in d ≡ null)
@@ -63,7 +69,8 @@ no_names_for Numbers d h reading = refl
 no_names_for Names d h reading = (itself d h reading).1
 
 -- so with either labels it is judged as it is without names
-pub judged_alone : (labels : Labels) (input text : List ℕ) (v : Verdict) → IsVerdictOf input v → text ≡ verdict_text v → IsJudgedSo labels input v text
+pub judged_alone : (labels : Labels) (input text : List ℕ) (v : Verdict) → IsVerdictOf input v → text ≡ verdict_text v
+    → IsJudgedSo labels input v text
 judged_alone labels input text v is same =
     let reading = is.verdict.reading in
     let none : names_for labels is.value ≡ null = no_names_for labels is.value is.verdict.history reading in

@@ -5,16 +5,15 @@ ghost use Rattle.std.specs.Io.KnownBytes.{Appends};
 ghost use Rattle.serde_json.specs.Data.{Data, null};
 ghost use Rattle.serde_json.specs.View.{view};
 ghost use Rattle.rx_audit.specs.declared.verdict.Verdict.{Verdict};
-ghost use Rattle.rx_audit.specs.Verdict.{IsVerdict};
-ghost use Rattle.rx_device.specs.Device.{device_of, KeepsDevice, has_failed, has_stopped, HasReadFault, HasWriteFault, IsFresh, AppendsPrefix};
+ghost use Rattle.rx_device.specs.Device.{device_of, KeepsDevice, has_failed, has_stopped, IsFresh};
+ghost use Rattle.rx_device.specs.Device.{HasReadFault, HasWriteFault, AppendsPrefix};
 ghost use Rattle.rx_device.specs.Input.{IsJsonOf, GivesTooMuch, GivesNoJson, most_bytes};
 ghost use Rattle.rx_dump.specs.History.{history_of};
 ghost use Rattle.rx_dump.specs.Checking.{IsVerdictOn};
 ghost use Rattle.rx_dump.specs.Inputs.{IsVerdictOf};
 ghost use Rattle.rx_dump.specs.Verdict.{is_lawful, verdict_text};
-ghost use Rattle.rx_names.specs.Names.{dump_in, names_in, name_of};
-ghost use Rattle.rx_names.specs.NamedVerdict.{named_verdict};
-ghost use Rattle.rx_names.specs.Judged.{names_for, IsJudgedSo, IsNoHistory, Judges, GivesNoHistory};
+ghost use Rattle.rx_names.specs.Names.{dump_in};
+ghost use Rattle.rx_names.specs.Judged.{names_for, IsJudgement, IsNoHistory, Judges, GivesNoHistory};
 
 use crate::input::{dump_in, names_or};
 use crate::names::Names;
@@ -83,7 +82,7 @@ fn names_for<'a>(labels: Labels, value: &'a Value, none: &'a Value) -> &'a Value
 
 // The text of the verdict on the history of which the input has the dump, by the JSON value of the whole.
 fn judge_value(alloc: Global, input: &[u8], labels: Labels) -> Result<Judgement, ScriptError>
-    ensures ok { IfOk result (λ j. (v : Verdict) × (j.is_lawful ≡ is_lawful v) × IsJudgedSo labels input.now v j.text.items) }
+    ensures ok { IfOk result (λ j. IsJudgement labels input.now j.is_lawful j.text.items) }
     ensures syntax { IsErrOf result ScriptError.Syntax → (d : Data) → ¬ IsJsonOf input.now d }
     ensures shape { IsErrOf result ScriptError.Shape → IsNoHistory input.now }
     ensures never { IfErr result (λ e. (e ≢ ScriptError.Read) × (e ≢ ScriptError.Write)) }
@@ -127,8 +126,7 @@ fn check_dump(alloc: Global, dump: &[u8], text: &mut Vec<u8>) -> Result<bool, Sc
 #[tactic(auto, using(crate::proofs::Inputs::judged_alone))]
 fn judge_dump(alloc: Global, input: &[u8], labels: Labels) -> Result<Option<Judgement>, ScriptError>
     requires { length input.now ≤ most_bytes }
-    ensures ok { IfOk result (λ found. IfSome found (λ j. (v : Verdict) × (j.is_lawful ≡ is_lawful v)
-        × IsJudgedSo labels input.now v j.text.items)) }
+    ensures ok { IfOk result (λ found. IfSome found (λ j. IsJudgement labels input.now j.is_lawful j.text.items)) }
     ensures syntax { IsErrOf result ScriptError.Syntax → (d : Data) → ¬ IsJsonOf input.now d }
     ensures never { IfErr result (λ e. (e ≢ ScriptError.Read) × (e ≢ ScriptError.Write) × (e ≢ ScriptError.Shape)) }
 {
@@ -149,7 +147,7 @@ fn opens_array(input: &[u8]) -> bool {
 // input is not itself a dump.
 fn judge_input(alloc: Global, input: &[u8], labels: Labels) -> Result<Judgement, ScriptError>
     requires { length input.now ≤ most_bytes }
-    ensures ok { IfOk result (λ j. (v : Verdict) × (j.is_lawful ≡ is_lawful v) × IsJudgedSo labels input.now v j.text.items) }
+    ensures ok { IfOk result (λ j. IsJudgement labels input.now j.is_lawful j.text.items) }
     ensures syntax { IsErrOf result ScriptError.Syntax → (d : Data) → ¬ IsJsonOf input.now d }
     ensures shape { IsErrOf result ScriptError.Shape → IsNoHistory input.now }
     ensures never { IfErr result (λ e. (e ≢ ScriptError.Read) × (e ≢ ScriptError.Write)) }

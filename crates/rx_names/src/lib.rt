@@ -6,8 +6,8 @@
 //!   as its member `names`: an object that leads from numbers, written as decimals, to texts
 //!   (`specs/Names.antt`). `rxbook run --names` writes one, and so does a live book.
 //! - [`Names`] are those of one value; [`name_of`] finds that of a number, [`label`] writes both.
-//! - A verdict **tells names** where behind each number of something that is open, held or waiting stands its name as a JSON
-//!   string (`specs/NamedVerdict.antt`). [`judge`] reads an input and writes its verdict, with [`Labels::Names`] so.
+//! - A verdict **tells names** where behind each number of something that is open, held or waiting stands its name as a
+//!   JSON string (`specs/NamedVerdict.antt`). [`judge`] reads an input and writes its verdict, with [`Labels::Names`] so.
 //!
 //! # Promised, and not
 //!

@@ -21,21 +21,23 @@ pub returns-then-is_err-clause-front : goal.returns-then-is_err-clause-front
 returns-then-is_err-clause-front g c = λ write.
     let is = c.in_ok-judgement.ensures.ok in
     let judged = rw c.as_slice.ensures.value at is.2 in
-    let written : AppendsPrefix (g.W.Write.contents (device_of c.args.writer.now)) (g.W.Write.contents (device_of c.write_text.new.writer)) c.in_ok-judgement.judgement.text.items =
-    search rules in (
+    let before = g.W.Write.contents (device_of c.args.writer.now) in
+    let after = g.W.Write.contents (device_of c.write_text.new.writer) in
+    let written : AppendsPrefix before after c.in_ok-judgement.judgement.text.items = search rules in (
       is.0,
       judges_by c.args.labels _ _ c.in_ok-input.input.items c.in_ok-judgement.judgement.text.items is.0
-          (AppendsPrefix (g.W.Write.contents (device_of c.args.writer.now)) (g.W.Write.contents (device_of c.write_text.new.writer))) c.in_ok-input.ensures.ok judged written,
+          (AppendsPrefix before after) c.in_ok-input.ensures.ok judged written,
     )
 
 pub returns-clause-ok : goal.returns-clause-ok
 returns-clause-ok g c =
     let is = c.in_ok-judgement.ensures.ok in
     let judged = rw c.as_slice.ensures.value at is.2 in
-    let written : Appends (g.W.Write.contents (device_of c.args.writer.now)) (g.W.Write.contents (device_of c.write_text.new.writer)) c.in_ok-judgement.judgement.text.items =
-    search rules in (
+    let before = g.W.Write.contents (device_of c.args.writer.now) in
+    let after = g.W.Write.contents (device_of c.write_text.new.writer) in
+    let written : Appends before after c.in_ok-judgement.judgement.text.items = search rules in (
       is.0,
       search rules,
       judges_by c.args.labels _ _ c.in_ok-input.input.items c.in_ok-judgement.judgement.text.items is.0
-          (Appends (g.W.Write.contents (device_of c.args.writer.now)) (g.W.Write.contents (device_of c.write_text.new.writer))) c.in_ok-input.ensures.ok judged written,
+          (Appends before after) c.in_ok-input.ensures.ok judged written,
     )
