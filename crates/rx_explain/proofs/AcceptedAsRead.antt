@@ -151,7 +151,8 @@ scenario_no_history d false true is has e = scenario_no_dump d has
 scenario_no_history d false false is has e = absurd (false≢true e)
 
 -- what has no dump is none
-no_history : (d : Data) (a : Bool) (o : Option Data) → is_some (as_array d) ≡ a → get (codes "dump") d ≡ o → (a || is_some o) ≡ false → ¬ IsLawfulDump (dump_in d)
+no_history : (d : Data) (a : Bool) (o : Option Data) → is_some (as_array d) ≡ a → get (codes "dump") d ≡ o → (a || is_some o) ≡ false
+    → ¬ IsLawfulDump (dump_in d)
 no_history d true o is has e = absurd (false≢true (sym e))
 no_history d false (Some x) is has e = absurd (false≢true (sym e))
 no_history d false None is has e = subst (λ (x : Data). ¬ IsLawfulDump x) (sym (itself d has)) (dump_array d is)

@@ -1,6 +1,7 @@
 //! What is wrong with an input, or nothing.
 
-ghost use Rattle.std.specs.Prelude.{◌≡◌, ◌||◌, codes, is_some, is_none, IfOk, OnOk};
+ghost use Rattle.std.specs.Prelude.{◌≡◌, ◌||◌, [], ◌∷◌, nat_eq, codes, is_some, is_none, IfOk, OnOk};
+ghost use Rattle.std.specs.List.{starts_with};
 ghost use Rattle.serde_json.specs.Data.{Data};
 ghost use Rattle.serde_json.specs.Errors.{IsMemory};
 ghost use Rattle.serde_json.specs.Find.{get, as_array};
@@ -27,6 +28,8 @@ use rx_scenario::scenario_of;
 use serde_json::{Error, Value};
 use std::alloc::{AllocError, Global};
 
+const BYTE_ORDER_MARK: &str = "line 1, column 1: a byte order mark; save the text without it";
+
 /// A sentence, where there is something to say.
 type Told = Result<Option<String>, AllocError>;
 
@@ -38,8 +41,18 @@ fn or_else(alloc: Global, walk: Walk, other: &str) -> Result<String, AllocError>
     }
 }
 
+// Whether an input begins with a byte order mark, which a JSON text may not.
+fn has_byte_order_mark(input: &[u8]) -> bool
+    ensures { result ≡ starts_with nat_eq input.now (239 ∷ 187 ∷ 191 ∷ []) }
+{
+    input.starts_with(&[0xef, 0xbb, 0xbf])
+}
+
 // What to say about an input that is not a JSON text.
-fn no_json(alloc: Global, error: &Error) -> Result<String, AllocError> {
+fn no_json(alloc: Global, input: &[u8], error: &Error) -> Result<String, AllocError> {
+    if has_byte_order_mark(input) {
+        return String::from_str(alloc, BYTE_ORDER_MARK);
+    }
     let (line, column) = (error.line(), error.column());
     if error.is_eof() {
         return format!(in alloc; "line {line}, column {column}: the JSON text ends too early");
@@ -48,13 +61,13 @@ fn no_json(alloc: Global, error: &Error) -> Result<String, AllocError> {
 }
 
 // The same of a reading that failed, if it was not for memory.
-fn no_value(alloc: Global, error: &Error) -> Result<String, AllocError>
+fn no_value(alloc: Global, input: &[u8], error: &Error) -> Result<String, AllocError>
     ensures { OnOk result (¬ IsMemory error.now) }
 {
     if error.is_memory() {
         return Err(AllocError);
     }
-    no_json(alloc, error)
+    no_json(alloc, input, error)
 }
 
 // An event as it stands in a dump.
@@ -282,6 +295,6 @@ pub fn explain(alloc: Global, input: &[u8]) -> Told
     }
     match Value::from_slice(alloc, input) {
         Ok(value) => explain_value(alloc, input, &value),
-        Err(error) => Ok(Some(no_value(alloc, &error)?)),
+        Err(error) => Ok(Some(no_value(alloc, input, &error)?)),
     }
 }
