@@ -2,7 +2,7 @@
 use Rattle.rx_svg.proofs.Common.{◌≡◌, ℕ, true, Option, List, [], ◌∷◌, ◌++◌, map, codes, flat_map, length, take, refl, sym, ap, subst, ◌∙◌, append_assoc}
 use Rattle.rx_svg.proofs.Common.{append-nil, ◌==◌, and_from, Verdict, Point, Drawing, Part, words, number, text_of, x_of}
 use Rattle.rx_svg.proofs.Common.{point_text, listed_text, entry_text, svg_text, is_plain, IsContent, nothing, IsWellFormed}
-use Rattle.std.proofs.Common.{◌+◌, ◌-◌, drop, rules}
+use Rattle.std.proofs.Common.{◌-◌, drop, rules}
 use Rattle.rx_svg.specs.Page.{style_text, head_text, below_text, list_text, untaken_text, lawful_text, unlawful_text}
 use Rattle.rx_svg.specs.Page.{unsettled_text, verdict_text, count_text, leaking_text, leaks_text, break_text, shares_text}
 use Rattle.rx_svg.specs.Page.{verdict_line, leaks_line, shares_line, under_text, lanes_text}
