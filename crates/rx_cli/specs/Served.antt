@@ -50,9 +50,9 @@ pub record Tells {E : Type 0} (contents : E → Bytes) (errors errors' : Watched
 
 -- ---- an audit
 
--- the dump, alone or beside names, was read from the input and judged, and this is what came of it: the text of the verdict on
--- its history, with these labels, is written where the outcome is Ok, which is whether the verdict is that it is lawful, and a front of that text
--- with a write fault; every other fault comes for its cause, with nothing written
+-- the dump, alone or beside names, was read from the input and judged, and this is what came of it: the text of the
+-- verdict on its history, with these labels, is written where the outcome is Ok, which is whether the verdict is that it
+-- is lawful, and a front of that text with a write fault; every other fault comes for its cause, with nothing written
 pub record Audited {I O : Type 0} (remaining : I → Bytes) (contents : O → Bytes) (labels : Labels)
     (input input' : Watched I) (output output' : Watched O) (outcome : Result Bool ScriptError) : Type 0 where
   pub verdict : IfOk outcome (λ lawful. (v : Verdict) × (lawful ≡ is_lawful v)

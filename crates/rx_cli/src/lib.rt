@@ -29,8 +29,8 @@
 //! - The order is the one that `clap` matches in the words, a report where they name no subcommand; it is
 //!   refused only where `clap` refuses the words or memory is. What `clap` matches in the words `rxbook`,
 //!   `rxbook run`, `rxbook run --dump`, `rxbook run --names`, `rxbook audit`, `rxbook audit --names` and
-//!   `rxbook storm` is proved too, and what it makes of `--help`, of `--version` and of a file's name ([`words_have_their_orders`]). The numbers of
-//!   a storm lie in their ranges.
+//!   `rxbook storm` is proved too, and what it makes of `--help`, of `--version` and of a file's name
+//!   ([`words_have_their_orders`]). The numbers of a storm lie in their ranges.
 //! - Where the words order a run that is done, no call of a stream failed, each write took a byte, and the
 //!   output got the report of a course of the scenario that the input is, with this stock, or the dump of its
 //!   history, alone or with its names, and nothing else. With a write fault it got a front of one, and with any

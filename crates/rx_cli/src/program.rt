@@ -43,9 +43,10 @@ impl Gate for Open {
 /// first word is the program's name.
 ///
 /// A run writes to `output` the report of the scenario that `input` has left, or its dump, alone or with its
-/// names, or a front of it where `output` fails, or nothing. An audit writes the verdict on the history of which `input` has a dump
-/// left, alone or beside names, or a front of it, or nothing; it tells the names where the words ask for them. A storm writes its figures, or a front of them, or nothing, and reads
-/// nothing. Neither stream was used through its watch before.
+/// names, or a front of it where `output` fails, or nothing. An audit writes the verdict on the history of which
+/// `input` has a dump left, alone or beside names, or a front of it, or nothing; it tells the names where the words
+/// ask for them. A storm writes its figures, or a front of them, or nothing, and reads nothing. Neither stream was
+/// used through its watch before.
 ///
 /// A run's status is 0 where it is done, 1 where a stream failed, 3 where the input is no scenario, 4
 /// where memory was refused. An audit's is 0 where the verdict is lawful and 5 where it is another,

@@ -1,8 +1,8 @@
 //! The reading of the words, by `clap`.
 ghost use Rattle.std.specs.Prelude.{◌≡◌, ◌≤◌, false, map, option_map, codes, IfOk};
 ghost use Rattle.clap.specs.Words.{app_of, new_app, rule_of, subcommand_of, subcommand_rows_of, fault_of, found_of, rows_of, FailsBy};
-ghost use Rattle.rx_cli.specs.Words.{rxbook, run_app, audit_app, storm_app, with_version, flag_rule, number_rule, number_by, storm_by};
-ghost use Rattle.rx_cli.specs.Words.{is_set, form_by, form_of, labels_by, labels_of, order_of, IsInRange};
+ghost use Rattle.rx_cli.specs.Words.{rxbook, run_app, audit_app, storm_app, with_version, flag_rule, number_rule};
+ghost use Rattle.rx_cli.specs.Words.{is_set, form_by, form_of, labels_by, labels_of, number_by, storm_by, order_of, IsInRange};
 
 use crate::request::Order;
 use clap::builder::ValueParser;

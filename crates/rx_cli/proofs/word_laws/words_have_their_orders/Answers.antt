@@ -1,4 +1,5 @@
-use Rattle.rx_cli.proofs.Literals.{alone, with_run, with_dump, with_names, with_both, with_audit, with_audit_names, with_storm, with_greatest, beyond, with_help, with_files}
+use Rattle.rx_cli.proofs.Literals.{alone, with_run, with_dump, with_names, with_both, with_audit, with_audit_names, with_storm}
+use Rattle.rx_cli.proofs.Literals.{with_greatest, beyond, with_help, with_files}
 use Rattle.rx_cli.proofs.word_laws.words_have_their_orders.Goals as goal
 
 pub returns-clause-alone : goal.returns-clause-alone
