@@ -13,7 +13,7 @@ pub use Rattle.rx_note.specs.declared.note.Note.TheVariants.{Next, Project, End 
 pub use Rattle.rx_note.specs.declared.note.Terminal.TheVariants.{Completed, Error}
 pub use Rattle.rx_picture.specs.declared.drawing.Drawing.{Drawing}
 pub use Rattle.rx_picture.specs.declared.points.Point.{Point}
-unfoldable pub use Rattle.rx_svg.specs.Label.{event_text}
+unfoldable pub use Rattle.rx_svg.specs.Label.{event_text, called_text}
 pub use Rattle.rx_svg.specs.Lane.{x_of}
 unfoldable pub use Rattle.rx_svg.specs.Lane.{row_text, tick_text, told_text}
 pub use Rattle.rx_names.specs.Names.{name_of}

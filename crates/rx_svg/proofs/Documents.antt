@@ -5,7 +5,8 @@ use Rattle.rx_svg.proofs.Common.{point_text, listed_text, entry_text, svg_text, 
 use Rattle.std.proofs.Common.{◌-◌, drop, rules}
 use Rattle.rx_svg.specs.Page.{style_text, head_text, below_text, list_text, untaken_text, lawful_text, unlawful_text}
 use Rattle.rx_svg.specs.Page.{unsettled_text, verdict_text, count_text, leaking_text, leaks_text, break_text, shares_text}
-use Rattle.rx_svg.specs.Page.{verdict_line, leaks_line, shares_line, under_text, lanes_text}
+use Rattle.rx_svg.specs.Page.{verdict_line, leaks_line, shares_line, under_text, lanes_text, page_text}
+use Rattle.rx_svg.specs.Lane.{margin}
 use Rattle.rx_svg.proofs.Characters.{both_are_plain, plain_append, plain_flat_map}
 use Rattle.rx_svg.proofs.ShownNames.{named_is_content}
 use Rattle.rx_svg.proofs.Contents.{plain_content, content_append, contents, content_if}
@@ -13,6 +14,7 @@ use Rattle.rx_svg.proofs.Markup.{Valued, text_from, text_from-append, attribute_
 use Rattle.rx_svg.proofs.Markup.{content_then, parts_are_plain, plain_parts, newline}
 use Rattle.rx_svg.proofs.Elements.{valued, text_around, between, broken_is_content, column_is_content}
 use Rattle.rx_svg.proofs.Rows.{row_is_content, tick_is_content, told_is_content}
+use Rattle.rx_svg.proofs.Legends.{legend_is_content}
 
 -- under the lanes ---------------------------------------------------------------------------------
 
@@ -68,35 +70,36 @@ leaking_is_content names leaks =
 leaks_read : (names : ℕ → Option (List ℕ)) (leaks : List ℕ) → IsContent (leaks_text names leaks)
 leaks_read names leaks = content_if (length leaks == 0) _ _ (plain_content (codes "no resource leaks") refl) (leaking_is_content names leaks)
 
-below_is_content : (class : List ℕ) (y : ℕ) (text : List ℕ) → is_plain class ≡ true → IsContent text
-    → IsContent (below_text class y ++ text ++ codes "</text>\n")
+below_is_content : (class : List ℕ) (x y : ℕ) (text : List ℕ) → is_plain class ≡ true → IsContent text
+    → IsContent (below_text class x y ++ text ++ codes "</text>\n")
 unfolding below_text text_of
-below_is_content class y text of_class content =
+below_is_content class x y text of_class content =
     let front : List Part =
-    words (codes "<text class=\"") ∷ words class ∷ words (codes "\" x=\"10\" y=\"") ∷ number y ∷ words (codes "\">") ∷ [] in
+    words (codes "<text class=\"") ∷ words class ∷ words (codes "\" x=\"") ∷ number x ∷ words (codes "\" y=\"") ∷ number y
+    ∷ words (codes "\">") ∷ [] in
     let attributes : List Valued =
-    valued (codes "class") (words class ∷ []) ∷ valued (codes "x") (words (codes "10") ∷ []) ∷ valued (codes "y") (number y ∷ []) ∷ [] in
+    valued (codes "class") (words class ∷ []) ∷ valued (codes "x") (number x ∷ []) ∷ valued (codes "y") (number y ∷ []) ∷ [] in
     subst IsContent (between front (words (codes "</text>\n") ∷ []) text)
     (text_around attributes (words text ∷ []) (and_from _ _ (and_from _ _ of_class refl) refl) refl (content_then text [] content nothing))
 
-verdict_is_content : (height : ℕ) (verdict : Verdict) → IsContent (verdict_line height verdict)
+verdict_is_content : (x height : ℕ) (verdict : Verdict) → IsContent (verdict_line x height verdict)
 unfolding verdict_line
-verdict_is_content height verdict = search (rules, below_is_content, codes, plain_content, verdict_is_plain)
+verdict_is_content x height verdict = search (rules, below_is_content, codes, plain_content, verdict_is_plain)
 
-leaks_are_content : (names : ℕ → Option (List ℕ)) (height : ℕ) (leaks : List ℕ) → IsContent (leaks_line names height leaks)
+leaks_are_content : (names : ℕ → Option (List ℕ)) (x height : ℕ) (leaks : List ℕ) → IsContent (leaks_line names x height leaks)
 unfolding leaks_line
-leaks_are_content names height leaks =
+leaks_are_content names x height leaks =
     search (rules, below_is_content, both_are_plain, length, leaks_read)
 
-shares_are_content : (d : Drawing) (end height : ℕ) → IsContent (shares_line d end height)
+shares_are_content : (d : Drawing) (end x height : ℕ) → IsContent (shares_line d end x height)
 unfolding shares_line
-shares_are_content d end height = search (rules, below_is_content, codes, plain_content, shares_is_plain)
+shares_are_content d end x height = search (rules, below_is_content, codes, plain_content, shares_is_plain)
 
-under_is_content : (d : Drawing) (names : ℕ → Option (List ℕ)) (end height : ℕ) (verdict : Verdict)
-    → IsContent (under_text d names end height verdict)
+under_is_content : (d : Drawing) (names : ℕ → Option (List ℕ)) (end x height : ℕ) (verdict : Verdict)
+    → IsContent (under_text d names end x height verdict)
 unfolding under_text
-under_is_content d names end height verdict =
-    search (rules, content_append, verdict_is_content, leaks_are_content, shares_are_content)
+under_is_content d names end x height verdict =
+    search (rules, content_append, verdict_is_content, leaks_are_content, shares_are_content, legend_is_content)
 
 -- the lanes ---------------------------------------------------------------------------------------
 
@@ -125,11 +128,11 @@ style_is_content =
     element_then (codes "style") [] (words rules_text ∷ []) (words (codes "\n") ∷ []) (tag_of (codes "style") [] refl refl refl)
     (plain_parts (words rules_text ∷ []) refl) newline
 
-abbrev svg_attributes : ℕ → ℕ → List Valued
-svg_attributes width height =
+abbrev svg_attributes : ℕ → ℕ → ℕ → List Valued
+svg_attributes left width height =
     valued (codes "xmlns") (words (codes "http://www.w3.org/2000/svg") ∷ []) ∷ valued (codes "width") (number width ∷ [])
     ∷ valued (codes "height") (number height ∷ []) ∷ valued (codes "viewBox")
-    (words (codes "0 0 ") ∷ number width ∷ words (codes " ") ∷ number height ∷ []) ∷ []
+    (number left ∷ words (codes " 0 ") ∷ number width ∷ words (codes " ") ∷ number height ∷ []) ∷ []
 
 abbrev svg_inside : List ℕ → List ℕ → List Part
 svg_inside lanes under = words (codes "\n") ∷ words style_text ∷ words lanes ∷ words under ∷ []
@@ -141,34 +144,40 @@ inside_is_content lanes under p q =
 four : (a b c d : List ℕ) → a ++ (b ++ (c ++ (d ++ []))) ≡ a ++ b ++ c ++ d
 four a b c d = simp (append_assoc, append-nil)
 
-document_reads : (width height : ℕ) (lanes under : List ℕ) → head_text width height ++ lanes ++ under ++ codes "</svg>\n"
-    ≡ text_from (element_parts (codes "svg") (svg_attributes width height) (svg_inside lanes under)) ++ codes "\n"
+document_reads : (left width height : ℕ) (lanes under : List ℕ) → head_text left width height ++ lanes ++ under ++ codes "</svg>\n"
+    ≡ text_from (element_parts (codes "svg") (svg_attributes left width height) (svg_inside lanes under)) ++ codes "\n"
 unfolding head_text text_of
-document_reads width height lanes under =
+document_reads left width height lanes under =
     let front : List Part =
     words (codes "<svg xmlns=\"http://www.w3.org/2000/svg\" width=\"") ∷ number width ∷ words (codes "\" height=\"") ∷ number height
-    ∷ words (codes "\" viewBox=\"0 0 ") ∷ number width ∷ words (codes " ") ∷ number height ∷ words (codes "\">\n") ∷ words style_text ∷ [] in
+    ∷ words (codes "\" viewBox=\"") ∷ number left ∷ words (codes " 0 ") ∷ number width ∷ words (codes " ") ∷ number height
+    ∷ words (codes "\">\n") ∷ words style_text ∷ [] in
     sym (four (text_from front) lanes under (codes "</svg>\n"))
     ∙ sym (text_from-append front (words lanes ∷ words under ∷ words (codes "</svg>\n") ∷ []))
-    ∙ text_from-append (element_parts (codes "svg") (svg_attributes width height) (svg_inside lanes under)) (words (codes "\n") ∷ [])
+    ∙ text_from-append (element_parts (codes "svg") (svg_attributes left width height) (svg_inside lanes under)) (words (codes "\n") ∷ [])
 
-document_is_well_formed : (width height : ℕ) (lanes under : List ℕ) → IsContent lanes → IsContent under
-    → IsWellFormed (head_text width height ++ lanes ++ under ++ codes "</svg>\n")
-document_is_well_formed width height lanes under p q =
+document_is_well_formed : (left width height : ℕ) (lanes under : List ℕ) → IsContent lanes → IsContent under
+    → IsWellFormed (head_text left width height ++ lanes ++ under ++ codes "</svg>\n")
+document_is_well_formed left width height lanes under p q =
     record {
       name = codes "svg";
-      attributes = map attribute_of (svg_attributes width height);
-      tag = tag_of (codes "svg") (svg_attributes width height) refl refl refl;
+      attributes = map attribute_of (svg_attributes left width height);
+      tag = tag_of (codes "svg") (svg_attributes left width height) refl refl refl;
       inside = text_from (svg_inside lanes under);
       content = inside_is_content lanes under p q;
       space = codes "\n";
       white = refl;
       reads =
-          document_reads width height lanes under
-          ∙ ap (λ t. t ++ codes "\n") (element_reads (codes "svg") (svg_attributes width height) (svg_inside lanes under));
+          document_reads left width height lanes under
+          ∙ ap (λ t. t ++ codes "\n") (element_reads (codes "svg") (svg_attributes left width height) (svg_inside lanes under));
     }
+
+page_is_well_formed : (d : Drawing) (names : ℕ → Option (List ℕ)) (end : ℕ) (verdict : Verdict) (left : ℕ)
+    → IsWellFormed (page_text d names end verdict left)
+unfolding page_text
+page_is_well_formed d names end verdict left =
+    search (rules, document_is_well_formed, lanes_are_content, under_is_content)
 
 pub svg_is_well_formed : (d : Drawing) (names : ℕ → Option (List ℕ)) (end : ℕ) (verdict : Verdict) → IsWellFormed (svg_text d names end verdict)
 unfolding svg_text
-svg_is_well_formed d names end verdict =
-    search (rules, document_is_well_formed, lanes_are_content, under_is_content)
+svg_is_well_formed d names end verdict = page_is_well_formed d names end verdict (margin d names d.rows.items)

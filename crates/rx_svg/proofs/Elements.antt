@@ -2,7 +2,7 @@
 use Rattle.rx_svg.proofs.Common.{◌≡◌, ℕ, true, List, [], ◌∷◌, ◌++◌, map, ℤ, codes, refl, subst, append_assoc, ◌==◌, list_all, and_from, and_parts}
 use Rattle.rx_svg.proofs.Common.{Note, Event, Part, words, number, signed, text_of, event_text, note_text, Look, line_text}
 use Rattle.rx_svg.proofs.Common.{bar_text, mark_text, code_text, leak_text, is_plain, are_distinct, IsContent, nothing}
-use Rattle.rx_svg.specs.Stroke.{Stretch, until_text, stretch_end, line_front, bar_front, arrow_text, unreleased_text, marble_shape, above_text, value_text}
+use Rattle.rx_svg.specs.Stroke.{Stretch, until_text, stretch_end, line_front, bar_front, arrow_shape, arrow_text, unreleased_text, marble_shape, above_text, value_text}
 use Rattle.rx_svg.specs.Stroke.{marble_front, by_text, marble_text, column_front, axis_text, column_text, broken_text}
 use Rattle.rx_svg.proofs.Characters.{both_are_plain, event_is_plain, note_is_plain}
 use Rattle.rx_svg.proofs.Contents.{content_append}
@@ -99,7 +99,7 @@ mark_is_content class shape title x y at plain =
 arrow_is_content : (x y : ℕ) → IsContent (arrow_text x y)
 unfolding arrow_text text_of
 arrow_is_content x y =
-    let drawn : List Part = words (codes "M") ∷ number x ∷ words (codes " ") ∷ number y ∷ words (codes "m0 -9l15 9l-15 9z") ∷ [] in
+    let drawn : List Part = words (codes "M") ∷ number x ∷ words (codes " ") ∷ number y ∷ words arrow_shape ∷ [] in
     path_then (codes "arrow leak") drawn (words (codes "not released") ∷ []) (words (codes "\n") ∷ []) refl refl refl newline
 
 unreleased_is_content : (x y : ℕ) → IsContent (unreleased_text x y)
@@ -128,7 +128,7 @@ code_is_content x y code =
     ∷ valued (codes "dy") (words (codes "4") ∷ []) ∷ [] in
     text_content attributes (number code ∷ []) refl refl refl
 
-above_is_content : (x y : ℕ) (value : ℤ) → IsContent (above_text x y value)
+pub above_is_content : (x y : ℕ) (value : ℤ) → IsContent (above_text x y value)
 unfolding above_text text_of
 above_is_content x y value =
     let attributes : List Valued =

@@ -4,6 +4,7 @@ mod Contents
 mod ShownNames
 mod Markup
 mod Elements
+mod Legends
 mod Rows
 mod Documents
 pub mod Laws

@@ -1,37 +1,41 @@
 -- What stands in the lanes of a picture is content, whatever the drawing is.
-use Rattle.rx_svg.proofs.Common.{◌≡◌, ℕ, Bool, true, Option, List, [], ◌∷◌, ◌++◌, codes, nat_lt, decimal, refl, sym, ap, subst, ◌∙◌, append_assoc}
-use Rattle.rx_svg.proofs.Common.{Event, Point, Drawing, Part, words, number, text_of, event_text, named_text, Look}
+use Rattle.rx_svg.proofs.Common.{◌≡◌, ℕ, Bool, true, Option, List, [], ◌∷◌, ◌++◌, ℤ, codes, nat_lt, decimal, refl, subst, not, ◌&&◌}
+use Rattle.rx_svg.proofs.Common.{Event, Point, Drawing, Part, words, number, text_of, event_text, named_text, called_text, Look}
 use Rattle.rx_svg.proofs.Common.{x_of, row_text, tick_text, told_text, IsContent, nothing}
 use Rattle.rx_event.specs.declared.mail.Mail.{Mail}
 use Rattle.rx_picture.specs.declared.row.Ending.{Ending}
 use Rattle.rx_picture.specs.declared.row.Shape.{Shape}
 use Rattle.rx_picture.specs.declared.row.Shape.TheVariants.{Node, Hub, Resource, Loan}
 use Rattle.rx_picture.specs.declared.row.Row.{Row}
-use Rattle.rx_svg.specs.Lane.{y_of, stretch_of, label_front, label_text, ending_text, life_text, stretch_text, owned_look, loan_look}
-use Rattle.rx_svg.specs.Lane.{wait_look, owned_text, loan_text, wait_text, release_text, shape_text, name_text, use_text}
+use Rattle.rx_svg.specs.Stroke.{dot_shape}
+use Rattle.rx_svg.specs.Lane.{y_of, has_lane, is_root_of, stretch_of, label_front, label_text, ending_text, life_text, stretch_text, owned_look, loan_look}
+use Rattle.rx_svg.specs.Lane.{wait_look, owned_text, loan_text, wait_text, release_text, shape_text, name_text, in_lane_text, emitted_text, done_text}
 use Rattle.rx_svg.proofs.Characters.{decimal_is_plain, event_is_plain}
 use Rattle.rx_svg.proofs.ShownNames.{named_is_content}
-use Rattle.rx_svg.proofs.Markup.{are_plain, text_from, words_then, content_then}
+use Rattle.rx_svg.proofs.Markup.{Valued, are_plain, content_then}
 use Rattle.rx_svg.proofs.Contents.{plain_content, content_append, content_if}
 use Rattle.rx_svg.proofs.Elements.{valued, text_around, between, words_of, line_is_content, bar_is_content, mark_is_content, code_is_content, leak_is_content}
-use Rattle.rx_svg.proofs.Elements.{marble_is_content}
+use Rattle.rx_svg.proofs.Elements.{above_is_content, marble_is_content}
 use Rattle.std.proofs.Common.{rules}
+
+called_is_content : (n : ℕ) (name : Option (List ℕ)) (made : Event) → IsContent (called_text n name made)
+unfolding called_text
+called_is_content n name made =
+    content_append (decimal n ++ named_text name) (event_text made)
+    (content_append (decimal n) (named_text name) (plain_content (decimal n) (decimal_is_plain n)) (named_is_content name))
+    (plain_content (event_text made) (event_is_plain made))
 
 label_is_content : (x y n : ℕ) (name : Option (List ℕ)) (made : Event) → IsContent (label_text x y n name made)
 unfolding label_text label_front text_of
 label_is_content x y n name made =
     let front : List Part =
-    words (codes "<text x=\"") ∷ number x ∷ words (codes "\" y=\"") ∷ number y ∷ words (codes "\" dy=\"4\">") ∷ number n ∷ [] in
-    let told = named_text name ++ event_text made in
-    let content =
-    content_append (named_text name) (event_text made) (named_is_content name) (plain_content (event_text made) (event_is_plain made)) in
-    subst IsContent
-    (between front (words (codes "</text>\n") ∷ []) told
-    ∙ ap (λ (t : List ℕ). t ++ codes "</text>\n") (sym (append_assoc (text_from front) (named_text name) (event_text made))))
-    (text_around
-    (valued (codes "x") (number x ∷ []) ∷ valued (codes "y") (number y ∷ []) ∷ valued (codes "dy") (words (codes "4") ∷ []) ∷ [])
-    (number n ∷ words told ∷ []) refl refl
-    (words_then (decimal n) (words told ∷ []) (decimal_is_plain n) (content_then told [] content nothing)))
+    words (codes "<text class=\"label\" x=\"") ∷ number x ∷ words (codes "\" y=\"") ∷ number y ∷ words (codes "\" dy=\"4\">") ∷ [] in
+    let attributes : List Valued =
+    valued (codes "class") (words (codes "label") ∷ []) ∷ valued (codes "x") (number x ∷ []) ∷ valued (codes "y") (number y ∷ [])
+    ∷ valued (codes "dy") (words (codes "4") ∷ []) ∷ [] in
+    subst IsContent (between front (words (codes "</text>\n") ∷ []) (called_text n name made))
+    (text_around attributes (words (called_text n name made) ∷ []) refl refl
+    (content_then (called_text n name made) [] (called_is_content n name made) nothing))
 
 name_is_content : (d : Drawing) (n : ℕ) (name : Option (List ℕ)) (made : Event) → IsContent (name_text d n name made)
 name_is_content d n name x3 = search (rules, nothing, label_is_content)
@@ -88,12 +92,22 @@ unfolding row_text
 row_is_content d names end row =
     search (rules, content_append, name_is_content, shape_is_content)
 
-use_is_content : (d : Drawing) (place : ℕ) (event : Event) → IsContent (use_text d place event)
-use_is_content d place x2 = search (rules, content_if, codes, mark_is_content, nothing)
+in_lane_is_content : (d : Drawing) (n place : ℕ) (class shape title : List ℕ) → are_plain (words class ∷ words shape ∷ words title ∷ []) ≡ true
+    → IsContent (in_lane_text d n place class shape title)
+in_lane_is_content d n place class shape title plain =
+    content_if (has_lane d n) _ _ (mark_is_content class shape title (x_of d place) (y_of d n) place plain) nothing
+
+emitted_is_content : (d : Drawing) (n place : ℕ) (value : ℤ) → IsContent (emitted_text d n place value)
+emitted_is_content d n place value =
+    content_append _ _ (in_lane_is_content d n place (codes "full") dot_shape (codes "emitted") refl)
+    (content_if (has_lane d n && not (is_root_of d n)) _ _ (above_is_content (x_of d place) (y_of d n) value) nothing)
+
+done_is_content : (d : Drawing) (place : ℕ) (event : Event) → IsContent (done_text d place event)
+done_is_content d place x2 = search (rules, in_lane_is_content, codes, emitted_is_content, nothing)
 
 pub tick_is_content : (d : Drawing) (point : Point) → IsContent (tick_text d point)
 unfolding tick_text
-tick_is_content d point = use_is_content d point.place point.event
+tick_is_content d point = done_is_content d point.place point.event
 
 pub told_is_content : (d : Drawing) (m : Mail) → IsContent (told_text d m)
 unfolding told_text

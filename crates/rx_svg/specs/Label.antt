@@ -1,5 +1,5 @@
--- What things are called in a picture. All that these texts take from a history are numbers.
-use Rattle.std.specs.Prelude.{ℕ, List, ◌++◌, codes}
+-- What things are called in a picture. All that these texts take from a history are numbers, and names of numbers.
+use Rattle.std.specs.Prelude.{ℕ, Option, List, ◌++◌, codes}
 use Rattle.std.specs.Fmt.{decimal, signed_decimal}
 use Rattle.rx_note.specs.declared.note.Terminal.{Terminal}
 use Rattle.rx_note.specs.declared.note.Terminal.TheVariants.{Completed, Error}
@@ -11,6 +11,7 @@ use Rattle.rx_event.specs.declared.event.Mode.{Mode}
 use Rattle.rx_event.specs.declared.event.Mode.TheVariants.{Auto, Manual}
 use Rattle.rx_event.specs.declared.event.Event.{Event}
 use Rattle.rx_event.specs.declared.event.Event.TheVariants.{Open, Hub, Connect, Accept, Use, Remove, Lease, Return, Item, Decline, End, Close, Take}
+use Rattle.rx_svg.specs.Name.{named_text}
 
 unfoldable pub kind_text : Kind → List ℕ
 kind_text Leaf = codes " leaf"
@@ -49,3 +50,7 @@ event_text (Decline f) = codes " no inner for an item of " ++ decimal f
 event_text (End n t) = codes " end of " ++ decimal n ++ codes ":" ++ terminal_text t
 event_text (Close n) = codes " closing of " ++ decimal n
 event_text (Take r) = codes " release of " ++ decimal r
+
+-- what the event made, with its number and its name
+unfoldable pub called_text : ℕ → Option (List ℕ) → Event → List ℕ
+called_text n name made = decimal n ++ named_text name ++ event_text made

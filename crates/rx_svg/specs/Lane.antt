@@ -1,8 +1,12 @@
 -- What stands in the lanes of a picture.
-use Rattle.std.specs.Prelude.{ℕ, ◌+◌, ◌*◌, Option, Bool, ◌&&◌, min, nat_lt, if◌then◌else◌, List, [], ◌∷◌, ◌++◌, codes, length, slice_index_or}
+use Rattle.std.specs.Prelude.{ℕ, ℤ, ◌+◌, ◌-◌, ◌*◌, Option, Bool, false, not, ◌&&◌, min, nat_lt, if◌then◌else◌, List, [], ◌∷◌, ◌++◌, codes, length}
+use Rattle.std.specs.Prelude.{slice_get, slice_index_or}
+use Rattle.std.specs.Option.{option_map_or}
+use Rattle.std.specs.List.{fold}
 use Rattle.rx_note.specs.declared.note.Terminal.TheVariants.{Completed, Error}
 use Rattle.rx_event.specs.declared.event.Event.{Event}
-use Rattle.rx_event.specs.declared.event.Event.TheVariants.{Accept, Lease, Use}
+use Rattle.rx_event.specs.declared.event.Event.TheVariants.{Connect, Lease, Use, Item, Decline}
+use Rattle.rx_event.specs.Events.{is_root}
 use Rattle.rx_event.specs.declared.mail.Mail.{Mail}
 use Rattle.rx_picture.specs.declared.row.Ending.{Ending}
 use Rattle.rx_picture.specs.declared.row.Ending.TheVariants.{Lasting, Ended, Disposed}
@@ -14,20 +18,19 @@ use Rattle.rx_picture.specs.declared.drawing.Drawing.{Drawing}
 use Rattle.rx_picture.specs.Rows.{lane_of}
 use Rattle.rx_picture.specs.Leaks.{is_leaking_row}
 use Rattle.rx_svg.specs.Parts.{words, number, text_of}
-use Rattle.rx_svg.specs.Label.{event_text}
-use Rattle.rx_svg.specs.Name.{named_text}
-use Rattle.rx_svg.specs.Stroke.{Stretch, Look, line_text, bar_text, mark_text, code_text, leak_text}
-use Rattle.rx_svg.specs.Stroke.{marble_text, bar_shape, cross_shape, ring_shape, diamond_shape, tick_shape}
+use Rattle.rx_svg.specs.Label.{called_text}
+use Rattle.rx_svg.specs.Stroke.{Stretch, Look, line_text, bar_text, mark_text, code_text, leak_text, above_text, marble_text}
+use Rattle.rx_svg.specs.Stroke.{bar_shape, cross_shape, strokes_shape, check_shape, tick_shape, dot_shape, square_shape, struck_shape}
 
 -- where things stand --------------------------------------------------------------------------------
 
--- a place, from the left
+-- a place, from the left; before the first there is room for labels
 abbrev pub x_of : Drawing → ℕ → ℕ
-x_of d place = 350 + 20 * min (slice_index_or d.columns.items place 0) 2000
+x_of d place = 4050 + 20 * min (slice_index_or d.columns.items place 0) 2000
 
 -- the lane of a number, from the top
 abbrev pub y_of : Drawing → ℕ → ℕ
-y_of d n = 48 + 24 * min (slice_index_or d.lanes.items n 0) 200
+y_of d n = 48 + 28 * min (slice_index_or d.lanes.items n 0) 200
 
 -- the number has a lane that is shown
 abbrev pub has_lane : Drawing → ℕ → Bool
@@ -37,27 +40,29 @@ has_lane d n = nat_lt n (length d.lanes.items) && nat_lt (slice_index_or d.lanes
 abbrev pub stretch_of : Drawing → ℕ → ℕ → ℕ → ℕ → Stretch
 stretch_of d y after until end = record { from = x_of d after; to = x_of d until; y = y; after = after; until = until; end = end }
 
--- deeper nodes begin further to the right, and a resource one step behind its node
-abbrev pub steps_of : Drawing → ℕ → Event → ℕ
-steps_of d n (Accept node tag) = min (slice_index_or d.levels.items node 0) 8 + 1
-steps_of d n _ = min (slice_index_or d.levels.items n 0) 8
+-- what the number names is a root, by the place at which its lane begins
+abbrev pub is_root_point : Point → Bool
+is_root_point point = is_root point.event
+
+abbrev pub is_root_of : Drawing → ℕ → Bool
+is_root_of d n = option_map_or is_root_point (slice_get d.points.items (slice_index_or d.columns.items n 0)) false
 
 -- a row -------------------------------------------------------------------------------------------
 
--- what a lane shows
-unfoldable pub label_front : ℕ → ℕ → ℕ → List ℕ
-label_front x y n =
-    text_of (words (codes "<text x=\"") ∷ number x ∷ words (codes "\" y=\"") ∷ number y ∷ words (codes "\" dy=\"4\">") ∷ number n ∷ [])
+-- what a lane shows, up to here
+unfoldable pub label_front : ℕ → ℕ → List ℕ
+label_front x y =
+    text_of (words (codes "<text class=\"label\" x=\"") ∷ number x ∷ words (codes "\" y=\"") ∷ number y ∷ words (codes "\" dy=\"4\">") ∷ [])
 
 unfoldable pub label_text : ℕ → ℕ → ℕ → Option (List ℕ) → Event → List ℕ
-label_text x y n name made = label_front x y n ++ named_text name ++ event_text made ++ codes "</text>\n"
+label_text x y n name made = label_front x y ++ called_text n name made ++ codes "</text>\n"
 
--- a bar for completed, a cross for an error with its code, an open ring for a disposal, nothing where it is still open
+-- a bar for completed, a cross for an error with its code, two strokes for a disposal, nothing where it is still open
 abbrev pub ending_text : ℕ → ℕ → ℕ → Ending → List ℕ
 ending_text x y at Lasting = []
 ending_text x y at (Ended Completed) = mark_text (codes "mark") bar_shape (codes "completed") x y at
 ending_text x y at (Ended (Error code)) = mark_text (codes "mark") cross_shape (codes "ended with an error") x y at ++ code_text x y code
-ending_text x y at Disposed = mark_text (codes "ring") ring_shape (codes "closed") x y at
+ending_text x y at Disposed = mark_text (codes "mark") strokes_shape (codes "closed") x y at
 
 -- the line of a node that was open
 abbrev pub life_text : Drawing → ℕ → ℕ → ℕ → ℕ → Ending → List ℕ
@@ -96,10 +101,10 @@ loan_text d leaking = stretch_text d (loan_look leaking)
 abbrev pub wait_text : Drawing → Bool → ℕ → ℕ → ℕ → ℕ → List ℕ
 wait_text d leaking = stretch_text d (wait_look leaking)
 
--- a diamond where it is released, an arrow and words where it never was
+-- a check mark where it is released, an arrow and words where it never was
 abbrev pub release_text : Drawing → Bool → ℕ → ℕ → List ℕ
 release_text d leaking y taken =
-    if leaking then leak_text (x_of d taken) y else mark_text (codes "mark") diamond_shape (codes "released") (x_of d taken) y taken
+    if leaking then leak_text (x_of d taken) y else mark_text (codes "mark") check_shape (codes "released") (x_of d taken) y taken
 
 abbrev pub shape_text : Drawing → Bool → ℕ → ℕ → ℕ → Shape → List ℕ
 shape_text d leaking y n end (Node until ending) = life_text d y n until end ending
@@ -109,10 +114,10 @@ shape_text d leaking y n end (Resource after until taken) =
     ++ release_text d leaking y taken
 shape_text d leaking y n end (Loan resource until) = loan_text d leaking y n until end
 
--- a lease has no label, and lies in the lane of its resource
+-- a label ends where its lane begins. A lease has none, and lies in the lane of its resource
 abbrev pub name_text : Drawing → ℕ → Option (List ℕ) → Event → List ℕ
 name_text d n name (Lease r) = []
-name_text d n name made = label_text (10 * steps_of d n made) (y_of d n) n name made
+name_text d n name made = label_text (x_of d n - 12) (y_of d n) n name made
 
 unfoldable pub row_text : Drawing → (ℕ → Option (List ℕ)) → ℕ → Row → List ℕ
 row_text d names end row =
@@ -121,13 +126,39 @@ row_text d names end row =
 
 -- marks -------------------------------------------------------------------------------------------
 
--- a tick where a resource is used that has a lane
-abbrev pub use_text : Drawing → ℕ → Event → List ℕ
-use_text d place (Use r) = if has_lane d r then mark_text (codes "tick") tick_shape (codes "used") (x_of d place) (y_of d r) place else []
-use_text d place _ = []
+-- a mark in the lane of a number, if it has one
+abbrev pub in_lane_text : Drawing → ℕ → ℕ → List ℕ → List ℕ → List ℕ → List ℕ
+in_lane_text d n place class shape title = if has_lane d n then mark_text class shape title (x_of d place) (y_of d n) place else []
+
+-- the value of an item above the leaf that emits it; above a root it stands already, with what the root received
+abbrev pub value_in_lane : Drawing → ℕ → ℕ → ℤ → List ℕ
+value_in_lane d n place value = if has_lane d n && not (is_root_of d n) then above_text (x_of d place) (y_of d n) value else []
+
+-- a dot for an item at the leaf that emits it
+abbrev pub emitted_text : Drawing → ℕ → ℕ → ℤ → List ℕ
+emitted_text d n place value = in_lane_text d n place (codes "full") dot_shape (codes "emitted") ++ value_in_lane d n place value
+
+-- what an event did in a lane: an item that is emitted, a struck diamond for one that is declined, a square where a hub
+-- is connected, a tick where a resource is used
+abbrev pub done_text : Drawing → ℕ → Event → List ℕ
+done_text d place (Item n value) = emitted_text d n place value
+done_text d place (Decline f) = in_lane_text d f place (codes "marble") struck_shape (codes "declined")
+done_text d place (Connect g) = in_lane_text d g place (codes "full") square_shape (codes "connected")
+done_text d place (Use r) = in_lane_text d r place (codes "tick") tick_shape (codes "used")
+done_text d place _ = []
 
 unfoldable pub tick_text : Drawing → Point → List ℕ
-tick_text d point = use_text d point.place point.event
+tick_text d point = done_text d point.place point.event
 
 unfoldable pub told_text : Drawing → Mail → List ℕ
 told_text d m = marble_text (x_of d m.place) (y_of d m.to) m.place m.to m.note
+
+-- the margin --------------------------------------------------------------------------------------
+
+-- there is room for the label of a row before its lane: 8 for each of its characters, of up to 500
+unfoldable pub label_start : Drawing → (ℕ → Option (List ℕ)) → Row → ℕ
+label_start d names row = x_of d row.number - (24 + 8 * min (length (called_text row.number (names row.number) row.made)) 500)
+
+-- where the first of the labels begins, and the picture with it
+abbrev pub margin : Drawing → (ℕ → Option (List ℕ)) → List Row → ℕ
+margin d names rows = fold (λ left row. min left (label_start d names row)) (x_of d 0) rows

@@ -66,14 +66,32 @@ bar_shape = codes "m0 -8v16"
 abbrev pub cross_shape : List ℕ
 cross_shape = codes "m-6 -6l12 12m0 -12l-12 12"
 
+abbrev pub strokes_shape : List ℕ
+strokes_shape = codes "m-5 8l6 -16m4 0l-6 16"
+
+abbrev pub check_shape : List ℕ
+check_shape = codes "m4 0l4 5l8 -10"
+
+abbrev pub tick_shape : List ℕ
+tick_shape = codes "m0 -10v20"
+
+abbrev pub arrow_shape : List ℕ
+arrow_shape = codes "m0 -9l15 9l-15 9z"
+
+abbrev pub dot_shape : List ℕ
+dot_shape = codes "m-3 0a3 3 0 1 0 6 0a3 3 0 1 0 -6 0z"
+
+abbrev pub square_shape : List ℕ
+square_shape = codes "m-4 -4h8v8h-8z"
+
 abbrev pub ring_shape : List ℕ
 ring_shape = codes "m-6 0a6 6 0 1 0 12 0a6 6 0 1 0 -12 0z"
 
 abbrev pub diamond_shape : List ℕ
 diamond_shape = codes "m-7 0l7 -7l7 7l-7 7z"
 
-abbrev pub tick_shape : List ℕ
-tick_shape = codes "m0 -10v20"
+abbrev pub struck_shape : List ℕ
+struck_shape = codes "m-7 0l7 -7l7 7l-7 7zm1 6l12 -12"
 
 abbrev pub flag_shape : List ℕ
 flag_shape = codes "m-5 -11h10l-5 6z"
@@ -87,8 +105,8 @@ code_text x y code =
 -- the arrow of a resource that was never released
 unfoldable pub arrow_text : ℕ → ℕ → List ℕ
 arrow_text x y =
-    text_of (words (codes "<path class=\"arrow leak\" d=\"M") ∷ number x ∷ words (codes " ") ∷ number y
-    ∷ words (codes "m0 -9l15 9l-15 9z\"><title>not released</title></path>\n") ∷ [])
+    text_of (words (codes "<path class=\"arrow leak\" d=\"M") ∷ number x ∷ words (codes " ") ∷ number y ∷ words arrow_shape
+    ∷ words (codes "\"><title>not released</title></path>\n") ∷ [])
 
 -- the words behind it
 unfoldable pub unreleased_text : ℕ → ℕ → List ℕ
@@ -98,6 +116,33 @@ unreleased_text x y =
 
 unfoldable pub leak_text : ℕ → ℕ → List ℕ
 leak_text x y = arrow_text x y ++ unreleased_text x y
+
+-- signs of the legend -----------------------------------------------------------------------------
+
+-- a sign that stands for all of its kind
+unfoldable pub sign_text : List ℕ → List ℕ → ℕ → ℕ → List ℕ
+sign_text class shape x y =
+    text_of (words (codes "<path class=\"") ∷ words class ∷ words (codes "\" d=\"M") ∷ number x ∷ words (codes " ") ∷ number y ∷ words shape
+    ∷ words (codes "\"></path>\n") ∷ [])
+
+-- the words beside it
+unfoldable pub meaning_text : List ℕ → ℕ → ℕ → List ℕ
+meaning_text meaning x y =
+    text_of (words (codes "<text x=\"") ∷ number x ∷ words (codes "\" y=\"") ∷ number y ∷ words (codes "\" dx=\"22\" dy=\"4\">") ∷ words meaning
+    ∷ words (codes "</text>\n") ∷ [])
+
+unfoldable pub key_text : List ℕ → List ℕ → List ℕ → ℕ → ℕ → List ℕ
+key_text class shape meaning x y = sign_text class shape x y ++ meaning_text meaning x y
+
+-- a short line, a short bar, and a lower one
+abbrev pub line_sample : List ℕ
+line_sample = codes "m-10 0h20"
+
+abbrev pub bar_sample : List ℕ
+bar_sample = codes "m-10 -5h20v10h-20z"
+
+abbrev pub low_sample : List ℕ
+low_sample = codes "m-10 -3h20v6h-20z"
 
 -- marbles -----------------------------------------------------------------------------------------
 

@@ -1,10 +1,14 @@
 //! What things are called in a picture, each written behind a text.
 
 ghost use Rattle.std.specs.Prelude.{◌≡◌, ◌++◌, string_bytes, OnOk};
-ghost use Rattle.rx_svg.specs.Label.{kind_text, place_text, mode_text, terminal_text, event_text};
+ghost use Rattle.serde_json.specs.View.{view};
+ghost use Rattle.rx_names.specs.Names.{name_of};
+ghost use Rattle.rx_svg.specs.Label.{kind_text, place_text, mode_text, terminal_text, event_text, called_text};
 ghost use Rattle.rx_svg.specs.Said.{note_text};
 
+use crate::names::push_named;
 use rx_event::{Event, Kind, Mode, Place, Terminal};
+use rx_names::Names;
 use rx_note::Note;
 use std::alloc::AllocError;
 
@@ -80,6 +84,22 @@ pub fn push_event(text: &mut String, event: Event) -> Result<(), AllocError>
         Event::Close(n) => write!(text, " closing of {n}"),
         Event::Take(r) => write!(text, " release of {r}"),
     }
+}
+
+/// What the event made, with its number and its name.
+#[tactic(auto, unfolding(crate::specs::Label::called_text))]
+pub fn push_called(
+    text: &mut String,
+    names: Names<'_>,
+    n: u64,
+    made: Event,
+) -> Result<(), AllocError>
+    ensures { OnOk result (string_bytes text.new ≡ string_bytes text.old
+        ++ called_text n (name_of (view names.entry.object.now) n) made) }
+{
+    write!(text, "{n}")?;
+    push_named(text, names, n)?;
+    push_event(text, made)
 }
 
 /// What somebody was told.

@@ -1,19 +1,20 @@
 //! What stands in the lanes of a picture, each written behind a text.
 
-ghost use Rattle.std.specs.Prelude.{◌≡◌, ◌++◌, ◌≤◌, ◌*◌, string_bytes, OnOk, slice_index_or};
+ghost use Rattle.std.specs.Prelude.{◌≡◌, ◌++◌, ◌≤◌, string_bytes, OnOk, slice_index_or};
 ghost use Rattle.rx_picture.specs.Rows.{lane_of};
 ghost use Rattle.rx_picture.specs.Leaks.{is_leaking};
 ghost use Rattle.serde_json.specs.View.{view};
 ghost use Rattle.rx_names.specs.Names.{name_of};
-ghost use Rattle.rx_svg.specs.Lane.{x_of, y_of, has_lane, steps_of, label_text, ending_text, life_text, stretch_text};
-ghost use Rattle.rx_svg.specs.Lane.{held_class, wait_class, owned_text, loan_text, wait_text, release_text};
-ghost use Rattle.rx_svg.specs.Lane.{shape_text, name_text, row_text, use_text, tick_text, told_text};
+ghost use Rattle.rx_svg.specs.Lane.{x_of, y_of, has_lane, is_root_point, is_root_of, label_text, ending_text, life_text};
+ghost use Rattle.rx_svg.specs.Lane.{stretch_text, held_class, wait_class, owned_text, loan_text, wait_text, release_text};
+ghost use Rattle.rx_svg.specs.Lane.{shape_text, name_text, row_text, in_lane_text, emitted_text, done_text, tick_text, told_text};
 
-use crate::labels::push_event;
-use crate::names::push_named;
+use crate::labels::push_called;
 use crate::pieces::put;
-use crate::strokes::{push_bar, push_code, push_leak, push_line, push_marble, push_mark};
-use rx_event::{Event, Mail, Terminal};
+use crate::strokes::{
+    push_above, push_bar, push_code, push_leak, push_line, push_marble, push_mark,
+};
+use rx_event::{Event, Mail, Place, Terminal};
 use rx_names::Names;
 use rx_picture::{Drawing, Ending, Point, Row, Shape};
 use std::alloc::AllocError;
@@ -29,16 +30,17 @@ pub fn value_at(table: &[usize], n: u64) -> usize
 /// Where the place stands, from the left.
 pub fn x_of(drawing: &Drawing, place: u64) -> u64
     ensures value { result ≡ x_of drawing.now place }
-    ensures few { result ≤ 40350 }
+    ensures far { 4050 ≤ result }
+    ensures few { result ≤ 44050 }
 {
-    350 + 20 * value_at(&drawing.columns, place).min(2000) as u64
+    4050 + 20 * value_at(&drawing.columns, place).min(2000) as u64
 }
 
 /// Where the lane of the number stands, from the top.
 pub fn y_of(drawing: &Drawing, n: u64) -> u64
     ensures { result ≡ y_of drawing.now n }
 {
-    48 + 24 * value_at(&drawing.lanes, n).min(200) as u64
+    48 + 28 * value_at(&drawing.lanes, n).min(200) as u64
 }
 
 /// Whether the number has a lane that is shown.
@@ -49,14 +51,27 @@ fn has_lane(drawing: &Drawing, n: u64) -> bool
     n < lanes.len() as u64 && value_at(lanes, n) < value_at(lanes, n + 1)
 }
 
-/// How many steps from the left the text of the lane begins.
-fn steps_of(drawing: &Drawing, n: u64, made: Event) -> u64
-    ensures value { result ≡ steps_of drawing.now n made }
-    ensures few { result ≤ 9 }
+/// Whether a root is opened there.
+fn is_root_point(point: Point) -> bool
+    ensures { result ≡ is_root_point point }
 {
-    match made {
-        Event::Accept(node, _) => value_at(&drawing.levels, node).min(8) as u64 + 1,
-        _ => value_at(&drawing.levels, n).min(8) as u64,
+    match point.event {
+        Event::Open {
+            place: Place::Root,
+            ..
+        } => true,
+        _ => false,
+    }
+}
+
+/// Whether the number is that of a root whose place is shown.
+fn is_root_of(drawing: &Drawing, n: u64) -> bool
+    ensures { result ≡ is_root_of drawing.now n }
+{
+    let points = drawing.points.as_slice();
+    match points.get(value_at(&drawing.columns, n)).copied() {
+        Some(point) => is_root_point(point),
+        None => false,
     }
 }
 
@@ -73,9 +88,8 @@ fn push_label(
     ensures { OnOk result (string_bytes text.new ≡ string_bytes text.old
         ++ label_text x y n (name_of (view names.entry.object.now) n) made) }
 {
-    put!(text; "<text x=\"" [x] "\" y=\"" [y] "\" dy=\"4\">" [n])?;
-    push_named(text, names, n)?;
-    push_event(text, made)?;
+    put!(text; "<text class=\"label\" x=\"" [x] "\" y=\"" [y] "\" dy=\"4\">")?;
+    push_called(text, names, n, made)?;
     text.push_str("</text>\n")
 }
 
@@ -94,8 +108,8 @@ fn push_ending(text: &mut String, x: u64, y: u64, at: u64, ending: Ending) -> Re
             push_code(text, x, y, u64::from(code))
         }
         Ending::Disposed => {
-            let ring = "m-6 0a6 6 0 1 0 12 0a6 6 0 1 0 -12 0z";
-            push_mark(text, "ring", ring, "closed", x, y, at)
+            let strokes = "m-5 8l6 -16m4 0l-6 16";
+            push_mark(text, "mark", strokes, "closed", x, y, at)
         }
     }
 }
@@ -228,8 +242,7 @@ fn push_release(
     if leaking {
         return push_leak(text, x, y);
     }
-    let diamond = "m-7 0l7 -7l7 7l-7 7z";
-    push_mark(text, "mark", diamond, "released", x, y, taken)
+    push_mark(text, "mark", "m4 0l4 5l8 -10", "released", x, y, taken)
 }
 
 /// Whether what is drawn is a resource that none of so many events hands out, or a lease that none
@@ -292,7 +305,7 @@ fn push_name(
     match made {
         Event::Lease(_) => Ok(()),
         _ => {
-            let x = 10 * steps_of(drawing, n, made);
+            let x = x_of(drawing, n) - 12;
             push_label(text, names, x, y_of(drawing, n), n, made)
         }
     }
@@ -326,35 +339,77 @@ pub fn push_row(
     push_shape(text, drawing, leaking, y, row.number, end, row.shape)
 }
 
-/// A tick where a resource is used that has a lane.
-fn push_use(
+/// A mark in the lane of a number, if it has one.
+fn push_in_lane(
+    text: &mut String,
+    drawing: &Drawing,
+    n: u64,
+    place: u64,
+    class: &'static str,
+    shape: &'static str,
+    title: &'static str,
+) -> Result<(), AllocError>
+    ensures { OnOk result (string_bytes text.new ≡ string_bytes text.old
+        ++ in_lane_text drawing.now n place class.now shape.now title.now) }
+{
+    if !has_lane(drawing, n) {
+        return Ok(());
+    }
+    let x = x_of(drawing, place);
+    let y = y_of(drawing, n);
+    push_mark(text, class, shape, title, x, y, place)
+}
+
+/// An item at the leaf that emits it; a root has its value already.
+fn push_emitted(
+    text: &mut String,
+    drawing: &Drawing,
+    n: u64,
+    place: u64,
+    value: i64,
+) -> Result<(), AllocError>
+    ensures { OnOk result (string_bytes text.new ≡ string_bytes text.old ++ emitted_text drawing.now n place value) }
+{
+    let dot = "m-3 0a3 3 0 1 0 6 0a3 3 0 1 0 -6 0z";
+    push_in_lane(text, drawing, n, place, "full", dot, "emitted")?;
+    if has_lane(drawing, n) && !is_root_of(drawing, n) {
+        let x = x_of(drawing, place);
+        let y = y_of(drawing, n);
+        return push_above(text, x, y, value);
+    }
+    Ok(())
+}
+
+/// What an event did in a lane.
+fn push_done(
     text: &mut String,
     drawing: &Drawing,
     place: u64,
     event: Event,
 ) -> Result<(), AllocError>
-    ensures { OnOk result (string_bytes text.new ≡ string_bytes text.old ++ use_text drawing.now place event) }
+    ensures { OnOk result (string_bytes text.new ≡ string_bytes text.old ++ done_text drawing.now place event) }
 {
     match event {
-        Event::Use(r) => {
-            if has_lane(drawing, r) {
-                let x = x_of(drawing, place);
-                let y = y_of(drawing, r);
-                push_mark(text, "tick", "m0 -10v20", "used", x, y, place)
-            } else {
-                Ok(())
-            }
+        Event::Item(n, value) => push_emitted(text, drawing, n, place, value),
+        Event::Decline(f) => {
+            let struck = "m-7 0l7 -7l7 7l-7 7zm1 6l12 -12";
+            push_in_lane(text, drawing, f, place, "marble", struck, "declined")
         }
+        Event::Connect(g) => {
+            let square = "m-4 -4h8v8h-8z";
+            push_in_lane(text, drawing, g, place, "full", square, "connected")
+        }
+        Event::Use(r) => push_in_lane(text, drawing, r, place, "tick", "m0 -10v20", "used"),
         _ => Ok(()),
     }
 }
 
-/// The tick of a place, if it has one.
+/// What the event of a place did in a lane.
 #[tactic(auto, unfolding(crate::specs::Lane::tick_text))]
 pub fn push_tick(text: &mut String, drawing: &Drawing, point: Point) -> Result<(), AllocError>
     ensures { OnOk result (string_bytes text.new ≡ string_bytes text.old ++ tick_text drawing.now point) }
 {
-    push_use(text, drawing, point.place, point.event)
+    push_done(text, drawing, point.place, point.event)
 }
 
 /// A marble.

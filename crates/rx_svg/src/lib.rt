@@ -19,6 +19,8 @@
 
 mod labels;
 mod lanes;
+mod legend;
+mod margin;
 mod names;
 mod pictured;
 mod pieces;

@@ -114,8 +114,8 @@ pub fn push_leak(text: &mut String, x: u64, y: u64) -> Result<(), AllocError>
     ensures { OnOk result (string_bytes text.new ≡ string_bytes text.old ++ leak_text x y) }
 {
     put!(text;
-        "<path class=\"arrow leak\" d=\"M" [x] " " [y]
-        "m0 -9l15 9l-15 9z\"><title>not released</title></path>\n"
+        "<path class=\"arrow leak\" d=\"M" [x] " " [y] "m0 -9l15 9l-15 9z"
+        "\"><title>not released</title></path>\n"
     )?;
     put!(text;
         "<text class=\"leak\" x=\"" [x] "\" y=\"" [y] "\" dx=\"20\" dy=\"4\">not released</text>\n"
@@ -133,9 +133,9 @@ fn marble_shape(note: Note) -> &'static str
     }
 }
 
-/// A value above a marble.
+/// A value above a sign.
 #[tactic(auto, unfolding(crate::specs::Stroke::above_text, crate::specs::Parts::text_of))]
-fn push_above(text: &mut String, x: u64, y: u64, value: i64) -> Result<(), AllocError>
+pub fn push_above(text: &mut String, x: u64, y: u64, value: i64) -> Result<(), AllocError>
     ensures { OnOk result (string_bytes text.new ≡ string_bytes text.old ++ above_text x y value) }
 {
     put!(text; "<text class=\"value\" x=\"" [x] "\" y=\"" [y] "\" dy=\"-9\">" (value) "</text>\n")

@@ -5,11 +5,13 @@ ghost use Rattle.serde_json.specs.Data.{null};
 ghost use Rattle.serde_json.specs.View.{view};
 ghost use Rattle.rx_names.specs.Names.{name_of};
 ghost use Rattle.rx_svg.specs.Lane.{row_text, tick_text, told_text};
-ghost use Rattle.rx_svg.specs.Page.{lanes_shown, places_shown, head_text, point_text, below_text, listed_text, list_text, lawful_text};
+ghost use Rattle.rx_svg.specs.Page.{lanes_shown, places_shown, width_of, head_text, point_text, below_text, listed_text, list_text, lawful_text};
 ghost use Rattle.rx_svg.specs.Page.{verdict_text, leak_words, entry_text, leaking_text, leaks_text, leaks_class};
-ghost use Rattle.rx_svg.specs.Page.{break_text, verdict_line, leaks_line, shares_line, under_text, lanes_text, svg_text, IsPicture};
+ghost use Rattle.rx_svg.specs.Page.{break_text, verdict_line, leaks_line, shares_line, under_text, lanes_text, page_text, svg_text, IsPicture};
 
 use crate::lanes::{push_row, push_tick, push_told, value_at, x_of};
+use crate::legend::push_legend;
+use crate::margin::margin;
 use crate::names::push_named;
 use crate::pieces::put;
 use crate::strokes::{push_broken, push_column};
@@ -23,13 +25,14 @@ use std::alloc::{AllocError, Global};
 /// How the marks look, on a bright page and on a dark one.
 const STYLE: &str =
     "<style>text{font:12px monospace;fill:#222}.axis{font-size:8px;text-anchor:middle}\
-    .value{font-size:10px;text-anchor:middle}path{stroke:#222;stroke-width:2;fill:none}\
+    .value{font-size:10px;text-anchor:middle}.label{text-anchor:end;pointer-events:none}\
+    path{stroke:#222;stroke-width:2;fill:none}\
     .place{stroke:#ddd;stroke-width:1;pointer-events:all}.hub{stroke-dasharray:2 4}\
-    .held{fill:#222}.waiting{fill:#fff;stroke-dasharray:3 3}.ring,.marble{fill:#fff}\
+    .held,.full{fill:#222}.waiting{fill:#fff;stroke-dasharray:3 3}.marble{fill:#fff}\
     path.leak{stroke:#c22}text.leak,.held.leak,.arrow{fill:#c22}\
     .tick{stroke:#fff}.broken{stroke-width:5;stroke-dasharray:9 5}\
     @media(prefers-color-scheme:dark){svg{background:#111}text{fill:#eee}path{stroke:#eee}\
-    .place{stroke:#333}.held{fill:#eee}.waiting,.ring,.marble{fill:#111}.tick{stroke:#111}\
+    .place{stroke:#333}.held,.full{fill:#eee}.waiting,.marble{fill:#111}.tick{stroke:#111}\
     path.leak{stroke:#f66}text.leak,.held.leak,.arrow{fill:#f66}}</style>\n";
 
 /// How many lanes are shown, of so many events.
@@ -47,14 +50,21 @@ fn places_shown(drawing: &Drawing, end: u64) -> u64
     value_at(&drawing.columns, end).min(2000) as u64
 }
 
-/// The head of the document, which is so wide and so high.
+/// How wide the picture is that begins so far on the left.
+fn width_of(drawing: &Drawing, left: u64, end: u64) -> u64
+    ensures { result ≡ width_of drawing.now left end }
+{
+    (x_of(drawing, end) + 130).saturating_sub(left).max(560)
+}
+
+/// The head of the document, which begins so far on the left, and is so wide and so high.
 #[tactic(auto, unfolding(crate::specs::Page::head_text, crate::specs::Parts::text_of))]
-fn push_head(text: &mut String, width: u64, height: u64) -> Result<(), AllocError>
-    ensures { OnOk result (string_bytes text.new ≡ string_bytes text.old ++ head_text width height) }
+fn push_head(text: &mut String, left: u64, width: u64, height: u64) -> Result<(), AllocError>
+    ensures { OnOk result (string_bytes text.new ≡ string_bytes text.old ++ head_text left width height) }
 {
     put!(text;
         "<svg xmlns=\"http://www.w3.org/2000/svg\" width=\"" [width] "\" height=\"" [height]
-        "\" viewBox=\"0 0 " [width] " " [height] "\">\n" STYLE
+        "\" viewBox=\"" [left] " 0 " [width] " " [height] "\">\n" STYLE
     )
 }
 
@@ -126,10 +136,10 @@ fn push_marbles(text: &mut String, drawing: &Drawing, marbles: &[Mail]) -> Resul
 
 /// The front of a line of text of this class under the lanes.
 #[tactic(auto, unfolding(crate::specs::Page::below_text, crate::specs::Parts::text_of))]
-fn push_below(text: &mut String, class: &'static str, y: u64) -> Result<(), AllocError>
-    ensures { OnOk result (string_bytes text.new ≡ string_bytes text.old ++ below_text class.now y) }
+fn push_below(text: &mut String, class: &'static str, x: u64, y: u64) -> Result<(), AllocError>
+    ensures { OnOk result (string_bytes text.new ≡ string_bytes text.old ++ below_text class.now x y) }
 {
-    put!(text; "<text class=\"" class "\" x=\"10\" y=\"" [y] "\">")
+    put!(text; "<text class=\"" class "\" x=\"" [x] "\" y=\"" [y] "\">")
 }
 
 /// One number after a space.
@@ -271,11 +281,16 @@ fn push_break(
 
 /// The line of the verdict under the lanes, which are so high.
 #[tactic(auto, unfolding(crate::specs::Page::verdict_line))]
-fn push_verdict_line(text: &mut String, height: u64, verdict: &Verdict) -> Result<(), AllocError>
+fn push_verdict_line(
+    text: &mut String,
+    x: u64,
+    height: u64,
+    verdict: &Verdict,
+) -> Result<(), AllocError>
     requires { height ≤ 10000 }
-    ensures { OnOk result (string_bytes text.new ≡ string_bytes text.old ++ verdict_line height verdict.now) }
+    ensures { OnOk result (string_bytes text.new ≡ string_bytes text.old ++ verdict_line x height verdict.now) }
 {
-    push_below(text, "under", height + 48)?;
+    push_below(text, "under", x, height + 48)?;
     push_verdict(text, verdict)?;
     text.push_str("</text>\n")
 }
@@ -285,14 +300,15 @@ fn push_verdict_line(text: &mut String, height: u64, verdict: &Verdict) -> Resul
 fn push_leaks_line(
     text: &mut String,
     names: Names<'_>,
+    x: u64,
     height: u64,
     leaks: &[u64],
 ) -> Result<(), AllocError>
     requires { height ≤ 10000 }
     ensures { OnOk result (string_bytes text.new ≡ string_bytes text.old
-        ++ leaks_line (name_of (view names.entry.object.now)) height leaks.now) }
+        ++ leaks_line (name_of (view names.entry.object.now)) x height leaks.now) }
 {
-    push_below(text, leaks_class(leaks), height + 72)?;
+    push_below(text, leaks_class(leaks), x, height + 72)?;
     push_leaks(text, names, leaks)?;
     text.push_str("</text>\n")
 }
@@ -303,12 +319,13 @@ fn push_shares_line(
     text: &mut String,
     drawing: &Drawing,
     end: u64,
+    x: u64,
     height: u64,
 ) -> Result<(), AllocError>
     requires { height ≤ 10000 }
-    ensures { OnOk result (string_bytes text.new ≡ string_bytes text.old ++ shares_line drawing.now end height) }
+    ensures { OnOk result (string_bytes text.new ≡ string_bytes text.old ++ shares_line drawing.now end x height) }
 {
-    push_below(text, "under", height + 96)?;
+    push_below(text, "under", x, height + 96)?;
     let lanes = lanes_shown(drawing, end);
     let places = places_shown(drawing, end);
     put!(text;
@@ -317,23 +334,26 @@ fn push_shares_line(
     text.push_str("</text>\n")
 }
 
-/// What stands under the lanes, which are so high.
+/// What stands under the lanes, which are so high, from this place on.
 #[tactic(auto, unfolding(crate::specs::Page::under_text))]
 fn push_under(
     text: &mut String,
     names: Names<'_>,
     drawing: &Drawing,
     end: u64,
+    x: u64,
     height: u64,
     verdict: &Verdict,
 ) -> Result<(), AllocError>
-    requires { height ≤ 10000 }
+    requires near { x ≤ 45000 }
+    requires high { height ≤ 10000 }
     ensures { OnOk result (string_bytes text.new ≡ string_bytes text.old
-        ++ under_text drawing.now (name_of (view names.entry.object.now)) end height verdict.now) }
+        ++ under_text drawing.now (name_of (view names.entry.object.now)) end x height verdict.now) }
 {
-    push_verdict_line(text, height, verdict)?;
-    push_leaks_line(text, names, height, drawing.leaks.as_slice())?;
-    push_shares_line(text, drawing, end, height)
+    push_verdict_line(text, x, height, verdict)?;
+    push_leaks_line(text, names, x, height, drawing.leaks.as_slice())?;
+    push_shares_line(text, drawing, end, x, height)?;
+    push_legend(text, x + 10, height + 124)
 }
 
 /// What stands in the lanes, which are so high.
@@ -351,9 +371,30 @@ fn push_lanes(
 {
     push_points(text, drawing, height, drawing.points.as_slice())?;
     push_rows(text, names, drawing, end, drawing.rows.as_slice())?;
-    push_ticks(text, drawing, drawing.points.as_slice())?;
     push_marbles(text, drawing, drawing.marbles.as_slice())?;
+    push_ticks(text, drawing, drawing.points.as_slice())?;
     push_break(text, drawing, height, verdict)
+}
+
+/// The document that begins so far on the left.
+#[tactic(auto, unfolding(crate::specs::Page::page_text))]
+fn push_page(
+    text: &mut String,
+    names: Names<'_>,
+    drawing: &Drawing,
+    end: u64,
+    verdict: &Verdict,
+    left: u64,
+) -> Result<(), AllocError>
+    requires { left ≤ 44050 }
+    ensures { OnOk result (string_bytes text.new ≡ string_bytes text.old
+        ++ page_text drawing.now (name_of (view names.entry.object.now)) end verdict.now left) }
+{
+    let height = 32 + 28 * lanes_shown(drawing, end);
+    push_head(text, left, width_of(drawing, left, end), height + 240)?;
+    push_lanes(text, names, drawing, end, height, verdict)?;
+    push_under(text, names, drawing, end, left + 10, height, verdict)?;
+    text.push_str("</svg>\n")
 }
 
 /// The document of the drawing of so many events, with the verdict on them.
@@ -368,12 +409,8 @@ fn push_svg(
     ensures { OnOk result (string_bytes text.new ≡ string_bytes text.old
         ++ svg_text drawing.now (name_of (view names.entry.object.now)) end verdict.now) }
 {
-    let width = x_of(drawing, end) + 130;
-    let height = 32 + 24 * lanes_shown(drawing, end);
-    push_head(text, width, height + 108)?;
-    push_lanes(text, names, drawing, end, height, verdict)?;
-    push_under(text, names, drawing, end, height, verdict)?;
-    text.push_str("</svg>\n")
+    let left = margin(names, drawing, drawing.rows.as_slice())?;
+    push_page(text, names, drawing, end, verdict, left)
 }
 
 /// The picture of the events, which need not be lawful, with the verdict of the audit, as a well-formed

@@ -1,0 +1,18 @@
+use Rattle.rx_svg.specs.Page.{resources_legend}
+use Rattle.rx_svg.proofs.Legends.{one_more}
+use Rattle.rx_svg.proofs.legend.push_resources.Goals as goal
+
+pub returns : goal.returns
+unfolding resources_legend
+returns c =
+    one_more _ _ _ _ _
+    (one_more _ _ _ _ _
+    (one_more _ _ _ _ _
+    (one_more _ _ _ _ _
+    (one_more _ _ _ _ _
+    (one_more _ _ _ _ _ c.in_ok-push_key.ensures c.in_ok-push_key-2.ensures)
+    c.in_ok-push_sign.ensures)
+    c.in_ok-push_key-3.ensures)
+    c.in_ok-push_key-4.ensures)
+    c.in_ok-push_key-5.ensures)
+    c.in_ok-push_key-6.ensures
