@@ -2,8 +2,8 @@
 use Rattle.rx_svg.proofs.Common.{◌≡◌, ℕ, true, List, [], ◌∷◌, ◌++◌, map, ℤ, codes, refl, subst, append_assoc, ◌==◌, list_all, and_from, and_parts}
 use Rattle.rx_svg.proofs.Common.{Note, Event, Part, words, number, signed, text_of, event_text, note_text, Look, line_text}
 use Rattle.rx_svg.proofs.Common.{bar_text, mark_text, code_text, leak_text, is_plain, are_distinct, IsContent, nothing}
-use Rattle.rx_svg.specs.Stroke.{Stretch, until_text, stretch_end, line_front, bar_front, arrow_shape, arrow_text, unreleased_text, marble_shape, above_text, value_text}
-use Rattle.rx_svg.specs.Stroke.{marble_front, by_text, marble_text, column_front, axis_text, column_text, broken_text}
+use Rattle.rx_svg.specs.Stroke.{Stretch, until_text, stretch_end, line_front, bar_front, arrow_shape, arrow_text, unreleased_text, marble_shape}
+use Rattle.rx_svg.specs.Stroke.{above_text, value_text, marble_front, by_text, marble_text, column_front, axis_text, column_text, broken_text}
 use Rattle.rx_svg.proofs.Characters.{both_are_plain, event_is_plain, note_is_plain}
 use Rattle.rx_svg.proofs.Contents.{content_append}
 use Rattle.rx_svg.proofs.Markup.{Valued, text_from, text_from-append, are_plain, attribute_of, is_valued, element_parts, tag_of, element_then, words_then}

@@ -45,7 +45,8 @@ style_text =
 unfoldable pub head_text : ℕ → ℕ → ℕ → List ℕ
 head_text left width height =
     text_of (words (codes "<svg xmlns=\"http://www.w3.org/2000/svg\" width=\"") ∷ number width ∷ words (codes "\" height=\"") ∷ number height
-    ∷ words (codes "\" viewBox=\"") ∷ number left ∷ words (codes " 0 ") ∷ number width ∷ words (codes " ") ∷ number height ∷ words (codes "\">\n") ∷ words style_text ∷ [])
+    ∷ words (codes "\" viewBox=\"") ∷ number left ∷ words (codes " 0 ") ∷ number width ∷ words (codes " ") ∷ number height
+    ∷ words (codes "\">\n") ∷ words style_text ∷ [])
 
 unfoldable pub point_text : Drawing → ℕ → Point → List ℕ
 point_text d height point = column_text (x_of d point.place) height point.place point.event
