@@ -1,10 +1,10 @@
 //! The program `rxbook` over memory: statuses and lines, storms, help, streams that fail, and refused memory.
 
 use super::same::same;
+use super::scarce::scarce_after;
 use super::streams::{Narrow, Source};
 use rx_cli::serve;
 use rx_device::Watched;
-use rx_scarce::Scarce;
 use rx_script::stock;
 use std::alloc::{AllocError, Global};
 use std::io::{Read, Write};
@@ -481,6 +481,20 @@ fn is_done<T: Threads + Wait + Sync + Abort>(
     Ok(false)
 }
 
+// Does so where there is enough memory.
+fn call_once<T: Threads + Wait + Sync + Abort>(
+    rt: &T,
+    alloc: Global,
+    words: &[&str],
+    text: &str,
+) -> Result<(), Fail> {
+    let mut output: Vec<u8> = Vec::new(alloc);
+    let mut errors: Vec<u8> = Vec::new(alloc);
+    let is_done = is_done(rt, alloc, words, text, &mut output, &mut errors)?;
+    assert!(rt; is_done);
+    Ok(())
+}
+
 // Does so with more and more memory. How often it was refused.
 fn refusals_of<T: Threads + Wait + Sync + Abort>(
     rt: &T,
@@ -489,10 +503,10 @@ fn refusals_of<T: Threads + Wait + Sync + Abort>(
     text: &str,
     output: &mut Vec<u8>,
     errors: &mut Vec<u8>,
-) -> Result<Option<u32>, AllocError> {
+) -> Result<Option<u32>, Fail> {
     // The memory of the stock, and no more, is free.
     let spare = stock(alloc)?;
-    let mut scarce = Scarce::new(alloc)?;
+    let mut scarce = scarce_after(alloc, call_once(rt, alloc, words, text))?;
     drop(spare);
     for refused in 0..100_000 {
         if is_done(rt, alloc, words, text, output, errors)? {

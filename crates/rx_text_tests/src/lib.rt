@@ -12,6 +12,8 @@ mod live;
 #[cfg(test)]
 mod same;
 #[cfg(test)]
+mod scarce;
+#[cfg(test)]
 mod script;
 #[cfg(test)]
 mod streams;

@@ -1,5 +1,6 @@
 //! Memory that is refused, and comes back.
 
+use crate::scarce::scarce_after;
 use rx_live::Live;
 use rx_scarce::{MOST_BLOCKS, Scarce};
 use std::alloc::{AllocError, Global};
@@ -36,9 +37,19 @@ fn keep(told: &mut String, answer: &str) -> Result<(), AllocError> {
     Ok(())
 }
 
+// Sends each line, and ends, where there is enough memory.
+fn send_all(alloc: Global) -> Result<(), Fail> {
+    let mut live = Live::new(alloc, 1_000)?;
+    for line in &LINES {
+        live.send(line.as_bytes())?;
+    }
+    live.end()?;
+    Ok(())
+}
+
 // Sends a line again and again, each time with one more block of memory, until it is taken.
-fn take_at_last(alloc: Global, live: &mut Live, line: &str) -> Result<(), AllocError> {
-    let mut scarce = Scarce::new(alloc)?;
+fn take_at_last(alloc: Global, live: &mut Live, line: &str) -> Result<(), Fail> {
+    let mut scarce = scarce_after(alloc, send_all(alloc))?;
     for _turn in 0..MOST_BLOCKS {
         if live.send(line.as_bytes()).is_ok() {
             return Ok(());
@@ -47,11 +58,11 @@ fn take_at_last(alloc: Global, live: &mut Live, line: &str) -> Result<(), AllocE
             break;
         }
     }
-    Err(AllocError)
+    Err(Fail::from("a line is not taken"))
 }
 
 // All that is told of the lines, where memory is scarce at the line of this number.
-fn told_of(alloc: Global, scarce_at: usize) -> Result<String, AllocError> {
+fn told_of(alloc: Global, scarce_at: usize) -> Result<String, Fail> {
     let mut told = String::with_capacity(alloc, 10_000)?;
     let mut live = Live::new(alloc, 1_000)?;
     for (number, line) in LINES.iter().enumerate() {
@@ -71,7 +82,7 @@ fn told_of(alloc: Global, scarce_at: usize) -> Result<String, AllocError> {
 const TAKING: usize = 9;
 
 // The number of the first of these at which something else is told where memory is scarce.
-fn first_other(alloc: Global) -> Result<Option<usize>, AllocError> {
+fn first_other(alloc: Global) -> Result<Option<usize>, Fail> {
     let ample = told_of(alloc, LINES.len())?;
     for number in 0..TAKING {
         let scarce = told_of(alloc, number)?;
@@ -83,8 +94,11 @@ fn first_other(alloc: Global) -> Result<Option<usize>, AllocError> {
 }
 
 #[test]
-fn the_same_is_told_where_memory_is_refused_at_a_line_that_takes_some(rt: HostRuntime) {
-    assert_eq!(rt; first_other(rt.alloc()), Ok(None));
+fn the_same_is_told_where_memory_is_refused_at_a_line_that_takes_some(
+    rt: HostRuntime,
+) -> Result<(), Fail> {
+    assert_eq!(rt; first_other(rt.alloc())?, None);
+    Ok(())
 }
 
 // A root with a resource and a source, and an item, which is emitted so often.
@@ -117,12 +131,20 @@ fn with_items(alloc: Global) -> Result<Live, AllocError> {
     Ok(live)
 }
 
+// Sends the array to such a book where there is enough memory.
+fn send_with_much(alloc: Global) -> Result<(), Fail> {
+    let mut live = with_items(alloc)?;
+    live.send(ARRAY.as_bytes())?;
+    Ok(())
+}
+
 // Sends the array where one such block is left.
-fn send_with_little(alloc: Global, live: &mut Live) -> Result<(), AllocError> {
+fn send_with_little(alloc: Global, live: &mut Live) -> Result<(), Fail> {
     let block: Vec<u8> = Vec::with_capacity(alloc, LEFT)?;
-    let _scarce = Scarce::new(alloc)?;
+    let _scarce = scarce_after(alloc, send_with_much(alloc))?;
     drop(block);
-    live.send(ARRAY.as_bytes())
+    live.send(ARRAY.as_bytes())?;
+    Ok(())
 }
 
 #[test]
@@ -176,6 +198,26 @@ const CLOSING: [(&str, &str); 9] = [
     (r#"{"do":"dispose","node":"a"}"#, r#"{"refused":"NoName"}"#),
 ];
 
+// A live book that has all that.
+fn opened(alloc: Global) -> Result<Live, AllocError> {
+    let mut live = Live::new(alloc, 1_000)?;
+    for line in &OPENED {
+        live.send(line.as_bytes())?;
+    }
+    Ok(live)
+}
+
+// Sends these lines to such a book, and ends, where there is enough memory.
+fn close_with_much(alloc: Global) -> Result<(), Fail> {
+    let mut live = opened(alloc)?;
+    for (line, _) in &CLOSING {
+        live.send(line.as_bytes())?;
+    }
+    live.shut();
+    let _last = live.next_release();
+    Ok(())
+}
+
 // Whether a line is taken, and answered so.
 fn is_taken(live: &mut Live, (line, answer): (&'static str, &'static str)) -> bool {
     live.send(line.as_bytes()).is_ok() && live.answer() == answer
@@ -207,11 +249,8 @@ fn close_starved(live: &mut Live, scarce: &Scarce) -> (Option<usize>, bool) {
 #[test]
 fn closing_lines_and_the_end_take_no_memory(rt: HostRuntime) -> Result<(), Fail> {
     let alloc = rt.alloc();
-    let mut live = Live::new(alloc, 1_000)?;
-    for line in &OPENED {
-        live.send(line.as_bytes())?;
-    }
-    let scarce = Scarce::new(alloc)?;
+    let mut live = opened(alloc)?;
+    let scarce = scarce_after(alloc, close_with_much(alloc))?;
     let (other, is_released) = close_starved(&mut live, &scarce);
     drop(scarce);
     assert_eq!(rt; (other, is_released), (None, true));

@@ -3,8 +3,8 @@
 
 use super::sights::{are_released_once, heard_count, run_over, stock_by, trackers};
 use crate::same::same;
+use crate::scarce::scarce_after;
 use rx_resource::{Tracked, Tracker};
-use rx_scarce::Scarce;
 use rx_script::{Form, ScriptError};
 use std::alloc::{AllocError, Global};
 use std::process::Abort;
@@ -144,6 +144,15 @@ fn refused_after(
     }
 }
 
+// A run where there is enough memory.
+fn run_once(alloc: Global, form: Form) -> Result<(), Fail> {
+    let mut output: Vec<u8> = Vec::new(alloc);
+    match refused_after(alloc, new_course(alloc)?, form, &mut output)? {
+        Some(_) => Err(Fail::from("it is refused where there is enough")),
+        None => Ok(()),
+    }
+}
+
 // Runs, each with a step of memory more, until one is done: whether one was refused before a resource heard its
 // word, and one when all had.
 fn run_in_the_end(
@@ -153,7 +162,7 @@ fn run_in_the_end(
     output: &mut Vec<u8>,
 ) -> Result<(bool, bool), Fail> {
     let room = rest_of_room(alloc, 0)?;
-    let _scarce = Scarce::new(alloc)?;
+    let _scarce = scarce_after(alloc, run_once(alloc, form))?;
     drop(room);
     let mut early = false;
     let mut late = false;
