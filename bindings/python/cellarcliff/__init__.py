@@ -7,3 +7,8 @@
 
 All of it stands on the standard library and, but for a book over a pipe, on the shared libraries librx and libcellarcliff.
 """
+import sys
+
+# No other file of the package is read by an older Python, so this one has to be readable by any.
+if sys.version_info < (3, 8):
+    raise ImportError("cellarcliff needs Python 3.8 or later, and this is Python %d.%d" % tuple(sys.version_info[:2]))

@@ -14,9 +14,14 @@ import ctypes
 import json
 from dataclasses import dataclass
 from functools import lru_cache
-from typing import Any, Dict, List, Optional, Sequence, Tuple, Union
+from typing import TYPE_CHECKING, Any, Dict, List, Optional, Sequence, Tuple, Union
 
 from . import _library
+from ._nearest import lacking
+
+if not TYPE_CHECKING:
+    def __getattr__(name: str) -> Any:
+        raise lacking(__name__, name)
 
 #: A list of events, or the text of one; a scenario, or the text of one.
 History = Union[Sequence[Sequence[Any]], str, bytes]
@@ -29,7 +34,7 @@ _NO_HISTORY = ("rx_audit", "cellar_picture")
 
 
 class FaultyInput(ValueError):
-    """The input is not a history, or not a scenario (status 3); `explain` says what is wrong."""
+    """The input is not a history, or not a scenario (status 3); the text says what is wrong, as `explain` does."""
 
 
 class OutOfMemory(MemoryError):
@@ -79,12 +84,30 @@ def _answer(name: str, value: Any) -> bytes:
         buffer, told = ctypes.create_string_buffer(capacity), ctypes.c_size_t(0)
         status = _call(name)(value, len(value), buffer, capacity, ctypes.byref(told))
         if status == FAULTY_INPUT:
-            raise FaultyInput("no history" if name in _NO_HISTORY else "no scenario")
+            raise FaultyInput(_fault(name, value))
         if status == OUT_OF_MEMORY:
             raise OutOfMemory()
         if status != TOO_SMALL:
             return buffer.raw[: told.value]
         capacity = told.value
+
+
+def _fault(name: str, text: bytes) -> str:
+    """What is wrong with an input that this call finds faulty."""
+    what, first = "no history" if name in _NO_HISTORY else "no scenario", text.lstrip()[:1]
+    try:
+        told = _answer("cellar_explain", text).decode()
+    except (OSError, MemoryError):  # an older library explains nothing
+        return what
+    if told.startswith(("line ", "the input is longer than ")):
+        return f"{what}: {told}"
+    if first == b"[" and name not in _NO_HISTORY:
+        return f"{what}: it is a history, which audit takes"
+    if first == b"{" and name == "rx_audit":
+        return f"{what}: it is a scenario, which run and run_names take"
+    if not told and name in ("rx_run_dump", "cellar_run_names"):
+        return f"{what}: one that has a checkpoint has no history; run takes it"
+    return f"{what}: {told}" if told else what
 
 
 def audit(history: History) -> Verdict:

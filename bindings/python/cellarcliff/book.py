@@ -22,9 +22,14 @@ import os
 import sys
 from collections import deque
 from ctypes import addressof, c_int64, c_size_t, c_uint8, c_uint32, c_uint64, c_void_p
-from typing import Any, Deque, Dict, NamedTuple, Optional, Tuple
+from typing import TYPE_CHECKING, Any, Deque, Dict, NamedTuple, Optional, Tuple
 
 from . import _library
+from ._nearest import lacking
+
+if not TYPE_CHECKING:
+    def __getattr__(name: str) -> Any:
+        raise lacking(__name__, name)
 
 _calls: Any = None  # the extension, which a wheel has; without it every call is made by ctypes
 if sys.version_info >= (3, 10) and not os.environ.get("CELLARCLIFF_CTYPES"):
@@ -45,7 +50,7 @@ NEXT, PROJECT, ON_COMPLETED, ON_ERROR = range(4)
 REFUSALS: Dict[int, str] = dict(enumerate(
     "Full Gone WrongKind PlaceTaken NothingOwed NotRoot NoHub HubOrder Connected NotConnected NotFresh NotHeld HasChild TooMany "
     "NoLease Leased MailLeft".split(), 16))
-REFUSALS.update({6: "Untaken", 8: "Cut"})
+REFUSALS.update({2: "NothingWaits", 3: "Held", 5: "NoSuchCode", 6: "Untaken", 7: "Small", 8: "Cut", 9: "Misuse"})
 
 
 class Refused(Exception):

@@ -18,9 +18,14 @@ import threading
 import traceback
 from collections import deque
 from subprocess import PIPE, Popen
-from typing import Any, Callable, Deque, Dict, List, Optional, Sequence, Tuple
+from typing import TYPE_CHECKING, Any, Callable, Deque, Dict, List, Optional, Sequence, Tuple
 
 from . import _library
+from ._nearest import lacking, near
+
+if not TYPE_CHECKING:
+    def __getattr__(name: str) -> Any:
+        raise lacking(__name__, name)
 
 __all__ = ["Book", "Refused"]
 
@@ -30,6 +35,23 @@ Release = Callable[[], Any]
 DONE, TOO_SMALL, OUT_OF_MEMORY = 0, 1, 4
 NO_MEMORY = b'{"refused":"NoMemory"}'  # as the program says it: the line was not taken, and may be sent again
 GONE = b'{"faulty":"the book is gone"}'
+
+
+#: The words of a line.
+_MEMBERS = ("do", "name", "place", "of", "kind", "hub", "connection", "node", "res", "word", "lease", "value", "error", "mode")
+_VALUES = {"do": ("using", "open", "hold", "apply", "remove", "lease", "return", "next", "end", "abort", "decline", "fail", "dispose", "hub",
+                  "connect", "disconnect", "drain", "checkpoint", "is", "list", "dump"),
+           "place": ("root", "source", "inner", "notifier"), "kind": ("leaf", "pass", "flat", "switch", "until", "sub"), "mode": ("auto", "manual")}
+
+
+def _hint(words: Dict[str, Any]) -> str:
+    """The word that is nearest to the first one of a faulty line that is none."""
+    for member, value in words.items():
+        if member not in _MEMBERS:
+            return near(member, _MEMBERS)
+        if isinstance(value, str) and value not in _VALUES.get(member, (value,)):
+            return near(value, _VALUES[member])
+    return ""
 
 
 def _hands_in(words: Dict[str, Any]) -> bool:
@@ -209,7 +231,7 @@ class Book:
         answer: Dict[str, Any] = asked.answer
         assert answer is not None
         if "ok" not in answer:
-            raise Refused(answer.get("refused") or answer.get("faulty"))
+            raise Refused(answer.get("refused") or f"{answer.get('faulty')}{_hint(asked.words)}")
         return answer
 
     def _carry_out(self, asked: _Asked) -> None:

@@ -16,6 +16,7 @@ import itertools
 from typing import TYPE_CHECKING, Any, Callable, Iterable, Optional, Tuple, Type, TypeVar, Union, overload
 
 from . import _alone  # first: it refuses before ctypes is imported
+from .._nearest import keyed, lacking
 from ._engine import _hook, _print, current, use
 from ._observable import Observable, Observer, pipe, to_observable
 from ._typing import Due, Scheduler, Span
@@ -53,7 +54,7 @@ if not TYPE_CHECKING:
         if name in _ELSEWHERE:
             raise Missing(f"cellarcliff.rx has no {name}(): an observable of RxPY may stand wherever one of this package may, so make it with "
                           f"RxPY's rx.{name}(..), or write it with create()")
-        raise AttributeError(f"module {__name__!r} has no attribute {name!r}")
+        raise lacking(__name__, name)
 
 
 def set_error_hook(hook: Optional[Callable[[BaseException], Any]]) -> None:
@@ -272,3 +273,6 @@ def timer(duetime: Due, period: Optional[Span] = None, scheduler: Optional[Sched
 def interval(period: Span, scheduler: Optional[Scheduler] = None) -> Observable[int]:
     """0, 1, 2 and so on, one each period, in seconds or as timedelta."""
     return Timer(period, period, scheduler)
+
+
+keyed(__name__)

@@ -3,6 +3,7 @@ from __future__ import annotations
 
 from typing import TYPE_CHECKING, Any
 
+from ..._nearest import lacking
 from .._observable import Observable, Observer, pipe
 from ..operators.windows import GroupedObservable
 from ..sharing import ConnectableObservable
@@ -16,4 +17,4 @@ if not TYPE_CHECKING:
     def __getattr__(name: str) -> Any:
         if name == "abc":
             raise Missing("cellarcliff.rx.core has no abc: what a type hint needs is in core.typing, the rest in RxPY's rx.core")
-        raise AttributeError(f"module {__name__!r} has no attribute {name!r}")
+        raise lacking(__name__, name)

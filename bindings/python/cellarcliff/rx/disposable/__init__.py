@@ -2,7 +2,13 @@
 from __future__ import annotations
 
 from threading import RLock
-from typing import Any, Callable, List, Optional
+from typing import TYPE_CHECKING, Any, Callable, List, Optional
+
+from ..._nearest import lacking
+
+if not TYPE_CHECKING:
+    def __getattr__(name: str) -> Any:
+        raise lacking(__name__, name)
 
 
 class Disposable:

@@ -11,6 +11,7 @@ from __future__ import annotations
 
 from typing import TYPE_CHECKING, Any
 
+from ..._nearest import keyed, lacking
 from .._observable import Observable, pipe
 from ..sharing import ConnectableObservable
 from .faults import catch, do_while, repeat, retry, while_do
@@ -59,4 +60,7 @@ if not TYPE_CHECKING:
         if name in _ELSEWHERE:
             raise Missing(f"cellarcliff.rx.operators has no {name}(): RxPY's own takes an observable of this package as its source, so pipe "
                           f"it into rx.operators.{name}(..)")
-        raise AttributeError(f"module {__name__!r} has no attribute {name!r}")
+        raise lacking(__name__, name)
+
+
+keyed(__name__)

@@ -13,6 +13,7 @@ from concurrent.futures import ThreadPoolExecutor
 from datetime import datetime, timedelta, timezone
 from typing import TYPE_CHECKING, Any, Callable, List, Optional, Tuple, Union
 
+from ..._nearest import lacking, names, near
 from .._crossing import C
 from ..disposable import Disposable, MultipleAssignmentDisposable, SerialDisposable, SingleAssignmentDisposable
 from ..internal import DisposedException, Missing, WouldBlockException
@@ -25,9 +26,10 @@ if not TYPE_CHECKING:
         if name == "eventloop":
             import importlib
             return importlib.import_module(f"{__name__}.eventloop")
-        if name.endswith("Scheduler") or name in ("mainloop", "ScheduledItem"):
+        stems = [it[:-9] for it in names(__name__) if it.endswith("Scheduler")]
+        if name.endswith("Scheduler") and not near(name[:-9], stems) or name in ("mainloop", "ScheduledItem"):
             raise Missing(f"cellarcliff.rx.scheduler has no {name}: give one of RxPY's own, which serves here too")
-        raise AttributeError(f"module {__name__!r} has no attribute {name!r}")
+        raise lacking(__name__, name)
 
 
 RelativeTime = Union[float, timedelta]

@@ -5,6 +5,7 @@ import asyncio
 from datetime import datetime
 from typing import TYPE_CHECKING, Any, Callable, List, Optional
 
+from ..._nearest import lacking
 from ..disposable import CompositeDisposable, Disposable, SingleAssignmentDisposable
 from ..internal import Missing
 from . import Action, RelativeTime, Scheduler
@@ -13,7 +14,7 @@ if not TYPE_CHECKING:
     def __getattr__(name: str) -> Any:
         if name.endswith("Scheduler"):
             raise Missing(f"cellarcliff.rx.scheduler.eventloop has no {name}: give RxPY's own, which serves here too")
-        raise AttributeError(f"module {__name__!r} has no attribute {name!r}")
+        raise lacking(__name__, name)
 
 
 class AsyncIOScheduler(Scheduler):

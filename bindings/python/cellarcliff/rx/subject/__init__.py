@@ -4,6 +4,7 @@ from __future__ import annotations
 import math
 from typing import TYPE_CHECKING, Any, Dict, List, Optional, TypeVar
 
+from ..._nearest import lacking
 from .._cellar import LEAF
 from .._engine import At, C, Leaf
 from .._functions import chained
@@ -12,6 +13,11 @@ from .._observer import Observer
 from ..internal import DisposedException
 
 __all__ = ["AsyncSubject", "BehaviorSubject", "ReplaySubject", "Subject"]
+
+
+if not TYPE_CHECKING:
+    def __getattr__(name: str) -> Any:
+        raise lacking(__name__, name)
 
 
 S = TypeVar("S")

@@ -13,6 +13,7 @@ import sys
 from datetime import datetime
 from typing import TYPE_CHECKING, Any, Callable, List, Optional, Tuple
 
+from ..._nearest import lacking
 from .._observable import Observable, create
 from .._notification import OnCompleted, OnError, OnNext
 from ..disposable import CompositeDisposable, Disposable, SingleAssignmentDisposable
@@ -24,7 +25,7 @@ if not TYPE_CHECKING:
     def __getattr__(name: str) -> Any:
         if name in ("MockDisposable", "OnErrorPredicate", "OnNextPredicate", "is_prime"):
             raise Missing(f"cellarcliff.rx.testing has no {name}: RxPY's own rx.testing drives this package as well")
-        raise AttributeError(f"module {__name__!r} has no attribute {name!r}")
+        raise lacking(__name__, name)
 
 
 class Recorded:
