@@ -44,8 +44,7 @@ class Words(unittest.TestCase):
             self.assertRaises(NotImplementedError, getattr, it, name)
 
     def test_a_keyword(self):
-        for call, wrong, right in ((ops.debounce, "duetme", "duetime"), (ops.buffer_with_count, "cuont", "count"), (rx.timer, "perod", "period"),
-                                   (ops.retry, "retrycount", "retry_count")):
+        for call, wrong, right in ((ops.debounce, "duetme", "duetime"), (ops.buffer_with_count, "cuont", "count"), (ops.retry, "retrycount", "retry_count")):
             with self.assertRaises(TypeError) as raised:
                 call(1, **{wrong: 1})
             self.assertIn(f"'{wrong}'", str(raised.exception))

@@ -16,7 +16,7 @@ import itertools
 from typing import TYPE_CHECKING, Any, Callable, Iterable, Optional, Tuple, Type, TypeVar, Union, overload
 
 from . import _alone  # first: it refuses before ctypes is imported
-from .._nearest import keyed, lacking
+from .._nearest import lacking
 from ._engine import _hook, _print, current, use
 from ._observable import Observable, Observer, pipe, to_observable
 from ._typing import Due, Scheduler, Span
@@ -273,6 +273,3 @@ def timer(duetime: Due, period: Optional[Span] = None, scheduler: Optional[Sched
 def interval(period: Span, scheduler: Optional[Scheduler] = None) -> Observable[int]:
     """0, 1, 2 and so on, one each period, in seconds or as timedelta."""
     return Timer(period, period, scheduler)
-
-
-keyed(__name__)
