@@ -133,6 +133,43 @@ class Watching(unittest.TestCase):
             self.assertEqual((said.returncode, said.stdout), (1, ""), said.stderr)
             self.assertIn("cellarcliff.watch: ", said.stderr)
 
+    def test_a_pool_that_nobody_shuts_down_ends_with_the_program(self):
+        said = of_text("""
+            import time, rx
+            from rx import operators as ops
+            from rx.scheduler import ThreadPoolScheduler
+            rx.of(1).pipe(ops.observe_on(ThreadPoolScheduler(1))).subscribe(print)
+            time.sleep(0.3)
+            """, "--fail")
+        self.assertEqual((said.returncode, said.stdout), (0, "1\n"), said.stderr)
+
+    def test_what_the_program_lets_go_as_it_ends_is_no_leak(self):
+        said = of_text("""
+            import atexit, rx
+            held = rx.never().subscribe()
+            atexit.register(held.dispose)
+            left = rx.never().subscribe()
+            """)
+        self.assertEqual(len(self.rows(said)), 1, said.stderr)
+        self.assertIn("program.py:5", said.stderr)
+
+    def test_a_program_that_raises(self):
+        said = of_text("import rx\nheld = rx.never().subscribe()\ndef fail(): raise KeyError('it')\nfail()")
+        self.assertEqual((said.returncode, len(self.rows(said))), (1, 1), said.stderr)
+        self.assertEqual(re.findall(r'File "(.*?)"', said.stderr)[0].rpartition("/")[2], "program.py")
+        self.assertNotIn("__main__", said.stderr)
+
+    def test_what_only_a_cycle_holds_is_no_leak(self):
+        said = of_text("""
+            import rx
+            from rx.subject import Subject
+            def run():
+                feed, told = Subject(), []
+                told.append(feed.subscribe(told.append))
+            run()
+            """, "--fail")
+        self.assertEqual(said.returncode, 0, said.stderr)
+
     def test_a_checkpoint_is_said(self):
         text = "import rx\nfrom rx.subject import Subject\nsource = Subject()\nsource.subscribe()\nfor it in range(70000): source.on_next(it)"
         self.assertIn("made a checkpoint", of_text(text).stderr)
@@ -144,24 +181,6 @@ class Watching(unittest.TestCase):
             said = watched("--picture", file, LEAKS / "dashboard.py")
             self.assertTrue(file.exists(), said.stderr)
             self.assertIn("Disposable dashboard.py:16", file.read_text())
-
-    def test_the_plugin_for_pytest(self):
-        try:
-            import pytest  # noqa: F401
-        except ImportError:
-            self.skipTest("pytest is not installed")
-        with tempfile.TemporaryDirectory() as folder:
-            (pathlib.Path(folder) / "test_it.py").write_text(textwrap.dedent("""
-                import rx
-                from rx.subject import Subject
-                kept = Subject()
-                def test_leaves_one(): kept.subscribe()
-                def test_leaves_none(): kept.subscribe().dispose()
-                """))
-            said = subprocess.run([sys.executable, "-B", "-m", "pytest", "-q", "-p", "no:cacheprovider", "-p", "cellarcliff.watch.pytest_plugin",
-                                   "--rx-leaks", folder], capture_output=True, text=True)
-        self.assertIn("2 passed, 1 error", said.stdout)
-        self.assertIn("test_it.py:5 in test_leaves_one", said.stdout)
 
 
 if __name__ == "__main__":

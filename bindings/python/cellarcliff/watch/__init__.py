@@ -61,4 +61,4 @@ def at_end(call: Any) -> None:
     atexit.register(call)
 
 
-__all__ = ["begin", "on_signal", "report", "reports"]
+__all__ = ["at_end", "begin", "on_signal", "report", "reports"]

@@ -12,6 +12,7 @@ What this package lacks is RxPY's own, where that is installed. A process that i
 """
 from __future__ import annotations
 
+import atexit
 import builtins
 import os
 import pathlib
@@ -19,9 +20,9 @@ import runpy
 import sys
 import threading
 import types
-from typing import Any, List, Optional, Tuple
+from typing import Any, List, Optional
 
-from . import begin, on_signal, report, reports
+from . import at_end, begin, on_signal, report, reports
 
 
 _kept: List[Any] = []
@@ -84,25 +85,38 @@ def run(words: Words) -> None:
     exec(compile(source, words.program, "exec"), main.__dict__)
 
 
+def end() -> None:
+    """Ends the program as the interpreter does: waits for its threads, so that pools end too, then calls what was registered for its exit."""
+    threading._shutdown()  # type: ignore[attr-defined]
+    atexit._run_exitfuncs()
+
+
 def main() -> None:
     words = Words(sys.argv[1:])
     begin(words.whole)
     on_signal()
-    status: Tuple[Any, ...] = (0,)
-    try:
-        run(words)
-    except SystemExit as end:
-        status = (end.code,)
-    finally:
-        # (threads of the program that are no daemons go on; what they leave is told once they have ended)
-        for it in threading.enumerate():
-            if it is not threading.current_thread() and not it.daemon:
-                it.join()
+    status: Any = 0
+    left: List[Any] = []
+
+    def tell() -> None:
         report(sys.stderr)
+        left.extend(reports().engine.open_now())
         if words.picture:
             draw(words.picture)
-    left = bool(reports().engine.open_now())
-    sys.exit(3 if words.fails and left and status[0] in (0, None) else status[0])
+    at_end(tell)  # behind what the program registers itself, which may let go of something
+    try:
+        run(words)
+    except SystemExit as ended:
+        status = ended.code
+    except Exception as error:
+        trace = error.__traceback__
+        for _ in range(2):  # without the rows of this module
+            trace = trace.tb_next if trace is not None else None
+        sys.excepthook(type(error), error.with_traceback(trace), trace)
+        status = 1
+    finally:
+        end()
+    sys.exit(3 if words.fails and left and status in (0, None) else status)
 
 
 if __name__ == "__main__":

@@ -1,6 +1,7 @@
 """What a report says: what is open, by the lines where it was made, and how that grew."""
 from __future__ import annotations
 
+import gc
 import json
 import os
 import threading
@@ -53,6 +54,25 @@ def told(row: Row) -> str:
     return words
 
 
+def grouped(found: List[Made]) -> Dict[Group, List[Made]]:
+    groups: Dict[Group, List[Made]] = {}
+    for made in found:
+        groups.setdefault(group_of(made), []).append(made)
+    return groups
+
+
+def row_of(group: Group, its: List[Made], counts: Tuple[int, ...], now: float) -> Row:
+    latest = its[-1].place
+    return Row(group, counts, now - its[0].since, None if latest == group[3] else latest)
+
+
+def lines(found: List[Made]) -> List[str]:
+    """What this is, the most of a kind first."""
+    now = time.monotonic()
+    rows = [row_of(group, its, (len(its),), now) for group, its in grouped(found).items()]
+    return [told(it) for it in sorted(rows, key=lambda it: (-it.counts[-1], -it.oldest))]
+
+
 class Reports:
     """The reports on an engine."""
 
@@ -63,18 +83,15 @@ class Reports:
 
     def rows(self) -> List[Row]:
         """What is open now: first what only grows, then what there is most of."""
-        now, found = time.monotonic(), {}  # type: float, Dict[Group, List[Made]]
-        for made in self.engine.open_now():
-            found.setdefault(group_of(made), []).append(made)
+        if self.engine.open_now():
+            gc.collect()  # what is out of reach is no leak
+        now, found = time.monotonic(), grouped(self.engine.open_now())
         with self._lock:
             self.many += 1
             for group in {*found, *self._counts}:
                 counts = self._counts.setdefault(group, [0] * (self.many - 1))
                 counts.append(len(found.get(group, ())))
-            rows = []
-            for group, its in found.items():
-                latest = its[-1].place
-                rows.append(Row(group, tuple(self._counts[group][-6:]), now - its[0].since, None if latest == group[3] else latest))
+            rows = [row_of(group, its, tuple(self._counts[group][-6:]), now) for group, its in found.items()]
         return sorted(rows, key=lambda it: (not it.only_grows, -it.counts[-1], -it.oldest))
 
     def text(self) -> str:
