@@ -219,13 +219,24 @@ function put_away() {
   at('chosen').hidden = true;
 }
 
-// A link carries the text in its fragment, which no browser sends: packed, in letters that a link may have.
-const packed = async (text, way) => new Uint8Array(await new Response(new Blob([text]).stream().pipeThrough(way)).arrayBuffer());
+// A link carries the text in its fragment, which no browser sends: packed, in letters that a link may have. A short one may unpack to any length.
+async function through(text, way) {
+  const reader = new Blob([text]).stream().pipeThrough(way).getReader(), parts = [];
+  for (let size = 0, it; !(it = await reader.read()).done; parts.push(it.value)) {
+    size += it.value.length;
+    if (size > MOST) {
+      reader.cancel();
+      throw new RangeError('too long');
+    }
+  }
+  return new Uint8Array(await new Blob(parts).arrayBuffer());
+}
 
 async function link() {
   const text = at('input').value;
+  if (typeof CompressionStream !== 'function') return void (at('linked').textContent = 'This browser packs no texts. Any newer one does.');
   if (chosen || text.length > 200000) return void (at('linked').textContent = 'A link carries at most 200,000 characters.');
-  const bytes = await packed(text, new CompressionStream('deflate-raw'));
+  const bytes = await through(text, new CompressionStream('deflate-raw'));
   const letters = btoa(Array.from(bytes, it => String.fromCharCode(it)).join('')).replace(/\+/g, '-').replace(/\//g, '_').replace(/=+$/, '');
   history.replaceState(null, '', `#z=${letters}`);
   try {
@@ -236,22 +247,23 @@ async function link() {
   }
 }
 
-/** The text of the fragment, if there is one; undefined where it cannot be read. */
+/** The text of the fragment, if there is one; or { fault } in words. */
 async function linked() {
   const letters = /^#z=([\w-]*)$/.exec(location.hash)?.[1];
-  if (letters === undefined) return location.hash.length > 1 ? undefined : '';
+  if (letters === undefined) return location.hash.length > 1 ? { fault: 'The link carries no text that can be read' } : '';
+  if (typeof DecompressionStream !== 'function') return { fault: 'This browser unpacks no links' };
   try {
     const bytes = Uint8Array.from(atob(letters.replace(/-/g, '+').replace(/_/g, '/')), it => it.charCodeAt(0));
-    return new TextDecoder().decode(await packed(bytes, new DecompressionStream('deflate-raw')));
-  } catch {
-    return undefined;
+    return new TextDecoder().decode(await through(bytes, new DecompressionStream('deflate-raw')));
+  } catch (error) {
+    return { fault: error instanceof RangeError ? `The link carries more than ${count(MOST)} bytes` : 'The link carries no text that can be read' };
   }
 }
 
 async function open() {
   const text = await linked();
   put_away();
-  if (text) {
+  if (text && !text.fault) {
     at('example').value = '';
     at('input').value = text;
     return run();
@@ -259,7 +271,7 @@ async function open() {
   at('example').selectedIndex = 1;
   at('input').value = at('example').value;
   await run();
-  if (text === undefined) at('linked').textContent = 'The link carries no text that can be read; this is an example.';
+  if (text.fault) at('linked').textContent = `${text.fault}; this is an example.`;
 }
 
 // The page ----------------------------------------------------------------------------------------
