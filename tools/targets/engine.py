@@ -8,6 +8,8 @@ import os
 import pathlib
 import shutil
 import subprocess
+import tempfile
+from collections.abc import Iterable
 from typing import Any
 
 from .browser import Browser, serve
@@ -15,6 +17,10 @@ from .browser import Browser, serve
 HERE = pathlib.Path(__file__).resolve().parent
 SAFE = 2 ** 53
 FAULTY_INPUT, SAYS = 3, 5
+
+
+class Gone(BaseException):
+    """The engine ended, or does not answer: no case more is compared with it."""
 
 
 def large(it: Any) -> Any:
@@ -32,11 +38,17 @@ class Node:
         self.process = subprocess.Popen(words, stdin=subprocess.PIPE, stdout=subprocess.PIPE, text=True, bufsize=1)
 
     def answer(self, request: str) -> str:
-        self.process.stdin.write(request + '\n')
-        self.process.stdin.flush()
+        try:
+            self.process.stdin.write(request + '\n')
+            self.process.stdin.flush()
+        except BrokenPipeError:
+            pass
         if not (line := self.process.stdout.readline()):
-            raise RuntimeError(f'{self.process.args[0]} ended with {self.process.wait()}')
-        return line
+            raise Gone(f'{self.process.args[0]} ended with {self.process.wait()}')
+        return line.rstrip('\n')
+
+    def answers(self, requests: Iterable[str]) -> list[str]:
+        return [self.answer(it) for it in requests]
 
     def close(self) -> None:
         self.process.stdin.close()
@@ -46,8 +58,9 @@ class Node:
 class Chromium:
     """A page of a headless Chromium with a module."""
 
-    def __init__(self, module: pathlib.Path, scratch: pathlib.Path, desk: bool = False):
-        scratch.mkdir(exist_ok=True)
+    def __init__(self, module: pathlib.Path, desk: bool = False):
+        self.folder = tempfile.TemporaryDirectory()
+        scratch = pathlib.Path(self.folder.name)
         shutil.copy(HERE / 'engine.mjs', scratch)
         shutil.copy(module, scratch / 'it.wasm')
         (scratch / 'index.html').write_text(f'''<!doctype html><script type="module">
@@ -60,10 +73,17 @@ globalThis.answer = answer;
         self.page.wait('typeof answer === "function"')
 
     def answer(self, request: str) -> str:
-        return self.page.value(f'answer({json.dumps(request)})')
+        return self.answers([request])[0]
+
+    def answers(self, requests: Iterable[str]) -> list[str]:
+        try:
+            return json.loads(self.page.value(f'JSON.stringify({json.dumps(list(requests))}.map(answer))', 300))
+        except (RuntimeError, TimeoutError) as error:
+            raise Gone(f'Chromium: {error}') from None
 
     def close(self) -> None:
         self.page.close()
+        self.folder.cleanup()
 
 
 class Emulated:
@@ -74,15 +94,16 @@ class Emulated:
         self.process = subprocess.Popen(words, stdin=subprocess.PIPE, stdout=subprocess.PIPE, text=True, bufsize=1)
 
     answer = Node.answer
+    answers = Node.answers
     close = Node.close
 
 
 class Module:
     """The calls of rx.h, cellarcliff.h and rx_book.h in a module, by a channel to it."""
 
-    def __init__(self, channel: Node | Chromium | Emulated):
+    def __init__(self, channel: Any, has: list[str] | None = None):
         self.channel = channel
-        self.has = self.ask(exports=True)
+        self.has = has or self.ask(exports=True)
 
     def ask(self, **words: Any) -> Any:
         return json.loads(self.channel.answer(json.dumps(words)), object_hook=lambda it: int(it['n']))
