@@ -1,4 +1,5 @@
-// Why two runs of one pipeline differ: each name with a predicate on what happened in both.
+// Why two runs of one pipeline differ: each name with a predicate on what happened in both. What is compared has no order within a step but that in which
+// an observer hears, so neither has a name.
 import { compared, isHeard } from './running.mjs';
 
 const parts = (line) => {
@@ -16,25 +17,38 @@ function beyond(lines, others) {
   });
 }
 const wanted = (lines) => lines.filter((it) => !/^(100 |\d+ (begins|ends) )/.test(it));
+const stepOf = (line) => Number(parts(line).step);
+const upTo = (lines, step) => lines.filter((it) => stepOf(it) <= step);
+/** The first step in which they differ. */
+const firstUnlike = (lines, others) => {
+  const all = [...new Set([...lines, ...others].map(stepOf))].sort((a, b) => a - b);
+  return all.find((step) => compared(upTo(lines, step)) !== compared(upTo(others, step))) ?? Infinity;
+};
 export const isHeardSame = (a, b) => compared(a.lines, isHeard) === compared(b.lines, isHeard);
 
-/** Whether these lines are of resources that are made and released behind that, or never, with what was looked at meanwhile. */
+/** Whether these lines are of resources that are made and released in that step or behind it, or never, with what was looked at meanwhile. */
 function ofOwnResources(lines) {
-  const open = new Map();
-  for (const { who, what } of lines.map(parts)) {
-    if (who === 'made') open.set(what, (open.get(what) ?? 0) + 1);
-    else if (who === 'released') {
-      if (!open.get(what)) return false;
-      open.set(what, open.get(what) - 1);
-    } else if (who !== 'tapped' && who !== 'finalized') return false;
+  const open = new Map(), is_made = (it) => it.who === 'made', all = lines.map(parts);
+  for (const step of new Set(all.map((it) => it.step))) {
+    const now = all.filter((it) => it.step === step);
+    for (const { who, what } of [...now.filter(is_made), ...now.filter((it) => !is_made(it))]) {
+      if (who === 'made') open.set(what, (open.get(what) ?? 0) + 1);
+      else if (who === 'released') {
+        if (!open.get(what)) return false;
+        open.set(what, open.get(what) - 1);
+      } else if (who !== 'tapped' && who !== 'finalized') return false;
+    }
   }
   return true;
 }
-const firstUnlike = (lines, others) => {
-  let at = 0;
-  while (at < lines.length && lines[at] === others[at]) at++;
-  return at;
-};
+function stepsOf(lines) {
+  const by = new Map();
+  for (const it of lines) by.set(stepOf(it), [...by.get(stepOf(it)) ?? [], it]);
+  return [...by.values()];
+}
+const many = (lines, who, what) => lines.map(parts).filter((it) => it.who === who && (what === undefined || it.what === what)).length;
+const hasAsMany = (lines) => many(lines, 'made') === many(lines, 'released');
+const areReleases = (lines) => lines.length > 0 && lines.every((it) => parts(it).who === 'released');
 /** Who hears, behind these lines. */
 function hearing(lines) {
   const now = new Set();
@@ -45,33 +59,47 @@ function hearing(lines) {
   }
   return now;
 }
-/** Whether all that the second tells first is what it releases, and RxJS does not, though nobody hears. */
-function releasesForNobody(lines, others) {
-  const at = firstUnlike(lines, others);
-  return at < others.length && parts(others[at]).who === 'released' && hearing(others.slice(0, at)).size === 0;
-}
 const isActOfRelease = (line) => line.includes(' begins within release');
 const upToWithin = (lines) => lines.slice(0, lines.findIndex(isActOfRelease) + 1 || lines.length);
-const onlyForNobody = (a, b) => beyond(b, a).length === 0 && ofOwnResources(beyond(a, b));
+/** Whether the first has more than the second, and that is made and released at once. */
+const onlyForNobody = (a, b) => beyond(b, a).length === 0 && stepsOf(beyond(a, b)).every((it) => ofOwnResources(it) && hasAsMany(it));
+/** Whether these are resources that are released and made anew, which the others hold all the time. */
+const areAnew = (lines, others) => lines.length > 0 && lines.map(parts).every(({ who, what }) => (who === 'made' || who === 'released')
+  && many(lines, 'made', what) === many(lines, 'released', what) && many(others, 'made', what) > many(others, 'released', what));
+/** Who has heard the end before something was done within a release, in that step; null where nothing was. */
+function endedBeforeRelease(lines) {
+  const at = lines.findIndex(isActOfRelease);
+  return at < 0 ? null : lines.slice(0, at).filter((it) => stepOf(it) === stepOf(lines[at]) && /^(error|completed)/.test(parts(it).what)).map((it) => parts(it).who);
+}
 
+// `runs` makes both runs again, where what is done from within is put off until the command has returned.
 export const NAMES = {
   'RxJS leaves a resource open': ({ lines: a, left: open }, { lines: b, left }) => {
     const more = beyond(wanted(b), wanted(a));
-    return more.length > 0 && more.every((it) => parts(it).who === 'released') && open - left >= more.length && ofOwnResources(beyond(wanted(a), wanted(b)))
-      && compared(a, isHeard) === compared(b, isHeard);
+    return areReleases(more) && open - left >= more.length && ofOwnResources(beyond(wanted(a), wanted(b))) && compared(a, isHeard) === compared(b, isHeard);
   },
-  'RxJS keeps a source for nobody': ({ lines: a }, { lines: b }) => releasesForNobody(a, b),
+  // what the package does first and RxJS does not is that it releases, where nobody hears, or releases and makes it anew
+  'RxJS keeps a source for nobody': ({ lines: a }, { lines: b }) => {
+    const step = firstUnlike(a, b), [until, others] = [upTo(wanted(a), step), upTo(wanted(b), step)], more = beyond(others, until);
+    return ofOwnResources(beyond(until, others)) && ((areReleases(more) && hearing(upTo(b, step)).size === 0) || areAnew(more, until));
+  },
   'nothing is subscribed to for nobody': (a, b) => isHeardSame(a, b) && onlyForNobody(wanted(a.lines), wanted(b.lines)),
   // what is done within so many releases is then done within another one
   'nothing is subscribed to for nobody, so another release is the one that acts': ({ lines: a }, { lines: b }) => {
     const more = beyond(wanted(upToWithin(a)), wanted(b));
     return a.some(isActOfRelease) && more.some((it) => parts(it).who === 'released') && ofOwnResources(more);
   },
-  'what is done from within comes as soon as the callback returns': (a, b, runs) => isBehindAct(a.lines, b.lines) && isSame(...runs(true)),
+  'the end is told before what the last inner one held is released': (a, b, runs) => {
+    const [theirs, ours] = [endedBeforeRelease(a.lines), endedBeforeRelease(b.lines)];
+    return theirs !== null && ours !== null && ours.some((it) => !theirs.includes(it)) && isSame(...runs(true));
+  },
+  'what is told from within comes as soon as the callback returns': (a, b, runs) => isBehindTelling(a.lines, b.lines) && isSame(...runs(true)),
 };
-const RESOURCES = Object.keys(NAMES).slice(0, 3);
-const isSame = (a, b) => compared(a.lines) === compared(b.lines) || RESOURCES.some((it) => NAMES[it](a, b));
-/** Whether something was done from within before the first line that differs. */
-function isBehindAct(lines, others) { return lines.slice(0, firstUnlike(lines, others)).some((it) => it.includes(' begins within ')); }
-/** The name of a difference; `runs` makes both runs again, where what is done from within is put off. */
+/** What RxJS 7.5.7 does and the package is to be without; the others are the package's own manner. */
+export const OF_RXJS = Object.keys(NAMES).slice(0, 4);
+const isSame = (a, b) => compared(a.lines) === compared(b.lines) || OF_RXJS.slice(0, 3).some((it) => NAMES[it](a, b));
+/** Whether an item or an end was told from within before the end of the first step that differs. */
+function isBehindTelling(lines, others) {
+  return upTo(lines, firstUnlike(lines, others)).some((it, at, all) => it.includes(' begins within ') && /^\d+ begins (next|error|complete) /.test(all[at + 1] ?? ''));
+}
 export const nameOf = (a, b, runs) => Object.keys(NAMES).find((one) => NAMES[one](a, b, runs)) ?? null;
