@@ -83,6 +83,47 @@ export const tests = {
     globalThis.setInterval = (act) => { say('faked'); return real(act, 0); };
     try { await rx.firstValueFrom(rx.timer(100000)).then(say); } finally { globalThis.setInterval = real; }
   }, ['faked', 0]),
+  'what the observer of an array emits comes before the next item of the array': test((rx, say) => {
+    const s = new rx.Subject();
+    rx.merge(s, rx.of(1, 2, 3)).subscribe((x) => { say(x); if (x < 3) s.next(x + 10); });
+  }, [1, 11, 2, 12, 3]),
+  'what the observer of an array emits behind some items comes before the next one': test((rx, say) => {
+    const s = new rx.Subject();
+    rx.merge(s, rx.from([1, 2, 3, 4, 5])).subscribe((x) => { say(x); if (x === 3) s.next(30); });
+  }, [1, 2, 3, 30, 4, 5]),
+  'an observer leaves in the midst of an array': test((rx, say) => {
+    const whole = new rx.Subscriber({ next: (x) => { say(x); if (x === 3) whole.unsubscribe(); }, complete: () => say('end') });
+    whole.add(() => say('left'));
+    rx.from([1, 2, 3, 4]).subscribe(whole);
+    say(whole.closed);
+  }, [1, 2, 3, 'left', true]),
+  'an array within an array': test((rx, say) => {
+    rx.of(1, 2, 3).subscribe((x) => rx.of(10 * x, 10 * x + 1).subscribe(say));
+  }, [10, 11, 20, 21, 30, 31]),
+  'an array, of which a function fails, and one of which the observer throws': test(async (rx, say) => {
+    rx.config.onUnhandledError = (error) => say(`unhandled ${error.message}`);
+    rx.range(1, 4).pipe(rx.map((x) => { if (x === 3) throw new Error('no'); return x; })).subscribe({ next: say, error: (error) => say(error.message) });
+    rx.range(1, 3).subscribe({ next: (x) => { say(x); if (x === 2) throw new Error('mine'); }, complete: () => say('end') });
+    await turn();
+    rx.config.onUnhandledError = null;
+  }, [1, 2, 'no', 1, 2, 3, 'end', 'unhandled mine']),
+  'an iterable that is left is let go, and one that ends is not told so': test((rx, say) => {
+    function* items() { try { for (let i = 1; i < 4; i++) yield i; } finally { say('let go'); } }
+    rx.from(items()).pipe(rx.take(2)).subscribe({ next: say, complete: () => say('end') });
+    rx.config.onStoppedNotification = () => say('stopped');
+    const whole = new rx.Subscriber({ next: (x) => { if (x === 2) whole.unsubscribe(); } });
+    rx.from(new Set([1, 2, 3])).subscribe(whole);
+    rx.config.onStoppedNotification = null;
+  }, [1, 2, 'end', 'let go']),
+  'an observer of an array makes a thousand subscriptions, and leaves them': test((rx, say) => {
+    const s = new rx.Subject(), all = [];
+    rx.from([1, 2, 3, 4]).subscribe((x) => {
+      say(x);
+      if (x === 2) for (let i = 0; i < 1000; i++) all.push(s.subscribe());
+      if (x === 3) for (const it of all) it.unsubscribe();
+    });
+    say(s.observed);
+  }, [1, 2, 3, 4, false]),
   'what is added is released with it, in order': test((rx, say) => {
     const sub = rx.NEVER.subscribe();
     sub.add(() => say('a'));
@@ -116,6 +157,15 @@ export const only_ours = {
     s.next(5);
     say(told);
   }, [5]),
+  'an array is one item of the history, where nothing happens between': test((rx, say) => {
+    const list = Array.from({ length: 100 }, (_, i) => i), all = [];
+    rx.close();
+    const before = rx.counts().events;
+    rx.from(list).pipe(rx.map((x) => x)).subscribe({ next: (x) => all.push(x) });
+    say([all.length, rx.counts().events - before < 10]);
+    rx.from(list).subscribe((x) => { all.push(rx.counts().effects); });
+    say([all.length, Math.max(...all.slice(100))]);
+  }, [[100, true], [200, 0]]),
   'both forms of the package have one engine': test(async (rx, say) => {
     say(Object.keys(globalThis[Symbol.for('cellarcliff.realm.1')]).includes('engine'));
   }, [true]),

@@ -4,11 +4,14 @@ import { COMPLETION, Subscriber, collecting, errorOf } from './subscriber.mjs';
 import { stopped } from './config.mjs';
 import { UnsubscriptionError } from './errors.mjs';
 
+const MANY = []; // in place of lanes, while a source tells many items in one go
+
 /** The end of a chain of functions on items: the engine. */
 export const TERMINAL = {
   hooked: false,
   next(value, leaf) {
     if (leaf._queues === null) realm.engine.next(leaf._node, value);
+    else if (leaf._queues === MANY) realm.engine.nextOfMany(leaf._node, value);
     else realm.engine.queue(leaf._node, value, leaf._queues);
   },
   error(error, leaf) {
@@ -46,7 +49,7 @@ export class Leaf extends Subscriber {
     this._node = null;
     this._root = null; // who hears, where this leaf is the whole tree
     this._subject = this._before = this._after = null; // whose list it is on, and between which
-    this._queues = null; // lanes that are due, while one item is put into many
+    this._queues = null; // lanes that are due, while one item is put into many, or MANY
   }
 
   // An end that there is no room for is refused before anything is changed.
@@ -67,6 +70,11 @@ export class Leaf extends Subscriber {
   _error(error) { this._way.error(error, this); }
   _complete() { this._way.complete(this); }
 
+  /** What it is told within this is told in one go: as one item, where nothing happens between. */
+  many(act) {
+    this._queues = MANY;
+    try { act(); } finally { this._queues = null; }
+  }
   /** An item that is put into a lane and not told yet. */
   queue(value, lanes) {
     if (this.isStopped) return;

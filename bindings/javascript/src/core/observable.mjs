@@ -21,8 +21,9 @@ export class Observable {
   }
 
   subscribe(observerOrNext, error, complete) {
-    const subscriber = isSubscriber(observerOrNext) ? observerOrNext : new SafeSubscriber(observerOrNext, error, complete);
-    const is_new = subscriber instanceof Subscriber && !subscriber._used && !(subscriber instanceof Leaf);
+    const is_one = typeof observerOrNext !== 'function' && isSubscriber(observerOrNext);
+    const subscriber = is_one ? observerOrNext : new SafeSubscriber(observerOrNext, error, complete);
+    const is_new = !is_one || (subscriber instanceof Subscriber && !subscriber._used && !(subscriber instanceof Leaf));
     const root = is_new ? subscriber : new Link(subscriber);
     root._used = true;
     if (realm.engine.tracing) {

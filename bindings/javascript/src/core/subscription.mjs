@@ -35,6 +35,17 @@ export class Subscription {
 
   /** Leaves its parents and runs its finalizers; answers what they threw. Those below those are run without depth. */
   _finalized(errors) {
+    if (this._parents === null && this.initialTeardown === undefined) { // as a subscription of a program has it
+      const finalizers = this._finalizers;
+      if (finalizers === null) return errors;
+      if (finalizers.length === 1 && typeof finalizers[0] === 'function') {
+        this._finalizers = null;
+        return finalizeOne(finalizers[0], errors);
+      }
+    }
+    return this._allFinalized(errors);
+  }
+  _allFinalized(errors) {
     let list, at = 0, lists = null;
     [list, errors] = this._emptied(errors);
     while (list !== null) {

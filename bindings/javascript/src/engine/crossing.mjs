@@ -19,6 +19,7 @@ export class Crossing {
   #things = new Table(); #values = new Table();
   #postponed = null; #depth = 0; #made = 0;
   #ending = []; // lanes in which an end is being told, each because of the one before
+  #lastNode = null; #lastHears = null; #lastMade = -1; // what told the last item, to which observer alone, behind how many commands
   dead = null; // why no command can be made any more
   tracing = false;
   line = null; // where the program's own line subscribes, until a command is given
@@ -175,6 +176,25 @@ export class Crossing {
     const low = a[36], high = a[37], { hears } = this.#things.get(a[52]);
     this.#depth++;
     try { hears.hear(value); } catch (error) { this.#report(error); }
+    if (this.#made === made) {
+      this.#leave(low, high);
+      this.#lastNode = node;
+      this.#lastHears = hears;
+      this.#lastMade = made;
+    } else this.#serve(low, high);
+    this.#end();
+    return DONE;
+  }
+
+  /** An item behind another one that its source told in the same go. Where no command was made since, the engine is as it was: so this one goes to the
+   *  same observer, within the same lane, which was to be left with the next command, and is no command. */
+  nextOfMany(node, value) {
+    const left = this.#left, made = this.#made;
+    if (this.#lastNode !== node || this.#lastMade !== made || left.length === 0 || left[2] !== 1 || this.#postponed !== null || this.dead !== null) return this.next(node, value);
+    const low = left[0], high = left[1];
+    left[2] = 0;
+    this.#depth++;
+    try { this.#lastHears.hear(value); } catch (error) { this.#report(error); }
     if (this.#made === made) this.#leave(low, high); else this.#serve(low, high);
     this.#end();
     return DONE;
@@ -327,6 +347,7 @@ export class Crossing {
 
   // A lane that cannot be served for want of stack is served once there is more.
   #serve(low, high) {
+    this.#lastMade = -1;
     for (let is_first = true; ; is_first = false) {
       let count;
       try { count = is_first ? this.#glue.take(low, high) : this.#glue.takeOn(low, high); } catch (error) {

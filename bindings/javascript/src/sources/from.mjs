@@ -1,3 +1,4 @@
+import { Leaf } from '../core/leaf.mjs';
 import { Observable, isOurs } from '../core/observable.mjs';
 import { isFunction, observable } from '../core/util.mjs';
 import { reportUnhandledError } from '../core/config.mjs';
@@ -37,9 +38,12 @@ function fromInterop(input) {
     return other.subscribe(subscriber);
   });
 }
+/** Does it, within which items are told in one go. */
+export const inOneGo = (subscriber, act) => (subscriber instanceof Leaf ? subscriber.many(act) : act());
 export function fromArray(list) {
   return new Observable((subscriber) => {
-    for (let i = 0; i < list.length && !subscriber.closed && !subscriber.isStopped; i++) subscriber.next(list[i]);
+    const tells = () => { for (let i = 0; i < list.length && !subscriber.closed && !subscriber.isStopped; i++) subscriber.next(list[i]); };
+    if (list.length > 1) inOneGo(subscriber, tells); else tells();
     subscriber.complete();
   });
 }
@@ -51,11 +55,14 @@ const fromPromise = (promise) => new Observable((subscriber) => {
   }, (error) => subscriber.error(error)).then(null, reportUnhandledError);
 });
 const fromIterable = (iterable) => new Observable((subscriber) => {
-  for (const value of iterable) {
-    subscriber.next(value);
-    if (subscriber.closed || subscriber.isStopped) return;
-  }
-  subscriber.complete();
+  let is_left = false;
+  inOneGo(subscriber, () => {
+    for (const value of iterable) {
+      subscriber.next(value);
+      if ((is_left = subscriber.closed || subscriber.isStopped)) return;
+    }
+  });
+  if (!is_left) subscriber.complete();
 });
 
 // Whoever leaves while it waits lets the iterator go at once.

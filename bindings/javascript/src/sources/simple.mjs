@@ -4,7 +4,7 @@ import { failAt, holdAt, openAt, openPass } from '../core/place.mjs';
 import { Tag } from '../engine/thing.mjs';
 import { traced } from '../engine/tracing.mjs';
 import { isFunction, isScheduler, noop, popScheduler } from '../core/util.mjs';
-import { fromArray, innerFrom } from './from.mjs';
+import { fromArray, inOneGo, innerFrom } from './from.mjs';
 import { scheduled } from '../schedulers/scheduled.mjs';
 
 export const EMPTY = new Observable((subscriber) => subscriber.complete());
@@ -67,7 +67,7 @@ export function range(start, count, scheduler) {
       this.schedule();
     });
   } : (subscriber) => {
-    for (let n = start; n < end && !subscriber.closed && !subscriber.isStopped; n++) subscriber.next(n);
+    inOneGo(subscriber, () => { for (let n = start; n < end && !subscriber.closed && !subscriber.isStopped; n++) subscriber.next(n); });
     subscriber.complete();
   });
 }
