@@ -2,7 +2,7 @@ import { realm } from '../engine/realm.mjs';
 import { farther, taking } from '../engine/tracing.mjs';
 import { config, inContext } from './config.mjs';
 import { Link } from './link.mjs';
-import { isAsked, openLeaf, rootFor } from './place.mjs';
+import { LEFT, isAsked, openLeaf, rootFor } from './place.mjs';
 import { SafeSubscriber, Subscriber, isSubscriber } from './subscriber.mjs';
 import { Leaf, failing } from './leaf.mjs';
 import { isFunction, observable, pipeFromArray } from './util.mjs';
@@ -50,7 +50,7 @@ export class Observable {
     const { operator, source } = this;
     if (operator && operator.opens) return operator.opens(at, source);
     const leaf = openLeaf(at);
-    if (leaf === null || leaf.closed) return;
+    if (leaf === null || (leaf.closed && leaf._node !== LEFT)) return;
     leaf.add(operator ? this._called(operator, leaf, source) : source ? this._subscribe(leaf) : this._trySubscribe(leaf));
   }
 

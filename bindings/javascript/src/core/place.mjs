@@ -23,12 +23,14 @@ export const isAsked = (hears) => !(hears instanceof Link) || hears.asked !== un
 export const rootFor = (hears) => new Place(ROOT, NOWHERE, hears);
 
 const unopened = new WeakSet(); // errors for which nothing was opened
+/** What stands for a node whose subscriber had left before it was opened: what is to be opened below it is called, as in RxJS, and left at once. */
+export const LEFT = new Thing(null, null);
 
-/** Opens a node there: the thing, or null where the place is closed; then a tag was not taken. */
+/** Opens a node there: the thing, LEFT, or null where the place has closed; in both of these a tag was not taken. */
 export function openNode(at, kind, body = null, tag = null, share = null) {
   const hears = at.place === ROOT ? at.hears : null, { engine } = realm;
   let status = GONE, thing = null;
-  try {
+  if (at.above !== LEFT) try {
     engine.begins();
     if (hears === null || !hears.closed) {
       thing = new Thing(hears, body);
@@ -41,6 +43,7 @@ export function openNode(at, kind, body = null, tag = null, share = null) {
     throw error;
   }
   if (share !== null) share.status = status;
+  if (at.above === LEFT || (status && hears !== null && hears.closed)) return LEFT;
   if (status) return null;
   if (hears !== null && !hears.closed) hears._roots(thing);
   return thing;
@@ -50,11 +53,16 @@ export function openNode(at, kind, body = null, tag = null, share = null) {
 export function openLeaf(at) {
   const leaf = new Leaf(at.way), thing = openNode(at, LEAF, leaf);
   if (thing === null) return null;
+  if (thing === LEFT) {
+    leaf._node = LEFT;
+    leaf.closed = leaf.isStopped = true;
+    return leaf;
+  }
   leaf._opened(thing, at.place === ROOT ? at.hears : null);
   return leaf;
 }
 
-/** Opens a node that passes everything, with a resource; the place below it, or null. */
+/** Opens a node that passes everything, with a resource; the place below it, or null. Below LEFT the resource is to be released behind what is opened. */
 export function openUsing(at, tag) {
   const thing = openNode(at, PASS, null, tag);
   return thing && new Place(SOURCE, thing, null, at.way);

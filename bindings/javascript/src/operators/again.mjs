@@ -3,6 +3,7 @@ import { Link } from '../core/link.mjs';
 import { operate } from '../core/operator.mjs';
 import { noop } from '../core/util.mjs';
 import { Subject } from '../core/subject.mjs';
+import { isOver } from '../sources/combining.mjs';
 import { innerFrom } from '../sources/from.mjs';
 import { EMPTY } from '../sources/simple.mjs';
 import { timer } from '../sources/timer.mjs';
@@ -42,9 +43,10 @@ export function repeat(countOrConfig) {
   }
   if (count <= 0) return () => EMPTY;
   return operate((source, to) => {
+    const was_left = to.closed;
     let so_far = 0;
     const again = looping(() => {
-      if (to.closed || to.isStopped) return;
+      if (isOver(to, was_left)) return;
       const inner = new Link(to, undefined, () => {
         if (++so_far >= count) return to.complete();
         inner.leave();
@@ -60,9 +62,10 @@ export function retry(configOrCount = Infinity) {
   const { count = Infinity, delay, resetOnSuccess = false } = configOrCount && typeof configOrCount === 'object' ? configOrCount : { count: configOrCount };
   if (count <= 0) return (source) => source;
   return operate((source, to) => {
+    const was_left = to.closed;
     let so_far = 0;
     const again = looping(() => {
-      if (to.closed || to.isStopped) return;
+      if (isOver(to, was_left)) return;
       const inner = new Link(to, (value) => {
         if (resetOnSuccess) so_far = 0;
         to.next(value);
@@ -91,6 +94,7 @@ function waits(delay, many, to, goOn) {
 /** An observable of ends says when to go on. */
 const when = (of_error) => (notifier) => operate((source, to) => {
   let inner = null, ends = null, is_source_over = false, is_notifier_over = false;
+  const was_left = to.closed;
   const done = () => is_notifier_over && is_source_over && (to.complete(), true);
   const told = () => {
     if (ends) return ends;
@@ -103,7 +107,7 @@ const when = (of_error) => (notifier) => operate((source, to) => {
   };
   let is_asked = false;
   const again = looping(() => {
-    if (to.closed) return;
+    if (isOver(to, was_left)) return;
     is_source_over = is_asked = false;
     const it = inner = new Link(to, undefined, of_error ? undefined : () => {
       is_source_over = true;

@@ -3,17 +3,19 @@ import { Link } from '../core/link.mjs';
 import { operate } from '../core/operator.mjs';
 import { Subscription } from '../core/subscription.mjs';
 import { noop, popScheduler } from '../core/util.mjs';
+import { isOver } from '../sources/combining.mjs';
 import { innerFrom } from '../sources/from.mjs';
 import { asyncScheduler } from '../schedulers/async.mjs';
 import { scheduleFor } from '../schedulers/schedule.mjs';
 
 export const buffer = (closingNotifier) => operate((source, to) => {
   let items = [];
+  const was_left = to.closed;
   source.subscribe(new Link(to, (value) => items.push(value), () => {
     to.next(items);
     to.complete();
   }));
-  if (to.closed || to.isStopped) return;
+  if (isOver(to, was_left)) return;
   innerFrom(closingNotifier).subscribe(new Link(to, () => {
     const told = items;
     items = [];
@@ -88,7 +90,6 @@ export const bufferToggle = (openings, closingSelector) => operate((source, to) 
     };
     closings.add(innerFrom(closingSelector(opening)).subscribe(new Link(to, closes, noop)));
   }, noop));
-  if (to.closed || to.isStopped) return;
   source.subscribe(new Link(to, (value) => {
     for (const it of buffers) it.push(value);
   }, () => {
@@ -104,11 +105,9 @@ export const bufferWhen = (closingSelector) => operate((source, to) => {
     const told = items;
     items = [];
     if (told) to.next(told);
-    if (to.closed || to.isStopped) return;
     innerFrom(closingSelector()).subscribe(closes = new Link(to, opens, noop));
   };
   opens();
-  if (to.closed || to.isStopped) return;
   source.subscribe(new Link(to, (value) => items?.push(value), () => {
     if (items) to.next(items);
     to.complete();

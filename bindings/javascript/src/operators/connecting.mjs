@@ -72,6 +72,7 @@ export class ConnectableObservable extends Observable {
 }
 
 export const refCount = () => operate((source, to) => {
+  if (to.closed) return;
   const users = source._users;
   users.many++;
   const link = new Link(to, undefined, undefined, undefined, () => {

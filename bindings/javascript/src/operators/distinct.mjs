@@ -11,5 +11,5 @@ export const distinct = (keySelector, flushes) => operate((source, to) => {
     seen.add(key);
     to.next(value);
   }));
-  if (flushes && !to.closed && !to.isStopped) innerFrom(flushes).subscribe(new Link(to, () => seen.clear(), noop));
+  if (flushes) innerFrom(flushes).subscribe(new Link(to, () => seen.clear(), noop));
 });

@@ -35,7 +35,7 @@ function shared() {
     let other = null, many = 0; // by a subject, and how many subscribers that has
     const made = operator((at, it) => {
       const place = at.place === ROOT && at.way === TERMINAL ? at : linked(at);
-      if (place === null) return;
+      if (place === null || place.hears.closed) return;
       if (many === 0) {
         if (openNode(place, SHARED, null, null, share) !== null) {
           const { connection } = share;

@@ -3,7 +3,7 @@ import { NOTIFIER, SOURCE, UNTIL } from '../engine/codes.mjs';
 import { Stage, TERMINAL, failing } from '../core/leaf.mjs';
 import { Link } from '../core/link.mjs';
 import { Observable } from '../core/observable.mjs';
-import { Place, openAt, openLeaf, openNode, settled } from '../core/place.mjs';
+import { LEFT, Place, openAt, openLeaf, openNode, settled } from '../core/place.mjs';
 import { operate, operator } from '../core/operator.mjs';
 import { Subject } from '../core/subject.mjs';
 import { noop } from '../core/util.mjs';
@@ -32,7 +32,7 @@ export function takeUntil(notifier) {
     const other = innerFrom(notifier), place = settled(at), thing = place && openNode(place, UNTIL);
     if (!thing) return;
     notifies(other, new Place(NOTIFIER, thing, null, new Notifies(TERMINAL)));
-    openAt(source, new Place(SOURCE, thing, null, place.way));
+    if (thing !== LEFT) openAt(source, new Place(SOURCE, thing, null, place.way));
   });
 }
 
@@ -43,6 +43,5 @@ export const skipUntil = (notifier) => operate((source, to) => {
     is_taking = true;
   }, noop);
   innerFrom(notifier).subscribe(until);
-  if (to.closed) return;
   source.subscribe(new Link(to, (value) => is_taking && to.next(value)));
 });

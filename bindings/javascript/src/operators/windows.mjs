@@ -5,6 +5,7 @@ import { operate } from '../core/operator.mjs';
 import { Subject } from '../core/subject.mjs';
 import { Subscription } from '../core/subscription.mjs';
 import { isFunction, noop, popScheduler } from '../core/util.mjs';
+import { isOver } from '../sources/combining.mjs';
 import { innerFrom } from '../sources/from.mjs';
 import { asyncScheduler } from '../schedulers/async.mjs';
 import { scheduleFor } from '../schedulers/schedule.mjs';
@@ -12,6 +13,7 @@ import { scheduleFor } from '../schedulers/schedule.mjs';
 export const window = (boundaries) => operate((source, to) => {
   let now = new Subject();
   to.next(now.asObservable());
+  const was_left = to.closed;
   const fails = (error) => {
     now.error(error);
     to.error(error);
@@ -24,7 +26,7 @@ export const window = (boundaries) => operate((source, to) => {
     now?.unsubscribe();
     now = null;
   };
-  if (to.closed || to.isStopped) return lets;
+  if (isOver(to, was_left)) return lets;
   innerFrom(boundaries).subscribe(new Link(to, () => {
     now.complete();
     to.next((now = new Subject()));
@@ -111,7 +113,6 @@ export const windowToggle = (openings, closingSelector) => operate((source, to) 
     to.next(it.asObservable());
     closings.add(notifier.subscribe(new Link(to, closes, noop, fails)));
   }, noop));
-  if (to.closed || to.isStopped) return undefined;
   source.subscribe(new Link(to, (value) => {
     for (const it of [...windows]) it.next(value);
   }, () => {
@@ -136,11 +137,9 @@ export const windowWhen = (closingSelector) => operate((source, to) => {
     to.next(now.asObservable());
     let notifier;
     try { notifier = innerFrom(closingSelector()); } catch (error) { return fails(error); }
-    if (to.closed || to.isStopped) return undefined;
     return notifier.subscribe((closes = new Link(to, opens, opens, fails)));
   };
   opens();
-  if (to.closed || to.isStopped) return;
   source.subscribe(new Link(to, (value) => now.next(value), () => {
     now.complete();
     to.complete();

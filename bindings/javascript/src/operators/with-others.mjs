@@ -2,7 +2,7 @@
 import { Link } from '../core/link.mjs';
 import { operate } from '../core/operator.mjs';
 import { flatList, identity, noop, pipe, popFunction, popNumber, popScheduler, spreading } from '../core/util.mjs';
-import { combineLatest, concat, latest, raceInit, zip } from '../sources/combining.mjs';
+import { combineLatest, concat, isOver, latest, raceInit, zip } from '../sources/combining.mjs';
 import { from, innerFrom } from '../sources/from.mjs';
 import { concatAll, mergeAll, mergeMap } from './flat.mjs';
 import { map } from './items.mjs';
@@ -51,8 +51,9 @@ export function withLatestFrom(...words) {
   const call = popFunction(words);
   return operate((source, to) => {
     const { length } = words, values = new Array(length), has = words.map(() => false);
+    const was_left = to.closed;
     let ready = length === 0;
-    for (let i = 0; i < length && !to.closed && !to.isStopped; i++) {
+    for (let i = 0; i < length && !isOver(to, was_left); i++) {
       innerFrom(words[i]).subscribe(new Link(to, (value) => {
         values[i] = value;
         if (has[i]) return;
@@ -60,7 +61,7 @@ export function withLatestFrom(...words) {
         ready = has.every(identity);
       }, noop));
     }
-    if (to.closed || to.isStopped) return;
+    if (isOver(to, was_left)) return;
     source.subscribe(new Link(to, (value) => {
       if (!ready) return;
       const all = [value, ...values];
@@ -90,6 +91,6 @@ export function sequenceEqual(compareTo, comparator = (a, b) => a === b) {
       return link;
     };
     source.subscribe(hears(mine, others));
-    if (!to.closed) innerFrom(compareTo).subscribe(hears(others, mine));
+    innerFrom(compareTo).subscribe(hears(others, mine));
   });
 }

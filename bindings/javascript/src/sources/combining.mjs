@@ -20,6 +20,8 @@ export function concat(...words) {
 
 const result = (made, call) => (call ? map(spreading(call))(made) : made);
 const done = (to) => to.closed || to.isStopped;
+/** Whether it has ended since: what was left before it was opened is called all the same, as in RxJS. */
+export const isOver = (to, was_left) => !was_left && done(to);
 
 export function combineLatest(...words) {
   const scheduler = popScheduler(words), call = popFunction(words), { inputs, keys } = inputsOf(words);
@@ -32,8 +34,9 @@ const on = (scheduler, act, to) => (scheduler ? scheduleFor(to, scheduler, act) 
 export const latest = (inputs, scheduler, valueOf = identity) => (to) => {
   on(scheduler, () => {
     const { length } = inputs, values = new Array(length);
+    const was_left = to.closed;
     let active = length, waiting = length;
-    for (let i = 0; i < length && !done(to); i++) {
+    for (let i = 0; i < length && !isOver(to, was_left); i++) {
       on(scheduler, () => {
         let has = false;
         from(inputs[i], scheduler).subscribe(new Link(to, (value) => {
@@ -57,8 +60,9 @@ export function forkJoin(...words) {
     const { length } = inputs;
     if (length === 0) return to.complete();
     const values = new Array(length);
+    const was_left = to.closed;
     let active = length, with_none = length;
-    for (let i = 0; i < length && !done(to); i++) {
+    for (let i = 0; i < length && !isOver(to, was_left); i++) {
       let has = false;
       const link = new Link(to, (value) => {
         if (!has) {

@@ -1,6 +1,6 @@
 // Sources that tell at once, or nothing, or what a function answers.
 import { Observable } from '../core/observable.mjs';
-import { failAt, holdAt, openAt, openPass } from '../core/place.mjs';
+import { LEFT, failAt, holdAt, openAt, openPass } from '../core/place.mjs';
 import { Tag } from '../engine/thing.mjs';
 import { traced } from '../engine/tracing.mjs';
 import { isFunction, isScheduler, noop, popScheduler } from '../core/util.mjs';
@@ -45,14 +45,16 @@ export const using = (resourceFactory, observableFactory) => opened((at) => {
   // The node is open before the resource is made: so what an exchange releases is released before.
   const below = openPass(at);
   if (below === null) return;
-  let resource, source;
+  const is_left = below.above === LEFT, tag = traced(new Tag(() => resource && resource.unsubscribe()), 'resource');
+  let resource, source = null;
   try { resource = resourceFactory(); } catch (error) { return failAt(below, error); }
-  holdAt(below, traced(new Tag(() => resource && resource.unsubscribe()), 'resource'));
+  if (!is_left) holdAt(below, tag);
   try {
     const made = observableFactory(resource);
     source = made ? innerFrom(made) : EMPTY;
-  } catch (error) { return failAt(below, error); }
-  openAt(source, below);
+  } catch (error) { failAt(below, error); }
+  if (source !== null) openAt(source, below);
+  if (is_left) tag.release();
 });
 
 export function range(start, count, scheduler) {
