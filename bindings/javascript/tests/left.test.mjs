@@ -85,21 +85,22 @@ function told(rx, make) {
   return list;
 }
 
-// An input that ends everything: what RxJS goes on to subscribe to is left at once.
+// An input that ends everything, and with what: what RxJS goes on to subscribe to is left at once.
 const ENDED = {
-  'skipUntil: the notifier has failed': ({ rx, a, fails }) => a.pipe(rx.skipUntil(fails)),
-  'bufferToggle: the openings have failed': ({ rx, a, fails }) => a.pipe(rx.bufferToggle(fails, () => rx.NEVER)),
-  'windowToggle: the openings have failed': ({ rx, a, fails }) => a.pipe(rx.windowToggle(fails, () => rx.NEVER)),
-  'sequenceEqual: the first has failed': ({ rx, a, fails }) => fails.pipe(rx.sequenceEqual(a)),
-  'connect: the selector answers what has failed': ({ rx, a, fails }) => a.pipe(rx.connect(() => fails)),
-  'distinct: the source has failed': ({ rx, a, fails }) => fails.pipe(rx.distinct((it) => it, a)),
+  'skipUntil: the notifier has failed': ['error', ({ rx, a, fails }) => a.pipe(rx.skipUntil(fails))],
+  'bufferToggle: the openings have failed': ['error', ({ rx, a, fails }) => a.pipe(rx.bufferToggle(fails, () => rx.NEVER))],
+  'windowToggle: the openings have failed': ['error', ({ rx, a, fails }) => a.pipe(rx.windowToggle(fails, () => rx.NEVER))],
+  'sequenceEqual: the first has failed': ['error', ({ rx, a, fails }) => fails.pipe(rx.sequenceEqual(a))],
+  'connect: the selector answers what has failed': ['error', ({ rx, a, fails }) => a.pipe(rx.connect(() => fails))],
+  'distinct: the source has failed': ['error', ({ rx, a, fails }) => fails.pipe(rx.distinct((it) => it, a))],
+  'forkJoin: the first has ended without an item': ['end', ({ rx, a }) => rx.forkJoin([rx.EMPTY, a])],
 };
 function toldAtTheEnd(rx, make) {
   const list = [], say = (it) => list.push(it);
   const a = rx.using(() => (say('made'), { unsubscribe: () => say('released') }), () => rx.NEVER);
-  make({ rx, a, fails: rx.throwError(() => 'no') }).subscribe({ error: () => say('error') });
+  make({ rx, a, fails: rx.throwError(() => 'no') }).subscribe({ error: () => say('error'), complete: () => say('end') });
   return list;
 }
 
 export const tests = Object.fromEntries(Object.entries(PIPELINES).map(([name, [make, is]]) => [`left before it subscribes: ${name}`, { of: (rx) => told(rx, make), is }]));
-for (const [name, make] of Object.entries(ENDED)) tests[name] = { of: (rx) => toldAtTheEnd(rx, make), is: ['error', 'made', 'released'] };
+for (const [name, [end, make]] of Object.entries(ENDED)) tests[name] = { of: (rx) => toldAtTheEnd(rx, make), is: [end, 'made', 'released'] };

@@ -60,9 +60,8 @@ export function forkJoin(...words) {
     const { length } = inputs;
     if (length === 0) return to.complete();
     const values = new Array(length);
-    const was_left = to.closed;
-    let active = length, with_none = length;
-    for (let i = 0; i < length && !isOver(to, was_left); i++) {
+    let active = length, with_none = length, has_failed = false;
+    for (let i = 0; i < length && !has_failed; i++) {
       let has = false;
       const link = new Link(to, (value) => {
         if (!has) {
@@ -73,7 +72,10 @@ export function forkJoin(...words) {
       }, () => {
         active--;
         link.leave();
-      }, undefined, () => {
+      }, (error) => {
+        has_failed = true;
+        to.error(error);
+      }, () => {
         if (active && has) return;
         if (with_none === 0) to.next(keys ? objectOf(keys, values) : values);
         to.complete();
