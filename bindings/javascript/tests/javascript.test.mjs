@@ -124,6 +124,17 @@ export const tests = {
     });
     say(s.observed);
   }, [1, 2, 3, 4, false]),
+  'what has ended tells the functions behind it nothing more': test((rx, say) => {
+    const fails = () => { throw new Error('no'); }, look = rx.tap((x) => say(x)), kinds = rx.tap(({ kind }) => say(kind)), done = { error: () => say('error'), complete: () => say('end') };
+    rx.of(1).pipe(rx.take(1), rx.isEmpty(), look).subscribe(done);
+    rx.of(5).pipe(rx.take(1), rx.every((x) => x < 4), look).subscribe(done);
+    rx.of(1, 2).pipe(rx.take(2), rx.find((x) => x === 2), look).subscribe(done);
+    rx.of(1).pipe(rx.take(1), rx.map(fails), rx.toArray(), look).subscribe(done);
+    rx.of(1).pipe(rx.takeWhile(() => false, true), rx.map(fails), rx.materialize(), kinds).subscribe(done);
+    rx.of(1, 2).pipe(rx.materialize(), rx.dematerialize(), rx.toArray(), look).subscribe(done);
+    rx.of(3).pipe(rx.single(), rx.first(), rx.defaultIfEmpty(7), rx.count(), look).subscribe(done);
+    rx.EMPTY.pipe(rx.defaultIfEmpty(7), rx.take(1), rx.toArray(), look).subscribe(done);
+  }, [false, 'end', false, 'end', 2, 'end', 'error', 'E', 'end', [1, 2], 'end', 1, 'end', [7], 'end']),
   'what is added is released with it, in order': test((rx, say) => {
     const sub = rx.NEVER.subscribe();
     sub.add(() => say('a'));

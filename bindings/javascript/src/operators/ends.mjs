@@ -6,12 +6,14 @@ import { identity, pipe } from '../core/util.mjs';
 import { EMPTY } from '../sources/simple.mjs';
 import { filter } from './items.mjs';
 
-/** A stage with hooks: its functions get the item, how to tell on (`up`), and the leaf. */
+/** A stage with hooks: its functions get the item, how to tell on (`up`), and the leaf. What it told may have ended all that stands before the book:
+ *  then the leaf is closed, and nothing more is told on. */
 class Hooked extends Stage {
   constructor(up) { super(up, true); }
-  /** Calls it; what it throws is an error. */
-  safely(call, leaf) {
-    try { call(); } catch (error) { this.up.error(error, leaf); }
+  /** One item, and the end. */
+  answers(value, leaf) {
+    this.up.next(value, leaf);
+    if (!leaf.closed) this.up.complete(leaf);
   }
 }
 
@@ -24,7 +26,7 @@ class Take extends Hooked {
   next(value, leaf) {
     if (++this.#seen > this.#count) return;
     this.up.next(value, leaf);
-    if (this.#count <= this.#seen) this.up.complete(leaf);
+    if (this.#count <= this.#seen && !leaf.closed) this.up.complete(leaf);
   }
 }
 export const take = (count) => (count <= 0 ? () => EMPTY : staged((up) => new Take(up, count)));
@@ -43,7 +45,7 @@ class TakeWhile extends Hooked {
     if (goes_on) return this.up.next(value, leaf);
     this.#over = true;
     if (this.#inclusive) this.up.next(value, leaf);
-    this.up.complete(leaf);
+    if (!leaf.closed) this.up.complete(leaf);
   }
 }
 export const takeWhile = (predicate, inclusive = false) => staged((up) => new TakeWhile(up, predicate, inclusive));
@@ -115,13 +117,9 @@ class Asks extends Hooked {
     try { answer = this.#ask(value, this.#at++); } catch (error) { return this.up.error(error, leaf); }
     if (answer === null) return;
     this.#over = true;
-    this.up.next(answer.is, leaf);
-    this.up.complete(leaf);
+    this.answers(answer.is, leaf);
   }
-  complete(leaf) {
-    this.up.next(this.#otherwise, leaf);
-    this.up.complete(leaf);
-  }
+  complete(leaf) { this.answers(this.#otherwise, leaf); }
 }
 const asks = (make, otherwise) => (source) => staged((up) => new Asks(up, make(source), otherwise))(source);
 export const every = (predicate, thisArg) =>
@@ -149,7 +147,7 @@ class IfEmpty extends Hooked {
 }
 export const defaultIfEmpty = (value) => staged((up) => new IfEmpty(up, (to, leaf) => {
   to.next(value, leaf);
-  to.complete(leaf);
+  if (!leaf.closed) to.complete(leaf);
 }));
 export const throwIfEmpty = (make = () => new EmptyError()) => staged((up) => new IfEmpty(up, (to, leaf) => {
   let error;
@@ -188,10 +186,8 @@ class Single extends Hooked {
     this.#value = value;
   }
   complete(leaf) {
-    if (this.#has) {
-      this.up.next(this.#value, leaf);
-      this.up.complete(leaf);
-    } else this.up.error(this.#seen ? new NotFoundError('No matching values') : new EmptyError(), leaf);
+    if (this.#has) this.answers(this.#value, leaf);
+    else this.up.error(this.#seen ? new NotFoundError('No matching values') : new EmptyError(), leaf);
   }
 }
 export const single = (predicate) => (source) =>

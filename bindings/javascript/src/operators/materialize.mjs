@@ -4,14 +4,8 @@ import { Hooked } from './ends.mjs';
 
 class Materialize extends Hooked {
   next(value, leaf) { this.up.next(Notification.createNext(value), leaf); }
-  error(error, leaf) {
-    this.up.next(Notification.createError(error), leaf);
-    this.up.complete(leaf);
-  }
-  complete(leaf) {
-    this.up.next(Notification.createComplete(), leaf);
-    this.up.complete(leaf);
-  }
+  error(error, leaf) { this.answers(Notification.createError(error), leaf); }
+  complete(leaf) { this.answers(Notification.createComplete(), leaf); }
 }
 export const materialize = () => staged((up) => new Materialize(up));
 
