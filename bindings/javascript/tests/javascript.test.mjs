@@ -58,7 +58,7 @@ export const tests = {
     a.complete();
     say('waits');
     b.complete();
-  }, ['waits', false, 'end'], ['waits', true, 'end']),
+  }, ['waits', true, 'end']),
   'bufferToggle tells what its closing tells at once as often as RxJS does': test((rx, say) => {
     rx.NEVER.pipe(rx.bufferToggle(rx.of(1), () => rx.of(1, 2))).subscribe((x) => say(x.length));
   }, [0, 0]),
@@ -135,6 +135,28 @@ export const tests = {
     rx.of(3).pipe(rx.single(), rx.first(), rx.defaultIfEmpty(7), rx.count(), look).subscribe(done);
     rx.EMPTY.pipe(rx.defaultIfEmpty(7), rx.take(1), rx.toArray(), look).subscribe(done);
   }, [false, 'end', false, 'end', 2, 'end', 'error', 'E', 'end', [1, 2], 'end', 1, 'end', [7], 'end']),
+  'a function hears what is replayed as far as its observer does': test((rx, say) => {
+    const s = new rx.ReplaySubject(), look = rx.tap((x) => say(`looks at ${x}`));
+    [1, 2, 3].forEach((x) => s.next(x));
+    s.pipe(look, rx.take(1)).subscribe(say);
+    const whole = new rx.Subscriber({ next: (x) => { say(x); if (x === 2) whole.unsubscribe(); } });
+    s.pipe(look).subscribe(whole);
+    say(s.observed);
+  }, ['looks at 1', 1, 'looks at 1', 1, 'looks at 2', 2, false]),
+  'a subject that ends within its replay tells the rest first': test((rx, say) => {
+    const s = new rx.ReplaySubject(), done = { error: (error) => say(error), complete: () => say('end') };
+    [1, 2].forEach((x) => s.next(x));
+    s.subscribe({ ...done, next: (x) => { say(x); if (x === 1) s.complete(); } });
+    s.subscribe({ ...done, next: say });
+  }, [1, 2, 'end', 1, 2, 'end'], [1, 'end', 1, 2, 'end']),
+  'a function that leaves as it projects': test((rx, say) => {
+    const s = new rx.Subject(), made = rx.using(() => (say('made'), { unsubscribe: () => say('released') }), () => rx.NEVER);
+    for (const operator of [rx.mergeMap, rx.switchMap, rx.exhaustMap, rx.concatMap]) {
+      const whole = s.pipe(operator(() => { whole.unsubscribe(); return made; })).subscribe();
+      s.next(1);
+    }
+    say(s.observed);
+  }, ['made', 'released', 'made', 'released', 'made', 'released', 'made', 'released', false]),
   'what is added is released with it, in order': test((rx, say) => {
     const sub = rx.NEVER.subscribe();
     sub.add(() => say('a'));

@@ -1,10 +1,11 @@
 // Random pipelines over RxJS and over the package. What they are made of stands in random/drawing.mjs and random/mix.mjs; what is compared, in
 // random/running.mjs; why two runs differ, in random/differences.mjs.
 //
-// Usage: node random.mjs [MANY] [SEED] [--show NAME] [--deep]. With --deep each step is done where the stack is almost full, over the package
+// Usage: node random.mjs [MANY] [SEED] [--show NAME] [--deep] [--chains]. With --chains they are chains of functions on items. With --deep each step is done where the stack is almost full, over the package
 // alone: then only what stays open is looked at. It fails where a difference has no name, more than one in a hundred differ in another way than by a
 // fault of RxJS that the package is to be without, or a resource is not released once: what a share or a connection was told to keep is closed at the end.
 import { createRequire } from 'node:module';
+import { chains } from './random/chains.mjs';
 import { deeply } from './random/deep.mjs';
 import { OF_RXJS, isHeardSame, nameOf } from './random/differences.mjs';
 import { drawn } from './random/drawing.mjs';
@@ -13,6 +14,7 @@ import { Run, compared } from './random/running.mjs';
 const require = createRequire(import.meta.url), home = '/usr/share/nodejs/rxjs/dist/cjs';
 const peer = [require(home), require(`${home}/operators`)], ours = [await import('../index.mjs'), await import('../operators.mjs')];
 const words = process.argv.slice(2), show = words.includes('--show') ? words.splice(words.indexOf('--show'), 2)[1] : null;
+const is_chains = words.includes('--chains') && words.splice(words.indexOf('--chains'), 1).length === 1;
 const is_deep = words.includes('--deep') && words.splice(words.indexOf('--deep'), 1).length === 1;
 const [many = 10000, first = 1] = words.map(Number);
 const over = ([rx, ops], it, puts_off = false) => new Run(rx, ops, it, puts_off).all();
@@ -26,6 +28,7 @@ function kept(it) {
   return { run, wrong: is_wrong && `${left} of ${run.resources} left, ${run.twice} twice, ${after.nodes - before.nodes} nodes and ${after.held - before.held} held stay` };
 }
 
+if (is_chains) process.exit(chains(peer, ours, many, first));
 if (is_deep) process.exit(await deeply(ours, many, first));
 
 const total = { pipelines: 0, 'run on': 0, 'with an act from within': 0, items: 0, resources: 0, differ: 0, 'of those with an act from within': 0, heard: 0, ours: 0, wrong: 0 };

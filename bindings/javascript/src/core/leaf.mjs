@@ -4,23 +4,18 @@ import { COMPLETION, Subscriber, collecting, errorOf } from './subscriber.mjs';
 import { stopped } from './config.mjs';
 import { UnsubscriptionError } from './errors.mjs';
 
-const MANY = []; // in place of lanes, while a source tells many items in one go
-
 /** The end of a chain of functions on items: the engine. */
 export const TERMINAL = {
   hooked: false,
   next(value, leaf) {
-    if (leaf._queues === null) realm.engine.next(leaf._node, value);
-    else if (leaf._queues === MANY) realm.engine.nextOfMany(leaf._node, value);
-    else realm.engine.queue(leaf._node, value, leaf._queues);
+    if (leaf._many) realm.engine.nextOfMany(leaf._node, value);
+    else realm.engine.next(leaf._node, value);
   },
   error(error, leaf) {
-    leaf._serve();
     leaf.isStopped = true;
     realm.engine.error(leaf._node, error);
   },
   complete(leaf) {
-    leaf._serve();
     leaf.isStopped = true;
     realm.engine.complete(leaf._node);
   },
@@ -49,7 +44,7 @@ export class Leaf extends Subscriber {
     this._node = null;
     this._root = null; // who hears, where this leaf is the whole tree
     this._subject = this._before = this._after = null; // whose list it is on, and between which
-    this._queues = null; // lanes that are due, while one item is put into many, or MANY
+    this._many = false; // whether its source tells items in one go
   }
 
   // An end that there is no room for is refused before anything is changed.
@@ -72,18 +67,8 @@ export class Leaf extends Subscriber {
 
   /** What it is told within this is told in one go: as one item, where nothing happens between. */
   many(act) {
-    this._queues = MANY;
-    try { act(); } finally { this._queues = null; }
-  }
-  /** An item that is put into a lane and not told yet. */
-  queue(value, lanes) {
-    if (this.isStopped) return;
-    this._queues = lanes;
-    try { this._next(value); } finally { this._queues = null; }
-  }
-  _serve() {
-    const lanes = this._queues;
-    if (lanes && lanes.length) realm.engine.serve(lanes.splice(0));
+    this._many = true;
+    try { act(); } finally { this._many = false; }
   }
 
   /** The engine has closed it. */

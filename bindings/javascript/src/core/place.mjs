@@ -1,5 +1,5 @@
 // Where something is to be opened, and how: nodes of the engine, and links, which lead from a tree to another one below it.
-import { GONE, LEAF, PASS, ROOT, SOURCE, WISHES } from '../engine/codes.mjs';
+import { GONE, INNER, LEAF, PASS, ROOT, SOURCE, WISHES } from '../engine/codes.mjs';
 import { NOWHERE } from '../engine/crossing.mjs';
 import { realm } from '../engine/realm.mjs';
 import { Thing } from '../engine/thing.mjs';
@@ -23,7 +23,8 @@ export const isAsked = (hears) => !(hears instanceof Link) || hears.asked !== un
 export const rootFor = (hears) => new Place(ROOT, NOWHERE, hears);
 
 const unopened = new WeakSet(); // errors for which nothing was opened
-/** What stands for a node whose subscriber had left before it was opened: what is to be opened below it is called, as in RxJS, and left at once. */
+/** What stands for a node whose subscriber had left before it was opened, or whose projection ended the whole: what is to be opened below it is called, as
+ *  in RxJS, and left at once. */
 export const LEFT = new Thing(null, null);
 
 /** Opens a node there: the thing, LEFT, or null where the place has closed; in both of these a tag was not taken. */
@@ -43,7 +44,7 @@ export function openNode(at, kind, body = null, tag = null, share = null) {
     throw error;
   }
   if (share !== null) share.status = status;
-  if (at.above === LEFT || (status && hears !== null && hears.closed)) return LEFT;
+  if (at.above === LEFT || (status && hears !== null && hears.closed) || (status === GONE && at.place === INNER)) return LEFT;
   if (status) return null;
   if (hears !== null && !hears.closed) hears._roots(thing);
   return thing;

@@ -1,6 +1,4 @@
-import { realm } from '../engine/realm.mjs';
 import { dates } from '../schedulers/providers.mjs';
-import { Leaf } from './leaf.mjs';
 import { Subject } from './subject.mjs';
 
 /** Tells the last items to each that subscribes later: so many, of so many milliseconds. */
@@ -32,17 +30,34 @@ export class ReplaySubject extends Subject {
     if (many) items.splice(0, many);
   }
 
-  // All are put into the lane before the first is told, so that an item from within comes behind them.
   _subscribe(subscriber) {
     this._throwIfClosed();
     this.#trim();
-    const subscription = this._joined(subscriber), lanes = [];
-    for (const { value } of [...this.#items]) {
-      if (subscriber.closed || subscriber.isStopped) break;
-      if (subscriber instanceof Leaf) subscriber.queue(value, lanes); else subscriber.next(value);
-    }
-    realm.engine.serve(lanes);
+    const late = new Late(subscriber, this.#items.map(({ value }) => value)), place = this._joined(late);
+    try { late.hear(); } finally { place.unsubscribe(); }
+    const subscription = this._joined(subscriber);
     this._ended(subscriber);
     return subscription;
   }
+}
+
+/** Stands on the list for a subscriber that has not heard all of what was before it: what is told meanwhile comes behind that. */
+class Late {
+  #subscriber; #items;
+  constructor(subscriber, items) {
+    this.#subscriber = subscriber;
+    this.#items = items;
+  }
+  hear() {
+    const it = this.#subscriber, items = this.#items;
+    for (let i = 0; i < items.length && !it.closed && !it.isStopped; i++) it.next(items[i]);
+    this.#items = null;
+  }
+  next(value) {
+    if (this.#items !== null) this.#items.push(value);
+    else this.#subscriber.next(value);
+  }
+  // the subject tells its end itself, behind the items
+  error() {}
+  complete() {}
 }

@@ -13,7 +13,6 @@ class Guest {
     this._subject = this._before = this._after = null;
   }
   next(value) { this.subscriber.next(value); }
-  queue(value) { this.subscriber.next(value); }
   error(error) { this.subscriber.error(error); }
   complete() { this.subscriber.complete(); }
 }

@@ -6,13 +6,12 @@
 // The stack has three marks. An item is made, and an effect taken, where there is room to tell it and for what that leads to; an end is told and
 // a node opened where two thirds of that are left; any other command where a third is. What a command hands out is told later
 // where there is no room for that. So what an effect leads to always finds room, and RangeError means that nothing was done.
-import { COMPLETE, DECLINE, DISPOSE, DONE, ERROR, FAIL, FLAT, HOLD, LEAF, NEXT, OPEN, PUT, QUEUES, REMOVE, ROOT, SHARED, SHUT, SWITCH, USING, WISHES } from './codes.mjs';
+import { COMPLETE, DECLINE, DISPOSE, DONE, ERROR, FAIL, FLAT, HOLD, LEAF, NEXT, OPEN, PUT, REMOVE, ROOT, SHARED, SHUT, SWITCH, USING, WISHES } from './codes.mjs';
 import { LAYOUT } from './glue.mjs';
 import { Table } from './table.mjs';
 import { Lane, Tag } from './thing.mjs';
 
 const REFUSED = { 4: 'no memory is left', 16: 'too much is open', 29: 'a node holds too many resources' };
-const NEXT_QUEUES = NEXT | QUEUES << 24;
 
 export class Crossing {
   #realm; #wasm; #glue; #base; #places; #c; #a; #e; #left; #words;
@@ -200,23 +199,6 @@ export class Crossing {
     return DONE;
   }
 
-  /** An item that is not handed out: the lanes that are due are added to a list. */
-  queue(node, value, lanes) {
-    this.line = null;
-    this.#begins();
-    const word = this.#values.next();
-    let status;
-    try { status = this.#glue.next(NEXT_QUEUES, node.slot, node.top, node.lo, node.hi, word); } catch (error) { throw this.#failed(error); }
-    this.#made++;
-    if (this.#a.length === 0) this.#look();
-    if (status !== DONE) return status;
-    const a = this.#a;
-    if (a[14] !== 0 || a[16] !== 1) return this.#act(value, lanes);
-    if (a[12] !== 0) this.#values.keep(value, a[12]);
-    lanes.push(a[36], a[37]);
-    return DONE;
-  }
-
   complete(node) { return this.#ends(COMPLETE, node); }
   error(node, error) { return this.#fails(ERROR, node, error); }
   fail(node, error) { return this.#fails(FAIL, node, error); }
@@ -249,7 +231,7 @@ export class Crossing {
 
   // What a command came to: closings first, then what was handed out, then each lane.
 
-  #act(value, queues = null) {
+  #act(value) {
     const a = this.#a, copies = a[12], closed = a[14], due = a[16];
     if (a[18] !== 0) return this.#handed(value);
     if (copies !== 0) this.#values.keep(value, copies);
@@ -257,15 +239,12 @@ export class Crossing {
     if (due <= 1) {
       const low = a[36], high = a[37];
       if (closed !== 0) this.#close(closed);
-      if (due === 0) return DONE;
-      if (queues !== null) queues.push(low, high);
-      else this.#begin(low, high);
+      if (due !== 0) this.#begin(low, high);
       return DONE;
     }
     const lanes = insideFirst(this.#rest(36, due, 1));
     if (closed !== 0) this.#close(closed);
-    if (queues !== null) for (const it of lanes) queues.push(it);
-    else this.serve(lanes);
+    this.#serveAll(lanes);
     return DONE;
   }
 
@@ -309,7 +288,7 @@ export class Crossing {
   }
 
   /** Serves each of the lanes (a list of their halves), until it has nothing. */
-  serve(lanes) {
+  #serveAll(lanes) {
     if (lanes.length === 0) return;
     this.#depth++;
     for (let i = 0; i < lanes.length; i += 2) this.#serve(lanes[i], lanes[i + 1]);

@@ -85,7 +85,7 @@ export function sequenceEqual(compareTo, comparator = (a, b) => a === b) {
         } else if (!comparator(value, other.items.shift())) answer(false);
       }, () => {
         self.is_over = true;
-        if (other.is_over) answer(self.items.length === 0 && other.items.length === 0);
+        if (other.is_over) answer(other.items.length === 0); // whatever waits of this one, as in RxJS
         link.unsubscribe();
       });
       return link;

@@ -61,11 +61,15 @@ function hearing(lines) {
 }
 const isActOfRelease = (line) => line.includes(' begins within release');
 const upToWithin = (lines) => lines.slice(0, lines.findIndex(isActOfRelease) + 1 || lines.length);
-/** Whether the first has more than the second, and that is made and released at once. */
-const onlyForNobody = (a, b) => beyond(b, a).length === 0 && stepsOf(beyond(a, b)).every((it) => ofOwnResources(it) && hasAsMany(it));
-/** Whether these are resources that are released and made anew, which the others hold all the time. */
-const areAnew = (lines, others) => lines.length > 0 && lines.map(parts).every(({ who, what }) => (who === 'made' || who === 'released')
-  && many(lines, 'made', what) === many(lines, 'released', what) && many(others, 'made', what) > many(others, 'released', what));
+/** Whether the first has more than the second, and that is made and released at once, or where nobody hears. */
+const onlyForNobody = (a, b) => {
+  const more = beyond(wanted(a), wanted(b));
+  return more.length > 0 && beyond(wanted(b), wanted(a)).length === 0 && ofOwnResources(more)
+    && (stepsOf(more).every(hasAsMany) || hearing(upTo(a, stepOf(more[0]))).size === 0);
+};
+/** Whether these are resources that are released and made anew, of which the others hold some all the time. */
+const areAnew = (lines, others) => lines.map(parts).every(({ who, what }) => (who === 'made' || who === 'released') && many(lines, 'made', what) === many(lines, 'released', what))
+  && lines.map(parts).some(({ what }) => many(others, 'made', what) > many(others, 'released', what));
 /** Who has heard the end before something was done within a release, in that step; null where nothing was. */
 function endedBeforeRelease(lines) {
   const at = lines.findIndex(isActOfRelease);
@@ -83,7 +87,7 @@ export const NAMES = {
     const step = firstUnlike(a, b), [until, others] = [upTo(wanted(a), step), upTo(wanted(b), step)], more = beyond(others, until);
     return ofOwnResources(beyond(until, others)) && ((areReleases(more) && hearing(upTo(b, step)).size === 0) || areAnew(more, until));
   },
-  'nothing is subscribed to for nobody': (a, b) => isHeardSame(a, b) && onlyForNobody(wanted(a.lines), wanted(b.lines)),
+  'nothing is subscribed to for nobody': (a, b) => isHeardSame(a, b) && onlyForNobody(a.lines, b.lines),
   // what is done within so many releases is then done within another one
   'nothing is subscribed to for nobody, so another release is the one that acts': ({ lines: a }, { lines: b }) => {
     const more = beyond(wanted(upToWithin(a)), wanted(b));
