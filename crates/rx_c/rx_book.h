@@ -75,7 +75,7 @@ enum rx_book_status {
   RX_NOTHING_KEPT = 1,  /* the handle keeps no book */
   RX_NOTHING_WAITS = 2, /* there is none: no resource, no note, no such node (rx_book_owed) or event (rx_book_event) */
   RX_HELD = 3,          /* rx_book_new: the handle keeps a book already */
-  RX_NO_MEMORY = 4,     /* memory was refused: nothing changed */
+  RX_NO_MEMORY = 4,     /* memory was refused, or a store has 536,870,912 entries: nothing changed */
   RX_NO_SUCH_CODE = 5,  /* a number is not a value of its enum: nothing changed */
   RX_UNTAKEN = 6,       /* rx_book_finish: a resource was not taken yet; nothing changed */
   RX_SMALL = 7,         /* rx_book_dump: the buffer is too small; nothing was written */

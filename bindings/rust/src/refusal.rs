@@ -5,7 +5,7 @@ use std::fmt;
 #[derive(Clone, Copy, Debug, PartialEq, Eq, Hash)]
 #[non_exhaustive]
 pub enum Refusal {
-    /// Memory was refused.
+    /// Memory was refused, or a store has 536,870,912 entries.
     NoMemory,
     /// The history is full of what is open.
     Full,
