@@ -7,6 +7,7 @@ import sys
 import tempfile
 import textwrap
 import unittest
+from importlib import util
 
 HERE = pathlib.Path(__file__).resolve().parent
 LEAKS = HERE.parent / "examples/leaks"
@@ -106,6 +107,16 @@ class Watching(unittest.TestCase):
             print(isinstance(kept, reactivex.Observable))
             """)
         self.assertEqual((said.stdout, len(self.rows(said))), ("True\n", 1), said.stderr)
+
+    @unittest.skipUnless(util.find_spec("rx"), "RxPY is not installed")
+    def test_what_this_package_lacks_is_rxpy_s_own_and_takes_its_observables(self):
+        said = of_text("""
+            from rx import operators as ops
+            from rx.testing.marbles import marbles_testing
+            with marbles_testing() as (start, cold, hot, exp):
+                print(start(hot("-a-b--|").pipe(ops.flat_map(lambda it: cold("--c|")))) == exp("---c-c|"))
+            """, "--fail")
+        self.assertEqual((said.returncode, said.stdout), (0, "True\n"), said.stderr)
 
     def test_what_grows_comes_first(self):
         said = of_text("""

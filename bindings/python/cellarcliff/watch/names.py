@@ -2,6 +2,7 @@
 is installed: it takes observables of this package as it takes its own."""
 from __future__ import annotations
 
+import abc
 import importlib
 import importlib.machinery
 import pkgutil
@@ -62,12 +63,22 @@ def _ours(part: str) -> Optional[types.ModuleType]:
         return None
 
 
+def _relate(ours: types.ModuleType, theirs: types.ModuleType) -> None:
+    """Makes each class here an instance's class for RxPY too where its own of that name is asked for, as by its tests of marbles."""
+    for name, its in list(vars(theirs).items()):
+        mine = getattr(ours, name, None) if isinstance(its, abc.ABCMeta) else None
+        if isinstance(mine, type) and not issubclass(mine, its):
+            its.register(mine)
+
+
 def answer(package: str) -> bool:
     """From now on `import` of this package, and of its modules, is answered by this one. Whether the package itself is installed."""
     theirs = _load(package)
     for part in OURS + (() if theirs else ABSENT):
         name, ours = f"{package}.{part}" if part else package, _ours(part)
         if ours is not None:
+            if part in ("", "subject") and name in theirs:
+                _relate(ours, theirs[name])
             sys.modules[name] = Answered(name, ours, theirs.get(name))
     for name in [it for it in sys.modules if it.startswith(f"{package}.")]:
         above, _, last = name.rpartition(".")
