@@ -40,10 +40,13 @@ function fromInterop(input) {
 }
 /** Does it, within which items are told in one go. */
 export const inOneGo = (subscriber, act) => (subscriber instanceof Leaf ? subscriber.many(act) : act());
+function tellsAll(list, subscriber) {
+  for (let i = 0; i < list.length && !subscriber.closed && !subscriber.isStopped; i++) subscriber.next(list[i]);
+}
 export function fromArray(list) {
   return new Observable((subscriber) => {
-    const tells = () => { for (let i = 0; i < list.length && !subscriber.closed && !subscriber.isStopped; i++) subscriber.next(list[i]); };
-    if (list.length > 1) inOneGo(subscriber, tells); else tells();
+    if (list.length > 1) inOneGo(subscriber, () => tellsAll(list, subscriber));
+    else tellsAll(list, subscriber);
     subscriber.complete();
   });
 }
