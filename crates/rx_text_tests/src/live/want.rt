@@ -21,20 +21,49 @@ const LINES: [&str; 12] = [
     r#"{"do":"drain"}"#,
 ];
 
-// Puts behind what was told the notes and names of an answer: what stands between its square brackets.
-fn keep(told: &mut String, answer: &str) -> Result<(), AllocError> {
-    let mut is_inside = false;
-    for letter in answer.chars() {
-        if letter == '[' {
-            is_inside = true;
-        } else if letter == ']' {
+// What all answers tell of notes, of what is to be released, and of what was closed, which is not said again.
+#[derive(Drop)]
+struct Told {
+    notes: String,
+    released: String,
+    closed: String,
+    // Whether memory was refused for nothing of the answer to the line at which it was scarce.
+    is_whole: bool,
+}
+
+// Puts behind what was told what a member of an answer has between its brackets.
+fn keep(told: &mut String, answer: &str, member: &str) -> Result<(), AllocError> {
+    if let Some((_, rest)) = answer.split_once(member) {
+        if let Some((piece, _)) = rest.split_once("]") {
+            told.push_str(piece)?;
             told.push(',')?;
-            is_inside = false;
-        } else if is_inside {
-            told.push(letter)?;
         }
     }
     Ok(())
+}
+
+impl Told {
+    fn new(alloc: Global) -> Result<Told, AllocError> {
+        Ok(Told {
+            notes: String::with_capacity(alloc, 1_000)?,
+            released: String::with_capacity(alloc, 1_000)?,
+            closed: String::with_capacity(alloc, 1_000)?,
+            is_whole: true,
+        })
+    }
+
+    fn keep(&mut self, answer: &str) -> Result<(), AllocError> {
+        keep(&mut self.notes, answer, "\"notes\":[")?;
+        keep(&mut self.released, answer, "\"release\":[")?;
+        keep(&mut self.closed, answer, "\"closed\":[")
+    }
+
+    // Whether it is as where memory is ample; what was closed is only named where there was memory for it.
+    fn is_as(&self, ample: &Told) -> bool {
+        self.notes.as_str() == ample.notes.as_str()
+            && self.released.as_str() == ample.released.as_str()
+            && (!self.is_whole || self.closed.as_str() == ample.closed.as_str())
+    }
 }
 
 // Sends each line, and ends, where there is enough memory.
@@ -47,11 +76,11 @@ fn send_all(alloc: Global) -> Result<(), Fail> {
     Ok(())
 }
 
-// Sends a line again and again, each time with one more block of memory, until it is taken.
-fn take_at_last(alloc: Global, live: &mut Live, line: &str) -> Result<(), Fail> {
+// Sends a line where so many blocks of memory are left, and again, each time with one more, until it is taken.
+fn take_at_last(alloc: Global, live: &mut Live, line: &str, blocks: usize) -> Result<(), Fail> {
     let mut scarce = scarce_after(alloc, send_all(alloc))?;
-    for _turn in 0..MOST_BLOCKS {
-        if live.send(line.as_bytes()).is_ok() {
+    for turn in 0..MOST_BLOCKS {
+        if turn >= blocks && live.send(line.as_bytes()).is_ok() {
             return Ok(());
         }
         if !scarce.give_back_one() {
@@ -61,43 +90,91 @@ fn take_at_last(alloc: Global, live: &mut Live, line: &str) -> Result<(), Fail> 
     Err(Fail::from("a line is not taken"))
 }
 
-// All that is told of the lines, where memory is scarce at the line of this number.
-fn told_of(alloc: Global, scarce_at: usize) -> Result<String, Fail> {
-    let mut told = String::with_capacity(alloc, 10_000)?;
+// Whether an answer says that memory was refused for a part of it.
+fn lacks_some(answer: &str) -> bool {
+    answer.ends_with(",\"late\":true}") || answer.contains("\"closed\":null")
+}
+
+// Sends a line, where so many blocks of memory are left if it says so, and keeps what is told.
+fn tell_line(
+    alloc: Global,
+    live: &mut Live,
+    told: &mut Told,
+    line: &str,
+    left: Option<usize>,
+) -> Result<(), Fail> {
+    if let Some(blocks) = left {
+        take_at_last(alloc, live, line, blocks)?;
+        told.is_whole = !lacks_some(live.answer());
+    } else {
+        live.send(line.as_bytes())?;
+    }
+    told.keep(live.answer())?;
+    Ok(())
+}
+
+// Ends, and keeps what is told.
+fn tell_end(live: &mut Live, told: &mut Told) -> Result<(), Fail> {
+    live.end()?;
+    told.keep(live.answer())?;
+    Ok(())
+}
+
+// All that is told of the lines, where so many blocks are left at the line of this number.
+fn told_of(alloc: Global, scarce_at: usize, blocks: usize) -> Result<Told, Fail> {
+    let mut told = Told::new(alloc)?;
     let mut live = Live::new(alloc, 1_000)?;
     for (number, line) in LINES.iter().enumerate() {
-        if number == scarce_at {
-            take_at_last(alloc, &mut live, line)?;
+        let left = if number == scarce_at {
+            Some(blocks)
         } else {
-            live.send(line.as_bytes())?;
-        }
-        keep(&mut told, live.answer())?;
+            None
+        };
+        tell_line(alloc, &mut live, &mut told, line, left)?;
     }
-    live.end()?;
-    keep(&mut told, live.answer())?;
+    tell_end(&mut live, &mut told)?;
     Ok(told)
 }
 
-// How many of these lines are not taken without memory. Those behind them are, and what finds none then is told later.
-const TAKING: usize = 9;
+// Whether the same is told where no memory is left at the line of this number, where one block is left, and so on until its
+// answer is whole.
+fn is_told_in_the_end(alloc: Global, number: usize, ample: &Told) -> Result<bool, Fail> {
+    for blocks in 0..MOST_BLOCKS {
+        let told = told_of(alloc, number, blocks)?;
+        if !told.is_as(ample) || told.is_whole {
+            return Ok(told.is_as(ample));
+        }
+    }
+    Ok(false)
+}
 
-// The number of the first of these at which something else is told where memory is scarce.
-fn first_other(alloc: Global) -> Result<Option<usize>, Fail> {
-    let ample = told_of(alloc, LINES.len())?;
-    for number in 0..TAKING {
-        let scarce = told_of(alloc, number)?;
-        if scarce.as_str() != ample.as_str() {
+// The number of the first of these lines at which something else is told where memory is scarce.
+fn first_other(alloc: Global, first: usize, end: usize) -> Result<Option<usize>, Fail> {
+    let ample = told_of(alloc, LINES.len(), 0)?;
+    for number in first..end {
+        if !is_told_in_the_end(alloc, number, &ample)? {
             return Ok(Some(number));
         }
     }
     Ok(None)
 }
 
+// How many of these lines are not taken without memory. Those behind them are, and what finds none then is told later.
+const TAKING: usize = 9;
+
 #[test]
 fn the_same_is_told_where_memory_is_refused_at_a_line_that_takes_some(
     rt: HostRuntime,
 ) -> Result<(), Fail> {
-    assert_eq!(rt; first_other(rt.alloc())?, None);
+    assert_eq!(rt; first_other(rt.alloc(), 0, TAKING)?, None);
+    Ok(())
+}
+
+#[test]
+fn what_a_line_that_closes_had_no_memory_to_tell_is_told_later(
+    rt: HostRuntime,
+) -> Result<(), Fail> {
+    assert_eq!(rt; first_other(rt.alloc(), TAKING, LINES.len())?, None);
     Ok(())
 }
 
