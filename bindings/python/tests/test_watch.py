@@ -1,4 +1,5 @@
 """Programs for RxPY under `python3 -m cellarcliff.watch`: what they leave open is told by their lines."""
+import json
 import os
 import pathlib
 import re
@@ -192,6 +193,15 @@ class Watching(unittest.TestCase):
             said = watched("--picture", file, LEAKS / "dashboard.py")
             self.assertTrue(file.exists(), said.stderr)
             self.assertIn("Disposable dashboard.py:16", file.read_text())
+
+    def test_a_dump_has_them_too(self):
+        with tempfile.TemporaryDirectory() as folder:
+            file = pathlib.Path(folder) / "history.json"
+            said = watched("--dump", file, LEAKS / "dashboard.py")
+            self.assertTrue(file.exists(), said.stderr)
+            found = json.loads(file.read_text())
+        self.assertEqual(found["dump"][0], ["open", "root", "switch"])
+        self.assertIn("Disposable dashboard.py:16", found["names"].values())
 
 
 if __name__ == "__main__":

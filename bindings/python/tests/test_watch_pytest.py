@@ -23,17 +23,21 @@ def plugins():
     return ["-p", "tests.kits", *words] if is_model() else words
 
 
+def environment():
+    """Of a process that finds the tests, over the model."""
+    paths = [str(pathlib.Path(__file__).resolve().parents[1])] if is_model() else []
+    return {**os.environ, "PYTHONPATH": os.pathsep.join([*paths, *filter(None, [os.environ.get("PYTHONPATH")])])}
+
+
 @unittest.skipUnless(util.find_spec("pytest"), "pytest is not installed")
 class Tests(unittest.TestCase):
     def pytest(self, text, *words, **files):
         """What pytest prints of this module, and of further files."""
-        paths = [str(pathlib.Path(__file__).resolve().parents[1])] if is_model() else []
-        env = {**os.environ, "PYTHONPATH": os.pathsep.join([*paths, *filter(None, [os.environ.get("PYTHONPATH")])])}
         with tempfile.TemporaryDirectory() as folder:
             for name, of in {"test_it": HEAD + textwrap.dedent(text), **files}.items():
                 (pathlib.Path(folder) / f"{name}.py").write_text(textwrap.dedent(of))
             said = subprocess.run([sys.executable, "-B", "-m", "pytest", "-q", "-p", "no:cacheprovider", *plugins(), "--rx-leaks", *words, folder],
-                                  capture_output=True, text=True, cwd=folder, env=env, timeout=600)
+                                  capture_output=True, text=True, cwd=folder, env=environment(), timeout=600)
         self.assertNotIn("INTERNALERROR", said.stdout + said.stderr)
         return said
 
@@ -60,8 +64,8 @@ class Tests(unittest.TestCase):
     def test_nothing_is_asked_without_the_option(self):
         with tempfile.TemporaryDirectory() as folder:
             (pathlib.Path(folder) / "test_it.py").write_text("def test(): pass\n")
-            said = subprocess.run([sys.executable, "-B", "-m", "pytest", "-q", "-p", "no:cacheprovider", *plugins(), folder], capture_output=True, text=True,
-                                  cwd=folder, env={**os.environ, "PYTHONPATH": os.pathsep.join([str(pathlib.Path(__file__).resolve().parents[1])] if is_model() else [])})
+            said = subprocess.run([sys.executable, "-B", "-m", "pytest", "-q", "-p", "no:cacheprovider", *plugins(), folder],
+                                  capture_output=True, text=True, cwd=folder, env=environment(), timeout=600)
         self.ends(said, "1 passed", 0)
 
     def test_a_resource_and_its_subscription(self):

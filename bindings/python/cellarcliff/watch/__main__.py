@@ -1,4 +1,4 @@
-"""python3 -m cellarcliff.watch [--whole] [--picture FILE] [--fail] PROGRAM ARGS ..
+"""python3 -m cellarcliff.watch [--whole] [--picture FILE] [--dump FILE] [--fail] PROGRAM ARGS ..
        python3 -m cellarcliff.watch [OPTION ..] -m MODULE ARGS ..
 
 Runs a program that is written for RxPY (`rx`, or `reactivex`) over this package, and tells on standard error what it left open, by the lines
@@ -6,6 +6,7 @@ that subscribed to it or made it: at its end, and whenever it gets the signal US
 
     --whole         the engine makes no checkpoint: the history stays whole, and takes memory for each item
     --picture FILE  the history as a picture, where it is whole, with these lines as names
+    --dump FILE     the history, where it is whole, with these lines as names, for `rxbook picture`
     --fail          the status is 3 where something was left open, if the program's own is 0
 
 What this package lacks is RxPY's own, where that is installed. A process that is killed, or ends by os._exit, tells nothing.
@@ -14,13 +15,14 @@ from __future__ import annotations
 
 import atexit
 import builtins
+import json
 import os
 import pathlib
 import runpy
 import sys
 import threading
 import types
-from typing import Any, List, Optional
+from typing import Any, Dict, List
 
 from . import at_end, begin, on_signal, report, reports
 
@@ -33,15 +35,15 @@ class Words:
 
     def __init__(self, words: List[str]):
         self.whole = self.fails = self.is_module = False
-        self.picture: Optional[str] = None
+        self.files: Dict[str, str] = {}  # the picture, the dump
         while words and words[0].startswith("-"):
             word = words.pop(0)
             if word == "--whole":
                 self.whole = True
             elif word == "--fail":
                 self.fails = True
-            elif word == "--picture" and words:
-                self.picture = words.pop(0)
+            elif word in ("--picture", "--dump") and words:
+                self.files[word[2:]] = words.pop(0)
             elif word == "-m" and words:
                 self.is_module = True
                 break
@@ -55,16 +57,17 @@ class Words:
         self.program, self.arguments = words[0], words[1:]
 
 
-def draw(file: str) -> None:
+def write(what: str, file: str) -> None:
+    """The picture or the dump of the history."""
     from .. import audit
     named = reports().named()
     if named is None:
-        sys.stderr.write("cellarcliff.watch: there is no picture, since the history is not whole; --whole keeps it\n")
+        sys.stderr.write(f"cellarcliff.watch: there is no {what}, since the history is not whole; --whole keeps it\n")
         return
     try:
-        pathlib.Path(file).write_text(audit.picture(named))
+        pathlib.Path(file).write_text(audit.picture(named) if what == "picture" else f"{json.dumps(named)}\n")
     except (OSError, AttributeError, audit.FaultyInput) as why:
-        sys.stderr.write(f"cellarcliff.watch: there is no picture: {why}\n")
+        sys.stderr.write(f"cellarcliff.watch: there is no {what}: {why}\n")
 
 
 def run(words: Words) -> None:
@@ -101,8 +104,8 @@ def main() -> None:
     def tell() -> None:
         report(sys.stderr)
         left.extend(reports().engine.open_now())
-        if words.picture:
-            draw(words.picture)
+        for what, file in words.files.items():
+            write(what, file)
     at_end(tell)  # behind what the program registers itself, which may let go of something
     try:
         run(words)
