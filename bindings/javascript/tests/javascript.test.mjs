@@ -199,6 +199,14 @@ export const only_ours = {
     rx.from(list).subscribe((x) => { all.push(rx.counts().effects); });
     say([all.length, Math.max(...all.slice(100))]);
   }, [[100, true], [200, 0]]),
+  'a stream and an async iterable of which nobody hears are left alone': test(async (rx, say) => {
+    const stream = new ReadableStream({ cancel: () => say('cancelled') }), left = new rx.Subscriber();
+    left.unsubscribe();
+    rx.from(stream).subscribe(left);
+    rx.from({ [Symbol.asyncIterator]: () => say('asked') }).subscribe(left);
+    await turn();
+    say(stream.locked);
+  }, [false]),
   'both forms of the package have one engine': test(async (rx, say) => {
     say(Object.keys(globalThis[Symbol.for('cellarcliff.realm.1')]).includes('engine'));
   }, [true]),

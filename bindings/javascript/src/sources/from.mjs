@@ -71,6 +71,7 @@ const fromIterable = (iterable) => new Observable((subscriber) => {
 // Whoever leaves while it waits lets the iterator go at once.
 function fromAsyncIterable(iterable) {
   return new Observable((subscriber) => {
+    if (subscriber.closed) return;
     const items = iterable[Symbol.asyncIterator]();
     let is_over = false;
     const go = async () => {
