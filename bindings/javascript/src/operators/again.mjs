@@ -1,7 +1,6 @@
 // The same again, or another one in its place: at an error, at the end, or when an observable says so.
 import { Link } from '../core/link.mjs';
 import { operate } from '../core/operator.mjs';
-import { noop } from '../core/util.mjs';
 import { Subject } from '../core/subject.mjs';
 import { isOver } from '../sources/combining.mjs';
 import { innerFrom } from '../sources/from.mjs';

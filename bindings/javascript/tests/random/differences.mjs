@@ -70,6 +70,11 @@ const onlyForNobody = (a, b) => {
 /** Whether these are resources that are released and made anew, of which the others hold some all the time. */
 const areAnew = (lines, others) => lines.map(parts).every(({ who, what }) => (who === 'made' || who === 'released') && many(lines, 'made', what) === many(lines, 'released', what))
   && lines.map(parts).some(({ what }) => many(others, 'made', what) > many(others, 'released', what));
+/** Whether these are made as somebody subscribes before whom nobody heard. */
+function areMadeBehindNobody(more, lines) {
+  const at = lines.indexOf(more[0]), last = lines.slice(0, Math.max(at, 0)).findLastIndex((it) => it.includes(' begins subscribe '));
+  return more.length > 0 && more.every((it) => parts(it).who === 'made') && last >= 0 && hearing(lines.slice(0, last)).size === 0;
+}
 /** Who has heard the end before something was done within a release, in that step; null where nothing was. */
 function endedBeforeRelease(lines) {
   const at = lines.findIndex(isActOfRelease);
@@ -82,10 +87,11 @@ export const NAMES = {
     const more = beyond(wanted(b), wanted(a));
     return areReleases(more) && open - left >= more.length && ofOwnResources(beyond(wanted(a), wanted(b))) && compared(a, isHeard) === compared(b, isHeard);
   },
-  // what the package does first and RxJS does not is that it releases, where nobody hears, or releases and makes it anew
+  // what the package does first and RxJS does not is that it releases, where nobody hears, or releases and makes it anew, or makes it as one comes
+  // before whom nobody heard
   'RxJS keeps a source for nobody': ({ lines: a }, { lines: b }) => {
     const step = firstUnlike(a, b), [until, others] = [upTo(wanted(a), step), upTo(wanted(b), step)], more = beyond(others, until);
-    return ofOwnResources(beyond(until, others)) && ((areReleases(more) && hearing(upTo(b, step)).size === 0) || areAnew(more, until));
+    return ofOwnResources(beyond(until, others)) && ((areReleases(more) && hearing(upTo(b, step)).size === 0) || areAnew(more, until) || areMadeBehindNobody(more, b));
   },
   'nothing is subscribed to for nobody': (a, b) => isHeardSame(a, b) && onlyForNobody(a.lines, b.lines),
   // what is done within so many releases is then done within another one
