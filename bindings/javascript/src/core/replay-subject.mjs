@@ -33,9 +33,13 @@ export class ReplaySubject extends Subject {
   _subscribe(subscriber) {
     this._throwIfClosed();
     this.#trim();
-    const late = new Late(subscriber, this.#items.map(({ value }) => value)), place = this._joined(late);
-    try { late.hear(); } finally { place.unsubscribe(); }
-    const subscription = this._joined(subscriber);
+    const is_over = this.hasError || this.isStopped || subscriber.closed, late = new Late(subscriber, this.#items.map(({ value }) => value));
+    if (!is_over) this._append(late);
+    let subscription;
+    try {
+      late.hear();
+      subscription = is_over ? undefined : this._joined(subscriber, late);
+    } finally { this._left(late); }
     this._ended(subscriber);
     return subscription;
   }
@@ -43,6 +47,7 @@ export class ReplaySubject extends Subject {
 
 /** Stands on the list for a subscriber that has not heard all of what was before it: what is told meanwhile comes behind that. */
 class Late {
+  _subject = null; _before = null; _after = null; // as of a leaf
   #subscriber; #items;
   constructor(subscriber, items) {
     this.#subscriber = subscriber;
@@ -57,7 +62,7 @@ class Late {
     if (this.#items !== null) this.#items.push(value);
     else this.#subscriber.next(value);
   }
-  // the subject tells its end itself, behind the items
-  error() {}
-  complete() {}
+  // an end meanwhile is told by the subject itself, behind the items
+  error(error) { if (this.#items === null) this.#subscriber.error(error); }
+  complete() { if (this.#items === null) this.#subscriber.complete(); }
 }

@@ -124,9 +124,23 @@ export class Subject extends Observable {
     if (this.hasError) subscriber.error(this.thrownError);
     else if (this.isStopped) subscriber.complete();
   }
-  _joined(subscriber) {
+  /** On the list from now on: behind the others, or in the place of what stands there for it. */
+  _joined(subscriber, place = null) {
     if (this.hasError || this.isStopped || subscriber.closed) return Subscription.EMPTY;
-    const is_leaf = subscriber instanceof Leaf, leaf = is_leaf ? subscriber : new Guest(subscriber), last = this._last;
+    const is_leaf = subscriber instanceof Leaf, leaf = is_leaf ? subscriber : new Guest(subscriber);
+    if (place === null) this._append(leaf); else this._exchange(place, leaf);
+    return is_leaf ? undefined : new Subscription(() => this._left(leaf));
+  }
+  _exchange(place, leaf) {
+    const before = leaf._before = place._before, after = leaf._after = place._after;
+    leaf._subject = this;
+    place._subject = null;
+    if (before === null) this._first = leaf; else before._after = leaf;
+    if (after === null) this._last = leaf; else after._before = leaf;
+    this._list = null;
+  }
+  _append(leaf) {
+    const last = this._last;
     leaf._subject = this;
     leaf._before = last;
     leaf._after = null;
@@ -134,7 +148,6 @@ export class Subject extends Observable {
     this._last = leaf;
     this._size++;
     this._list = null;
-    return is_leaf ? undefined : new Subscription(() => this._left(leaf));
   }
 
   asObservable() {
