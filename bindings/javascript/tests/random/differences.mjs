@@ -67,13 +67,13 @@ const onlyForNobody = (a, b) => {
   return more.length > 0 && beyond(wanted(b), wanted(a)).length === 0 && ofOwnResources(more)
     && (stepsOf(more).every(hasAsMany) || hearing(upTo(a, stepOf(more[0]))).size === 0);
 };
-/** Whether these are resources that are released and made anew, of which the others hold some all the time. */
+/** Whether these are resources that are released and made anew, of which the others hold some as the step begins, or at its end. */
 const areAnew = (lines, others) => lines.map(parts).every(({ who, what }) => (who === 'made' || who === 'released') && many(lines, 'made', what) === many(lines, 'released', what))
-  && lines.map(parts).some(({ what }) => many(others, 'made', what) > many(others, 'released', what));
-/** Whether these are made as somebody subscribes before whom nobody heard. */
+  && lines.some((it) => [others, upTo(others, stepOf(lines[0]) - 1)].some((all) => many(all, 'made', parts(it).what) > many(all, 'released', parts(it).what)));
+/** Whether these are made, or heard, as somebody subscribes before whom nobody heard. */
 function areMadeBehindNobody(more, lines) {
   const at = lines.indexOf(more[0]), last = lines.slice(0, Math.max(at, 0)).findLastIndex((it) => it.includes(' begins subscribe '));
-  return more.length > 0 && more.every((it) => parts(it).who === 'made') && last >= 0 && hearing(lines.slice(0, last)).size === 0;
+  return more.length > 0 && more.every((it) => parts(it).who === 'made' || isHeard(parts(it).who)) && last >= 0 && stepOf(lines[last]) === stepOf(more[0]) && hearing(lines.slice(0, last)).size === 0;
 }
 /** Who has heard the end before something was done within a release, in that step; null where nothing was. */
 function endedBeforeRelease(lines) {
@@ -85,7 +85,7 @@ function endedBeforeRelease(lines) {
 export const NAMES = {
   'RxJS leaves a resource open': ({ lines: a, left: open }, { lines: b, left }) => {
     const more = beyond(wanted(b), wanted(a));
-    return areReleases(more) && open - left >= more.length && ofOwnResources(beyond(wanted(a), wanted(b))) && compared(a, isHeard) === compared(b, isHeard);
+    return (areReleases(more) || more.length === 0) && open - left >= Math.max(more.length, 1) && ofOwnResources(beyond(wanted(a), wanted(b))) && compared(a, isHeard) === compared(b, isHeard);
   },
   // what the package does first and RxJS does not is that it releases, where nobody hears, or releases and makes it anew, or makes it as one comes
   // before whom nobody heard
@@ -99,9 +99,9 @@ export const NAMES = {
     const more = beyond(wanted(upToWithin(a)), wanted(b));
     return a.some(isActOfRelease) && more.some((it) => parts(it).who === 'released') && ofOwnResources(more);
   },
-  'the end is told before what the last inner one held is released': (a, b, runs) => {
+  'an end and a release stand in another order': (a, b, runs) => {
     const [theirs, ours] = [endedBeforeRelease(a.lines), endedBeforeRelease(b.lines)];
-    return theirs !== null && ours !== null && ours.some((it) => !theirs.includes(it)) && isSame(...runs(true));
+    return theirs !== null && ours !== null && (ours.some((it) => !theirs.includes(it)) || theirs.some((it) => !ours.includes(it))) && isSame(...runs(true));
   },
   'what is told from within comes as soon as the callback returns': (a, b, runs) => isBehindTelling(a.lines, b.lines) && isSame(...runs(true)),
 };
