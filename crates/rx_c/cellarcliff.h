@@ -235,7 +235,7 @@ enum cellar_status {
   CELLAR_SMALL = 7,         /* cellar_dump */
   CELLAR_CUT = 8,           /* cellar_dump: the engine made a checkpoint, so the history is not whole */
   CELLAR_MISUSE = 9,        /* CELLAR_ARMOR alone: a null or misaligned pointer */
-  CELLAR_FULL = 16,         /* what is open fills the engine, as cellar_new had it */
+  CELLAR_FULL = 16,         /* what is open fills the engine, as cellar_new had it, or the checkpoint that would make room found no memory */
   CELLAR_GONE = 17, CELLAR_WRONG_KIND = 18, CELLAR_PLACE_TAKEN = 19, CELLAR_NOTHING_OWED = 20, CELLAR_NOT_ROOT = 21,
   CELLAR_NO_HUB = 22,        /* each hub of the mode serves another share */
   CELLAR_HUB_ORDER = 23,    /* the share's hub, or all that are free, stand behind that of the connection above */

@@ -39,6 +39,12 @@ def make_courses(library: pathlib.Path, commands: int, seed: int, jobs: int, fol
     return files
 
 
+def has_share(course: str) -> bool:
+    """Whether a share is opened or connected: then a command that is refused memory may have made hubs, as cellarcliff.h says."""
+    made = [words[0] for what, *words in json.loads(course)['steps'] if what == 'make']
+    return any(int(what) == 9 or int(what) == 0 and int(kind) >= 5 for what, _, kind, *_ in made)
+
+
 def commands_of(*files: pathlib.Path) -> int:
     """How many commands these courses have."""
     return sum(step[0] == 'make' for file in files for line in file.read_text().splitlines() for step in json.loads(line)['steps'])
