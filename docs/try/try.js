@@ -70,10 +70,10 @@ function work(doing, seconds) {
   clearInterval(bar);
   at('working').hidden = !doing;
   at('run').disabled = !!doing;
-  if (!doing) return;
   const progress = at('progress'), began = performance.now();
-  at('doing').textContent = seconds ? `${doing}; some ${Math.max(1, Math.round(seconds))} s` : doing;
   progress.removeAttribute('value');
+  if (!doing) return;
+  at('doing').textContent = seconds ? `${doing}; some ${Math.max(1, Math.round(seconds))} s` : doing;
   if (seconds) {
     // An estimate, by the time that the first part took; it comes near the end and waits there.
     const move = () => { progress.value = 100 * (1 - Math.exp(-2.5 * (performance.now() - began) / 1000 / seconds)); };
@@ -314,7 +314,7 @@ at('picture').addEventListener('keydown', event => {
 });
 const point = event => {
   const it = event.target.closest('path'), x = it && new DOMPoint(event.clientX, 0).matrixTransform(host.firstChild.getScreenCTM().inverse()).x;
-  if (!it) return;
+  if (!it?.querySelector('title')) return;
   const column = it.classList.contains('place') ? it : columns().find(one => Math.abs(Number.parseFloat(one.getAttribute('d').slice(1)) - x) <= 10);
   if (column) look(place_of(column), it.classList.contains('place') ? '' : title(it));
 };
