@@ -1,6 +1,6 @@
 -- Where no checkpoint was made, as at the beginning, the book stores the whole history.
 use Rattle.rx_script.proofs.Common.{◌≡◌, List, [], ◌∷◌, length, refl, sym, ap, subst, ◌∙◌, append-nil, arith, Event, nothing_kept, shown, base_of}
-use Rattle.rx_script.proofs.Common.{moments, notes, IsLawful_nothing, shown_nothing, settled_empty, State, Tallies, AreCountsOf, AreNotesOf, IsHistoryOf}
+use Rattle.rx_script.proofs.Common.{◌++◌, take, moments, notes, IsLawful_nothing, shown_nothing, settled_empty, State, Tallies, AreCountsOf, AreNotesOf, IsHistoryOf}
 use Rattle.rx_script.proofs.WholeHistory.{kept_length}
 use Rattle.std.proofs.Common.{rules}
 
@@ -37,6 +37,8 @@ begun t s same_base same_history none_given counts noted = record {
   settled = settled_empty nothing_kept;
   base = same_base ∙ sym base_nothing;
   history = same_history ∙ sym shown_nothing ∙ ap shown (sym same_base) ∙ sym (append-nil (shown s.base));
-  tallies = record { counts = counts; notes = subst (λ mail. AreNotesOf mail t) (sym no_notes) noted };
-  given = none_given;
-}
+  counts = counts;
+  told = subst (λ mail. AreNotesOf mail t) (sym none_told) noted;
+} where
+  none_told : notes [] ++ take s.given (notes s.history) ≡ []
+  none_told = ap (λ n. notes [] ++ take n (notes s.history)) none_given ∙ append-nil (notes []) ∙ no_notes

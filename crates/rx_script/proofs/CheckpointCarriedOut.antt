@@ -2,7 +2,8 @@
 use Rattle.rx_script.proofs.Common.{◌≡◌, ◌++◌, ℕ, List, [], length, drop, refl, sym, ap, subst, ◌∙◌, arith, append-nil, Event, nothing_kept, shown}
 use Rattle.rx_script.proofs.Common.{notes, alike_of, base_length, checkpoints_agree, Key, ResKey, LeaseKey, State, IsPromised}
 use Rattle.rx_script.proofs.Common.{Checkpoints, Accepted, checkpoint, Tallies, AreNotesOf, AreTalliesOf, GoesOn, Gathers, IsNodeKey, IsHeldKey, IsLeaseKey}
-use Rattle.rx_script.proofs.Common.{Engine, limited, Executes, checkpointed, stage_of, IsHistoryOf, IsSound, Carries}
+use Rattle.rx_script.proofs.Common.{Engine, limited, Executes, checkpointed, stage_of, IsHistoryOf, IsSound, Carries, take, append_assoc, Mail}
+use Rattle.std.proofs.lemmas.List.{take-append-drop}
 use Rattle.std.proofs.Math.Seq.{drop-append_seam}
 use Rattle.rx_event.proofs.Laws.SameForcedAndAllowed.{agree_back, settled_too}
 use Rattle.rx_script.proofs.EngineCarriesOut.{stored_lawful, history_lawful, history_agrees}
@@ -14,13 +15,18 @@ module _ {t : Tallies} {s : State} {h : List Event} (w : IsHistoryOf h t s) (kep
   goes_on : GoesOn w.front h s
   goes_on = search (rules, kept_length, drop, length, shown_length, drop-append_seam)
 
-  told : notes w.front ++ drop s.given (notes s.history) ≡ notes h
-  told = search (rules, drop, notes_whole, stored_lawful)
+  all_told : notes w.front ++ notes s.history ≡ notes h
+  all_told = ap (λ (l : List Event). notes w.front ++ notes l) w.history
+      ∙ sym (notes_whole w.front w.lawful w.settled s.base w.base w.since (stored_lawful w kept)) ∙ ap notes (sym w.whole)
+
+  told : (notes w.front ++ take s.given (notes s.history)) ++ drop s.given (notes s.history) ≡ notes h
+  told = append_assoc (notes w.front) (take s.given (notes s.history)) (drop s.given (notes s.history))
+      ∙ ap (λ (l : List Mail). notes w.front ++ l) (take-append-drop s.given (notes s.history)) ∙ all_told
 
   pub gathered : (u : Tallies) → Gathers t u s → AreTalliesOf h u
   gathered u gathers = record {
-    counts = gathers.counts w.front h w.tallies.counts goes_on (history_lawful w kept);
-    notes = subst (λ mail. AreNotesOf mail u) told (gathers.notes (notes w.front) w.tallies.notes);
+    counts = gathers.counts w.front h w.counts goes_on (history_lawful w kept);
+    notes = subst (λ mail. AreNotesOf mail u) told (gathers.notes (notes w.front ++ take s.given (notes s.history)) w.told);
   }
 
 -- keys that a book gave stay so
@@ -61,8 +67,9 @@ module _ {R : Type 0} (e : Engine R) (t : Tallies) (given : ℕ) (book : State) 
           (history_lawful w sound.kept) sound.kept.settled;
       base = made.base ∙ sym (checkpoints_agree.one_base nothing_kept h e.book.base e.book.history (history_agrees w sound.kept));
       history = made.history ∙ sym (append-nil (shown book.base));
-      tallies = gathered w sound.kept t gathers;
-      given = made.given;
+      counts = (gathered w sound.kept t gathers).counts;
+      told = subst (λ mail. AreNotesOf mail t) (sym (ap (λ n. notes h ++ take n (notes book.history)) made.given ∙ append-nil (notes h)))
+          (gathered w sound.kept t gathers).notes;
     }
 
   checks : (h : List Event) → IsHistoryOf h e.tallies e.book

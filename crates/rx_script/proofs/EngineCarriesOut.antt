@@ -5,7 +5,10 @@ use Rattle.rx_script.proofs.Common.{none-some, Event, Refusal, Gone, nothing_kep
 use Rattle.rx_script.proofs.Common.{IsPromised, Continues, by_key, causes, Request, stands, Accepts, connection_made, Answer, Accepted, Refused, Cause, Book}
 use Rattle.rx_script.proofs.Common.{Engine, Command, drain, checkpoint, Stage, own_cause, call_of, after, front_is_fresh, Drains, limited, Executes, refused}
 use Rattle.rx_script.proofs.Common.{refused_by_book, accepted, drained, Shelf, Tallies, stage_of, IsHistoryOf, IsSound, Carries}
-use Rattle.rx_script.proofs.Common.{◌≢◌, inl, inr, NoMemory, IsRefusal, Result, IfOk}
+use Rattle.rx_script.proofs.Common.{◌≢◌, inl, inr, NoMemory, IsRefusal, Result, IfOk, take, append-nil, notes, Mail, ◌∷◌, by_pushes, AreCountsOf, AreNotesOf}
+use Rattle.std.proofs.lemmas.List.{take-append-le}
+use Rattle.rx_event.specs.Notes.{mail_of}
+use Rattle.rx_event.proofs.Laws.Counts.{notes-push}
 use Rattle.std.specs.declared.alloc.AllocError.{AllocError}
 use Rattle.rx_event.specs.Kept.{stored}
 use Rattle.rx_book.proofs.Laws.StepsContinue.{step_taken}
@@ -40,6 +43,19 @@ with e book stock =
 abbrev pub KeepsRest : {R : Type 0} → Engine R → Engine R → Type 0
 KeepsRest old new = (new.faults ≡ old.faults) × (new.tallies ≡ old.tallies)
 
+-- what a history told is told by a longer one too, and first
+notes_longer : (h es : List Event) → (more : List Mail) × (notes (h ++ es) ≡ notes h ++ more)
+notes_longer h = by_pushes (λ es. (more : List Mail) × (notes (h ++ es) ≡ notes h ++ more))
+    ([], ap notes (append-nil h) ∙ sym (append-nil (notes h)))
+    (λ es e before. (
+      before.0 ++ mail_of (h ++ es) e,
+      ap notes (sym (append_assoc h es (e ∷ []))) ∙ notes-push (h ++ es) e ∙ ap (λ l. l ++ mail_of (h ++ es) e) before.1
+          ∙ append_assoc (notes h) before.0 (mail_of (h ++ es) e),
+    ))
+
+notes_begun : (h es : List Event) (n : ℕ) → n ≤ length (notes h) → take n (notes (h ++ es)) ≡ take n (notes h)
+notes_begun h es n within = ap (take n) (notes_longer h es).1 ∙ take-append-le n (notes h) (notes_longer h es).0 within
+
 -- the whole history and the stored one ---------------------------------------------------------------
 
 module _ {t : Tallies} {s : State} {h : List Event} (w : IsHistoryOf h t s) (kept : IsPromised s) where
@@ -70,7 +86,23 @@ module _ {t : Tallies} {s : State} {h : List Event} (w : IsHistoryOf h t s) (kep
 
   history_on : (u : Tallies) (new : State) (events : List Event) → u ≡ t → new.base ≡ s.base → new.given ≡ s.given
       → new.history ≡ stored s.base (w.since ++ events) → IsHistoryOf (on events) u new
-  history_on u new events same_tallies same_base same_given same_history = search rules
+  history_on u new events same_tallies same_base same_given same_history = record {
+    front = w.front;
+    since = w.since ++ events;
+    whole = refl;
+    lawful = w.lawful;
+    settled = w.settled;
+    base = same_base ∙ w.base;
+    history = same_history ∙ ap (λ b. stored b (w.since ++ events)) (sym same_base);
+    counts = subst (AreCountsOf w.front) (sym same_tallies) w.counts;
+    told = subst (AreNotesOf (notes w.front ++ take new.given (notes new.history))) (sym same_tallies)
+        (subst (λ mail. AreNotesOf (notes w.front ++ mail) t) handed w.told);
+  } where
+    longer : new.history ≡ s.history ++ events
+    longer = same_history ∙ on_stored events
+
+    handed : take s.given (notes s.history) ≡ take new.given (notes new.history)
+    handed = sym (ap (λ l. take s.given (notes l)) longer ∙ notes_begun s.history events s.given kept.given) ∙ ap (λ n. take n (notes new.history)) (sym same_given)
 
 -- refusals by the book -------------------------------------------------------------------------------
 

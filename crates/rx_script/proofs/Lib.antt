@@ -1,4 +1,5 @@
 pub mod Common
+pub mod Laws
 pub mod StockIsUnused
 pub mod KeysByNumber
 pub mod MadeOfOptions
@@ -16,6 +17,7 @@ pub mod SameNames
 pub mod WholeHistory
 pub mod EngineCarriesOut
 pub mod CheckpointCarriedOut
+pub mod NotesHandedOut
 pub mod CourseWithoutCheckpoint
 pub mod AllStored
 pub mod WrittenBeforeClosing

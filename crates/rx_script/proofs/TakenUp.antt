@@ -17,7 +17,7 @@ slice_get-past [] n missing = omega arith
 slice_get-past (y ∷ ys) zero missing = absurd (cc)
 slice_get-past (y ∷ ys) (suc n) missing = let rest = slice_get-past ys n missing in omega arith
 
-take_next : {A : Type 0} (xs : List A) (n : ℕ) (x : A) → slice_get xs n ≡ Some x → take (n + 1) xs ≡ take n xs ++ x ∷ []
+pub take_next : {A : Type 0} (xs : List A) (n : ℕ) (x : A) → slice_get xs n ≡ Some x → take (n + 1) xs ≡ take n xs ++ x ∷ []
 take_next xs n x found = take_more xs n x (slice_get_within xs n x found) ∙ ap (λ y. take n xs ++ y ∷ []) (get_or_from_slice_get xs n x x found)
 
 -- a front of a list that was copied, and one more

@@ -1,5 +1,5 @@
 -- A scenario at work: what its parts stand for, and what they keep.
-use Rattle.std.specs.Prelude.{◌≡◌, ℕ, ◌+◌, ◌<◌, ◌≤◌, Bool, false, ◌||◌, Option, Some, List, [], ◌∷◌, ◌++◌, String, map, is_some, option_map}
+use Rattle.std.specs.Prelude.{◌≡◌, ℕ, ◌+◌, ◌<◌, ◌≤◌, Bool, false, ◌||◌, Option, Some, List, [], ◌∷◌, ◌++◌, String, map, take, is_some, option_map}
 use Rattle.std.specs.Str.{bytes_eq}
 use Rattle.std.specs.Option.{option_map_or}
 use Rattle.std.specs.declared.alloc.Global.{Global}
@@ -8,6 +8,7 @@ use Rattle.rx_event.specs.declared.event.Event.{Event}
 use Rattle.rx_event.specs.Kept.{nothing_kept, stored}
 use Rattle.rx_event.specs.Bases.{base_of}
 use Rattle.rx_event.specs.Lawful.{IsLawful}
+use Rattle.rx_event.specs.Notes.{notes as notes_in}
 use Rattle.rx_event.specs.Forced.{IsSettled}
 use Rattle.rx_event.specs.declared.event.Kind.{Kind}
 use Rattle.rx_event.specs.declared.event.Kind.TheVariants.{Leaf, Pass, Flat, Switch, Until, Sub}
@@ -28,7 +29,7 @@ use Rattle.rx_agenda.specs.Names.{key_of}
 use Rattle.rx_agenda.specs.Bindings.{Binding}
 use Rattle.rx_agenda.specs.Shown.{number_binding, agenda_of, size_of, size_left}
 use Rattle.rx_script.specs.declared.tallies.Tallies.{Tallies}
-use Rattle.rx_script.specs.Tallies.{AreTalliesOf}
+use Rattle.rx_script.specs.Tallies.{AreCountsOf, AreNotesOf}
 use Rattle.rx_script.specs.Keys.{node_binding, res_binding, lease_binding, IsNodeKey, IsHeldKey, IsLeaseKey}
 use Rattle.rx_script.specs.Stage.{Stage}
 use Rattle.rx_agenda.specs.Agenda.{Agenda, followed_by}
@@ -69,7 +70,7 @@ with_named names _ _ = names
 -- the history ----------------------------------------------------------------------------------------
 
 -- the history from its first event on, of which a book stores the part since the last checkpoint alone, behind the base of the part
--- before it, whose events and notes the tallies have
+-- before it. The tallies have the events and notes of that part, and the notes that the book handed out since
 pub record IsHistoryOf (h : List Event) (t : Tallies) (s : State) : Type 0 where
   pub front : List Event
   pub since : List Event
@@ -78,9 +79,8 @@ pub record IsHistoryOf (h : List Event) (t : Tallies) (s : State) : Type 0 where
   pub settled : IsSettled nothing_kept front
   pub base : s.base ≡ base_of nothing_kept front
   pub history : s.history ≡ stored s.base since
-  pub tallies : AreTalliesOf front t
-  -- no note since then was handed out
-  pub given : s.given ≡ 0
+  pub counts : AreCountsOf front t
+  pub told : AreNotesOf (notes_in front ++ take s.given (notes_in s.history)) t
 
 -- the engine ---------------------------------------------------------------------------------------
 
@@ -118,6 +118,13 @@ MovesOn old new IsDone =
 -- the step was executed with this answer
 pub record Carries {R : Type 0} (old : Engine R) (step : Command) (answer : Answer) (new : Engine R) : Type 0 where
   pub executes : MovesOn old new (λ s t. Executes (limited old.book.limit) s step answer t)
+  pub sound : IsSound new
+  pub limit : new.book.limit ≡ old.book.limit
+
+-- whatever history the old engine has, the new one has too, and they are at the same stage
+pub record StaysAt {R : Type 0} (old new : Engine R) : Type 0 where
+  pub history : (h : List Event) → IsHistoryOf h old.tallies old.book → IsHistoryOf h new.tallies new.book
+  pub stage : (h : List Event) → stage_of new h ≡ stage_of old h
   pub sound : IsSound new
   pub limit : new.book.limit ≡ old.book.limit
 

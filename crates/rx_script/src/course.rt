@@ -30,8 +30,9 @@ fn perform<R: Resource>(
     }
 }
 
-// Takes a step: where it is accepted, those that follow it are to come.
-fn take_step<R: Resource>(
+/// Takes a step that comes next: where it is accepted, those that follow it are to come. Err where memory was
+/// refused; then the scenario goes no further.
+pub fn take_step<R: Resource>(
     engine: &mut Engine<R>,
     agenda: &mut Agenda,
     step: Step,

@@ -68,23 +68,28 @@ mod counting;
 mod course;
 mod engine;
 mod gathering;
-mod laws;
 mod line;
 mod naming;
+mod noting;
 mod opening;
 mod report;
 mod running;
 mod shelf;
 mod tallies;
 mod text;
+mod theorems;
 
 pub use boxes::{ResourceKind, STOCK, Stocked, stock};
 pub use closing::close;
-pub use laws::{courses_are_reported_alike, each_scenario_has_one_canonical_course};
+pub use course::take_step;
+pub use engine::{Engine, begin};
+pub use noting::next_note;
 pub use running::run;
 pub use rx_book::Closed;
 pub use rx_device::{MOST_BYTES, MOST_TURNS, ScriptError, Watched, WriteFault, write_text};
 pub use rx_dump::{a_dump_is_read_back, check};
+pub use text::cause_name;
+pub use theorems::{courses_are_reported_alike, each_scenario_has_one_canonical_course};
 
 /// What a run writes.
 #[derive(Clone, Copy, Debug, PartialEq, Eq)]

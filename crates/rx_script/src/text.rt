@@ -36,7 +36,8 @@ fn refusal_name(why: Refusal) -> &'static str
     }
 }
 
-fn cause_name(why: Cause) -> &'static str
+/// The name of a cause.
+pub fn cause_name(why: Cause) -> &'static str
     ensures { result.now ≡ cause_name why }
 {
     match why {

@@ -1,4 +1,4 @@
-use Rattle.rx_script.proofs.Common.{◌<◌, ◌+◌, ◌-◌, ◌==◌, ◌∙◌, sym, ap, subst, refl, cond, nat_eq, arith, unwrap_or, get, none-some}
+use Rattle.rx_script.proofs.Common.{◌<◌, ◌+◌, ◌==◌, ◌∙◌, sym, ap, subst, refl, cond, nat_eq, arith, unwrap_or, get, none-some}
 use Rattle.rx_script.proofs.Common.{same_Some, Return, is_lease_of, is_return, nothing_kept, MayFollow, leases_of}
 use Rattle.rx_event.proofs.Laws.Leases.{leases_of_kept, leases_of_still}
 use Rattle.rx_script.proofs.LeasesOut.{front_lawful, last_follows, leases_few, leases_of_less, returned_lease, out_leased, out_returned, out_same, leases_none}

@@ -1,5 +1,5 @@
 use Rattle.rx_script.proofs.WholeReport.{reported_alike}
-use Rattle.rx_script.proofs.laws.courses_are_reported_alike.Goals as goal
+use Rattle.rx_script.proofs.theorems.courses_are_reported_alike.Goals as goal
 
 pub returns : goal.returns
 returns c = reported_alike
