@@ -1,0 +1,4 @@
+pub mod Line
+pub mod Traced
+pub mod Taken
+pub mod Running
