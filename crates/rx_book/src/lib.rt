@@ -46,8 +46,8 @@
 //!   and no hub by two connections (`IsPromised`, which [`Book::promise`] states).
 //! - An accepted call adds its own events, and then only what these force. A refused call changes
 //!   nothing, and gives a resource that was handed in back as it came. The refusals of each call, and
-//!   their order, are exact; that want of memory is given only where memory was really refused is
-//!   tested and not proved, as no contract can say what memory is left.
+//!   their order, are exact; that `NoMemory` is given only where memory was really refused, or a
+//!   store has 536,870,912 entries, is tested and not proved, as no contract can say what memory is left.
 //! - `remove`, `give_back`, `end`, `abort`, `decline`, `fail`, `dispose`, `disconnect`, `take` and
 //!   `take_mail` are refused for no want of memory or room, and `close` and `finish` cannot fail: each
 //!   opening call, and each item that is projected, keeps room for all that closing needs. That they take

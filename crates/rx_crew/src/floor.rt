@@ -20,8 +20,8 @@ use std::sync::ledger::{Blank, Ledger};
 
 /// What lies behind a desk's lock. It has the calls of the [`Book`] by the same names, each of which
 /// answers, refuses and does just what the book's call does; one that counts takes the caller's seat too.
-/// It has not `next_all`, `ask`, `closed_count` and `nth_closed`, and no call that releases, as `close` and
-/// `finish`: a release is not to run under the lock.
+/// It has not `next_all`, `ask`, `closed_count`, `nth_closed` and `notes_of`, and no call that releases, as
+/// `close` and `finish`: a release is not to run under the lock.
 ///
 /// At each moment the totals of the ledgers are those of the book's history, beside all that a book
 /// promises. Only [`crate::Desk::new`] makes one.

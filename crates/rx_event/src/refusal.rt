@@ -8,7 +8,7 @@ use thiserror::Error;
 /// `NoLease`, `NotHeld`, `Leased`, `HasChild`, `MailLeft`, `TooMany`, `Full`, `NoMemory`.
 #[derive(Clone, Copy, Debug, PartialEq, Eq, Error)]
 pub enum Refusal {
-    /// Memory was asked for and refused.
+    /// Memory was asked for and refused, or a store has 536,870,912 entries.
     #[error("memory was refused")]
     NoMemory,
     /// The history would pass its limit, with what closing everything needs counted in.
