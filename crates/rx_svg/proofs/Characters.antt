@@ -1,13 +1,13 @@
 -- Numbers and labels are made of plain characters, whatever the history is.
 use Rattle.rx_svg.proofs.Common.{◌≡◌, ℕ, ◌<◌, Bool, true, false, List, [], ◌∷◌, ◌++◌, ℤ, codes, flat_map, decimal, refl, ◌∙◌, arith, ◌==◌, if◌then◌else◌}
-use Rattle.rx_svg.proofs.Common.{and_from, Note, Event, event_text, note_text, is_plain_character, is_plain}
+use Rattle.rx_svg.proofs.Common.{and_from, Note, Event, event_label, said_label, is_plain_character, is_plain}
 use Rattle.std.proofs.Common.{zero, suc, ◌/◌, ◌%◌, rules}
 use Rattle.std.specs.Fmt.{digits, digits_onto, digit_glyph, signed_decimal}
 use Rattle.std.proofs.lemmas.List.Folds.{list_all-append}
 use Rattle.rx_note.specs.declared.note.Terminal.{Terminal}
 use Rattle.rx_event.specs.declared.event.Place.{Place}
 use Rattle.rx_event.specs.declared.event.Kind.{Kind}
-use Rattle.rx_svg.specs.Label.{kind_text, place_text, mode_text, terminal_text}
+use Rattle.rx_svg.specs.Label.{kind_label, place_label, mode_label, terminal_label}
 
 -- numbers -----------------------------------------------------------------------------------------
 
@@ -39,22 +39,22 @@ plain_flat_map f each (x ∷ xs) = plain_append (f x) (flat_map f xs) (each x) (
 
 -- labels ------------------------------------------------------------------------------------------
 
-kind_is_plain : (kind : Kind) → is_plain (kind_text kind) ≡ true
-unfolding kind_text
+kind_is_plain : (kind : Kind) → is_plain (kind_label kind) ≡ true
+unfolding kind_label
 kind_is_plain x0 = search (rules, decimal_is_plain)
 
-place_is_plain : (place : Place) → is_plain (place_text place) ≡ true
-unfolding place_text
+place_is_plain : (place : Place) → is_plain (place_label place) ≡ true
+unfolding place_label
 place_is_plain x0 = search (rules, decimal_is_plain)
 
-terminal_is_plain : (t : Terminal) → is_plain (terminal_text t) ≡ true
-unfolding terminal_text
+terminal_is_plain : (t : Terminal) → is_plain (terminal_label t) ≡ true
+unfolding terminal_label
 terminal_is_plain x0 = search (rules, decimal_is_plain)
 
-pub event_is_plain : (e : Event) → is_plain (event_text e) ≡ true
-unfolding event_text mode_text
+pub event_is_plain : (e : Event) → is_plain (event_label e) ≡ true
+unfolding event_label mode_label
 event_is_plain x0 = search (rules, plain_append, kind_is_plain, place_is_plain, decimal_is_plain, codes, decimal, signed_is_plain, terminal_is_plain)
 
-pub note_is_plain : (note : Note) → is_plain (note_text note) ≡ true
-unfolding note_text
+pub note_is_plain : (note : Note) → is_plain (said_label note) ≡ true
+unfolding said_label
 note_is_plain x0 = search (rules, signed_is_plain, terminal_is_plain)

@@ -13,16 +13,16 @@ pub use Rattle.rx_note.specs.declared.note.Note.TheVariants.{Next, Project, End 
 pub use Rattle.rx_note.specs.declared.note.Terminal.TheVariants.{Completed, Error}
 pub use Rattle.rx_picture.specs.declared.drawing.Drawing.{Drawing}
 pub use Rattle.rx_picture.specs.declared.points.Point.{Point}
-unfoldable pub use Rattle.rx_svg.specs.Label.{event_text, called_text}
+unfoldable pub use Rattle.rx_svg.specs.Label.{event_label, called_text}
 pub use Rattle.rx_svg.specs.Lane.{x_of}
-unfoldable pub use Rattle.rx_svg.specs.Lane.{row_text, tick_text, told_text}
+unfoldable pub use Rattle.rx_svg.specs.Lane.{row_text, tick_text, note_marble}
 pub use Rattle.rx_names.specs.Names.{name_of}
-pub use Rattle.rx_svg.specs.Name.{named_text, byte_text}
-unfoldable pub use Rattle.rx_svg.specs.Page.{point_text, listed_text, entry_text, svg_text}
+pub use Rattle.rx_svg.specs.Name.{name_label, byte_text}
+unfoldable pub use Rattle.rx_svg.specs.Page.{point_text, listed_text, leak_entry, svg_text}
 pub use Rattle.rx_svg.specs.Parts.{Part, words, number, signed}
 unfoldable pub use Rattle.rx_svg.specs.Parts.{text_of}
-unfoldable pub use Rattle.rx_svg.specs.Said.{note_text}
+unfoldable pub use Rattle.rx_svg.specs.Said.{said_label}
 pub use Rattle.rx_svg.specs.Stroke.{Look}
 unfoldable pub use Rattle.rx_svg.specs.Stroke.{line_text, bar_text, mark_text, code_text, leak_text}
 pub use Rattle.rx_svg.specs.WellFormed.{IsContent, nothing, is_plain, IsWellFormed, is_plain_character, element_text, reference_text, text_first}
-pub use Rattle.rx_svg.specs.WellFormed.{reference_first, element_first, are_distinct, Attribute, IsTag, is_name, is_attribute, attribute_text, is_predefined}
+pub use Rattle.rx_svg.specs.WellFormed.{reference_first, element_first, are_distinct, Attribute, IsTag, is_tag_name, is_attribute, attribute_text, is_predefined}

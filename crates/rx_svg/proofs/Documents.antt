@@ -1,10 +1,10 @@
 -- The document of a drawing is well formed, whatever the drawing and the verdict are.
 use Rattle.rx_svg.proofs.Common.{◌≡◌, ℕ, true, Option, List, [], ◌∷◌, ◌++◌, map, codes, flat_map, length, take, refl, sym, ap, subst, ◌∙◌, append_assoc}
 use Rattle.rx_svg.proofs.Common.{append-nil, ◌==◌, and_from, Verdict, Point, Drawing, Part, words, number, text_of, x_of}
-use Rattle.rx_svg.proofs.Common.{point_text, listed_text, entry_text, svg_text, is_plain, IsContent, nothing, IsWellFormed}
+use Rattle.rx_svg.proofs.Common.{point_text, listed_text, leak_entry, svg_text, is_plain, IsContent, nothing, IsWellFormed}
 use Rattle.std.proofs.Common.{◌-◌, drop, rules}
-use Rattle.rx_svg.specs.Page.{style_text, head_text, below_text, list_text, untaken_text, lawful_text, unlawful_text}
-use Rattle.rx_svg.specs.Page.{unsettled_text, verdict_text, count_text, leaking_text, leaks_text, break_text, shares_text}
+use Rattle.rx_svg.specs.Page.{style_text, head_text, legend_front, list_text, untaken_text, lawful_text, unlawful_text}
+use Rattle.rx_svg.specs.Page.{unsettled_text, verdict_label, count_text, leaking_text, leaks_text, break_text, shares_text}
 use Rattle.rx_svg.specs.Page.{verdict_line, leaks_line, shares_line, under_text, lanes_text, page_text}
 use Rattle.rx_svg.specs.Lane.{margin}
 use Rattle.rx_svg.proofs.Characters.{both_are_plain, plain_append, plain_flat_map}
@@ -45,7 +45,7 @@ unsettled_is_plain : is_plain unsettled_text ≡ true
 unfolding unsettled_text
 unsettled_is_plain = refl
 
-verdict_is_plain : (verdict : Verdict) → is_plain (verdict_text verdict) ≡ true
+verdict_is_plain : (verdict : Verdict) → is_plain (verdict_label verdict) ≡ true
 verdict_is_plain x0 = search (rules, lawful_is_plain, unlawful_is_plain, unsettled_is_plain)
 
 shares_is_plain : (d : Drawing) (end : ℕ) → is_plain (shares_text d end) ≡ true
@@ -57,8 +57,8 @@ count_is_plain : (n : ℕ) (ending : List ℕ) → is_plain ending ≡ true → 
 unfolding count_text text_of
 count_is_plain n ending plain = parts_are_plain (number n ∷ words ending ∷ []) (and_from _ _ plain refl)
 
-entry_is_content : (names : ℕ → Option (List ℕ)) (n : ℕ) → IsContent (entry_text names n)
-unfolding entry_text
+entry_is_content : (names : ℕ → Option (List ℕ)) (n : ℕ) → IsContent (leak_entry names n)
+unfolding leak_entry
 entry_is_content names n =
     search (rules, content_append, plain_content, listed_is_plain, named_is_content)
 
@@ -71,8 +71,8 @@ leaks_read : (names : ℕ → Option (List ℕ)) (leaks : List ℕ) → IsConten
 leaks_read names leaks = content_if (length leaks == 0) _ _ (plain_content (codes "no resource leaks") refl) (leaking_is_content names leaks)
 
 below_is_content : (class : List ℕ) (x y : ℕ) (text : List ℕ) → is_plain class ≡ true → IsContent text
-    → IsContent (below_text class x y ++ text ++ codes "</text>\n")
-unfolding below_text text_of
+    → IsContent (legend_front class x y ++ text ++ codes "</text>\n")
+unfolding legend_front text_of
 below_is_content class x y text of_class content =
     let front : List Part =
     words (codes "<text class=\"") ∷ words class ∷ words (codes "\" x=\"") ∷ number x ∷ words (codes "\" y=\"") ∷ number y

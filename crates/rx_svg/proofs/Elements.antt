@@ -1,6 +1,6 @@
 -- The elements of a picture are content, whatever the numbers in them are.
 use Rattle.rx_svg.proofs.Common.{◌≡◌, ℕ, true, List, [], ◌∷◌, ◌++◌, map, ℤ, codes, refl, subst, append_assoc, ◌==◌, list_all, and_from, and_parts}
-use Rattle.rx_svg.proofs.Common.{Note, Event, Part, words, number, signed, text_of, event_text, note_text, Look, line_text}
+use Rattle.rx_svg.proofs.Common.{Note, Event, Part, words, number, signed, text_of, event_label, said_label, Look, line_text}
 use Rattle.rx_svg.proofs.Common.{bar_text, mark_text, code_text, leak_text, is_plain, are_distinct, IsContent, nothing}
 use Rattle.rx_svg.specs.Stroke.{Stretch, until_text, stretch_end, line_front, bar_front, arrow_shape, arrow_text, unreleased_text, marble_shape}
 use Rattle.rx_svg.specs.Stroke.{above_text, value_text, marble_front, by_text, marble_text, column_front, axis_text, column_text, broken_text}
@@ -152,7 +152,7 @@ pub marble_is_content : (x y at to : ℕ) (note : Note) → IsContent (marble_te
 unfolding marble_text marble_front by_text text_of
 marble_is_content x y at to note =
     let drawn : List Part = words (codes "M") ∷ number x ∷ words (codes " ") ∷ number y ∷ words (marble_shape note) ∷ [] in
-    let told : List Part = number to ∷ words (codes " was told") ∷ words (note_text note) ∷ words (codes " by event ") ∷ number at ∷ [] in
+    let told : List Part = number to ∷ words (codes " was told") ∷ words (said_label note) ∷ words (codes " by event ") ∷ number at ∷ [] in
     let front : List Part =
     words (codes "<path class=\"marble\" d=\"M") ∷ number x ∷ words (codes " ") ∷ number y ∷ words (marble_shape note)
     ∷ words (codes "\"><title>") ∷ number to ∷ words (codes " was told") ∷ [] in
@@ -160,14 +160,14 @@ marble_is_content x y at to note =
     let path =
     path_then (codes "marble") drawn told (words (codes "\n") ∷ []) refl (and_from _ _ (shape_is_plain note) refl)
     (and_from _ _ (note_is_plain note) refl) newline in
-    content_append (text_from front ++ note_text note ++ text_from ending) (value_text x y note)
-    (subst IsContent (between front ending (note_text note)) path) (value_is_content x y note)
+    content_append (text_from front ++ said_label note ++ text_from ending) (value_text x y note)
+    (subst IsContent (between front ending (said_label note)) path) (value_is_content x y note)
 
 pub column_is_content : (x height place : ℕ) (event : Event) → IsContent (column_text x height place event)
 unfolding column_text column_front axis_text text_of
 column_is_content x height place event =
     let drawn : List Part = words (codes "M") ∷ number x ∷ words (codes " 28m-10 0h20v") ∷ number height ∷ words (codes "h-20z") ∷ [] in
-    let told : List Part = number place ∷ words (codes ":") ∷ words (event_text event) ∷ [] in
+    let told : List Part = number place ∷ words (codes ":") ∷ words (event_label event) ∷ [] in
     let front : List Part =
     words (codes "<path class=\"place\" d=\"M") ∷ number x ∷ words (codes " 28m-10 0h20v") ∷ number height
     ∷ words (codes "h-20z\"><title>") ∷ number place ∷ words (codes ":") ∷ [] in
@@ -177,6 +177,6 @@ column_is_content x height place event =
     let axis : List Valued =
     valued (codes "class") (words (codes "axis") ∷ []) ∷ valued (codes "x") (number x ∷ []) ∷ valued (codes "y") (words (codes "20") ∷ []) ∷ [] in
     let beside : List Part = element_parts (codes "text") axis (number place ∷ []) ++ words (codes "\n") ∷ [] in
-    subst IsContent (between front ending (event_text event))
+    subst IsContent (between front ending (event_label event))
     (path_then (codes "place") drawn told (words (codes "\n") ∷ beside) refl refl (and_from _ _ (event_is_plain event) refl)
     (words_then (codes "\n") beside refl (text_content axis (number place ∷ []) refl refl refl)))

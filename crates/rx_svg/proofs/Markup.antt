@@ -1,18 +1,18 @@
 -- Elements whose texts are made of fixed words and of numbers.
 use Rattle.rx_svg.proofs.Common.{◌≡◌, ℕ, Bool, true, ◌&&◌, List, [], ◌∷◌, ◌++◌, map, flat_map, codes, refl, sym, ap, subst, ◌∙◌, append_assoc, append-nil}
 use Rattle.rx_svg.proofs.Common.{list_all, and_from, and_parts, Part, words, number, signed, Attribute, IsTag, IsContent, nothing, text_first, element_first}
-use Rattle.rx_svg.proofs.Common.{is_plain, is_name, is_attribute, are_distinct, attribute_text, element_text}
+use Rattle.rx_svg.proofs.Common.{is_plain, is_tag_name, is_attribute, are_distinct, attribute_text, element_text}
 use Rattle.std.proofs.Common.{ap₂, rules}
 use Rattle.std.proofs.lemmas.List.Concat.{flat_map-append}
-use Rattle.rx_svg.specs.Parts.{part_text}
+use Rattle.rx_svg.specs.Parts.{part_codes}
 use Rattle.rx_svg.proofs.Characters.{plain_append, decimal_is_plain, signed_is_plain}
 use Rattle.rx_svg.proofs.Contents.{content_append}
 
 abbrev pub text_from : List Part → List ℕ
-text_from parts = flat_map part_text parts
+text_from parts = flat_map part_codes parts
 
 pub text_from-append : (ps qs : List Part) → text_from (ps ++ qs) ≡ text_from ps ++ text_from qs
-text_from-append = flat_map-append part_text
+text_from-append = flat_map-append part_codes
 
 -- plain parts -------------------------------------------------------------------------------------
 
@@ -24,14 +24,14 @@ is_plain_part (signed n) = true
 abbrev pub are_plain : List Part → Bool
 are_plain parts = list_all is_plain_part parts
 
-part_is_plain : (part : Part) → is_plain_part part ≡ true → is_plain (part_text part) ≡ true
+part_is_plain : (part : Part) → is_plain_part part ≡ true → is_plain (part_codes part) ≡ true
 part_is_plain x0 p = search (rules, decimal_is_plain, signed_is_plain)
 
 pub parts_are_plain : (parts : List Part) → are_plain parts ≡ true → is_plain (text_from parts) ≡ true
 parts_are_plain [] p = refl
 parts_are_plain (part ∷ parts) p =
     let both = and_parts (is_plain_part part) (are_plain parts) p in
-    plain_append (part_text part) (text_from parts) (part_is_plain part both.0) (parts_are_plain parts both.1)
+    plain_append (part_codes part) (text_from parts) (part_is_plain part both.0) (parts_are_plain parts both.1)
 
 -- tags --------------------------------------------------------------------------------------------
 
@@ -44,7 +44,7 @@ abbrev pub attribute_of : Valued → Attribute
 attribute_of a = record { name = a.name; value = text_from a.value }
 
 abbrev pub is_valued : Valued → Bool
-is_valued a = is_name a.name && are_plain a.value
+is_valued a = is_tag_name a.name && are_plain a.value
 
 each_is_attribute : (attributes : List Valued) → list_all is_valued attributes ≡ true → list_all is_attribute (map attribute_of attributes) ≡ true
 each_is_attribute [] p = refl
@@ -88,7 +88,7 @@ element_reads name attributes inside =
 
 -- what they are -----------------------------------------------------------------------------------
 
-pub tag_of : (name : List ℕ) (attributes : List Valued) → is_name name ≡ true → list_all is_valued attributes ≡ true
+pub tag_of : (name : List ℕ) (attributes : List Valued) → is_tag_name name ≡ true → list_all is_valued attributes ≡ true
     → are_distinct (map (λ a. a.name) (map attribute_of attributes)) ≡ true → IsTag name (map attribute_of attributes)
 tag_of name attributes named each once = record { named = named; each = each_is_attribute attributes each; once = once }
 

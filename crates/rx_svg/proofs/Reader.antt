@@ -2,7 +2,7 @@
 use Rattle.rx_svg.proofs.Common.{◌≡◌, ℕ, Bool, true, false, ◌&&◌, not, nat_lt, List, [], ◌∷◌, ◌++◌, map, flat_map, length, codes, refl, sym, ap, ◌∙◌}
 use Rattle.rx_svg.proofs.Common.{append_assoc, append-nil, ◌==◌, if◌then◌else◌, list_all, list_any, and_parts, and_from, false≢true, cond-true}
 use Rattle.rx_svg.proofs.Common.{or_cases, Attribute, IsTag, IsContent, nothing, text_first, reference_first, element_first, IsWellFormed, is_plain_character}
-use Rattle.rx_svg.proofs.Common.{is_plain, is_name, is_attribute, are_distinct, is_predefined, reference_text, attribute_text, element_text}
+use Rattle.rx_svg.proofs.Common.{is_plain, is_tag_name, is_attribute, are_distinct, is_predefined, reference_text, attribute_text, element_text}
 use Rattle.std.proofs.Common.{fold, bytes_eq, rules}
 use Rattle.std.proofs.lemmas.Bool.{or_parts, or_from, not-true, not_from_false, both_ways, false_from_ne_true}
 use Rattle.std.proofs.lemmas.List.Sums.{fold-append}
@@ -99,7 +99,7 @@ letters_of : (name : List ℕ) (names : List (List ℕ)) → list_any (bytes_eq 
 letters_of name [] found all = absurd (false≢true found)
 letters_of name (m ∷ names) found all = search (rules, or_cases, bytes_eq, name, list_any, list_all, bytes_eq-Decides, and_parts, letters_of name names)
 
-name_read : (around : List (List ℕ)) (name : List ℕ) → is_name name ≡ true → fold step (bracket around) name ≡ in_name around name
+name_read : (around : List (List ℕ)) (name : List ℕ) → is_tag_name name ≡ true → fold step (bracket around) name ≡ in_name around name
 name_read around [] p = absurd (false≢true p)
 name_read around (c ∷ rest) p =
     let named = and_parts (nat_lt 0 (length (c ∷ rest))) (list_all is_letter (c ∷ rest)) p in
@@ -128,7 +128,7 @@ bracketed a b c d e f = simp append_assoc
 attribute_read : (t : Tag) (a : Attribute) (rest : List ℕ) → is_attribute a ≡ true → is_new t.seen a.name ≡ true
     → fold step (after_value t) (attribute_text a ++ rest) ≡ fold step (after_value (with_seen t a.name)) rest
 attribute_read t a rest p new =
-    let both = and_parts (is_name a.name) (is_plain a.value) p in
+    let both = and_parts (is_tag_name a.name) (is_plain a.value) p in
     let named = and_parts (nat_lt 0 (length a.name)) (list_all is_letter a.name) both.0 in
     let u = with_seen t a.name in
     let quoted = codes "\"" ++ rest in
@@ -168,7 +168,7 @@ as_after_value around name (a ∷ attributes) = refl
 bracketed_element : (a b c d e f g h : List ℕ) → (a ++ b ++ c ++ d) ++ e ++ (f ++ g ++ h) ≡ a ++ (b ++ ((c ++ d) ++ (e ++ (f ++ (g ++ h)))))
 bracketed_element a b c d e f g h = simp append_assoc
 
-end_read : (around : List (List ℕ)) (name : List ℕ) → is_name name ≡ true
+end_read : (around : List (List ℕ)) (name : List ℕ) → is_tag_name name ≡ true
     → fold step (content (name ∷ around)) (codes "</" ++ (name ++ codes ">")) ≡ left_in around
 end_read around name p =
     let named = and_parts (nat_lt 0 (length name)) (list_all is_letter name) p in

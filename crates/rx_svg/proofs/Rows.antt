@@ -1,15 +1,15 @@
 -- What stands in the lanes of a picture is content, whatever the drawing is.
 use Rattle.rx_svg.proofs.Common.{◌≡◌, ℕ, Bool, true, Option, List, [], ◌∷◌, ◌++◌, ℤ, codes, nat_lt, decimal, refl, subst, not, ◌&&◌}
-use Rattle.rx_svg.proofs.Common.{Event, Point, Drawing, Part, words, number, text_of, event_text, named_text, called_text, Look}
-use Rattle.rx_svg.proofs.Common.{x_of, row_text, tick_text, told_text, IsContent, nothing}
+use Rattle.rx_svg.proofs.Common.{Event, Point, Drawing, Part, words, number, text_of, event_label, name_label, called_text, Look}
+use Rattle.rx_svg.proofs.Common.{x_of, row_text, tick_text, note_marble, IsContent, nothing}
 use Rattle.rx_event.specs.declared.mail.Mail.{Mail}
 use Rattle.rx_picture.specs.declared.row.Ending.{Ending}
 use Rattle.rx_picture.specs.declared.row.Shape.{Shape}
 use Rattle.rx_picture.specs.declared.row.Shape.TheVariants.{Node, Hub, Resource, Loan}
 use Rattle.rx_picture.specs.declared.row.Row.{Row}
 use Rattle.rx_svg.specs.Stroke.{dot_shape}
-use Rattle.rx_svg.specs.Lane.{y_of, has_lane, is_root_of, stretch_of, label_front, label_text, ending_text, life_text, stretch_text, owned_look, loan_look}
-use Rattle.rx_svg.specs.Lane.{wait_look, owned_text, loan_text, wait_text, release_text, shape_text, name_text, in_lane_text, emitted_text, done_text}
+use Rattle.rx_svg.specs.Lane.{y_of, has_lane, is_root_of, stretch_of, label_front, label_element, ending_text, life_text, stretch_text, owned_look, loan_look}
+use Rattle.rx_svg.specs.Lane.{wait_look, owned_text, loan_text, wait_text, release_text, shape_text, row_label, in_lane_text, emitted_text, done_text}
 use Rattle.rx_svg.proofs.Characters.{decimal_is_plain, event_is_plain}
 use Rattle.rx_svg.proofs.ShownNames.{named_is_content}
 use Rattle.rx_svg.proofs.Markup.{Valued, are_plain, content_then}
@@ -21,12 +21,12 @@ use Rattle.std.proofs.Common.{rules}
 called_is_content : (n : ℕ) (name : Option (List ℕ)) (made : Event) → IsContent (called_text n name made)
 unfolding called_text
 called_is_content n name made =
-    content_append (decimal n ++ named_text name) (event_text made)
-    (content_append (decimal n) (named_text name) (plain_content (decimal n) (decimal_is_plain n)) (named_is_content name))
-    (plain_content (event_text made) (event_is_plain made))
+    content_append (decimal n ++ name_label name) (event_label made)
+    (content_append (decimal n) (name_label name) (plain_content (decimal n) (decimal_is_plain n)) (named_is_content name))
+    (plain_content (event_label made) (event_is_plain made))
 
-label_is_content : (x y n : ℕ) (name : Option (List ℕ)) (made : Event) → IsContent (label_text x y n name made)
-unfolding label_text label_front text_of
+label_is_content : (x y n : ℕ) (name : Option (List ℕ)) (made : Event) → IsContent (label_element x y n name made)
+unfolding label_element label_front text_of
 label_is_content x y n name made =
     let front : List Part =
     words (codes "<text class=\"label\" x=\"") ∷ number x ∷ words (codes "\" y=\"") ∷ number y ∷ words (codes "\" dy=\"4\">") ∷ [] in
@@ -37,7 +37,7 @@ label_is_content x y n name made =
     (text_around attributes (words (called_text n name made) ∷ []) refl refl
     (content_then (called_text n name made) [] (called_is_content n name made) nothing))
 
-name_is_content : (d : Drawing) (n : ℕ) (name : Option (List ℕ)) (made : Event) → IsContent (name_text d n name made)
+name_is_content : (d : Drawing) (n : ℕ) (name : Option (List ℕ)) (made : Event) → IsContent (row_label d n name made)
 name_is_content d n name x3 = search (rules, nothing, label_is_content)
 
 ending_is_content : (x y at : ℕ) (ending : Ending) → IsContent (ending_text x y at ending)
@@ -109,6 +109,6 @@ pub tick_is_content : (d : Drawing) (point : Point) → IsContent (tick_text d p
 unfolding tick_text
 tick_is_content d point = done_is_content d point.place point.event
 
-pub told_is_content : (d : Drawing) (m : Mail) → IsContent (told_text d m)
-unfolding told_text
+pub told_is_content : (d : Drawing) (m : Mail) → IsContent (note_marble d m)
+unfolding note_marble
 told_is_content d m = marble_is_content (x_of d m.place) (y_of d m.to) m.place m.to m.note

@@ -1,6 +1,6 @@
 -- A name is shown as content, whatever it is.
 use Rattle.rx_svg.proofs.Common.{◌≡◌, ℕ, ◌<◌, Bool, true, false, List, [], codes, flat_map, Option, refl, subst, arith, append-nil}
-use Rattle.rx_svg.proofs.Common.{not, ◌==◌, list_any, and_from, and_parts, or_cases, cond-true, byte_text, named_text, is_plain_character}
+use Rattle.rx_svg.proofs.Common.{not, ◌==◌, list_any, and_from, and_parts, or_cases, cond-true, byte_text, name_label, is_plain_character}
 use Rattle.rx_svg.proofs.Common.{is_predefined, reference_text, IsContent, nothing, reference_first}
 use Rattle.std.proofs.Math.Bool.{◌||◌}
 use Rattle.std.proofs.lemmas.Bool.{eqb-true, leb-true, cond-false, cases_Bool}
@@ -36,5 +36,5 @@ unfolding shown_name
 shown_is_content name =
     search (rules, content_append, codes, flat_map, plain_content, contents, byte_is_content)
 
-pub named_is_content : (name : Option (List ℕ)) → IsContent (named_text name)
+pub named_is_content : (name : Option (List ℕ)) → IsContent (name_label name)
 named_is_content x0 = search (rules, nothing, shown_is_content)

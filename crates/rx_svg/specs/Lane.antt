@@ -54,8 +54,8 @@ unfoldable pub label_front : ℕ → ℕ → List ℕ
 label_front x y =
     text_of (words (codes "<text class=\"label\" x=\"") ∷ number x ∷ words (codes "\" y=\"") ∷ number y ∷ words (codes "\" dy=\"4\">") ∷ [])
 
-unfoldable pub label_text : ℕ → ℕ → ℕ → Option (List ℕ) → Event → List ℕ
-label_text x y n name made = label_front x y ++ called_text n name made ++ codes "</text>\n"
+unfoldable pub label_element : ℕ → ℕ → ℕ → Option (List ℕ) → Event → List ℕ
+label_element x y n name made = label_front x y ++ called_text n name made ++ codes "</text>\n"
 
 -- a bar for completed, a cross for an error with its code, two strokes for a disposal, nothing where it is still open
 abbrev pub ending_text : ℕ → ℕ → ℕ → Ending → List ℕ
@@ -115,13 +115,13 @@ shape_text d leaking y n end (Resource after until taken) =
 shape_text d leaking y n end (Loan resource until) = loan_text d leaking y n until end
 
 -- a label ends where its lane begins. A lease has none, and lies in the lane of its resource
-abbrev pub name_text : Drawing → ℕ → Option (List ℕ) → Event → List ℕ
-name_text d n name (Lease r) = []
-name_text d n name made = label_text (x_of d n - 12) (y_of d n) n name made
+abbrev pub row_label : Drawing → ℕ → Option (List ℕ) → Event → List ℕ
+row_label d n name (Lease r) = []
+row_label d n name made = label_element (x_of d n - 12) (y_of d n) n name made
 
 unfoldable pub row_text : Drawing → (ℕ → Option (List ℕ)) → ℕ → Row → List ℕ
 row_text d names end row =
-    name_text d row.number (names row.number) row.made
+    row_label d row.number (names row.number) row.made
     ++ shape_text d (is_leaking_row end row) (y_of d (lane_of row.number row.made)) row.number end row.shape
 
 -- marks -------------------------------------------------------------------------------------------
@@ -150,8 +150,8 @@ done_text d place _ = []
 unfoldable pub tick_text : Drawing → Point → List ℕ
 tick_text d point = done_text d point.place point.event
 
-unfoldable pub told_text : Drawing → Mail → List ℕ
-told_text d m = marble_text (x_of d m.place) (y_of d m.to) m.place m.to m.note
+unfoldable pub note_marble : Drawing → Mail → List ℕ
+note_marble d m = marble_text (x_of d m.place) (y_of d m.to) m.place m.to m.note
 
 -- the margin --------------------------------------------------------------------------------------
 

@@ -18,6 +18,6 @@ byte_text b = if is_plain_character b then b ∷ [] else escape b
 unfoldable pub shown_name : List ℕ → List ℕ
 shown_name name = codes " (" ++ flat_map byte_text name ++ codes ")"
 
-abbrev pub named_text : Option (List ℕ) → List ℕ
-named_text None = []
-named_text (Some name) = shown_name name
+abbrev pub name_label : Option (List ℕ) → List ℕ
+name_label None = []
+name_label (Some name) = shown_name name

@@ -8,10 +8,10 @@ use Rattle.rx_picture.specs.declared.points.Point.{Point}
 use Rattle.rx_picture.specs.declared.drawing.Drawing.{Drawing}
 use Rattle.rx_picture.specs.Drawn.{IsDrawing}
 use Rattle.rx_svg.specs.Parts.{words, number, text_of}
-use Rattle.rx_svg.specs.Name.{named_text}
+use Rattle.rx_svg.specs.Name.{name_label}
 use Rattle.rx_svg.specs.Stroke.{bar_shape, cross_shape, strokes_shape, check_shape, tick_shape, arrow_shape, dot_shape, square_shape, ring_shape}
 use Rattle.rx_svg.specs.Stroke.{diamond_shape, struck_shape, flag_shape, line_sample, bar_sample, low_sample, sign_text, key_text, column_text, broken_text}
-use Rattle.rx_svg.specs.Lane.{x_of, row_text, tick_text, told_text, margin}
+use Rattle.rx_svg.specs.Lane.{x_of, row_text, tick_text, note_marble, margin}
 use Rattle.rx_svg.specs.WellFormed.{IsWellFormed}
 
 -- how many lanes and places are shown
@@ -54,8 +54,8 @@ point_text d height point = column_text (x_of d point.place) height point.place 
 -- what stands under the picture -------------------------------------------------------------------
 
 -- a line of text of this class under the lanes, up to its words
-unfoldable pub below_text : List ℕ → ℕ → ℕ → List ℕ
-below_text class x y =
+unfoldable pub legend_front : List ℕ → ℕ → ℕ → List ℕ
+legend_front class x y =
     text_of (words (codes "<text class=\"") ∷ words class ∷ words (codes "\" x=\"") ∷ number x ∷ words (codes "\" y=\"") ∷ number y
     ∷ words (codes "\">") ∷ [])
 
@@ -78,10 +78,10 @@ unlawful_text place = text_of (words (codes "unlawful: event ") ∷ number place
 unfoldable pub unsettled_text : List ℕ
 unsettled_text = codes "unsettled: an operator has something left to do"
 
-abbrev pub verdict_text : Verdict → List ℕ
-verdict_text (Lawful live held waiting) = lawful_text live.items held.items waiting.items
-verdict_text (Unlawful place) = unlawful_text place
-verdict_text Unsettled = unsettled_text
+abbrev pub verdict_label : Verdict → List ℕ
+verdict_label (Lawful live held waiting) = lawful_text live.items held.items waiting.items
+verdict_label (Unlawful place) = unlawful_text place
+verdict_label Unsettled = unsettled_text
 
 -- how many resources leak, and which
 abbrev pub leak_words : ℕ → List ℕ
@@ -90,11 +90,11 @@ leak_words n = if n == 1 then codes " resource leaks:" else codes " resources le
 unfoldable pub count_text : ℕ → List ℕ → List ℕ
 count_text n ending = text_of (number n ∷ words ending ∷ [])
 
-unfoldable pub entry_text : (ℕ → Option (List ℕ)) → ℕ → List ℕ
-entry_text names n = listed_text n ++ named_text (names n)
+unfoldable pub leak_entry : (ℕ → Option (List ℕ)) → ℕ → List ℕ
+leak_entry names n = listed_text n ++ name_label (names n)
 
 unfoldable pub leaking_text : (ℕ → Option (List ℕ)) → List ℕ → List ℕ
-leaking_text names leaks = count_text (length leaks) (leak_words (length leaks)) ++ flat_map (entry_text names) leaks
+leaking_text names leaks = count_text (length leaks) (leak_words (length leaks)) ++ flat_map (leak_entry names) leaks
 
 abbrev pub leaks_text : (ℕ → Option (List ℕ)) → List ℕ → List ℕ
 leaks_text names leaks = if length leaks == 0 then codes "no resource leaks" else leaking_text names leaks
@@ -114,13 +114,13 @@ shares_text d end =
 
 -- three lines under lanes that are so high
 unfoldable pub verdict_line : ℕ → ℕ → Verdict → List ℕ
-verdict_line x height verdict = below_text (codes "under") x (height + 48) ++ verdict_text verdict ++ codes "</text>\n"
+verdict_line x height verdict = legend_front (codes "under") x (height + 48) ++ verdict_label verdict ++ codes "</text>\n"
 
 unfoldable pub leaks_line : (ℕ → Option (List ℕ)) → ℕ → ℕ → List ℕ → List ℕ
-leaks_line names x height leaks = below_text (leaks_class leaks) x (height + 72) ++ leaks_text names leaks ++ codes "</text>\n"
+leaks_line names x height leaks = legend_front (leaks_class leaks) x (height + 72) ++ leaks_text names leaks ++ codes "</text>\n"
 
 unfoldable pub shares_line : Drawing → ℕ → ℕ → ℕ → List ℕ
-shares_line d end x height = below_text (codes "under") x (height + 96) ++ shares_text d end ++ codes "</text>\n"
+shares_line d end x height = legend_front (codes "under") x (height + 96) ++ shares_text d end ++ codes "</text>\n"
 
 -- the legend: each sign, and what it means --------------------------------------------------------
 
@@ -160,7 +160,7 @@ under_text d names end x height verdict =
 
 unfoldable pub lanes_text : Drawing → (ℕ → Option (List ℕ)) → ℕ → ℕ → Verdict → List ℕ
 lanes_text d names end height verdict =
-    flat_map (point_text d height) d.points.items ++ flat_map (row_text d names end) d.rows.items ++ flat_map (told_text d) d.marbles.items
+    flat_map (point_text d height) d.points.items ++ flat_map (row_text d names end) d.rows.items ++ flat_map (note_marble d) d.marbles.items
     ++ flat_map (tick_text d) d.points.items ++ break_text d height verdict
 
 -- the document that begins so far on the left

@@ -9,13 +9,13 @@ pub data Part : Type 0 where
   number : ℕ → Part
   signed : ℤ → Part
 
-abbrev pub part_text : Part → List ℕ
-part_text (words w) = w
-part_text (number n) = decimal n
-part_text (signed n) = signed_decimal n
+abbrev pub part_codes : Part → List ℕ
+part_codes (words w) = w
+part_codes (number n) = decimal n
+part_codes (signed n) = signed_decimal n
 
 unfoldable pub text_of : List Part → List ℕ
-text_of parts = flat_map part_text parts
+text_of parts = flat_map part_codes parts
 
 abbrev pub part_of : Piece → Part
 part_of (Words w) = words w.now
@@ -23,4 +23,4 @@ part_of (Number n) = number n
 part_of (Signed n) = signed n
 
 abbrev pub piece_text : Piece → List ℕ
-piece_text piece = part_text (part_of piece)
+piece_text piece = part_codes (part_of piece)

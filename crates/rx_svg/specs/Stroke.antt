@@ -4,8 +4,8 @@ use Rattle.rx_note.specs.declared.note.Note.{Note}
 use Rattle.rx_note.specs.declared.note.Note.TheVariants.{Next, Project, End}
 use Rattle.rx_event.specs.declared.event.Event.{Event}
 use Rattle.rx_svg.specs.Parts.{words, number, signed, text_of}
-use Rattle.rx_svg.specs.Label.{event_text}
-use Rattle.rx_svg.specs.Said.{note_text}
+use Rattle.rx_svg.specs.Label.{event_label}
+use Rattle.rx_svg.specs.Said.{said_label}
 
 -- stretches ---------------------------------------------------------------------------------------
 
@@ -172,7 +172,7 @@ unfoldable pub by_text : ℕ → List ℕ
 by_text at = text_of (words (codes " by event ") ∷ number at ∷ words (codes "</title></path>\n") ∷ [])
 
 unfoldable pub marble_text : ℕ → ℕ → ℕ → ℕ → Note → List ℕ
-marble_text x y at to note = marble_front x y to (marble_shape note) ++ note_text note ++ by_text at ++ value_text x y note
+marble_text x y at to note = marble_front x y to (marble_shape note) ++ said_label note ++ by_text at ++ value_text x y note
 
 -- places ------------------------------------------------------------------------------------------
 
@@ -188,7 +188,7 @@ axis_text x place =
     ∷ words (codes "</text>\n") ∷ [])
 
 unfoldable pub column_text : ℕ → ℕ → ℕ → Event → List ℕ
-column_text x height place event = column_front x height place ++ event_text event ++ axis_text x place
+column_text x height place event = column_front x height place ++ event_label event ++ axis_text x place
 
 -- the line through all lanes at the place whose event may not stand there
 unfoldable pub broken_text : ℕ → ℕ → ℕ → List ℕ

@@ -18,8 +18,8 @@ abbrev pub is_letter : ℕ → Bool
 is_letter c = (nat_le 65 c && nat_le c 90) || (nat_le 97 c && nat_le c 122)
 
 -- a name is one letter or more
-abbrev pub is_name : List ℕ → Bool
-is_name name = nat_lt 0 (length name) && list_all is_letter name
+abbrev pub is_tag_name : List ℕ → Bool
+is_tag_name name = nat_lt 0 (length name) && list_all is_letter name
 
 -- a space or the end of a line
 abbrev pub is_space : ℕ → Bool
@@ -50,7 +50,7 @@ abbrev pub end_tag : List ℕ → List ℕ
 end_tag name = codes "</" ++ name ++ codes ">"
 
 abbrev pub is_attribute : Attribute → Bool
-is_attribute a = is_name a.name && is_plain a.value
+is_attribute a = is_tag_name a.name && is_plain a.value
 
 -- no name stands twice
 abbrev pub are_distinct : List (List ℕ) → Bool
@@ -59,7 +59,7 @@ are_distinct (name ∷ names) = not (list_any (bytes_eq name) names) && are_dist
 
 -- an element may have this name and these attributes
 pub record IsTag (name : List ℕ) (attributes : List Attribute) : Type 0 where
-  pub named : IsTrue (is_name name)
+  pub named : IsTrue (is_tag_name name)
   pub each : IsTrue (list_all is_attribute attributes)
   pub once : IsTrue (are_distinct (map (λ a. a.name) attributes))
 

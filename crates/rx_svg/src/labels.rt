@@ -3,8 +3,8 @@
 ghost use Rattle.std.specs.Prelude.{◌≡◌, ◌++◌, string_bytes, OnOk};
 ghost use Rattle.serde_json.specs.View.{view};
 ghost use Rattle.rx_names.specs.Names.{name_of};
-ghost use Rattle.rx_svg.specs.Label.{kind_text, place_text, mode_text, terminal_text, event_text, called_text};
-ghost use Rattle.rx_svg.specs.Said.{note_text};
+ghost use Rattle.rx_svg.specs.Label.{kind_label, place_label, mode_label, terminal_label, event_label, called_text};
+ghost use Rattle.rx_svg.specs.Said.{said_label};
 
 use crate::names::push_named;
 use rx_event::{Event, Kind, Mode, Place, Terminal};
@@ -12,9 +12,9 @@ use rx_names::Names;
 use rx_note::Note;
 use std::alloc::AllocError;
 
-#[tactic(auto, unfolding(crate::specs::Label::kind_text))]
+#[tactic(auto, unfolding(crate::specs::Label::kind_label))]
 fn push_kind(text: &mut String, kind: Kind) -> Result<(), AllocError>
-    ensures { OnOk result (string_bytes text.new ≡ string_bytes text.old ++ kind_text kind) }
+    ensures { OnOk result (string_bytes text.new ≡ string_bytes text.old ++ kind_label kind) }
 {
     match kind {
         Kind::Leaf => text.push_str(" leaf"),
@@ -26,9 +26,9 @@ fn push_kind(text: &mut String, kind: Kind) -> Result<(), AllocError>
     }
 }
 
-#[tactic(auto, unfolding(crate::specs::Label::place_text))]
+#[tactic(auto, unfolding(crate::specs::Label::place_label))]
 fn push_place(text: &mut String, place: Place) -> Result<(), AllocError>
-    ensures { OnOk result (string_bytes text.new ≡ string_bytes text.old ++ place_text place) }
+    ensures { OnOk result (string_bytes text.new ≡ string_bytes text.old ++ place_label place) }
 {
     match place {
         Place::Root => text.push_str(", root"),
@@ -38,9 +38,9 @@ fn push_place(text: &mut String, place: Place) -> Result<(), AllocError>
     }
 }
 
-#[tactic(auto, unfolding(crate::specs::Label::mode_text))]
+#[tactic(auto, unfolding(crate::specs::Label::mode_label))]
 fn push_mode(text: &mut String, mode: Mode) -> Result<(), AllocError>
-    ensures { OnOk result (string_bytes text.new ≡ string_bytes text.old ++ mode_text mode) }
+    ensures { OnOk result (string_bytes text.new ≡ string_bytes text.old ++ mode_label mode) }
 {
     match mode {
         Mode::Auto => text.push_str(" hub, RefCount"),
@@ -48,9 +48,9 @@ fn push_mode(text: &mut String, mode: Mode) -> Result<(), AllocError>
     }
 }
 
-#[tactic(auto, unfolding(crate::specs::Label::terminal_text))]
+#[tactic(auto, unfolding(crate::specs::Label::terminal_label))]
 fn push_terminal(text: &mut String, terminal: Terminal) -> Result<(), AllocError>
-    ensures { OnOk result (string_bytes text.new ≡ string_bytes text.old ++ terminal_text terminal) }
+    ensures { OnOk result (string_bytes text.new ≡ string_bytes text.old ++ terminal_label terminal) }
 {
     match terminal {
         Terminal::Completed => text.push_str(" completed"),
@@ -59,9 +59,9 @@ fn push_terminal(text: &mut String, terminal: Terminal) -> Result<(), AllocError
 }
 
 /// What the event did; of one that makes something, what it made.
-#[tactic(auto, unfolding(crate::specs::Label::event_text))]
+#[tactic(auto, unfolding(crate::specs::Label::event_label))]
 pub fn push_event(text: &mut String, event: Event) -> Result<(), AllocError>
-    ensures { OnOk result (string_bytes text.new ≡ string_bytes text.old ++ event_text event) }
+    ensures { OnOk result (string_bytes text.new ≡ string_bytes text.old ++ event_label event) }
 {
     match event {
         Event::Open { place, kind } => {
@@ -103,9 +103,9 @@ pub fn push_called(
 }
 
 /// What somebody was told.
-#[tactic(auto, unfolding(crate::specs::Said::note_text))]
+#[tactic(auto, unfolding(crate::specs::Said::said_label))]
 pub fn push_note(text: &mut String, note: Note) -> Result<(), AllocError>
-    ensures { OnOk result (string_bytes text.new ≡ string_bytes text.old ++ note_text note) }
+    ensures { OnOk result (string_bytes text.new ≡ string_bytes text.old ++ said_label note) }
 {
     match note {
         Note::Next(value) => write!(text, " next {value}"),

@@ -5,9 +5,9 @@ ghost use Rattle.rx_picture.specs.Rows.{lane_of};
 ghost use Rattle.rx_picture.specs.Leaks.{is_leaking};
 ghost use Rattle.serde_json.specs.View.{view};
 ghost use Rattle.rx_names.specs.Names.{name_of};
-ghost use Rattle.rx_svg.specs.Lane.{x_of, y_of, has_lane, is_root_point, is_root_of, label_text, ending_text, life_text};
+ghost use Rattle.rx_svg.specs.Lane.{x_of, y_of, has_lane, is_root_point, is_root_of, label_element, ending_text, life_text};
 ghost use Rattle.rx_svg.specs.Lane.{stretch_text, held_class, wait_class, owned_text, loan_text, wait_text, release_text};
-ghost use Rattle.rx_svg.specs.Lane.{shape_text, name_text, row_text, in_lane_text, emitted_text, done_text, tick_text, told_text};
+ghost use Rattle.rx_svg.specs.Lane.{shape_text, row_label, row_text, in_lane_text, emitted_text, done_text, tick_text, note_marble};
 
 use crate::labels::push_called;
 use crate::pieces::put;
@@ -76,7 +76,7 @@ fn is_root_of(drawing: &Drawing, n: u64) -> bool
 }
 
 /// What a lane shows.
-#[tactic(auto, unfolding(crate::specs::Lane::label_text, crate::specs::Lane::label_front, crate::specs::Parts::text_of))]
+#[tactic(auto, unfolding(crate::specs::Lane::label_element, crate::specs::Lane::label_front, crate::specs::Parts::text_of))]
 fn push_label(
     text: &mut String,
     names: Names<'_>,
@@ -86,7 +86,7 @@ fn push_label(
     made: Event,
 ) -> Result<(), AllocError>
     ensures { OnOk result (string_bytes text.new ≡ string_bytes text.old
-        ++ label_text x y n (name_of (view names.entry.object.now) n) made) }
+        ++ label_element x y n (name_of (view names.entry.object.now) n) made) }
 {
     put!(text; "<text class=\"label\" x=\"" [x] "\" y=\"" [y] "\" dy=\"4\">")?;
     push_called(text, names, n, made)?;
@@ -300,7 +300,7 @@ fn push_name(
     made: Event,
 ) -> Result<(), AllocError>
     ensures { OnOk result (string_bytes text.new ≡ string_bytes text.old
-        ++ name_text drawing.now n (name_of (view names.entry.object.now) n) made) }
+        ++ row_label drawing.now n (name_of (view names.entry.object.now) n) made) }
 {
     match made {
         Event::Lease(_) => Ok(()),
@@ -413,9 +413,9 @@ pub fn push_tick(text: &mut String, drawing: &Drawing, point: Point) -> Result<(
 }
 
 /// A marble.
-#[tactic(auto, unfolding(crate::specs::Lane::told_text))]
+#[tactic(auto, unfolding(crate::specs::Lane::note_marble))]
 pub fn push_told(text: &mut String, drawing: &Drawing, mail: Mail) -> Result<(), AllocError>
-    ensures { OnOk result (string_bytes text.new ≡ string_bytes text.old ++ told_text drawing.now mail) }
+    ensures { OnOk result (string_bytes text.new ≡ string_bytes text.old ++ note_marble drawing.now mail) }
 {
     let x = x_of(drawing, mail.place);
     let y = y_of(drawing, mail.to);

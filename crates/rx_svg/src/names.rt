@@ -5,7 +5,7 @@ ghost use Rattle.std.specs.List.{list_any};
 ghost use Rattle.serde_json.specs.View.{view};
 ghost use Rattle.rx_names.specs.Names.{name_of};
 ghost use Rattle.rx_svg.specs.WellFormed.{is_plain_character};
-ghost use Rattle.rx_svg.specs.Name.{escape, byte_text, shown_name, named_text};
+ghost use Rattle.rx_svg.specs.Name.{escape, byte_text, shown_name, name_label};
 
 use rx_names::{Names, name_of};
 use std::alloc::AllocError;
@@ -84,7 +84,7 @@ fn push_shown(text: &mut String, name: &str) -> Result<(), AllocError>
 /// A name, if there is one.
 fn push_if_named(text: &mut String, name: Option<&str>) -> Result<(), AllocError>
     ensures { OnOk result (string_bytes text.new ≡ string_bytes text.old
-        ++ named_text (option_map (λ s. s.now) name.entry)) }
+        ++ name_label (option_map (λ s. s.now) name.entry)) }
 {
     match name {
         Some(name) => push_shown(text, name),
@@ -95,7 +95,7 @@ fn push_if_named(text: &mut String, name: Option<&str>) -> Result<(), AllocError
 /// The name of the number, if it has one.
 pub fn push_named(text: &mut String, names: Names<'_>, n: u64) -> Result<(), AllocError>
     ensures { OnOk result (string_bytes text.new ≡ string_bytes text.old
-        ++ named_text (name_of (view names.entry.object.now) n)) }
+        ++ name_label (name_of (view names.entry.object.now) n)) }
 {
     let name = name_of(names, n)?;
     push_if_named(text, name)

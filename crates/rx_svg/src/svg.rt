@@ -4,9 +4,9 @@ ghost use Rattle.std.specs.Prelude.{◌≡◌, ◌+◌, ◌++◌, ◌≤◌, str
 ghost use Rattle.serde_json.specs.Data.{null};
 ghost use Rattle.serde_json.specs.View.{view};
 ghost use Rattle.rx_names.specs.Names.{name_of};
-ghost use Rattle.rx_svg.specs.Lane.{row_text, tick_text, told_text};
-ghost use Rattle.rx_svg.specs.Page.{lanes_shown, places_shown, width_of, head_text, point_text, below_text, listed_text, list_text, lawful_text};
-ghost use Rattle.rx_svg.specs.Page.{verdict_text, leak_words, entry_text, leaking_text, leaks_text, leaks_class};
+ghost use Rattle.rx_svg.specs.Lane.{row_text, tick_text, note_marble};
+ghost use Rattle.rx_svg.specs.Page.{lanes_shown, places_shown, width_of, head_text, point_text, legend_front, listed_text, list_text, lawful_text};
+ghost use Rattle.rx_svg.specs.Page.{verdict_label, leak_words, leak_entry, leaking_text, leaks_text, leaks_class};
 ghost use Rattle.rx_svg.specs.Page.{break_text, verdict_line, leaks_line, shares_line, under_text, lanes_text, page_text, svg_text, IsPicture};
 
 use crate::lanes::{push_row, push_tick, push_told, value_at, x_of};
@@ -126,7 +126,7 @@ fn push_ticks(text: &mut String, drawing: &Drawing, points: &[Point]) -> Result<
 
 /// All marbles.
 fn push_marbles(text: &mut String, drawing: &Drawing, marbles: &[Mail]) -> Result<(), AllocError>
-    ensures { OnOk result (string_bytes text.new ≡ string_bytes text.old ++ flat_map (told_text drawing.now) marbles.now) }
+    ensures { OnOk result (string_bytes text.new ≡ string_bytes text.old ++ flat_map (note_marble drawing.now) marbles.now) }
 {
     for mail in marbles {
         push_told(text, drawing, *mail)?;
@@ -135,9 +135,9 @@ fn push_marbles(text: &mut String, drawing: &Drawing, marbles: &[Mail]) -> Resul
 }
 
 /// The front of a line of text of this class under the lanes.
-#[tactic(auto, unfolding(crate::specs::Page::below_text, crate::specs::Parts::text_of))]
+#[tactic(auto, unfolding(crate::specs::Page::legend_front, crate::specs::Parts::text_of))]
 fn push_below(text: &mut String, class: &'static str, x: u64, y: u64) -> Result<(), AllocError>
-    ensures { OnOk result (string_bytes text.new ≡ string_bytes text.old ++ below_text class.now x y) }
+    ensures { OnOk result (string_bytes text.new ≡ string_bytes text.old ++ legend_front class.now x y) }
 {
     put!(text; "<text class=\"" class "\" x=\"" [x] "\" y=\"" [y] "\">")
 }
@@ -188,7 +188,7 @@ fn push_lawful(
 /// The verdict.
 #[tactic(auto, unfolding(crate::specs::Page::unsettled_text, crate::specs::Page::unlawful_text, crate::specs::Parts::text_of))]
 fn push_verdict(text: &mut String, verdict: &Verdict) -> Result<(), AllocError>
-    ensures { OnOk result (string_bytes text.new ≡ string_bytes text.old ++ verdict_text verdict.now) }
+    ensures { OnOk result (string_bytes text.new ≡ string_bytes text.old ++ verdict_label verdict.now) }
 {
     match verdict {
         Verdict::Lawful {
@@ -215,9 +215,9 @@ fn leak_words(n: u64) -> &'static str
 }
 
 /// One number after a space, and its name.
-#[tactic(auto, unfolding(crate::specs::Page::entry_text))]
+#[tactic(auto, unfolding(crate::specs::Page::leak_entry))]
 fn push_entry(text: &mut String, names: Names<'_>, n: u64) -> Result<(), AllocError>
-    ensures { OnOk result (string_bytes text.new ≡ string_bytes text.old ++ entry_text (name_of (view names.entry.object.now)) n) }
+    ensures { OnOk result (string_bytes text.new ≡ string_bytes text.old ++ leak_entry (name_of (view names.entry.object.now)) n) }
 {
     push_one(text, n)?;
     push_named(text, names, n)
@@ -226,7 +226,7 @@ fn push_entry(text: &mut String, names: Names<'_>, n: u64) -> Result<(), AllocEr
 /// Each number after a space, and its name.
 fn push_entries(text: &mut String, names: Names<'_>, numbers: &[u64]) -> Result<(), AllocError>
     ensures { OnOk result (string_bytes text.new ≡ string_bytes text.old
-        ++ flat_map (entry_text (name_of (view names.entry.object.now))) numbers.now) }
+        ++ flat_map (leak_entry (name_of (view names.entry.object.now))) numbers.now) }
 {
     for n in numbers {
         push_entry(text, names, *n)?;
