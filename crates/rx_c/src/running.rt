@@ -66,9 +66,9 @@ pub extern "C" fn rx_run(alloc: Global, scenario: &[u8], buffer: &mut [u8], told
     run_in(alloc, scenario, Form::Report, buffer, told)
 }
 
-/// The same, but that the dump of the history before the closing is written, as `rxbook run --dump`
-/// does; [`rx_audit`](crate::rx_audit) judges it. The status is 3 also where the scenario has a checkpoint,
-/// after which a dump is no whole history.
+/// Runs the scenario as [`rx_run`] does, and writes the dump of the history before the closing in place of the report, as
+/// `rxbook run --dump` does; [`rx_audit`](crate::rx_audit) judges it. The status is 3 also where the scenario has a
+/// checkpoint, after which a dump is no whole history.
 #[unsafe(no_mangle)]
 pub extern "C" fn rx_run_dump(
     alloc: Global,

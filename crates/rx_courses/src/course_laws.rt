@@ -30,8 +30,8 @@ pub fn tags_once()
     ensures { TagsOnce ⟦<Token as Resource>⟧ }
 {}
 
-/// The same of last effects, word by word: as many for a word were put into lanes, or are still to come, as roles
-/// were given to it.
+/// Of any course of a new engine, for each word: as many last effects for it were put into lanes, or are still to come,
+/// as roles were given to it.
 pub fn words_end_once()
     ensures { WordsEndOnce ⟦<Token as Resource>⟧ }
 {}
