@@ -1,5 +1,5 @@
 """The words of a script of this folder: --help prints what it says of itself, and what it has no use for is refused with status 2."""
-import pathlib, sys
+import os, pathlib, sys
 
 
 def words(text, least=0, most=0, options=()):
@@ -8,7 +8,11 @@ def words(text, least=0, most=0, options=()):
     plain = [it for it in given if not it.startswith('-')]
     why = next((f'there is no {it}' for it in given if it.startswith('-') and it not in options), '')
     if {'-h', '--help'} & set(given):
-        sys.exit(print(text.strip()))
+        try:
+            print(text.strip(), flush=True)
+        except BrokenPipeError:
+            os.dup2(os.open(os.devnull, os.O_WRONLY), 1)  # who reads has enough, and what is left goes nowhere
+        sys.exit()
     if why or not least <= len(plain) <= most:
         why = why or (f'{plain[most]} is a word too many' if len(plain) > most else 'a word is missing')
         name = pathlib.Path(sys.argv[0]).name
