@@ -96,8 +96,9 @@ class Reports:
 
     def text(self) -> str:
         rows, counts, whole = self.rows(), self.engine.counts(), self.engine.history()
+        many = sum(it.counts[-1] for it in rows)
         lines = [f"cellarcliff.watch: after {time.monotonic() - self.began:.1f} s "
-                 + ("nothing that the program made is open" if not rows else f"{sum(it.counts[-1] for it in rows)} of what the program made is open")]
+                 + (f"{many} of what the program made {'are' if many > 1 else 'is'} open" if many else "nothing that the program made is open")]
         lines += [f"  {'GROWS ' if it.only_grows else ''}{told(it)}" for it in rows]
         if counts.waiting:
             lines.append(f"  {counts.waiting} releases wait until what is telling their observers comes back")
