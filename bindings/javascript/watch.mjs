@@ -7,7 +7,7 @@
 // CELLARCLIFF_DUMP=FILE writes the history there, with these lines as names, for `rxbook picture`.
 import { writeFileSync, writeSync } from 'node:fs';
 import module, { createRequire } from 'node:module';
-import { dump, trace } from './index.mjs';
+import { counts, dump, trace } from './index.mjs';
 import { made } from './src/core/open.mjs';
 import { named, reported } from './src/watch/report.mjs';
 
@@ -23,7 +23,7 @@ module.register('./src/watch/hooks.mjs', import.meta.url);
 trace();
 
 /** What is open now, as a text. */
-export const report = () => reported(made(), dump() !== null);
+export const report = () => reported(made(), dump() !== null, counts().nodes);
 const tell = () => writeSync(2, report());
 
 process.on('SIGUSR2', tell);

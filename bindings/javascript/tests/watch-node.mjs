@@ -92,6 +92,8 @@ const required = watched('required.cjs', "const { Subject } = require('rxjs'), {
 check('a program that requires', required.rows.some((it) => it.includes('required.cjs:3')), required.stderr);
 const grows = watched('grows.mjs', "import { Subject } from 'rxjs';\nconst s = new Subject();\ns.subscribe();\nfor (let i = 0; i < 3; i++) {\n  s.subscribe(console.log);\n  process.kill(process.pid, 'SIGUSR2');\n  await new Promise((resolve) => setTimeout(resolve, 50));\n}\n");
 check('what grows comes first', grows.rows.at(-2)?.startsWith('  GROWS 3 subscriptions') && grows.rows.at(-2).endsWith(', 3)'), grows.stderr);
+const inner = watched('inner.mjs', "import { NEVER, Subject, mergeMap } from 'rxjs';\nconst s = new Subject();\ns.pipe(mergeMap(() => NEVER)).subscribe();\nfor (let i = 0; i < 2; i++) {\n  s.next(i);\n  process.kill(process.pid, 'SIGUSR2');\n  await new Promise((resolve) => setTimeout(resolve, 50));\n}\n");
+check('what grows below a subscription', /^ {2}GROWS what stands below these \(nodes at each report: \d+, \d+\)$/m.test(inner.stderr), inner.stderr);
 check('the status of the program', watched('status.mjs', "import 'rxjs';\nprocess.exit(7);\n").status === 7, 'another');
 const dumped = watched('dashboard.mjs', readFileSync(join(leaks, 'dashboard.mjs'), 'utf8'), { CELLARCLIFF_DUMP: 'dump.json' });
 check('the history with names', JSON.parse(readFileSync(join(room, 'dump.json'), 'utf8')).names[0].startsWith('dashboard.mjs:'), dumped.stderr);

@@ -135,6 +135,22 @@ class Watching(unittest.TestCase):
         self.assertTrue(last[0].startswith("GROWS 2 subscriptions"), said.stderr)
         self.assertIn("(at each report: 1, 2, 2)", last[0])
 
+    def test_what_grows_below_a_subscription_is_told(self):
+        said = of_text("""
+            import os, signal, time, rx
+            from rx import operators as ops
+            from rx.subject import Subject
+            source = Subject()
+            source.pipe(ops.flat_map(lambda _: rx.never())).subscribe()
+            for _ in range(2):
+                source.on_next(1)
+                os.kill(os.getpid(), signal.SIGUSR1)
+                time.sleep(0.3)
+            """)
+        found = re.findall(r"^  GROWS what stands below these \(nodes at each report: (\d+), (\d+)\)$", said.stderr, re.M)
+        self.assertEqual(len(found), 1, said.stderr)
+        self.assertLess(*map(int, found[0]))
+
     def test_the_end_of_the_program_is_its_own(self):
         self.assertEqual(of_text("import sys\nprint(sys.argv[1:])\nsys.exit(7)", "--fail").returncode, 7)
         said = of_text("1 / 0")

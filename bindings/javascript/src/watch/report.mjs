@@ -1,8 +1,11 @@
 // What a report says: what is open, by the lines that made it, and how that grew.
 import { relative } from 'node:path';
 
-const began = Date.now(), counted = new Map();
+const began = Date.now(), counted = new Map(), below = [];
 let reports = 0;
+
+// Whether these only grow from report to report.
+const grow = (counts) => counts.length > 1 && counts[counts.length - 1] > counts[0] && counts.every((it, i) => i === 0 || it >= counts[i - 1]);
 
 const shownFile = (file) => {
   const near = relative(process.cwd(), file);
@@ -27,7 +30,7 @@ function rows(open) {
   }
   const found = [...groups].map(([name, its]) => {
     const counts = counted.get(name).slice(-6), many = its.length;
-    const grows = counts.length > 1 && counts[counts.length - 1] > counts[0] && counts.every((it, i) => i === 0 || it >= counts[i - 1]);
+    const grows = grow(counts);
     const [what, ...rest] = name.split(', made at ');
     const words = `${many} ${what}${many > 1 ? 's' : ''}, made at ${rest.join(', made at ')}, ${many > 1 ? 'the oldest ' : ''}for ${seconds(Math.min(...its.map((it) => it.since)))} s`;
     return { grows, many, text: `${grows ? 'GROWS ' : ''}${words}${counts.length > 1 ? ` (at each report: ${counts.join(', ')})` : ''}` };
@@ -35,12 +38,15 @@ function rows(open) {
   return found.sort((a, b) => b.grows - a.grows || b.many - a.many);
 }
 
-/** The report on what is open, as a text. */
-export function reported(open, isWhole) {
+/** The report on what is open, as a text; `nodes` counts those of the engine. */
+export function reported(open, isWhole, nodes) {
   const found = rows(open), many = found.reduce((sum, it) => sum + it.many, 0);
   const head = `cellarcliff/watch: after ${seconds(began)} s ${many ? `${many} of what the program made ${many > 1 ? 'are' : 'is'} open` : 'nothing that the program made is open'}`;
+  below.splice(0, below.length - 5);
+  below.push(nodes);
+  const held = grow(below) && !found.some((it) => it.grows) ? [`GROWS what stands below these (nodes at each report: ${below.join(', ')})`] : [];
   const tail = isWhole ? [] : ['the engine made a checkpoint, so the history is not whole: this is made of what is open'];
-  return `${[head, ...found.map((it) => it.text), ...tail].join('\n  ')}\n`;
+  return `${[head, ...found.map((it) => it.text), ...held, ...tail].join('\n  ')}\n`;
 }
 
 /** The history with the lines of the program as names, for `rxbook picture`; null where it is not whole. */

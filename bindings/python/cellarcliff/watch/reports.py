@@ -6,12 +6,17 @@ import json
 import os
 import threading
 import time
-from typing import Any, Dict, List, NamedTuple, Optional, Tuple
+from typing import Any, Dict, List, NamedTuple, Optional, Sequence, Tuple
 
 from ..rx.watched import Made, Place, Watched
 
 #: What belongs together: what it is, where its factory stands, and the line that subscribed.
 Group = Tuple[str, str, Optional[Place], Optional[Place]]
+
+
+def grow(counts: Sequence[int]) -> bool:
+    """Whether these only grow from report to report."""
+    return len(counts) > 1 and counts[-1] > counts[0] and list(counts) == sorted(counts)
 
 
 class Row(NamedTuple):
@@ -24,7 +29,7 @@ class Row(NamedTuple):
 
     @property
     def only_grows(self) -> bool:
-        return len(self.counts) > 1 and self.counts[-1] > self.counts[0] and list(self.counts) == sorted(self.counts)
+        return grow(self.counts)
 
 
 def group_of(made: Made) -> Group:
@@ -79,6 +84,7 @@ class Reports:
     def __init__(self, engine: Watched):
         self.engine, self.began, self.many = engine, time.monotonic(), 0
         self._counts: Dict[Group, List[int]] = {}
+        self._nodes: List[int] = []
         self._lock = threading.Lock()
 
     def rows(self) -> List[Row]:
@@ -100,6 +106,9 @@ class Reports:
         lines = [f"cellarcliff.watch: after {time.monotonic() - self.began:.1f} s "
                  + (f"{many} of what the program made {'are' if many > 1 else 'is'} open" if many else "nothing that the program made is open")]
         lines += [f"  {'GROWS ' if it.only_grows else ''}{told(it)}" for it in rows]
+        self._nodes = [*self._nodes[-5:], counts.nodes]
+        if grow(self._nodes) and not any(it.only_grows for it in rows):
+            lines.append(f"  GROWS what stands below these (nodes at each report: {', '.join(map(str, self._nodes))})")
         if counts.waiting:
             lines.append(f"  {counts.waiting} releases wait until what is telling their observers comes back")
         lines.append("  " + (f"the history is {verdict(whole)}" if whole is not None else
