@@ -7,7 +7,6 @@ mod days;
 mod desk_calls;
 mod endless;
 mod feeds;
-mod leases;
 mod meetings;
 mod parts;
 mod rows;
