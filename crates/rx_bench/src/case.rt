@@ -7,10 +7,6 @@ use crate::shapes::Shape;
 /// What can be measured. The operations of each are in the crate's head.
 #[derive(Clone, Copy)]
 pub enum Case {
-    /// Virtual time: work scheduled on a timeline, and drained.
-    Timeline,
-    /// A trampoline: the same work pushed, and drained.
-    Trampoline,
     /// Subscriptions that come and go on a book.
     Cycle,
     /// Subscriptions that come and go on a book in which others stay open.
@@ -37,8 +33,6 @@ pub enum Case {
     Storm,
     /// The audit of a history of a shape.
     Audit(Shape),
-    /// The reading of its dump by serde_json alone.
-    Json(Shape),
 }
 
 impl Case {
@@ -47,7 +41,7 @@ impl Case {
         ensures { result ≤ 10000000 }
     {
         match self {
-            Case::Timeline | Case::Trampoline | Case::Cycle | Case::Items => 10_000_000,
+            Case::Cycle | Case::Items => 10_000_000,
             Case::Chain | Case::Checkpoint | Case::CheckpointShort => 100_000,
             Case::Scenario => 65_536,
             Case::Storm => 10_000,
@@ -57,9 +51,7 @@ impl Case {
 }
 
 /// Of each case its word, and the small size at which the gate runs it.
-pub static CASES: [(&str, Case, u64); 30] = [
-    ("timeline", Case::Timeline, 2),
-    ("trampoline", Case::Trampoline, 1),
+pub static CASES: [(&str, Case, u64); 20] = [
     ("cycle", Case::Cycle, 3),
     ("crowd", Case::Crowd, 3),
     ("items", Case::Items, 3),
@@ -79,21 +71,13 @@ pub static CASES: [(&str, Case, u64); 30] = [
     // The mark of the figures: 64 accepted, taken and released, 128 notes, 448 events.
     ("storm", Case::Storm, 1),
     ("audit-roots", Case::Audit(Shape::Roots), 40),
-    ("json-roots", Case::Json(Shape::Roots), 40),
     ("audit-cycle", Case::Audit(Shape::Cycle), 40),
-    ("json-cycle", Case::Json(Shape::Cycle), 40),
     ("audit-chain", Case::Audit(Shape::Chain), 40),
-    ("json-chain", Case::Json(Shape::Chain), 40),
     ("audit-resources", Case::Audit(Shape::Resources), 40),
-    ("json-resources", Case::Json(Shape::Resources), 40),
     ("audit-flat", Case::Audit(Shape::Flat), 40),
-    ("json-flat", Case::Json(Shape::Flat), 40),
     ("audit-until", Case::Audit(Shape::Until), 40),
-    ("json-until", Case::Json(Shape::Until), 40),
     ("audit-subscribers", Case::Audit(Shape::Subscribers), 40),
-    ("json-subscribers", Case::Json(Shape::Subscribers), 40),
     ("audit-hub-items", Case::Audit(Shape::HubItems), 40),
-    ("json-hub-items", Case::Json(Shape::HubItems), 40),
 ];
 
 /// A case at a size, which is at least 1, and at most the greatest that it is run at.

@@ -9,9 +9,6 @@
 //!
 //! Of each case its work at the size N, and how many operations that is, of which kind.
 //!
-//! - `timeline`: N entries scheduled on a timeline in falling, rising and equal order, and taken out.
-//!   6N: each call.
-//! - `trampoline`: the same on a trampoline. 6N: each call.
 //! - `cycle`: a Using subscription opened with one resource and a leaf below it, one item, the disposal,
 //!   the resource taken and released, the note taken; N times on one book, with a new one where its
 //!   history is full. N: each cycle.
@@ -43,8 +40,6 @@
 //! - `audit-SHAPE`: the audit of a lawful history of N events of one of the shapes of `shapes.rt`: `roots`,
 //!   `cycle`, `chain`, `resources`, `flat`, `until`, `subscribers`, `hub-items`; N is at least 40. The history is
 //!   made before the time begins. N: each event.
-//! - `json-SHAPE`: serde_json's own reading of the dump of that history. The text is made before the
-//!   time begins. N: each event.
 //! - `storm`: a storm of 64 sources, 16 workers and N items of each source, with its start, its end and its
 //!   figures. 64N: each item.
 //!
@@ -55,7 +50,7 @@
 //! # Promised, and not
 //!
 //! - What was told was done: a run counts an operation with each value that came out, and the line
-//!   tells the count that the case states for its size. An agenda that is drained is empty.
+//!   tells the count that the case states for its size.
 //! - The time of an operation is the time of the run, divided by that count.
 //! - Compared by the gate, and not proved: the order in which items come out (by the mark), and that a book
 //!   is left with the events that the case states, with no open node and no resource that is held or waits:
@@ -64,7 +59,6 @@
 //! - No time is promised.
 #![tactic(auto)]
 
-mod agenda;
 mod audit;
 mod calls;
 mod case;

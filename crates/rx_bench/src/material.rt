@@ -2,7 +2,7 @@
 
 ghost use Rattle.std.specs.Prelude.{◌≡◌, IfOk};
 
-use crate::audit::{dump_of, run_audit, run_json};
+use crate::audit::run_audit;
 use crate::case::{Case, Request};
 use crate::checkpoint::{crowded, run_checkpoint};
 use crate::done::{Done, Halt};
@@ -21,8 +21,6 @@ pub enum Material {
     Scenario(String, Vec<Sample>),
     /// The history that is audited.
     History(Vec<Event>),
-    /// The dump that is read.
-    Dump(String),
     /// The book that makes a checkpoint.
     Crowd(Book<Sample>),
 }
@@ -33,7 +31,6 @@ impl Drop for Material {
             Material::Nothing => {}
             Material::Scenario(_text, _stock) => {}
             Material::History(_events) => {}
-            Material::Dump(_dump) => {}
             Material::Crowd(_book) => {}
         }
     }
@@ -49,7 +46,6 @@ impl Material {
                 Ok(Material::Scenario(text, stock_of(alloc, size)?))
             }
             Case::Audit(shape) => Ok(Material::History(history(alloc, shape, size)?)),
-            Case::Json(shape) => Ok(Material::Dump(dump_of(alloc, shape, size)?)),
             Case::Checkpoint => Ok(Material::Crowd(crowded(alloc, size, 99 * size)?)),
             Case::CheckpointShort => Ok(Material::Crowd(crowded(alloc, size, 0)?)),
             _ => Ok(Material::Nothing),
@@ -64,7 +60,6 @@ impl Material {
             Material::Nothing => Err(Halt::Refused),
             Material::Scenario(text, stock) => run_scenario(alloc, text.as_str(), stock, size),
             Material::History(events) => run_audit(alloc, events.as_slice(), size),
-            Material::Dump(dump) => run_json(alloc, dump.as_str(), size),
             Material::Crowd(book) => {
                 let mut book = book;
                 run_checkpoint(&mut book, size)

@@ -4,7 +4,6 @@ ghost use Rattle.std.specs.Prelude.{◌≡◌, ◌-◌, ◌*◌, ◌/◌, ◌^�
 ghost use Rattle.std.specs.Duration.{as_nanos};
 ghost use Rattle.rx_bench.specs.Cases.{operations_of};
 
-use crate::agenda::run_orders;
 use crate::case::{Case, Request};
 use crate::done::{Done, Halt};
 use crate::material::Material;
@@ -14,7 +13,6 @@ use crate::subscriptions::{Chain, Crowd, Cycles, Emitter, Merging, Sharing};
 use crate::turns::run_work;
 use rx_book::Book;
 use rx_resource::Sample;
-use rx_time::{Timeline, Trampoline};
 use std::alloc::Global;
 use std::sync::Wait;
 use std::thread::Threads;
@@ -59,11 +57,8 @@ pub fn run<R: Threads + Wait + Sync>(
     ensures { IfOk result (λ done. done.operations ≡ operations_of request.case request.size) }
 {
     match request.case {
-        Case::Timeline => run_orders::<Timeline<u64>>(alloc, request.size),
-        Case::Trampoline => run_orders::<Trampoline<u64>>(alloc, request.size),
         Case::Scenario => material.run(alloc, request.size),
         Case::Audit(_) => material.run(alloc, request.size),
-        Case::Json(_) => material.run(alloc, request.size),
         Case::Checkpoint => material.run(alloc, request.size),
         Case::CheckpointShort => material.run(alloc, request.size),
         Case::Storm => run_storm(rt, alloc, request.size),
