@@ -1,7 +1,7 @@
 //! The source of a thread.
 
 ghost use Rattle.std.specs.Prelude.{◌≡◌, false, [], if◌then◌else◌};
-ghost use Rattle.rx_example_threads.specs.Counts.{count_down};
+ghost use Rattle.rx_example.specs.Counts.{count_down};
 
 use rx_book::Terminal;
 use rx_crew::{Pull, Source};

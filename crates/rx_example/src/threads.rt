@@ -1,14 +1,10 @@
-//! A whole program with threads at one book: two sources emit, each in a thread of its own and below a
-//! subscription that holds a resource, and a worker releases what comes to wait. Then the desk is ended, and
-//! its book.
-#![tactic(auto)]
+//! Threads at one book: two sources emit, each in a thread of its own and below a subscription that holds a
+//! resource, and a worker releases what comes to wait. Then the desk is ended, and its book.
 
 ghost use Rattle.std.specs.Prelude.{◌≡◌, ◌+◌, IfOk, IsOk};
 ghost use Rattle.rx_ledger.specs.Shares.{Opens, all_parts, together};
 
-mod countdown;
-
-use countdown::Countdown;
+use crate::countdown::Countdown;
 use rx_book::{At, Book, Closed, Kind};
 use rx_crew::{Desk, Finished, Gate, Mismatch, Totals, feed, finish, worker};
 use rx_ledger::{PARTS, Seat};
@@ -128,9 +124,10 @@ fn run<
     Ok(end_all(desk, seats))
 }
 
-fn main(rt: HostRuntime) -> io::Result<()> {
+/// Runs the threads at a desk of their own, and prints what its book comes to.
+pub fn show<T: Threads + Wait + Sync + Print>(rt: &T, alloc: Global) -> io::Result<()> {
     let blanks = (Blank::new(PARTS), Blank::new(PARTS), Blank::new(PARTS));
-    let (verdict, closed) = run::<Brand, Brand, Brand, _>(&rt, rt.alloc(), blanks)?;
+    let (verdict, closed) = run::<Brand, Brand, Brand, _>(rt, alloc, blanks)?;
     let Ok(totals) = verdict else { unreachable!() };
     println!(rt; "events {} items {}", totals.len, totals.items)?;
     println!(rt;
