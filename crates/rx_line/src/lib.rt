@@ -22,6 +22,7 @@
 
 mod free;
 mod names;
+mod near;
 mod order;
 mod outcome;
 mod pieces;

@@ -1,5 +1,6 @@
 //! What is wrong with a JSON value that is no command. Nothing is proved of what it says.
 
+use crate::near::Nearest;
 use rx_device::Part;
 use rx_scenario::is_name;
 use std::alloc::{AllocError, Global};
@@ -125,19 +126,23 @@ fn number_fault(object: Part<'_, '_>, member: &str) -> Option<&'static str> {
     fault(number.and_then(Part::as_u64).is_some(), told)
 }
 
+// The words that may stand there, if only these may.
+fn words_of(member: &str) -> &'static str {
+    match member {
+        "place" => "root, source, inner, notifier",
+        "kind" => "leaf, pass, flat, switch, until, sub",
+        "mode" => "auto, manual",
+        _ => "",
+    }
+}
+
 fn words_fault(object: Part<'_, '_>, member: &str) -> Option<&'static str> {
-    let (words, told) = match member {
-        "place" => (
-            "root, source, inner, notifier",
-            "root, source, inner or notifier is expected",
-        ),
-        "kind" => (
-            "leaf, pass, flat, switch, until, sub",
-            "leaf, pass, flat, switch, until or sub is expected",
-        ),
-        _ => ("auto, manual", "auto or manual is expected"),
+    let told = match member {
+        "place" => "root, source, inner or notifier is expected",
+        "kind" => "leaf, pass, flat, switch, until or sub is expected",
+        _ => "auto or manual is expected",
     };
-    fault(is_one_of(object, member, words), told)
+    fault(is_one_of(object, member, words_of(member)), told)
 }
 
 // What is wrong with a member of a command.
@@ -165,6 +170,21 @@ fn stranger<'a>(object: Part<'_, 'a>, own: &str) -> Option<&'a str> {
     None
 }
 
+// What is said of the word that is nearest to the one that stands there.
+fn near_value(alloc: Global, object: Part<'_, '_>, member: &str) -> Result<String, AllocError> {
+    let word = object.get(member).and_then(Part::as_str).unwrap_or("");
+    Nearest::to(word).or_of(words_of(member)).told(alloc)
+}
+
+// What is said of the command that is nearest to this word.
+fn near_command(alloc: Global, word: &str) -> Result<String, AllocError> {
+    let mut nearest = Nearest::to(word);
+    for &(known, _) in &MEMBERS {
+        nearest = nearest.or(known);
+    }
+    nearest.told(alloc)
+}
+
 // What is wrong with an object that has this word for its command.
 fn command_fault(
     alloc: Global,
@@ -173,14 +193,16 @@ fn command_fault(
     own: &'static str,
 ) -> Result<String, AllocError> {
     if let Some(member) = stranger(object, own) {
-        return format!(in alloc; "{member}: {command} has no such member");
+        let near = Nearest::to(member).or_of(own).told(alloc)?;
+        return format!(in alloc; "{member}: {command} has no such member{near}");
     }
     for member in own.split(", ") {
         if member.is_empty() {
             break;
         }
         if let Some(told) = member_fault(object, command, member) {
-            return format!(in alloc; "{member}: {told}");
+            let near = near_value(alloc, object, member)?;
+            return format!(in alloc; "{member}: {told}{near}");
         }
     }
     format!(in alloc; "{command}: not a valid command")
@@ -196,6 +218,9 @@ pub fn fault_of(alloc: Global, value: Part<'_, '_>) -> Result<String, AllocError
     };
     match members_of(command) {
         Some(own) => command_fault(alloc, value, command, own),
-        None => String::from_str(alloc, "do: there is no such command here"),
+        None => {
+            let near = near_command(alloc, command)?;
+            format!(in alloc; "do: there is no such command here{near}")
+        }
     }
 }
