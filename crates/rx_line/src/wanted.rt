@@ -45,7 +45,12 @@ fn members_of(command: &str) -> Option<&'static str> {
 }
 
 fn is_among(member: &str, members: &str) -> bool {
-    members.split(", ").any(|known| known == member)
+    for known in members.split(", ") {
+        if known == member {
+            return true;
+        }
+    }
+    false
 }
 
 fn has_name(value: Part<'_, '_>) -> bool {
