@@ -145,8 +145,19 @@ static void round_of_all(void) {
   done(CELLAR_DISPOSE, opened(CELLAR_ROOT, CELLAR_LEAF, none, 0), 0);
 }
 
-int main(void) {
+/* Items past the room of a small engine's history, each time behind a checkpoint that the engine makes by itself. */
+enum { EVENTS = 24 };
+static void round_of_items(void) {
+  struct cellar_node leaf = opened(CELLAR_ROOT, CELLAR_LEAF, none, 0);
+  held(leaf);
+  for (uint64_t i = 0; i < 2 * EVENTS; i++) done(CELLAR_NEXT, leaf, i);
+  done(CELLAR_DISPOSE, leaf, 0);
+}
+
+/* Rounds in an engine of so many events, once for each of their requests. */
+static void refuse_each(const char *what, uint32_t events, void (*one_round)(void)) {
   long n = 0, last, in_all, unseen = 0;
+  commands = 0;
   do {
     uint64_t word, next, count;
     struct cellar_effect it;
@@ -155,11 +166,12 @@ int main(void) {
     tags = kept = given_back = 0;
     last = starved;
     left = n, asked = 0;
-    if (cellar_new(&engine, 0) == CELLAR_NO_MEMORY) {
+    if (cellar_new(&engine, events) == CELLAR_NO_MEMORY) {
       starved++;
-      MUST(cellar_new(&engine, 0) == 0);
+      MUST(cellar_new(&engine, events) == 0);
     }
-    for (int i = 0; i < ROUNDS; i++) round_of_all();
+    for (int i = 0; i < ROUNDS; i++) one_round();
+    used(CELLAR_ROOT, none);
     MUST(cellar_finish(&engine) == CELLAR_UNTAKEN);
     in_all = asked;
     unseen += starved == last && in_all > n; /* growth that was refused asks for less before it gives up */
@@ -176,5 +188,10 @@ int main(void) {
     MUST(kept == given_back);
     n++;
   } while (in_all >= n);
-  printf("%ld requests refused in turn, %ld of them made up for at once, %ld commands\n", n, unseen, commands);
+  printf("%s: %ld requests refused in turn, %ld of them made up for at once, %ld commands\n", what, n, unseen, commands);
+}
+
+int main(void) {
+  refuse_each("all commands", 0, round_of_all);
+  refuse_each("a full history", EVENTS, round_of_items);
 }

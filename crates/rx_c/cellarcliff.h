@@ -65,7 +65,8 @@ extern "C" {
  * Refusal. With any status but 0 nothing changed that a later call can see (the engine may have made a checkpoint, or hubs for
  *   shares, which its events tell), all counts of the answer are 0, no tag and no value was taken in, and no effect comes of the command.
  * Memory. Only CELLAR_OPEN, CELLAR_USING, CELLAR_HOLD, CELLAR_APPLY, CELLAR_LEASE, CELLAR_CONNECT, CELLAR_NEXT, CELLAR_PUT, cellar_new
- *   and cellar_dump may answer CELLAR_NO_MEMORY. An opening may answer it before a cause of its own.
+ *   and cellar_dump may answer CELLAR_NO_MEMORY. An opening may answer it before a cause of its own. A command that finds the history
+ *   full answers it where the checkpoint that would make room is refused memory.
  *   Whatever ends or closes, and each call that serves, asks for none, but for a checkpoint, which may be refused and is then made
  *   by a later command.
  * Threads. There is no lock inside. Any thread may call, one call at a time on a handle: a face puts each handle behind one
@@ -235,7 +236,7 @@ enum cellar_status {
   CELLAR_SMALL = 7,         /* cellar_dump */
   CELLAR_CUT = 8,           /* cellar_dump: the engine made a checkpoint, so the history is not whole */
   CELLAR_MISUSE = 9,        /* CELLAR_ARMOR alone: a null or misaligned pointer */
-  CELLAR_FULL = 16,         /* what is open fills the engine, as cellar_new had it, or the checkpoint that would make room found no memory */
+  CELLAR_FULL = 16,         /* what is open fills the engine, as cellar_new had it */
   CELLAR_GONE = 17, CELLAR_WRONG_KIND = 18, CELLAR_PLACE_TAKEN = 19, CELLAR_NOTHING_OWED = 20, CELLAR_NOT_ROOT = 21,
   CELLAR_NO_HUB = 22,        /* each hub of the mode serves another share */
   CELLAR_HUB_ORDER = 23,    /* the share's hub, or all that are free, stand behind that of the connection above */

@@ -25,7 +25,7 @@ E_NEXT, E_PROJECT, E_COMPLETED, E_FAILED, E_GONE, E_RELEASE, E_PUT, E_MERGED = r
 DONE, NOTHING_KEPT, NO_SUCH_CODE, UNTAKEN = 0, 1, 5, 6
 REFUSED = {name: status for status, name in enumerate((
     'Full', 'Gone', 'WrongKind', 'PlaceTaken', 'NothingOwed', 'NotRoot', 'NoHub', 'HubOrder', 'Connected', 'NotConnected', 'NotFresh',
-    'NotHeld', 'HasChild', 'TooMany', 'NoLease', 'Leased'), 16)}
+    'NotHeld', 'HasChild', 'TooMany', 'NoLease', 'Leased'), 16)} | {'NoMemory': 4}
 MOST, BLOCK = 1024, 16  # hubs, and of one mode one after another
 NOTHING = 2**64         # a number that names nothing
 
@@ -206,6 +206,7 @@ class Engine:
         self.lanes: dict[int, Lane] = {}
         self.next_lane, self.parts = 0, 0
         self.gone: list[int] = []            # closed by the command under way
+        self.has_memory = True               # for a checkpoint; of nothing else is it said here where memory lacks
 
     # The book: a call adds its event, and what that forces
 
@@ -253,10 +254,16 @@ class Engine:
             except Stands as why:
                 if why.args[0] != 'Full':
                     raise
-            self.since = len(self.h)
+            self.checkpoint()
             return self.perform(c)
         except Stands as why:
             return Answer(REFUSED[why.args[0]])
+
+    def checkpoint(self) -> None:
+        """The limit counts from here. Refused for want of memory, it refuses the command that wants it."""
+        if not self.has_memory:
+            raise Stands('NoMemory')
+        self.since = len(self.h)
 
     def perform(self, c: Command) -> Answer:
         plain = {COMPLETE: Call('end', c.node, value=COMPLETED), ERROR: Call('end', c.node, value=0), FAIL: Call('fail', c.node, value=0),

@@ -159,6 +159,18 @@ class Examples(unittest.TestCase):
         self.assertEqual([self.taken(self.make(SHUT).lanes[0]) for _ in (first, second.node)], [[(E_GONE, 7, 0)], [(E_GONE, 8, 0), (E_RELEASE, 42, 0)]])
         self.assertEqual(self.engine.make(Command(SHUT)).status, REFUSED['Gone'])
 
+    def test_a_full_history_wants_memory_for_a_checkpoint(self):
+        self.engine = Engine(Canonical(), 6)
+        leaf = self.make(OPEN, user=7).node
+        self.engine.has_memory = False
+        item = Command(NEXT, node=leaf, value=5)
+        self.assertEqual([self.engine.make(item).status for _ in range(6)], [DONE] * 4 + [REFUSED['NoMemory']] * 2)
+        self.engine.has_memory = True
+        self.assertEqual([self.engine.make(item).status, self.engine.make(Command(USING, value=42)).status], [DONE, DONE])
+        while (status := self.engine.make(Command(OPEN)).status) == DONE:
+            pass
+        self.assertEqual(status, REFUSED['Full'])
+
     def test_a_share_below_a_share_has_an_earlier_hub(self):
         outer = self.make(OPEN, kind=SHARED, value=1, level=1)
         inner = self.make(OPEN, kind=SHARED, value=2, place=1, node=outer.other)

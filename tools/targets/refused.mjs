@@ -1,7 +1,7 @@
 // Want of memory of an engine: node --import ./refused.mjs ../../bindings/courses/replay.mjs MODULE FILE.. replays courses on engine-try.wasm, and for
-// each call that may take memory has its requests refused in turn. A call that is refused memory answers 4, or 16 where the checkpoint that a full
-// history wants found none, and changed nothing: made again it is answered as the course has it, which replay.mjs looks at.
-const MAY_ASK = ['cellar_new', 'cellar_make'], NO_MEMORY = 4, FULL = 16;
+// each call that may take memory has its requests refused in turn. A call that is refused memory answers 4, also where a full history wants a
+// checkpoint, and changed nothing: made again it is answered as the course has it, which replay.mjs looks at.
+const MAY_ASK = ['cellar_new', 'cellar_make'], NO_MEMORY = 4;
 const instantiate = WebAssembly.instantiate;
 let calls = 0, refused = 0, most = 0;
 
@@ -10,7 +10,7 @@ const asked = (e, call) => (...words) => {
   for (let n = 0; ; n++) {
     e.refuse(BigInt(n));
     const status = call(...words), was_refused = e.refuse(-1n) < 0n;
-    if (status !== NO_MEMORY && !(status === FULL && was_refused)) return status;
+    if (status !== NO_MEMORY) return status;
     if (!was_refused) throw new Error('no memory, and nothing was refused');
     refused++;
     most = Math.max(most, n + 1);

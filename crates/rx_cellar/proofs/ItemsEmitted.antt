@@ -22,8 +22,8 @@ use Rattle.rx_cellar.specs.declared.cellar.Cellar.{Cellar}
 use Rattle.rx_cellar.specs.declared.cellar.Item.{Item}
 use Rattle.rx_cellar.specs.Words.{word_of_due}
 use Rattle.rx_cellar.specs.Makings.{nothing_made}
-use Rattle.rx_cellar.specs.Cellars.{Performs, Tidies, IsTidy, filled, told, counted_if, with_handed, hands, at_once, once_more, IsTried, IsHanded, HandsOut, IsAskedMade, is_done}
-use Rattle.rx_cellar.specs.Emitting.{asked_for, item_of, IsEmitted, item_emitted, item_refused}
+use Rattle.rx_cellar.specs.Cellars.{Performs, Tidies, IsTidy, filled, told, counted_if, with_handed, hands, at_once, once_more, behind_one, behind_none, IsTried, IsHanded, HandsOut, IsAskedMade, is_done}
+use Rattle.rx_cellar.specs.Emitting.{asked_for, item_of, IsEmitted, IsEmittedAgain, item_emitted, item_refused}
 
 -- what is asked ----------------------------------------------------------------------------------------------
 
@@ -74,17 +74,26 @@ first_full : (g : Ghosts Token) (item : Item) (by : ℕ) (s : Cellar) (e : State
 first_full g item by s e first full tried = performs_err g item by s e Full (refused_made g item.leaf by item.value s.engine e Full
     (subst (λ (r : Result (Option Sent) Refusal). IsNextHanded g item.leaf by item.value s.engine e r) full tried))
 
-pub emitted_again : (g : Ghosts Token) (item : Item) (by : ℕ) (s v : Cellar) (e f : State) (first answer : Result (Option Sent) Refusal) → first ≡ Err Full →
-    IsNextHanded g item.leaf by item.value s.engine e first → Tidies (record s { engine = e }) v →
-    IsNextHanded g item.leaf by item.value v.engine f answer → IsEmitted g item by s (record v { engine = f }) answer
-emitted_again g item by s v e f first (Ok given) full tried tidies again =
+pub emitted_again : (g : Ghosts Token) (item : Item) (by : ℕ) (s t : Cellar) (e : State) (first answer : Result (Option Sent) Refusal) → first ≡ Err Full →
+    IsNextHanded g item.leaf by item.value s.engine e first → IsEmittedAgain g item by (record s { engine = e }) t answer → IsEmitted g item by s t answer
+emitted_again g item by s t e first answer full tried (item_emitted {given = given} v made hand only) =
+    item_emitted v (once_more (record s { engine = e }) (first_full g item by s e first full tried) made) hand only
+emitted_again g item by s t e first answer full tried (item_refused {why = why} made) =
+    item_refused (once_more (record s { engine = e }) (first_full g item by s e first full tried) made)
+
+-- behind a checkpoint
+pub emitted_behind : (g : Ghosts Token) (item : Item) (by : ℕ) (s v : Cellar) (f : State) (made : Result ℕ Refusal) (at : ℕ) (answer : Result (Option Sent) Refusal) →
+    made ≡ Ok at → Tidies s v made → IsNextHanded g item.leaf by item.value v.engine f answer → IsEmittedAgain g item by s (record v { engine = f }) answer
+emitted_behind g item by s v f made at (Ok given) is tidies again =
     item_emitted (record v { engine = again.done.between })
-    (once_more (record s { engine = e }) v (first_full g item by s e first full tried) tidies (performs_ok g item by v again.done.between again.done.made))
-    again.done.hand refl
-emitted_again g item by s v e f first (Err why) full tried tidies again =
-    item_refused
-    (once_more (record s { engine = e }) v (first_full g item by s e first full tried) tidies
+    (behind_one at v (subst (λ (r : Result ℕ Refusal). Tidies s v r) is tidies) (performs_ok g item by v again.done.between again.done.made)) again.done.hand refl
+emitted_behind g item by s v f made at (Err why) is tidies again =
+    item_refused (behind_one at v (subst (λ (r : Result ℕ Refusal). Tidies s v r) is tidies)
     (performs_err g item by v f why (refused_made g item.leaf by item.value v.engine f why again)))
+
+pub emitted_behind_none : (g : Ghosts Token) (item : Item) (by : ℕ) (s t : Cellar) (made : Result ℕ Refusal) (why : Refusal) → made ≡ Err why → Tidies s t made →
+    IsEmittedAgain g item by s t (Err why)
+emitted_behind_none g item by s t made why is tidies = item_refused (behind_none (subst (λ (r : Result ℕ Refusal). Tidies s t r) is tidies))
 
 -- told -------------------------------------------------------------------------------------------------------
 

@@ -44,13 +44,17 @@ abbrev pub counts_from : Result ℕ Refusal → State → Cellar → Cellar
 counts_from (Ok at) e s = record s { engine = e; at = at; until = option_map (λ _. most_since e) s.until }
 counts_from (Err why) e s = record s { engine = e }
 
-pub record Tidies (s t : Cellar) : Type 0 where
-  pub answer : Result ℕ Refusal
+pub record Tidies (s t : Cellar) (answer : Result ℕ Refusal) : Type 0 where
   pub made : IsCheckpointMade s.engine t.engine answer
   pub counts : t ≡ counts_from answer t.engine s
 
+-- whatever is answered to that
+pub record IsTidied (s t : Cellar) : Type 0 where
+  pub answer : Result ℕ Refusal
+  pub tidies : Tidies s t answer
+
 abbrev pub IsTidyIf : Bool → Cellar → Cellar → Type 0
-IsTidyIf true s t = Tidies s t
+IsTidyIf true s t = IsTidied s t
 IsTidyIf false s t = t ≡ s
 
 -- where one is to be made
@@ -62,10 +66,15 @@ pub record Performs (g : Ghosts Token) (asked : Asked) (by : ℕ) (s t : Cellar)
   pub performed : IsPerformed g asked by s.engine t.engine answer
   pub only : t ≡ record s { engine = t.engine }
 
--- made or refused; where the history was full, that is what the second try came to, behind a checkpoint
+-- what a second try came to, behind a checkpoint; or the checkpoint was refused, and so is the command, for its cause
+pub data IsTriedAgain (g : Ghosts Token) (asked : Asked) (by : ℕ) (s t : Cellar) : Result Made Refusal → Type 0 where
+  behind_one : {answer : Result Made Refusal} (at : ℕ) (u : Cellar) → Tidies s u (Ok at) → Performs g asked by u t answer → IsTriedAgain g asked by s t answer
+  behind_none : {why : Refusal} → Tidies s t (Err why) → IsTriedAgain g asked by s t (Err why)
+
+-- made or refused; where the history was full, that is what the second try came to
 pub data IsTried (g : Ghosts Token) (asked : Asked) (by : ℕ) (s t : Cellar) : Result Made Refusal → Type 0 where
   at_once : {answer : Result Made Refusal} → answer ≢ Err Full → Performs g asked by s t answer → IsTried g asked by s t answer
-  once_more : {answer : Result Made Refusal} (u v : Cellar) → Performs g asked by s u (Err Full) → Tidies u v → Performs g asked by v t answer → IsTried g asked by s t answer
+  once_more : {answer : Result Made Refusal} (u : Cellar) → Performs g asked by s u (Err Full) → IsTriedAgain g asked by u t answer → IsTried g asked by s t answer
 
 -- so many releases were told with this effect, and without it
 abbrev pub counted : What → ℕ → ℕ

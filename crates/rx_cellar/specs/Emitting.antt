@@ -9,8 +9,9 @@ use Rattle.rx_cellar.specs.declared.asked.Asked.{Asked}
 use Rattle.rx_cellar.specs.declared.asked.Asked.TheVariants.{Next}
 use Rattle.rx_cellar.specs.declared.cellar.Cellar.{Cellar}
 use Rattle.rx_cellar.specs.declared.cellar.Item.{Item}
+use Rattle.rx_cellar.specs.declared.making.Made.{Made}
 use Rattle.rx_cellar.specs.Makings.{nothing_made}
-use Rattle.rx_cellar.specs.Cellars.{IsTried}
+use Rattle.rx_cellar.specs.Cellars.{IsTried, IsTriedAgain}
 
 -- what is asked for it, and of whom
 abbrev pub asked_for : Item → Asked
@@ -20,8 +21,14 @@ abbrev pub item_of : Asked → Option Item
 item_of (Next leaf value hands) = if hands then Some (record { leaf = leaf; value = value }) else None
 item_of _ = None
 
--- it was tried, and then, where it is all that came of it, handed out; or it was refused
-pub data IsEmitted (g : Ghosts Token) (item : Item) (by : ℕ) (s t : Cellar) : Result (Option Sent) Refusal → Type 0 where
-  item_emitted : {given : Option Sent} (v : Cellar) → IsTried g (asked_for item) by s v (Ok nothing_made) → HandsIf (comes_to_one v.engine) by v.engine t.engine given →
-      t ≡ record v { engine = t.engine } → IsEmitted g item by s t (Ok given)
-  item_refused : {why : Refusal} → IsTried g (asked_for item) by s t (Err why) → IsEmitted g item by s t (Err why)
+-- it was tried so, and then, where it is all that came of it, handed out; or it was refused
+pub data IsEmittedSo (Tried : Cellar → Result Made Refusal → Type 0) (by : ℕ) (t : Cellar) : Result (Option Sent) Refusal → Type 0 where
+  item_emitted : {given : Option Sent} (v : Cellar) → Tried v (Ok nothing_made) → HandsIf (comes_to_one v.engine) by v.engine t.engine given →
+      t ≡ record v { engine = t.engine } → IsEmittedSo Tried by t (Ok given)
+  item_refused : {why : Refusal} → Tried t (Err why) → IsEmittedSo Tried by t (Err why)
+
+abbrev pub IsEmitted : Ghosts Token → Item → (by : ℕ) → Cellar → Cellar → Result (Option Sent) Refusal → Type 0
+IsEmitted g item by s t answer = IsEmittedSo (λ v made. IsTried g (asked_for item) by s v made) by t answer
+
+abbrev pub IsEmittedAgain : Ghosts Token → Item → (by : ℕ) → Cellar → Cellar → Result (Option Sent) Refusal → Type 0
+IsEmittedAgain g item by s t answer = IsEmittedSo (λ v made. IsTriedAgain g (asked_for item) by s v made) by t answer

@@ -3,9 +3,9 @@
 ghost use Rattle.std.specs.Prelude.{◌≡◌, ◌≢◌, true, false, Err};
 ghost use Rattle.rx_event.specs.declared.refusal.Refusal.TheVariants.{Full};
 ghost use Rattle.rx_engine.specs.States.{IsPromised};
-ghost use Rattle.rx_cellar.specs.Cellars.{most_since, is_due, Tidies, IsTidy, IsTried, counted, uncounted, hands};
+ghost use Rattle.rx_cellar.specs.Cellars.{most_since, is_due, Tidies, IsTidy, IsTried, IsTriedAgain, counted, uncounted, hands};
 ghost use Rattle.rx_cellar.specs.Cellars.{told, counted_if, with_handed, IsAskedMade, IsCommandMade};
-ghost use Rattle.rx_cellar.specs.Emitting.{item_of, asked_for, IsEmitted};
+ghost use Rattle.rx_cellar.specs.Emitting.{item_of, asked_for, IsEmitted, IsEmittedAgain};
 
 use crate::asked::{Asked, asked_of};
 use crate::making::{Made, nothing_made, perform};
@@ -115,17 +115,21 @@ impl Cellar {
         self.engine.promise();
     }
 
-    // Makes a checkpoint, if it is not refused.
+    // Makes a checkpoint: how many events there were, or why it was refused.
     #[cold]
     #[inline(never)]
-    fn checkpoint(&mut self)
-        ensures { Tidies self.old self.new }
+    fn checkpoint(&mut self) -> Result<u64, Refusal>
+        ensures { Tidies self.old self.new result }
     {
-        if let Ok(at) = self.engine.checkpoint() {
-            self.at = at;
-            if self.until.is_some() {
-                self.until = Some(most_since(&self.engine));
+        match self.engine.checkpoint() {
+            Ok(at) => {
+                self.at = at;
+                if self.until.is_some() {
+                    self.until = Some(most_since(&self.engine));
+                }
+                Ok(at)
             }
+            Err(why) => Err(why),
         }
     }
 
@@ -139,12 +143,24 @@ impl Cellar {
         }
     }
 
-    // Makes a checkpoint where one is to be made.
+    // Makes a checkpoint where one is to be made, if it is not refused.
     fn tidy(&mut self)
         ensures { IsTidy self.old self.new }
     {
         if self.is_due() {
-            self.checkpoint();
+            let _at = self.checkpoint();
+        }
+    }
+
+    // Makes what a command asks once more, behind a checkpoint. What stands against that stands against the command.
+    #[cold]
+    #[inline(never)]
+    fn attempt_again(&mut self, asked: Asked, by: u64) -> Result<Made, Refusal>
+        ensures { IsTriedAgain ⟦<Token as Resource>⟧ asked by self.old self.new result }
+    {
+        match self.checkpoint() {
+            Ok(_at) => perform(&mut self.engine, asked, by),
+            Err(why) => Err(why),
         }
     }
 
@@ -156,8 +172,7 @@ impl Cellar {
         if !is_full(first) {
             return first;
         }
-        self.checkpoint();
-        perform(&mut self.engine, asked, by)
+        self.attempt_again(asked, by)
     }
 
     // Writes what was done.
@@ -175,6 +190,18 @@ impl Cellar {
         let _lanes = fill_lanes(&self.engine, 0, &mut answer.lanes);
     }
 
+    // Emits an item once more, behind a checkpoint.
+    #[cold]
+    #[inline(never)]
+    fn attempt_handing_again(&mut self, item: Item, by: u64) -> Result<Option<Sent>, Refusal>
+        ensures { IsEmittedAgain ⟦<Token as Resource>⟧ item by self.old self.new result }
+    {
+        match self.checkpoint() {
+            Ok(_at) => self.engine.next_handing(item.leaf, by, item.value),
+            Err(why) => Err(why),
+        }
+    }
+
     // The same for an item, which is handed out.
     fn attempt_handing(&mut self, item: Item, by: u64) -> Result<Option<Sent>, Refusal>
         ensures { IsEmitted ⟦<Token as Resource>⟧ item by self.old self.new result }
@@ -183,8 +210,7 @@ impl Cellar {
         if !is_item_full(first) {
             return first;
         }
-        self.checkpoint();
-        self.engine.next_handing(item.leaf, by, item.value)
+        self.attempt_handing_again(item, by)
     }
 
     // Writes what was handed out.

@@ -20,8 +20,9 @@
 //!   keys, hub, copies, closings and due lanes, of each list the first eight, the rest by [`Cellar::rest`]. Where it is
 //!   refused, all counts are 0, and nothing changed but room, a checkpoint, and the hubs of shares.
 //! - Only an item hands out an effect: where it is all that comes of the command, and not where it says that it queues.
-//! - Where the history is full a checkpoint is made, and the command is tried once more. Where a share finds no hub
-//!   the hubs are made, and it is tried once more.
+//! - Where the history is full a checkpoint is made, and the command is tried once more; where the checkpoint is
+//!   refused, for want of memory, so is the command. Where a share finds no hub the hubs are made, and it is tried
+//!   once more.
 //! - Serving, giving up and finding lanes are the engine's, by the lane that the word names.
 //! - What a face makes of effects is its own: that it serves what an answer names, and that words of callers differ.
 #![tactic(auto)]

@@ -16,10 +16,10 @@ pub returns : goal.returns
 returns c =
     let h = c.if-not-is_full.false in
     let yes : c.is_full.result ≡ true = search rules in
-    once_more (record c.args.self.now { engine = c.perform-first.new.engine }) c.checkpoint.new.self
+    once_more (record c.args.self.now { engine = c.perform-first.new.engine })
     (record {
       performed = subst (λ (r : Result Made Refusal). IsPerformed ghosts c.args.asked c.args.by c.args.self.now.engine c.perform-first.new.engine r)
           (c.is_full.ensures.full yes) c.perform-first.ensures;
       only = refl;
     })
-    c.checkpoint.ensures (record { performed = c.perform.ensures; only = refl })
+    c.attempt_again.ensures

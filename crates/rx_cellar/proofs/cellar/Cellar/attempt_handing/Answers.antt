@@ -14,5 +14,5 @@ pub returns : goal.returns
 returns c =
     let h = c.if-not-is_item_full.false in
     let yes : c.is_item_full.result ≡ true = search rules in
-    emitted_again ghosts c.args.item c.args.by c.args.self.now c.checkpoint.new.self c.next_handing-first.new.self c.next_handing.new.self c.next_handing-first.result
-    c.next_handing.result (c.is_item_full.ensures.full yes) c.next_handing-first.ensures c.checkpoint.ensures c.next_handing.ensures
+    emitted_again ghosts c.args.item c.args.by c.args.self.now c.attempt_handing_again.new.self c.next_handing-first.new.self c.next_handing-first.result
+    c.attempt_handing_again.result (c.is_item_full.ensures.full yes) c.next_handing-first.ensures c.attempt_handing_again.ensures
