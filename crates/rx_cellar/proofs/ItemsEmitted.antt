@@ -16,26 +16,13 @@ use Rattle.rx_engine.specs.Servings.{IsHand, comes_to_one, HandsIf}
 use Rattle.rx_engine.specs.Handings.{IsNextHanded}
 use Rattle.rx_cellar.specs.declared.shapes.Answer.{Answer}
 use Rattle.rx_cellar.specs.declared.making.Made.{Made}
-use Rattle.rx_cellar.specs.declared.asked.Asked.{Asked}
-use Rattle.rx_cellar.specs.declared.asked.Asked.TheVariants.{Next}
+use Rattle.rx_cellar.specs.declared.asked.Item.{Item}
 use Rattle.rx_cellar.specs.declared.cellar.Cellar.{Cellar}
-use Rattle.rx_cellar.specs.declared.cellar.Item.{Item}
 use Rattle.rx_cellar.specs.Words.{word_of_due}
+use Rattle.rx_cellar.specs.Asking.{asked_for}
 use Rattle.rx_cellar.specs.Makings.{nothing_made}
-use Rattle.rx_cellar.specs.Cellars.{Performs, Tidies, IsTidy, filled, told, counted_if, with_handed, hands, at_once, once_more, behind_one, behind_none, IsTried, IsHanded, HandsOut, IsAskedMade, is_done}
-use Rattle.rx_cellar.specs.Emitting.{asked_for, item_of, IsEmitted, IsEmittedAgain, item_emitted, item_refused}
-
--- what is asked ----------------------------------------------------------------------------------------------
-
-pub asked_is : (a : Asked) (item : Item) → item_of a ≡ Some item → asked_for item ≡ a
-asked_is (Next leaf value true) item is = (let same : record { leaf = leaf; value = value } ≡ item = cc in λ i. Next (sym same i).leaf (sym same i).value true)
-asked_is (Next leaf value false) item is = absurd (cc)
-asked_is _ item is = absurd (cc)
-
-pub hands_not : (a : Asked) → item_of a ≡ None → hands a ≡ false
-hands_not (Next leaf value true) is = absurd (cc)
-hands_not (Next leaf value false) is = refl
-hands_not _ is = refl
+use Rattle.rx_cellar.specs.Cellars.{Performs, Tidies, IsTidy, filled, told, counted_if, with_handed, at_once, once_more, behind_one, behind_none, IsTried, IsHanded, HandsOut, IsAskedMade, is_done}
+use Rattle.rx_cellar.specs.Emitting.{IsEmitted, IsEmittedAgain, item_emitted, item_refused}
 
 -- tried ------------------------------------------------------------------------------------------------------
 

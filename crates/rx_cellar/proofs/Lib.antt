@@ -1,3 +1,5 @@
 pub mod WordsFilled
 pub mod WordsFind
+pub mod ItemsAsked
 pub mod ItemsEmitted
+pub mod Tries

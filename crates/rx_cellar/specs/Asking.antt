@@ -1,5 +1,5 @@
 -- What a command asks, by its numbers.
-use Rattle.std.specs.Prelude.{ℕ, ◌==◌, ◌&&◌, nat_lt, true, false, Option, Some, None, option_map, if◌then◌else◌}
+use Rattle.std.specs.Prelude.{ℕ, ◌==◌, ◌&&◌, nat_lt, Bool, true, false, Option, Some, None, option_map, if◌then◌else◌}
 use Rattle.std.specs.Option.{option_and_then}
 use Rattle.std.proofs.Math.Bool.{not}
 use Rattle.std.proofs.Common.{◌/◌, ◌%◌}
@@ -21,6 +21,7 @@ use Rattle.rx_cellar.specs.declared.asked.OwnKind.{OwnKind}
 use Rattle.rx_cellar.specs.declared.asked.OwnKind.TheVariants.{Leaf as OwnLeaf, Pass as OwnPass, Flat as OwnFlat, Switch as OwnSwitch, Until as OwnUntil}
 use Rattle.rx_cellar.specs.declared.asked.OpenedAs.{OpenedAs}
 use Rattle.rx_cellar.specs.declared.asked.OpenedAs.TheVariants.{Own, Of}
+use Rattle.rx_cellar.specs.declared.asked.Item.{Item}
 use Rattle.rx_cellar.specs.declared.asked.Asked.{Asked}
 use Rattle.rx_cellar.specs.declared.asked.Asked.TheVariants.{Open, Subscribe, Using, Hold, Next, Complete, Error, Fail, Decline, Dispose, Connect, Disconnect}
 use Rattle.rx_cellar.specs.declared.asked.Asked.TheVariants.{Put, Shut, Abort, Apply, Remove, Lease, GiveBack}
@@ -98,3 +99,19 @@ by_code c = if c.what == 0 then opening_of c else if c.what == 1 then using_of c
 -- nothing where the spare field is not 0
 abbrev pub asked_of : Command → Option Asked
 asked_of c = if c.spare == 0 then by_code c else None
+
+-- an item that does not queue may be handed out
+abbrev pub hands : Asked → Bool
+hands (Next leaf value is_asked) = is_asked
+hands _ = false
+
+abbrev pub asks_item : Option Asked → Bool
+asks_item None = false
+asks_item (Some asked) = hands asked
+
+-- by its numbers
+abbrev pub is_emission : Command → Bool
+is_emission c = c.spare == 0 && (c.what == 3 && c.flags == 0)
+
+abbrev pub asked_for : Item → Asked
+asked_for item = Next item.leaf item.value true

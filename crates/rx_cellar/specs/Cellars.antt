@@ -16,9 +16,8 @@ use Rattle.rx_cellar.specs.declared.shapes.Command.{Command}
 use Rattle.rx_cellar.specs.declared.shapes.Answer.{Answer}
 use Rattle.rx_cellar.specs.declared.making.Made.{Made}
 use Rattle.rx_cellar.specs.declared.asked.Asked.{Asked}
-use Rattle.rx_cellar.specs.declared.asked.Asked.TheVariants.{Next}
 use Rattle.rx_cellar.specs.declared.cellar.Cellar.{Cellar}
-use Rattle.rx_cellar.specs.Asking.{asked_of}
+use Rattle.rx_cellar.specs.Asking.{asked_of, hands}
 use Rattle.rx_cellar.specs.Crossings.{effect_of, no_answer}
 use Rattle.rx_cellar.specs.Makings.{IsPerformed}
 use Rattle.rx_cellar.specs.Words.{word_of_due}
@@ -124,12 +123,7 @@ abbrev pub HandsOut : Bool → (by : ℕ) → Cellar → Cellar → Answer → A
 HandsOut true by s t a b = IsHanded by s t a b
 HandsOut false by s t a b = (t ≡ s) × (b ≡ a)
 
--- an item that does not queue may be handed out
-abbrev pub hands : Asked → Bool
-hands (Next leaf value is_asked) = is_asked
-hands _ = false
-
--- and it is where it is all that came of the command
+-- an item that may be handed out is where it is all that came of the command
 abbrev pub hands_out : Asked → State → Bool
 hands_out asked s = hands asked && comes_to_one s
 

@@ -1,25 +1,16 @@
 -- An item that is emitted and handed out.
-use Rattle.std.specs.Prelude.{◌≡◌, ℕ, true, Option, Some, None, Result, Ok, Err, if◌then◌else◌}
+use Rattle.std.specs.Prelude.{◌≡◌, ℕ, Option, Result, Ok, Err}
 use Rattle.rx_resource.specs.declared.Resource.{Ghosts}
 use Rattle.rx_resource.specs.declared.token.Token.{Token}
 use Rattle.rx_event.specs.declared.refusal.Refusal.{Refusal}
 use Rattle.rx_roles.specs.declared.effect.Effect.{Effect as Sent}
 use Rattle.rx_engine.specs.Servings.{comes_to_one, HandsIf}
-use Rattle.rx_cellar.specs.declared.asked.Asked.{Asked}
-use Rattle.rx_cellar.specs.declared.asked.Asked.TheVariants.{Next}
+use Rattle.rx_cellar.specs.declared.asked.Item.{Item}
 use Rattle.rx_cellar.specs.declared.cellar.Cellar.{Cellar}
-use Rattle.rx_cellar.specs.declared.cellar.Item.{Item}
 use Rattle.rx_cellar.specs.declared.making.Made.{Made}
+use Rattle.rx_cellar.specs.Asking.{asked_for}
 use Rattle.rx_cellar.specs.Makings.{nothing_made}
 use Rattle.rx_cellar.specs.Cellars.{IsTried, IsTriedAgain}
-
--- what is asked for it, and of whom
-abbrev pub asked_for : Item → Asked
-asked_for item = Next item.leaf item.value true
-
-abbrev pub item_of : Asked → Option Item
-item_of (Next leaf value hands) = if hands then Some (record { leaf = leaf; value = value }) else None
-item_of _ = None
 
 -- it was tried so, and then, where it is all that came of it, handed out; or it was refused
 pub data IsEmittedSo (Tried : Cellar → Result Made Refusal → Type 0) (by : ℕ) (t : Cellar) : Result (Option Sent) Refusal → Type 0 where

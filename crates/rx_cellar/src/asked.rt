@@ -1,9 +1,10 @@
 //! What a command asks, by its numbers.
 
-ghost use Rattle.std.specs.Prelude.{◌≡◌, true};
+ghost use Rattle.std.specs.Prelude.{◌≡◌, true, false, Some, IfSome, IfNone};
 ghost use Rattle.rx_engine.specs.Openings.{connects_none};
 ghost use Rattle.rx_cellar.specs.Asking.{asked_of, kind_of, opened_as, user_of, lane_asked, share_of, res_of, lease_of};
 ghost use Rattle.rx_cellar.specs.Asking.{by_code, opening_of, using_of, connect_of, put_of, next_of, plain_of};
+ghost use Rattle.rx_cellar.specs.Asking.{is_emission, asks_item, asked_for};
 
 use crate::shapes::Command;
 use rx_book::{At, Key, Kind, LeaseKey, Mode, ResKey};
@@ -27,6 +28,13 @@ pub enum OpenedAs {
     Own(OwnKind),
     /// As a subscriber of this share.
     Of(Share),
+}
+
+/// An item that is handed out: its leaf and its value.
+#[derive(Clone, Copy)]
+pub(crate) struct Item {
+    pub(crate) leaf: Key,
+    pub(crate) value: u64,
 }
 
 /// What a command asks.
@@ -73,6 +81,7 @@ pub(crate) fn kind_of(kind: OwnKind) -> Kind
 }
 
 // The share of a command.
+#[inline(always)]
 fn share_of(command: Command, mode: Mode) -> Share
     ensures { result ≡ share_of command mode }
 {
@@ -84,6 +93,7 @@ fn share_of(command: Command, mode: Mode) -> Share
 }
 
 // How a node is opened.
+#[inline(always)]
 fn opened_as(command: Command) -> Option<OpenedAs>
     ensures { result ≡ opened_as command }
 {
@@ -100,6 +110,7 @@ fn opened_as(command: Command) -> Option<OpenedAs>
 }
 
 // Whose lane a root has, by the flags for that.
+#[inline(always)]
 fn lane_asked(code: u8, node: RxNode) -> Option<Option<LaneOf>>
     ensures { result ≡ lane_asked code node }
 {
@@ -112,6 +123,7 @@ fn lane_asked(code: u8, node: RxNode) -> Option<Option<LaneOf>>
 }
 
 // What the face says of a node that it opens.
+#[inline(always)]
 fn user_of(command: Command) -> Option<User>
     ensures { result ≡ user_of command }
 {
@@ -127,6 +139,7 @@ fn user_of(command: Command) -> Option<User>
 }
 
 // An opening.
+#[inline(always)]
 fn opening_of(command: Command) -> Option<Asked>
     ensures { result ≡ opening_of command }
 {
@@ -139,6 +152,7 @@ fn opening_of(command: Command) -> Option<Asked>
 }
 
 // An opening with a resource.
+#[inline(always)]
 fn using_of(command: Command) -> Option<Asked>
     ensures { result ≡ using_of command }
 {
@@ -148,6 +162,7 @@ fn using_of(command: Command) -> Option<Asked>
 }
 
 // An item.
+#[inline(always)]
 fn next_of(command: Command) -> Option<Asked>
     ensures { result ≡ next_of command }
 {
@@ -159,6 +174,7 @@ fn next_of(command: Command) -> Option<Asked>
 }
 
 // A connection by hand.
+#[inline(always)]
 fn connect_of(command: Command) -> Option<Asked>
     ensures { result ≡ connect_of command }
 {
@@ -174,6 +190,7 @@ fn connect_of(command: Command) -> Option<Asked>
 }
 
 // An effect of the face's own.
+#[inline(always)]
 fn put_of(command: Command) -> Option<Asked>
     ensures { result ≡ put_of command }
 {
@@ -204,6 +221,7 @@ fn lease_of(node: RxNode) -> LeaseKey
 }
 
 // A command that has no flags.
+#[inline(always)]
 fn plain_of(command: Command) -> Option<Asked>
     ensures { result ≡ plain_of command }
 {
@@ -227,6 +245,7 @@ fn plain_of(command: Command) -> Option<Asked>
 }
 
 // By its first number.
+#[inline(always)]
 fn by_code(command: Command) -> Option<Asked>
     ensures { result ≡ by_code command }
 {
@@ -246,8 +265,32 @@ fn by_code(command: Command) -> Option<Asked>
     }
 }
 
+// Whether a command is an item that is to be handed out.
+fn is_emission(command: &Command) -> bool
+    ensures { result ≡ is_emission command.now }
+{
+    command.spare == 0 && (command.what == 3 && command.flags == 0)
+}
+
+/// The item that a command asks for, where it is to be handed out: found before the rest of the command is read.
+#[inline(always)]
+pub(crate) fn item_asked(command: &Command) -> Option<Item>
+    ensures item { IfSome result (λ item. asked_of command.now ≡ Some (asked_for item)) }
+    ensures other { IfNone result (asks_item (asked_of command.now) ≡ false) }
+{
+    if is_emission(command) {
+        Some(Item {
+            leaf: key_of(command.node),
+            value: command.value,
+        })
+    } else {
+        None
+    }
+}
+
 /// What a command asks; nothing where a number of it is none of its enum, a flag is one that it does not have, or
 /// the spare field is not 0.
+#[inline(always)]
 pub fn asked_of(command: &Command) -> Option<Asked>
     ensures { result ≡ asked_of command.now }
 {

@@ -1,17 +1,18 @@
 //! An engine, and beside it what is counted and when a checkpoint is made.
 
-ghost use Rattle.std.specs.Prelude.{◌≡◌, ◌≢◌, true, false, Err};
+ghost use Rattle.std.specs.Prelude.{◌≡◌, ◌≢◌, true, false, Err, IsSome, IfSome};
 ghost use Rattle.rx_event.specs.declared.refusal.Refusal.TheVariants.{Full};
 ghost use Rattle.rx_engine.specs.States.{IsPromised};
-ghost use Rattle.rx_cellar.specs.Cellars.{most_since, is_due, Tidies, IsTidy, IsTried, IsTriedAgain, counted, uncounted, hands};
-ghost use Rattle.rx_cellar.specs.Cellars.{told, counted_if, with_handed, IsAskedMade, IsCommandMade};
-ghost use Rattle.rx_cellar.specs.Emitting.{item_of, asked_for, IsEmitted, IsEmittedAgain};
+ghost use Rattle.rx_cellar.specs.Cellars.{most_since, is_due, Tidies, IsTidy, IsTried, IsTriedAgain, counted, uncounted};
+ghost use Rattle.rx_cellar.specs.Cellars.{told, counted_if, with_handed, IsAskedMade, IsMadeIf, IsCommandMade};
+ghost use Rattle.rx_cellar.specs.Asking.{asked_of, asks_item, asked_for};
+ghost use Rattle.rx_cellar.specs.Emitting.{IsEmitted, IsEmittedAgain};
 
-use crate::asked::{Asked, asked_of};
-use crate::making::{Made, nothing_made, perform};
+use crate::asked::{Item, asked_of, item_asked};
+use crate::making::{Made, nothing_made, perform_command};
 use crate::rest::{fill_closings, fill_lanes};
 use crate::shapes::{Answer, Command, effect_of};
-use rx_book::{Key, Refusal, Resource};
+use rx_book::{Refusal, Resource};
 use rx_engine::Engine;
 use rx_resource::Token;
 use rx_roles::{Effect as Sent, What};
@@ -42,29 +43,6 @@ fn most_since(engine: &Engine) -> u64
         .saturating_add(engine.book().held());
     let many = here.saturating_mul(4);
     if many < FEW { FEW } else { many }
-}
-
-/// An item that is handed out: its leaf and its value.
-#[derive(Clone, Copy)]
-pub(crate) struct Item {
-    pub(crate) leaf: Key,
-    pub(crate) value: u64,
-}
-
-// The item that is asked for, where it is to be handed out.
-fn item_of(asked: Asked) -> Option<Item>
-    ensures { result ≡ item_of asked }
-{
-    match asked {
-        Asked::Next(leaf, value, hands) => {
-            if hands {
-                Some(Item { leaf, value })
-            } else {
-                None
-            }
-        }
-        _ => None,
-    }
 }
 
 fn is_full(answer: Result<Made, Refusal>) -> bool
@@ -152,27 +130,29 @@ impl Cellar {
         }
     }
 
-    // Makes what a command asks once more, behind a checkpoint. What stands against that stands against the command.
+    // Makes a command once more, behind a checkpoint. What stands against that stands against the command.
     #[cold]
     #[inline(never)]
-    fn attempt_again(&mut self, asked: Asked, by: u64) -> Result<Made, Refusal>
-        ensures { IsTriedAgain ⟦<Token as Resource>⟧ asked by self.old self.new result }
+    fn attempt_again(&mut self, command: &Command) -> Result<Made, Refusal>
+        requires { IsSome (asked_of command.now) }
+        ensures { IfSome (asked_of command.now) (λ asked. IsTriedAgain ⟦<Token as Resource>⟧ asked command.now.by self.old self.new result) }
     {
         match self.checkpoint() {
-            Ok(_at) => perform(&mut self.engine, asked, by),
+            Ok(_at) => perform_command(&mut self.engine, command),
             Err(why) => Err(why),
         }
     }
 
-    // Makes what a command asks, and once more behind a checkpoint where the history is full.
-    fn attempt(&mut self, asked: Asked, by: u64) -> Result<Made, Refusal>
-        ensures { IsTried ⟦<Token as Resource>⟧ asked by self.old self.new result }
+    // Makes a command, and once more behind a checkpoint where the history is full.
+    fn attempt(&mut self, command: &Command) -> Result<Made, Refusal>
+        requires { IsSome (asked_of command.now) }
+        ensures { IfSome (asked_of command.now) (λ asked. IsTried ⟦<Token as Resource>⟧ asked command.now.by self.old self.new result) }
     {
-        let first = perform(&mut self.engine, asked, by);
+        let first = perform_command(&mut self.engine, command);
         if !is_full(first) {
             return first;
         }
-        self.attempt_again(asked, by)
+        self.attempt_again(command)
     }
 
     // Writes what was done.
@@ -240,13 +220,14 @@ impl Cellar {
         }
     }
 
-    // Makes what was asked, which hands out nothing.
-    fn make_plain(&mut self, asked: Asked, by: u64, answer: &mut Answer) -> u8
-        requires { hands asked ≡ false }
-        ensures { IsAskedMade ⟦<Token as Resource>⟧ asked by self.old self.new answer.old answer.new result }
+    // Makes a command that is known and hands out nothing.
+    fn make_plain(&mut self, command: &Command, answer: &mut Answer) -> u8
+        requires known { IsSome (asked_of command.now) }
+        requires plain { asks_item (asked_of command.now) ≡ false }
+        ensures { IsMadeIf ⟦<Token as Resource>⟧ (asked_of command.now) command.now.by self.old self.new answer.old answer.new result }
     {
         self.tidy();
-        match self.attempt(asked, by) {
+        match self.attempt(command) {
             Ok(made) => {
                 self.tell(made, answer);
                 DONE
@@ -255,13 +236,14 @@ impl Cellar {
         }
     }
 
-    // Makes what was asked.
-    fn make_asked(&mut self, asked: Asked, by: u64, answer: &mut Answer) -> u8
-        ensures { IsAskedMade ⟦<Token as Resource>⟧ asked by self.old self.new answer.old answer.new result }
+    // Makes a command that hands out nothing.
+    fn make_other(&mut self, command: &Command, answer: &mut Answer) -> u8
+        requires { asks_item (asked_of command.now) ≡ false }
+        ensures { IsMadeIf ⟦<Token as Resource>⟧ (asked_of command.now) command.now.by self.old self.new answer.old answer.new result }
     {
-        match item_of(asked) {
-            Some(item) => self.emit(item, by, answer),
-            None => self.make_plain(asked, by, answer),
+        match asked_of(command) {
+            Some(_asked) => self.make_plain(command, answer),
+            None => NO_SUCH_CODE,
         }
     }
 
@@ -270,9 +252,9 @@ impl Cellar {
         ensures { IsCommandMade ⟦<Token as Resource>⟧ command.now self.old self.new answer.old answer.new result }
     {
         answer.clear();
-        match asked_of(command) {
-            Some(asked) => self.make_asked(asked, command.by, answer),
-            None => NO_SUCH_CODE,
+        match item_asked(command) {
+            Some(item) => self.emit(item, command.by, answer),
+            None => self.make_other(command, answer),
         }
     }
 }

@@ -5,7 +5,7 @@ use Rattle.rx_cellar.specs.declared.making.Made.{Made}
 use Rattle.rx_cellar.specs.declared.shapes.Answer.{Answer}
 use Rattle.rx_cellar.specs.Cellars.{IsAskedMade, is_refused, told, with_handed}
 use Rattle.rx_cellar.specs.Makings.{nothing_made}
-use Rattle.rx_cellar.specs.Emitting.{asked_for}
+use Rattle.rx_cellar.specs.Asking.{asked_for}
 use Rattle.rx_cellar.proofs.ItemsEmitted.{emitted_told, refused_tried}
 use Rattle.rx_cellar.proofs.cellar.Cellar.emit.Goals as goal
 
