@@ -231,7 +231,8 @@ class Book:
         answer: Dict[str, Any] = asked.answer
         assert answer is not None
         if "ok" not in answer:
-            raise Refused(answer.get("refused") or f"{answer.get('faulty')}{_hint(asked.words)}")
+            told = str(answer.get("faulty"))  # with the nearest word, but by a library older than 0.2.0
+            raise Refused(answer.get("refused") or told + ("" if "; the nearest is " in told else _hint(asked.words)))
         return answer
 
     def _carry_out(self, asked: _Asked) -> None:
