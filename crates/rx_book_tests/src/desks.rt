@@ -7,6 +7,7 @@ mod days;
 mod desk_calls;
 mod endless;
 mod feeds;
+mod leases;
 mod meetings;
 mod parts;
 mod rows;

@@ -1,14 +1,72 @@
-//! Many nodes, resources and visits: none of the calls searches the history or goes down the tree by recursion.
+//! Many items and nodes: none of the calls searches the history.
 
 use super::probe::Probe;
 use super::same::same;
-use rx_book::{At, Key};
-use rx_event::{Kind, Mode};
+use rx_book::{At, Key, Mail};
+use rx_event::{Event, Kind, Mode, Refusal, Terminal};
 use rx_note::Note;
 use rx_resource::Sample;
 use rx_scarce::Scarce;
 use std::alloc::Global;
 use std::test::Fail;
+
+const ITEMS: u32 = 4096;
+
+// Emits the item of this number, whose event stands behind two openings, and reads it.
+fn emits(book: &mut Probe<Sample>, leaf: Key, number: u32) -> bool {
+    let place = u64::from(number).wrapping_add(2);
+    let value = i64::from(number);
+    book.next(leaf, value) == Ok(place)
+        && book.event(place) == Some(Event::Item(leaf.number, value))
+}
+
+// Hands out the note of the item of this number.
+fn tells(book: &mut Probe<Sample>, number: u32) -> bool {
+    let note = Mail {
+        place: u64::from(number).wrapping_add(2),
+        to: 0,
+        note: Note::Next(i64::from(number)),
+    };
+    book.take_mail() == Some(note)
+}
+
+// Emits all items, then one too many and the end. What both are answered; None where an item is not read.
+fn emitted(book: &mut Probe<Sample>) -> Result<Option<[Result<u64, Refusal>; 2]>, Fail> {
+    let root = book.open(At::Root, Kind::Pass)?.key;
+    let leaf = book.open(At::Source(root), Kind::Leaf)?.key;
+    for number in 0..ITEMS {
+        if !emits(book, leaf, number) {
+            return Ok(None);
+        }
+    }
+    let more = book.next(leaf, 0);
+    Ok(Some([more, book.end(leaf, Terminal::Completed)]))
+}
+
+// Hands out the notes of all items. What is handed out behind them; None where one is another.
+fn told(book: &mut Probe<Sample>) -> Option<[Option<Mail>; 2]> {
+    for number in 0..ITEMS {
+        if !tells(book, number) {
+            return None;
+        }
+    }
+    Some([book.take_mail(), book.take_mail()])
+}
+
+#[test]
+fn many_items_are_emitted_and_read_and_leave_room_for_the_end(rt: HostRuntime) -> Result<(), Fail> {
+    let end = u64::from(ITEMS + 2);
+    let mut book = Probe::new(rt.alloc(), ITEMS + 4);
+    let answers = emitted(&mut book)?;
+    same(&rt, answers, Some([Err(Refusal::Full), Ok(end)]));
+    let last = Mail {
+        place: end + 1,
+        to: 0,
+        note: Note::End(Terminal::Completed),
+    };
+    same(&rt, told(&mut book), Some([Some(last), None]));
+    Ok(())
+}
 
 // A chain of nodes, each at the source of the one before. Its first.
 fn chain(book: &mut Probe<Sample>, count: u32) -> Result<Key, Fail> {
@@ -56,10 +114,11 @@ fn hold_many(book: &mut Probe<Sample>) -> Result<Key, Fail> {
 // Takes what waits, and counts for each tag how often it came. How many came.
 fn take_many(book: &mut Probe<Sample>, times: &mut Vec<u8>) -> u64 {
     for count in 0..=HELD {
-        let Some(tag) = book.take() else {
+        let Some(given) = book.take() else {
             return count;
         };
-        if let Some(one) = times.get_mut(tag as usize) {
+        let tag = given.tag as usize;
+        if let Some(one) = times.get_mut(tag) {
             *one = one.saturating_add(1);
         }
     }

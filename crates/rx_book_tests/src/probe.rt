@@ -31,6 +31,16 @@ pub(super) struct Totals {
     pub taken: u64,
 }
 
+// A resource that was handed out and then released.
+#[derive(Clone, Copy, PartialEq, Eq)]
+pub(super) struct Given {
+    pub number: u64,
+    pub tag: u64,
+    pub uses: u64,
+    pub fault: Option<u32>,
+    pub life: Life,
+}
+
 // A resource that came back with the cause.
 #[derive(Clone, Copy, Debug, PartialEq, Eq)]
 pub(super) struct Back {
@@ -146,10 +156,20 @@ impl<R: Resource> Probe<R> {
         book.finish()
     }
 
-    // Takes a resource and releases it. Answers its tag.
-    pub(super) fn take(&mut self) -> Option<u64> {
+    // Takes a resource and releases it.
+    pub(super) fn take(&mut self) -> Option<Given> {
         match self.book.take() {
-            Some(handed) => Some(handed.release().tag),
+            Some(handed) => {
+                let uses = handed.uses();
+                let released = handed.release();
+                Some(Given {
+                    number: released.number,
+                    tag: released.tag,
+                    uses,
+                    fault: released.fault,
+                    life: released.spent.life(),
+                })
+            }
             None => None,
         }
     }
@@ -177,6 +197,14 @@ impl<R: Resource> Probe<R> {
         self.book.open_count()
     }
 
+    pub(super) fn is_open(&self, node: Key) -> bool {
+        self.book.is_open(node)
+    }
+
+    pub(super) fn is_held(&self, res: ResKey) -> bool {
+        self.book.is_held(res)
+    }
+
     pub(super) fn event(&self, place: u64) -> Option<Event> {
         self.book.event(place)
     }
@@ -188,6 +216,30 @@ fn back_of<R: Resource>(refused: Refused<R>) -> Back {
         tag: refused.back.tag(),
         uses: refused.back.uses(),
         life: refused.back.life(),
+    }
+}
+
+// The numbers of events and of items, and of the resources that were accepted, are held, wait and
+// were taken.
+pub(super) fn counts(len: u64, items: u64, [accepted, held, waiting, taken]: [u64; 4]) -> Totals {
+    Totals {
+        len,
+        items,
+        accepted,
+        held,
+        waiting,
+        taken,
+    }
+}
+
+// What is given where a resource was used so often and its release met no fault.
+pub(super) fn used(number: u64, tag: u64, uses: u64) -> Given {
+    Given {
+        number,
+        tag,
+        uses,
+        fault: None,
+        life: Life::Released,
     }
 }
 

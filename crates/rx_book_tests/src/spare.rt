@@ -55,7 +55,7 @@ fn has_memory(alloc: Global) -> bool {
 }
 
 // Whether the call is done with no memory left before it. What it gives back is taken before the next.
-fn is_done_with_none(alloc: Global, book: &mut Probe<Sample>, closing: Closing) -> bool {
+pub(super) fn is_done_with_none(alloc: Global, book: &mut Probe<Sample>, closing: Closing) -> bool {
     let Ok(_scarce) = Scarce::new(alloc) else {
         return false;
     };
@@ -180,12 +180,17 @@ fn closed_full(
 
 #[test]
 fn closings_and_handing_out_take_no_memory(rt: HostRuntime) -> Result<(), Fail> {
-    let rows = [(1000, true, Refusal::NoMemory), (64, false, Refusal::Full)];
-    for (limit, is_scarce, why) in rows {
-        let mut book = Probe::new(rt.alloc(), limit);
-        let closed = closed_full(rt.alloc(), &mut book, is_scarce)?;
-        same(&rt, closed, (Some(why), 12, [0, 4, 4]));
-    }
+    let mut book = Probe::new(rt.alloc(), 1000);
+    let closed = closed_full(rt.alloc(), &mut book, true)?;
+    same(&rt, closed, (Some(Refusal::NoMemory), 12, [0, 4, 4]));
+    Ok(())
+}
+
+#[test]
+fn a_full_book_closes_and_hands_out_with_no_memory_left(rt: HostRuntime) -> Result<(), Fail> {
+    let mut book = Probe::new(rt.alloc(), 64);
+    let closed = closed_full(rt.alloc(), &mut book, false)?;
+    same(&rt, closed, (Some(Refusal::Full), 12, [0, 4, 4]));
     Ok(())
 }
 

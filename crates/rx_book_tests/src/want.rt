@@ -8,6 +8,7 @@ use rx_event::{Kind, Mode, Refusal};
 use rx_resource::Sample;
 use rx_scarce::{MOST_BLOCKS, Scarce};
 use std::alloc::Global;
+use std::process::Abort;
 use std::test::Fail;
 
 // So many calls that each list that they ask for has to grow at some of them.
@@ -246,37 +247,73 @@ fn is_refused_first(alloc: Global, made: Made) -> Result<bool, Fail> {
     Ok(refused > Some(2) && are_alike(&mut book, &mut twin))
 }
 
-// Openings at a root, of each kind, and once at each other place; what else may take memory; an item at a root, below a
-// FlatMap and over a hub; a connection by hand, and that of a subscriber.
-const CALLS_IN_WANT: [Made; 20] = [
+// So with each of these calls.
+fn are_refused_first<T: Abort>(rt: &T, alloc: Global, calls: &[Made]) -> Result<(), Fail> {
+    for call in calls {
+        let made = *call;
+        assert!(rt; is_refused_first(alloc, made)?, "{made:?}");
+    }
+    Ok(())
+}
+
+const WITHOUT_INNERS: [Made; 4] = [
     Made::Open(Kind::Pass),
     Made::Open(Kind::Leaf),
     Made::OpenUsing,
     Made::OpenHolding,
+];
+
+#[test]
+fn an_opening_at_a_root_that_is_refused_memory_changes_nothing(
+    rt: HostRuntime,
+) -> Result<(), Fail> {
+    are_refused_first(&rt, rt.alloc(), &WITHOUT_INNERS)
+}
+
+const WITH_PLACES: [Made; 3] = [
     Made::Open(Kind::Flat),
     Made::Open(Kind::Switch),
     Made::Open(Kind::Until),
+];
+
+#[test]
+fn an_operator_at_a_root_that_is_refused_memory_changes_nothing(
+    rt: HostRuntime,
+) -> Result<(), Fail> {
+    are_refused_first(&rt, rt.alloc(), &WITH_PLACES)
+}
+
+const BELOW: [Made; 4] = [
     Made::OpenBelow,
     Made::OpenInner,
     Made::OpenNotifier,
     Made::Hold,
-    Made::Apply,
-    Made::Lease,
-    Made::Next,
-    Made::NextProjected,
-    Made::NextShared,
-    Made::Hub,
-    Made::Connect,
-    Made::Subscribe,
-    Made::SubscribeHolding,
 ];
 
 #[test]
-fn a_call_that_is_refused_memory_changes_nothing(rt: HostRuntime) -> Result<(), Fail> {
-    for call in CALLS_IN_WANT {
-        assert!(rt; is_refused_first(rt.alloc(), call)?, "{call:?}");
-    }
-    Ok(())
+fn an_opening_below_or_a_resource_that_is_refused_memory_changes_nothing(
+    rt: HostRuntime,
+) -> Result<(), Fail> {
+    are_refused_first(&rt, rt.alloc(), &BELOW)
+}
+
+#[test]
+fn a_use_or_a_lease_that_is_refused_memory_changes_nothing(rt: HostRuntime) -> Result<(), Fail> {
+    are_refused_first(&rt, rt.alloc(), &[Made::Apply, Made::Lease])
+}
+
+const ITEMS: [Made; 4] = [Made::Next, Made::NextProjected, Made::NextShared, Made::Hub];
+
+#[test]
+fn an_item_or_a_hub_that_is_refused_memory_changes_nothing(rt: HostRuntime) -> Result<(), Fail> {
+    are_refused_first(&rt, rt.alloc(), &ITEMS)
+}
+
+const CONNECTED: [Made; 3] = [Made::Connect, Made::Subscribe, Made::SubscribeHolding];
+
+#[test]
+fn a_connection_that_is_refused_memory_changes_nothing(rt: HostRuntime) -> Result<(), Fail> {
+    are_refused_first(&rt, rt.alloc(), &CONNECTED)
 }
 
 // Takes all notes.

@@ -1,5 +1,4 @@
-//! What a desk says at its end of its seats and of the receipts that it is shown: two seats and true receipts agree
-//! with its book; a seat that was left out is missed, and the receipt of another event told with its place.
+//! What a desk says at its end of its seats and of the receipts that it is shown.
 
 use super::desk_calls::{Call, Deed, NO_SLOTS, make_all};
 use super::trials::{Trial, assert_all};
@@ -51,11 +50,47 @@ const TAKES: Receipt = Receipt {
     event: Event::Take(1),
 };
 
+const AGREED: [(Trial, &str); 1] = [(
+    Trial::Work(true, true, &[CLOSES_ROOT, TAKES]),
+    "\
+Ok(0)
+Ok(2)
+Some((1, 7, 0))
+(4, None)
+Ok(Totals { items: 0, accepted: 1, taken: 1, held: 0, waiting: 0, len: 5 })
+Some(4)
+Closed { released: 0, faults: 0 }
+",
+)];
+
+#[test]
+fn two_seats_and_a_true_receipt_agree_with_the_book(rt: HostRuntime) {
+    assert_all(&rt, rt.alloc(), &AGREED);
+}
+
 // The event at place 2 is another.
 const CLOSES_LEAF: Receipt = Receipt {
     place: 2,
     event: Event::Close(5),
 };
+
+const FORGED: [(Trial, &str); 1] = [(
+    Trial::Work(true, true, &[CLOSES_LEAF]),
+    "\
+Ok(0)
+Ok(2)
+Some((1, 7, 0))
+(4, None)
+Err(Receipt { place: 2 })
+Some(4)
+Closed { released: 0, faults: 0 }
+",
+)];
+
+#[test]
+fn a_receipt_of_another_event_is_told_with_its_place(rt: HostRuntime) {
+    assert_all(&rt, rt.alloc(), &FORGED);
+}
 
 const NONE_ACCEPTED: &str = "\
 Ok(0)
@@ -67,31 +102,7 @@ Some(4)
 Closed { released: 0, faults: 0 }
 ";
 
-const WORKED: [(Trial, &str); 5] = [
-    (
-        Trial::Work(true, true, &[CLOSES_ROOT, TAKES]),
-        "\
-Ok(0)
-Ok(2)
-Some((1, 7, 0))
-(4, None)
-Ok(Totals { items: 0, accepted: 1, taken: 1, held: 0, waiting: 0, len: 5 })
-Some(4)
-Closed { released: 0, faults: 0 }
-",
-    ),
-    (
-        Trial::Work(true, true, &[CLOSES_LEAF]),
-        "\
-Ok(0)
-Ok(2)
-Some((1, 7, 0))
-(4, None)
-Err(Receipt { place: 2 })
-Some(4)
-Closed { released: 0, faults: 0 }
-",
-    ),
+const LEFT_OUT: [(Trial, &str); 3] = [
     (
         Trial::Work(true, false, &[]),
         "\
@@ -110,5 +121,5 @@ Closed { released: 0, faults: 0 }
 
 #[test]
 fn a_seat_that_was_left_out_is_missed(rt: HostRuntime) {
-    assert_all(&rt, rt.alloc(), &WORKED);
+    assert_all(&rt, rt.alloc(), &LEFT_OUT);
 }

@@ -33,6 +33,9 @@ pub(super) enum Call {
 pub(super) enum Deed {
     Next(i64),
     End(Terminal),
+    Abort(u32),
+    Decline,
+    Fail(u32),
     Dispose,
 }
 
@@ -45,12 +48,14 @@ pub(super) enum Use {
     GiveBack,
 }
 
-// What is done with a hub.
+// What is done with a hub, and with the whole book.
 #[derive(Clone, Copy)]
 pub(super) enum Hub {
     Make(Mode),
     Connect(u64),
     Disconnect(u64),
+    Checkpoint,
+    Shut,
 }
 
 // What a floor is asked.
@@ -58,7 +63,10 @@ pub(super) enum Hub {
 pub(super) enum Ask {
     Mail,
     Event(u64),
+    Owed(u64),
+    IsOpen(u64),
     IsHeld(u64),
+    Lease,
     Manual,
     Root,
     Sums,
@@ -172,6 +180,9 @@ fn do_at<I: Ledger, A: Ledger, K: Ledger>(
     match deed {
         Deed::Next(value) => floor.next(seat, node, value),
         Deed::End(terminal) => floor.end(node, terminal),
+        Deed::Abort(code) => floor.abort(node, code),
+        Deed::Decline => floor.decline(node),
+        Deed::Fail(code) => floor.fail(node, code),
         Deed::Dispose => floor.dispose(node),
     }
 }
@@ -207,6 +218,19 @@ fn do_hub<I: Ledger, A: Ledger, K: Ledger>(
             Err(why) => Err(why),
         },
         Hub::Disconnect(hub) => floor.disconnect(hub),
+        Hub::Checkpoint => floor.checkpoint(),
+        Hub::Shut => {
+            floor.shut();
+            Ok(u64::from(floor.is_shut()))
+        }
+    }
+}
+
+// The number of a lease.
+fn lease_of(key: Option<LeaseKey>) -> Option<u64> {
+    match key {
+        Some(key) => Some(key.number),
+        None => None,
     }
 }
 
@@ -219,7 +243,10 @@ fn ask_floor<I: Ledger, A: Ledger, K: Ledger>(
     match asked {
         Ask::Mail => tell(told, floor.take_mail()),
         Ask::Event(place) => tell(told, floor.event(place)),
+        Ask::Owed(node) => tell(told, floor.owed(key_of(slots, node))),
+        Ask::IsOpen(node) => tell(told, floor.is_open(key_of(slots, node))),
         Ask::IsHeld(number) => tell(told, floor.is_held(res_of(slots, number))),
+        Ask::Lease => tell(told, (floor.leases(), lease_of(floor.open_lease()))),
         Ask::Manual => tell(told, floor.open_manual()),
         Ask::Root => tell(told, (floor.open_count(), number_of(floor.open_root()))),
         Ask::Sums => tell(told, sums_of(floor)),

@@ -26,6 +26,12 @@ None
 Closed { released: 0, faults: 0 }
 ";
 
+#[test]
+fn a_feed_stops_at_its_turns_at_the_end_and_when_refused(rt: HostRuntime) {
+    let trial = Trial::Calls(1000, &STOPPED, &[]);
+    assert_all(&rt, rt.alloc(), &[(trial, STOPPED_TOLD)]);
+}
+
 // Of a source that fails, of one that begins with its end, and of a node that is no leaf.
 const WRITTEN: [Call; 14] = [
     Call::Open(Place::Root, Kind::Pass),
@@ -64,12 +70,8 @@ Some(0)
 Closed { released: 0, faults: 0 }
 ";
 
-const FED: [(Trial, &str); 2] = [
-    (Trial::Calls(1000, &STOPPED, &[]), STOPPED_TOLD),
-    (Trial::Calls(1000, &WRITTEN, &[]), WRITTEN_TOLD),
-];
-
 #[test]
 fn a_feed_writes_what_was_pulled_and_takes_no_note(rt: HostRuntime) {
-    assert_all(&rt, rt.alloc(), &FED);
+    let trial = Trial::Calls(1000, &WRITTEN, &[]);
+    assert_all(&rt, rt.alloc(), &[(trial, WRITTEN_TOLD)]);
 }

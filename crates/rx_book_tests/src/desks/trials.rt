@@ -6,6 +6,7 @@ use super::closed::eight_knock;
 use super::days::work;
 use super::desk_calls::{Call, NO_SLOTS, make_all};
 use super::endless::{LIMIT, storm};
+use super::leases::passed_on;
 use super::meetings::{both_release, wakes};
 use super::parts::{blanks, number_of, tell};
 use super::seats::{SEEN, give_a_past, split_all};
@@ -37,6 +38,8 @@ pub(super) enum Trial {
     Meeting,
     // A thread that waits for the bell of a feed.
     Bell,
+    // A lease that goes from thread to thread.
+    Lease,
     // Eight threads with a key of what is closed.
     Closed,
     // Feeds and checkpoints without end.
@@ -88,6 +91,7 @@ fn tried<
         Trial::Workers => work_thrice(rt, alloc, desk, seat, told),
         Trial::Meeting => both_release(rt, alloc, desk, seat, told),
         Trial::Bell => wakes(rt, alloc, desk, seat, told),
+        Trial::Lease => passed_on(rt, alloc, desk, seat, told),
         Trial::Closed => eight_knock(rt, alloc, desk, seat, told),
         Trial::Endless => storm(rt, alloc, desk, seat, told),
         Trial::Past => Some(make_all(rt, alloc, desk, seat, &mut NO_SLOTS, &SEEN, told)),

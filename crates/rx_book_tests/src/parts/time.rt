@@ -172,3 +172,27 @@ fn taking_out_needs_no_memory(rt: HostRuntime) -> Result<(), Fail> {
     assert!(rt; taken == ITEMS && scheduled > 2 && pushed > 2);
     Ok(())
 }
+
+// Three items, of which two are due, and then one that is due at once: what comes by 7, and what is cancelled of
+// the one that does not.
+fn come_in_order(
+    timeline: &mut Timeline<char>,
+) -> Result<([Option<(u64, char)>; 4], [Option<char>; 2]), Fail> {
+    let late = timeline.schedule(10, 'a').map_err(reason)?;
+    timeline.schedule(5, 'b').map_err(reason)?;
+    timeline.schedule(5, 'c').map_err(reason)?;
+    let first = [timeline.next_until(7), timeline.next_until(7)];
+    let none = timeline.next_until(7);
+    timeline.schedule(3, 'd').map_err(reason)?;
+    let came = [first[0], first[1], none, timeline.next_until(7)];
+    Ok((came, [timeline.cancel(late), timeline.cancel(late)]))
+}
+
+#[test]
+fn work_comes_out_by_due_time_then_by_order(rt: HostRuntime) -> Result<(), Fail> {
+    let mut timeline = Timeline::new(rt.alloc());
+    let came = come_in_order(&mut timeline)?;
+    let in_order = [Some((5, 'b')), Some((5, 'c')), None, Some((7, 'd'))];
+    same(&rt, came, (in_order, [Some('a'), None]));
+    Ok(())
+}
