@@ -1,11 +1,12 @@
--- The tests that compute decide what callers may do.
+-- What the lists say of resources, and of the connections above a node.
 use Rattle.rx_audit.proofs.Common.{◌≡◌, ℕ, Bool, true, false, nat_lt, List, Some, None, refl, sym, ap, ◌∙◌, slice_get, not, ◌&&◌, ◌||◌}
 use Rattle.rx_audit.proofs.Common.{option_and_then, Event, makes_resource, makes_lease, removed_of, returned_of, taken_of, at, is_open, parent, leases_of}
-use Rattle.rx_audit.proofs.Common.{ancestors_step, is_key, connects_later, is_in_order_at, list_any-same, ◌<◌, length, get_or, arith}
+use Rattle.rx_audit.proofs.Common.{ancestors, ancestors_step, list_any, is_key, list_any-same, ◌<◌, length, get_or, arith}
 use Rattle.rx_audit.specs.declared.found.Found.{Found}
 use Rattle.rx_audit.specs.Found.{IsFoundHere}
 use Rattle.rx_event.specs.Events.{node_of_accept, is_remove_of, is_return_of, is_take_of}
 use Rattle.rx_event.specs.Resources.{is_owned, is_out, is_leased, is_held, is_taken, is_waiting}
+use Rattle.rx_event.specs.Causes.{connects_up_to}
 use Rattle.rx_event.proofs.Laws.Resources.{held_is}
 use Rattle.rx_audit.specs.Rules.{was_removed, was_returned, was_taken}
 use Rattle.std.proofs.Common.{rules}
@@ -73,14 +74,13 @@ not_waiting h r m = rw m refl
 
 -- order of hubs ----------------------------------------------------------------------------------------
 
-pub order_above : (h : List Event) (g a p : ℕ) → parent h a ≡ Some p → connects_later h g a ≡ true → is_in_order_at h g a ≡ is_in_order_at h g p
-unfolding is_in_order_at
-order_above h g a p above later = rw (ancestors_step h a, above, later) refl
+pub order_above : (h : List Event) (g a p : ℕ) → parent h a ≡ Some p → at (connects_up_to g) h a ≡ false →
+    list_any (at (connects_up_to g) h) (ancestors h a) ≡ list_any (at (connects_up_to g) h) (ancestors h p)
+order_above h g a p above apart = rw (ancestors_step h a, above, apart) refl
 
-pub order_top : (h : List Event) (g a : ℕ) → parent h a ≡ None → connects_later h g a ≡ true → is_in_order_at h g a ≡ true
-unfolding is_in_order_at
-order_top h g a above later = rw (ancestors_step h a, above, later) refl
+pub order_top : (h : List Event) (g a : ℕ) → parent h a ≡ None → at (connects_up_to g) h a ≡ false →
+    list_any (at (connects_up_to g) h) (ancestors h a) ≡ false
+order_top h g a above apart = rw (ancestors_step h a, above, apart) refl
 
-pub order_broken : (h : List Event) (g a : ℕ) → connects_later h g a ≡ false → is_in_order_at h g a ≡ false
-unfolding is_in_order_at
-order_broken h g a later = rw (ancestors_step h a, later) refl
+pub order_broken : (h : List Event) (g a : ℕ) → at (connects_up_to g) h a ≡ true → list_any (at (connects_up_to g) h) (ancestors h a) ≡ true
+order_broken h g a here = rw (ancestors_step h a, here) refl

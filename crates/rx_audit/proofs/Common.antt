@@ -22,8 +22,6 @@ pub use Rattle.std.proofs.lemmas.Option.{option_and_then_some}
 pub use Rattle.std.proofs.lemmas.Result.{IfOk-weaker}
 pub use Rattle.std.specs.Bool.{MatchBool}
 pub use Rattle.std.specs.Prelude.{is_some}
-pub use Rattle.rx_audit.specs.Allowing.{connects_later, allowed_simply}
-unfoldable pub use Rattle.rx_audit.specs.Allowing.{item_allowed, is_in_order_at, open_allowed, leaves_room}
 pub use Rattle.rx_audit.specs.DueList.{Keeps, IsLostNoted, HasAll}
 unfoldable pub use Rattle.rx_audit.specs.DueList.{acts}
 pub use Rattle.rx_audit.specs.Flow.{IsReached, times, IsOften, flow}
@@ -35,7 +33,7 @@ pub use Rattle.rx_audit.specs.Marking.{projected_key}
 unfoldable pub use Rattle.rx_audit.specs.Marking.{node_due}
 pub use Rattle.rx_audit.specs.Rules.{is_key, hub_connected_at, hub_subscribed_at, has_key, open_connected, hub_ended, hub_ended_at, open_subscribed}
 pub use Rattle.rx_audit.specs.Rules.{open_waiting, joins, ends_source}
-unfoldable pub use Rattle.rx_audit.specs.Rules.{is_cut, stays_open, any_connect_due, close_due, connect_due, is_owing}
+unfoldable pub use Rattle.rx_audit.specs.Rules.{is_cut, stays_open, any_connect_due, close_due, connect_due}
 pub use Rattle.rx_audit.specs.Standing.{IsFollowed, IsKnown}
 pub use Rattle.rx_audit.specs.Tables.{IsMarked, mark_count, marks_with, counts_with, counts_less}
 pub use Rattle.rx_audit.specs.declared.advance.Nodes.{Nodes}

@@ -1,14 +1,13 @@
 -- The tests that compute decide what is due, what is forced, and what is settled.
-use Rattle.rx_audit.proofs.Common.{◌≡◌, ℕ, true, false, List, [], length, Option, Some, None, sym, ap, ◌∙◌, ◌==◌, cond, slice_get, not, ◌&&◌}
-use Rattle.rx_audit.proofs.Common.{option_map_or, and_parts, both_ways, false≢true, eqb-true, none-some, nothing_kept, Event, Connect, Close, is_subscriber_of}
-use Rattle.rx_audit.proofs.Common.{is_connect_of, is_auto_hub, at, places, parent, is_open, is_open_child_of, has_open_child, open_subscribers, IsConnectDue}
-use Rattle.rx_audit.proofs.Common.{IsDue, left, parent_within, at_within, is_key, hub_subscribed_at, hub_connected_at, is_cut, open_subscribed, open_connected}
+use Rattle.rx_audit.proofs.Common.{◌≡◌, ℕ, true, false, List, [], length, Some, sym, ◌∙◌, cond, slice_get, not, ◌&&◌}
+use Rattle.rx_audit.proofs.Common.{option_map_or, and_parts, both_ways, false≢true, none-some, nothing_kept, Event, Connect, Close, is_subscriber_of}
+use Rattle.rx_audit.proofs.Common.{is_connect_of, is_auto_hub, at, places, is_open, open_subscribers, IsConnectDue}
+use Rattle.rx_audit.proofs.Common.{IsDue, left, at_within, is_key, hub_subscribed_at, hub_connected_at, is_cut, open_subscribed, open_connected}
 use Rattle.rx_audit.proofs.Common.{open_waiting, has_key, connect_due, any_connect_due, close_due, and_from, not-true, not_from_false, false_from_ne_true}
 use Rattle.rx_audit.specs.Rules.{is_left}
 use Rattle.rx_audit.proofs.KeysInRange.{any_found}
-use Rattle.rx_audit.proofs.TestsDecideRules.{FoundNumber, find_number, subscriber_at, at_subscriber, connection_at, at_connection, cut_ended, is_cut_of}
+use Rattle.rx_audit.proofs.TestsDecideRules.{find_number, subscriber_at, at_subscriber, connection_at, at_connection, cut_ended, is_cut_of}
 use Rattle.rx_audit.proofs.TestsDecideRules.{filter_none, none_filtered, subscribed_key, connected_key}
-use Rattle.rx_event.proofs.Laws.Common.{number_itself}
 use Rattle.rx_audit.proofs.Latest.{is_key_of, key_is}
 use Rattle.std.proofs.Common.{rules}
 
@@ -65,23 +64,7 @@ no_connect_due h none g d = both_ways (any_connect_due h) none (any_connect_due_
 
 -- what the rules ask, as facts -------------------------------------------------------------------------
 
--- some child is open
-pub child_closed : (h : List Event) (f : ℕ) → not (has_open_child h f) ≡ true → (c : ℕ) → parent h c ≡ Some f → is_open h c ≡ false
-child_closed h f e c below = false_from_ne_true (is_open h c) (λ o. both_ways (has_open_child h f) (not-true (has_open_child h f) e)
-    (any_found (is_open_child_of h f) (length h) c (parent_within h c f below)
-    (and_from (is_open h c) (option_map_or (λ q. q == f) (parent h c) false) o (rw below (number_itself f)))))
-
-pub no_child_open : (h : List Event) (f : ℕ) → ((c : ℕ) → parent h c ≡ Some f → is_open h c ≡ false) → not (has_open_child h f) ≡ true
-no_child_open h f closed = not_from_false _ (false_from_ne_true (has_open_child h f) (λ e. open_one (find_number (is_open_child_of h f) (length h) e))) where
-  below : (o : Option ℕ) → option_map_or (λ q. q == f) o false ≡ true → o ≡ Some f
-  below None e = absurd (false≢true e)
-  below (Some q) e = ap (λ n. Some n) (eqb-true q f e)
-
-  open_one : FoundNumber (is_open_child_of h f) (length h) → ⊥
-  open_one s =
-      let w = and_parts (is_open h s.number) (option_map_or (λ q. q == f) (parent h s.number) false) s.holds in
-      both_ways (is_open h s.number) (closed s.number (below (parent h s.number) w.1)) w.0
-
+-- a hub has lost its subscribers
 is_left_of : (h : List Event) (g : ℕ) → at is_auto_hub h g ≡ true → open_subscribers h g ≡ [] → is_left h g ≡ true
 is_left_of h g a none = search (rules, and_from, not, not_from_false, subscribed_key, none_filtered)
 

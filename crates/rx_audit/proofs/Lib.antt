@@ -7,7 +7,8 @@ pub mod KeysInRange
 pub mod TestsDecideRules
 pub mod Due
 pub mod Allowing
-pub mod TestsDecideAllowed
+pub mod OpenCount
+pub mod Refusing
 pub mod TestsToVerdict
 pub mod FlowIsVisits
 pub mod VisitLogEntries
@@ -25,5 +26,4 @@ pub mod HubsAfter
 pub mod OpenListed
 pub mod DueLists
 pub mod EndsDue
-pub mod ConnectRoom
 pub mod KnownNodesAndHubs

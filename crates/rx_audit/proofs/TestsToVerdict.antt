@@ -1,46 +1,46 @@
 -- From the tests to the verdict.
 use Rattle.rx_audit.proofs.Common.{◌≡◌, ℕ, ℤ, zero, suc, ◌+◌, ◌<◌, ◌≤◌, Bool, true, false, List, [], ◌∷◌, ◌++◌, length, take, Some, None, refl, sym, ap}
 use Rattle.rx_audit.proofs.Common.{subst, ◌∙◌, arith, ◌==◌, slice_get, get_or, IsTrue, ◌↔◌, length-append, drop, take-append-drop, ◌&&◌, option_map_or}
-use Rattle.rx_audit.proofs.Common.{and_parts, both_ways, false≢true, eqb-true, eq-eqb, nothing_kept, Place, Kind, Pass, Event, Open, Accept, Item, at, is_open}
-use Rattle.rx_audit.proofs.Common.{IsForced, IsSettled, due, IsAllowed, accepted, IsLawful, MayFollow, none-some, same_Some, Nodes, IsFollowed, IsKnown}
-use Rattle.rx_audit.proofs.Common.{IsFound, IsClimbed, IsReached, leaf_of, Visit, allowed_simply, item_allowed, open_allowed, leaves_room, and_from}
+use Rattle.rx_audit.proofs.Common.{and_parts, both_ways, false≢true, eqb-true, eq-eqb, nothing_kept, Place, Pass, Event, Open, Accept, Item, at, is_open}
+use Rattle.rx_audit.proofs.Common.{IsForced, IsSettled, due, IsAllowed, accepted, IsLawful, MayFollow, same_Some, Nodes, IsFollowed, IsKnown}
+use Rattle.rx_audit.proofs.Common.{IsFound, IsClimbed, IsReached, leaf_of, Visit, and_from}
 use Rattle.rx_event.specs.Lawful.{forced, allowed, opened_with as accepted_with}
-use Rattle.rx_event.proofs.Laws.Lawful.{IsLawful-push}
+use Rattle.rx_event.proofs.Laws.Begin.{shown_nothing}
+use Rattle.rx_event.proofs.Laws.Lawful.{IsLawful-push, FoundAt, in_base, since_base, found_at}
 use Rattle.std.proofs.lemmas.List.{take_more}
 use Rattle.rx_audit.specs.declared.found.Found.{Found}
 use Rattle.rx_audit.specs.Verdict.{IsFoundUnlawful}
-use Rattle.rx_audit.specs.Allowing.{opens_pass, opened_with}
-use Rattle.rx_audit.proofs.ConnectRoom.{room_fits, fits_room}
-use Rattle.rx_audit.proofs.TestsDecideAllowed.{open_may, open_may_of, open_fits, item_may, item_may_of, simply_may, simply_may_of}
+use Rattle.rx_audit.specs.Rules.{opens_pass, opened_with}
+use Rattle.rx_event.specs.declared.refusal.Refusal.{Refusal}
+use Rattle.rx_audit.proofs.Common.{none-some}
+use Rattle.std.specs.Prelude.{is_none, Option}
+use Rattle.rx_rules.specs.Behind.{refusal_of, takes_waiting}
+use Rattle.rx_rules.proofs.Laws.Decided.{allowed_unrefused}
 use Rattle.std.proofs.Common.{rules}
 
--- openings ---------------------------------------------------------------------------------------------
+-- callers ----------------------------------------------------------------------------------------------
 
--- the event is an opening, and there is room for the connection that it may force
-pub open_test : {h : List Event} (e : Event) (place : Place) (kind : Kind) (b : Bool) → e ≡ Open place kind → IsLawful nothing_kept h → IsSettled nothing_kept h
-    → b ≡ (open_allowed h place kind && leaves_room h e) → (IsTrue b) ↔ IsAllowed nothing_kept h e
-open_test {h} e place kind b is_e law settled is = rw is_e (to, back) where
-  parts : b ≡ true → (open_allowed h place kind ≡ true) × (leaves_room h (Open place kind) ≡ true)
-  parts y = and_parts (open_allowed h place kind) (leaves_room h (Open place kind))
-      (ap (λ x. open_allowed h place kind && leaves_room h x) (sym is_e) ∙ sym is ∙ y)
+-- what nothing refuses, and hands out what waits, is allowed
+pub decided : (h : List Event) (e : Event) (why : Option Refusal) (b : Bool) → IsLawful nothing_kept h → IsSettled nothing_kept h →
+    why ≡ refusal_of nothing_kept h e → b ≡ (is_none why && takes_waiting h e) → (IsTrue b) ↔ IsAllowed nothing_kept h e
+decided h e why b law settled is says = (to, back) where
+  none_is : (o : Option Refusal) → is_none o ≡ true → o ≡ None
+  none_is None none = refl
+  none_is (Some x) none = absurd (false≢true none)
 
-  to : b ≡ true → IsAllowed nothing_kept h (Open place kind)
-  to y = let p = parts y in open_may h place kind p.0 (room_fits h place kind law settled p.1)
+  to : b ≡ true → IsAllowed nothing_kept h e
+  to y =
+      let parts : (is_none why ≡ true) × (takes_waiting h e ≡ true) = and_parts _ _ (sym says ∙ y) in
+      (allowed_unrefused nothing_kept h e law settled).1 (sym is ∙ none_is why parts.0, parts.1)
 
-  back : IsAllowed nothing_kept h (Open place kind) → b ≡ true
+  back : IsAllowed nothing_kept h e → b ≡ true
   back a =
-      let may = open_may_of h place kind a in
-      is ∙ ap (λ x. open_allowed h place kind && leaves_room h x) is_e ∙ and_from (open_allowed h place kind) (leaves_room h (Open place kind)) may
-      (fits_room h place kind law settled may (open_fits h place kind a))
+      let w : (refusal_of nothing_kept h e ≡ None) × (takes_waiting h e ≡ true) = (allowed_unrefused nothing_kept h e law settled).0 a in
+      says ∙ and_from _ _ (ap (λ o. is_none o) (is ∙ w.0)) w.1
 
--- items and the rest -------------------------------------------------------------------------------------
-
-pub item_answer : (h : List Event) (e : Event) (l : ℕ) (v : ℤ) (b : Bool) → e ≡ Item l v → b ≡ item_allowed h l → (IsTrue b) ↔ IsAllowed nothing_kept h e
-item_answer h e l v b is_e is = rw is_e (λ t. item_may h l v (sym is ∙ t), λ a. is ∙ item_may_of h l v a)
-
-pub simple_answer : (h : List Event) (e : Event) (b : Bool) → ((place : Place) (kind : Kind) → e ≡ Open place kind → ⊥)
-    → ((l : ℕ) (v : ℤ) → e ≡ Item l v → ⊥) → b ≡ allowed_simply h e → (IsTrue b) ↔ IsAllowed nothing_kept h e
-simple_answer h e b no_open no_item is = (λ t. simply_may h e (sym is ∙ t), λ a. is ∙ simply_may_of h e no_open no_item a)
+pub none_climbs : (why : Option Refusal) (b c : Bool) (P : Type 0) → b ≡ (is_none why && c) → (why ≡ None → P) → b ≡ true → P
+none_climbs None b c P says climbs y = climbs refl
+none_climbs (Some x) b c P says climbs y = absurd (false≢true (sym says ∙ y))
 
 -- what may follow ----------------------------------------------------------------------------------------
 
@@ -95,9 +95,6 @@ found_more h i d size found l same f = rw (take_more h i d l, ← same) f
 pub item_climbs : (h : List Event) (e : Event) (l : ℕ) (v : ℤ) (log : List Visit) → e ≡ Item l v → IsReached h l log → IsClimbed h e log
 item_climbs h e l v log is r m w at = subst (λ (k : ℕ). IsReached h k log) (same_Some l m (ap leaf_of (sym is ∙ at))) r
 
-pub no_item_climbs : (h : List Event) (e : Event) (log : List Visit) → leaf_of e ≡ None → IsClimbed h e log
-no_item_climbs h e log none l v is = absurd (none-some l (sym none ∙ ap leaf_of is))
-
 pub unsettled_climbs : (h : List Event) (e : Event) (log : List Visit) → ¬ IsSettled nothing_kept h → MayFollow nothing_kept h e → IsClimbed h e log
 unsettled_climbs h e log unsettled m l v is = by_way l v (rw is at m) where
   by_way : (l : ℕ) (v : ℤ) → MayFollow nothing_kept h (Item l v) → IsReached h l log
@@ -127,3 +124,10 @@ length-take-most i h = let s = length-append (take i h) (drop i h) in let t = ap
 pub known_from : (h : List Event) (i : ℕ) (found : Found) (nodes : Nodes) → IsLawful nothing_kept (take i h) → IsFound (take i h) (length h) found
     → IsFollowed (take i h) (length h) nodes → IsKnown (take i h) found.live.items nodes
 known_from h i found nodes law f w = search (rules, length-take-most)
+
+-- a list with an event that may not follow those before it is not lawful
+pub not_lawful : (h : List Event) (i : ℕ) → IsFoundUnlawful h i → IsLawful nothing_kept h → ⊥
+not_lawful h i u law = by_found (found_at nothing_kept h law i u.event u.found) where
+  by_found : FoundAt nothing_kept h i u.event → ⊥
+  by_found (in_base found same) = none-some u.event (sym (ap (λ (k : List Event). slice_get k i) shown_nothing) ∙ found)
+  by_found (since_base next) = u.breaks next

@@ -2,7 +2,6 @@ pub mod Imports
 pub mod Tables
 pub mod Rules
 pub mod Found
-pub mod Allowing
 pub mod Verdict
 pub mod Flow
 pub mod HubTables

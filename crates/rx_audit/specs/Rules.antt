@@ -1,10 +1,12 @@
 -- The rules of histories as tests that compute.
-use Rattle.std.specs.Prelude.{◌==◌, ◌&&◌, drop, if◌then◌else◌}
-use Rattle.rx_audit.specs.Imports.{ℕ, Bool, true, false, Option, Some, None, List, length, slice_get, suc, nat_lt, not, list_all, list_any}
-use Rattle.rx_audit.specs.Imports.{option_and_then, option_map_or, nothing_kept, Event, End, Stop, Projection, Firing, at, places, is_open, shuts}
+use Rattle.std.specs.Prelude.{◌+◌, ◌==◌, ◌&&◌, drop, if◌then◌else◌}
+use Rattle.rx_audit.specs.Imports.{ℕ, Bool, true, false, Option, Some, None, List, length, slice_get, suc, not, list_all, list_any}
+use Rattle.rx_audit.specs.Imports.{option_and_then, option_map_or, nothing_kept, Event, Open, Accept, Item, End, Stop, Projection, Firing, at, places, is_open, shuts}
 use Rattle.rx_audit.specs.Imports.{ancestors, if_less, makes_node, parent_named, removed_of, leased_of, returned_of, taken_of, hub_connected}
 use Rattle.rx_audit.specs.Imports.{hub_subscribed, is_auto_hub}
-use Rattle.rx_event.specs.Moments.{owed}
+use Rattle.rx_event.specs.declared.event.Kind.TheVariants.{Pass}
+use Rattle.rx_event.specs.declared.refusal.Refusal.{Refusal}
+use Rattle.rx_rules.specs.Behind.{refusal_of}
 
 -- the number is the one that was named, if one was
 abbrev pub is_key : Option ℕ → ℕ → Bool
@@ -39,10 +41,6 @@ stays_open h e n = is_open h n && list_all (λ a. not (shuts h a e)) (ancestors 
 -- the event makes a node, and the node above it is still open
 abbrev pub opens : List Event → Event → Bool
 opens h e = makes_node e && option_map_or (stays_open h e) (option_and_then (if_less (length h)) (parent_named e)) true
-
--- something is owed at f
-unfoldable pub is_owing : List Event → ℕ → Bool
-is_owing h f = nat_lt 0 (owed nothing_kept h f)
 
 -- what open nodes stand for --------------------------------------------------------------------------
 
@@ -105,3 +103,22 @@ is_left h g = at is_auto_hub h g && not (has_key (open_subscribed h) h g)
 -- connection c is open, and its hub has lost its subscribers
 unfoldable pub close_due : List Event → ℕ → Bool
 close_due h c = is_open h c && option_map_or (is_left h) (hub_connected_at h c) false
+
+-- Using --------------------------------------------------------------------------------------------
+
+-- the event opens a mirroring node of one source (Using)
+abbrev pub opens_pass : Event → Bool
+opens_pass (Open place Pass) = true
+opens_pass _ = false
+
+-- the event accepts a resource at the node that was opened last, which is a mirroring one
+abbrev pub opened_with : List Event → Event → Bool
+opened_with h (Accept n tag) = at opens_pass h n && (length h == n + 1) && is_open h n
+opened_with h _ = false
+
+-- callers --------------------------------------------------------------------------------------------
+
+-- what refuses an event that is no item
+abbrev pub refused_simply : List Event → Event → Option Refusal
+refused_simply h (Item leaf value) = None
+refused_simply h e = refusal_of nothing_kept h e

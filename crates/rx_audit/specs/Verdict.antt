@@ -1,11 +1,13 @@
 -- What the audit says of a list of events.
-use Rattle.std.specs.Prelude.{◌≡◌, ℕ, Some, List, take, slice_get}
+use Rattle.std.specs.Prelude.{◌≡◌, ℕ, Option, Some, List, take, slice_get}
 use Rattle.rx_event.specs.Kept.{nothing_kept}
 use Rattle.rx_event.specs.declared.event.Event.{Event}
 use Rattle.rx_event.specs.Tree.{open_nodes}
 use Rattle.rx_event.specs.Resources.{held_resources, waiting_resources}
 use Rattle.rx_event.specs.Forced.{IsSettled}
 use Rattle.rx_event.specs.Lawful.{IsLawful, MayFollow}
+use Rattle.rx_event.specs.declared.refusal.Refusal.{Refusal}
+use Rattle.rx_rules.specs.Behind.{refusal_of}
 use Rattle.rx_audit.specs.declared.verdict.Verdict.{Verdict}
 use Rattle.rx_audit.specs.declared.verdict.Verdict.TheVariants.{Lawful, Unlawful, Unsettled}
 
@@ -39,3 +41,7 @@ abbrev pub IsVerdict : List Event → Verdict → Type 0
 IsVerdict h (Lawful live held waiting) = IsFoundLawful h live.items held.items waiting.items
 IsVerdict h (Unlawful place) = IsFoundUnlawful h place
 IsVerdict h Unsettled = IsFoundUnsettled h
+
+-- where the list is lawful, this is what refuses the event after it
+abbrev pub IsRefusedAfter : List Event → Event → Option Refusal → Type 0
+IsRefusedAfter h e why = IsLawful nothing_kept h → why ≡ refusal_of nothing_kept h e

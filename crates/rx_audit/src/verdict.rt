@@ -4,22 +4,20 @@ ghost use Rattle.std.specs.Prelude.{◌≡◌, ◌<◌, ◌≤◌, ◌&&◌, ◌
 ghost use Rattle.rx_audit.specs.Imports.{nothing_kept, true, false, IsTrue, [], Some, None, length, Event, open_nodes, held_resources};
 ghost use Rattle.rx_audit.specs.Imports.{waiting_resources, IsSettled, MayFollow};
 ghost use Rattle.rx_event.specs.Allowed.{IsAllowed};
-ghost use Rattle.rx_audit.specs.Allowing.{needs_connection, leaves_room, open_allowed, opens_pass, opened_with};
+ghost use Rattle.rx_audit.specs.Rules.{opens_pass, opened_with};
 ghost use Rattle.rx_audit.specs.Standing.{IsFollowed, IsKnown, IsAllFound};
 ghost use Rattle.rx_audit.specs.Found.{IsFound, IsFoundHere, IsClimbed};
-ghost use Rattle.rx_audit.specs.Verdict.{IsVerdict, IsFoundUnlawful, most_judged};
+ghost use Rattle.rx_audit.specs.Verdict.{IsVerdict, IsFoundUnlawful, IsRefusedAfter, most_judged};
 
 use crate::advance::{Nodes, no_nodes};
-use crate::allowed::{
-    is_allowed_simply, is_held, is_item_allowed, is_open_allowed, is_waiting, open_count,
-};
+use crate::allowed::{is_held, is_waiting, refusal, takes_waiting};
 use crate::duties::settle;
 use crate::event_tests::at;
-use crate::forced::{is_connected, is_forced};
+use crate::forced::is_forced;
 use crate::found::{Found, follow, nothing_found};
 use crate::marks::is_marked;
 use crate::reach::{Climb, no_climb};
-use rx_event::{Event, Kind, MOST_NODES, Place};
+use rx_event::{Event, Kind, Refusal};
 use std::alloc::{AllocError, Global};
 
 /// What the audit says of a list of events.
@@ -53,47 +51,9 @@ pub enum NoVerdict {
     NoMemory,
 }
 
-/// Whether the event's subscriber, which may be opened, has to be given a connection (RefCount).
-fn needs_connection(past: &[Event], live: &[bool], nodes: &Nodes, event: Event) -> bool
-    requires { IsKnown past.now live.now nodes.now }
-    ensures { result ≡ needs_connection past.now event }
-{
-    match event.subscribes_to() {
-        Some(g) => at(Event::is_auto_hub, past, g) && !is_connected(past, live, nodes, g),
-        None => false,
-    }
-}
-
-/// Whether there is room for the connection that the opening of this node may force.
-#[tactic(auto, unfolding(crate::specs::Allowing::leaves_room))]
-fn leaves_room(past: &[Event], event: Event, found: &Found, nodes: &Nodes) -> bool
-    requires found { IsFoundHere past.now found.now }
-    requires known { IsKnown past.now found.now.live.items nodes.now }
-    ensures { result ≡ leaves_room past.now event }
-{
-    open_count(past, found) as u64 <= MOST_NODES - 2
-        || !needs_connection(past, found.live.as_slice(), nodes, event)
-}
-
-/// Whether a node may be opened at the place, with room for what that forces.
-fn opening_fits(
-    past: &[Event],
-    event: Event,
-    place: Place,
-    kind: Kind,
-    found: &Found,
-    nodes: &Nodes,
-) -> bool
-    requires found { IsFoundHere past.now found.now }
-    requires known { IsKnown past.now found.now.live.items nodes.now }
-    ensures { result ≡ (open_allowed past.now place kind && leaves_room past.now event) }
-{
-    is_open_allowed(past, found, &nodes.marks, place, kind)
-        && leaves_room(past, event, found, nodes)
-}
-
 /// Whether a caller's event may come next, where operators have nothing left to do. Where an item may, the
 /// climb has the nodes that it visits.
+#[tactic(auto, using(crate::proofs::TestsToVerdict::decided, crate::proofs::TestsToVerdict::none_climbs))]
 fn is_allowed(
     past: &[Event],
     event: Event,
@@ -107,11 +67,8 @@ fn is_allowed(
     ensures allows { IfOk result (λ b. IsTrue b ↔ IsAllowed nothing_kept past.now event) }
     ensures climbed { IfOk result (λ b. IsTrue b → IsClimbed past.now event climb.new.log.items) }
 {
-    match event {
-        Event::Open { place, kind } => { Ok(opening_fits(past, event, place, kind, found, nodes)) }
-        Event::Item(leaf, _) => is_item_allowed(past, found, &nodes.subscribers, climb, leaf),
-        _ => Ok(is_allowed_simply(past, found, nodes, event)),
-    }
+    let why = refusal(past, event, found, nodes, climb)?;
+    Ok(why.is_none() && takes_waiting(past, found, event))
 }
 
 /// Whether the event opens a mirroring node.
@@ -286,6 +243,43 @@ pub fn audit(alloc: Global, events: &[Event]) -> Result<Verdict, NoVerdict>
     }
     match judge(alloc, events) {
         Ok(verdict) => Ok(verdict),
+        Err(_) => Err(NoVerdict::NoMemory),
+    }
+}
+
+// The same of a list that is not too long, where each event may follow those before it.
+#[tactic(auto, using(crate::proofs::TestsToVerdict::not_lawful))]
+fn refused_after(
+    alloc: Global,
+    events: &[Event],
+    event: Event,
+) -> Result<Option<Refusal>, AllocError>
+    requires { length events.now ≤ most_judged }
+    ensures { IfOk result (IsRefusedAfter events.now event) }
+{
+    let mut found = nothing_found(alloc, events.len())?;
+    let mut nodes = no_nodes(alloc, events.len())?;
+    let mut climb = no_climb(alloc, events.len())?;
+    match first_unlawful(events, &mut found, &mut nodes, &mut climb)? {
+        Some(_place) => Ok(None),
+        None => refusal(events, event, &found, &nodes, &mut climb),
+    }
+}
+
+/// What refuses a caller's event after a lawful list of events: the first cause, but for room, that stands
+/// against the call behind it. `None` of an event that is allowed, and of the taking of a resource, which no
+/// cause refuses.
+///
+/// Refused as [`audit`] is.
+pub fn refused(alloc: Global, events: &[Event], event: Event) -> Result<Option<Refusal>, NoVerdict>
+    ensures ok { IfOk result (IsRefusedAfter events.now event) }
+    ensures refused_too_many { (result ≡ Err NoVerdict.TooMany) ↔ (most_judged < length events.now) }
+{
+    if events.len() > MOST_JUDGED {
+        return Err(NoVerdict::TooMany);
+    }
+    match refused_after(alloc, events, event) {
+        Ok(why) => Ok(why),
         Err(_) => Err(NoVerdict::NoMemory),
     }
 }

@@ -1,4 +1,4 @@
-use Rattle.rx_audit.proofs.TestsDecideAllowed.{open_counted}
+use Rattle.rx_audit.proofs.OpenCount.{open_counted}
 use Rattle.rx_audit.proofs.allowed.open_count.Goals as goal
 use Rattle.std.proofs.Common.{rules}
 
