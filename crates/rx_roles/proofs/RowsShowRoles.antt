@@ -69,15 +69,27 @@ all_below rows k n rising b low i l = of (cases_order i k) where
   of (inr (inl before)) = let up = rising i k before b in omega (arith, up, low)
   of (inr (inr past)) = absurd (omega (arith, past, l))
 
--- what lies before a place is too low, what lies from there on is not, and at it is another
-pub no_place : (rows : List Row) (k n : ℕ) → IsRising rows → ((i : ℕ) → i < k → (row_at rows i).number < n) →
-    ((i : ℕ) → k ≤ i → i < length rows → n ≤ (row_at rows i).number) → (k < length rows → (row_at rows k).number ≡ n → ⊥) → Lacks rows n
-no_place rows k n rising before behind other i b same = of (cases_order i k) where
+-- what lies behind a row that is too high is too high
+pub all_above : (rows : List Row) (k n : ℕ) → IsRising rows → n < (row_at rows k).number →
+    (i : ℕ) → k ≤ i → i < length rows → n < (row_at rows i).number
+all_above rows k n rising high i from b = of (cases_order i k) where
+  of : ((i ≡ k) ⊎ ((i < k) ⊎ (k < i))) → n < (row_at rows i).number
+  of (inl is) = let same = ap (λ (j : ℕ). (row_at rows j).number) is in omega (arith, same, high)
+  of (inr (inl l)) = absurd (omega (arith, l, from))
+  of (inr (inr g)) = let up = rising k i g b in omega (arith, up, high)
+
+-- what lies before a place is too low, and what lies from there on is too high
+pub no_place : (rows : List Row) (k n : ℕ) → ((i : ℕ) → i < k → (row_at rows i).number < n) →
+    ((i : ℕ) → k ≤ i → i < length rows → n < (row_at rows i).number) → Lacks rows n
+no_place rows k n before behind i b same = of (cases_order i k) where
   of : ((i ≡ k) ⊎ ((i < k) ⊎ (k < i))) → ⊥
-  of (inl is) = other (omega (arith, is, b)) (ap (λ (j : ℕ). (row_at rows j).number) (sym is) ∙ same)
+  of (inl is) = let high = behind i (omega (arith, is)) b in absurd (omega (arith, high, same))
   of (inr (inl l)) = let low = before i l in absurd (omega (arith, low, same))
-  of (inr (inr g)) =
-      let up = rising k i g b in let high = behind k (omega arith) (omega (arith, g, b)) in absurd (omega (arith, up, high, same))
+  of (inr (inr g)) = let high = behind i (omega (arith, g)) b in absurd (omega (arith, high, same))
+
+-- all are too low, up to the last
+pub none_behind : (rows : List Row) (k n : ℕ) → length rows ≤ k + 1 → ((i : ℕ) → i < k + 1 → (row_at rows i).number < n) → Lacks rows n
+none_behind rows k n all before i b same = let low = before i (omega (arith, b, all)) in absurd (omega (arith, low, same))
 
 -- one is taken ---------------------------------------------------------------------------------------
 

@@ -109,6 +109,7 @@ impl Effects {
     }
 
     /// Puts an effect behind the others. It takes no memory.
+    #[inline(always)]
     pub fn put(&mut self, effect: Effect)
         requires { 0 < self.old.room }
         ensures list { self.new.list ≡ self.old.list ++ effect ∷ [] }
@@ -118,6 +119,7 @@ impl Effects {
     }
 
     /// How many there are.
+    #[inline(always)]
     pub fn len(&self) -> usize
         ensures { result ≡ length self.now.list }
     {
@@ -125,6 +127,7 @@ impl Effects {
     }
 
     /// The effect at this place.
+    #[inline(always)]
     pub fn get(&self, place: usize) -> Option<Effect>
         ensures { result ≡ slice_get self.now.list place }
     {
@@ -132,13 +135,14 @@ impl Effects {
     }
 
     /// The only effect, where there is but one, and that is an item.
+    #[inline(always)]
     pub fn only_item(&self) -> Option<Effect>
         ensures { result ≡ only_item self.now.list }
     {
-        if self.len() != 1 {
+        if self.list.len() != 1 {
             return None;
         }
-        let effect = self.get(0)?;
+        let effect = self.list[0];
         if is_item(effect.what) {
             Some(effect)
         } else {
@@ -147,6 +151,7 @@ impl Effects {
     }
 
     /// Takes all away. It takes no memory.
+    #[inline(always)]
     pub fn clear(&mut self)
         ensures list { self.new.list ≡ [] }
         ensures room { self.old.room ≤ self.new.room }

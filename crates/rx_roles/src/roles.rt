@@ -71,7 +71,7 @@ fn role_said(number: u64, said: Option<Said>) -> Option<Role>
     }
 }
 
-// The place of the row of a number.
+// The place of the row of a number, which is not the last row's.
 fn place_of(rows: &Vec<Row>, number: u64) -> Option<usize>
     requires { IsRising rows.now.items }
     ensures some { IfSome result (λ i. (i < length rows.now.items) × ((row_at rows.now.items i).number ≡ number)) }
@@ -86,7 +86,11 @@ fn place_of(rows: &Vec<Row>, number: u64) -> Option<usize>
         } else {
             low + (high - low) / 2
         };
-        if rows[middle].number < number {
+        let here = rows[middle].number;
+        if here == number {
+            return Some(middle);
+        }
+        if here < number {
             low = middle + 1;
             step = usize::MAX;
         } else {
@@ -94,14 +98,32 @@ fn place_of(rows: &Vec<Row>, number: u64) -> Option<usize>
             step = step.saturating_mul(2);
         }
     }
-    if low < rows.len() && rows[low].number == number {
-        Some(low)
-    } else {
-        None
+    None
+}
+
+// The same, where one look tells of the newest row, and of all that are newer.
+#[inline(always)]
+fn find(rows: &Vec<Row>, number: u64) -> Option<usize>
+    requires { IsRising rows.now.items }
+    ensures some { IfSome result (λ i. (i < length rows.now.items) × ((row_at rows.now.items i).number ≡ number)) }
+    ensures none { IfNone result ((i : ℕ) → i < length rows.now.items → (row_at rows.now.items i).number ≢ number) }
+{
+    let many = rows.len();
+    if many == 0 {
+        return None;
     }
+    let newest = rows[many - 1].number;
+    if newest < number {
+        return None;
+    }
+    if newest == number {
+        return Some(many - 1);
+    }
+    place_of(rows, number)
 }
 
 // The last row goes, where its role was taken.
+#[inline(always)]
 fn drop_taken(rows: &mut Vec<Row>)
     requires { IsRising rows.old.items }
     ensures same { roles_in rows.new.items ≡ roles_in rows.old.items }
@@ -114,7 +136,9 @@ fn drop_taken(rows: &mut Vec<Row>)
 }
 
 // The last rows go, whose numbers are not below this one, where no role has such a number.
-fn drop_above(rows: &mut Vec<Row>, number: u64)
+#[cold]
+#[inline(never)]
+fn cut_above(rows: &mut Vec<Row>, number: u64)
     requires rising { IsRising rows.old.items }
     requires below { AreBelow (roles_in rows.old.items) number }
     ensures same { roles_in rows.new.items ≡ roles_in rows.old.items }
@@ -128,6 +152,27 @@ fn drop_above(rows: &mut Vec<Row>, number: u64)
         many -= 1;
     }
     rows.truncate(many);
+}
+
+// The same, where one look tells that all numbers are below.
+#[inline(always)]
+fn drop_above(rows: &mut Vec<Row>, number: u64)
+    requires rising { IsRising rows.old.items }
+    requires below { AreBelow (roles_in rows.old.items) number }
+    ensures same { roles_in rows.new.items ≡ roles_in rows.old.items }
+    ensures rising { IsRising rows.new.items }
+    ensures below { (i : ℕ) → i < length rows.new.items → (row_at rows.new.items i).number < number }
+    ensures capacity { vec_capacity rows.new ≡ vec_capacity rows.old }
+    ensures shorter { length rows.new.items ≤ length rows.old.items }
+{
+    let many = rows.len();
+    if many == 0 {
+        return;
+    }
+    if rows[many - 1].number < number {
+        return;
+    }
+    cut_above(rows, number);
 }
 
 // The row at a place is the next that is left, behind so many, where it has a role. How many are left then.
@@ -203,6 +248,7 @@ impl Roles {
     }
 
     /// How many there are.
+    #[inline(always)]
     pub fn len(&self) -> usize
         ensures { result ≡ length self.now.list }
     {
@@ -210,6 +256,7 @@ impl Roles {
     }
 
     /// Gets room for so many more.
+    #[inline(always)]
     pub fn reserve(&mut self, many: usize) -> Result<(), AllocError>
         ensures ok { OnOk result (many ≤ self.new.room) }
         ensures list { self.new.list ≡ self.old.list }
@@ -217,6 +264,16 @@ impl Roles {
         if many <= self.rows.capacity() - self.rows.len() {
             return Ok(());
         }
+        self.make_room(many)
+    }
+
+    // Gets room where there is too little.
+    #[cold]
+    #[inline(never)]
+    fn make_room(&mut self, many: usize) -> Result<(), AllocError>
+        ensures ok { OnOk result (many ≤ self.new.room) }
+        ensures list { self.new.list ≡ self.old.list }
+    {
         if self.live <= self.rows.len() / 2 {
             squeeze(&mut self.rows);
         }
@@ -224,6 +281,7 @@ impl Roles {
     }
 
     /// Adds a role, whose number lies above all others. It takes no memory.
+    #[inline(always)]
     pub fn put(&mut self, role: Role)
         requires room { 0 < self.old.room }
         requires below { AreBelow self.old.list role.number }
@@ -242,6 +300,7 @@ impl Roles {
     }
 
     /// The same, where there is one to add.
+    #[inline(always)]
     pub fn put_if(&mut self, is: bool, role: Role)
         requires room { 0 < self.old.room }
         requires below { AreBelow self.old.list role.number }
@@ -253,19 +312,21 @@ impl Roles {
     }
 
     /// The role of this number.
+    #[inline(always)]
     pub fn get(&self, number: u64) -> Option<Role>
         ensures { result ≡ role_of self.now.list number }
     {
-        let place = place_of(&self.rows, number)?;
+        let place = find(&self.rows, number)?;
         role_said(number, self.rows[place].said)
     }
 
     /// Takes the role of this number away. It takes no memory.
+    #[inline(always)]
     pub fn take(&mut self, number: u64) -> Option<Role>
         ensures value { result ≡ role_of self.old.list number }
         ensures list { self.new.list ≡ without self.old.list number }
     {
-        let place = place_of(&self.rows, number)?;
+        let place = find(&self.rows, number)?;
         let said = self.rows[place].said;
         self.live = take_at(&mut self.rows, place, self.live);
         drop_taken(&mut self.rows);

@@ -1,4 +1,4 @@
--- What lies before is too low, and what lies behind is not.
+-- What lies before is too low, and what lies behind is too high.
 use Rattle.std.proofs.Common.{ℕ, ◌<◌, ◌≤◌, ◌-◌, length}
 use Rattle.rx_roles.specs.RolesByNumber.{row_at}
 use Rattle.rx_roles.proofs.roles.place_of.Given as goal
@@ -9,7 +9,7 @@ invariant-loop-low l = record {
   inside : l.high ≤ length l.rows.items;
   steps : 0 < l.step;
   before : (i : ℕ) → i < l.low → (row_at l.rows.items i).number < l.number;
-  behind : (i : ℕ) → l.high ≤ i → i < length l.rows.items → l.number ≤ (row_at l.rows.items i).number;
+  behind : (i : ℕ) → l.high ≤ i → i < length l.rows.items → l.number < (row_at l.rows.items i).number;
 }
 
 abbrev pub decreases-loop-low : goal.decreases-loop-low

@@ -1,6 +1,6 @@
 use Rattle.std.proofs.Common.{◌≡◌, ◌≤◌, length, take}
 use Rattle.rx_roles.specs.RolesByNumber.{roles_in}
-use Rattle.rx_roles.proofs.roles.drop_above.Given as goal
+use Rattle.rx_roles.proofs.roles.cut_above.Given as goal
 
 abbrev pub invariant-loop-many : goal.invariant-loop-many
 invariant-loop-many l = record {

@@ -1,0 +1,16 @@
+use Rattle.std.proofs.Common.{ap, arith, length, ◌<◌, ◌-◌}
+use Rattle.rx_roles.specs.declared.roles.Row.{Row}
+use Rattle.rx_roles.proofs.RowsShowRoles.{read_as, all_below, none_behind}
+use Rattle.rx_roles.proofs.roles.find.Goals as goal
+
+pub returns-then-newest-number-clause-none : goal.returns-then-newest-number-clause-none
+returns-then-newest-number-clause-none c =
+    let rows = c.args.rows.now.items in
+    let many = c.len-many.ensures in
+    let long = c.args.rows.now.ok.0 in
+    let some = c.if-many-eq0.false in
+    let within : c.len-many.result - 1 < length rows = omega (arith, some, many, long) in
+    let row = ap (λ (r : Row). r.number) (read_as rows (c.len-many.result - 1) c.index.result.now within c.index.ensures) in
+    let less = c.if-newest-number.true in
+    none_behind rows (c.len-many.result - 1) c.args.number (omega (arith, some, many, long))
+    (all_below rows (c.len-many.result - 1) c.args.number c.requires within (omega (arith, row, less)))
