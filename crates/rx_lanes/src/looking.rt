@@ -75,12 +75,11 @@ impl<E: Copy> Queues<E> {
         requires small { queue < 2 ^ 32 }
         ensures { result ≡ at_most_all (so_far + length (queue_at self.now queue)) }
     {
-        self.rings.promise();
         let mut many = so_far;
-        let mut next = self.rings.first(queue);
+        let mut next = self.first(queue);
         while let Some(cell) = next {
             many = many.saturating_add(1);
-            next = self.rings.next(cell);
+            next = self.following(cell);
         }
         many
     }
