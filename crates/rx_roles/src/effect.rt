@@ -109,7 +109,6 @@ impl Effects {
     }
 
     /// Puts an effect behind the others. It takes no memory.
-    #[inline(always)]
     pub fn put(&mut self, effect: Effect)
         requires { 0 < self.old.room }
         ensures list { self.new.list ≡ self.old.list ++ effect ∷ [] }
@@ -119,7 +118,6 @@ impl Effects {
     }
 
     /// How many there are.
-    #[inline(always)]
     pub fn len(&self) -> usize
         ensures { result ≡ length self.now.list }
     {
@@ -127,7 +125,6 @@ impl Effects {
     }
 
     /// The effect at this place.
-    #[inline(always)]
     pub fn get(&self, place: usize) -> Option<Effect>
         ensures { result ≡ slice_get self.now.list place }
     {
@@ -151,7 +148,6 @@ impl Effects {
     }
 
     /// Takes all away. It takes no memory.
-    #[inline(always)]
     pub fn clear(&mut self)
         ensures list { self.new.list ≡ [] }
         ensures room { self.old.room ≤ self.new.room }
