@@ -87,12 +87,16 @@ pub(crate) fn settle(
 }
 
 // Claims the lane of an item that alone is on its way, and answers it; else nothing changes.
+#[inline(always)]
 fn claim_only(parts: &mut Parts, by: u64) -> Option<Effect>
     requires { IsLoaded parts.old }
     ensures claims { ClaimsIf by result parts.old parts.new }
     ensures ready { IsSome result → IsReady 0 parts.new }
 {
-    let effect = parts.effects.only_item()?;
+    if !parts.effects.has_only_item() {
+        return None;
+    }
+    let effect = parts.effects.only_item();
     if parts.lanes.claim_alone(effect.lane, by) {
         parts.effects.clear();
         parts.copies = 1;
@@ -123,7 +127,20 @@ fn hand_one(parts: &mut Parts, by: u64) -> Option<Effect>
     }
 }
 
-// The same with what is on its way: an item that is all of it, for a lane that nobody serves, without being put there.
+// The same with what is on its way, which is put into its lanes first.
+#[cold]
+#[inline(never)]
+fn spread_then_hand(parts: &mut Parts, by: u64) -> Option<Effect>
+    requires { IsLoaded parts.old }
+    ensures hands { SpreadsAndHands true by parts.old parts.new result }
+    ensures ready { IsReady 0 parts.new }
+{
+    spread(parts, by);
+    hand_one(parts, by)
+}
+
+// The same, but an item that is all of it, for a lane that nobody serves, without being put there.
+#[inline(always)]
 fn spread_and_hand_one(parts: &mut Parts, by: u64) -> Option<Effect>
     requires { IsLoaded parts.old }
     ensures hands { SpreadsAndHands true by parts.old parts.new result }
@@ -131,15 +148,13 @@ fn spread_and_hand_one(parts: &mut Parts, by: u64) -> Option<Effect>
 {
     match claim_only(parts, by) {
         Some(effect) => Some(effect),
-        None => {
-            spread(parts, by);
-            hand_one(parts, by)
-        }
+        None => spread_then_hand(parts, by),
     }
 }
 
 /// All effects go into their lanes; and where nothing was closed, and all that there was is one item, that is handed
 /// out.
+#[inline(always)]
 pub(crate) fn spread_and_hand(book: &Book<Token>, parts: &mut Parts, by: u64) -> Option<Effect>
     requires { IsLoaded parts.old }
     ensures hands { SpreadsAndHands (length book.now.closed == 0) by parts.old parts.new result }

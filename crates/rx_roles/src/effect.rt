@@ -1,6 +1,6 @@
 //! What a face is to do.
 
-ghost use Rattle.std.specs.Prelude.{◌≡◌, ◌+◌, ◌<◌, ◌≤◌, [], ◌∷◌, ◌++◌, OnOk, length, slice_get};
+ghost use Rattle.std.specs.Prelude.{◌≡◌, ◌+◌, ◌<◌, ◌≤◌, [], ◌∷◌, ◌++◌, OnOk, length, slice_get, Some, IsSome, is_some};
 ghost use Rattle.rx_roles.specs.Effects.{is_last, is_item, only_item};
 
 use rx_lanes::LaneName;
@@ -109,6 +109,7 @@ impl Effects {
     }
 
     /// Puts an effect behind the others. It takes no memory.
+    #[inline(always)]
     pub fn put(&mut self, effect: Effect)
         requires { 0 < self.old.room }
         ensures list { self.new.list ≡ self.old.list ++ effect ∷ [] }
@@ -118,6 +119,7 @@ impl Effects {
     }
 
     /// How many there are.
+    #[inline(always)]
     pub fn len(&self) -> usize
         ensures { result ≡ length self.now.list }
     {
@@ -131,23 +133,30 @@ impl Effects {
         self.list.get(place).copied()
     }
 
-    /// The only effect, where there is but one, and that is an item.
+    /// Whether there is but one effect, and that is an item.
     #[inline(always)]
-    pub fn only_item(&self) -> Option<Effect>
-        ensures { result ≡ only_item self.now.list }
+    pub fn has_only_item(&self) -> bool
+        ensures { result ≡ is_some (only_item self.now.list) }
     {
         if self.list.len() != 1 {
-            return None;
+            return false;
         }
         let effect = self.list[0];
-        if is_item(effect.what) {
-            Some(effect)
-        } else {
-            None
-        }
+        is_item(effect.what)
+    }
+
+    /// That item.
+    #[inline(always)]
+    pub fn only_item(&self) -> Effect
+        requires { IsSome (only_item self.now.list) }
+        ensures { only_item self.now.list ≡ Some result }
+    {
+        let _one = self.list.len();
+        self.list[0]
     }
 
     /// Takes all away. It takes no memory.
+    #[inline(always)]
     pub fn clear(&mut self)
         ensures list { self.new.list ≡ [] }
         ensures room { self.old.room ≤ self.new.room }
