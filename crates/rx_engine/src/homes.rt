@@ -112,8 +112,32 @@ impl Engine {
         ensures found { IfSome result
             (λ h. (name : LaneName) → h.lane ≡ Some name → IsSome (lane self.now.parts.lanes name)) }
     {
-        let limit = self.parts.limit_at(at);
-        match whose(at, asked) {
+        match at {
+            At::Root => self.root_home(asked),
+            At::Source(key) => self.home_below(key),
+            At::Inner(key) => self.home_below(key),
+            At::Notifier(key) => self.home_below(key),
+        }
+    }
+
+    // What a node gets below an open one.
+    fn home_below(&self, key: Key) -> Option<Home> {
+        if !self.book.is_open(key) {
+            return None;
+        }
+        match self.parts.homes.get(key.number) {
+            Some(role) => Some(Home {
+                lane: Some(role.lane),
+                limit: role.word,
+            }),
+            None => None,
+        }
+    }
+
+    // What a root gets.
+    fn root_home(&self, asked: Option<LaneOf>) -> Option<Home> {
+        let limit = NO_LIMIT;
+        match asked {
             Some(of) => match self.lane_of(of) {
                 Some(name) => Some(Home {
                     lane: Some(name),

@@ -36,9 +36,14 @@ pub(crate) fn gather(
     ensures loaded { IsLoaded parts.new }
     ensures keys { KeepsKeys book.old book.new }
 {
-    wishes.close(book);
-    leave_hubs(book, &mut parts.shares);
-    leave_homes(book, &mut parts.homes, &mut parts.lanes);
+    let closes = book.closed_count() > 0;
+    if closes {
+        wishes.close(book);
+        leave_hubs(book, &mut parts.shares);
+        leave_homes(book, &mut parts.homes, &mut parts.lanes);
+    } else {
+        wishes.close_none();
+    }
     tell(
         book,
         &mut parts.hears,
@@ -47,13 +52,15 @@ pub(crate) fn gather(
         by,
         value,
     );
-    end_closed(
-        book,
-        &mut parts.hears,
-        &mut parts.merges,
-        &mut parts.effects,
-        by,
-    );
+    if closes {
+        end_closed(
+            book,
+            &mut parts.hears,
+            &mut parts.merges,
+            &mut parts.effects,
+            by,
+        );
+    }
     set_free(book, &mut parts.holds, &mut parts.effects, by);
 }
 
