@@ -2,7 +2,7 @@
 use Rattle.rx_script.proofs.Common.{◌≡◌, ◌++◌, ℕ, List, [], length, drop, refl, sym, ap, subst, ◌∙◌, arith, append-nil, Event, nothing_kept, shown}
 use Rattle.rx_script.proofs.Common.{notes, alike_of, base_length, checkpoints_agree, Key, ResKey, LeaseKey, State, IsPromised}
 use Rattle.rx_script.proofs.Common.{Checkpoints, Accepted, checkpoint, Tallies, AreNotesOf, AreTalliesOf, GoesOn, Gathers, IsNodeKey, IsHeldKey, IsLeaseKey}
-use Rattle.rx_script.proofs.Common.{Engine, limited, Executes, checkpointed, stage_of, IsHistoryOf, IsSound, Carries, take, append_assoc, Mail}
+use Rattle.rx_script.proofs.Common.{Engine, limited, Executes, checkpointed, stage_of, IsHistoryOf, IsSound, Carries, take, append_assoc, Mail, inr}
 use Rattle.std.proofs.lemmas.List.{take-append-drop}
 use Rattle.std.proofs.Math.Seq.{drop-append_seam}
 use Rattle.rx_event.proofs.Laws.SameForcedAndAllowed.{agree_back, settled_too}
@@ -15,7 +15,7 @@ module _ {t : Tallies} {s : State} {h : List Event} (w : IsHistoryOf h t s) (kep
   goes_on : GoesOn w.front h s
   goes_on = search (rules, kept_length, drop, length, shown_length, drop-append_seam)
 
-  all_told : notes w.front ++ notes s.history ≡ notes h
+  pub all_told : notes w.front ++ notes s.history ≡ notes h
   all_told = ap (λ (l : List Event). notes w.front ++ notes l) w.history
       ∙ sym (notes_whole w.front w.lawful w.settled s.base w.base w.since (stored_lawful w kept)) ∙ ap notes (sym w.whole)
 
@@ -91,4 +91,5 @@ module _ {R : Type 0} (e : Engine R) (t : Tallies) (given : ℕ) (book : State) 
       faults = let taken = made.agree.taken_total in let few = sound.faults in omega arith;
     };
     limit = made.limit;
+    given = inr made.history;
   }

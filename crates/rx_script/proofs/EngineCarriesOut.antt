@@ -130,6 +130,7 @@ unchanged {R} {e} step answer book stock sound same_book same_stock executes =
       );
       sound = record { kept = sound.kept; nodes = sound.nodes; resources = sound.resources; leases = sound.leases; faults = sound.faults };
       limit = refl;
+      given = inl refl;
     } in
     subst (λ b. Carries e step answer (with e b stock)) (sym same_book) at_book
 
@@ -204,6 +205,7 @@ module _ {R : Type 0} {e new : Engine R} {step : Command} {asked : Request} (sou
           let same = done.rest.0 in omega arith;
     };
     limit = done.accepts.limit;
+    given = inl done.accepts.given;
   }
 
 -- taking and releasing all that waits
@@ -239,4 +241,5 @@ module _ {R : Type 0} (e : Engine R) (book : State) (faults : ℕ) (sound : IsSo
       faults = let before = sound.faults in omega arith;
     };
     limit = goes.limit;
+    given = inl goes.given;
   }

@@ -1,5 +1,5 @@
 -- One more step of a course.
-use Rattle.rx_script.proofs.Common.{◌≡◌, ◌≤◌, ◌+◌, ◌++◌, ◌∷◌, [], ℕ, List, length, map, string_bytes, String, Global, refl, sym, ap, subst, ◌∙◌, arith, Result}
+use Rattle.rx_script.proofs.Common.{◌≡◌, ◌≤◌, ◌+◌, ◌++◌, ◌∷◌, [], ℕ, List, length, map, string_bytes, String, Global, refl, sym, ap, subst, ◌∙◌, arith, Result, inl}
 use Rattle.rx_script.proofs.Common.{IfOk, Some, None, Event, step_of, list_of, list_of-steps_of, Answer, Engine, Cancels, followed_by, next_step}
 use Rattle.rx_script.proofs.Common.{limited, Performs, executes, cancels, Advances, Leads, not_begun, advanced, Ends, stage_of, MovesOn, IsSound, Carries}
 use Rattle.rx_script.proofs.Common.{agenda_of, size_left}
@@ -31,6 +31,7 @@ module _ {R : Type 0} where
     performs = λ h w. let to = carried.executes h w in (to.0, executes to.1, to.2);
     sound = carried.sound;
     limit = carried.limit;
+    given = carried.given;
     size = omega arith;
     clock = refl;
   }
@@ -38,7 +39,14 @@ module _ {R : Type 0} where
   pub performed_cancel : {e : Engine R} (a now : AgendaInCode) (label : String Global) (answer : Answer) → IsSound e
       → Cancels (agenda_of a) (string_bytes label) answer (agenda_of now) → size_left now ≤ size_left a → now.timeline.clock ≡ a.timeline.clock
       → Performed e a (Cancel label) answer e now
-  performed_cancel a now label answer sound cancelled size clock = search (rules, cancels)
+  performed_cancel a now label answer sound cancelled size clock = record {
+    performs = λ h w. (h, cancels cancelled, w);
+    sound = sound;
+    limit = refl;
+    given = inl refl;
+    size = size;
+    clock = clock;
+  }
 
   module _ (e new : Engine R) (before between : AgendaInCode) (s : StepInCode) (answer : Answer)
       (done : Performed e before (out-Step s).action answer new between) where
@@ -59,6 +67,7 @@ module _ {R : Type 0} where
           follows = joined ∙ ap (λ ss. followed_by answer ss (agenda_of between)) (sym (followers-listed s));
           sound = done.sound;
           limit = done.limit;
+          given = done.given;
           size = omega arith;
           clock = clock ∙ done.clock;
         }

@@ -155,7 +155,7 @@ module _ (front : List Event) (law : IsLawful nothing_kept front) (settled : IsS
   abbrev ToldSince : List Event → Type 0
   ToldSince es = IsLawful b (shown b ++ es) → notes (front ++ es) ≡ notes front ++ notes (shown b ++ es)
 
-  stored_untold : notes (shown b) ≡ []
+  pub stored_untold : notes (shown b) ≡ []
   stored_untold = ap (λ (x : Kept). notes (shown x)) is ∙ base_untold nothing_kept front law settled
 
   told_none : ToldSince []

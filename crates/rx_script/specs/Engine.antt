@@ -1,11 +1,11 @@
 -- A scenario at work: what its parts stand for, and what they keep.
-use Rattle.std.specs.Prelude.{◌≡◌, ℕ, ◌+◌, ◌<◌, ◌≤◌, Bool, false, ◌||◌, Option, Some, List, [], ◌∷◌, ◌++◌, String, map, take, is_some, option_map}
+use Rattle.std.specs.Prelude.{◌≡◌, ℕ, ◌+◌, ◌<◌, ◌≤◌, ◌⊎◌, Bool, false, ◌||◌, Option, Some, List, [], ◌∷◌, ◌++◌, String, map, take, is_some, option_map}
 use Rattle.std.specs.Str.{bytes_eq}
 use Rattle.std.specs.Option.{option_map_or}
 use Rattle.std.specs.declared.alloc.Global.{Global}
 use Rattle.std.specs.List.{All}
 use Rattle.rx_event.specs.declared.event.Event.{Event}
-use Rattle.rx_event.specs.Kept.{nothing_kept, stored}
+use Rattle.rx_event.specs.Kept.{nothing_kept, shown, stored}
 use Rattle.rx_event.specs.Bases.{base_of}
 use Rattle.rx_event.specs.Lawful.{IsLawful}
 use Rattle.rx_event.specs.Notes.{notes as notes_in}
@@ -115,11 +115,16 @@ MovesOn old new IsDone =
     (h : List Event) → IsHistoryOf h old.tallies old.book
     → (k : List Event) × IsDone (stage_of old h) (stage_of new k) × IsHistoryOf k new.tallies new.book
 
+-- no note was handed out, but at a checkpoint all, behind which none is left
+abbrev pub HandsOutNone : {R : Type 0} → Engine R → Engine R → Type 0
+HandsOutNone old new = (new.book.given ≡ old.book.given) ⊎ (new.book.history ≡ shown new.book.base)
+
 -- the step was executed with this answer
 pub record Carries {R : Type 0} (old : Engine R) (step : Command) (answer : Answer) (new : Engine R) : Type 0 where
   pub executes : MovesOn old new (λ s t. Executes (limited old.book.limit) s step answer t)
   pub sound : IsSound new
   pub limit : new.book.limit ≡ old.book.limit
+  pub given : HandsOutNone old new
 
 -- whatever history the old engine has, the new one has too, and they are at the same stage
 pub record StaysAt {R : Type 0} (old new : Engine R) : Type 0 where
@@ -137,6 +142,7 @@ pub record Performed {R : Type 0} (old : Engine R) (before : AgendaInCode) (acti
       (record { stage = t; agenda = agenda_of now }))
   pub sound : IsSound new
   pub limit : new.book.limit ≡ old.book.limit
+  pub given : HandsOutNone old new
   pub size : size_left now ≤ size_left before
   pub clock : now.timeline.clock ≡ before.timeline.clock
 
@@ -149,5 +155,6 @@ pub record Followed {R : Type 0} (old : Engine R) (before : AgendaInCode) (step 
   pub follows : agenda_of now ≡ followed_by answer (list_of (step_of step).followers) left
   pub sound : IsSound new
   pub limit : new.book.limit ≡ old.book.limit
+  pub given : HandsOutNone old new
   pub size : size_left now < size_left before + size_of step
   pub clock : now.timeline.clock ≡ before.timeline.clock
