@@ -90,7 +90,7 @@ fn main(rt: HostRuntime) -> ExitCode {
         &mut Watched::new(&mut output),
     );
     if let Err(error) = &outcome {
-        let _ = eprintln!(rt; "rxpicture: {error}");
+        let _ = eprintln!(rt; "rxbook: {error}");
     }
     ExitCode::from(status_of(&outcome))
 }
