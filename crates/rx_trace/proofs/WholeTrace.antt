@@ -1,0 +1,56 @@
+-- The whole trace of a scenario.
+use Rattle.rx_trace.proofs.Common.{◌≡◌, ◌∙◌, sym, ◌++◌, ap, List, ℕ, subst, map, not, refl, Answer, Script, with_steps, empty_agenda, Manner, limited}
+use Rattle.rx_trace.proofs.Common.{Progress, begin, Leads, not_begun, advanced, Ends, Ware, Stage, start, course_in_order, closing_text, Event, nothing_kept}
+use Rattle.rx_trace.proofs.Common.{Traces, nothing_done, one_more, TracesTo, IsTraceOf, IsLawful, HandedOut, AreHandedOut, contains, nat_eq, is_left_in, names_where}
+use Rattle.rx_trace.proofs.Common.{name_text, member_text, codes, append_assoc, Binding, [], length, length-append, arith, notes, Engine, IsHistoryOf, IsSound, HasToldAll}
+use Rattle.rx_trace.proofs.Common.{all_told, moments}
+use Rattle.rx_trace.proofs.TakenOne.{taken_is}
+
+-- without the lines that is what leads there
+leads_of : {m : Manner} {until : ℕ} {first : Progress} {answers : List Answer} {text : List ℕ} {p : Progress}
+    → Traces m until first answers text p → Leads m until first answers p
+leads_of nothing_done = not_begun
+leads_of (one_more before a) = advanced (leads_of before) a
+
+ends_of : {m : Manner} {until : ℕ} {first : Progress} {text : List ℕ} {last : Stage} (t : TracesTo m until first text last)
+    → Ends m until first t.answers last
+ends_of t = record { left = t.left; leads = leads_of t.traces; over = t.over }
+
+nothing_told : notes [] ≡ []
+unfolding notes moments
+nothing_told = refl
+
+-- at the beginning nothing was told, and all of that was handed out
+pub told_at_first : {R : Type 0} (e : Engine R) → IsSound e → IsHistoryOf [] e.tallies e.book → HasToldAll e
+told_at_first e sound w =
+    let given = sound.kept.given in
+    let parts = length-append (notes w.front) (notes e.book.history) in
+    let whole = ap length (all_told w sound.kept ∙ nothing_told) in omega arith
+
+-- the line of the closing, behind a text
+pub closing_behind : (h : List Event) → IsLawful nothing_kept h → (t : HandedOut) → AreHandedOut t h → (resources : List Binding) (old a b new : List ℕ)
+    → a ≡ old ++ codes "{\"closed\":true"
+    → b ≡ a ++ member_text (codes "release") (map name_text (names_where (λ r. not (contains nat_eq t.numbers r)) resources)) → new ≡ b ++ codes "}\n"
+    → new ≡ old ++ (codes "{\"closed\":true" ++ member_text (codes "release") (map name_text (names_where (is_left_in h) resources)) ++ codes "}\n")
+closing_behind h law t taken resources old a b new is_a is_b is_new =
+    is_new ∙ ap (λ (l : List ℕ). l ++ codes "}\n") (is_b ∙ (λ i. is_a i ++ left i) ∙ append_assoc old (codes "{\"closed\":true") (left1))
+    ∙ append_assoc old (codes "{\"closed\":true" ++ left1) (codes "}\n") where
+      left1 : List ℕ
+      left1 = member_text (codes "release") (map name_text (names_where (is_left_in h) resources))
+
+      left : member_text (codes "release") (map name_text (names_where (λ r. not (contains nat_eq t.numbers r)) resources)) ≡ left1
+      left = λ i. member_text (codes "release") (map name_text (names_where (λ r. not ((taken r ∙ sym (taken_is h law r)) i)) resources))
+
+pub whole_trace : (script : Script) (stock : List Ware) (limit : ℕ) (first last : Stage) (lines whole : List ℕ)
+    → TracesTo (limited limit) script.until (record { stage = first; agenda = with_steps script.steps empty_agenda }) lines last
+    → limit ≡ script.events → first ≡ start stock → whole ≡ lines ++ closing_text last → IsTraceOf script stock whole
+whole_trace script stock limit first last lines whole traced same_limit same_first is_whole = record {
+  last = last;
+  lines = lines;
+  traced = here;
+  possible = course_in_order (limited script.events) script stock here.answers last (ends_of here);
+  whole = is_whole;
+} where
+  here : TracesTo (limited script.events) script.until (begin stock script.steps) lines last
+  here = subst (λ n. TracesTo (limited n) script.until (begin stock script.steps) lines last) same_limit
+      (subst (λ s. TracesTo (limited limit) script.until (record { stage = s; agenda = with_steps script.steps empty_agenda }) lines last) same_first traced)

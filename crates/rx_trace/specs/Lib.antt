@@ -1,0 +1,5 @@
+pub mod Told
+pub mod Line
+pub mod Traced
+pub mod Taken
+pub mod Running
