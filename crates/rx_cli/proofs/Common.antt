@@ -7,5 +7,5 @@ pub use Rattle.clap.{proofs.WalkLemmas.first_value-rows, specs.Values.IsUnsigned
 pub use Rattle.clap.specs.Words.{app_of, App, fault_of, found_of, new_app, with_rule, Text, is_simple, is_simple_and_free, subcommand_of, with_subcommand}
 unfoldable pub use Rattle.clap.proofs.OnLiterals.{clap_on_literals}
 pub use Rattle.rx_cli.specs.{Told.Bytes, Told.IsTold}
-pub use Rattle.rx_cli.specs.{Words.number_by, Words.rxbook, Words.form_by, Words.labels_by, Words.order_of}
+pub use Rattle.rx_cli.specs.{Words.number_by, Words.rxbook, Words.form_by, Words.run_by, Words.labels_by, Words.order_of}
 pub use Rattle.rx_device.specs.declared.{fault.ScriptError.TheVariants.Memory, watched.Watched.Watched}

@@ -3,7 +3,7 @@ use Rattle.rx_cli.proofs.Common.{◌≡◌, [], ◌∷◌, map, codes, refl, fau
 use Rattle.clap.specs.declared.error.kind.ErrorKind.TheVariants.{ValueValidation}
 use Rattle.rx_names.specs.declared.judging.Labels.TheVariants.{Numbers, Names}
 use Rattle.rx_script.specs.declared.Form.TheVariants.{Report, Dump, NamedDump}
-use Rattle.rx_cli.specs.declared.request.Order.TheVariants.{Run, Audit, Storm}
+use Rattle.rx_cli.specs.declared.request.Order.TheVariants.{Run, Trace, Audit, Storm}
 use Rattle.rx_cli.specs.Words.{Orders, greatest_storm, storms_beyond, questions, answers, file_words, refusals_of_files}
 
 pub alone : Orders (codes "rxbook" ∷ []) (Run Report)
@@ -28,6 +28,14 @@ pub with_both : Orders (codes "rxbook" ∷ codes "run" ∷ codes "--dump" ∷ co
     (Run NamedDump)
 unfolding clap_on_literals
 with_both = record { taken = refl; named = refl }
+
+pub with_trace : Orders (codes "rxbook" ∷ codes "run" ∷ codes "--trace" ∷ []) Trace
+unfolding clap_on_literals
+with_trace = record { taken = refl; named = refl }
+
+pub with_trace_and_names : Orders (codes "rxbook" ∷ codes "run" ∷ codes "--names" ∷ codes "--trace" ∷ []) Trace
+unfolding clap_on_literals
+with_trace_and_names = record { taken = refl; named = refl }
 
 pub with_audit : Orders (codes "rxbook" ∷ codes "audit" ∷ []) (Audit Numbers)
 unfolding clap_on_literals

@@ -6,7 +6,7 @@ use Rattle.rx_script.specs.declared.Form.{Form}
 use Rattle.rx_script.specs.Stage.{Ware}
 use Rattle.rx_storm.specs.declared.StormFault.{StormFault}
 use Rattle.rx_storm.specs.declared.StormFault.TheVariants.{Memory as NoMemory}
-use Rattle.rx_cli.specs.Served.{Ran, Audited, Stormed}
+use Rattle.rx_cli.specs.Served.{Ran, Traced, Audited, Stormed}
 
 abbrev is_memory : {T : Type 0} → Result T ScriptError → Bool
 is_memory (Err Memory) = true
@@ -17,6 +17,22 @@ pub ran_without_memory : {I O : Type 0} (remaining : I → Bytes) (contents : O 
     (stock : List Ware) (form : Form) (input : Watched I) (output : Watched O)
     → Ran remaining contents stock form input input output output (Err Memory)
 ran_without_memory remaining contents stock form input output = record {
+  ok = tt;
+  stopped = tt;
+  unhurt = tt;
+  moved = tt;
+  front = λ e. absurd (true≢false (ap is_memory e));
+  silent = λ _. refl;
+  read = λ e. absurd (true≢false (ap is_memory e));
+  write = λ e. absurd (true≢false (ap is_memory e));
+  syntax = λ e. absurd (true≢false (ap is_memory e));
+  shape = λ e. absurd (true≢false (ap is_memory e));
+}
+
+-- the same of a traced run
+pub traced_without_memory : {I O : Type 0} (remaining : I → Bytes) (contents : O → Bytes) (stock : List Ware) (input : Watched I) (output : Watched O)
+    → Traced remaining contents stock input input output output (Err Memory)
+traced_without_memory remaining contents stock input output = record {
   ok = tt;
   stopped = tt;
   unhurt = tt;

@@ -13,8 +13,10 @@ use Rattle.rx_dump.specs.Verdict.{is_lawful}
 use Rattle.rx_names.specs.declared.judging.Labels.{Labels}
 use Rattle.rx_names.specs.Judged.{Judges, GivesNoHistory}
 use Rattle.rx_script.specs.declared.Form.{Form}
+use Rattle.rx_script.specs.declared.Form.TheVariants.{Report}
 use Rattle.rx_script.specs.Stage.{Ware}
 use Rattle.rx_script.specs.Running.{Runs, LacksOutput}
+use Rattle.rx_trace.specs.Running.{IsTraced}
 use Rattle.rx_storm.specs.declared.StormFault.{StormFault}
 use Rattle.rx_storm.specs.declared.StormFault.TheVariants.{Memory as NoMemory, Thread as NoThread, Write as NoWrite}
 use Rattle.rx_storm.specs.Storms.{Tells as TellsFigures, TellsFront}
@@ -47,6 +49,25 @@ pub record Tells {E : Type 0} (contents : E → Bytes) (errors errors' : Watched
     (outcome : Result (Unit {0}) ScriptError) (status : ℕ) : Type 0 where
   pub says : status ≡ status_of outcome
   pub line : IsTold contents errors errors' (line_of outcome)
+
+-- ---- a traced run
+
+-- the same of a scenario that is traced: its trace is written where the outcome is Ok, and a front of it with a write fault
+pub record Traced {I O : Type 0} (remaining : I → Bytes) (contents : O → Bytes) (stock : List Ware)
+    (input input' : Watched I) (output output' : Watched O) (outcome : Result (Unit {0}) ScriptError) : Type 0 where
+  pub ok : OnOk outcome (IsTraced stock (remaining (device_of input)) (remaining (device_of input'))
+      (Appends (contents (device_of output)) (contents (device_of output'))))
+  pub stopped : OnOk outcome (has_stopped input' ≡ true)
+  pub unhurt : OnOk outcome ((has_failed input' ≡ false) × (has_failed output' ≡ false))
+  pub moved : OnOk outcome (has_stopped output' ≡ false)
+  pub front : IsErrOf outcome Write → IsTraced stock (remaining (device_of input)) (remaining (device_of input'))
+      (AppendsPrefix (contents (device_of output)) (contents (device_of output')))
+  pub silent : IfErr outcome (λ e. e ≢ Write → output' ≡ output)
+  pub read : IsErrOf outcome Read → HasReadFault input'
+  pub write : IsErrOf outcome Write → HasWriteFault output'
+  pub syntax : IsErrOf outcome Syntax → GivesTooMuch (remaining (device_of input)) (remaining (device_of input'))
+      ⊎ GivesNoJson (remaining (device_of input)) (remaining (device_of input'))
+  pub shape : IsErrOf outcome Shape → LacksOutput Report (remaining (device_of input)) (remaining (device_of input'))
 
 -- ---- an audit
 

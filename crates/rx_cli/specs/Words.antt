@@ -10,7 +10,7 @@ use Rattle.clap.specs.declared.error.kind.ErrorKind.{ErrorKind}
 use Rattle.clap.specs.declared.error.kind.ErrorKind.TheVariants.{DisplayHelp, DisplayVersion}
 use Rattle.clap.specs.declared.error.kind.ErrorKind.TheVariants.{InvalidSubcommand, UnknownArgument}
 use Rattle.rx_cli.specs.declared.request.Order.{Order}
-use Rattle.rx_cli.specs.declared.request.Order.TheVariants.{Run, Audit, Storm}
+use Rattle.rx_cli.specs.declared.request.Order.TheVariants.{Run, Trace, Audit, Storm}
 use Rattle.rx_names.specs.declared.judging.Labels.{Labels}
 use Rattle.rx_names.specs.declared.judging.Labels.TheVariants.{Numbers, Names}
 use Rattle.rx_script.specs.declared.Form.{Form}
@@ -21,7 +21,9 @@ abbrev pub flag_rule : Text → Rule
 flag_rule name = record (new_rule name) { long = Some name; action = Some SetTrue }
 
 abbrev pub run_app : App
-run_app = with_rule (with_rule (new_app (codes "run")) (flag_rule (codes "dump"))) (flag_rule (codes "names"))
+run_app =
+    with_rule (with_rule (with_rule (new_app (codes "run")) (flag_rule (codes "dump"))) (flag_rule (codes "names")))
+    (flag_rule (codes "trace"))
 
 abbrev pub audit_app : App
 audit_app = with_rule (new_app (codes "audit")) (flag_rule (codes "names"))
@@ -62,6 +64,13 @@ form_by dump names = if is_set names then NamedDump else (if is_set dump then Du
 abbrev pub form_of : List Row → Form
 form_of rows = form_by (first_of (codes "dump") rows) (first_of (codes "names") rows)
 
+-- a run with the flag for the trace is traced, whatever the other flags; a trace has the names in it
+abbrev pub run_by : (trace : Option Text) → Form → Order
+run_by trace form = if is_set trace then Trace else Run form
+
+abbrev pub run_of : List Row → Order
+run_of rows = run_by (first_of (codes "trace") rows) (form_of rows)
+
 -- an audit tells names where the flag for them is set
 abbrev pub labels_by : Option Text → Labels
 labels_by names = if is_set names then Names else Numbers
@@ -87,7 +96,7 @@ abbrev pub order_of : Option (Text × List Row) → Order
 order_of None = Run Report
 order_of (Some p) =
     if bytes_eq p.0 (codes "audit") then Audit (labels_of p.1)
-    else (if bytes_eq p.0 (codes "storm") then storm_by p.1 else Run (form_of p.1))
+    else (if bytes_eq p.0 (codes "storm") then storm_by p.1 else run_of p.1)
 
 -- the numbers of a storm are those that there may be
 abbrev pub IsInRange : Order → Type 0

@@ -28,13 +28,14 @@
 //!
 //! - The order is the one that `clap` matches in the words, a report where they name no subcommand; it is
 //!   refused only where `clap` refuses the words or memory is. What `clap` matches in the words `rxbook`,
-//!   `rxbook run`, `rxbook run --dump`, `rxbook run --names`, `rxbook audit`, `rxbook audit --names` and
-//!   `rxbook storm` is proved too, and what it makes of `--help`, of `--version` and of a file's name
+//!   `rxbook run`, `rxbook run --dump`, `rxbook run --names`, `rxbook run --trace`, `rxbook audit`,
+//!   `rxbook audit --names` and `rxbook storm` is proved too, and what it makes of `--help`, of `--version` and of a file's name
 //!   ([`words_have_their_orders`]). The numbers of a storm lie in their ranges.
 //! - Where the words order a run that is done, no call of a stream failed, each write took a byte, and the
 //!   output got the report of a course of the scenario that the input is, with this stock, or the dump of its
 //!   history, alone or with its names, and nothing else. With a write fault it got a front of one, and with any
-//!   other fault nothing; each fault but want of memory comes only for its cause.
+//!   other fault nothing; each fault but want of memory comes only for its cause. Of a traced run it got the trace
+//!   of `rx_trace` in place of the report.
 //! - Where the words order an audit that ends without a fault, the input was a dump, alone or in an object beside
 //!   names, the output got the text of the verdict on its history and nothing else, with the names of its
 //!   numbers where the words ask for them, and the status is 0 where the verdict is `lawful`, and 5 where it is

@@ -12,7 +12,7 @@ ghost use Rattle.rx_cli.specs.declared.request.Order.{Order};
 ghost use Rattle.rx_cli.specs.Words.{rxbook, Orders};
 ghost use Rattle.rx_device.specs.Device.{IsFresh, KeepsDevice};
 ghost use Rattle.rx_script.specs.Stage.{ware_of};
-ghost use Rattle.rx_cli.specs.Served.{Ran, Tells, Audited, TellsAudit, Stormed, TellsStorm, RefusedBy};
+ghost use Rattle.rx_cli.specs.Served.{Ran, Traced, Tells, Audited, TellsAudit, Stormed, TellsStorm, RefusedBy};
 
 use crate::request::Order;
 use crate::statuses::{ended, judged, out_of_memory, weathered};
@@ -24,6 +24,7 @@ use rx_names::judge;
 use rx_resource::Resource;
 use rx_script::{Watched, run};
 use rx_storm::storm;
+use rx_trace::trace;
 use std::alloc::Global;
 use std::convert::AsStr;
 use std::io::{Read, Write};
@@ -77,6 +78,11 @@ pub fn serve<T: Threads + Wait + Sync, S: AsStr, R: Resource, I: Read, O: Write,
         × Ran I.remaining O.contents (map (ware_of R.Resource) stock.items) form
         input.old input.new output.old output.new outcome
         × Tells E.contents errors.old errors.new outcome result }
+    ensures traced { Orders (map S.text words.now) Order.Trace
+        → (outcome : Result (Unit {0}) ScriptError)
+        × Traced I.remaining O.contents (map (ware_of R.Resource) stock.items)
+        input.old input.new output.old output.new outcome
+        × Tells E.contents errors.old errors.new outcome result }
     ensures audited { (labels : Label) → Orders (map S.text words.now) (Order.Audit labels)
         → (outcome : Result Bool ScriptError)
         × Audited I.remaining O.contents labels input.old input.new output.old output.new outcome
@@ -101,6 +107,7 @@ pub fn serve<T: Threads + Wait + Sync, S: AsStr, R: Resource, I: Read, O: Write,
 {
     match order(alloc, words) {
         Ok(Order::Run(form)) => ended(errors, run(alloc, input, output, stock, form)),
+        Ok(Order::Trace) => ended(errors, trace(alloc, input, output, stock)),
         Ok(Order::Audit(labels)) => judged(errors, judge(alloc, input, output, labels)),
         Ok(
             Order::Storm {

@@ -8,6 +8,8 @@ use rx_script::Form;
 pub enum Order {
     /// Read a scenario from standard input, run it, and write what the form says.
     Run(Form),
+    /// Read a scenario from standard input, run it, and write its trace.
+    Trace,
     /// Read a dump from standard input, alone or beside names, judge its history, and write the verdict with these
     /// labels.
     Audit(Labels),

@@ -10,10 +10,11 @@ ghost use Rattle.rx_cli.specs.Words.{Orders, rxbook, greatest_storm, storms_beyo
 ghost use Rattle.rx_cli.specs.Words.{questions, answers, file_words, refusals_of_files};
 
 /// The program's name alone orders a report, and so it does with the word `run`; with `run --dump` it
-/// orders a dump, with `run --names` and with both flags the dump with its names, and with the word `audit` an
-/// audit, which tells names with `audit --names`. With the word `storm` it orders a storm of 4 sources, 3 workers and
-/// 100 items, or of the numbers that its options give; one beyond its range is refused. The words `--help` and
-/// `--version` ask for help and for the version, and the name of a file is refused.
+/// orders a dump, with `run --names` and with both flags the dump with its names, with `run --trace`, with or without
+/// `--names`, a trace, and with the word `audit` an audit, which tells names with `audit --names`. With the word
+/// `storm` it orders a storm of 4 sources, 3 workers and 100 items, or of the numbers that its options give; one
+/// beyond its range is refused. The words `--help` and `--version` ask for help and for the version, and the name of
+/// a file is refused.
 pub fn words_have_their_orders()
     ensures alone { Orders (codes "rxbook" ∷ []) (Order.Run Form.Report) }
     ensures with_run { Orders (codes "rxbook" ∷ codes "run" ∷ []) (Order.Run Form.Report) }
@@ -21,6 +22,9 @@ pub fn words_have_their_orders()
     ensures with_names { Orders (codes "rxbook" ∷ codes "run" ∷ codes "--names" ∷ []) (Order.Run Form.NamedDump) }
     ensures with_both { Orders (codes "rxbook" ∷ codes "run" ∷ codes "--dump" ∷ codes "--names" ∷ [])
         (Order.Run Form.NamedDump) }
+    ensures with_trace { Orders (codes "rxbook" ∷ codes "run" ∷ codes "--trace" ∷ []) Order.Trace }
+    ensures with_trace_and_names { Orders (codes "rxbook" ∷ codes "run" ∷ codes "--names" ∷ codes "--trace" ∷ [])
+        Order.Trace }
     ensures with_audit { Orders (codes "rxbook" ∷ codes "audit" ∷ []) (Order.Audit Labels.Numbers) }
     ensures with_audit_names { Orders (codes "rxbook" ∷ codes "audit" ∷ codes "--names" ∷ [])
         (Order.Audit Labels.Names) }

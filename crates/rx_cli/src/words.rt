@@ -2,7 +2,8 @@
 ghost use Rattle.std.specs.Prelude.{◌≡◌, ◌≤◌, false, map, option_map, codes, IfOk};
 ghost use Rattle.clap.specs.Words.{app_of, new_app, rule_of, subcommand_of, subcommand_rows_of, fault_of, found_of, rows_of, FailsBy};
 ghost use Rattle.rx_cli.specs.Words.{rxbook, run_app, audit_app, storm_app, with_version, flag_rule, number_rule};
-ghost use Rattle.rx_cli.specs.Words.{is_set, form_by, form_of, labels_by, labels_of, number_by, storm_by, order_of, IsInRange};
+ghost use Rattle.rx_cli.specs.Words.{is_set, form_by, form_of, run_by, run_of, labels_by, labels_of, number_by};
+ghost use Rattle.rx_cli.specs.Words.{storm_by, order_of, IsInRange};
 
 use crate::request::Order;
 use clap::builder::ValueParser;
@@ -122,7 +123,9 @@ fn run_command<'a>(alloc: Global) -> Result<Command<'a>, AllocError>
     let help = "Write the dump of what happened, in place of the report";
     let first = bare.arg(flag(alloc, "dump", help))?;
     let help = "Write that dump with the names of its nodes, hubs and resources, for a picture";
-    first.arg(flag(alloc, "names", help))
+    let second = first.arg(flag(alloc, "names", help))?;
+    let help = "Write a line for each executed step, in place of the report";
+    second.arg(flag(alloc, "trace", help))
 }
 
 // The command `audit`.
@@ -187,6 +190,26 @@ fn form_in(options: &ArgMatches<'_>) -> Form
     form_by(options.get_str("dump"), options.get_str("names"))
 }
 
+// The order of a run of this form, traced where the value of the flag says so.
+fn run_by(trace: Option<&str>, form: Form) -> Order
+    ensures is { result ≡ run_by (option_map (λ s. s.now) trace.entry) form }
+    ensures in_range { IsInRange result }
+{
+    if is_set(trace) {
+        Order::Trace
+    } else {
+        Order::Run(form)
+    }
+}
+
+// The order of a run with these options.
+fn run_in(options: &ArgMatches<'_>) -> Order
+    ensures is { result ≡ run_of (rows_of (found_of options.now)) }
+    ensures in_range { IsInRange result }
+{
+    run_by(options.get_str("trace"), form_in(options))
+}
+
 // The labels that the value of the flag says.
 fn labels_by(names: Option<&str>) -> Labels
     ensures { result ≡ labels_by (option_map (λ s. s.now) names.entry) }
@@ -242,7 +265,7 @@ fn order_in(matches: &ArgMatches<'_>) -> Order
         None => Order::Run(Form::Report),
         Some(("audit", options)) => Order::Audit(labels_in(options)),
         Some(("storm", options)) => storm_in(options),
-        Some((_, options)) => Order::Run(form_in(options)),
+        Some((_, options)) => run_in(options),
     }
 }
 

@@ -152,7 +152,33 @@ const NAMED: &str =
 
 const NAMED_VERDICT: &str = "lawful\nlive: 0 \"screen\"\nheld: 1\nwaiting: 3 \"a \\\"b\\\"\\n\"\n";
 
-const OUTCOMES: [Row; 25] = [
+// A subscription that tells an item and ends, with a step that is cancelled and one that is refused; and one that is
+// unsubscribed behind a checkpoint.
+const TRACED: &str =
+    "{\"steps\":[{\"do\":\"using\",\"name\":\"a\",\"place\":\"root\",\"res\":\"r\"},\
+    {\"do\":\"open\",\"name\":\"b\",\"place\":\"source\",\"of\":\"a\",\"kind\":\"leaf\"},\
+    {\"at\":5,\"do\":\"next\",\"node\":\"b\",\"value\":7,\"then\":[\
+    {\"after\":4,\"do\":\"next\",\"node\":\"b\",\"value\":8,\"label\":\"late\"}]},\
+    {\"at\":6,\"do\":\"cancel\",\"step\":\"late\"},{\"at\":6,\"do\":\"end\",\"node\":\"b\"},\
+    {\"at\":7,\"do\":\"next\",\"node\":\"b\",\"value\":9},{\"at\":8,\"do\":\"drain\"},\
+    {\"at\":9,\"do\":\"using\",\"name\":\"c\",\"place\":\"root\",\"res\":\"q\"},\
+    {\"at\":10,\"do\":\"checkpoint\"},{\"at\":11,\"do\":\"dispose\",\"node\":\"c\"}]}";
+
+const TRACE: &str = "\
+{\"step\":0,\"at\":0,\"do\":\"using\",\"name\":\"a\",\"ok\":0}
+{\"step\":1,\"at\":0,\"do\":\"open\",\"name\":\"b\",\"ok\":2}
+{\"step\":2,\"at\":5,\"do\":\"next\",\"node\":\"b\",\"ok\":3,\"notes\":[{\"to\":\"a\",\"next\":7}]}
+{\"step\":3,\"at\":6,\"do\":\"cancel\",\"label\":\"late\",\"ok\":4}
+{\"step\":4,\"at\":6,\"do\":\"end\",\"node\":\"b\",\"ok\":4,\"notes\":[{\"to\":\"a\",\"completed\":true}],\"waits\":[\"r\"]}
+{\"step\":5,\"at\":7,\"do\":\"next\",\"node\":\"b\",\"refused\":\"Gone\",\"waits\":[\"r\"]}
+{\"step\":6,\"at\":8,\"do\":\"drain\",\"ok\":6,\"release\":[\"r\"]}
+{\"step\":7,\"at\":9,\"do\":\"using\",\"name\":\"c\",\"ok\":7}
+{\"step\":8,\"at\":10,\"do\":\"checkpoint\",\"ok\":9}
+{\"step\":9,\"at\":11,\"do\":\"dispose\",\"node\":\"c\",\"ok\":9,\"waits\":[\"q\"]}
+{\"closed\":true,\"release\":[\"q\"]}
+";
+
+const OUTCOMES: [Row; 27] = [
     (&["rxbook"], EMPTY, 0, NOTHING_DONE, ""),
     (&["rxbook", "run"], EMPTY, 0, NOTHING_DONE, ""),
     (&["rxbook", "run", "--dump"], EMPTY, 0, "[]\n", ""),
@@ -163,6 +189,8 @@ const OUTCOMES: [Row; 25] = [
         SHARED_WITH_NAMES,
         "",
     ),
+    (&["rxbook", "run", "--trace"], TRACED, 0, TRACE, ""),
+    (&["rxbook", "run", "--trace"], "[]", 3, "", FAULTY),
     (&["rxbook"], "{\"steps\":[", 3, "", FAULTY),
     (&["rxbook"], "[]", 3, "", FAULTY),
     (
@@ -351,6 +379,7 @@ Usage: rxbook run [OPTIONS] < FILE
 Options:
       --dump   Write the dump of what happened, in place of the report
       --names  Write that dump with the names of its nodes, hubs and resources, for a picture
+      --trace  Write a line for each executed step, in place of the report
   -h, --help   Print help
 
 A scenario is one JSON object, with its steps, of at most 16777216 bytes; as in

@@ -1,6 +1,6 @@
 use Rattle.rx_cli.proofs.Common.{Err, Memory}
 use Rattle.rx_storm.specs.declared.StormFault.TheVariants.{Memory as NoMemory}
-use Rattle.rx_cli.proofs.NotBegunWithoutMemory.{ran_without_memory, audited_without_memory, stormed_without_memory}
+use Rattle.rx_cli.proofs.NotBegunWithoutMemory.{ran_without_memory, traced_without_memory, audited_without_memory, stormed_without_memory}
 use Rattle.rx_cli.proofs.program.serve.Goals as goal
 
 -- a run for which memory was refused before it began
@@ -8,6 +8,17 @@ pub returns-then-eq-clause-ran : goal.returns-then-eq-clause-ran
 returns-then-eq-clause-ran g c = λ form _. (
   Err Memory,
   ran_without_memory _ _ _ form _ _,
+  record {
+    says = c.out_of_memory.ensures.status;
+    line = c.out_of_memory.ensures.line;
+  },
+)
+
+-- the same of a traced run
+pub returns-then-eq-clause-traced : goal.returns-then-eq-clause-traced
+returns-then-eq-clause-traced g c = λ _. (
+  Err Memory,
+  traced_without_memory _ _ _ _ _,
   record {
     says = c.out_of_memory.ensures.status;
     line = c.out_of_memory.ensures.line;

@@ -1,5 +1,5 @@
-use Rattle.rx_cli.proofs.Literals.{alone, with_run, with_dump, with_names, with_both, with_audit, with_audit_names, with_storm}
-use Rattle.rx_cli.proofs.Literals.{with_greatest, beyond, with_help, with_files}
+use Rattle.rx_cli.proofs.Literals.{alone, with_run, with_dump, with_names, with_both, with_trace, with_trace_and_names}
+use Rattle.rx_cli.proofs.Literals.{with_audit, with_audit_names, with_storm, with_greatest, beyond, with_help, with_files}
 use Rattle.rx_cli.proofs.word_laws.words_have_their_orders.Goals as goal
 
 pub returns-clause-alone : goal.returns-clause-alone
@@ -16,6 +16,12 @@ returns-clause-with_names c = with_names
 
 pub returns-clause-with_both : goal.returns-clause-with_both
 returns-clause-with_both c = with_both
+
+pub returns-clause-with_trace : goal.returns-clause-with_trace
+returns-clause-with_trace c = with_trace
+
+pub returns-clause-with_trace_and_names : goal.returns-clause-with_trace_and_names
+returns-clause-with_trace_and_names c = with_trace_and_names
 
 pub returns-clause-with_audit : goal.returns-clause-with_audit
 returns-clause-with_audit c = with_audit
