@@ -164,6 +164,8 @@ const TRACED: &str =
     {\"at\":9,\"do\":\"using\",\"name\":\"c\",\"place\":\"root\",\"res\":\"q\"},\
     {\"at\":10,\"do\":\"checkpoint\"},{\"at\":11,\"do\":\"dispose\",\"node\":\"c\"}]}";
 
+const NOTHING_TRACED: &str = "{\"closed\":true}\n";
+
 const TRACE: &str = "\
 {\"step\":0,\"at\":0,\"do\":\"using\",\"name\":\"a\",\"ok\":0}
 {\"step\":1,\"at\":0,\"do\":\"open\",\"name\":\"b\",\"ok\":2}
@@ -567,5 +569,12 @@ fn a_call_without_memory_says_so_and_writes_nothing(rt: HostRuntime) -> Result<(
     let alloc = rt.alloc();
     let audit = ["rxbook", "audit"];
     assert_silent_without_memory(&rt, alloc, &["rxbook"], EMPTY, NOTHING_DONE)?;
+    assert_silent_without_memory(
+        &rt,
+        alloc,
+        &["rxbook", "run", "--trace"],
+        EMPTY,
+        NOTHING_TRACED,
+    )?;
     assert_silent_without_memory(&rt, alloc, &audit, A_SHARED_LIFE, A_SHARED_LIFE_LEFT)
 }
