@@ -277,9 +277,7 @@ fn an_opening_at_a_root_that_is_refused_memory_changes_nothing(
 const WITH_A_NOTIFIER: [Made; 1] = [Made::Open(Kind::Until)];
 
 #[test]
-fn a_take_until_that_is_refused_memory_changes_nothing(
-    rt: HostRuntime,
-) -> Result<(), Fail> {
+fn a_take_until_that_is_refused_memory_changes_nothing(rt: HostRuntime) -> Result<(), Fail> {
     are_refused_first(&rt, rt.alloc(), &WITH_A_NOTIFIER)
 }
 
