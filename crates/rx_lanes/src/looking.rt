@@ -9,7 +9,7 @@ ghost use Rattle.rx_lanes.specs.Lane.{listed, line};
 
 use crate::lanes::Lanes;
 use crate::names::LaneName;
-use crate::queues::Queues;
+use crate::queues::{NONE, Queues};
 use crate::table::Table;
 
 impl<E: Copy> Lanes<E> {
@@ -72,15 +72,14 @@ impl<E: Copy> Table<E> {
 impl<E: Copy> Queues<E> {
     // So many, and how many effects are in a queue.
     fn waiting(&self, queue: usize, so_far: u64) -> u64
-        requires small { queue < 2 ^ 32 }
+        requires queue { queue < length self.now.queues }
         ensures { result ≡ at_most_all (so_far + length (queue_at self.now queue)) }
     {
-        self.rings.promise();
         let mut many = so_far;
-        let mut next = self.rings.first(queue);
-        while let Some(cell) = next {
+        let mut cell = self.ends[queue].first;
+        while cell != NONE {
             many = many.saturating_add(1);
-            next = self.rings.next(cell);
+            cell = self.next[cell as usize];
         }
         many
     }

@@ -1,9 +1,10 @@
-use Rattle.rx_slots.specs.Lists.{list_at}
+use Rattle.std.proofs.Common.{◌+◌, length}
+use Rattle.rx_lanes.specs.Chains.{queue_at}
 use Rattle.rx_lanes.proofs.ListsWalked.{WalksTo, to_go}
 use Rattle.rx_lanes.proofs.queues.Queues.waiting.Given as goal
 
-abbrev pub invariant-loop-next : goal.invariant-loop-next
-invariant-loop-next g l = WalksTo (list_at l.self-inside.rings l.queue) l.next l.so_far l.many
+abbrev pub invariant-loop-cell : goal.invariant-loop-cell
+invariant-loop-cell g l = WalksTo l.self-inside.next.items l.cell l.many (l.so_far + length (queue_at l.self l.queue))
 
-abbrev pub decreases-loop-next : goal.decreases-loop-next
-decreases-loop-next g l = to_go l.next (list_at l.self-inside.rings l.queue)
+abbrev pub decreases-loop-cell : goal.decreases-loop-cell
+decreases-loop-cell g l = to_go l.self-inside.next.items l.cell

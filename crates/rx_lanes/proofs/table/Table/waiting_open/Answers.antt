@@ -21,7 +21,7 @@ overflow_mul-place g c =
 pub waiting-with_front-requires : goal.waiting-with_front-requires
 waiting-with_front-requires g c =
     let there = open_at c.self.inside.rows.items c.self.inside.returned.items c.self.inside.queues c.args.place (rw (← c.self.view_is) at c.requires.open) in
-    record { small = omega (arith, there.within, c.self.invariant.most) }
+    record { queue = omega (arith, there.within, c.self.invariant.queued) }
 
 pub overflow_mul-place-2 : goal.overflow_mul-place-2
 overflow_mul-place-2 g c =
@@ -36,7 +36,7 @@ overflow_add-place g c =
 pub waiting-requires : goal.waiting-requires
 waiting-requires g c =
     let there = open_at c.self.inside.rows.items c.self.inside.returned.items c.self.inside.queues c.args.place (rw (← c.self.view_is) at c.requires.open) in
-    record { small = omega (arith, there.within, c.self.invariant.most) }
+    record { queue = omega (arith, there.within, c.self.invariant.queued) }
 
 pub returns : goal.returns
 returns g c =
