@@ -5,7 +5,8 @@ use Rattle.rx_slots.specs.Lists.{is_in}
 use Rattle.rx_lanes.specs.declared.queues.Ends.{Ends}
 use Rattle.rx_lanes.specs.Chains.{no_cell, next_at, ends_at, Leads, EndsIn, first_in, AreChained, last_or, joined_next, joined_ends, read_all, AreCells}
 use Rattle.rx_lanes.proofs.NumbersOnLists.{eq_self, eq_not, read_same}
-use Rattle.rx_lanes.proofs.CellsChained.{by_place, is_list, leads_below, ends_on, ends_last, with_list, IsFirstOf, led, elsewhere, unlike, on_none, taken_off, IsLoose, put_first, put_last}
+use Rattle.rx_lanes.proofs.CellsChained.{by_place, is_list, leads_below, ends_on, ends_last, with_list, IsFirstOf, led, elsewhere, unlike, on_none}
+use Rattle.rx_lanes.proofs.CellsChained.{taken_off, IsLoose, put_first, put_last}
 use Rattle.rx_lanes.proofs.QueuesShown.{at_set, queue_of, shows}
 
 -- the links that are written where a cell comes after another, or is the first
@@ -98,19 +99,23 @@ module _ {E : Type 0} {cells : List E} {next : List ℕ} {ends : List Ends} {fre
           let f = first_in (next_at next free) ended in
           let many = wrote_many next free e.last (e.first == no_cell) in
           let own = wrote_own next free e.last (e.first == no_cell) free_within in
-          let begins : (ends_at ended queue).first ≡ cond (e.first == no_cell) free e.first = ap (λ (e : Ends). e.first) (get_or-set_same ends queue _ _ within) in
+          let begins : (ends_at ended queue).first ≡
+          cond (e.first == no_cell) free e.first = ap (λ (e : Ends). e.first) (get_or-set_same ends queue _ _ within) in
           elim last [
             | no_last is t ↦ subst (λ xs. AreChained n f (with_list (Some queue) (xs ++ free ∷ []) (with_list None has.rest are.lists))) (sym is)
                 (subst (λ xs. AreChained n f (with_list (Some queue) (free ∷ xs) (with_list None has.rest are.lists))) is
                 (put_first loose (Some queue) n f many stays (own ∙ sym (subst (Leads next e.first) is (are.chained.leads (Some queue))))
-                (λ m apart. wrote_other next free e.last (e.first == no_cell) m apart (λ f. absurd (true≢false (sym t ∙ f)))) (begins ∙ ap (λ b. cond b free e.first) t)))
+                (λ m apart. wrote_other next free e.last (e.first == no_cell) m apart (λ f. absurd (true≢false (sym t ∙ f))))
+                (begins ∙ ap (λ b. cond b free e.first) t)))
             | its_last x xs is t on ↦ put_last loose (Some queue) n f many stays e.last x xs is (are.last queue)
-                (wrote_last next free e.last (e.first == no_cell) t (unlike e.last free (are.lists (Some queue)) on (elsewhere has.is_first (Some queue) (λ z. cc)))
+                (wrote_last next free e.last (e.first == no_cell) t
+                (unlike e.last free (are.lists (Some queue)) on (elsewhere has.is_first (Some queue) (λ z. cc)))
                 (leads_below next e.first (are.lists (Some queue)) (are.chained.leads (Some queue)) e.last on)) own
                 (λ m apart other. wrote_other next free e.last (e.first == no_cell) m apart (λ f. other)) (begins ∙ ap (λ b. cond b free e.first) t)
           ]
 
-      module _ (effect : E) {next' : List ℕ} {ends' : List Ends} (next_is : next' ≡ joined_next next free (ends_at ends queue)) (ends_is : ends' ≡ ended) where
+      module _ (effect : E) {next' : List ℕ} {ends' : List Ends} (next_is : next' ≡ joined_next next free (ends_at ends queue))
+          (ends_is : ends' ≡ ended) where
         joined_cells : AreCells (set cells free effect) (joined_next next free (ends_at ends queue)) ended (next_at next free) (spare - 1)
         joined_cells =
             let many = wrote_many next free (ends_at ends queue).last ((ends_at ends queue).first == no_cell) in
@@ -120,7 +125,8 @@ module _ {E : Type 0} {cells : List E} {next : List ℕ} {ends : List Ends} {fre
               lists = joined;
               chained = chained;
               last = λ q. subst (λ (e : Ends). EndsIn e.last (joined (Some q))) (sym (at_set ends queue (joined_ends free (ends_at ends queue)) q within))
-                  (by_place (λ b. EndsIn (cond b (joined_ends free (ends_at ends queue)) (ends_at ends q)).last (cond b (are.lists (Some queue) ++ free ∷ []) (are.lists (Some q)))) queue q
+                  (by_place (λ b. EndsIn (cond b (joined_ends free (ends_at ends queue)) (ends_at ends q)).last
+                  (cond b (are.lists (Some queue) ++ free ∷ []) (are.lists (Some q)))) queue q
                   (λ same. ends_last free (are.lists (Some queue))) (λ apart. are.last q));
               spare_is = let n = are.spare_is ∙ ap length has.is_first.is in omega (arith, n);
             }
@@ -129,10 +135,12 @@ module _ {E : Type 0} {cells : List E} {next : List ℕ} {ends : List Ends} {fre
         join_cells {free'} is =
             let s = spare - 1 in
             let cs = set cells free effect in
-            subst (λ n. AreCells cs n ends' free' s) (sym next_is) (subst (λ e. AreCells cs (joined_next next free (ends_at ends queue)) e free' s) (sym ends_is)
+            subst (λ n. AreCells cs n ends' free' s) (sym next_is)
+            (subst (λ e. AreCells cs (joined_next next free (ends_at ends queue)) e free' s) (sym ends_is)
             (subst (λ f. AreCells cs (joined_next next free (ends_at ends queue)) ended f s) (sym is) joined_cells))
 
-        map_last : (blank : E) (cells : List E) (xs : List ℕ) (c : ℕ) → read_all blank cells (xs ++ c ∷ []) ≡ read_all blank cells xs ++ get_or cells c blank ∷ []
+        map_last : (blank : E) (cells : List E) (xs : List ℕ) (c : ℕ) → read_all blank cells (xs ++ c ∷ []) ≡
+            read_all blank cells xs ++ get_or cells c blank ∷ []
         map_last blank cells [] c = refl
         map_last blank cells (x ∷ xs) c = ap (λ (es : List E). get_or cells x blank ∷ es) (map_last blank cells xs c)
 
@@ -142,10 +150,13 @@ module _ {E : Type 0} {cells : List E} {next : List ℕ} {ends : List Ends} {fre
         unfolding joined_cells
         join_shows blank q =
             (λ i. queue_of blank (set cells free effect) (next_is i) (ends_is i) q)
-            ∙ shows blank joined_cells q ∙ by_place (λ b. read_all blank (set cells free effect) (cond b (are.lists (Some queue) ++ free ∷ []) (are.lists (Some q))) ≡
+            ∙ shows blank joined_cells q ∙ by_place (λ b. read_all blank (set cells free effect)
+            (cond b (are.lists (Some queue) ++ free ∷ []) (are.lists (Some q))) ≡
             cond b (read_all blank cells (are.lists (Some q)) ++ effect ∷ []) (read_all blank cells (are.lists (Some q)))) queue q
-            (λ same. subst (λ z. read_all blank (set cells free effect) (are.lists (Some queue) ++ free ∷ []) ≡ read_all blank cells (are.lists (Some z)) ++ effect ∷ []) same
-            (map_last blank (set cells free effect) (are.lists (Some queue)) free ∙ (λ i. stay queue i ++ get_or-set_same cells free effect blank below i ∷ [])))
+            (λ same. subst (λ z. read_all blank (set cells free effect) (are.lists (Some queue) ++ free ∷ []) ≡
+            read_all blank cells (are.lists (Some z)) ++ effect ∷ []) same
+            (map_last blank (set cells free effect) (are.lists (Some queue)) free ∙
+            (λ i. stay queue i ++ get_or-set_same cells free effect blank below i ∷ [])))
             (λ apart. stay q)
             ∙ ap (λ es. cond (queue == q) (es ++ effect ∷ []) es) (sym (shows blank are q))
           where

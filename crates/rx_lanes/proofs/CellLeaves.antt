@@ -7,7 +7,8 @@ use Rattle.rx_lanes.specs.Chains.{first_of, rest_of, no_cell, next_at, ends_at, 
 use Rattle.rx_lanes.proofs.CellsChained.{by_place, is_list, leads_few, ends_rest, with_list, IsFirstOf, led, on_none, taken_off, IsLoose, put_first}
 use Rattle.rx_lanes.proofs.QueuesShown.{at_set, queue_of, shows, shows_none}
 
-module _ {E : Type 0} {cells : List E} {next : List ℕ} {ends : List Ends} {free spare : ℕ} (are : AreCells cells next ends free spare) (queue cell : ℕ) where
+module _ {E : Type 0} {cells : List E} {next : List ℕ} {ends : List Ends} {free spare : ℕ} (are : AreCells cells next ends free spare)
+    (queue cell : ℕ) where
   -- a queue begins with this cell
   pub record HasFirst : Type 0 where
     pub rest : List ℕ
@@ -33,7 +34,8 @@ module _ {E : Type 0} {cells : List E} {next : List ℕ} {ends : List Ends} {fre
         of : (f : Option ℕ) → first_in free (set ends queue e) f ≡ cond (is_list (Some queue) f) (next_at next cell) (first_in free ends f)
         of None = refl
         of (Some q) = ap (λ (e : Ends). e.first) (at_set ends queue e q within)
-            ∙ by_place (λ b. (cond b e (ends_at ends q)).first ≡ cond b (next_at next cell) (ends_at ends q).first) queue q (λ same. first_is) (λ apart. refl)
+            ∙ by_place (λ b. (cond b e (ends_at ends q)).first ≡ cond b (next_at next cell) (ends_at ends q).first) queue q (λ same. first_is)
+            (λ apart. refl)
 
       chained : AreChained (set next cell free) (first_in cell (set ends queue e)) left
       chained = put_first loose None (set next cell free) (first_in cell (set ends queue e)) (length-set next cell free) of
@@ -59,7 +61,8 @@ module _ {E : Type 0} {cells : List E} {next : List ℕ} {ends : List Ends} {fre
         chained = chained;
         last = λ q. subst (λ (e : Ends). EndsIn e.last (left (Some q))) (sym (at_set ends queue e q within))
             (by_place (λ b. EndsIn (cond b e (ends_at ends q)).last (cond b has.rest (are.lists (Some q)))) queue q
-            (λ same. subst (λ n. EndsIn n has.rest) (sym last_is) (ends_rest (ends_at ends queue).last cell has.rest (subst (EndsIn (ends_at ends queue).last) has.is_first.is (are.last queue))))
+            (λ same. subst (λ n. EndsIn n has.rest) (sym last_is)
+            (ends_rest (ends_at ends queue).last cell has.rest (subst (EndsIn (ends_at ends queue).last) has.is_first.is (are.last queue))))
             (λ apart. are.last q));
         spare_is = let s = are.spare_is in omega (arith, s);
       }
@@ -70,11 +73,13 @@ module _ {E : Type 0} {cells : List E} {next : List ℕ} {ends : List Ends} {fre
       leave_shows blank q =
           shows blank leave_cells q ∙ by_place (λ b. read_all blank cells (cond b has.rest (are.lists (Some q))) ≡
           cond b (rest_of (read_all blank cells (are.lists (Some q)))) (read_all blank cells (are.lists (Some q)))) queue q
-          (λ same. subst (λ z. read_all blank cells has.rest ≡ rest_of (read_all blank cells (are.lists (Some z)))) same (sym (ap (λ xs. rest_of (read_all blank cells xs)) has.is_first.is)))
+          (λ same. subst (λ z. read_all blank cells has.rest ≡ rest_of (read_all blank cells (are.lists (Some z)))) same
+          (sym (ap (λ xs. rest_of (read_all blank cells xs)) has.is_first.is)))
           (λ apart. refl)
           ∙ ap (λ es. cond (queue == q) (rest_of es) es) (sym (shows blank are q))
 
-module _ {E : Type 0} {cells : List E} {next : List ℕ} {ends : List Ends} {free spare : ℕ} (are : AreCells cells next ends free spare) (queue : ℕ) (within : queue < length ends)
+module _ {E : Type 0} {cells : List E} {next : List ℕ} {ends : List Ends} {free spare : ℕ} (are : AreCells cells next ends free spare) (queue : ℕ)
+    (within : queue < length ends)
     (e : Ends) (is : e ≡ get_or ends queue e) where
   found : e ≡ ends_at ends queue
   found = get_or_read ends queue e within is _
@@ -83,7 +88,11 @@ module _ {E : Type 0} {cells : List E} {next : List ℕ} {ends : List Ends} {fre
   has_first some = of (are.lists (Some queue)) refl (are.chained.leads (Some queue)) where
     of : (xs : List ℕ) → are.lists (Some queue) ≡ xs → Leads next (ends_at ends queue).first xs → HasFirst are queue e.first
     of [] on l = absurd (some (ap (λ (e : Ends). e.first) found ∙ l))
-    of (x ∷ xs) on l = record { rest = xs; is_first = record { chained = are.chained; is = on ∙ ap (λ z. z ∷ xs) (sym (ap (λ (e : Ends). e.first) found ∙ l.0)) } }
+    of (x ∷ xs) on l = record {
+      rest = xs;
+      is_first = record
+          { chained = are.chained; is = on ∙ ap (λ z. z ∷ xs) (sym (ap (λ (e : Ends). e.first) found ∙ l.0)) };
+    }
 
   module _ (blank : E) (none : e.first ≡ no_cell) where
     is_none : queue_of blank cells next ends queue ≡ []

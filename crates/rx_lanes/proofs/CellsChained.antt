@@ -69,7 +69,8 @@ walk_none zero next = refl
 walk_none (suc steps) next = ap (λ b. cond b [] (no_cell ∷ walk steps next (next_at next no_cell))) (eq_self no_cell)
 
 -- a walk finds the cells that are led over
-pub walk_is : (steps : ℕ) (next : List ℕ) (first : ℕ) (xs : List ℕ) → length next ≤ 536870912 → length xs ≤ steps → Leads next first xs → walk steps next first ≡ xs
+pub walk_is : (steps : ℕ) (next : List ℕ) (first : ℕ) (xs : List ℕ) → length next ≤ 536870912 → length xs ≤ steps → Leads next first xs →
+    walk steps next first ≡ xs
 walk_is steps next first [] few fits l = ap (walk steps next) l ∙ walk_none steps next
 walk_is zero next first (x ∷ xs) few fits l = absurd (omega (arith, fits))
 walk_is (suc steps) next first (x ∷ xs) few fits l =
@@ -101,7 +102,8 @@ pub record IsFirstOf (next : List ℕ) (first : Option ℕ → ℕ) (lists : Opt
   pub chained : AreChained next first lists
   pub is : lists from ≡ cell ∷ cs
 
-module _ {next : List ℕ} {first : Option ℕ → ℕ} {lists : Option ℕ → List ℕ} {from : Option ℕ} {cell : ℕ} {cs : List ℕ} (f : IsFirstOf next first lists from cell cs) where
+module _ {next : List ℕ} {first : Option ℕ → ℕ} {lists : Option ℕ → List ℕ} {from : Option ℕ} {cell : ℕ} {cs : List ℕ}
+    (f : IsFirstOf next first lists from cell cs) where
   pub led : (first from ≡ cell) × (cell < length next) × Leads next (next_at next cell) cs
   led = subst (Leads next (first from)) f.is (f.chained.leads from)
 
@@ -124,7 +126,8 @@ module _ {next : List ℕ} {first : Option ℕ → ℕ} {lists : Option ℕ → 
   pub on_none : (e : Option ℕ) → is_in cell (with_list from cs lists e) ≡ false
   on_none e = by_list (λ b. is_in cell (cond b cs (lists e)) ≡ false) from e (λ same. rest_apart.0) (elsewhere e)
 
-  pub taken_off : (first' : Option ℕ → ℕ) → ((e : Option ℕ) → first' e ≡ cond (is_list from e) (next_at next cell) (first e)) → AreChained next first' (with_list from cs lists)
+  pub taken_off : (first' : Option ℕ → ℕ) → ((e : Option ℕ) → first' e ≡ cond (is_list from e) (next_at next cell) (first e)) →
+      AreChained next first' (with_list from cs lists)
   taken_off first' is = record {
     leads = λ e. subst (λ n. Leads next n (with_list from cs lists e)) (sym (is e))
         (by_list (λ b. Leads next (cond b (next_at next cell) (first e)) (cond b cs (lists e))) from e (λ same. led.2) (λ apart. f.chained.leads e));
@@ -149,29 +152,35 @@ module _ {next : List ℕ} {first : Option ℕ → ℕ} {lists : Option ℕ → 
       of same i (inl it) = inl (it, same)
       of same i (inr other) = inr (other, subst (λ z. is_in m (lists z) ≡ true) same (sym (holds m other) ∙ i))
 
-  put_on : (next' : List ℕ) (first' : Option ℕ → ℕ) → length next ≤ length next' → ((e : Option ℕ) (m : ℕ) → to ≢ e → is_in m (lists e) ≡ true → next_at next' m ≡ next_at next m) →
+  put_on : (next' : List ℕ) (first' : Option ℕ → ℕ) → length next ≤ length next' →
+      ((e : Option ℕ) (m : ℕ) → to ≢ e → is_in m (lists e) ≡ true → next_at next' m ≡ next_at next m) →
       ((e : Option ℕ) → to ≢ e → first' e ≡ first e) → Leads next' (first' to) ys → AreChained next' first' (with_list to ys lists)
   put_on next' first' longer same stays leads = record {
     leads = λ e. by_list (λ b. Leads next' (first' e) (cond b ys (lists e))) to e
         (λ it. subst (λ z. Leads next' (first' z) ys) it leads)
-        (λ other. subst (λ n. Leads next' n (lists e)) (sym (stays e other)) (leads_same next next' (first e) (lists e) longer (λ m below. same e m other) (c.chained.leads e)));
+        (λ other. subst (λ n. Leads next' n (lists e)) (sym (stays e other))
+        (leads_same next next' (first e) (lists e) longer (λ m below. same e m other) (c.chained.leads e)));
     apart = λ e. by_list (λ b. AreApart (cond b ys (lists e))) to e (λ it. apart) (λ other. c.chained.apart e);
     once = λ e g m i j. of e g m (came e m i) (came g m j);
   } where
-    of : (e g : Option ℕ) (m : ℕ) → (((m ≡ cell) × (to ≡ e)) ⊎ ((m ≢ cell) × (is_in m (lists e) ≡ true))) → (((m ≡ cell) × (to ≡ g)) ⊎ ((m ≢ cell) × (is_in m (lists g) ≡ true))) → e ≡ g
+    of : (e g : Option ℕ) (m : ℕ) → (((m ≡ cell) × (to ≡ e)) ⊎ ((m ≢ cell) × (is_in m (lists e) ≡ true))) →
+        (((m ≡ cell) × (to ≡ g)) ⊎ ((m ≢ cell) × (is_in m (lists g) ≡ true))) → e ≡ g
     of e g m (inl p) (inl q) = sym p.1 ∙ q.1
     of e g m (inl p) (inr q) = absurd (q.0 p.0)
     of e g m (inr p) (inl q) = absurd (p.0 q.0)
     of e g m (inr p) (inr q) = c.chained.once e g m p.1 q.1
 
-module _ {next : List ℕ} {first : Option ℕ → ℕ} {lists : Option ℕ → List ℕ} {cell : ℕ} (c : IsLoose next first lists cell) (to : Option ℕ) (next' : List ℕ) (first' : Option ℕ → ℕ)
+module _ {next : List ℕ} {first : Option ℕ → ℕ} {lists : Option ℕ → List ℕ} {cell : ℕ} (c : IsLoose next first lists cell) (to : Option ℕ)
+    (next' : List ℕ) (first' : Option ℕ → ℕ)
     (as_many : length next' ≡ length next) (stays : (e : Option ℕ) → to ≢ e → first' e ≡ first e) where
   pub put_first : next_at next' cell ≡ first to → ((m : ℕ) → m ≢ cell → next_at next' m ≡ next_at next m) → first' to ≡ cell →
       AreChained next' first' (with_list to (cell ∷ lists to) lists)
   put_first leads_on same now =
-      let kept : (e : Option ℕ) (m : ℕ) → is_in m (lists e) ≡ true → next_at next' m ≡ next_at next m = λ e m i. same m (unlike m cell (lists e) i (c.none e)) in
+      let kept : (e : Option ℕ) (m : ℕ) → is_in m (lists e) ≡ true → next_at next' m ≡
+      next_at next m = λ e m i. same m (unlike m cell (lists e) i (c.none e)) in
       let within = c.within in
-      put_on c to (cell ∷ lists to) (c.none to, c.chained.apart to) (λ m other. on_rest m cell (lists to) other) next' first' (omega (arith, as_many)) (λ e m other. kept e m) stays (
+      put_on c to (cell ∷ lists to) (c.none to, c.chained.apart to) (λ m other. on_rest m cell (lists to) other) next' first' (omega (arith, as_many))
+      (λ e m other. kept e m) stays (
         now,
         omega (arith, within, as_many),
         subst (λ n. Leads next' n (lists to)) (sym leads_on)
@@ -179,7 +188,8 @@ module _ {next : List ℕ} {first : Option ℕ → ℕ} {lists : Option ℕ → 
       )
 
   -- the last of a list leads to it
-  leads_last : (l f x : ℕ) (xs : List ℕ) → EndsIn l (x ∷ xs) → AreApart (x ∷ xs) → is_in cell (x ∷ xs) ≡ false → next_at next' l ≡ cell → next_at next' cell ≡ no_cell →
+  leads_last : (l f x : ℕ) (xs : List ℕ) → EndsIn l (x ∷ xs) → AreApart (x ∷ xs) → is_in cell (x ∷ xs) ≡ false → next_at next' l ≡ cell →
+      next_at next' cell ≡ no_cell →
       ((m : ℕ) → m ≢ cell → m ≢ l → next_at next' m ≡ next_at next m) → Leads next f (x ∷ xs) → Leads next' f ((x ∷ xs) ++ cell ∷ [])
   leads_last l f x [] ends apart none leads_on leads_off same leads =
       let below = leads.1 in
@@ -192,15 +202,20 @@ module _ {next : List ℕ} {first : Option ℕ → ℕ} {lists : Option ℕ → 
         leads.0,
         omega (arith, below, as_many),
         subst (λ n. Leads next' n ((y ∷ xs) ++ cell ∷ [])) (sym (same x not_cell not_last))
-            (leads_last l (next_at next x) y xs ends apart.1 (sym (on_rest cell x (y ∷ xs) (λ e. not_cell (sym e))) ∙ none) leads_on leads_off same leads.2),
+            (leads_last l (next_at next x) y xs ends apart.1 (sym (on_rest cell x (y ∷ xs) (λ e. not_cell (sym e))) ∙ none) leads_on leads_off same
+            leads.2),
       )
 
   pub put_last : (l x : ℕ) (xs : List ℕ) → lists to ≡ x ∷ xs → EndsIn l (lists to) → next_at next' l ≡ cell → next_at next' cell ≡ no_cell →
-      ((m : ℕ) → m ≢ cell → m ≢ l → next_at next' m ≡ next_at next m) → first' to ≡ first to → AreChained next' first' (with_list to (lists to ++ cell ∷ []) lists)
+      ((m : ℕ) → m ≢ cell → m ≢ l → next_at next' m ≡ next_at next m) → first' to ≡ first to →
+      AreChained next' first' (with_list to (lists to ++ cell ∷ []) lists)
   put_last l x xs is ends leads_on leads_off same begins =
       let on : is_in l (lists to) ≡ true = ap (is_in l) is ∙ ends_on l x xs (subst (EndsIn l) is ends) in
-      put_on c to (lists to ++ cell ∷ []) (AreApart-last cell (lists to) (c.chained.apart to) (c.none to)) (λ m other. is_in-last m cell (lists to) other) next' first' (omega (arith, as_many))
-      (λ e m other i. same m (unlike m cell (lists e) i (c.none e)) (λ it. other (c.chained.once to e m (subst (λ z. is_in z (lists to) ≡ true) (sym it) on) i))) stays
+      put_on c to (lists to ++ cell ∷ []) (AreApart-last cell (lists to) (c.chained.apart to) (c.none to))
+      (λ m other. is_in-last m cell (lists to) other) next' first' (omega (arith, as_many))
+      (λ e m other i. same m (unlike m cell (lists e) i (c.none e))
+      (λ it. other (c.chained.once to e m (subst (λ z. is_in z (lists to) ≡ true) (sym it) on) i))) stays
       (subst (λ n. Leads next' n (lists to ++ cell ∷ [])) (sym begins) (subst (λ ys. Leads next' (first to) (ys ++ cell ∷ [])) (sym is)
-      (leads_last l (first to) x xs (subst (EndsIn l) is ends) (subst AreApart is (c.chained.apart to)) (ap (is_in cell) (sym is) ∙ c.none to) leads_on leads_off same
+      (leads_last l (first to) x xs (subst (EndsIn l) is ends) (subst AreApart is (c.chained.apart to)) (ap (is_in cell) (sym is) ∙ c.none to)
+      leads_on leads_off same
       (subst (Leads next (first to)) is (c.chained.leads to)))))

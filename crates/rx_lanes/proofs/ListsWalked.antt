@@ -23,7 +23,8 @@ pub record WalksTo (next : List ℕ) (cell many sum : ℕ) : Type 0 where
 abbrev pub to_go : List ℕ → ℕ → ℕ
 to_go next cell = length (walk (length next) next cell)
 
-pub walk_starts : {E : Type 0} (blank : E) {cells : List E} {next : List ℕ} {ends : List Ends} {free spare : ℕ} (are : AreCells cells next ends free spare) (queue so_far : ℕ) → so_far < 2 ^ 64 →
+pub walk_starts : {E : Type 0} (blank : E) {cells : List E} {next : List ℕ} {ends : List Ends} {free spare : ℕ}
+    (are : AreCells cells next ends free spare) (queue so_far : ℕ) → so_far < 2 ^ 64 →
     WalksTo next (ends_at ends queue).first so_far (so_far + length (queue_of blank cells next ends queue))
 walk_starts {E} blank {cells} {next} {ends} are queue so_far small = record {
   rest = are.lists (Some queue);
@@ -59,7 +60,8 @@ step_of {next} {cell} {many} {sum} w some = of w.rest w.leads w.fits w.sum_is wh
 pub walk_within : {next : List ℕ} {cell many sum : ℕ} → WalksTo next cell many sum → cell ≢ no_cell → cell < length next
 walk_within w some = (step_of w some).within
 
-pub walk_steps : {next : List ℕ} {cell many sum : ℕ} (many' : ℕ) → WalksTo next cell many sum → cell ≢ no_cell → many' ≡ at_most_all (many + 1) → WalksTo next (next_at next cell) many' sum
+pub walk_steps : {next : List ℕ} {cell many sum : ℕ} (many' : ℕ) → WalksTo next cell many sum → cell ≢ no_cell → many' ≡ at_most_all (many + 1) →
+    WalksTo next (next_at next cell) many' sum
 walk_steps {next} {cell} {many} many' w some more =
     let s = step_of w some in
     let f = s.fits in
@@ -71,7 +73,8 @@ walk_steps {next} {cell} {many} many' w some more =
       sum_is = ap (λ n. at_most_all (n + length s.cs)) more ∙ capped (many + 1) (length s.cs) ∙ ap at_most_all (omega arith) ∙ s.sum_is;
     }
 
-pub walk_shorter : {next : List ℕ} {cell many sum : ℕ} → length next ≤ 536870912 → WalksTo next cell many sum → cell ≢ no_cell → to_go next (next_at next cell) < to_go next cell
+pub walk_shorter : {next : List ℕ} {cell many sum : ℕ} → length next ≤ 536870912 → WalksTo next cell many sum → cell ≢ no_cell →
+    to_go next (next_at next cell) < to_go next cell
 walk_shorter {next} {cell} few w some =
     let s = step_of w some in
     let f = s.fits in

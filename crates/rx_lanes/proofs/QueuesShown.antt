@@ -15,7 +15,8 @@ at_set ends queue e q within = by_place (λ b. ends_at (set ends queue e) q ≡ 
     (λ apart. get_or-set_other ends queue q e _ (λ s. apart (sym s)))
 
 module _ {E : Type 0} where
-  shows_ends : (f : Ends → List E) → f (record { first = no_cell; last = no_cell }) ≡ [] → (ends : List Ends) (q : ℕ) → get_or (map f ends) q [] ≡ f (ends_at ends q)
+  shows_ends : (f : Ends → List E) → f (record { first = no_cell; last = no_cell }) ≡ [] → (ends : List Ends) (q : ℕ) → get_or (map f ends) q [] ≡
+      f (ends_at ends q)
   shows_ends f none [] q = sym none
   shows_ends f none (x ∷ xs) zero = refl
   shows_ends f none (x ∷ xs) (suc q) = shows_ends f none xs q
@@ -76,4 +77,5 @@ module _ {E : Type 0} where
 pub shows_added : {E : Type 0} (blank : E) (cells : List E) (next : List ℕ) (ends : List Ends) →
     map (queue_in blank cells next) (ends ++ record { first = no_cell; last = no_cell } ∷ []) ≡ map (queue_in blank cells next) ends ++ [] ∷ []
 shows_added blank cells next ends =
-    map_push (queue_in blank cells next) ends _ ∙ ap (λ xs. map (queue_in blank cells next) ends ++ read_all blank cells xs ∷ []) (walk_none (length next) next)
+    map_push (queue_in blank cells next) ends _ ∙
+    ap (λ xs. map (queue_in blank cells next) ends ++ read_all blank cells xs ∷ []) (walk_none (length next) next)

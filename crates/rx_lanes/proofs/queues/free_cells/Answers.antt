@@ -11,7 +11,8 @@ loop-cell-preserved c =
     let many = length-append c.loop-cell.next.items (c.loop-cell.last ∷ []) in
     record {
       frees = subst (λ (xs : List ℕ). Frees c.args.next.now.items xs c.args.free c.loop-cell.cell) (sym items)
-          (subst (Frees c.args.next.now.items (c.loop-cell.next.items ++ c.loop-cell.last ∷ []) c.args.free) so_far (frees_more c.loop-cell.next.items c.loop-cell.last i.frees));
+          (subst (Frees c.args.next.now.items (c.loop-cell.next.items ++ c.loop-cell.last ∷ []) c.args.free) so_far
+          (frees_more c.loop-cell.next.items c.loop-cell.last i.frees));
       so_far = ap length items ∙ many ∙ ap (λ n. n + 1) so_far;
       capacity = c.push_reserved.ensures.capacity ∙ i.capacity;
     }
