@@ -1,11 +1,11 @@
 -- What is handed out is the first of the first lane that is due; and what holds where one lane alone is.
-use Rattle.std.proofs.Common.{◌≡◌, ℕ, List, [], ◌∷◌, Option, Some, None, true, false, slice_get, refl, ap, ◌∙◌, subst, true≢false}
+use Rattle.std.proofs.Common.{◌≡◌, ℕ, List, [], ◌∷◌, Option, Some, None, true, false, slice_get, refl, ap, sym, ◌∙◌, subst, true≢false}
 use Rattle.std.proofs.lemmas.Option.{same_Some}
 use Rattle.rx_lanes.specs.declared.names.Due.{Due}
 use Rattle.std.proofs.Math.Bool.{not}
 use Rattle.rx_lanes.specs.declared.names.LaneName.{LaneName}
 use Rattle.rx_lanes.specs.Lane.{Lane, is_empty, is_idle, claimed}
-use Rattle.rx_lanes.specs.State.{State, lane, Turns}
+use Rattle.rx_lanes.specs.State.{State, lane, Turns, due_of}
 use Rattle.rx_lanes.specs.Handings.{ClaimsAlone, IsGiven, IsDueGiven}
 
 pub none_of : (xs : List ℕ) → not (is_empty xs) ≡ false → xs ≡ []
@@ -13,6 +13,11 @@ none_of [] e = refl
 none_of (x ∷ xs) e = absurd (true≢false e)
 
 module _ {E : Type 0} where
+  -- where no lane got something, none is due
+  pub settles_none : (by : ℕ) (s : State E) {due : List Due} → s.fresh ≡ [] → due ≡ [] →
+      record s { due = due } ≡ record s { fresh = []; due = due_of by s.places s.fresh }
+  settles_none by s fresh due = λ i. record s { fresh = fresh i; due = (due ∙ sym (ap (due_of by s.places) fresh)) i }
+
   pub due_some : (ds : List Due) (d : Due) (by : ℕ) (s t : State E) (answer : Option E) → Some d ≡ slice_get ds 0 →
       IsGiven d.lane d.inside by s t answer → IsDueGiven ds by s t answer
   due_some [] d by s t answer is given = absurd (cc)
