@@ -1,5 +1,6 @@
 pub mod MailLeft
 pub mod Laws
+pub mod NothingToDo
 pub mod NamedLanes
 pub mod LanesServed
 pub mod HomesLeft

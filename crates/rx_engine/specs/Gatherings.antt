@@ -1,5 +1,5 @@
 -- The two steps of a settling: what a call of the book came to becomes effects, and these go into their lanes.
-use Rattle.std.specs.Prelude.{◌≡◌, ℕ, ◌+◌, ◌≤◌, length, []}
+use Rattle.std.specs.Prelude.{◌≡◌, ℕ, ◌+◌, ◌≤◌, ◌++◌, List, length, []}
 use Rattle.rx_resource.specs.declared.Resource.{Ghosts}
 use Rattle.rx_resource.specs.declared.token.Token.{Token}
 use Rattle.rx_book.specs.State.{State as BookState}
@@ -7,7 +7,7 @@ use Rattle.rx_lanes.specs.declared.names.LaneName.{LaneName}
 use Rattle.rx_lanes.specs.State.{State as LanesState}
 use Rattle.rx_roles.specs.declared.effect.Effect.{Effect}
 use Rattle.rx_roles.specs.Roles.{without_all}
-use Rattle.rx_roles.specs.Effects.{after_all, copies_in, lasts_at}
+use Rattle.rx_roles.specs.Effects.{after_all, all_last, copies_in, lasts_at, names_of}
 use Rattle.rx_pool.specs.Moves.{left_all}
 use Rattle.rx_shares.specs.Places.{places_left}
 use Rattle.rx_engine.specs.declared.parts.Parts.{Parts}
@@ -27,6 +27,22 @@ pub record Gathers (g : Ghosts Token) (by value : ℕ) (mid : BookState) (p : Pa
   pub none_waits : t.waiting ≡ []
   pub base : t.base ≡ mid.base
   pub limit : t.limit ≡ mid.limit
+
+-- the nodes of these numbers left their lanes and their hubs, and their roles ended, one node after another
+pub record Ends (by : ℕ) (closed : List ℕ) (p q : Parts) : Type 0 where
+  pub homes : q.homes.list ≡ without_all p.homes.list closed
+  pub leaves : Leaves p.lanes (taken_out p.homes.list closed) q.lanes
+  pub many : (name : LaneName) → many_at q.lanes name + names_of name p.homes.list ≡ many_at p.lanes name + names_of
+      name q.homes.list
+  pub spare : q.lanes.spare ≡ p.lanes.spare
+  pub shares : q.shares.list ≡ without_all p.shares.list closed
+  pub hubs : q.shares.hubs ≡ left_all (places_left p.shares.list closed) p.shares.hubs
+  pub hears : q.hears.list ≡ without_all p.hears.list closed
+  pub merges : q.merges.list ≡ without_all p.merges.list closed
+  pub effects : q.effects.list ≡ p.effects.list ++ all_last by p.hears.list p.merges.list closed
+  pub room : p.effects.room + (length q.hears.list + length q.merges.list) ≤ q.effects.room +
+      (length p.hears.list + length p.merges.list)
+  pub holds : q.holds ≡ p.holds
 
 -- they are in their lanes, in order, and those that got something are due
 pub record Spreads (by : ℕ) (p q : Parts) : Type 0 where

@@ -1,12 +1,14 @@
 //! What a call of the book leaves to be done.
 
-ghost use Rattle.std.specs.Prelude.{◌≡◌, ◌==◌, IsSome, length, true};
-ghost use Rattle.rx_roles.specs.Effects.{items_in};
+ghost use Rattle.std.specs.Prelude.{◌≡◌, ◌==◌, ◌+◌, ◌≤◌, IsSome, length, true};
+ghost use Rattle.rx_lanes.specs.declared.names.LaneName.{LaneName};
+ghost use Rattle.rx_roles.specs.Effects.{items_in, names_of};
+ghost use Rattle.rx_engine.specs.Deliveries.{many_at};
 ghost use Rattle.rx_engine.specs.Rooms.{IsReady};
 ghost use Rattle.rx_pool.specs.Moves.{MayLeaveAll};
 ghost use Rattle.rx_shares.specs.Places.{places_left};
 ghost use Rattle.rx_engine.specs.Settlements.{mail_left, closed_of, Settles, KeepsKeys};
-ghost use Rattle.rx_engine.specs.Gatherings.{Gathers, Spreads, IsLoaded};
+ghost use Rattle.rx_engine.specs.Gatherings.{Gathers, Ends, Spreads, IsLoaded};
 ghost use Rattle.rx_engine.specs.Closings.{Closes};
 ghost use Rattle.rx_engine.specs.Handings.{ClaimsIf, GivesIf, SpreadsAndHands};
 ghost use Rattle.rx_engine.specs.Servings.{is_one};
@@ -20,8 +22,46 @@ use rx_book::{Book, Resource};
 use rx_resource::Token;
 use rx_roles::Effect;
 
+// What the last call closed ends its wishes, leaves its hub and its lane, and ends its other roles.
+#[inline(never)]
+fn close_some(book: &Book<Token>, parts: &mut Parts, wishes: &mut Wishes, by: u64)
+    requires hubs { MayLeaveAll (places_left parts.old.shares.list (closed_of book.now)) parts.old.shares.hubs }
+    requires named { (name : LaneName) → names_of name parts.old.homes.list ≤ many_at parts.old.lanes name }
+    requires room { length parts.old.hears.list + length parts.old.merges.list ≤ parts.old.effects.room }
+    ensures ends { Ends by (closed_of book.now) parts.old parts.new }
+    ensures closes { Closes book.now wishes.old.roles.list wishes.new }
+{
+    wishes.close(book);
+    leave_hubs(book, &mut parts.shares);
+    leave_homes(book, &mut parts.homes, &mut parts.lanes);
+    end_closed(
+        book,
+        &mut parts.hears,
+        &mut parts.merges,
+        &mut parts.effects,
+        by,
+    );
+}
+
+// The same, where one look tells that nothing was closed.
+#[inline(always)]
+fn close_nodes(book: &Book<Token>, parts: &mut Parts, wishes: &mut Wishes, by: u64)
+    requires hubs { MayLeaveAll (places_left parts.old.shares.list (closed_of book.now)) parts.old.shares.hubs }
+    requires named { (name : LaneName) → names_of name parts.old.homes.list ≤ many_at parts.old.lanes name }
+    requires room { length parts.old.hears.list + length parts.old.merges.list ≤ parts.old.effects.room }
+    ensures ends { Ends by (closed_of book.now) parts.old parts.new }
+    ensures closes { Closes book.now wishes.old.roles.list wishes.new }
+{
+    if book.closed_count() > 0 {
+        close_some(book, parts, wishes, by);
+    } else {
+        wishes.close_none();
+    }
+}
+
 /// What a call of the book told, closed and set free becomes effects, and what it closed leaves its lane and its
 /// hub. It takes no memory.
+#[inline(always)]
 pub(crate) fn gather(
     book: &mut Book<Token>,
     parts: &mut Parts,
@@ -36,9 +76,6 @@ pub(crate) fn gather(
     ensures loaded { IsLoaded parts.new }
     ensures keys { KeepsKeys book.old book.new }
 {
-    wishes.close(book);
-    leave_hubs(book, &mut parts.shares);
-    leave_homes(book, &mut parts.homes, &mut parts.lanes);
     tell(
         book,
         &mut parts.hears,
@@ -47,17 +84,12 @@ pub(crate) fn gather(
         by,
         value,
     );
-    end_closed(
-        book,
-        &mut parts.hears,
-        &mut parts.merges,
-        &mut parts.effects,
-        by,
-    );
+    close_nodes(book, parts, wishes, by);
     set_free(book, &mut parts.holds, &mut parts.effects, by);
 }
 
 // All effects go into their lanes, and those that got something are due.
+#[inline(always)]
 fn spread(parts: &mut Parts, by: u64)
     requires { IsLoaded parts.old }
     ensures spreads { Spreads by parts.old parts.new }
@@ -68,6 +100,7 @@ fn spread(parts: &mut Parts, by: u64)
 }
 
 /// Does all that a call of the book leaves to be done. It takes no memory.
+#[inline(always)]
 pub(crate) fn settle(
     book: &mut Book<Token>,
     parts: &mut Parts,

@@ -10,6 +10,7 @@ use rx_resource::Token;
 use rx_roles::{Effects, Roles, What, end_one, put_for, tell_one};
 
 /// Tells all notes that are still to be handed out.
+#[inline(always)]
 pub(crate) fn tell(
     book: &mut Book<Token>,
     hears: &mut Roles,
@@ -56,8 +57,9 @@ pub(crate) fn end_closed(
     }
 }
 
-/// Takes all resources that wait, and puts their releases.
-pub(crate) fn set_free(book: &mut Book<Token>, holds: &mut Roles, effects: &mut Effects, by: u64)
+// Takes all resources that wait, and puts their releases.
+#[inline(never)]
+fn set_some_free(book: &mut Book<Token>, holds: &mut Roles, effects: &mut Effects, by: u64)
     requires room { length holds.old.list ≤ effects.old.room }
     ensures releases { Releases ⟦<Token as Resource>⟧ by book.old holds.old.list effects.old.list
         book.new holds.new.list effects.new.list }
@@ -75,4 +77,23 @@ pub(crate) fn set_free(book: &mut Book<Token>, holds: &mut Roles, effects: &mut 
         put_for(effects, by, 0, What::Release, role);
         book.promise();
     }
+}
+
+/// The same, where one look tells that none waits.
+#[inline(always)]
+pub(crate) fn set_free(book: &mut Book<Token>, holds: &mut Roles, effects: &mut Effects, by: u64)
+    requires room { length holds.old.list ≤ effects.old.room }
+    ensures releases { Releases ⟦<Token as Resource>⟧ by book.old holds.old.list effects.old.list
+        book.new holds.new.list effects.new.list }
+    ensures none_waits { book.new.waiting ≡ [] }
+    ensures keys { KeepsKeys book.old book.new }
+    ensures base { book.new.base ≡ book.old.base }
+    ensures limit { book.new.limit ≡ book.old.limit }
+    ensures room { effects.old.room + length holds.new.list ≤ effects.new.room + length holds.old.list }
+{
+    book.promise();
+    if book.waiting() == 0 {
+        return;
+    }
+    set_some_free(book, holds, effects, by);
 }

@@ -3,7 +3,7 @@ use Rattle.std.proofs.Common.{◌≡◌, ◌≤◌, ◌+◌, length}
 use Rattle.rx_resource.specs.contracts.token.TokenResource.TheImpl.{ghosts}
 use Rattle.rx_book.specs.State.{IsPromised}
 use Rattle.rx_engine.specs.Settlements.{Releases, KeepsKeys}
-use Rattle.rx_engine.proofs.telling.set_free.Given as goal
+use Rattle.rx_engine.proofs.telling.set_some_free.Given as goal
 
 abbrev pub invariant-loop-handed : goal.invariant-loop-handed
 invariant-loop-handed l = record {
