@@ -75,10 +75,13 @@ table_found lanes roles few n name is = by_role (role_of roles n) refl is where
       let found = found_lane lanes r.lane (let some = role_named roles n r there in let f = few r.lane in omega (arith, some, f)) in
       subst (λ (x : LaneName). IsSome (lane lanes x)) (same_Some r.lane name is) (subst (λ (o : Option (Lane Effect)). IsSome o) (sym found.1) refl)
 
+pub home_found : (s : State) → IsTied s → (n : ℕ) (name : LaneName) → lane_in s.parts.homes.list n ≡ Some name → IsSome (lane s.parts.lanes name)
+home_found s tied n name is = table_found s.parts.lanes s.parts.homes.list (λ other. (let many = tied.ready.many other in omega (arith, many))) n name is
+
 pub lane_found : (s : State) → IsTied s → (of : LaneOf) (name : LaneName) → lane_of s of ≡ Some name → IsSome (lane s.parts.lanes name)
 lane_found s tied (Node k) name is = by_key (has_key s.book.keys k) is where
   by_key : (b : Bool) → (if b then lane_in s.parts.homes.list k.number else None) ≡ Some name → IsSome (lane s.parts.lanes name)
-  by_key true is = table_found s.parts.lanes s.parts.homes.list (λ other. (let many = tied.ready.many other in omega (arith, many))) k.number name is
+  by_key true is = home_found s tied k.number name is
   by_key false is = absurd (cc)
 lane_found s tied (Projections k) name is = by_key (has_key s.book.keys k) is where
   by_key : (b : Bool) → (if b then lane_in s.parts.merges.list k.number else None) ≡ Some name → IsSome (lane s.parts.lanes name)
@@ -98,6 +101,15 @@ housed_home false x y is = absurd (cc)
 pub not_housed : (b : Bool) (y : Home) → ◌≡◌ {A = Option Home} None (if b then Some y else None) → b ≡ false
 not_housed true y is = absurd (cc)
 not_housed false y is = refl
+
+-- below an open node
+abbrev home_with : Option LaneName → ℕ → Home
+home_with at limit = record { lane = at; limit = limit }
+
+pub below_housed : (b : Bool) (at : Option LaneName) (limit : ℕ) → ◌≡◌ {A = Option Home} (if b then Some (home_with at limit) else None)
+    (if b then Some (home_with (if b then at else None) limit) else None)
+below_housed true at limit = refl
+below_housed false at limit = refl
 
 -- requests -------------------------------------------------------------------------------------------
 

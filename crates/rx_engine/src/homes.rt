@@ -3,10 +3,11 @@
 ghost use Rattle.std.specs.Prelude.{◌≡◌, Some, None, IsSome, is_some, IfSome, if◌then◌else◌};
 ghost use Rattle.rx_lanes.specs.declared.names.LaneName.{LaneName};
 ghost use Rattle.rx_lanes.specs.State.{lane};
-ghost use Rattle.rx_engine.specs.Homes.{lane_in, limit_in, limit_at, lane_of, is_there, whose, is_housed, home_of};
+ghost use Rattle.rx_book.specs.State.{has_key};
+ghost use Rattle.rx_book.specs.declared.answer.At.TheVariants.{Root};
+ghost use Rattle.rx_engine.specs.Homes.{lane_in, limit_in, lane_of, is_there, whose, is_housed, home_of};
 
 use crate::engine::Engine;
-use crate::parts::Parts;
 use rx_book::{At, Key};
 use rx_lanes::LaneName;
 use rx_roles::Roles;
@@ -32,18 +33,6 @@ pub struct Home {
     pub limit: u64,
 }
 
-// Whose lane a node has that is opened there, where it is not a new one.
-fn whose(at: At, asked: Option<LaneOf>) -> Option<LaneOf>
-    ensures { result ≡ whose at asked }
-{
-    match at {
-        At::Root => asked,
-        At::Source(key) => Some(LaneOf::Node(key)),
-        At::Inner(key) => Some(LaneOf::Node(key)),
-        At::Notifier(key) => Some(LaneOf::Node(key)),
-    }
-}
-
 // The lane of the role of this number, where its node is open.
 fn lane_if(is_open: bool, roles: &Roles, number: u64) -> Option<LaneName>
     ensures { result ≡ (if is_open then lane_in roles.now.list number else None) }
@@ -57,27 +46,20 @@ fn lane_if(is_open: bool, roles: &Roles, number: u64) -> Option<LaneName>
     }
 }
 
-// The limit of the home of this number.
-fn limit_in(homes: &Roles, number: u64) -> u64
-    ensures { result ≡ limit_in homes.now.list number }
+// What a node gets that is opened below the node of this number.
+#[inline(always)]
+fn home_in(homes: &Roles, number: u64) -> Home
+    ensures { result ≡ record { lane = lane_in homes.now.list number; limit = limit_in homes.now.list number } }
 {
     match homes.get(number) {
-        Some(home) => home.word,
-        None => NO_LIMIT,
-    }
-}
-
-impl Parts {
-    // The limit of a node that is opened there.
-    fn limit_at(&self, at: At) -> u64
-        ensures { result ≡ limit_at self.now at }
-    {
-        match at {
-            At::Root => NO_LIMIT,
-            At::Source(key) => limit_in(&self.homes, key.number),
-            At::Inner(key) => limit_in(&self.homes, key.number),
-            At::Notifier(key) => limit_in(&self.homes, key.number),
-        }
+        Some(home) => Home {
+            lane: Some(home.lane),
+            limit: home.word,
+        },
+        None => Home {
+            lane: None,
+            limit: NO_LIMIT,
+        },
     }
 }
 
@@ -105,15 +87,32 @@ impl Engine {
         self.find_lane(of)
     }
 
-    /// What a node gets that is opened there; none where the node is not there whose lane it would have.
-    pub(crate) fn home_of(&self, at: At, asked: Option<LaneOf>) -> Option<Home>
-        ensures home { result ≡
-            (if is_housed self.now.book (whose at asked) then Some (home_of self.now at asked) else None) }
+    // What a node gets that is opened below this one; none where that is not open.
+    #[inline(always)]
+    fn home_below(&self, above: Key) -> Option<Home>
+        ensures home { result ≡ (if has_key self.now.book.keys above then Some (record {
+          lane = lane_in self.now.parts.homes.list above.number;
+          limit = limit_in self.now.parts.homes.list above.number;
+        }) else None) }
         ensures found { IfSome result
             (λ h. (name : LaneName) → h.lane ≡ Some name → IsSome (lane self.now.parts.lanes name)) }
     {
-        let limit = self.parts.limit_at(at);
-        match whose(at, asked) {
+        if self.book.is_open(above) {
+            Some(home_in(&self.parts.homes, above.number))
+        } else {
+            None
+        }
+    }
+
+    // What a root gets, with a new lane or that which is asked for.
+    fn root_home(&self, asked: Option<LaneOf>) -> Option<Home>
+        ensures home { result ≡
+            (if is_housed self.now.book asked then Some (home_of self.now Root asked) else None) }
+        ensures found { IfSome result
+            (λ h. (name : LaneName) → h.lane ≡ Some name → IsSome (lane self.now.parts.lanes name)) }
+    {
+        let limit = NO_LIMIT;
+        match asked {
             Some(of) => match self.lane_of(of) {
                 Some(name) => Some(Home {
                     lane: Some(name),
@@ -122,6 +121,21 @@ impl Engine {
                 None => None,
             },
             None => Some(Home { lane: None, limit }),
+        }
+    }
+
+    /// What a node gets that is opened there; none where the node is not there whose lane it would have.
+    pub(crate) fn home_of(&self, at: At, asked: Option<LaneOf>) -> Option<Home>
+        ensures home { result ≡
+            (if is_housed self.now.book (whose at asked) then Some (home_of self.now at asked) else None) }
+        ensures found { IfSome result
+            (λ h. (name : LaneName) → h.lane ≡ Some name → IsSome (lane self.now.parts.lanes name)) }
+    {
+        match at {
+            At::Root => self.root_home(asked),
+            At::Source(key) => self.home_below(key),
+            At::Inner(key) => self.home_below(key),
+            At::Notifier(key) => self.home_below(key),
         }
     }
 }
