@@ -8,10 +8,14 @@ use Rattle.rx_event.proofs.Laws.Resources.{is_waiting_within}
 use Rattle.rx_event.proofs.Laws.Sums.{term_in_sum}
 use Rattle.rx_ground.specs.Shown.{Label}
 use Rattle.rx_book.specs.State.{State as BookState, IsPromised}
+use Rattle.rx_lanes.specs.State.{State as LanesState}
+use Rattle.rx_roles.specs.declared.effect.Effect.{Effect}
+use Rattle.rx_roles.specs.Effects.{copies_in, lasts_at}
 use Rattle.rx_engine.specs.declared.parts.Parts.{Parts}
-use Rattle.rx_engine.specs.Deliveries.{none_left}
+use Rattle.rx_engine.specs.Deliveries.{many_at, none_left, Delivers, none_delivered, settled}
+use Rattle.rx_engine.specs.Rooms.{IsReady}
 use Rattle.rx_engine.specs.Settlements.{closed_of}
-use Rattle.rx_engine.specs.Gatherings.{Ends}
+use Rattle.rx_engine.specs.Gatherings.{Ends, Spreads, IsLoaded}
 
 pub none_of_length : {X : Type 0} (xs : List X) → length xs ≡ 0 → xs ≡ []
 none_of_length [] none = refl
@@ -42,3 +46,28 @@ nothing_ends by b p none =
       room = omega arith;
       holds = refl;
     })
+
+pub nothing_spreads : (by : ℕ) (p : Parts) (lanes : LanesState Effect) → p.effects.list ≡ [] → lanes ≡ settled by p.lanes →
+    Spreads by p (record p { lanes = lanes; copies = 0 })
+nothing_spreads by p lanes none settles = record {
+  put = p.lanes;
+  delivers = subst (λ (es : List Effect). Delivers by p.lanes es p.lanes) (sym none)
+      (none_delivered (record { lanes = λ name. refl; fresh_is = refl; next_turn = refl; due = refl }));
+  lanes = settles;
+  copies = ap copies_in (sym none);
+  only = refl;
+}
+
+pub nothing_ready : (by : ℕ) (p : Parts) (lanes : LanesState Effect) → p.effects.list ≡ [] → lanes ≡ settled by p.lanes → IsLoaded p →
+    IsReady 0 (record p { lanes = lanes; copies = 0 })
+nothing_ready by p lanes none settles loaded = record {
+  empty = none;
+  many = λ name.
+      (let had = loaded.many name in let no = ap (lasts_at name) none in
+      let same = ap (λ (x : LanesState Effect). many_at x name) settles in
+      omega (arith, had, no, same));
+  room = let had = loaded.room in omega (arith, had);
+  spare =
+      let had = loaded.spare in let same = ap (λ (x : LanesState Effect). x.spare) settles in
+      omega (arith, had, same);
+}

@@ -1,5 +1,5 @@
 -- What a call came to is put into lanes, or its only item is handed out without being put there.
-use Rattle.std.proofs.Common.{◌≡◌, ℕ, ◌+◌, ◌<◌, ◌≤◌, ◌&&◌, ◌==◌, Bool, true, false, List, [], ◌∷◌, length, Option, Some, None, refl, sym, ap, ◌∙◌, arith, subst, if◌then◌else◌}
+use Rattle.std.proofs.Common.{◌≡◌, ℕ, ◌+◌, ◌<◌, ◌≤◌, ◌&&◌, ◌==◌, Bool, true, false, List, [], ◌∷◌, length, Option, Some, None, Ok, refl, sym, ap, ◌∙◌, arith, subst, if◌then◌else◌}
 use Rattle.std.proofs.lemmas.Bool.{false≢true}
 use Rattle.std.proofs.lemmas.Option.{same_Some}
 use Rattle.rx_resource.specs.declared.Resource.{Ghosts}
@@ -15,14 +15,14 @@ use Rattle.rx_lanes.proofs.Laws.ClaimedAlone.{IsPutAndTaken, alone_is_put_and_ta
 use Rattle.rx_roles.specs.declared.effect.Effect.{Effect}
 use Rattle.rx_roles.specs.declared.effect.What.{What}
 use Rattle.rx_roles.specs.declared.effect.What.TheVariants.{Next, Project}
-use Rattle.rx_roles.specs.Effects.{is_item, is_last, is_release, carries, copies_in, lasts_at, only_item}
+use Rattle.rx_roles.specs.Effects.{Store, is_item, is_last, is_release, carries, copies_in, lasts_at, only_item}
 use Rattle.rx_engine.specs.declared.parts.Parts.{Parts}
 use Rattle.rx_engine.specs.Deliveries.{many_at, put_by, PartsIf, AreNamed, Arrives, Delivers, none_delivered, one_delivered, settled}
 use Rattle.rx_engine.specs.Rooms.{role_count, named, IsReady}
 use Rattle.rx_roles.specs.declared.roles.Role.{Role}
 use Rattle.rx_engine.specs.Settlements.{Settles, Releases, all_given, effects_told}
 use Rattle.rx_engine.specs.Gatherings.{Gathers, Spreads, IsLoaded}
-use Rattle.rx_engine.specs.Handings.{ClaimsOnly, GivesIf, SpreadsAndHands}
+use Rattle.rx_engine.specs.Handings.{ClaimsOnly, IsClaimed, GivesIf, SpreadsAndHands, IsHandedOver}
 use Rattle.rx_engine.specs.Servings.{is_one}
 use Rattle.rx_engine.proofs.NamedLanes.{delivered_many}
 use Rattle.rx_engine.proofs.LanesServed.{kept_many, taken_many, claimed_many, turns_many, served_many}
@@ -170,6 +170,18 @@ module _ {by : ℕ} {e : Effect} {p q : Parts} (c : ClaimsOnly by e p q) (loaded
     only = refl;
   }
 
+-- claimed, and then no more on its way
+pub claimed_only : {by : ℕ} {p m : Parts} (e : Effect) (effects : Store) → IsClaimed by p m → only_item m.effects.list ≡ Some e →
+    ClaimsOnly by e p (record m { effects = effects; copies = 1 })
+claimed_only {by} {p} {m} e effects claimed item =
+    let found = sym (ap (λ (x : Parts). only_item x.effects.list) claimed.only) ∙ item in
+    record {
+      item = found;
+      claims = claimed.claims e found;
+      copies = refl;
+      only = ap (λ (x : Parts). record x { effects = effects; copies = 1 }) claimed.only;
+    }
+
 -- taken --------------------------------------------------------------------------------------------------------
 
 given_many : (ds : List Due) (by : ℕ) (s t : State Effect) (answer : Option Effect) → IsDueGiven ds by s t answer → (name : LaneName) →
@@ -202,6 +214,11 @@ spread_only {by} {p} {q} none_closed is spreads ready = record {
   only = refl;
 }
 
-pub hands_where : {by : ℕ} {p q : Parts} {given : Option Effect} (none_closed : Bool) → none_closed ≡ true → SpreadsAndHands true by p q given →
-    SpreadsAndHands none_closed by p q given
-hands_where {by} {p} {q} {given} none_closed is hands = subst (λ (b : Bool). SpreadsAndHands b by p q given) (sym is) hands
+-- where one look tells whether something was closed
+pub handed_over : {by : ℕ} {p q : Parts} (none_closed is : Bool) (given : Option Effect) → none_closed ≡ is → SpreadsAndHands is by p q given →
+    IsHandedOver none_closed by p q (Ok given)
+handed_over {by} {p} {q} none_closed is given same hands = record {
+  given = given;
+  answers = refl;
+  hands = subst (λ (b : Bool). SpreadsAndHands b by p q given) (sym same) hands;
+}

@@ -1,5 +1,5 @@
 -- What is handed out at once, as by a command and the first take behind it: an item that is all that came of it.
-use Rattle.std.specs.Prelude.{◌≡◌, ◌&&◌, ℕ, Bool, true, false, pos, Option, Some, None, Result, Ok, IfOk, IfErr, OnErr}
+use Rattle.std.specs.Prelude.{◌≡◌, ◌&&◌, ℕ, Bool, true, false, pos, Option, Some, None, IsSome, Result, Ok, IfOk, IfErr, OnErr}
 use Rattle.rx_resource.specs.declared.Resource.{Ghosts}
 use Rattle.rx_resource.specs.declared.token.Token.{Token}
 use Rattle.rx_event.specs.declared.refusal.Refusal.{Refusal}
@@ -29,9 +29,12 @@ pub record ClaimsOnly (by : ℕ) (e : Effect) (p q : Parts) : Type 0 where
   pub copies : q.copies ≡ 1
   pub only : q ≡ record p { effects = q.effects; lanes = q.lanes; copies = q.copies }
 
-abbrev pub ClaimsIf : (by : ℕ) → Option Effect → Parts → Parts → Type 0
-ClaimsIf by None p q = q ≡ p
-ClaimsIf by (Some e) p q = ClaimsOnly by e p q
+-- the only effect on its way is an item, and its lane is claimed for it; nothing else changed
+pub record IsClaimed (by : ℕ) (p q : Parts) : Type 0 where
+  pub some : IsSome (only_item p.effects.list)
+  pub claims : (e : Effect) → only_item p.effects.list ≡ Some e → ClaimsAlone e.lane by p.lanes q.lanes
+  pub spare : q.lanes.spare ≡ p.lanes.spare
+  pub only : q ≡ record p { lanes = q.lanes }
 
 -- all effects are in their lanes, and then, where one item is all that there was, it is handed out
 pub record SpreadsAndHands (none_closed : Bool) (by : ℕ) (p q : Parts) (given : Option Effect) : Type 0 where
@@ -40,6 +43,12 @@ pub record SpreadsAndHands (none_closed : Bool) (by : ℕ) (p q : Parts) (given 
   pub ready : IsReady 0 between
   pub gives : GivesIf (none_closed && is_one between) by between.lanes q.lanes given
   pub only : q ≡ record between { lanes = q.lanes }
+
+-- and the command's answer is what was handed out
+pub record IsHandedOver (none_closed : Bool) (by : ℕ) (p q : Parts) (answer : Result (Option Effect) Refusal) : Type 0 where
+  pub given : Option Effect
+  pub answers : answer ≡ Ok given
+  pub hands : SpreadsAndHands none_closed by p q given
 
 -- the command was made, and then, where it came to one item, that was handed out
 pub record IsMadeAndHanded (g : Ghosts Token) (leaf : Key) (by value : ℕ) (s t : State) (given : Option Effect) : Type 0 where

@@ -39,9 +39,8 @@ fn deliver_one(lanes: &mut Lanes<Effect>, by: u64, effect: Effect)
     }
 }
 
-// Puts all effects into their lanes, in order, and counts those that carry the value.
-#[inline(never)]
-fn deliver_some(effects: &mut Effects, lanes: &mut Lanes<Effect>, by: u64) -> u64
+/// Puts all effects into their lanes, in order, and counts those that carry the value.
+pub(crate) fn deliver(effects: &mut Effects, lanes: &mut Lanes<Effect>, by: u64) -> u64
     requires named { AreNamed (many_at lanes.old) effects.old.list }
     requires spare { length effects.old.list ≤ lanes.old.spare }
     ensures delivers { Delivers by lanes.old effects.old.list lanes.new }
@@ -61,22 +60,4 @@ fn deliver_some(effects: &mut Effects, lanes: &mut Lanes<Effect>, by: u64) -> u6
     }
     effects.clear();
     copies
-}
-
-/// The same, where one look tells that there is none.
-#[inline(always)]
-pub(crate) fn deliver(effects: &mut Effects, lanes: &mut Lanes<Effect>, by: u64) -> u64
-    requires named { AreNamed (many_at lanes.old) effects.old.list }
-    requires spare { length effects.old.list ≤ lanes.old.spare }
-    ensures delivers { Delivers by lanes.old effects.old.list lanes.new }
-    ensures many { (name : LaneName) → many_at lanes.new name ≡ less (many_at lanes.old) effects.old.list name }
-    ensures spare { lanes.new.spare + length effects.old.list ≡ lanes.old.spare }
-    ensures copies { result ≡ copies_in effects.old.list }
-    ensures empty { effects.new.list ≡ [] }
-    ensures room { effects.old.room ≤ effects.new.room }
-{
-    if effects.len() == 0 {
-        return 0;
-    }
-    deliver_some(effects, lanes, by)
 }

@@ -48,6 +48,7 @@ fn is_merging(kind: Kind) -> bool
 }
 
 // The lane of a new role.
+#[inline(always)]
 fn lane_for(lanes: &mut Lanes<Effect>, at: Option<LaneName>) -> LaneName
     requires room { 0 < lanes.old.room }
     requires there { (name : LaneName) → at ≡ Some name → IsSome (lane lanes.old name) }
@@ -66,6 +67,7 @@ fn lane_for(lanes: &mut Lanes<Effect>, at: Option<LaneName>) -> LaneName
 }
 
 // Gives a node its role, where it has one of this sort.
+#[inline(always)]
 fn give(
     roles: &mut Roles,
     lanes: &mut Lanes<Effect>,

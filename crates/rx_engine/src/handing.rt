@@ -28,7 +28,7 @@ impl Engine {
         match self.book.next(leaf, 0) {
             Ok(_) => {
                 gather(&mut self.book, &mut self.parts, &mut self.wishes, by, value);
-                Ok(spread_and_hand(&self.book, &mut self.parts, by))
+                spread_and_hand(&self.book, &mut self.parts, by)
             }
             Err(why) => Err(why),
         }

@@ -73,6 +73,7 @@ impl Parts {
     }
 
     // Gets room for so many effects, on their way and in lanes.
+    #[inline(always)]
     fn reserve_both(&mut self, many: usize) -> bool
         ensures same { IsRoomier self.old self.new }
         ensures room { IsTrue result → many ≤ self.new.effects.room }
@@ -85,6 +86,7 @@ impl Parts {
     }
 
     /// Gets room for the last effect of each role, and for so many effects more; false where memory was refused.
+    #[inline(always)]
     pub(crate) fn reserve(&mut self, more: u64) -> bool
         ensures same { IsRoomier self.old self.new }
         ensures room { IsTrue result → HasRoomFor more self.new }
@@ -96,6 +98,7 @@ impl Parts {
     }
 
     // Gets room for the roles of one node more, and for their lanes.
+    #[inline(always)]
     pub(crate) fn reserve_node(&mut self) -> bool
         ensures same { IsRoomier self.old self.new }
         ensures room { IsTrue result → HasRoomToEnter self.new }

@@ -1,6 +1,6 @@
 //! What a call of the book leaves to be done.
 
-ghost use Rattle.std.specs.Prelude.{◌≡◌, ◌==◌, ◌+◌, ◌≤◌, IsSome, length, true};
+ghost use Rattle.std.specs.Prelude.{◌≡◌, ◌==◌, ◌+◌, ◌≤◌, length, true, false};
 ghost use Rattle.rx_lanes.specs.declared.names.LaneName.{LaneName};
 ghost use Rattle.rx_roles.specs.Effects.{items_in, names_of};
 ghost use Rattle.rx_engine.specs.Deliveries.{many_at};
@@ -10,7 +10,7 @@ ghost use Rattle.rx_shares.specs.Places.{places_left};
 ghost use Rattle.rx_engine.specs.Settlements.{mail_left, closed_of, Settles, KeepsKeys};
 ghost use Rattle.rx_engine.specs.Gatherings.{Gathers, Ends, Spreads, IsLoaded};
 ghost use Rattle.rx_engine.specs.Closings.{Closes};
-ghost use Rattle.rx_engine.specs.Handings.{ClaimsIf, GivesIf, SpreadsAndHands};
+ghost use Rattle.rx_engine.specs.Handings.{IsClaimed, GivesIf, SpreadsAndHands, IsHandedOver};
 ghost use Rattle.rx_engine.specs.Servings.{is_one};
 
 use crate::delivering::deliver;
@@ -18,7 +18,7 @@ use crate::leaving::{leave_homes, leave_hubs};
 use crate::parts::Parts;
 use crate::telling::{end_closed, set_free, tell};
 use crate::wishes::Wishes;
-use rx_book::{Book, Resource};
+use rx_book::{Book, Refusal, Resource};
 use rx_resource::Token;
 use rx_roles::Effect;
 
@@ -89,14 +89,29 @@ pub(crate) fn gather(
 }
 
 // All effects go into their lanes, and those that got something are due.
-#[inline(always)]
-fn spread(parts: &mut Parts, by: u64)
+#[inline(never)]
+fn spread_some(parts: &mut Parts, by: u64)
     requires { IsLoaded parts.old }
     ensures spreads { Spreads by parts.old parts.new }
     ensures ready { IsReady 0 parts.new }
 {
     parts.copies = deliver(&mut parts.effects, &mut parts.lanes, by);
     let _many = parts.lanes.settle(by);
+}
+
+// The same, where one look tells that there is no effect.
+#[inline(always)]
+fn spread(parts: &mut Parts, by: u64)
+    requires { IsLoaded parts.old }
+    ensures spreads { Spreads by parts.old parts.new }
+    ensures ready { IsReady 0 parts.new }
+{
+    if parts.effects.len() > 0 {
+        spread_some(parts, by);
+    } else {
+        parts.copies = 0;
+        let _none = parts.lanes.settle(by);
+    }
 }
 
 /// Does all that a call of the book leaves to be done. It takes no memory.
@@ -119,24 +134,18 @@ pub(crate) fn settle(
     spread(parts, by);
 }
 
-// Claims the lane of an item that alone is on its way, and answers it; else nothing changes.
+// Claims the lane of an item that alone is on its way, and tells whether it did; else nothing changes.
 #[inline(always)]
-fn claim_only(parts: &mut Parts, by: u64) -> Option<Effect>
+fn claims_only(parts: &mut Parts, by: u64) -> bool
     requires { IsLoaded parts.old }
-    ensures claims { ClaimsIf by result parts.old parts.new }
-    ensures ready { IsSome result → IsReady 0 parts.new }
+    ensures claims { result ≡ true → IsClaimed by parts.old parts.new }
+    ensures other { result ≡ false → parts.new ≡ parts.old }
 {
     if !parts.effects.has_only_item() {
-        return None;
+        return false;
     }
     let effect = parts.effects.only_item();
-    if parts.lanes.claim_alone(effect.lane, by) {
-        parts.effects.clear();
-        parts.copies = 1;
-        Some(effect)
-    } else {
-        None
-    }
+    parts.lanes.claim_alone(effect.lane, by)
 }
 
 // Whether one lane alone is due, and one effect alone carries the value.
@@ -172,30 +181,28 @@ fn spread_then_hand(parts: &mut Parts, by: u64) -> Option<Effect>
     hand_one(parts, by)
 }
 
-// The same, but an item that is all of it, for a lane that nobody serves, without being put there.
-#[inline(always)]
-fn spread_and_hand_one(parts: &mut Parts, by: u64) -> Option<Effect>
-    requires { IsLoaded parts.old }
-    ensures hands { SpreadsAndHands true by parts.old parts.new result }
-    ensures ready { IsReady 0 parts.new }
-{
-    match claim_only(parts, by) {
-        Some(effect) => Some(effect),
-        None => spread_then_hand(parts, by),
-    }
-}
-
 /// All effects go into their lanes; and where nothing was closed, and all that there was is one item, that is handed
-/// out.
+/// out: where nobody serves its lane, without being put there. This refuses nothing, and answers as its command does,
+/// so that no answer is copied into another.
 #[inline(always)]
-pub(crate) fn spread_and_hand(book: &Book<Token>, parts: &mut Parts, by: u64) -> Option<Effect>
+pub(crate) fn spread_and_hand(
+    book: &Book<Token>,
+    parts: &mut Parts,
+    by: u64,
+) -> Result<Option<Effect>, Refusal>
     requires { IsLoaded parts.old }
-    ensures hands { SpreadsAndHands (length book.now.closed == 0) by parts.old parts.new result }
+    ensures hands { IsHandedOver (length book.now.closed == 0) by parts.old parts.new result }
     ensures ready { IsReady 0 parts.new }
 {
-    if book.closed_count() == 0 {
-        return spread_and_hand_one(parts, by);
+    if book.closed_count() != 0 {
+        spread_some(parts, by);
+        return Ok(None);
     }
-    spread(parts, by);
-    None
+    if !claims_only(parts, by) {
+        return Ok(spread_then_hand(parts, by));
+    }
+    let effect = parts.effects.only_item();
+    parts.effects.clear();
+    parts.copies = 1;
+    Ok(Some(effect))
 }

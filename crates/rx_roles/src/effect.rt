@@ -90,6 +90,7 @@ impl Effects {
     }
 
     /// Gets room for so many more.
+    #[inline(always)]
     pub fn reserve(&mut self, many: usize) -> Result<(), AllocError>
         ensures ok { OnOk result (many ≤ self.new.room) }
         ensures list { self.new.list ≡ self.old.list }
@@ -98,6 +99,17 @@ impl Effects {
         if many <= self.list.capacity() - self.list.len() {
             return Ok(());
         }
+        self.grow(many)
+    }
+
+    // Gets room where there is too little.
+    #[cold]
+    #[inline(never)]
+    fn grow(&mut self, many: usize) -> Result<(), AllocError>
+        ensures ok { OnOk result (many ≤ self.new.room) }
+        ensures list { self.new.list ≡ self.old.list }
+        ensures room { self.old.room ≤ self.new.room }
+    {
         if self
             .list
             .reserve_exact(many.saturating_add(many / 4))

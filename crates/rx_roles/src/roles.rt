@@ -72,6 +72,7 @@ fn role_said(number: u64, said: Option<Said>) -> Option<Role>
 }
 
 // The place of the row of a number, which is not the last row's.
+#[inline(never)]
 fn place_of(rows: &Vec<Row>, number: u64) -> Option<usize>
     requires { IsRising rows.now.items }
     ensures some { IfSome result (λ i. (i < length rows.now.items) × ((row_at rows.now.items i).number ≡ number)) }

@@ -1,23 +1,17 @@
-use Rattle.std.proofs.Common.{ap, arith}
-use Rattle.rx_lanes.specs.State.{State}
-use Rattle.rx_roles.specs.declared.effect.Effect.{Effect}
-use Rattle.rx_engine.specs.Deliveries.{many_at}
+use Rattle.std.proofs.Common.{◌≡◌, length, [], rules, tests}
+use Rattle.rx_engine.proofs.NothingToDo.{none_of_length, nothing_spreads, nothing_ready}
 use Rattle.rx_engine.proofs.settling.spread.Goals as goal
 
-pub deliver-parts-requires : goal.deliver-parts-requires
-deliver-parts-requires c = record { named = c.requires.are_named; spare = let spare = c.requires.spare in omega (arith, spare) }
+nothing_left : (c : goal.After-settle-none) → c.args.parts.now.effects.list ≡ []
+nothing_left c =
+    let h = c.if-len-gt0.false in
+    let none : length c.args.parts.now.effects.list ≡ 0 = search (rules, tests) in
+    none_of_length c.args.parts.now.effects.list none
 
-pub returns-clause-ready : goal.returns-clause-ready
-returns-clause-ready c = record {
-  empty = c.deliver-parts.ensures.empty;
-  many = λ name.
-      (let had = c.requires.many name in
-      let less = c.deliver-parts.ensures.many name in
-      let same = ap (λ (x : State Effect). many_at x name) c.settle-many.ensures.settles in
-      omega (arith, had, less, same));
-  room = let had = c.requires.room in let d = c.deliver-parts.ensures.room in omega (arith, had, d);
-  spare =
-      let had = c.requires.spare in let put = c.deliver-parts.ensures.spare in
-      let same = ap (λ (x : State Effect). x.spare) c.settle-many.ensures.settles in
-      omega (arith, had, put, same);
-}
+pub returns-else-len-gt0-clause-spreads : goal.returns-else-len-gt0-clause-spreads
+returns-else-len-gt0-clause-spreads c =
+    nothing_spreads c.args.by c.args.parts.now c.settle-none.new.self (nothing_left c) c.settle-none.ensures.settles
+
+pub returns-else-len-gt0-clause-ready : goal.returns-else-len-gt0-clause-ready
+returns-else-len-gt0-clause-ready c =
+    nothing_ready c.args.by c.args.parts.now c.settle-none.new.self (nothing_left c) c.settle-none.ensures.settles c.requires

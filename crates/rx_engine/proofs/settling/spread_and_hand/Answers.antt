@@ -1,15 +1,25 @@
-use Rattle.std.proofs.Common.{◌≡◌, ◌==◌, true, false, length, rules, tests}
-use Rattle.rx_engine.proofs.SpreadOut.{spread_only, hands_where}
+use Rattle.std.proofs.Common.{◌≡◌, ◌==◌, true, Some, length, ap, arith, rules, tests}
+use Rattle.rx_engine.specs.declared.parts.Parts.{Parts}
+use Rattle.rx_engine.specs.Handings.{ClaimsOnly}
+use Rattle.rx_engine.proofs.SpreadOut.{claimed_only, claimed_ready, claims_hand, handed_over}
 use Rattle.rx_engine.proofs.settling.spread_and_hand.Goals as goal
 
-pub returns-then-closed_count-eq0-clause-hands : goal.returns-then-closed_count-eq0-clause-hands
-returns-then-closed_count-eq0-clause-hands c =
-    let h = c.if-closed_count-eq0.true in
-    let is : (length c.args.book.now.closed == 0) ≡ true = search (rules, tests) in
-    hands_where (length c.args.book.now.closed == 0) is c.spread_and_hand_one.ensures.hands
+abbrev behind : goal.After-parts-1 → Parts
+behind c = record c.claims_only.new.parts { effects = c.clear.new.self; copies = 1 }
+
+only : (c : goal.After-parts-1) → ClaimsOnly c.args.by c.only_item-effect.result c.args.parts.now (behind c)
+only c =
+    claimed_only c.only_item-effect.result c.clear.new.self (c.claims_only.ensures.claims c.if-not-claims_only.false) c.only_item-effect.ensures
+
+pub returns-clause-ready : goal.returns-clause-ready
+returns-clause-ready c =
+    let claimed = c.claims_only.ensures.claims c.if-not-claims_only.false in
+    let same = ap (λ (x : Parts). x.effects.room) claimed.only in
+    let more = c.clear.ensures.room in
+    claimed_ready (only c) c.requires c.clear.ensures.list (omega (arith, same, more)) claimed.spare
 
 pub returns-clause-hands : goal.returns-clause-hands
 returns-clause-hands c =
-    let h = c.if-closed_count-eq0.false in
-    let is : (length c.args.book.now.closed == 0) ≡ false = search (rules, tests) in
-    spread_only (length c.args.book.now.closed == 0) is c.spread.ensures.spreads c.spread.ensures.ready
+    let h = c.if-closed_count-ne0.false in
+    let none : (length c.args.book.now.closed == 0) ≡ true = search (rules, tests) in
+    handed_over (length c.args.book.now.closed == 0) true (Some c.only_item-effect.result) none (claims_hand (only c) c.requires (returns-clause-ready c))

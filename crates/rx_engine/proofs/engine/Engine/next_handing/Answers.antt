@@ -1,9 +1,11 @@
 use Rattle.std.proofs.lemmas.Result.{err_from_is_err_and}
-use Rattle.std.proofs.Common.{rules, pos, sym, arith, subst, List, Ok}
+use Rattle.std.proofs.Common.{rules, pos, sym, arith, subst, List, Option, Result}
 use Rattle.rx_pool.specs.declared.search.PooledHub.{PooledHub}
 use Rattle.rx_pool.specs.Moves.{MayLeaveAll}
 use Rattle.rx_roles.specs.declared.roles.Role.{Role}
 use Rattle.rx_shares.specs.Places.{places_left}
+use Rattle.rx_roles.specs.declared.effect.Effect.{Effect}
+use Rattle.rx_event.specs.declared.refusal.Refusal.{Refusal}
 use Rattle.rx_engine.specs.Settlements.{closed_of}
 use Rattle.rx_resource.specs.contracts.token.TokenResource.TheImpl.{ghosts}
 use Rattle.rx_event.specs.declared.event.Event.TheVariants.{Item}
@@ -47,7 +49,7 @@ invariant_of-self-in-Ok c =
     let same = c.reserve.ensures.same in
     let tied = tied_roomier (state_of c.self.inside) c.reserve.new.self c.self.invariant same
     (ready_roomier c.self.inside.parts c.reserve.new.self c.self.invariant.ready same) in
-    let hands = c.spread_and_hand.ensures.hands in
+    let hands = c.spread_and_hand.ensures.hands.hands in
     let behind : State = record { book = c.gather.new.book; parts = hands.between; wishes = c.gather.new.wishes } in
     let then = tied_behind ghosts (record { book = b; parts = c.reserve.new.self; wishes = c.self.inside.wishes }) behind _ c.next.new.self c.args.by c.args.value
     (emits c.args.leaf (pos 0)) c.promise.ensures tied accepts (settles_of c.gather.ensures.gathers hands.spreads) c.gather.ensures.closes hands.ready in
@@ -55,13 +57,14 @@ invariant_of-self-in-Ok c =
 
 pub returns-in-Ok : goal.returns-in-Ok
 returns-in-Ok c =
-    subst (λ (s : State). IsNextHanded ghosts c.args.leaf c.args.by c.args.value s
-    (record { book = c.gather.new.book; parts = c.spread_and_hand.new.parts; wishes = c.gather.new.wishes }) (Ok c.spread_and_hand.result))
-    c.self.view_is
+    let over = c.spread_and_hand.ensures.hands in
+    let after : State = record { book = c.gather.new.book; parts = c.spread_and_hand.new.parts; wishes = c.gather.new.wishes } in
+    subst (λ (s : State). IsNextHanded ghosts c.args.leaf c.args.by c.args.value s after c.spread_and_hand.result) c.self.view_is
+    (subst (λ (r : Result (Option Effect) Refusal). IsNextHanded ghosts c.args.leaf c.args.by c.args.value (state_of c.self.inside) after r) (sym over.answers)
     (next_handed ghosts c.args.leaf c.args.by c.args.value (state_of c.self.inside) c.reserve.new.self c.gather.new.parts c.spread_and_hand.new.parts c.next.new.self
-    c.gather.new.book c.gather.new.wishes c.spread_and_hand.result
+    c.gather.new.book c.gather.new.wishes over.given
     (subst (λ (x : BookState). Accepts x (next_request x c.args.leaf (pos 0)) c.next.new.self) c.notes_of.ensures.kept c.in-Ok.ensures.accepted)
-    c.reserve.ensures.same c.gather.ensures.gathers c.gather.ensures.closes c.spread_and_hand.ensures.hands)
+    c.reserve.ensures.same c.gather.ensures.gathers c.gather.ensures.closes over.hands))
 
 pub returns-in_err-notes : goal.returns-in_err-notes
 returns-in_err-notes c =

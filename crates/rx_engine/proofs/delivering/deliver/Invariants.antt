@@ -5,7 +5,7 @@ use Rattle.rx_lanes.specs.State.{State}
 use Rattle.rx_roles.specs.declared.effect.Effect.{Effect}
 use Rattle.rx_roles.specs.Effects.{copies_in}
 use Rattle.rx_engine.specs.Deliveries.{many_at, less, Delivers, AreNamed}
-use Rattle.rx_engine.proofs.delivering.deliver_some.Given as goal
+use Rattle.rx_engine.proofs.delivering.deliver.Given as goal
 
 abbrev pub invariant-loop-effect : goal.invariant-loop-effect
 invariant-loop-effect l = record {
