@@ -1,19 +1,18 @@
 -- An item that is emitted and handed out is a command that is made.
-use Rattle.std.proofs.Common.{◌≡◌, ◌≢◌, ℕ, Bool, true, false, List, [], ◌∷◌, length, map, Option, Some, None, Result, Ok, Err, pos, refl, sym, ap, ◌∙◌, subst}
+use Rattle.std.proofs.Common.{◌≡◌, ℕ, Bool, true, false, List, [], ◌∷◌, length, map, Option, Some, None, Result, Ok, Err, pos, refl, sym, ap, ◌∙◌, subst}
 use Rattle.rx_resource.specs.declared.Resource.{Ghosts}
 use Rattle.rx_resource.specs.declared.token.Token.{Token}
 use Rattle.rx_event.specs.declared.refusal.Refusal.{Refusal}
-use Rattle.rx_event.specs.declared.refusal.Refusal.TheVariants.{Full}
 use Rattle.rx_lanes.specs.declared.names.Due.{Due}
 use Rattle.rx_lanes.specs.Lane.{Lane}
 use Rattle.rx_lanes.specs.State.{lane}
 use Rattle.rx_roles.specs.declared.effect.Effect.{Effect as Sent}
 use Rattle.rx_book.specs.Requests.{next_request}
-use Rattle.rx_slots.specs.declared.Key.{Key}
 use Rattle.rx_engine.specs.States.{State}
 use Rattle.rx_engine.specs.Commands.{IsCostlyMade}
 use Rattle.rx_engine.specs.Servings.{IsHand, comes_to_one, HandsIf}
 use Rattle.rx_engine.specs.Handings.{IsNextHanded}
+use Rattle.rx_typed.specs.Codes.{refusal_status}
 use Rattle.rx_cellar.specs.declared.shapes.Answer.{Answer}
 use Rattle.rx_cellar.specs.declared.making.Made.{Made}
 use Rattle.rx_cellar.specs.declared.asked.Item.{Item}
@@ -21,18 +20,8 @@ use Rattle.rx_cellar.specs.declared.cellar.Cellar.{Cellar}
 use Rattle.rx_cellar.specs.Words.{word_of_due}
 use Rattle.rx_cellar.specs.Asking.{asked_for}
 use Rattle.rx_cellar.specs.Makings.{nothing_made}
-use Rattle.rx_cellar.specs.Cellars.{Performs, Tidies, IsTidy, filled, told, counted_if, with_handed, at_once, once_more, behind_one, behind_none, IsTried, IsHanded, HandsOut, IsAskedMade, is_done}
-use Rattle.rx_cellar.specs.Emitting.{IsEmitted, IsEmittedAgain, item_emitted, item_refused}
-
--- tried ------------------------------------------------------------------------------------------------------
-
-ok_not : {A : Type 0} (a : A) → Ok a ≢ Err Full
-ok_not a is = absurd (cc)
-
--- a refusal is that of the command
-refused_made : (g : Ghosts Token) (leaf : Key) (by value : ℕ) (s t : State) (why : Refusal) → IsNextHanded g leaf by value s t (Err why) →
-    IsCostlyMade {A = Unit} g (λ x. next_request x.book leaf (pos 0)) by value s t (Err why)
-refused_made g leaf by value s t why tried = record { done = tt; refused = tried.refused; kept = tried.kept }
+use Rattle.rx_cellar.specs.Cellars.{Performs, filled, told, counted_if, with_handed, IsHanded, HandsOut}
+use Rattle.rx_cellar.specs.Attempts.{IsMadeOnce, once_done, once_refused}
 
 -- what the engine made of it, and of its refusal
 performs_ok : (g : Ghosts Token) (item : Item) (by : ℕ) (s : Cellar) (u : State) →
@@ -40,47 +29,13 @@ performs_ok : (g : Ghosts Token) (item : Item) (by : ℕ) (s : Cellar) (u : Stat
     Performs g (asked_for item) by s (record s { engine = u }) (Ok nothing_made)
 performs_ok g item by s u made = record { performed = record { engine_answer = Ok tt; made_so = made; is_shown = refl }; only = refl }
 
-performs_err : (g : Ghosts Token) (item : Item) (by : ℕ) (s : Cellar) (u : State) (why : Refusal) →
-    IsCostlyMade {A = Unit} g (λ x. next_request x.book item.leaf (pos 0)) by item.value s.engine u (Err why) →
-    Performs g (asked_for item) by s (record s { engine = u }) (Err why)
-performs_err g item by s u why made = record { performed = record { engine_answer = Err why; made_so = made; is_shown = refl }; only = refl }
-
-full_again : (why : Refusal) → ◌≡◌ {A = Result Made Refusal} (Err why) (Err Full) → ◌≡◌ {A = Result (Option Sent) Refusal} (Err why) (Err Full)
-full_again why is = cc
-
-pub emitted_first : (g : Ghosts Token) (item : Item) (by : ℕ) (s : Cellar) (e : State) (answer : Result (Option Sent) Refusal) → answer ≢ Err Full →
-    IsNextHanded g item.leaf by item.value s.engine e answer → IsEmitted g item by s (record s { engine = e }) answer
-emitted_first g item by s e (Ok given) other tried =
-    item_emitted (record s { engine = tried.done.between }) (at_once (ok_not nothing_made) (performs_ok g item by s tried.done.between tried.done.made))
-    tried.done.hand refl
-emitted_first g item by s e (Err why) other tried =
-    item_refused (at_once (λ is. other (full_again why is)) (performs_err g item by s e why (refused_made g item.leaf by item.value s.engine e why tried)))
-
-first_full : (g : Ghosts Token) (item : Item) (by : ℕ) (s : Cellar) (e : State) (first : Result (Option Sent) Refusal) → first ≡ Err Full →
-    IsNextHanded g item.leaf by item.value s.engine e first → Performs g (asked_for item) by s (record s { engine = e }) (Err Full)
-first_full g item by s e first full tried = performs_err g item by s e Full (refused_made g item.leaf by item.value s.engine e Full
-    (subst (λ (r : Result (Option Sent) Refusal). IsNextHanded g item.leaf by item.value s.engine e r) full tried))
-
-pub emitted_again : (g : Ghosts Token) (item : Item) (by : ℕ) (s t : Cellar) (e : State) (first answer : Result (Option Sent) Refusal) → first ≡ Err Full →
-    IsNextHanded g item.leaf by item.value s.engine e first → IsEmittedAgain g item by (record s { engine = e }) t answer → IsEmitted g item by s t answer
-emitted_again g item by s t e first answer full tried (item_emitted {given = given} v made hand only) =
-    item_emitted v (once_more (record s { engine = e }) (first_full g item by s e first full tried) made) hand only
-emitted_again g item by s t e first answer full tried (item_refused {why = why} made) =
-    item_refused (once_more (record s { engine = e }) (first_full g item by s e first full tried) made)
-
--- behind a checkpoint
-pub emitted_behind : (g : Ghosts Token) (item : Item) (by : ℕ) (s v : Cellar) (f : State) (made : Result ℕ Refusal) (at : ℕ) (answer : Result (Option Sent) Refusal) →
-    made ≡ Ok at → Tidies s v made → IsNextHanded g item.leaf by item.value v.engine f answer → IsEmittedAgain g item by s (record v { engine = f }) answer
-emitted_behind g item by s v f made at (Ok given) is tidies again =
-    item_emitted (record v { engine = again.done.between })
-    (behind_one at v (subst (λ (r : Result ℕ Refusal). Tidies s v r) is tidies) (performs_ok g item by v again.done.between again.done.made)) again.done.hand refl
-emitted_behind g item by s v f made at (Err why) is tidies again =
-    item_refused (behind_one at v (subst (λ (r : Result ℕ Refusal). Tidies s v r) is tidies)
-    (performs_err g item by v f why (refused_made g item.leaf by item.value v.engine f why again)))
-
-pub emitted_behind_none : (g : Ghosts Token) (item : Item) (by : ℕ) (s t : Cellar) (made : Result ℕ Refusal) (why : Refusal) → made ≡ Err why → Tidies s t made →
-    IsEmittedAgain g item by s t (Err why)
-emitted_behind_none g item by s t made why is tidies = item_refused (behind_none (subst (λ (r : Result ℕ Refusal). Tidies s t r) is tidies))
+performs_err : (g : Ghosts Token) (item : Item) (by : ℕ) (s : Cellar) (u : State) (answer : Result (Option Sent) Refusal) (why : Refusal) →
+    IsNextHanded g item.leaf by item.value s.engine u answer → answer ≡ Err why → Performs g (asked_for item) by s (record s { engine = u }) (Err why)
+performs_err g item by s u answer why tried is =
+    let t = subst (λ (r : Result (Option Sent) Refusal). IsNextHanded g item.leaf by item.value s.engine u r) is tried in
+    let made : IsCostlyMade {A = Unit} g (λ x. next_request x.book item.leaf (pos 0)) by item.value s.engine u (Err why) =
+    record { done = tt; refused = t.refused; kept = t.kept } in
+    record { performed = record { engine_answer = Err why; made_so = made; is_shown = refl }; only = refl }
 
 -- told -------------------------------------------------------------------------------------------------------
 
@@ -135,19 +90,18 @@ handed_told false by v t first given m a same hand only =
     subst (λ (x : Option Sent). HandsOut false by v (record t { released = counted_if x t.released }) (told m v.engine a) (with_handed x (told m t.engine a))) (sym none)
     (only ∙ ap (λ (e : State). record v { engine = e }) hand.1, ap (λ (e : State). told m e a) hand.1)
 
-pub emitted_told : (g : Ghosts Token) (item : Item) (by : ℕ) (s u t : Cellar) (answer : Result (Option Sent) Refusal) (given : Option Sent) (a : Answer) → IsTidy s u →
-    IsEmitted g item by u t answer → answer ≡ Ok given →
-    IsAskedMade g (asked_for item) by s (record t { released = counted_if given t.released }) a (with_handed given (told nothing_made t.engine a)) 0
-emitted_told g item by s u t answer given a tidy (item_emitted {given = first} v tried hand only) is =
+pub item_done : (g : Ghosts Token) (item : Item) (by : ℕ) (s : Cellar) (e : State) (answer : Result (Option Sent) Refusal) (given : Option Sent) (a : Answer) →
+    IsNextHanded g item.leaf by item.value s.engine e answer → answer ≡ Ok given →
+    IsMadeOnce g (asked_for item) by s (record s { engine = e; released = counted_if given s.released }) a (with_handed given (told nothing_made e a)) 0
+item_done g item by s e (Ok first) given a tried is =
+    let u = tried.done.between in
     let same : first ≡ given = cc in
-    is_done nothing_made u v tidy tried (handed_told (comes_to_one v.engine) by v t first given nothing_made a same hand only)
-emitted_told g item by s u t answer given a tidy (item_refused {why = why} tried) is = absurd (cc)
+    once_done nothing_made (record s { engine = u }) (performs_ok g item by s u tried.done.made)
+    (handed_told (comes_to_one u) by (record s { engine = u }) (record s { engine = e }) first given nothing_made a same tried.done.hand refl) refl
+item_done g item by s e (Err why) given a tried is = absurd (cc)
 
-same_why : (v w : Refusal) → ◌≡◌ {A = Result (Option Sent) Refusal} (Err v) (Err w) → v ≡ w
-same_why v w is = cc
-
-pub refused_tried : (g : Ghosts Token) (item : Item) (by : ℕ) (s t : Cellar) (answer : Result (Option Sent) Refusal) (why : Refusal) → IsEmitted g item by s t answer →
-    answer ≡ Err why → IsTried g (asked_for item) by s t (Err why)
-refused_tried g item by s t answer why (item_emitted {given = first} v tried hand only) is = absurd (cc)
-refused_tried g item by s t answer why (item_refused {why = w} tried) is =
-    subst (λ (x : Refusal). IsTried g (asked_for item) by s t (Err x)) (same_why w why is) tried
+pub item_refused : (g : Ghosts Token) (item : Item) (by : ℕ) (s : Cellar) (e : State) (answer : Result (Option Sent) Refusal) (why : Refusal) (a : Answer) →
+    IsNextHanded g item.leaf by item.value s.engine e answer → answer ≡ Err why →
+    IsMadeOnce g (asked_for item) by s (record s { engine = e }) a a (refusal_status why)
+item_refused g item by s e answer why a tried is =
+    once_refused why (performs_err g item by s e answer why tried is) refl refl

@@ -1,11 +1,12 @@
--- A command that is known is tried, and tried again behind a checkpoint; and what comes of that is told.
-use Rattle.std.proofs.Common.{◌≡◌, ◌≢◌, ◌&&◌, ℕ, Bool, true, false, Option, Some, None, Result, Ok, Err, refl, sym, subst}
+-- A command that is tried, and tried again behind a checkpoint; and what comes of that is told.
+use Rattle.std.proofs.Common.{◌≡◌, ◌≢◌, ◌&&◌, ℕ, Bool, true, false, Option, Some, None, Result, Ok, Err, refl, sym, ap, ◌∙◌, subst, ◌==◌}
 use Rattle.std.proofs.lemmas.Bool.{false≢true}
-use Rattle.std.specs.Prelude.{IfSome, IsSome}
+use Rattle.std.specs.Prelude.{is_some}
 use Rattle.rx_resource.specs.declared.Resource.{Ghosts}
 use Rattle.rx_resource.specs.declared.token.Token.{Token}
 use Rattle.rx_event.specs.declared.refusal.Refusal.{Refusal}
-use Rattle.rx_event.specs.declared.refusal.Refusal.TheVariants.{Full}
+use Rattle.rx_event.specs.declared.refusal.Refusal.TheVariants.{Full, NoMemory, Gone, WrongKind, PlaceTaken, NothingOwed, NotRoot, NoHub, HubOrder}
+use Rattle.rx_event.specs.declared.refusal.Refusal.TheVariants.{Connected, NotConnected, NotFresh, NotHeld, HasChild, TooMany, NoLease, Leased, MailLeft}
 use Rattle.rx_engine.specs.States.{State}
 use Rattle.rx_engine.specs.Servings.{comes_to_one}
 use Rattle.rx_typed.specs.Codes.{refusal_status}
@@ -13,58 +14,135 @@ use Rattle.rx_cellar.specs.declared.shapes.Answer.{Answer}
 use Rattle.rx_cellar.specs.declared.making.Made.{Made}
 use Rattle.rx_cellar.specs.declared.asked.Asked.{Asked}
 use Rattle.rx_cellar.specs.declared.cellar.Cellar.{Cellar}
-use Rattle.rx_cellar.specs.Asking.{hands, asks_item}
+use Rattle.rx_cellar.specs.Asking.{asks_item}
 use Rattle.rx_cellar.specs.Makings.{IsPerformed}
-use Rattle.rx_cellar.specs.Cellars.{Tidies, IsTidy, Performs, IsTriedAgain, behind_one, behind_none, IsTried, at_once, once_more, told, HandsOut, IsMadeIf, is_done, is_refused}
+use Rattle.rx_cellar.specs.Cellars.{Tidies, IsTidy, IsTidyIf, is_due, Performs, IsTried, at_once, once_more, behind_one, behind_none}
+use Rattle.rx_cellar.specs.Cellars.{told, HandsOut, hands_out, IsMadeIf, is_done, is_refused}
+use Rattle.rx_cellar.specs.Attempts.{IsTidyFor, IsMadeOnce, IsMadeOnceIf, once_done, once_refused, IsMadeBehind, made_behind, made_not}
 
-performs : (g : Ghosts Token) (asked : Asked) (by : ℕ) (s : Cellar) (e : State) (answer : Result Made Refusal) → IsPerformed g asked by s.engine e answer →
-    Performs g asked by s (record s { engine = e }) answer
-performs g asked by s e answer made = record { performed = made; only = refl }
+-- tidied -----------------------------------------------------------------------------------------------------
 
-pub tried_once : (g : Ghosts Token) (o : Option Asked) (by : ℕ) (s : Cellar) (e : State) (answer : Result Made Refusal) → answer ≢ Err Full →
-    IfSome o (λ (asked : Asked). IsPerformed g asked by s.engine e answer) → IfSome o (λ (asked : Asked). IsTried g asked by s (record s { engine = e }) answer)
-tried_once g None by s e answer other made = tt
-tried_once g (Some asked) by s e answer other made = at_once other (performs g asked by s e answer made)
+pub tidied : (o : Option Asked) (s t : Cellar) (answer : Result ℕ Refusal) → is_some o ≡ true → is_due s ≡ true → Tidies s t answer → IsTidyFor o s t
+tidied None s t answer known due tidies = absurd (cc)
+tidied (Some asked) s t answer known due tidies = subst (λ (b : Bool). IsTidyIf b s t) (sym due) (record { answer = answer; tidies = tidies })
 
-pub tried_again : (g : Ghosts Token) (o : Option Asked) (by : ℕ) (s t : Cellar) (e : State) (first answer : Result Made Refusal) → first ≡ Err Full →
-    IfSome o (λ (asked : Asked). IsPerformed g asked by s.engine e first) → IfSome o (λ (asked : Asked). IsTriedAgain g asked by (record s { engine = e }) t answer) →
-    IfSome o (λ (asked : Asked). IsTried g asked by s t answer)
-tried_again g None by s t e first answer full made again = tt
-tried_again g (Some asked) by s t e first answer full made again =
-    once_more (record s { engine = e })
-    (performs g asked by s e (Err Full) (subst (λ (r : Result Made Refusal). IsPerformed g asked by s.engine e r) full made)) again
+pub unknown_tidied : (o : Option Asked) (s : Cellar) → is_some o ≡ false → IsTidyFor o s s
+unknown_tidied None s unknown = refl
+unknown_tidied (Some asked) s unknown = absurd (cc)
 
-pub tried_behind : (g : Ghosts Token) (o : Option Asked) (by : ℕ) (s u : Cellar) (e : State) (made : Result ℕ Refusal) (at : ℕ) (answer : Result Made Refusal) →
-    made ≡ Ok at → Tidies s u made → IfSome o (λ (asked : Asked). IsPerformed g asked by u.engine e answer) →
-    IfSome o (λ (asked : Asked). IsTriedAgain g asked by s (record u { engine = e }) answer)
-tried_behind g None by s u e made at answer is tidies done = tt
-tried_behind g (Some asked) by s u e made at answer is tidies done =
-    behind_one at u (subst (λ (r : Result ℕ Refusal). Tidies s u r) is tidies) (performs g asked by u e answer done)
+pub not_due : (o : Option Asked) (s : Cellar) → is_due s ≡ false → IsTidyFor o s s
+not_due None s due = refl
+not_due (Some asked) s due = subst (λ (b : Bool). IsTidyIf b s s) (sym due) refl
 
-pub tried_behind_none : (g : Ghosts Token) (o : Option Asked) (by : ℕ) (s t : Cellar) (made : Result ℕ Refusal) (why : Refusal) → made ≡ Err why → Tidies s t made →
-    IfSome o (λ (asked : Asked). IsTriedAgain g asked by s t (Err why))
-tried_behind_none g None by s t made why is tidies = tt
-tried_behind_none g (Some asked) by s t made why is tidies = behind_none (subst (λ (r : Result ℕ Refusal). Tidies s t r) is tidies)
+-- tried ------------------------------------------------------------------------------------------------------
 
--- told -------------------------------------------------------------------------------------------------------
+performs : (g : Ghosts Token) (asked : Asked) (by : ℕ) (s : Cellar) (e : State) (answer is : Result Made Refusal) → IsPerformed g asked by s.engine e answer →
+    answer ≡ is → Performs g asked by s (record s { engine = e }) is
+performs g asked by s e answer is made same =
+    record { performed = subst (λ (r : Result Made Refusal). IsPerformed g asked by s.engine e r) same made; only = refl }
 
-pub plain_done : (g : Ghosts Token) (o : Option Asked) (by : ℕ) (s u t : Cellar) (answer : Result Made Refusal) (made : Made) (a b : Answer) → IsSome o →
-    asks_item o ≡ false → IsTidy s u → IfSome o (λ (asked : Asked). IsTried g asked by u t answer) → answer ≡ Ok made → b ≡ told made t.engine a → IsMadeIf g o by s t a b 0
-plain_done g None by s u t answer made a b known plain tidy tried is tells = absurd (false≢true known)
-plain_done g (Some asked) by s u t answer made a b known plain tidy tried is tells =
-    is_done made u t tidy (subst (λ (r : Result Made Refusal). IsTried g asked by u t r) is tried)
-    (subst (λ (h : Bool). HandsOut (h && comes_to_one t.engine) by t t (told made t.engine a) b) (sym plain) (refl, tells))
+pub none_once : (g : Ghosts Token) (o : Option Asked) (by : ℕ) (s : Cellar) (a : Answer) → o ≡ None → IsMadeOnceIf g o by s s a a 5
+none_once g None by s a is = (refl, refl, refl)
+none_once g (Some asked) by s a is = absurd (cc)
 
-pub plain_refused : (g : Ghosts Token) (o : Option Asked) (by : ℕ) (s u t : Cellar) (answer : Result Made Refusal) (why : Refusal) (a : Answer) → IsSome o →
-    IsTidy s u → IfSome o (λ (asked : Asked). IsTried g asked by u t answer) → answer ≡ Err why → IsMadeIf g o by s t a a (refusal_status why)
-plain_refused g None by s u t answer why a known tidy tried is = absurd (false≢true known)
-plain_refused g (Some asked) by s u t answer why a known tidy tried is =
-    is_refused why u tidy (subst (λ (r : Result Made Refusal). IsTried g asked by u t r) is tried) refl
+pub known_once : (g : Ghosts Token) (o : Option Asked) (asked : Asked) (by : ℕ) (s t : Cellar) (a b : Answer) (status : ℕ) → o ≡ Some asked →
+    IsMadeOnce g asked by s t a b status → IsMadeOnceIf g o by s t a b status
+known_once g o asked by s t a b status is made = subst (λ (x : Option Asked). IsMadeOnceIf g x by s t a b status) (sym is) made
 
-pub none_made : (g : Ghosts Token) (o : Option Asked) (by : ℕ) (s : Cellar) (a : Answer) → o ≡ None → IsMadeIf g o by s s a a 5
-none_made g None by s a is = (refl, refl, refl)
-none_made g (Some asked) by s a is = absurd (cc)
+-- it hands out nothing
+pub plain_done : (g : Ghosts Token) (o : Option Asked) (asked : Asked) (by : ℕ) (s : Cellar) (e : State) (answer : Result Made Refusal) (made : Made)
+    (a b : Answer) → o ≡ Some asked → asks_item o ≡ false → IsPerformed g asked by s.engine e answer → answer ≡ Ok made → b ≡ told made e a →
+    IsMadeOnceIf g o by s (record s { engine = e }) a b 0
+plain_done g o asked by s e answer made a b is plain made_so ok tells =
+    let none : asks_item (Some asked) ≡ false = ap asks_item (sym is) ∙ plain in
+    let t : Cellar = record s { engine = e } in
+    known_once g o asked by s t a b 0 is (once_done made t (performs g asked by s e answer (Ok made) made_so ok)
+    (subst (λ (h : Bool). HandsOut (h && comes_to_one e) by t t (told made e a) b) (sym none) (refl, tells)) refl)
 
-pub item_made : (g : Ghosts Token) (o : Option Asked) (asked : Asked) (by : ℕ) (s t : Cellar) (a b : Answer) (status : ℕ) → o ≡ Some asked →
-    IsMadeIf g (Some asked) by s t a b status → IsMadeIf g o by s t a b status
-item_made g o asked by s t a b status is made = subst (λ (x : Option Asked). IsMadeIf g x by s t a b status) (sym is) made
+pub plain_refused : (g : Ghosts Token) (o : Option Asked) (asked : Asked) (by : ℕ) (s : Cellar) (e : State) (answer : Result Made Refusal) (why : Refusal)
+    (a : Answer) → o ≡ Some asked → IsPerformed g asked by s.engine e answer → answer ≡ Err why →
+    IsMadeOnceIf g o by s (record s { engine = e }) a a (refusal_status why)
+plain_refused g o asked by s e answer why a is made_so err =
+    known_once g o asked by s (record s { engine = e }) a a (refusal_status why) is
+    (once_refused why (performs g asked by s e answer (Err why) made_so err) refl refl)
+
+pub behind : (g : Ghosts Token) (o : Option Asked) (by : ℕ) (s u t : Cellar) (made : Result ℕ Refusal) (at : ℕ) (a b : Answer) (status : ℕ) → made ≡ Ok at →
+    Tidies s u made → IsMadeOnceIf g o by u t a b status → IsMadeBehind g o by s t a b status
+behind g o by s u t made at a b status is tidies once = made_behind at u (subst (λ (r : Result ℕ Refusal). Tidies s u r) is tidies) once
+
+pub not_behind : (g : Ghosts Token) (o : Option Asked) (by : ℕ) (s t : Cellar) (made : Result ℕ Refusal) (why : Refusal) (a : Answer) → made ≡ Err why →
+    Tidies s t made → IsMadeBehind g o by s t a a (refusal_status why)
+not_behind g o by s t made why a is tidies = made_not why (subst (λ (r : Result ℕ Refusal). Tidies s t r) is tidies) refl refl
+
+-- made -------------------------------------------------------------------------------------------------------
+
+ok_not : (made : Made) → ◌≢◌ {A = Result Made Refusal} (Ok made) (Err Full)
+ok_not made is = absurd (cc)
+
+err_not : (why : Refusal) (status : ℕ) → status ≡ refusal_status why → status ≢ 16 → ◌≢◌ {A = Result Made Refusal} (Err why) (Err Full)
+err_not why status is other same =
+    let full : why ≡ Full = cc in
+    other (is ∙ ap refusal_status full)
+
+-- the status of a full history is no other's
+full_only : (why : Refusal) → (refusal_status why == 16) ≡ true → why ≡ Full
+full_only Full is = refl
+full_only NoMemory is = absurd (false≢true is)
+full_only Gone is = absurd (false≢true is)
+full_only WrongKind is = absurd (false≢true is)
+full_only PlaceTaken is = absurd (false≢true is)
+full_only NothingOwed is = absurd (false≢true is)
+full_only NotRoot is = absurd (false≢true is)
+full_only NoHub is = absurd (false≢true is)
+full_only HubOrder is = absurd (false≢true is)
+full_only Connected is = absurd (false≢true is)
+full_only NotConnected is = absurd (false≢true is)
+full_only NotFresh is = absurd (false≢true is)
+full_only NotHeld is = absurd (false≢true is)
+full_only HasChild is = absurd (false≢true is)
+full_only TooMany is = absurd (false≢true is)
+full_only NoLease is = absurd (false≢true is)
+full_only Leased is = absurd (false≢true is)
+full_only MailLeft is = absurd (false≢true is)
+
+full_is : (why : Refusal) → refusal_status why ≡ 16 → why ≡ Full
+full_is why is = full_only why (ap (λ n. n == 16) is)
+
+done_so : (g : Ghosts Token) (asked : Asked) (by : ℕ) (s u v t : Cellar) (made : Made) (a b : Answer) (status : ℕ) → IsTidy s u →
+    IsTried g asked by u v (Ok made) → HandsOut (hands_out asked v.engine) by v t (told made v.engine a) b → status ≡ 0 →
+    IsMadeIf g (Some asked) by s t a b status
+done_so g asked by s u v t made a b status tidy tried hands is =
+    subst (λ (n : ℕ). IsMadeIf g (Some asked) by s t a b n) (sym is) (is_done made u v tidy tried hands)
+
+refused_so : (g : Ghosts Token) (asked : Asked) (by : ℕ) (s u t : Cellar) (why : Refusal) (a b : Answer) (status : ℕ) → IsTidy s u →
+    IsTried g asked by u t (Err why) → b ≡ a → status ≡ refusal_status why → IsMadeIf g (Some asked) by s t a b status
+refused_so g asked by s u t why a b status tidy tried same is =
+    subst (λ (n : ℕ). IsMadeIf g (Some asked) by s t a b n) (sym is) (is_refused why u tidy tried same)
+
+-- at once, where the history was not full
+pub made_first : (g : Ghosts Token) (o : Option Asked) (by : ℕ) (s u t : Cellar) (a b : Answer) (status : ℕ) → IsTidyFor o s u →
+    IsMadeOnceIf g o by u t a b status → status ≢ 16 → IsMadeIf g o by s t a b status
+made_first g None by s u t a b status tidy once other = (once.0, once.1 ∙ tidy, once.2)
+made_first g (Some asked) by s u t a b status tidy (once_done made v tried hands is) other =
+    done_so g asked by s u v t made a b status tidy (at_once (ok_not made) tried) hands is
+made_first g (Some asked) by s u t a b status tidy (once_refused why tried same is) other =
+    refused_so g asked by s u t why a b status tidy (at_once (err_not why status is other) tried) same is
+
+-- behind a checkpoint, where it was
+again : (g : Ghosts Token) (asked : Asked) (by : ℕ) (s u v t : Cellar) (a b : Answer) (status : ℕ) → IsTidy s u → Performs g asked by u v (Err Full) →
+    IsMadeBehind g (Some asked) by v t a b status → IsMadeIf g (Some asked) by s t a b status
+again g asked by s u v t a b status tidy first (made_behind at w tidies (once_done made x tried hands is)) =
+    done_so g asked by s u x t made a b status tidy (once_more v first (behind_one at w tidies tried)) hands is
+again g asked by s u v t a b status tidy first (made_behind at w tidies (once_refused why tried same is)) =
+    refused_so g asked by s u t why a b status tidy (once_more v first (behind_one at w tidies tried)) same is
+again g asked by s u v t a b status tidy first (made_not why tidies same is) =
+    refused_so g asked by s u t why a b status tidy (once_more v first (behind_none tidies)) same is
+
+pub made_again : (g : Ghosts Token) (o : Option Asked) (by : ℕ) (s u v t : Cellar) (a b d : Answer) (before status : ℕ) → IsTidyFor o s u →
+    IsMadeOnceIf g o by u v a b before → before ≡ 16 → IsMadeBehind g o by v t b d status → IsMadeIf g o by s t a d status
+made_again g None by s u v t a b d before status tidy first full more = absurd (let e = first.0 in cc)
+made_again g (Some asked) by s u v t a b d before status tidy (once_done made x tried hands is) full more = absurd (cc)
+made_again g (Some asked) by s u v t a b d before status tidy (once_refused why tried same is) full more =
+    again g asked by s u v t a d status tidy
+    (subst (λ (x : Refusal). Performs g asked by u v (Err x)) (full_is why (sym is ∙ full)) tried)
+    (subst (λ (x : Answer). IsMadeBehind g (Some asked) by v t x d status) same more)

@@ -1,4 +1,5 @@
 pub mod Asking
+pub mod Attempts
 pub mod Beginnings
 pub mod Cellars
 pub mod Crossings
@@ -6,4 +7,3 @@ pub mod Makings
 pub mod Readings
 pub mod Serving
 pub mod Words
-pub mod Emitting

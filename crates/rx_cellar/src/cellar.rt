@@ -1,15 +1,14 @@
 //! An engine, and beside it what is counted and when a checkpoint is made.
 
-ghost use Rattle.std.specs.Prelude.{◌≡◌, ◌≢◌, true, false, Err, IsSome, IfSome};
-ghost use Rattle.rx_event.specs.declared.refusal.Refusal.TheVariants.{Full};
+ghost use Rattle.std.specs.Prelude.{◌≡◌, true, false};
 ghost use Rattle.rx_engine.specs.States.{IsPromised};
-ghost use Rattle.rx_cellar.specs.Cellars.{most_since, is_due, Tidies, IsTidy, IsTried, IsTriedAgain, counted, uncounted};
-ghost use Rattle.rx_cellar.specs.Cellars.{told, counted_if, with_handed, IsAskedMade, IsMadeIf, IsCommandMade};
+ghost use Rattle.rx_cellar.specs.Cellars.{most_since, is_due, Tidies, counted, uncounted};
+ghost use Rattle.rx_cellar.specs.Cellars.{told, counted_if, with_handed, IsCommandMade};
 ghost use Rattle.rx_cellar.specs.Asking.{asked_of, asks_item, asked_for};
-ghost use Rattle.rx_cellar.specs.Emitting.{IsEmitted, IsEmittedAgain};
+ghost use Rattle.rx_cellar.specs.Attempts.{IsTidyFor, IsMadeOnce, IsTriedOnce, IsTriedBehind};
 
 use crate::asked::{Item, asked_of, item_asked};
-use crate::making::{Made, nothing_made, perform_command};
+use crate::making::{Made, nothing_made, perform};
 use crate::rest::{fill_closings, fill_lanes};
 use crate::shapes::{Answer, Command, effect_of};
 use rx_book::{Refusal, Resource};
@@ -43,26 +42,6 @@ fn most_since(engine: &Engine) -> u64
         .saturating_add(engine.book().held());
     let many = here.saturating_mul(4);
     if many < FEW { FEW } else { many }
-}
-
-fn is_full(answer: Result<Made, Refusal>) -> bool
-    ensures full { result ≡ true → answer ≡ Err Full }
-    ensures other { result ≡ false → answer ≢ Err Full }
-{
-    match answer {
-        Err(Refusal::Full) => true,
-        _ => false,
-    }
-}
-
-fn is_item_full(answer: Result<Option<Sent>, Refusal>) -> bool
-    ensures full { result ≡ true → answer ≡ Err Full }
-    ensures other { result ≡ false → answer ≢ Err Full }
-{
-    match answer {
-        Err(Refusal::Full) => true,
-        _ => false,
-    }
 }
 
 // So many releases were told, with this effect.
@@ -121,38 +100,26 @@ impl Cellar {
         }
     }
 
-    // Makes a checkpoint where one is to be made, if it is not refused.
-    fn tidy(&mut self)
-        ensures { IsTidy self.old self.new }
+    // Makes a checkpoint where the command is known, if it is not refused.
+    #[cold]
+    #[inline(never)]
+    fn tidy_known(&mut self, command: &Command)
+        requires { is_due self.old ≡ true }
+        ensures { IsTidyFor (asked_of command.now) self.old self.new }
     {
-        if self.is_due() {
+        if asked_of(command).is_some() {
             let _at = self.checkpoint();
         }
     }
 
-    // Makes a command once more, behind a checkpoint. What stands against that stands against the command.
-    #[cold]
-    #[inline(never)]
-    fn attempt_again(&mut self, command: &Command) -> Result<Made, Refusal>
-        requires { IsSome (asked_of command.now) }
-        ensures { IfSome (asked_of command.now) (λ asked. IsTriedAgain ⟦<Token as Resource>⟧ asked command.now.by self.old self.new result) }
+    // The same where one is to be made. Else the command is read but once, where it is made.
+    #[inline(always)]
+    fn tidy(&mut self, command: &Command)
+        ensures { IsTidyFor (asked_of command.now) self.old self.new }
     {
-        match self.checkpoint() {
-            Ok(_at) => perform_command(&mut self.engine, command),
-            Err(why) => Err(why),
+        if self.is_due() {
+            self.tidy_known(command);
         }
-    }
-
-    // Makes a command, and once more behind a checkpoint where the history is full.
-    fn attempt(&mut self, command: &Command) -> Result<Made, Refusal>
-        requires { IsSome (asked_of command.now) }
-        ensures { IfSome (asked_of command.now) (λ asked. IsTried ⟦<Token as Resource>⟧ asked command.now.by self.old self.new result) }
-    {
-        let first = perform_command(&mut self.engine, command);
-        if !is_full(first) {
-            return first;
-        }
-        self.attempt_again(command)
     }
 
     // Writes what was done.
@@ -170,29 +137,6 @@ impl Cellar {
         let _lanes = fill_lanes(&self.engine, 0, &mut answer.lanes);
     }
 
-    // Emits an item once more, behind a checkpoint.
-    #[cold]
-    #[inline(never)]
-    fn attempt_handing_again(&mut self, item: Item, by: u64) -> Result<Option<Sent>, Refusal>
-        ensures { IsEmittedAgain ⟦<Token as Resource>⟧ item by self.old self.new result }
-    {
-        match self.checkpoint() {
-            Ok(_at) => self.engine.next_handing(item.leaf, by, item.value),
-            Err(why) => Err(why),
-        }
-    }
-
-    // The same for an item, which is handed out.
-    fn attempt_handing(&mut self, item: Item, by: u64) -> Result<Option<Sent>, Refusal>
-        ensures { IsEmitted ⟦<Token as Resource>⟧ item by self.old self.new result }
-    {
-        let first = self.engine.next_handing(item.leaf, by, item.value);
-        if !is_item_full(first) {
-            return first;
-        }
-        self.attempt_handing_again(item, by)
-    }
-
     // Writes what was handed out.
     fn tell_handed(&mut self, given: Option<Sent>, answer: &mut Answer)
         ensures counts { self.new ≡ record self.old { released = counted_if given self.old.released } }
@@ -206,11 +150,11 @@ impl Cellar {
     }
 
     // Emits an item, and hands it out where it is all that comes of it.
+    #[inline(always)]
     fn emit(&mut self, item: Item, by: u64, answer: &mut Answer) -> u8
-        ensures { IsAskedMade ⟦<Token as Resource>⟧ (asked_for item) by self.old self.new answer.old answer.new result }
+        ensures { IsMadeOnce ⟦<Token as Resource>⟧ (asked_for item) by self.old self.new answer.old answer.new result }
     {
-        self.tidy();
-        match self.attempt_handing(item, by) {
+        match self.engine.next_handing(item.leaf, by, item.value) {
             Ok(given) => {
                 self.tell(nothing_made(), answer);
                 self.tell_handed(given, answer);
@@ -220,14 +164,16 @@ impl Cellar {
         }
     }
 
-    // Makes a command that is known and hands out nothing.
-    fn make_plain(&mut self, command: &Command, answer: &mut Answer) -> u8
-        requires known { IsSome (asked_of command.now) }
-        requires plain { asks_item (asked_of command.now) ≡ false }
-        ensures { IsMadeIf ⟦<Token as Resource>⟧ (asked_of command.now) command.now.by self.old self.new answer.old answer.new result }
+    // Makes a command that hands out nothing.
+    #[inline(never)]
+    fn make_other(&mut self, command: &Command, answer: &mut Answer) -> u8
+        requires { asks_item (asked_of command.now) ≡ false }
+        ensures { IsTriedOnce ⟦<Token as Resource>⟧ command.now self.old self.new answer.old answer.new result }
     {
-        self.tidy();
-        match self.attempt(command) {
+        let Some(asked) = asked_of(command) else {
+            return NO_SUCH_CODE;
+        };
+        match perform(&mut self.engine, asked, command.by) {
             Ok(made) => {
                 self.tell(made, answer);
                 DONE
@@ -236,14 +182,26 @@ impl Cellar {
         }
     }
 
-    // Makes a command that hands out nothing.
-    fn make_other(&mut self, command: &Command, answer: &mut Answer) -> u8
-        requires { asks_item (asked_of command.now) ≡ false }
-        ensures { IsMadeIf ⟦<Token as Resource>⟧ (asked_of command.now) command.now.by self.old self.new answer.old answer.new result }
+    // Makes a command, by a history that may be full.
+    #[inline(always)]
+    fn make_once(&mut self, command: &Command, answer: &mut Answer) -> u8
+        ensures { IsTriedOnce ⟦<Token as Resource>⟧ command.now self.old self.new answer.old answer.new result }
     {
-        match asked_of(command) {
-            Some(_asked) => self.make_plain(command, answer),
-            None => NO_SUCH_CODE,
+        match item_asked(command) {
+            Some(item) => self.emit(item, command.by, answer),
+            None => self.make_other(command, answer),
+        }
+    }
+
+    // Makes a command behind a checkpoint. What stands against that stands against the command.
+    #[cold]
+    #[inline(never)]
+    fn make_behind(&mut self, command: &Command, answer: &mut Answer) -> u8
+        ensures { IsTriedBehind ⟦<Token as Resource>⟧ command.now self.old self.new answer.old answer.new result }
+    {
+        match self.checkpoint() {
+            Ok(_at) => self.make_once(command, answer),
+            Err(why) => status_of(why),
         }
     }
 
@@ -252,9 +210,11 @@ impl Cellar {
         ensures { IsCommandMade ⟦<Token as Resource>⟧ command.now self.old self.new answer.old answer.new result }
     {
         answer.clear();
-        match item_asked(command) {
-            Some(item) => self.emit(item, command.by, answer),
-            None => self.make_other(command, answer),
+        self.tidy(command);
+        let status = self.make_once(command, answer);
+        if status != status_of(Refusal::Full) {
+            return status;
         }
+        self.make_behind(command, answer)
     }
 }

@@ -1,16 +1,15 @@
 //! What a command asks is made: each by the engine's call of that name.
 
-ghost use Rattle.std.specs.Prelude.{◌≡◌, ◌≢◌, true, false, Err, IsSome, IfSome};
+ghost use Rattle.std.specs.Prelude.{◌≡◌, ◌≢◌, true, false, Err};
 ghost use Rattle.rx_cellar.specs.declared.asked.OwnKind.TheVariants.{Pass};
 ghost use Rattle.rx_event.specs.declared.refusal.Refusal.TheVariants.{NoHub};
 ghost use Rattle.rx_engine.specs.Openings.{IsOpenMade};
 ghost use Rattle.rx_engine.specs.Usings.{IsUsingMade};
-ghost use Rattle.rx_cellar.specs.Asking.{asked_of, kind_of};
+ghost use Rattle.rx_cellar.specs.Asking.{kind_of};
 ghost use Rattle.rx_cellar.specs.Makings.{Shows, shown, nothing_made, of_nothing, of_node, of_used, of_held, of_lease, of_subscribed, of_connected};
 ghost use Rattle.rx_cellar.specs.Makings.{IsSubscribed, IsConnected, WithHubs, IsPerformed};
 
-use crate::asked::{Asked, OwnKind, asked_of, kind_of};
-use crate::shapes::Command;
+use crate::asked::{Asked, OwnKind, kind_of};
 use rx_book::{At, Key, LeaseKey, Refusal, ResKey, Resource, Terminal};
 use rx_engine::{Connected, Engine, LaneOf, Subscribed, Used, User};
 use rx_pool::Share;
@@ -255,21 +254,9 @@ fn connect(
     }
 }
 
-/// Makes what a command asks that is known.
-#[inline(never)]
-pub(crate) fn perform_command(engine: &mut Engine, command: &Command) -> Result<Made, Refusal>
-    requires { IsSome (asked_of command.now) }
-    ensures { IfSome (asked_of command.now) (λ asked. IsPerformed ⟦<Token as Resource>⟧ asked command.now.by engine.old engine.new result) }
-{
-    match asked_of(command) {
-        Some(asked) => perform(engine, asked, command.by),
-        None => unreachable!(),
-    }
-}
-
-// Makes what is asked.
+/// Makes what is asked.
 #[inline(always)]
-fn perform(engine: &mut Engine, asked: Asked, by: u64) -> Result<Made, Refusal>
+pub(crate) fn perform(engine: &mut Engine, asked: Asked, by: u64) -> Result<Made, Refusal>
     ensures { IsPerformed ⟦<Token as Resource>⟧ asked by engine.old engine.new result }
 {
     match asked {

@@ -1,14 +1,28 @@
-use Rattle.std.proofs.Common.{sym, subst}
+use Rattle.std.proofs.Common.{rules, ◌≡◌, ◌≢◌, subst}
 use Rattle.rx_resource.specs.contracts.token.TokenResource.TheImpl.{ghosts}
 use Rattle.rx_cellar.specs.declared.shapes.Answer.{Answer}
-use Rattle.rx_cellar.specs.Asking.{asked_of, asked_for}
+use Rattle.rx_cellar.specs.Asking.{asked_of}
 use Rattle.rx_cellar.specs.Cellars.{IsMadeIf}
-use Rattle.rx_cellar.proofs.Tries.{item_made}
+use Rattle.rx_cellar.proofs.Tries.{made_first, made_again}
 use Rattle.rx_cellar.proofs.cellar.Cellar.make.Goals as goal
 
-pub returns-in-Some : goal.returns-in-Some
-returns-in-Some c =
-    subst (λ (a : Answer). IsMadeIf ghosts (asked_of c.args.command.now) c.args.command.now.by c.args.self.now c.emit.new.self a c.emit.new.answer c.emit.result)
-    c.clear.ensures
-    (item_made ghosts (asked_of c.args.command.now) (asked_for c.in-Some.item) c.args.command.now.by c.args.self.now c.emit.new.self c.clear.new.self
-    c.emit.new.answer c.emit.result c.in-Some.ensures.item c.emit.ensures)
+pub returns-then-status-status_of : goal.returns-then-status-status_of
+returns-then-status-status_of c =
+    let h = c.if-status-status_of.true in
+    let f = c.status_of.ensures in
+    let other : c.make_once-status.result ≢ 16 = search rules in
+    subst (λ (a : Answer). IsMadeIf ghosts (asked_of c.args.command.now) c.args.command.now.by c.args.self.now c.make_once-status.new.self a
+    c.make_once-status.new.answer c.make_once-status.result) c.clear.ensures
+    (made_first ghosts (asked_of c.args.command.now) c.args.command.now.by c.args.self.now c.tidy.new.self c.make_once-status.new.self c.clear.new.self
+    c.make_once-status.new.answer c.make_once-status.result c.tidy.ensures c.make_once-status.ensures other)
+
+pub returns : goal.returns
+returns c =
+    let h = c.if-status-status_of.false in
+    let f = c.status_of.ensures in
+    let full : c.make_once-status.result ≡ 16 = search rules in
+    subst (λ (a : Answer). IsMadeIf ghosts (asked_of c.args.command.now) c.args.command.now.by c.args.self.now c.make_behind.new.self a
+    c.make_behind.new.answer c.make_behind.result) c.clear.ensures
+    (made_again ghosts (asked_of c.args.command.now) c.args.command.now.by c.args.self.now c.tidy.new.self c.make_once-status.new.self c.make_behind.new.self
+    c.clear.new.self c.make_once-status.new.answer c.make_behind.new.answer c.make_once-status.result c.make_behind.result c.tidy.ensures
+    c.make_once-status.ensures full c.make_behind.ensures)

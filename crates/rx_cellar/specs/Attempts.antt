@@ -1,0 +1,40 @@
+-- A command that is tried, and tried again behind a checkpoint, as its answer tells it. No public clause cites this module.
+use Rattle.std.specs.Prelude.{◌≡◌, ℕ, Option, Some, None, Ok, Err}
+use Rattle.rx_resource.specs.declared.Resource.{Ghosts}
+use Rattle.rx_resource.specs.declared.token.Token.{Token}
+use Rattle.rx_event.specs.declared.refusal.Refusal.{Refusal}
+use Rattle.rx_typed.specs.Codes.{refusal_status}
+use Rattle.rx_cellar.specs.declared.shapes.Command.{Command}
+use Rattle.rx_cellar.specs.declared.shapes.Answer.{Answer}
+use Rattle.rx_cellar.specs.declared.making.Made.{Made}
+use Rattle.rx_cellar.specs.declared.asked.Asked.{Asked}
+use Rattle.rx_cellar.specs.declared.cellar.Cellar.{Cellar}
+use Rattle.rx_cellar.specs.Asking.{asked_of}
+use Rattle.rx_cellar.specs.Cellars.{Tidies, IsTidy, Performs, told, HandsOut, hands_out}
+
+-- before a command that is known a checkpoint is made where one is to be made
+abbrev pub IsTidyFor : Option Asked → Cellar → Cellar → Type 0
+IsTidyFor None s t = t ≡ s
+IsTidyFor (Some asked) s t = IsTidy s t
+
+-- done, and all of it told; or refused, and nothing is told
+pub data IsMadeOnce (g : Ghosts Token) (asked : Asked) (by : ℕ) (s t : Cellar) (a b : Answer) (status : ℕ) : Type 0 where
+  once_done : (made : Made) (v : Cellar) → Performs g asked by s v (Ok made) → HandsOut (hands_out asked v.engine) by v t (told made v.engine a) b →
+      status ≡ 0 → IsMadeOnce g asked by s t a b status
+  once_refused : (why : Refusal) → Performs g asked by s t (Err why) → b ≡ a → status ≡ refusal_status why → IsMadeOnce g asked by s t a b status
+
+abbrev pub IsMadeOnceIf : Ghosts Token → Option Asked → (by : ℕ) → Cellar → Cellar → Answer → Answer → ℕ → Type 0
+IsMadeOnceIf g None by s t a b status = (status ≡ 5) × (t ≡ s) × (b ≡ a)
+IsMadeOnceIf g (Some asked) by s t a b status = IsMadeOnce g asked by s t a b status
+
+-- by its numbers
+abbrev pub IsTriedOnce : Ghosts Token → Command → Cellar → Cellar → Answer → Answer → ℕ → Type 0
+IsTriedOnce g c s t a b status = IsMadeOnceIf g (asked_of c) c.by s t a b status
+
+-- behind a checkpoint; or that was refused, and so is the command, for its cause
+pub data IsMadeBehind (g : Ghosts Token) (o : Option Asked) (by : ℕ) (s t : Cellar) (a b : Answer) (status : ℕ) : Type 0 where
+  made_behind : (at : ℕ) (u : Cellar) → Tidies s u (Ok at) → IsMadeOnceIf g o by u t a b status → IsMadeBehind g o by s t a b status
+  made_not : (why : Refusal) → Tidies s t (Err why) → b ≡ a → status ≡ refusal_status why → IsMadeBehind g o by s t a b status
+
+abbrev pub IsTriedBehind : Ghosts Token → Command → Cellar → Cellar → Answer → Answer → ℕ → Type 0
+IsTriedBehind g c s t a b status = IsMadeBehind g (asked_of c) c.by s t a b status
