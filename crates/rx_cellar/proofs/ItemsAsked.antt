@@ -24,13 +24,13 @@ asked_is : (c : Command) → c.spare ≡ 0 → c.what ≡ 3 → c.flags ≡ 0 �
 asked_is c spare what flags = λ i. asked_of (record c { what = what i; flags = flags i; spare = spare i })
 
 pub item_is : (c : Command) → is_emission c ≡ true → asked_of c ≡ Some (Next (key_of c.node) c.value true)
-item_is c holds = by_tests (c.spare == 0) (c.what == 3) (c.flags == 0) refl refl refl holds where
-  by_tests : (s w f : Bool) → c.spare == 0 ≡ s → c.what == 3 ≡ w → c.flags == 0 ≡ f → s && (w && f) ≡ true →
+item_is c holds = by_tests (c.what == 3) (c.flags == 0) (c.spare == 0) refl refl refl holds where
+  by_tests : (w f s : Bool) → c.what == 3 ≡ w → c.flags == 0 ≡ f → c.spare == 0 ≡ s → (w && f) && s ≡ true →
       asked_of c ≡ Some (Next (key_of c.node) c.value true)
-  by_tests true true true spare what flags all = asked_is c (number_is c.spare 0 spare) (number_is c.what 3 what) (number_is c.flags 0 flags)
-  by_tests true true false spare what flags all = absurd (cc)
-  by_tests true false f spare what flags all = absurd (cc)
-  by_tests false w f spare what flags all = absurd (cc)
+  by_tests true true true what flags spare all = asked_is c (number_is c.spare 0 spare) (number_is c.what 3 what) (number_is c.flags 0 flags)
+  by_tests true true false what flags spare all = absurd (cc)
+  by_tests true false s what flags spare all = absurd (cc)
+  by_tests false f s what flags spare all = absurd (cc)
 
 -- what asks for none -----------------------------------------------------------------------------------------
 
@@ -88,7 +88,8 @@ code_asks c fails =
     (asks_if (c.what == 9) _ _ (connect_asks c) (asks_if (c.what == 11) _ _ (put_asks c) (asks_if (c.flags == 0) _ _ (plain_asks c) refl)))))
 
 pub other_asks : (c : Command) → is_emission c ≡ false → asks_item (asked_of c) ≡ false
-other_asks c fails = by_spare (c.spare == 0) fails where
-  by_spare : (b : Bool) → b && (c.what == 3 && c.flags == 0) ≡ false → asks_item (if b then by_code c else None) ≡ false
-  by_spare true other = code_asks c other
-  by_spare false other = refl
+other_asks c fails = by_tests (c.what == 3 && c.flags == 0) (c.spare == 0) refl fails where
+  by_tests : (item plain : Bool) → (c.what == 3 && c.flags == 0) ≡ item → item && plain ≡ false → asks_item (if plain then by_code c else None) ≡ false
+  by_tests item false is other = refl
+  by_tests false true is other = code_asks c is
+  by_tests true true is other = absurd (cc)

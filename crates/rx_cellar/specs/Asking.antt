@@ -111,7 +111,7 @@ asks_item (Some asked) = hands asked
 
 -- by its numbers
 abbrev pub is_emission : Command → Bool
-is_emission c = c.spare == 0 && (c.what == 3 && c.flags == 0)
+is_emission c = (c.what == 3 && c.flags == 0) && c.spare == 0
 
 abbrev pub asked_for : Item → Asked
 asked_for item = Next item.leaf item.value true

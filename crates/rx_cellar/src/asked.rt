@@ -127,7 +127,15 @@ fn lane_asked(code: u8, node: RxNode) -> Option<Option<LaneOf>>
 fn user_of(command: Command) -> Option<User>
     ensures { result ≡ user_of command }
 {
-    if command.place != 0 && command.flags > 1 {
+    // Most commands wish at most.
+    if command.flags < 2 {
+        return Some(User {
+            word: command.user,
+            lane: None,
+            wished: command.flags == 1,
+        });
+    }
+    if command.place != 0 {
         return None;
     }
     let lane = lane_asked(command.flags / 2, command.node)?;
@@ -269,7 +277,7 @@ fn by_code(command: Command) -> Option<Asked>
 fn is_emission(command: &Command) -> bool
     ensures { result ≡ is_emission command.now }
 {
-    command.spare == 0 && (command.what == 3 && command.flags == 0)
+    command.what == 3 && command.flags == 0 && command.spare == 0
 }
 
 /// The item that a command asks for, where it is to be handed out: found before the rest of the command is read.

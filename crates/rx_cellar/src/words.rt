@@ -48,5 +48,9 @@ pub(crate) fn is_inside(word: u64) -> bool
 pub(crate) fn is_named(word: u64, name: LaneName) -> bool
     ensures { result ≡ is_named word name }
 {
-    word % INSIDE == word_of(name)
+    // Who finds the name at the word's place has only turns left to compare.
+    if place_in(word) != name.place % PLACES as usize {
+        return false;
+    }
+    word / PLACES % TURNS == name.turn % TURNS
 }
