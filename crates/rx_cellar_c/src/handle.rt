@@ -11,7 +11,7 @@ use crate::loose::Loose;
 use rx_cellar::Cellar;
 use std::alloc::Global;
 use std::marker::Model;
-use std::mem;
+use std::mem::{self, ManuallyDrop};
 use std::ptr::null_mut;
 
 /// What C holds: a pointer to what is kept, or null.
@@ -70,15 +70,20 @@ impl CellarHandle {
         }
     }
 
-    /// Puts a box in, and gives back what was kept before. The engine's promise is told with it.
-    pub fn put(&mut self, kept: Box<Cellar>, alloc: Global)
+    // Lets go of a handle that keeps nothing.
+    fn let_go(self)
+        requires { self.kept ≡ None }
+    {
+        let _empty = unsafe { ManuallyDrop::new_unchecked(self) };
+    }
+
+    /// Puts a box in where none is kept. The engine's promise is told with it.
+    pub(crate) fn put(&mut self, kept: Box<Cellar>)
+        requires empty { self.old.kept ≡ None }
         ensures kept { self.new.kept ≡ Some kept.value }
         ensures promised { IsPromised kept.value.engine }
     {
         kept.promise();
-        let before = mem::replace(self, CellarHandle::holding(Loose::of(kept)));
-        if let Some(loose) = before.into_loose(alloc) {
-            drop(loose.into_box());
-        }
+        mem::replace(self, CellarHandle::holding(Loose::of(kept))).let_go();
     }
 }

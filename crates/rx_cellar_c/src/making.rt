@@ -44,12 +44,12 @@ pub extern "C" fn cellar_new(alloc: Global, handle: &mut CellarHandle, max_event
     ensures { IsMade max_events handle.old.kept handle.new.kept result }
 {
     if let Some(kept) = handle.take(alloc) {
-        handle.put(kept, alloc);
+        handle.put(kept);
         return HELD;
     }
     match Box::new(alloc, Cellar::new(alloc, max_events)) {
         Ok(kept) => {
-            handle.put(kept, alloc);
+            handle.put(kept);
             DONE
         }
         Err(_) => NO_MEMORY,
@@ -72,7 +72,7 @@ pub extern "C" fn cellar_make(
         return NOTHING_KEPT;
     };
     let status = kept.make(command, answer);
-    handle.put(kept, alloc);
+    handle.put(kept);
     status
 }
 
@@ -85,7 +85,7 @@ pub extern "C" fn cellar_finish(alloc: Global, handle: &mut CellarHandle) -> u8
         return NOTHING_KEPT;
     };
     if !kept.is_done() {
-        handle.put(kept, alloc);
+        handle.put(kept);
         return UNTAKEN;
     }
     DONE

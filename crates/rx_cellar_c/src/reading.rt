@@ -21,7 +21,7 @@ pub extern "C" fn cellar_totals(alloc: Global, handle: &mut CellarHandle, totals
         return NOTHING_KEPT;
     };
     *totals = kept.totals();
-    handle.put(kept, alloc);
+    handle.put(kept);
     DONE
 }
 
@@ -40,7 +40,7 @@ pub extern "C" fn cellar_event(
         return NOTHING_KEPT;
     };
     let status = kept.event(place, event);
-    handle.put(kept, alloc);
+    handle.put(kept);
     status
 }
 
@@ -61,6 +61,6 @@ pub extern "C" fn cellar_dump(
         return NOTHING_KEPT;
     };
     let status = dump_to(&kept, alloc, buffer, told);
-    handle.put(kept, alloc);
+    handle.put(kept);
     status
 }

@@ -27,7 +27,7 @@ pub extern "C" fn cellar_take(
         return NOTHING_KEPT;
     };
     let status = kept.take_told(lane, by, effect, count);
-    handle.put(kept, alloc);
+    handle.put(kept);
     status
 }
 
@@ -49,7 +49,7 @@ pub extern "C" fn cellar_give_up(
         return NOTHING_KEPT;
     };
     let status = kept.give_up(lane, by, untold, is_left);
-    handle.put(kept, alloc);
+    handle.put(kept);
     status
 }
 
@@ -71,7 +71,7 @@ pub extern "C" fn cellar_left(
         return NOTHING_KEPT;
     };
     let status = kept.left(from, lane, next);
-    handle.put(kept, alloc);
+    handle.put(kept);
     status
 }
 
@@ -93,6 +93,6 @@ pub extern "C" fn cellar_rest(
         return NOTHING_KEPT;
     };
     let status = kept.rest(which, from, words, count);
-    handle.put(kept, alloc);
+    handle.put(kept);
     status
 }
