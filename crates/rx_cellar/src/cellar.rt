@@ -196,7 +196,7 @@ impl Cellar {
     // Makes a command behind a checkpoint. What stands against that stands against the command.
     #[cold]
     #[inline(never)]
-    fn make_behind(&mut self, command: &Command, answer: &mut Answer) -> u8
+    fn make_again(&mut self, command: &Command, answer: &mut Answer) -> u8
         ensures { IsTriedBehind ⟦<Token as Resource>⟧ command.now self.old self.new answer.old answer.new result }
     {
         match self.checkpoint() {
@@ -215,6 +215,6 @@ impl Cellar {
         if status != status_of(Refusal::Full) {
             return status;
         }
-        self.make_behind(command, answer)
+        self.make_again(command, answer)
     }
 }

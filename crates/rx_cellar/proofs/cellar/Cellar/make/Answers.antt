@@ -21,8 +21,8 @@ returns c =
     let h = c.if-status-status_of.false in
     let f = c.status_of.ensures in
     let full : c.make_once-status.result ≡ 16 = search rules in
-    subst (λ (a : Answer). IsMadeIf ghosts (asked_of c.args.command.now) c.args.command.now.by c.args.self.now c.make_behind.new.self a
-    c.make_behind.new.answer c.make_behind.result) c.clear.ensures
-    (made_again ghosts (asked_of c.args.command.now) c.args.command.now.by c.args.self.now c.tidy.new.self c.make_once-status.new.self c.make_behind.new.self
-    c.clear.new.self c.make_once-status.new.answer c.make_behind.new.answer c.make_once-status.result c.make_behind.result c.tidy.ensures
-    c.make_once-status.ensures full c.make_behind.ensures)
+    subst (λ (a : Answer). IsMadeIf ghosts (asked_of c.args.command.now) c.args.command.now.by c.args.self.now c.make_again.new.self a
+    c.make_again.new.answer c.make_again.result) c.clear.ensures
+    (made_again ghosts (asked_of c.args.command.now) c.args.command.now.by c.args.self.now c.tidy.new.self c.make_once-status.new.self c.make_again.new.self
+    c.clear.new.self c.make_once-status.new.answer c.make_again.new.answer c.make_once-status.result c.make_again.result c.tidy.ensures
+    c.make_once-status.ensures full c.make_again.ensures)

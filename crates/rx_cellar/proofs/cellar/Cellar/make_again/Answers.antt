@@ -3,7 +3,7 @@ use Rattle.rx_resource.specs.contracts.token.TokenResource.TheImpl.{ghosts}
 use Rattle.rx_cellar.specs.Asking.{asked_of}
 use Rattle.rx_cellar.specs.Attempts.{IsMadeBehind}
 use Rattle.rx_cellar.proofs.Tries.{behind, not_behind}
-use Rattle.rx_cellar.proofs.cellar.Cellar.make_behind.Goals as goal
+use Rattle.rx_cellar.proofs.cellar.Cellar.make_again.Goals as goal
 
 pub returns-in-Ok : goal.returns-in-Ok
 returns-in-Ok c =
