@@ -3,3 +3,4 @@ pub mod WordsFind
 pub mod ItemsAsked
 pub mod ItemsEmitted
 pub mod Tries
+pub mod TakesGoOn

@@ -206,6 +206,7 @@ impl Cellar {
     }
 
     /// Makes a command. The status is 0 where it was done, 5 where a number of it is none, else that of the refusal.
+    #[inline(always)]
     pub fn make(&mut self, command: &Command, answer: &mut Answer) -> u8
         ensures { IsCommandMade ⟦<Token as Resource>⟧ command.now self.old self.new answer.old answer.new result }
     {

@@ -23,18 +23,21 @@
 //! - Where the history is full a checkpoint is made, and the command is tried once more; where the checkpoint is
 //!   refused, for want of memory, so is the command. Where a share finds no hub the hubs are made, and it is tried
 //!   once more.
-//! - Serving, giving up and finding lanes are the engine's, by the lane that the word names.
+//! - Serving, giving up and finding lanes are the engine's, by the lane that the word names. [`Cellar::take_on`] takes
+//!   one effect after another, and [`Cellar::make_behind`] gives a lane back with the next command.
 //! - What a face makes of effects is its own: that it serves what an answer names, and that words of callers differ.
 #![tactic(auto)]
 
 mod asked;
 mod beginning;
+mod behind;
 mod cellar;
 mod making;
 mod reading;
 mod rest;
 mod serving;
 mod shapes;
+mod taking_on;
 mod word_laws;
 mod words;
 

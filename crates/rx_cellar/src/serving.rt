@@ -80,7 +80,7 @@ fn uncounted_where(answer: Option<bool>, sent: Option<Sent>, released: u64) -> u
 
 impl Cellar {
     // The lane that a word names.
-    fn named(&self, word: u64) -> Option<LaneName>
+    pub(crate) fn named(&self, word: u64) -> Option<LaneName>
         ensures { result ≡ named self.now.engine.parts.lanes word }
     {
         let name = self.engine.lanes().name_at(place_in(word))?;
@@ -92,6 +92,7 @@ impl Cellar {
     }
 
     /// Takes the next effect of a lane, for who serves it or may.
+    #[inline(always)]
     pub fn take(&mut self, word: u64, by: u64) -> Option<Effect>
         ensures { IsTaken word by self.old self.new result }
     {
