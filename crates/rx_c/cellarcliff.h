@@ -4,7 +4,7 @@
  * In one paragraph. A face (the operators of a language) gives each node that it opens a word of its own, each resource a tag,
  * each item a value: numbers or addresses that the engine never reads. It makes one command at a time by cellar_make, under its own
  * lock. A command comes to a status, an answer, and effects, which stand in lanes. Whoever is named by the answer serves those
- * lanes by cellar_take, outside the lock, one effect at a time. The engine calls nobody.
+ * lanes by cellar_take or cellar_take_on, and does the effects outside the lock, one at a time. The engine calls nobody.
  *
  * WHAT NO PROOF SEES: this header. The exports are proved (crates/rx_cellar_c); that they have these arguments and layouts is compared
  * by `tools/try-typed --header`, and by the assertions at the end.
@@ -64,6 +64,7 @@ extern "C" {
  *   read but compared (`by`) and given back.
  * Refusal. With any status but 0 nothing changed that a later call can see (the engine may have made a checkpoint, or hubs for
  *   shares, which its events tell), all counts of the answer are 0, no tag and no value was taken in, and no effect comes of the command.
+ *   Of cellar_make_behind this is said of its command, beside the lane that it serves on or gives back.
  * Memory. Only CELLAR_OPEN, CELLAR_USING, CELLAR_HOLD, CELLAR_APPLY, CELLAR_LEASE, CELLAR_CONNECT, CELLAR_NEXT, CELLAR_PUT, cellar_new
  *   and cellar_dump may answer CELLAR_NO_MEMORY. An opening may answer it before a cause of its own. A command that finds the history
  *   full answers it where the checkpoint that would make room is refused memory.
@@ -87,7 +88,7 @@ extern "C" {
  *   - what does not fit becomes a call of another name, beside the old one.
  *   cellar_abi answers the number of the header that the library was built for. A face asks once, by CELLAR_FITS, and refuses to run
  *   where the upper half differs from CELLAR_ABI's, or the lower half is less; CELLAR_ANOTHER says so. */
-#define CELLAR_ABI UINT32_C(0x00010000) /* upper half: counts changes that break; lower half: what was added since */
+#define CELLAR_ABI UINT32_C(0x00010001) /* upper half: counts changes that break; lower half: what was added since */
 
 uint32_t cellar_abi(void);
 #define CELLAR_FITS() (cellar_abi() >> 16 == CELLAR_ABI >> 16 && (cellar_abi() & 0xFFFF) + 1 > (CELLAR_ABI & 0xFFFF))
@@ -232,7 +233,7 @@ enum cellar_status {
   CELLAR_HELD = 3,          /* cellar_new: the handle keeps an engine already */
   CELLAR_NO_MEMORY = 4,
   CELLAR_NO_SUCH_CODE = 5,
-  CELLAR_UNTAKEN = 6,       /* cellar_finish: an effect waits, or something is open, held or leased */
+  CELLAR_UNTAKEN = 6,       /* cellar_finish: an effect waits, or something is open, held or leased. cellar_make_behind: the lane has an effect */
   CELLAR_SMALL = 7,         /* cellar_dump */
   CELLAR_CUT = 8,           /* cellar_dump: the engine made a checkpoint, so the history is not whole */
   CELLAR_MISUSE = 9,        /* CELLAR_ARMOR alone: a null or misaligned pointer */
@@ -262,6 +263,21 @@ uint8_t cellar_make(struct cellar *engine, const struct cellar_command *command,
  * it, only what stands before the rest is taken, and *count 0 leaves the caller serving further out. */
 uint8_t cellar_take(struct cellar *engine, uint64_t lane, uint64_t by, struct cellar_effect *effect, uint64_t *count);
 
+/* Takes one effect of a lane after another, as cellar_take does, until `room` are taken or the lane has no more: 0 or 1. *count is how
+ * many; they stand at the front of `effects`, whose rest is not written. Do them in that order, and call again: with *count 0 the caller
+ * serves the lane no more, as with cellar_take, and with any other it serves the lane on, since what came into it meanwhile would overtake
+ * what is still to be done. A room of 0 takes nothing and ends nothing. What was taken nobody else is given, and cellar_give_up takes
+ * back one effect. So whoever may stop in the midst takes one at a time: a face whose callbacks can be interrupted, or who serves a lane
+ * of projections, which a Switch's exchange from within its mapper gives up. */
+uint8_t cellar_take_on(struct cellar *engine, uint64_t lane, uint64_t by, struct cellar_effect *effects, size_t room, uint64_t *count);
+
+/* Makes a command behind the serving of a lane, whose caller, the command's `by`, did all that it took of it: one call for a cellar_take
+ * that finds none, and a cellar_make. Where the lane has another effect the command is not made, and no checkpoint: CELLAR_UNTAKEN.
+ * Then `handed` is 1 and `effect` is that effect, of `lane`, which the caller goes on to serve; all other counts are 0. Do it, and call
+ * again, or serve the lane to its end first. With any other status the lane is given back, also where the command was refused. Until
+ * the call nobody else is given what comes into the lane: so only for a command that follows at once, as the next item of a loop. */
+uint8_t cellar_make_behind(struct cellar *engine, uint64_t lane, const struct cellar_command *command, struct cellar_answer *answer);
+
 /* Lets others serve a lane that `by` serves, in the midst of serving it: 0, 1, 5 or 17. `count` is how many effects (0 or 1) the
  * caller took and did not tell, which go to the front again. *is_left is 1 if the lane has something now. CELLAR_GONE: `by` does not
  * serve the lane, and nothing was done; an effect that was passed is still the caller's. For a Switch's exchange from within its
@@ -273,7 +289,7 @@ uint8_t cellar_give_up(struct cellar *engine, uint64_t lane, uint64_t by, const 
 uint8_t cellar_left(struct cellar *engine, uint64_t from, uint64_t *lane, uint64_t *next);
 
 /* The rest of the answer of the last command on this handle whose status was 0, from this place on: its closings (0) or its lanes (1).
- * Before any other cellar_make or cellar_take, so under the lock under which the command was made: 0, 1 or 5. */
+ * Before any other command or taking, so under the lock under which the command was made: 0, 1 or 5. */
 uint8_t cellar_rest(struct cellar *engine, uint8_t which, uint64_t from, uint64_t *words, size_t room, uint64_t *count);
 
 uint8_t cellar_totals(struct cellar *engine, struct cellar_totals *totals);
@@ -366,6 +382,14 @@ static inline uint8_t cellar_make_armored(struct cellar *engine, const struct ce
 static inline uint8_t cellar_take_armored(struct cellar *engine, uint64_t lane, uint64_t by, struct cellar_effect *effect, uint64_t *count) {
   return CELLAR_FIT(engine) && CELLAR_FIT(effect) && CELLAR_FIT(count) ? cellar_take(engine, lane, by, effect, count) : (uint8_t)CELLAR_MISUSE;
 }
+static inline uint8_t cellar_take_on_armored(struct cellar *engine, uint64_t lane, uint64_t by, struct cellar_effect *effects, size_t room,
+                                         uint64_t *count) {
+  return CELLAR_FIT(engine) && CELLAR_FIT(effects) && CELLAR_FIT(count) ? cellar_take_on(engine, lane, by, effects, room, count) : (uint8_t)CELLAR_MISUSE;
+}
+static inline uint8_t cellar_make_behind_armored(struct cellar *engine, uint64_t lane, const struct cellar_command *command,
+                                             struct cellar_answer *answer) {
+  return CELLAR_FIT(engine) && CELLAR_FIT(command) && CELLAR_FIT(answer) ? cellar_make_behind(engine, lane, command, answer) : (uint8_t)CELLAR_MISUSE;
+}
 static inline uint8_t cellar_give_up_armored(struct cellar *engine, uint64_t lane, uint64_t by, const struct cellar_effect *untold,
                                          uint64_t count, uint64_t *is_left) {
   return CELLAR_FIT(engine) && CELLAR_FIT(untold) && CELLAR_FIT(is_left) ? cellar_give_up(engine, lane, by, untold, count, is_left) : (uint8_t)CELLAR_MISUSE;
@@ -402,6 +426,8 @@ static inline void cellar_drop_armored(struct cellar *engine) {
 #define cellar_finish(e) cellar_finish_armored(e)
 #define cellar_make(e, c, a) cellar_make_armored(e, c, a)
 #define cellar_take(e, l, b, f, n) cellar_take_armored(e, l, b, f, n)
+#define cellar_take_on(e, l, b, f, r, n) cellar_take_on_armored(e, l, b, f, r, n)
+#define cellar_make_behind(e, l, c, a) cellar_make_behind_armored(e, l, c, a)
 #define cellar_give_up(e, l, b, f, n, i) cellar_give_up_armored(e, l, b, f, n, i)
 #define cellar_rest(e, w, f, d, r, n) cellar_rest_armored(e, w, f, d, r, n)
 #define cellar_drop(e) cellar_drop_armored(e)

@@ -4,6 +4,7 @@ ghost use Rattle.std.specs.Prelude.{◌≡◌, None};
 ghost use Rattle.rx_resource.specs.contracts.token.TokenResource.TheImpl.{ghosts};
 ghost use Rattle.rx_cellar.specs.Crossings.{no_answer};
 ghost use Rattle.rx_cellar.specs.Cellars.{IsCommandMade};
+ghost use Rattle.rx_cellar.specs.Behind.{IsMadeBehind};
 ghost use Rattle.rx_cellar_c.specs.Calls.{IsCalled, IsMade, IsFinished, size_of};
 
 use crate::handle::CellarHandle;
@@ -12,12 +13,12 @@ use rx_typed::{DONE, HELD, NO_MEMORY, NOTHING_KEPT, UNTAKEN};
 use std::alloc::Global;
 
 // The number of the header.
-const ABI: u32 = 65_536;
+const ABI: u32 = 65_537;
 
 /// The number of the header that the library was built for.
 #[unsafe(no_mangle)]
 pub extern "C" fn cellar_abi() -> u32
-    ensures { result ≡ 65536 }
+    ensures { result ≡ 65537 }
 {
     ABI
 }
@@ -73,6 +74,28 @@ pub extern "C" fn cellar_make(
     };
     let status = kept.make(command, answer);
     handle.put(kept);
+    status
+}
+
+/// Makes a command behind all that its caller took of a lane, which is given back; where the lane has another effect,
+/// that is handed out, and the command is not made.
+#[unsafe(no_mangle)]
+pub extern "C" fn cellar_make_behind(
+    alloc: Global,
+    handle: &mut CellarHandle,
+    lane: u64,
+    command: &Command,
+    answer: &mut Answer,
+) -> u8
+    ensures { IsCalled (λ s t n. IsMadeBehind ghosts lane command.now s t answer.old answer.new n) (answer.new ≡ no_answer answer.old)
+        handle.old.kept handle.new.kept result }
+{
+    let Some(mut kept) = handle.take(alloc) else {
+        answer.clear();
+        return NOTHING_KEPT;
+    };
+    let status = kept.make_behind(lane, command, answer);
+    handle.put(kept, alloc);
     status
 }
 
