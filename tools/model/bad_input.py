@@ -21,9 +21,9 @@ from .history import forget
 from .scenario import Differs
 from .typed import CUT, HELD, NOTHING_WAITS, REFUSED, SMALL
 
-MAKE, TAKE, GIVE_UP, LEFT, REST, TOTALS, EVENT, DUMP, FINISH, NEW, DROP = range(11)
-CALLS = ('make', 'take', 'give up', 'left', 'rest', 'totals', 'event', 'dump', 'finish', 'new', 'drop')
-POINTERS = (3, 3, 3, 3, 3, 2, 2, 3, 1, 1, 1)  # of each call
+MAKE, TAKE, GIVE_UP, LEFT, REST, TOTALS, EVENT, DUMP, FINISH, NEW, DROP, TAKE_ON, MAKE_BEHIND = range(13)
+CALLS = ('make', 'take', 'give up', 'left', 'rest', 'totals', 'event', 'dump', 'finish', 'new', 'drop', 'take on', 'make behind')
+POINTERS = (3, 3, 3, 3, 3, 2, 2, 3, 1, 1, 1, 3, 3)  # of each call
 MISUSE, GONE = 9, REFUSED['Gone']
 OF_ONE = (HOLD, NEXT, COMPLETE, ERROR, FAIL, DECLINE, DISPOSE, PUT, ABORT, APPLY, REMOVE, LEASE, GIVE_BACK)  # which read a key
 FLAGS = {OPEN: (0, 1, 2, 3, 6, 7), USING: (0, 1, 2, 3, 6, 7), NEXT: (0, 8), PUT: (0, 4)}
@@ -106,7 +106,14 @@ class Bad:
             self.said[seen] = self.model.made(c).status
             if self.said[seen] in (0, 16) or len(self.model.h) != events:
                 raise Differs(f'{c} is no bad input')
-        self.call(MAKE, self.said[seen], self.command(self.filled(c), key))
+        self.refused(self.said[seen], self.filled(c), key)
+
+    def refused(self, wanted: int, c: Command, key: tuple[int, int]) -> None:
+        """A command; or one behind a lane of which its caller is given nothing, and which stands where the hub does."""
+        is_behind = self.rng.random() < 0.2
+        if is_behind:
+            c.hub, c.by = self.lane()
+        self.call(MAKE_BEHIND if is_behind else MAKE, wanted, self.command(c, key))
 
     def by_code(self) -> None:
         """A command that would do, but for a number that is none."""
@@ -127,7 +134,7 @@ class Bad:
                 c.place = rng.randrange(4) if c.what in (OPEN, USING) else rng.randrange(256)
                 c.flags = rng.randrange(256)
         if not is_known(c):
-            self.call(MAKE, NO_SUCH_CODE, self.command(c, key))
+            self.refused(NO_SUCH_CODE, c, key)
 
     def lane(self) -> tuple[int, int]:
         """A lane's word, and a caller who is given nothing of it: of another engine, made up, let go, or that another serves."""
@@ -143,7 +150,7 @@ class Bad:
     def by_lane(self) -> None:
         rng, (word, by) = self.rng, self.lane()
         if rng.random() < 0.5:
-            self.call(TAKE, 0, (word, by))
+            self.call(*rng.choice(((TAKE, 0, (word, by)), (TAKE_ON, 0, (word, by, rng.randrange(9))))))
         else:
             count, kind = rng.choice((0, 1, 1, 1, 2)), rng.choice((*range(8), 8, 255, 2**31))
             effect = self.word(), self.word(), self.word(), kind | rng.randrange(3) << 32
@@ -171,10 +178,10 @@ class Bad:
     def by_pointer(self) -> None:
         """Any call, with one pointer that is none: it is not made, whatever it would have been."""
         rng = self.rng
-        call = rng.choice((MAKE, MAKE, TAKE, GIVE_UP, *range(11)))
+        call = rng.choice((MAKE, MAKE, TAKE, GIVE_UP, *range(13)))
         pointer = rng.randrange(POINTERS[call]) + 1
         off = 0 if (call, pointer) == (DUMP, 2) else rng.randrange(8)  # a buffer of bytes is aligned anywhere
-        if call == MAKE:
+        if call in (MAKE, MAKE_BEHIND):
             what, node = rng.choice(((12, 0), (DISPOSE, 1), (NEXT, 1), (OPEN, 0))), (0, 0)
             key = self.own.engine.cellar.key(rng.choice(self.own.keys)) if what[1] and self.own.keys else node
             words = self.command(self.filled(Command(what[0])), key)
@@ -185,8 +192,9 @@ class Bad:
 
     def by_handle(self) -> None:
         """Any call on a handle that keeps nothing."""
-        call = self.rng.choice((MAKE, TAKE, GIVE_UP, LEFT, REST, TOTALS, EVENT, DUMP, FINISH))
-        words = (self.word() & 2**64 - 256 | self.rng.randrange(18) if call == MAKE else self.word(), self.word() % 9 if call == REST else self.word(),
+        call = self.rng.choice((MAKE, TAKE, GIVE_UP, LEFT, REST, TOTALS, EVENT, DUMP, FINISH, TAKE_ON, MAKE_BEHIND))
+        what = self.word() & 2**64 - 256 | self.rng.randrange(18) if call in (MAKE, MAKE_BEHIND) else self.word()
+        words = (what, self.word() % 9 if call == REST else self.word(),
                  self.rng.randrange(9) if call == REST else self.rng.randrange(2), *(self.word() for _ in range(5)))
         self.call(call, NOTHING_KEPT, (self.rng.randrange(64), *words[1:]) if call == DUMP else words, handle=1)
 

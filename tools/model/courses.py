@@ -8,7 +8,7 @@ from typing import Any
 from .cellar import INSIDE, Cellar
 from .definitions import Accept, is_held, is_out, kind_of, open_nodes, owed, parent, resources, stops, was_opened
 from .engine import (ABORT, AT, APPLY, COMPLETE, CONNECT, DECLINE, DISCONNECT, DISPOSE, DONE, ERROR, FAIL, GIVE_BACK, HOLD, LEASE, NEXT,
-                     NOTHING, OPEN, PUT, REMOVE, SHUT, USING, BLOCK, MOST, Answer, Command, Effect, Engine, PooledHub, choice)
+                     NOTHING, OPEN, PUT, REMOVE, SHUT, UNTAKEN, USING, BLOCK, MOST, Answer, Command, Effect, Engine, PooledHub, choice)
 from .scenario import Differs, Following
 from .texts import events_of
 from .typed import REFUSED
@@ -38,17 +38,25 @@ class Beside:
         if said != wanted:
             raise Differs(f'{what}: {said}, and it is {wanted}')
 
-    def make(self, c: Command) -> tuple[Any, Answer]:
-        made = self.cellar.make(c)
+    def make(self, c: Command, behind: int | None = None) -> tuple[Any, Answer]:
+        """A command; or one behind a lane, by its word."""
+        made = self.cellar.make(c) if behind is None else self.cellar.make(c, behind)
         step = ['make', self.written(c), {'status': made.status} if made.status else {}]
-        self.steps.append(step)
+        self.steps.append(step if behind is None else ['make behind', behind, *step[1:]])
         self.way.told += self.cellar.events()
-        wanted = self.model.made(c)
+        if behind is None:
+            wanted = self.model.made(c)
+        else:
+            name = self.names.get(behind & ~INSIDE, -1)
+            self.first(name, made.handed)
+            wanted = self.model.make_behind(c, name, behind >= INSIDE)
         self.same('status', made.status, wanted.status)
+        if made.status == UNTAKEN:
+            self.same('what is handed out in place of the command', made.handed, wanted.handed)
         self.same('events', len(self.way.told), len(self.model.h))
         for member in ('node', 'other', 'is_connected', 'hub', 'copies'):
             self.same(member, getattr(made, member), getattr(wanted, member))
-        self.same('whether an effect is handed out', made.handed is not None, wanted.hands is not None)
+        self.same('whether an effect is handed out', made.handed is not None, wanted.hands is not None or made.status == UNTAKEN)
         self.same('closings', sorted(made.closings), sorted(wanted.closings))
         for which, n in enumerate((made.node, made.other)):
             if n is not None:
@@ -146,6 +154,13 @@ class Beside:
         self.same('what is taken', effect, self.model.take(name, word >= INSIDE, by))
         return effect
 
+    def take_on(self, word: int, by: int, room: int) -> list[Effect]:
+        effects, name = self.cellar.take_on(word, by, room), self.names.get(word & ~INSIDE, -1)
+        self.steps.append(['take on', word, by, room, [list(effect) for effect in effects]])
+        wanted = self.model.take_on(name, word >= INSIDE, by, room, lambda number: self.first(name, effects[number] if number < len(effects) else None))
+        self.same('what is taken one after another', effects, wanted)
+        return effects
+
     def give_up(self, word: int, by: int, untold: Effect | None) -> int:
         status, is_left = self.cellar.give_up(word, by, untold)
         name = self.names.get(word & ~INSIDE, -1)
@@ -192,8 +207,9 @@ class Beside:
 class Course:
     """Random commands and callers. What is done and answered is written down."""
 
-    def __init__(self, rng: random.Random, cellar: Cellar, definitions: type[Engine] = Engine):
+    def __init__(self, rng: random.Random, cellar: Cellar, definitions: type[Engine] = Engine, plain: bool = False):
         self.rng = rng
+        self.plain = plain  # a lane is served one effect after another, and no command is made behind it
         small = rng.random() < 0.15
         self.shares = not small and rng.random() < 0.25
         self.most_shares = rng.choice((1, 2, 8))
@@ -316,21 +332,38 @@ class Course:
 
     def step(self) -> None:
         c = self.command()
+        if not self.plain and self.served and self.rng.random() < 0.2:
+            return self.step_behind(c)
         is_pair = isinstance(c.node, tuple)
         pair = c.node
         made, wanted = self.engine.make(c) if not is_pair else self.made_by_pair(c, pair)
+        self.did(c, made, wanted)
+
+    def did(self, c: Command, made: Any, wanted: Answer) -> None:
         self.done[c.what, made.status] += 1
         self.keys += [n for n in (wanted.node, wanted.other) if n is not None]
         self.served += [(word, c.by, wanted.handed if i == 0 else None) for i, word in enumerate(made.lanes)]
 
-    def made_by_pair(self, c: Command, pair: tuple[int, int]) -> Any:
+    def step_behind(self, c: Command) -> None:
+        """A command by who serves a lane, or was to; now and then it is another who asks."""
+        i = self.rng.randrange(len(self.served))
+        word, by, _ = self.served[i]
+        c.by = by if self.rng.random() < 0.95 else c.by
+        made, wanted = self.engine.make(c, word) if not isinstance(c.node, tuple) else self.made_by_pair(c, c.node, word)
+        if made.status == UNTAKEN:
+            self.served[i] = word, c.by, made.handed
+        elif c.by == by:
+            del self.served[i]
+        self.did(c, made, wanted)
+
+    def made_by_pair(self, c: Command, pair: tuple[int, int], *behind: int) -> Any:
         """A key that nobody was told names nothing, unless it is by chance one of something there."""
         slots = self.engine.cellar.slots
         c.node = pair[1] if slots.get(pair[1]) == pair[0] else NOTHING
         cellar, key = self.engine.cellar, self.engine.cellar.key
         try:
             cellar.key = lambda named: pair  # type: ignore[method-assign]
-            return self.engine.make(c)
+            return self.engine.make(c, *behind)
         finally:
             cellar.key = key  # type: ignore[method-assign]
 
@@ -358,6 +391,12 @@ class Course:
             untold = last if rng.random() < 0.6 else None
             self.engine.give_up(word, by, untold)
             del self.served[i]
+        elif not self.plain and rng.random() < 0.4:
+            room = rng.choice((0, 1, 2, 3, 8))
+            if effects := self.engine.take_on(word, by, room):
+                self.served[i] = word, by, effects[-1]
+            elif room:
+                del self.served[i]
         else:
             effect = self.engine.take(word, by)
             if effect is None:
@@ -376,7 +415,10 @@ class Course:
         by = rng.choice((1, 2, 3, 4, 0, 2**64 - 1))
         self.engine.rest(rng.choice((0, 1, 1, 2, 255)), rng.choice((0, 0, 1, 5, 2**64 - 1)), rng.randrange(6))
         self.engine.same('two effects given back', self.engine.cellar.give_up(word, by, None, 2), (5, 0))
-        if rng.random() < 0.8:
+        if not self.plain and rng.random() < 0.3:
+            if effects := self.engine.take_on(word, by, rng.randrange(4)):
+                self.served.append((word, by, effects[-1]))
+        elif rng.random() < 0.8:
             effect = self.engine.take(word, by)
             if effect:
                 self.served.append((word, by, effect))
@@ -401,7 +443,7 @@ class Course:
                 if rng.random() < 0.1 and engine.finish() == DONE:
                     return
             for word, by, _ in reversed(self.served):
-                while engine.take(word, by):
+                while engine.take_on(word, by, rng.randrange(1, 9)) if not self.plain else engine.take(word, by):
                     pass
             for word in list(engine.names):
                 for by in (1, 2, 3, 4, 0, 2**64 - 1):

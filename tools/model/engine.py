@@ -97,6 +97,10 @@ class Lane:
                 return line[:1], replace(self, **{name: line[1:], 'server': by})
         return (), self if inside else replace(self, server=None)
 
+    def claimed(self, by: int) -> Lane:
+        """With nothing in it, and served by nobody, it is served."""
+        return replace(self, server=by) if self.is_idle() else self
+
     def given_up(self, by: int, untold: tuple[Waiting, ...]) -> Lane:
         return replace(self, returned=untold, server=None) if self.server == by else self
 
@@ -475,6 +479,25 @@ class Engine:
         found, lane = self.lanes[name].taken(by, inside)
         self.kept(name, lane)
         return found[0].effect if found else None
+
+    def take_on(self, name: int, inside: bool, by: int, room: int, comes: Callable[[int], object] = lambda number: None) -> list[Effect]:
+        """One after another, until there is room for no more or there is none; `comes` is called before each. As long as what was taken
+        is to be done the lane is served on."""
+        found: list[Effect] = []
+        while len(found) < room:
+            comes(len(found))
+            effect = self.take(name, inside, by)
+            if effect is None:
+                if found and name in self.lanes:
+                    self.lanes[name] = self.lanes[name].claimed(by)
+                break
+            found.append(effect)
+        return found
+
+    def make_behind(self, c: Command, name: int, inside: bool) -> Answer:
+        """A command whose caller did all that it took of a lane. Where the lane has another effect that is handed out in its place."""
+        effect = self.take(name, inside, c.by)
+        return self.made(c) if effect is None else Answer(UNTAKEN, handed=effect)
 
     def give_up(self, name: int, by: int, untold: Effect | None) -> int | None:
         """Whether the lane has something then; None where the word does not serve it."""

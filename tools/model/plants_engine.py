@@ -31,6 +31,10 @@ planted('what is given back stands behind', Lane, 'given_up',
 planted('who gives up serves on', Lane, 'given_up',
         lambda was: lambda l, by, untold: replace(was(l, by, untold), server=l.server) if l.line() else was(l, by, untold))
 planted('what is put comes first', Lane, 'put', lambda was: lambda l, e: replace(l, back=(e,) + l.back))
+planted('behind what is to be done another serves', Lane, 'claimed', lambda was: lambda l, by: l)
+planted('the room is overdrawn', Engine, 'take_on', lambda was: lambda s, name, inside, by, room, *more: was(s, name, inside, by, room + (room == 3), *more))
+planted('a command is made before what is left', Engine, 'make_behind', lambda was: lambda s, c, name, inside: (
+    it if (it := was(s, c, name, inside)).status != 6 or c.what != engine.NEXT else s.made(c)))
 
 # Hubs
 planted('a share gets a second hub', engine, 'is_own', lambda was: lambda hub, mode, word: was(hub, mode, word) and hub.many > 1)

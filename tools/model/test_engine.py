@@ -27,7 +27,9 @@ class Itself:
     def key(self, named):
         return (0, named)
 
-    def make(self, c):
+    def make(self, c, behind=None):
+        if behind is not None and (effect := self.take(behind, c.by)):
+            return Made(UNTAKEN, handed=effect)
         it = self.engine.make(c)
         if it.status:
             return Made(it.status)
@@ -61,6 +63,12 @@ class Itself:
         if effect:
             self.hear(effect)
         return effect
+
+    def take_on(self, word, by, room):
+        effects = self.engine.take_on((word & ~INSIDE) - 1, word >= INSIDE, by, room)
+        for effect in effects:
+            self.hear(effect)
+        return effects
 
     def give_up(self, word, by, untold, count=0):
         if count > 1:
@@ -125,6 +133,26 @@ class Examples(unittest.TestCase):
         self.assertEqual(self.taken(item.lanes[0], 2), [])
         self.assertEqual(self.engine.give_up(item.lanes[0].lane, 1, item.handed), 1)
         self.assertEqual(self.taken(item.lanes[0], 2), [(E_NEXT, 7, 1), (E_NEXT, 7, 2)])
+
+    def test_who_takes_several_serves_on_until_there_is_none(self):
+        leaf = self.make(OPEN, user=7).node
+        due = self.make(NEXT, node=leaf, value=1, flags=QUEUES).lanes[0]
+        self.make(NEXT, node=leaf, value=2, flags=QUEUES)
+        self.assertEqual(self.engine.take_on(due.lane, False, 1, 0), [])
+        self.assertEqual([e.value for e in self.engine.take_on(due.lane, False, 1, 8)], [1, 2])
+        self.assertEqual(self.make(NEXT, node=leaf, value=3, by=2).lanes, ())
+        self.assertEqual([e.value for e in self.engine.take_on(due.lane, False, 1, 1)], [3])
+        self.assertEqual(self.engine.take_on(due.lane, False, 1, 8), [])
+        self.assertEqual(len(self.make(NEXT, node=leaf, value=4, by=2).lanes), 1)
+
+    def test_a_command_behind_a_lane_is_made_where_that_has_no_more(self):
+        leaf = self.make(OPEN, user=7).node
+        item = self.make(NEXT, node=leaf, value=1)
+        self.make(NEXT, node=leaf, value=2, by=2)
+        c, lane = Command(NEXT, node=leaf, value=3, by=1), item.lanes[0].lane
+        self.assertEqual(self.engine.make_behind(c, lane, False), Answer(UNTAKEN, handed=Effect(E_NEXT, 7, 2, 2, 1)))
+        self.assertEqual((self.engine.make_behind(c, lane, False).hands, self.taken(item.lanes[0])), (1, [(E_NEXT, 7, 3)]))
+        self.assertEqual(self.engine.make_behind(Command(18, by=1), lane, False).status, NO_SUCH_CODE)
 
     def test_what_is_projected_has_a_lane_of_its_own(self):
         merging = self.make(OPEN, kind=FLAT, user=7).node
@@ -195,6 +223,7 @@ class Laws(unittest.TestCase):
 
     def test_what_is_answered_otherwise_is_found(self):
         faults = {'make': lambda it: it._replace(copies=it.copies + (it.copies > 0)), 'take': lambda it: it and it._replace(by=it.by ^ 1),
+                  'take_on': lambda it: it[:-1],
                   'left': lambda it: it[:-1], 'totals': lambda it: (*it[:7], it[7] + (it[7] > 2)), 'finish': lambda it: DONE}
         for name, turn in faults.items():
             was = getattr(Itself, name)
