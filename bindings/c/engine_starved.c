@@ -33,22 +33,25 @@ static void tell(const struct cellar_effect *it) {
   given_back += it->carries;
 }
 
-/* Of the lanes of the answer every second one is given up in the midst, now and then. */
+/* Of the lanes of the answer every second one is given up in the midst, now and then; else several effects are taken by one call. */
 static void serve(uint64_t by, int all) {
   uint64_t lanes[64], due = answer.due, count;
-  struct cellar_effect it;
+  struct cellar_effect it, room[3];
   int was = takes_none;
   takes_none = 1;
   MUST(due <= 64 && cellar_rest(&engine, 1, 0, lanes, 64, &count) == 0 && count == due);
   if (answer.handed) tell(&answer.effect);
-  for (uint64_t i = 0; i < due; i++)
-    while (cellar_take(&engine, lanes[i], by, &it, &count) == 0 && count) {
+  for (uint64_t i = 0; i < due; i++) {
+    while (all && cellar_take_on(&engine, lanes[i], by, room, 3, &count) == 0 && count)
+      for (uint64_t k = 0; k < count; k++) tell(&room[k]);
+    while (!all && cellar_take(&engine, lanes[i], by, &it, &count) == 0 && count) {
       tell(&it);
-      if (!all && i % 2) {
+      if (i % 2) {
         MUST(cellar_give_up(&engine, lanes[i], by, NULL, 0, &count) == 0);
         break;
       }
     }
+  }
   takes_none = was;
 }
 
