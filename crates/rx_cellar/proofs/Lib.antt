@@ -4,3 +4,4 @@ pub mod ItemsAsked
 pub mod ItemsEmitted
 pub mod Tries
 pub mod TakesGoOn
+pub mod ServesWhoTook

@@ -1,7 +1,9 @@
 -- Taking one effect of a lane after another, of which none is done before the last is taken.
-use Rattle.std.specs.Prelude.{◌≡◌, ℕ, ◌+◌, Bool, true, false, List, [], ◌∷◌, Option, Some, None, IsSome}
+use Rattle.std.specs.Prelude.{◌≡◌, ℕ, ◌+◌, ◌<◌, Bool, true, false, List, [], ◌∷◌, Option, Some, None, IsSome}
 use Rattle.rx_lanes.specs.declared.names.LaneName.{LaneName}
+use Rattle.rx_lanes.specs.Lane.{Lane, serves}
 use Rattle.rx_lanes.specs.State.{lane}
+use Rattle.rx_roles.specs.declared.effect.Effect.{Effect as Sent}
 use Rattle.rx_engine.specs.Servings.{IsClaim}
 use Rattle.rx_cellar.specs.declared.shapes.Effect.{Effect}
 use Rattle.rx_cellar.specs.declared.cellar.Cellar.{Cellar}
@@ -36,3 +38,12 @@ pub data IsTakenOnIf (inside : Bool) (by : ℕ) (s t : Cellar) (room room' : Lis
 -- of the lane that the word names
 abbrev pub IsTakenOn : (word by : ℕ) → Cellar → Cellar → (room room' : List Effect) → (count : ℕ) → Type 0
 IsTakenOn word by s t room room' count = IsTakenOnIf (is_inside word) by s t room room' count (named s.engine.parts.lanes word)
+
+-- this word serves the lane, if it is there
+abbrev pub IsServedIfThere : LaneName → (by : ℕ) → Cellar → Type 0
+IsServedIfThere name by s = (l : Lane Sent) → lane s.engine.parts.lanes name ≡ Some l → serves by l ≡ true
+
+-- who was given one at least serves the lane, as long as it is there
+abbrev pub WhoTookServes : Type 0
+WhoTookServes = (name : LaneName) (inside : Bool) (by : ℕ) (s t : Cellar) (room room' : List Effect) (count : ℕ) →
+    AreEffectsTaken name inside by t false s room room' count → 0 < count → IsServedIfThere name by t

@@ -46,4 +46,5 @@ pub use cellar::Cellar;
 pub use making::Made;
 pub use reading::{Event, Totals, no_event_shown, no_totals};
 pub use shapes::{Answer, Command, Effect};
+pub use taking_on::who_took_serves_on;
 pub use word_laws::words_find_their_lanes;

@@ -2,7 +2,7 @@
 
 ghost use Rattle.std.specs.Prelude.{nat_lt, false};
 ghost use Rattle.rx_cellar.specs.Serving.{Takes};
-ghost use Rattle.rx_cellar.specs.TakingOn.{ServesOn, EndsBehind, AreEffectsTaken, IsTakenOn};
+ghost use Rattle.rx_cellar.specs.TakingOn.{ServesOn, EndsBehind, AreEffectsTaken, IsTakenOn, WhoTookServes};
 
 use crate::cellar::{Cellar, counted};
 use crate::shapes::{Effect, effect_of};
@@ -72,3 +72,8 @@ impl Cellar {
         }
     }
 }
+
+/// Who took one effect at least by [`Cellar::take_on`] serves the lane until it calls again, as long as that is there.
+pub fn who_took_serves_on()
+    ensures { WhoTookServes }
+{}
