@@ -11,6 +11,7 @@ use rx_roles::Effect;
 
 impl Engine {
     /// The next effect of a lane, for who serves it or may. With `inside`, what was set free there further out.
+    #[inline(always)]
     pub fn take(&mut self, name: LaneName, inside: bool, by: u64) -> Option<Effect>
         ensures { IsTake name inside by self.old self.new result }
     {
