@@ -95,7 +95,7 @@ pub extern "C" fn cellar_make_behind(
         return NOTHING_KEPT;
     };
     let status = kept.make_behind(lane, command, answer);
-    handle.put(kept, alloc);
+    handle.put(kept);
     status
 }
 

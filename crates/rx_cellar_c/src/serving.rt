@@ -50,7 +50,7 @@ pub extern "C" fn cellar_take_on(
         return NOTHING_KEPT;
     };
     *count = kept.take_on(lane, by, effects) as u64;
-    handle.put(kept, alloc);
+    handle.put(kept);
     DONE
 }
 
