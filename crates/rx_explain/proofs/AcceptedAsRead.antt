@@ -37,10 +37,13 @@ follows : (h : List Event) (i : ℕ) (e : Event) → FoundAt nothing_kept h i e 
 follows h i e (in_base found same) = absurd (none-some e (subst (λ k. slice_get k i ≡ Some e) shown_nothing found))
 follows h i e (since_base next) = next
 
+pub not_lawful : (h : List Event) (i : ℕ) (e : Event) → slice_get h i ≡ Some e → ¬ MayFollow nothing_kept (take i h) e → ¬ IsLawful nothing_kept h
+not_lawful h i e found breaks law = breaks (follows h i e (found_at nothing_kept h law i e found))
+
 -- of a history that is lawful and settled no other verdict is true
-lawful_alone : (h : List Event) → IsLawful nothing_kept h → IsSettled nothing_kept h → (v : Verdict) → IsVerdict h v → is_lawful v ≡ true
+pub lawful_alone : (h : List Event) → IsLawful nothing_kept h → IsSettled nothing_kept h → (v : Verdict) → IsVerdict h v → is_lawful v ≡ true
 lawful_alone h law settled (Lawful live held waiting) is = refl
-lawful_alone h law settled (Unlawful place) is = absurd (is.breaks (follows h place is.event (found_at nothing_kept h law place is.event is.found)))
+lawful_alone h law settled (Unlawful place) is = absurd (not_lawful h place is.event is.found is.breaks law)
 lawful_alone h law settled Unsettled is = absurd (is.unsettled settled)
 
 one_verdict : (h : List Event) (v w : Verdict) → IsVerdict h v → IsVerdict h w → is_lawful v ≡ true → is_lawful w ≡ true
@@ -112,7 +115,7 @@ none_where false o e = refl
 none_where true o e = absurd (false≢true (sym e))
 
 -- a value without the member `dump` is the dump that is in it
-itself : (d : Data) → get (codes "dump") d ≡ None → dump_in d ≡ d
+pub itself : (d : Data) → get (codes "dump") d ≡ None → dump_in d ≡ d
 itself d e = ap (λ (o : Option Data). unwrap_or o d) e
 
 -- a name that the test refuses is not among those that pass it
@@ -171,7 +174,7 @@ taken_other d (Err error) e is = tt
 
 -- what is accepted --------------------------------------------------------------------------------
 
-one_value : (input : List ℕ) (d e : Data) → IsJsonOf input d → IsJsonOf input e → d ≡ e
+pub one_value : (input : List ℕ) (d e : Data) → IsJsonOf input d → IsJsonOf input e → d ≡ e
 one_value input d e a b = same_Some _ _ (sym a.value ∙ b.value)
 
 pub accepted_by : {X E : Type 0} (input : List ℕ) (d : Data) (answer : Result (Option X) E) → length input ≤ most_bytes → IsJsonOf input d →

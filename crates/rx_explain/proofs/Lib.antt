@@ -1,1 +1,4 @@
 pub mod AcceptedAsRead
+pub mod FirstRefused
+pub mod Beginnings
+pub mod RefusalTold

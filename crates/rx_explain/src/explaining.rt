@@ -1,6 +1,8 @@
 //! What is wrong with an input, or nothing.
 
-ghost use Rattle.std.specs.Prelude.{◌≡◌, ◌||◌, [], ◌∷◌, nat_eq, codes, is_some, is_none, IfOk, OnOk};
+ghost use Rattle.std.specs.Prelude.{◌≡◌, ◌||◌, ◌++◌, ℕ, List, Some, [], ◌∷◌, nat_eq, codes, slice_get, is_some, is_none};
+ghost use Rattle.std.specs.Prelude.{string_bytes, IfOk, OnOk};
+ghost use Rattle.std.specs.Fmt.{decimal};
 ghost use Rattle.std.specs.List.{starts_with};
 ghost use Rattle.serde_json.specs.Data.{Data};
 ghost use Rattle.serde_json.specs.Errors.{IsMemory};
@@ -8,18 +10,23 @@ ghost use Rattle.serde_json.specs.Find.{get, as_array};
 ghost use Rattle.serde_json.specs.View.{view};
 ghost use Rattle.rx_device.specs.Input.{IsJsonOf};
 ghost use Rattle.rx_scenario.specs.Reading.{scenario_of};
+ghost use Rattle.rx_event.specs.declared.event.Event.{Event};
+ghost use Rattle.rx_audit.specs.Verdict.{IsVerdict};
+ghost use Rattle.rx_dump.specs.History.{history_of};
 ghost use Rattle.rx_dump.specs.Verdict.{is_lawful};
 ghost use Rattle.rx_names.specs.Names.{dump_in};
 ghost use Rattle.rx_explain.specs.Accepted.{IsScenario, IsLawfulDump, IsTaken, IsAccepted, SaysNothingWhere};
+ghost use Rattle.rx_explain.specs.Worded.{WordsRefusal, TellsRefusal, TellsFirst, TellsFirstIn, TellsFirstOf};
 
 use crate::dump::dump_fault;
 use crate::forced::forced_after;
 use crate::past::Past;
-use crate::rules::broken_rule;
+use crate::refusals::{refusal_told, taking_told};
 use crate::scenario::scenario_fault;
+use crate::sentences::Sentence;
 use crate::walk::{Walk, told_by};
 use json::Scratch;
-use rx_audit::{Verdict, audit};
+use rx_audit::{Verdict, audit, refused};
 use rx_device::{MOST_BYTES, Part, ScriptError, ShapeError, parse_in_place};
 use rx_dump::{history_of, push_dump};
 use rx_event::Event;
@@ -53,7 +60,8 @@ fn no_json(alloc: Global, input: &[u8], error: &Error) -> Result<String, AllocEr
     if has_byte_order_mark(input) {
         return String::from_str(alloc, BYTE_ORDER_MARK);
     }
-    let (line, column) = (error.line(), error.column());
+    // The reader counts the bytes read on the line: none where the text ends at its beginning.
+    let (line, column) = (error.line(), error.column().max(1));
     if error.is_eof() {
         return format!(in alloc; "line {line}, column {column}: the JSON text ends too early");
     }
@@ -115,38 +123,41 @@ fn force(names: Names<'_>, moment: &str, history: &[Event]) -> Result<String, Al
     }
 }
 
-// Which rule an event breaks that may not follow this history, of which this is the verdict.
-fn reason(
-    names: Names<'_>,
-    front: &[Event],
-    verdict: &Verdict,
-    event: Event,
-) -> Result<String, AllocError> {
+// Why an event may not follow a settled history: what refuses it, or that what it takes does not wait.
+fn settled_reason(past: Past<'_>) -> Sentence
+    ensures { IfOk result
+        (λ s. WordsRefusal (view past.entry.names.object.now) past.entry.events.now past.entry.next (string_bytes s)) }
+{
+    match refused(past.names.alloc, past.events, past.next) {
+        Ok(Some(why)) => refusal_told(past, why),
+        Ok(None) => taking_told(past),
+        Err(_) => Err(AllocError),
+    }
+}
+
+// Why an event may not follow this history, of which this is the verdict.
+fn reason(names: Names<'_>, front: &[Event], verdict: &Verdict, event: Event) -> Sentence
+    requires { IsVerdict front.now verdict.now }
+    ensures { IfOk result (λ s. WordsRefusal (view names.entry.object.now) front.now event (string_bytes s)) }
+{
     match verdict {
-        Verdict::Lawful {
-            live,
-            held,
-            waiting,
-        } => {
+        Verdict::Lawful { live, .. } => {
             let past = Past {
                 events: front,
                 names,
                 live: live.as_slice(),
-                held: held.as_slice(),
-                waiting: waiting.as_slice(),
+                next: event,
             };
-            or_else(
-                names.alloc,
-                broken_rule(names.alloc, past, event),
-                "it may not follow the events before it",
-            )
+            settled_reason(past)
         }
         _ => force(names, "before it", front),
     }
 }
 
-// Which rule an event breaks that may not follow this history.
-fn why(names: Names<'_>, front: &[Event], event: Event) -> Result<String, AllocError> {
+// Why an event may not follow this history.
+fn why(names: Names<'_>, front: &[Event], event: Event) -> Sentence
+    ensures { IfOk result (λ s. WordsRefusal (view names.entry.object.now) front.now event (string_bytes s)) }
+{
     match audit(names.alloc, front) {
         Ok(verdict) => reason(names, front, &verdict, event),
         Err(_) => Err(AllocError),
@@ -154,13 +165,19 @@ fn why(names: Names<'_>, front: &[Event], event: Event) -> Result<String, AllocE
 }
 
 // An event at its place, and what is said of it.
-fn placed(alloc: Global, place: u64, event: Event, told: &str) -> Result<String, AllocError> {
+fn placed(alloc: Global, place: u64, event: Event, told: &str) -> Sentence
+    ensures { IfOk result (λ s. (shown : List ℕ) × (string_bytes s
+        ≡ codes "event " ++ decimal place ++ codes ", " ++ shown ++ codes ": " ++ told.now)) }
+{
     let shown = event_text(alloc, event)?;
     format!(in alloc; "event {place}, {shown}: {told}")
 }
 
 // What is said of a history whose event at this place is out of order.
-fn unlawful(names: Names<'_>, history: &[Event], place: u64) -> Result<String, AllocError> {
+fn unlawful(names: Names<'_>, history: &[Event], place: u64) -> Sentence
+    ensures { IfOk result (λ s. (e : Event) → slice_get history.now place ≡ Some e →
+        TellsRefusal (view names.entry.object.now) history.now place e (string_bytes s)) }
+{
     let alloc = names.alloc;
     let at = place as usize;
     let (Some(front), Some(event)) = (history.get(..at), history.get(at)) else {
@@ -172,7 +189,9 @@ fn unlawful(names: Names<'_>, history: &[Event], place: u64) -> Result<String, A
 
 // What the verdict on a history leaves to say.
 fn verdict_told(names: Names<'_>, history: &[Event], verdict: &Verdict) -> Told
-    ensures { IfOk result (λ told. is_none told ≡ is_lawful verdict.now) }
+    requires { IsVerdict history.now verdict.now }
+    ensures silent { IfOk result (λ told. is_none told ≡ is_lawful verdict.now) }
+    ensures worded { IfOk result (TellsFirst (view names.entry.object.now) history.now) }
 {
     match verdict {
         Verdict::Lawful { .. } => Ok(None),
@@ -188,7 +207,9 @@ fn no_dump(alloc: Global, value: &Value) -> Result<String, AllocError> {
 
 // What is wrong with a value that is to be a dump, with these names.
 fn explain_dump(names: Names<'_>, dump: &Value) -> Told
-    ensures { IfOk result (SaysNothingWhere (IsLawfulDump (view dump.now))) }
+    ensures silent { IfOk result (SaysNothingWhere (IsLawfulDump (view dump.now))) }
+    ensures worded { IfOk result (λ told. (h : List Event) → history_of (view dump.now) ≡ Some h →
+        TellsFirst (view names.entry.object.now) h told) }
 {
     let alloc = names.alloc;
     let history = match history_of(alloc, dump) {
@@ -204,7 +225,8 @@ fn explain_dump(names: Names<'_>, dump: &Value) -> Told
 
 // What is wrong with a value that is to be a dump, or to have one, with or without names.
 fn explain_history(alloc: Global, value: &Value) -> Told
-    ensures { IfOk result (SaysNothingWhere (IsLawfulDump (dump_in (view value.now)))) }
+    ensures silent { IfOk result (SaysNothingWhere (IsLawfulDump (dump_in (view value.now)))) }
+    ensures worded { IfOk result (TellsFirstIn (view value.now)) }
 {
     let none = Value::Null;
     let object = names_or(value, &none);
@@ -268,7 +290,8 @@ fn explain_scenario(alloc: Global, input: &[u8], value: &Value) -> Told
 // What is wrong with the value of a JSON text.
 fn explain_value(alloc: Global, input: &[u8], value: &Value) -> Told
     requires json { IsJsonOf input.now (view value.now) }
-    ensures { IfOk result (SaysNothingWhere (IsTaken (view value.now))) }
+    ensures silent { IfOk result (SaysNothingWhere (IsTaken (view value.now))) }
+    ensures worded { IfOk result (TellsFirstIn (view value.now)) }
 {
     if is_history(value) {
         explain_history(alloc, value)
@@ -283,12 +306,14 @@ pub fn too_long(alloc: Global) -> Result<String, AllocError> {
 }
 
 /// What is wrong with an input: None for just those that `rxbook run` or `rxbook audit` accepts. An
-/// audit accepts what it calls lawful. Sentences on a history say the names that stand beside its dump.
+/// audit accepts what it calls lawful. Sentences on a history say the names that stand beside its dump. Where the first
+/// event out of order comes when nothing is forced, the sentence words the refusal that its call meets.
 ///
 /// Err comes where memory is refused.
 #[tactic(auto, using(crate::proofs::AcceptedAsRead::accepted_by, crate::proofs::AcceptedAsRead::too_many, crate::proofs::AcceptedAsRead::no_json))]
 pub fn explain(alloc: Global, input: &[u8]) -> Told
-    ensures { IfOk result (SaysNothingWhere (IsAccepted input.now)) }
+    ensures silent { IfOk result (SaysNothingWhere (IsAccepted input.now)) }
+    ensures worded { IfOk result (TellsFirstOf input.now) }
 {
     if input.len() > MOST_BYTES {
         return Ok(Some(too_long(alloc)?));

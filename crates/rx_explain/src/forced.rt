@@ -13,8 +13,8 @@ const MOST_LEVELS: u32 = 16;
 /// How many connections, subscribers and TakeUntils are tried.
 const MOST_TRIED: u32 = 8;
 
-/// Whether an event may follow a lawful history.
-pub fn may_follow(alloc: Global, events: &[Event], next: Event) -> Result<bool, AllocError> {
+// Whether an event may follow a lawful history.
+fn may_follow(alloc: Global, events: &[Event], next: Event) -> Result<bool, AllocError> {
     let mut longer = Vec::from_slice(alloc, events)?;
     longer.push(next)?;
     match audit(alloc, longer.as_slice()) {

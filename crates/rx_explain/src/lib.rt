@@ -14,17 +14,20 @@
 //!
 //! - [`explain`] answers None for just the inputs that are accepted, by the definitions of `rx_scenario`,
 //!   `rx_dump` and `rx_audit`, whose readers decide it.
-//! - What a sentence says is not proved. The faults are looked for a second time, by plain code over the
-//!   tables of `words`; where that finds none, the sentence says no more than what the input is not.
-//!   Stored mistakes with their texts are replayed by `rx_replay`.
+//! - Where the first event out of order comes when no rule forces another, the sentence has its place, and begins as
+//!   the refusal of the table of causes is worded, with the right number (`specs/Worded.antt`).
+//! - What other sentences say is not proved, nor which earlier event one names. The faults of scenarios and dumps
+//!   are looked for a second time, by plain code over the tables of `words`; where that finds none, the sentence says
+//!   no more than what the input is not. Stored mistakes with their texts are replayed by `rx_replay`.
 #![tactic(auto)]
 
 mod dump;
 mod explaining;
 mod forced;
 mod past;
-mod rules;
+mod refusals;
 mod scenario;
+mod sentences;
 mod walk;
 mod wanted;
 mod words;

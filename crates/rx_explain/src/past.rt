@@ -1,20 +1,18 @@
-//! A settled history, and what is open, held and waiting at its end.
+//! A settled history, what is open at its end, and the event that is to come next.
 
-use crate::walk::Stop;
 use rx_event::{Event, Place};
 use rx_names::{Names, label};
 use std::alloc::{AllocError, Global};
 use std::collections::HashSet;
 
-/// A settled history, with the names of its numbers, and with the numbers of the open nodes and of the resources that
-/// are held and that wait, as the audit found them.
+/// A settled history, with the names of its numbers, with the numbers of the open nodes, as the audit found them, and
+/// with the event that is to come next.
 #[derive(Clone, Copy)]
 pub struct Past<'a> {
     pub events: &'a [Event],
     pub names: Names<'a>,
     pub live: &'a [u64],
-    pub held: &'a [u64],
-    pub waiting: &'a [u64],
+    pub next: Event,
 }
 
 /// A number, and its name behind it if it has one.
@@ -25,6 +23,16 @@ pub fn shown(past: Past<'_>, n: u64) -> Result<String, AllocError> {
 /// The event at a place.
 pub fn event_at(events: &[Event], place: u64) -> Option<Event> {
     events.get(place as usize).copied()
+}
+
+/// The open connection of a hub.
+pub fn connection_of(past: Past<'_>, hub: u64) -> Option<u64> {
+    for node in past.live {
+        if event_at(past.events, *node) == Some(Event::Connect(hub)) {
+            return Some(*node);
+        }
+    }
+    None
 }
 
 /// The node above a node.
@@ -94,11 +102,17 @@ pub fn last_return_of(events: &[Event], resource: u64) -> Option<usize> {
 }
 
 /// The first lease of this resource that is out.
-pub fn lease_out(alloc: Global, events: &[Event], resource: u64) -> Result<Option<usize>, Stop> {
+pub fn lease_out(
+    alloc: Global,
+    events: &[Event],
+    resource: u64,
+) -> Result<Option<usize>, AllocError> {
     let mut returned = HashSet::new(alloc);
     for event in events {
         if let Event::Return(lease) = event {
-            let _is_new = returned.insert(*lease)?;
+            if returned.insert(*lease).is_err() {
+                return Err(AllocError);
+            }
         }
     }
     for (place, event) in events.iter().enumerate() {

@@ -1,0 +1,99 @@
+//! A sentence that words a refusal: its beginning, which tells the refusal, and the rest.
+
+ghost use Rattle.std.specs.Prelude.{◌≡◌, ◌++◌, codes, string_bytes, IfOk};
+ghost use Rattle.serde_json.specs.View.{view};
+ghost use Rattle.rx_event.specs.declared.refusal.Refusal.TheVariants.{WrongKind};
+ghost use Rattle.rx_explain.specs.Worded.{number_named, hub_number, labels, IsBeginning, IsWorded};
+
+use crate::past::Past;
+use rx_event::{Event, Kind, Refusal};
+use rx_names::label;
+use std::alloc::AllocError;
+
+/// A sentence, where memory was given for it.
+pub type Sentence = Result<String, AllocError>;
+
+/// The number of the node, hub, resource or lease that the event is about.
+pub fn number_named(event: Event) -> u64
+    ensures { result ≡ number_named event }
+{
+    match event {
+        Event::Open { place, .. } => place.above().unwrap_or(0),
+        Event::Hub(_) => 0,
+        Event::Accept(n, _) | Event::Item(n, _) | Event::End(n, _) => n,
+        Event::Connect(n) | Event::Decline(n) | Event::Close(n) => n,
+        Event::Use(r) | Event::Remove(r) | Event::Lease(r) | Event::Take(r) => r,
+        Event::Return(l) => l,
+    }
+}
+
+/// The number of the hub that it subscribes to or connects.
+pub fn hub_number(event: Event) -> u64
+    ensures { result ≡ hub_number event }
+{
+    match event {
+        Event::Connect(hub) => hub,
+        Event::Open {
+            kind: Kind::Sub(hub),
+            ..
+        } => hub,
+        _ => 0,
+    }
+}
+
+/// A sentence about the number of the next event: words, the number, words, which tell the refusal, and the rest.
+pub fn on_number(past: Past<'_>, why: Refusal, front: &str, words: &str, rest: &str) -> Sentence
+    requires { IsBeginning (view past.names.object.now) past.next why
+        (front.now ++ labels (view past.names.object.now) (number_named past.next) ++ words.now) }
+    ensures { IfOk result (λ s. IsWorded (view past.entry.names.object.now) past.entry.next why (string_bytes s)) }
+{
+    let shown = label(past.names, number_named(past.next))?;
+    format!(in past.names.alloc; "{front}{shown}{words}{rest}")
+}
+
+/// The same of its hub.
+pub fn on_hub(past: Past<'_>, why: Refusal, front: &str, words: &str, rest: &str) -> Sentence
+    requires { IsBeginning (view past.names.object.now) past.next why
+        (front.now ++ labels (view past.names.object.now) (hub_number past.next) ++ words.now) }
+    ensures { IfOk result (λ s. IsWorded (view past.entry.names.object.now) past.entry.next why (string_bytes s)) }
+{
+    let shown = label(past.names, hub_number(past.next))?;
+    format!(in past.names.alloc; "{front}{shown}{words}{rest}")
+}
+
+/// A sentence about a node of another kind.
+pub fn on_kind(past: Past<'_>, words: &str, rest: &str) -> Sentence
+    requires { IsBeginning (view past.names.object.now) past.next WrongKind
+        (codes "node " ++ labels (view past.names.object.now) (number_named past.next) ++ words.now) }
+    ensures { IfOk result (λ s. IsWorded (view past.entry.names.object.now) past.entry.next WrongKind (string_bytes s)) }
+{
+    on_number(past, Refusal::WrongKind, "node ", words, rest)
+}
+
+/// A sentence that ends with the number.
+pub fn of_number(past: Past<'_>, why: Refusal, front: &str) -> Sentence
+    requires { IsBeginning (view past.names.object.now) past.next why
+        (front.now ++ labels (view past.names.object.now) (number_named past.next) ++ codes "\n") }
+    ensures { IfOk result (λ s. IsWorded (view past.entry.names.object.now) past.entry.next why (string_bytes s)) }
+{
+    let shown = label(past.names, number_named(past.next))?;
+    format!(in past.names.alloc; "{front}{shown}")
+}
+
+/// The same of its hub.
+pub fn of_hub(past: Past<'_>, why: Refusal, front: &str) -> Sentence
+    requires { IsBeginning (view past.names.object.now) past.next why
+        (front.now ++ labels (view past.names.object.now) (hub_number past.next) ++ codes "\n") }
+    ensures { IfOk result (λ s. IsWorded (view past.entry.names.object.now) past.entry.next why (string_bytes s)) }
+{
+    let shown = label(past.names, hub_number(past.next))?;
+    format!(in past.names.alloc; "{front}{shown}")
+}
+
+/// A sentence about no number, of words, which tell the refusal, and the rest.
+pub fn plain(past: Past<'_>, why: Refusal, words: &str, rest: &str) -> Sentence
+    requires { IsBeginning (view past.names.object.now) past.next why words.now }
+    ensures { IfOk result (λ s. IsWorded (view past.entry.names.object.now) past.entry.next why (string_bytes s)) }
+{
+    format!(in past.names.alloc; "{words}{rest}")
+}
