@@ -1,4 +1,4 @@
--- What `explain` says of an event that is refused: how the sentence begins, by the refusal that the table of causes gives.
+-- What `explain` says of an event that is refused: how its sentence begins, by the refusal of the table of causes.
 use Rattle.std.specs.Prelude.{◌≡◌, ℕ, ◌≤◌, Option, Some, List, [], ◌∷◌, ◌++◌, length, take, slice_get, unwrap_or, codes, String, string_bytes, IfSome}
 use Rattle.std.specs.Fmt.{decimal}
 use Rattle.std.specs.Io.{StartsWith}
@@ -20,7 +20,7 @@ use Rattle.rx_dump.specs.History.{history_of}
 use Rattle.rx_names.specs.Names.{dump_in, names_in, name_of}
 use Rattle.rx_names.specs.NamedVerdict.{label_text}
 
--- the number of the node, hub, resource or lease that the event is about: of an opening, of the node that its place names
+-- the number of what the event is about, and of an opening that of the node that its place names
 abbrev pub number_named : Event → ℕ
 number_named (Open place kind) = unwrap_or (named_by place) 0
 number_named (Hub mode) = 0
@@ -58,12 +58,14 @@ kinds label e = on_hub label e (codes " has RefCount") ∷ on_node label e (code
 -- how the sentence may begin, with the end of its line: a row for each refusal; against an event no other stands
 abbrev pub beginnings : (label : ℕ → List ℕ) → Event → Refusal → List (List ℕ)
 beginnings label e NoHub = (codes "there is no hub " ++ label (hub_number e) ++ codes "\n") ∷ []
-beginnings label e Gone = (codes "there is no node " ++ label (number_named e) ++ codes "\n") ∷ on_node label e (codes " is closed") ∷ []
+beginnings label e Gone = (codes "there is no node " ++ label (number_named e) ++ codes "\n")
+    ∷ on_node label e (codes " is closed") ∷ []
 beginnings label e WrongKind = kinds label e
 beginnings label e PlaceTaken = codes "the place was used before" ∷ []
 beginnings label e NothingOwed = (codes "nothing is owed at node " ++ label (number_named e) ++ codes "\n") ∷ []
 beginnings label e NotRoot = on_node label e (codes " is not a root") ∷ []
-beginnings label e HubOrder = (codes "a subscriber of hub " ++ label (hub_number e) ++ codes " may not stand below a connection") ∷ []
+beginnings label e HubOrder =
+    (codes "a subscriber of hub " ++ label (hub_number e) ++ codes " may not stand below a connection") ∷ []
 beginnings label e Connected = on_hub label e (codes " is connected already") ∷ []
 beginnings label e NoLease = (codes "there is no lease " ++ label (number_named e) ++ codes "\n")
     ∷ (codes "lease " ++ label (number_named e) ++ codes " was given back") ∷ []
@@ -90,6 +92,9 @@ pub record IsWorded (names : Data) (e : Event) (why : Refusal) (text : List ℕ)
   pub known : IsBeginning names e why beginning
   pub begins : StartsWith (text ++ codes "\n") beginning
 
+abbrev pub Words : (names : Data) → Event → (why : Refusal) → String Global → Type 0
+Words names e why told = IsWorded names e why (string_bytes told)
+
 -- the event is refused so after these, which are lawful and settled
 pub record IsRefused (h : List Event) (e : Event) (why : Refusal) : Type 0 where
   pub lawful : IsLawful nothing_kept h
@@ -109,8 +114,8 @@ pub record TellsRefusal (names : Data) (h : List Event) (place : ℕ) (e : Event
 
 -- the first event of the history that is refused is told so
 abbrev pub TellsFirst : (names : Data) → List Event → Option (String Global) → Type 0
-TellsFirst names h told = (place : ℕ) (e : Event) (why : Refusal) → slice_get h place ≡ Some e → IsRefused (take place h) e why →
-    IfSome told (λ s. TellsRefusal names h place e (string_bytes s))
+TellsFirst names h told = (place : ℕ) (e : Event) (why : Refusal) → slice_get h place ≡ Some e →
+    IsRefused (take place h) e why → IfSome told (λ s. TellsRefusal names h place e (string_bytes s))
 
 -- in a dump, or in an object with a dump and names
 abbrev pub TellsFirstIn : Data → Option (String Global) → Type 0

@@ -1,11 +1,11 @@
 //! What is said of an event that is refused: the refusal of the table of causes in a sentence, with the events that
 //! brought it about. [`refusal_told`] has a row for each refusal.
 
-ghost use Rattle.std.specs.Prelude.{◌≡◌, ◌∷◌, [], codes, string_bytes, IfOk};
+ghost use Rattle.std.specs.Prelude.{◌≡◌, ◌∷◌, [], codes, IfOk};
 ghost use Rattle.serde_json.specs.View.{view};
 ghost use Rattle.rx_event.specs.declared.refusal.Refusal.TheVariants.{Gone, WrongKind, PlaceTaken, Connected};
 ghost use Rattle.rx_event.specs.declared.refusal.Refusal.TheVariants.{NoLease, NotHeld, Leased, TooMany, NotRoot, HubOrder, HasChild};
-ghost use Rattle.rx_explain.specs.Worded.{beginnings, labels, IsWorded};
+ghost use Rattle.rx_explain.specs.Worded.{beginnings, labels, Words};
 
 use crate::past::{
     Past, connection_of, end_of, event_at, last_return_of, lease_out, opening_at, place_of, shown,
@@ -26,7 +26,7 @@ fn by_event(past: Past<'_>, words: &str, place: Option<usize>) -> Sentence {
 
 // Of a node that is not open.
 fn gone(past: Past<'_>) -> Sentence
-    ensures { IfOk result (λ s. IsWorded (view past.entry.names.object.now) past.entry.next Gone (string_bytes s)) }
+    ensures { IfOk result (Words (view past.entry.names.object.now) past.entry.next Gone) }
 {
     let node = number_named(past.next);
     if !event_at(past.events, node).is_some_and(Event::makes_node) {
@@ -38,14 +38,14 @@ fn gone(past: Past<'_>) -> Sentence
 
 // Of a node to which nothing is projected.
 fn no_merging(past: Past<'_>) -> Sentence
-    ensures { IfOk result (λ s. IsWorded (view past.entry.names.object.now) past.entry.next WrongKind (string_bytes s)) }
+    ensures { IfOk result (Words (view past.entry.names.object.now) past.entry.next WrongKind) }
 {
     on_kind(past, " is neither a FlatMap nor a Switch", "")
 }
 
 // Of a node that has no such place.
 fn no_place(past: Past<'_>, place: Place) -> Sentence
-    ensures { IfOk result (λ s. IsWorded (view past.entry.names.object.now) past.entry.next WrongKind (string_bytes s)) }
+    ensures { IfOk result (Words (view past.entry.names.object.now) past.entry.next WrongKind) }
 {
     match place {
         Place::Inner(_) => no_merging(past),
@@ -56,7 +56,7 @@ fn no_place(past: Past<'_>, place: Place) -> Sentence
 
 // Of a hub that connects by itself.
 fn counts(past: Past<'_>) -> Sentence
-    ensures { IfOk result (λ s. IsWorded (view past.entry.names.object.now) past.entry.next WrongKind (string_bytes s)) }
+    ensures { IfOk result (Words (view past.entry.names.object.now) past.entry.next WrongKind) }
 {
     let rest = ": it connects when a subscriber waits, and only then";
     on_hub(past, Refusal::WrongKind, "hub ", " has RefCount", rest)
@@ -72,7 +72,7 @@ fn is_subscriber(past: Past<'_>) -> bool {
 
 // Of a node that is to end.
 fn no_end(past: Past<'_>) -> Sentence
-    ensures { IfOk result (λ s. IsWorded (view past.entry.names.object.now) past.entry.next WrongKind (string_bytes s)) }
+    ensures { IfOk result (Words (view past.entry.names.object.now) past.entry.next WrongKind) }
 {
     if is_subscriber(past) {
         let rest = ": it ends as the connection of its hub does";
@@ -84,7 +84,7 @@ fn no_end(past: Past<'_>) -> Sentence
 
 // Of the connection of a hub that disconnects by itself.
 fn no_closing(past: Past<'_>) -> Sentence
-    ensures { IfOk result (λ s. IsWorded (view past.entry.names.object.now) past.entry.next WrongKind (string_bytes s)) }
+    ensures { IfOk result (Words (view past.entry.names.object.now) past.entry.next WrongKind) }
 {
     let alloc = past.names.alloc;
     let hub = match event_at(past.events, number_named(past.next)) {
@@ -97,7 +97,7 @@ fn no_closing(past: Past<'_>) -> Sentence
 
 // Of a node or a hub of another kind.
 fn wrong_kind(past: Past<'_>) -> Sentence
-    ensures { IfOk result (λ s. IsWorded (view past.entry.names.object.now) past.entry.next WrongKind (string_bytes s)) }
+    ensures { IfOk result (Words (view past.entry.names.object.now) past.entry.next WrongKind) }
 {
     match past.next {
         Event::Open { place, .. } => no_place(past, place),
@@ -111,7 +111,7 @@ fn wrong_kind(past: Past<'_>) -> Sentence
 
 // Of a place that serves once.
 fn place_taken(past: Past<'_>) -> Sentence
-    ensures { IfOk result (λ s. IsWorded (view past.entry.names.object.now) past.entry.next PlaceTaken (string_bytes s)) }
+    ensures { IfOk result (Words (view past.entry.names.object.now) past.entry.next PlaceTaken) }
 {
     let before = match past.next {
         Event::Open { place, .. } => opening_at(past.events, place),
@@ -124,7 +124,7 @@ fn place_taken(past: Past<'_>) -> Sentence
 
 // Of a hub that is connected.
 fn connected(past: Past<'_>) -> Sentence
-    ensures { IfOk result (λ s. IsWorded (view past.entry.names.object.now) past.entry.next Connected (string_bytes s)) }
+    ensures { IfOk result (Words (view past.entry.names.object.now) past.entry.next Connected) }
 {
     let alloc = past.names.alloc;
     let node = match connection_of(past, hub_number(past.next)) {
@@ -138,7 +138,7 @@ fn connected(past: Past<'_>) -> Sentence
 
 // Of a lease that is not out.
 fn no_lease(past: Past<'_>) -> Sentence
-    ensures { IfOk result (λ s. IsWorded (view past.entry.names.object.now) past.entry.next NoLease (string_bytes s)) }
+    ensures { IfOk result (Words (view past.entry.names.object.now) past.entry.next NoLease) }
 {
     let lease = number_named(past.next);
     if !event_at(past.events, lease).is_some_and(Event::makes_lease) {
@@ -164,7 +164,7 @@ fn unowned(past: Past<'_>, resource: u64) -> Sentence {
 
 // Of a resource that was held, and was not handed out.
 fn let_go(past: Past<'_>) -> Sentence
-    ensures { IfOk result (λ s. IsWorded (view past.entry.names.object.now) past.entry.next NotHeld (string_bytes s)) }
+    ensures { IfOk result (Words (view past.entry.names.object.now) past.entry.next NotHeld) }
 {
     let alloc = past.names.alloc;
     let resource = number_named(past.next);
@@ -178,7 +178,7 @@ fn let_go(past: Past<'_>) -> Sentence
 
 // Of a resource that is not held.
 fn not_held(past: Past<'_>) -> Sentence
-    ensures { IfOk result (λ s. IsWorded (view past.entry.names.object.now) past.entry.next NotHeld (string_bytes s)) }
+    ensures { IfOk result (Words (view past.entry.names.object.now) past.entry.next NotHeld) }
 {
     let resource = number_named(past.next);
     if !event_at(past.events, resource).is_some_and(Event::makes_resource) {
@@ -195,7 +195,7 @@ fn not_held(past: Past<'_>) -> Sentence
 
 // Of a resource that only leases hold.
 fn leased(past: Past<'_>) -> Sentence
-    ensures { IfOk result (λ s. IsWorded (view past.entry.names.object.now) past.entry.next Leased (string_bytes s)) }
+    ensures { IfOk result (Words (view past.entry.names.object.now) past.entry.next Leased) }
 {
     let reason = unowned(past, number_named(past.next))?;
     let front = "only leases hold resource ";
@@ -204,7 +204,7 @@ fn leased(past: Past<'_>) -> Sentence
 
 // Of a limit that would be passed.
 fn too_many(past: Past<'_>) -> Sentence
-    ensures { IfOk result (λ s. IsWorded (view past.entry.names.object.now) past.entry.next TooMany (string_bytes s)) }
+    ensures { IfOk result (Words (view past.entry.names.object.now) past.entry.next TooMany) }
 {
     let why = Refusal::TooMany;
     match past.next {
@@ -221,7 +221,7 @@ fn too_many(past: Past<'_>) -> Sentence
 
 // Of a node that is to close, and is no root.
 fn not_root(past: Past<'_>) -> Sentence
-    ensures { IfOk result (λ s. IsWorded (view past.entry.names.object.now) past.entry.next NotRoot (string_bytes s)) }
+    ensures { IfOk result (Words (view past.entry.names.object.now) past.entry.next NotRoot) }
 {
     let rest = ": it closes with the node above it";
     on_number(past, Refusal::NotRoot, "node ", " is not a root", rest)
@@ -229,7 +229,7 @@ fn not_root(past: Past<'_>) -> Sentence
 
 // Of a subscriber that would stand below a connection of its own hub or of an earlier one.
 fn hub_order(past: Past<'_>) -> Sentence
-    ensures { IfOk result (λ s. IsWorded (view past.entry.names.object.now) past.entry.next HubOrder (string_bytes s)) }
+    ensures { IfOk result (Words (view past.entry.names.object.now) past.entry.next HubOrder) }
 {
     let words = " may not stand below a connection";
     let rest = " of that hub or of an earlier one";
@@ -238,7 +238,7 @@ fn hub_order(past: Past<'_>) -> Sentence
 
 // Of a node below which one is open.
 fn has_child(past: Past<'_>) -> Sentence
-    ensures { IfOk result (λ s. IsWorded (view past.entry.names.object.now) past.entry.next HasChild (string_bytes s)) }
+    ensures { IfOk result (Words (view past.entry.names.object.now) past.entry.next HasChild) }
 {
     let rest = ", and nothing is owed there";
     on_number(
@@ -252,15 +252,16 @@ fn has_child(past: Past<'_>) -> Sentence
 
 // Of a refusal that no event meets.
 fn no_other(past: Past<'_>, why: Refusal) -> Sentence
-    requires { beginnings (labels (view past.names.object.now)) past.next why ≡ codes "it may not follow the events before it" ∷ [] }
-    ensures { IfOk result (λ s. IsWorded (view past.entry.names.object.now) past.entry.next why (string_bytes s)) }
+    requires { beginnings (labels (view past.names.object.now)) past.next why
+        ≡ codes "it may not follow the events before it" ∷ [] }
+    ensures { IfOk result (Words (view past.entry.names.object.now) past.entry.next why) }
 {
     plain(past, why, "it may not follow the events before it", "")
 }
 
 /// What is said of the next event, which is refused so.
 pub fn refusal_told(past: Past<'_>, why: Refusal) -> Sentence
-    ensures { IfOk result (λ s. IsWorded (view past.entry.names.object.now) past.entry.next why (string_bytes s)) }
+    ensures { IfOk result (Words (view past.entry.names.object.now) past.entry.next why) }
 {
     match why {
         Refusal::NoHub => of_hub(past, Refusal::NoHub, "there is no hub "),

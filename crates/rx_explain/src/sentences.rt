@@ -1,9 +1,9 @@
 //! A sentence that words a refusal: its beginning, which tells the refusal, and the rest.
 
-ghost use Rattle.std.specs.Prelude.{◌≡◌, ◌++◌, codes, string_bytes, IfOk};
+ghost use Rattle.std.specs.Prelude.{◌≡◌, ◌++◌, codes, IfOk};
 ghost use Rattle.serde_json.specs.View.{view};
 ghost use Rattle.rx_event.specs.declared.refusal.Refusal.TheVariants.{WrongKind};
-ghost use Rattle.rx_explain.specs.Worded.{number_named, hub_number, labels, IsBeginning, IsWorded};
+ghost use Rattle.rx_explain.specs.Worded.{number_named, hub_number, labels, IsBeginning, Words};
 
 use crate::past::Past;
 use rx_event::{Event, Kind, Refusal};
@@ -45,7 +45,7 @@ pub fn hub_number(event: Event) -> u64
 pub fn on_number(past: Past<'_>, why: Refusal, front: &str, words: &str, rest: &str) -> Sentence
     requires { IsBeginning (view past.names.object.now) past.next why
         (front.now ++ labels (view past.names.object.now) (number_named past.next) ++ words.now) }
-    ensures { IfOk result (λ s. IsWorded (view past.entry.names.object.now) past.entry.next why (string_bytes s)) }
+    ensures { IfOk result (Words (view past.entry.names.object.now) past.entry.next why) }
 {
     let shown = label(past.names, number_named(past.next))?;
     format!(in past.names.alloc; "{front}{shown}{words}{rest}")
@@ -55,7 +55,7 @@ pub fn on_number(past: Past<'_>, why: Refusal, front: &str, words: &str, rest: &
 pub fn on_hub(past: Past<'_>, why: Refusal, front: &str, words: &str, rest: &str) -> Sentence
     requires { IsBeginning (view past.names.object.now) past.next why
         (front.now ++ labels (view past.names.object.now) (hub_number past.next) ++ words.now) }
-    ensures { IfOk result (λ s. IsWorded (view past.entry.names.object.now) past.entry.next why (string_bytes s)) }
+    ensures { IfOk result (Words (view past.entry.names.object.now) past.entry.next why) }
 {
     let shown = label(past.names, hub_number(past.next))?;
     format!(in past.names.alloc; "{front}{shown}{words}{rest}")
@@ -65,7 +65,7 @@ pub fn on_hub(past: Past<'_>, why: Refusal, front: &str, words: &str, rest: &str
 pub fn on_kind(past: Past<'_>, words: &str, rest: &str) -> Sentence
     requires { IsBeginning (view past.names.object.now) past.next WrongKind
         (codes "node " ++ labels (view past.names.object.now) (number_named past.next) ++ words.now) }
-    ensures { IfOk result (λ s. IsWorded (view past.entry.names.object.now) past.entry.next WrongKind (string_bytes s)) }
+    ensures { IfOk result (Words (view past.entry.names.object.now) past.entry.next WrongKind) }
 {
     on_number(past, Refusal::WrongKind, "node ", words, rest)
 }
@@ -74,7 +74,7 @@ pub fn on_kind(past: Past<'_>, words: &str, rest: &str) -> Sentence
 pub fn of_number(past: Past<'_>, why: Refusal, front: &str) -> Sentence
     requires { IsBeginning (view past.names.object.now) past.next why
         (front.now ++ labels (view past.names.object.now) (number_named past.next) ++ codes "\n") }
-    ensures { IfOk result (λ s. IsWorded (view past.entry.names.object.now) past.entry.next why (string_bytes s)) }
+    ensures { IfOk result (Words (view past.entry.names.object.now) past.entry.next why) }
 {
     let shown = label(past.names, number_named(past.next))?;
     format!(in past.names.alloc; "{front}{shown}")
@@ -84,7 +84,7 @@ pub fn of_number(past: Past<'_>, why: Refusal, front: &str) -> Sentence
 pub fn of_hub(past: Past<'_>, why: Refusal, front: &str) -> Sentence
     requires { IsBeginning (view past.names.object.now) past.next why
         (front.now ++ labels (view past.names.object.now) (hub_number past.next) ++ codes "\n") }
-    ensures { IfOk result (λ s. IsWorded (view past.entry.names.object.now) past.entry.next why (string_bytes s)) }
+    ensures { IfOk result (Words (view past.entry.names.object.now) past.entry.next why) }
 {
     let shown = label(past.names, hub_number(past.next))?;
     format!(in past.names.alloc; "{front}{shown}")
@@ -93,7 +93,7 @@ pub fn of_hub(past: Past<'_>, why: Refusal, front: &str) -> Sentence
 /// A sentence about no number, of words, which tell the refusal, and the rest.
 pub fn plain(past: Past<'_>, why: Refusal, words: &str, rest: &str) -> Sentence
     requires { IsBeginning (view past.names.object.now) past.next why words.now }
-    ensures { IfOk result (λ s. IsWorded (view past.entry.names.object.now) past.entry.next why (string_bytes s)) }
+    ensures { IfOk result (Words (view past.entry.names.object.now) past.entry.next why) }
 {
     format!(in past.names.alloc; "{words}{rest}")
 }
