@@ -1,5 +1,6 @@
 // A leaf of the engine: what a source tells goes in here, through the functions on items that stand before the book.
 import { realm } from '../engine/realm.mjs';
+import { NOT_ALONE } from '../engine/thing.mjs';
 import { COMPLETION, Subscriber, collecting, errorOf } from './subscriber.mjs';
 import { stopped } from './config.mjs';
 import { UnsubscriptionError } from './errors.mjs';
@@ -8,16 +9,16 @@ import { UnsubscriptionError } from './errors.mjs';
 export const TERMINAL = {
   hooked: false,
   next(value, leaf) {
-    if (leaf._many) realm.engine.nextOfMany(leaf._node, value);
-    else realm.engine.next(leaf._node, value);
+    if (leaf._many) realm.engine.nextOfMany(leaf, value);
+    else realm.engine.next(leaf, value);
   },
   error(error, leaf) {
     leaf.isStopped = true;
-    realm.engine.error(leaf._node, error);
+    realm.engine.error(leaf, error);
   },
   complete(leaf) {
     leaf.isStopped = true;
-    realm.engine.complete(leaf._node);
+    realm.engine.complete(leaf);
   },
 };
 
@@ -35,14 +36,17 @@ export class Stage {
 /** An error for it, as soon as there is room to tell it. */
 export function failing(to, error) { realm.engine.surely(() => to.error(error)); }
 
-/** What the function of a source is given. */
+/** What the function of a source is given, and what the engine has for its node (a Thing). */
 export class Leaf extends Subscriber {
-  constructor(way) {
+  constructor(way, hears, leaves) {
     super();
     this._way = way;
     this._used = true;
-    this._node = null;
-    this._root = null; // who hears, where this leaf is the whole tree
+    this.slot = this.top = this.lo = this.hi = -1;
+    this.owed = 0;
+    this.alone = NOT_ALONE;
+    this.leaves = leaves;
+    this.hears = hears; // where this leaf is the whole tree, else null
     this._subject = this._before = this._after = null; // whose list it is on, and between which
     this._many = false; // whether its source tells items in one go
   }
@@ -78,22 +82,16 @@ export class Leaf extends Subscriber {
   }
 
   add(teardown) {
-    if (this._root !== null) this._root.add(teardown);
+    if (this.hears !== null) this.hears.add(teardown);
     else super.add(teardown);
   }
   remove(teardown) {
-    if (this._root !== null) this._root.remove(teardown);
+    if (this.hears !== null) this.hears.remove(teardown);
     else super.remove(teardown);
   }
-  _opened(thing, root) {
-    this._node = thing;
-    if (root !== null) this._root = root;
-    else this._thing = thing;
-  }
-
   /** Leaves quietly: its resources are released, and nothing comes of it any more. */
   unsubscribe() {
-    if (this._root !== null) return this._root.unsubscribe();
+    if (this.hears !== null) return this.hears.unsubscribe();
     if (this.closed) return;
     realm.engine.room();
     this.shut();

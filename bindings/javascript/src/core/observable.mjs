@@ -2,7 +2,7 @@ import { realm } from '../engine/realm.mjs';
 import { farther, taking } from '../engine/tracing.mjs';
 import { config, inContext } from './config.mjs';
 import { Link } from './link.mjs';
-import { LEFT, isAsked, openLeaf, rootFor } from './place.mjs';
+import { isAsked, isLeft, openLeaf, rootFor } from './place.mjs';
 import { SafeSubscriber, Subscriber, isSubscriber } from './subscriber.mjs';
 import { Leaf, failing } from './leaf.mjs';
 import { isFunction, observable, pipeFromArray } from './util.mjs';
@@ -50,8 +50,9 @@ export class Observable {
     const { operator, source } = this;
     if (operator && operator.opens) return operator.opens(at, source);
     const leaf = openLeaf(at);
-    if (leaf === null || (leaf.closed && leaf._node !== LEFT)) return;
-    leaf.add(operator ? this._called(operator, leaf, source) : source ? this._subscribe(leaf) : this._trySubscribe(leaf));
+    if (leaf === null || (leaf.closed && !isLeft(leaf))) return;
+    const teardown = operator ? this._called(operator, leaf, source) : source ? this._subscribe(leaf) : this._trySubscribe(leaf);
+    if (teardown) leaf.add(teardown);
   }
 
   _called(operator, leaf, source) {

@@ -27,41 +27,48 @@ const unopened = new WeakSet(); // errors for which nothing was opened
  *  in RxJS, and left at once. */
 export const LEFT = new Thing(null, null);
 
-/** Opens a node there: the thing, LEFT, or null where the place has closed; in both of these a tag was not taken. */
-export function openNode(at, kind, body = null, tag = null, share = null) {
-  const hears = at.place === ROOT ? at.hears : null, { engine } = realm;
-  let status = GONE, thing = null;
+const OPENED = 0, BEHIND = 1, CLOSED = 2;
+
+// Opens a node there, of which this thing is told: whether it is open, stands for what is LEFT, or the place has closed.
+function opens(at, kind, thing, flags, tag, share) {
+  const { hears } = thing, { engine } = realm;
+  let status = GONE;
   if (at.above !== LEFT) try {
     engine.begins();
     if (hears === null || !hears.closed) {
-      thing = new Thing(hears, body);
-      thing.leaves = at.leaves;
-      if (hears !== null && isAsked(hears)) traced(thing, hears.asked ?? 'subscription');
-      status = engine.open(at.place, kind, (body !== null && body.wishes !== false) || at.leaves !== null ? WISHES : 0, at.above, thing, tag, share);
+      if (engine.tracing && hears !== null && isAsked(hears)) traced(thing, hears.asked ?? 'subscription');
+      status = engine.open(at.place, kind, flags, at.above, thing, tag, share);
     }
   } catch (error) {
     unopened.add(error);
     throw error;
   }
   if (share !== null) share.status = status;
-  if (at.above === LEFT || (status && hears !== null && hears.closed) || (status === GONE && at.place === INNER)) return LEFT;
-  if (status) return null;
-  if (hears !== null && !hears.closed) hears._roots(thing);
-  return thing;
+  if (status === 0 && at.above !== LEFT) {
+    if (hears !== null && !hears.closed) hears._roots(thing);
+    return OPENED;
+  }
+  return at.above === LEFT || (hears !== null && hears.closed) || (status === GONE && at.place === INNER) ? BEHIND : CLOSED;
+}
+
+/** Opens a node there: the thing, LEFT, or null where the place has closed; in both of these a tag was not taken. */
+export function openNode(at, kind, body = null, tag = null, share = null) {
+  const thing = new Thing(at.place === ROOT ? at.hears : null, body), flags = (body !== null && body.wishes !== false) || at.leaves !== null ? WISHES : 0;
+  thing.leaves = at.leaves;
+  const how = opens(at, kind, thing, flags, tag, share);
+  return how === OPENED ? thing : how === BEHIND ? LEFT : null;
 }
 
 /** Opens a leaf there: what tells it, or null. */
 export function openLeaf(at) {
-  const leaf = new Leaf(at.way), thing = openNode(at, LEAF, leaf);
-  if (thing === null) return null;
-  if (thing === LEFT) {
-    leaf._node = LEFT;
-    leaf.closed = leaf.isStopped = true;
-    return leaf;
-  }
-  leaf._opened(thing, at.place === ROOT ? at.hears : null);
+  const leaf = new Leaf(at.way, at.place === ROOT ? at.hears : null, at.leaves), how = opens(at, LEAF, leaf, WISHES, null, null);
+  if (how === CLOSED) return null;
+  if (how === BEHIND) leaf.closed = leaf.isStopped = true;
+  else if (leaf.hears === null) leaf._thing = leaf;
   return leaf;
 }
+/** Of a leaf that is closed: whether it stands for what is LEFT, and was never opened. */
+export const isLeft = (leaf) => leaf.slot === -1;
 
 /** Opens a node that passes everything, with a resource; the place below it, or null. Below LEFT the resource is to be released behind what is opened. */
 export function openUsing(at, tag) {

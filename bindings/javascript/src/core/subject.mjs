@@ -109,7 +109,9 @@ export class Subject extends Observable {
       return failAt(at, new ObjectUnsubscribedError());
     }
     const leaf = openLeaf(at);
-    if (leaf !== null) leaf.add(this._subscribe(leaf));
+    if (leaf === null) return;
+    const teardown = this._subscribe(leaf);
+    if (teardown) leaf.add(teardown);
   }
   _trySubscribe(subscriber) {
     this._throwIfClosed();

@@ -21,13 +21,13 @@ export function thrown(errors) {
 }
 
 /** Closes a root, or releases a resource; answers what finalizers threw meanwhile, null if nothing. */
-export function collecting(thing, is_root) {
+export function collecting(thing, is_root, is_roomy = false) {
   const outer = collected, was = is_collected;
   let mine;
   collected = null;
   is_collected = true;
   try {
-    if (is_root) realm.engine.dispose(thing); else realm.engine.remove(thing);
+    if (is_root) realm.engine.dispose(thing, is_roomy); else realm.engine.remove(thing);
   } finally {
     mine = collected;
     collected = outer;
@@ -124,10 +124,10 @@ export class Subscriber extends Subscription {
   unsubscribe() {
     if (this.closed) return;
     const thing = this._thing;
-    if (thing !== null) realm.engine.room();
+    const is_roomy = thing !== null && realm.engine.roomy();
     this.closed = this.isStopped = true;
     this._thing = null;
-    let errors = thing === null ? null : collecting(thing, true);
+    let errors = thing === null ? null : collecting(thing, true, is_roomy);
     if (this._tag === null) errors = this._finalized(errors);
     if (errors === null) return;
     if (is_collected) thrown(errors);

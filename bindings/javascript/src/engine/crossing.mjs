@@ -9,7 +9,7 @@
 import { COMPLETE, DECLINE, DISPOSE, DONE, ERROR, FAIL, FLAT, HOLD, LEAF, NEXT, OPEN, PUT, REMOVE, ROOT, SHARED, SHUT, SWITCH, USING, WISHES } from './codes.mjs';
 import { LAYOUT } from './glue.mjs';
 import { Table } from './table.mjs';
-import { Lane, Tag } from './thing.mjs';
+import { BARE, GONE_WITH_ONE, Lane, NOT_ALONE, Tag, WITH_ONE } from './thing.mjs';
 
 const REFUSED = { 4: 'no memory is left', 16: 'too much is open', 29: 'a node holds too many resources' };
 
@@ -53,7 +53,7 @@ export class Crossing {
     if (this.dead !== null || this.#glue.entered.value === 0) return error;
     this.dead = error instanceof Error ? error : new Error(String(error));
     const dies = () => { throw new Error(`cellarcliff: the engine stopped within a call and is dead: ${this.dead.message}`, { cause: this.dead }); };
-    this.#glue = { room: dies, make: dies, open: dies, next: dies, take: dies, takeOn: dies, giveUp: dies, entered: { value: 1 } };
+    this.#glue = { room: dies, make: dies, open: dies, next: dies, take: dies, takeOn: dies, giveUp: dies, end: dies, entered: { value: 1 } };
     this.#wasm = { ...this.#wasm, cellar_totals: dies, cellar_dump: dies, cellar_rest: dies };
     queueMicrotask(() => this.#releaseAll());
     try { return dies(); } catch (why) { return why; }
@@ -71,6 +71,15 @@ export class Crossing {
 
   /** Throws RangeError where the stack has no room for a command and for what leads to it. */
   room() { this.#glue.room(1); }
+  /** The same; answers whether there is room for all that this leads to, so that nobody has to look again. */
+  roomy() {
+    try { this.#glue.room(2); } catch (error) {
+      if (this.dead !== null) throw error;
+      this.#glue.room(1);
+      return false;
+    }
+    return true;
+  }
 
   // Commands. Each answers its status, and first does what was put off for want of stack.
 
@@ -120,7 +129,7 @@ export class Crossing {
     if (status !== DONE) return this.#refused(status);
     const a = this.#a;
     thing.owed = owed;
-    thing.is_lone = place === ROOT && (kind === LEAF || kind === SHARED);
+    thing.alone = place === ROOT && (kind === LEAF || kind === SHARED) ? BARE : NOT_ALONE;
     thing.slot = a[0], thing.top = a[1], thing.lo = a[2], thing.hi = a[3];
     if (tag !== null) this.#held(thing, tag);
     if (share !== null) {
@@ -134,10 +143,10 @@ export class Crossing {
   // Of a root alone its only tag is remembered, with which its lane ends.
   #held(node, tag) {
     this.#named(tag);
-    if (!node.is_lone) return;
-    node.is_lone = !node.has_tag;
-    node.has_tag = true;
-    tag.root = node;
+    if (node.alone === BARE) {
+      node.alone = WITH_ONE;
+      tag.root = node;
+    } else node.alone = NOT_ALONE;
   }
   #named(thing) {
     const a = this.#a;
@@ -199,11 +208,12 @@ export class Crossing {
     return DONE;
   }
 
-  complete(node) { return this.#ends(COMPLETE, node); }
-  error(node, error) { return this.#fails(ERROR, node, error); }
+  complete(node) { return this.#isRoomy() ? this.#endsNow(COMPLETE, node, 0, undefined) : this.#ends(COMPLETE, node); }
+  error(node, error) { return this.#isRoomy() ? this.#endsNow(ERROR, node, this.#values.next(), error) : this.#fails(ERROR, node, error); }
   fail(node, error) { return this.#fails(FAIL, node, error); }
   decline(node) { return this.#ends(DECLINE, node); }
-  dispose(node) { return this.#ends(DISPOSE, node); }
+  /** `is_roomy` as `roomy` answered. */
+  dispose(node, is_roomy) { return is_roomy ? this.#endsNow(DISPOSE, node, 0, undefined) : this.#ends(DISPOSE, node); }
   /** Closes all that is open: each command one root, connection or lease. What is opened meanwhile stays. */
   shut() {
     for (let many = this.totals().nodes; many > 0 && this.#ends(SHUT, NOWHERE) === DONE; many--) if (this.totals().nodes === 0) break;
@@ -212,6 +222,33 @@ export class Crossing {
     this.line = null;
     this.#begins();
     return this.#make(what, node, 0, 0) || this.#act(undefined);
+  }
+  #isRoomy() {
+    try { this.#glue.room(2); } catch { return false; }
+    return true;
+  }
+  // The same in one crossing with the first effect, where there is room for all.
+  #endsNow(what, node, word, value) {
+    this.line = null;
+    this.#begins();
+    let status;
+    try { status = this.#glue.end(what, node.slot, node.top, node.lo, node.hi, word); } catch (error) { throw this.#failed(error); }
+    this.#made++;
+    if (this.#a.length === 0) this.#look();
+    if (status !== DONE) return status;
+    return this.#e[8] === 0 ? this.#act(value) : this.#ended(value);
+  }
+  // All of the answer and of the effect is read before anything is called.
+  #ended(value) {
+    const a = this.#a, e = this.#e, low = a[36], high = a[37], closed = a[14], user = e[0], kind = e[6], word = e[7] ? e[2] : 0;
+    if (a[12] !== 0) this.#values.keep(value, a[12]);
+    this.#lastMade = -1;
+    this.#depth++;
+    if (closed !== 0) this.#close(closed);
+    const made = this.#made, is_last = this.#tell(user, kind, word ? this.#values.give(word) : undefined, low, high);
+    if (is_last === true && (kind === 4 || kind === 5) && this.#made === made) this.#leave(low, high); else this.#serve(low, high);
+    this.#end();
+    return DONE;
   }
   #fails(what, node, error) {
     this.line = null;
@@ -311,13 +348,13 @@ export class Crossing {
     if (count === 1) return this.#closeOne(this.#a[20]);
     const words = this.#rest(20, count, 0), things = [];
     for (let i = 0; i < words.length; i += 2) things.push(this.#things.get(words[i]));
-    for (const thing of things) if (thing.body !== null) thing.body.shut(thing);
+    for (const thing of things) thing.shut();
     for (let i = 0; i < things.length; i++) this.#drop(words[2 * i], things[i]);
     for (const thing of things) if (thing.leaves !== null) thing.leaves(thing);
   }
   #closeOne(word) {
     const thing = this.#things.get(word);
-    if (thing.body !== null) thing.body.shut(thing);
+    thing.shut();
     this.#drop(word, thing);
     if (thing.leaves !== null) thing.leaves(thing);
   }
@@ -378,14 +415,20 @@ export class Crossing {
         case 0: return thing.hears.hear(value);
         case 1: return thing.body.project(thing, value, new Lane(low, high));
         case 2: case 3: return this.#tellEnd(user, thing, kind, value, new Lane(low, high));
-        case 4: return this.#drop(user, thing), thing.is_gone = true, thing.hears.heardGone(), thing.is_lone && !thing.has_tag;
-        case 5: return this.#drop(user, thing), thing.release(), thing.root !== null && thing.root.is_lone && thing.root.is_gone;
+        case 4: return this.#tellGone(user, thing);
+        case 5: return this.#drop(user, thing), thing.release(), thing.root !== null && thing.root.alone === GONE_WITH_ONE;
         case 6: return this.#drop(user, thing), thing.act(new Lane(low, high));
         case 7: return this.#drop(user, thing);
       }
     } catch (error) { this.#report(error); }
   }
 
+  #tellGone(user, thing) {
+    this.#drop(user, thing);
+    if (thing.alone === WITH_ONE) thing.alone = GONE_WITH_ONE;
+    thing.hears.heardGone();
+    return thing.alone === BARE;
+  }
   #tellEnd(user, thing, kind, value, lane) {
     this.#drop(user, thing);
     this.#ending.push(lane);

@@ -19,6 +19,7 @@ const ADD = 0x7c, ELSE = [0x05], MORE = [0x4a], LESS_ONE = [0x41, 1, 0x6b], SHIF
 const type = (from, to) => [0x60, ...list(from.map((it) => [it])), ...list(to.map((it) => [it]))];
 const get = (n) => [0x20, ...unsigned(n)], call = (n) => [0x10, ...unsigned(n)];
 const constant = (n) => [0x41, ...signed(n)], long = (n) => [0x42, ...signed(n)];
+const set = (n) => [0x21, ...unsigned(n)], isNone = [0x45], isNoneLong = [0x50], isSameLong = [0x51], isAtMostLong = [0x58], BOTH = [0x71];
 const global = (n) => [0x23, ...unsigned(n)], setGlobal = (n) => [0x24, ...unsigned(n)];
 const load64 = (at) => [0x29, 3, ...unsigned(at)], store64 = (at) => [0x37, 3, ...unsigned(at)];
 const load32 = (at) => [0x28, 2, ...unsigned(at)], store32 = (at) => [0x36, 2, ...unsigned(at)];
@@ -26,6 +27,7 @@ const code = (locals, ...body) => sized([...list(locals), ...body.flat(), ...END
 
 // Numbers of functions and of globals, and of a command's fields.
 const MAKE = 0, TAKE = 1, GIVE_UP = 2, ROOM = 3, TAKES = 4, TAKES_ON = 9;
+const CLOSED = 56, DUE = 64, LANES = 144, SHOWN = 8; // bytes within an answer, and how many of a list stand in it
 const BASE = 0, ENGINE = 1, COMMAND = 2, ANSWER = 3, EFFECT = 4, COUNT = 5, ENTERED = 6;
 /** Bytes behind the base at which the engine's handle, a command, an answer, an effect, a count and the lane that is left stand. */
 export const LAYOUT = { engine: 0, command: 64, answer: 128, effect: 384, count: 416, left: 432, words: 448, room: 64 };
@@ -58,15 +60,21 @@ function room() {
   return body;
 }
 
+// Of a command that was done: the first effect of its lane, if that is one and all that it closed stands in the answer; else the count is 0.
+const answer = (at) => [...global(BASE), ...load64(LAYOUT.answer + at)];
+const taking = [...global(BASE), ...constant(0), ...store32(LAYOUT.count), ...get(6), ...isNone, ...answer(DUE), ...long(1), ...isSameLong, ...BOTH,
+  ...answer(CLOSED), ...long(SHOWN), ...isAtMostLong, ...BOTH, ...IF,
+  ...global(ENGINE), ...answer(LANES), ...long(0), ...global(EFFECT), ...global(COUNT), ...call(TAKE), ...DROP, ...END];
+const node = [16, 20, 24, 28].map((at, i) => field(at, get(i + 1))).flat(); // the four parts of its key
 const makes = entering(leaving, global(ENGINE), global(COMMAND), global(ANSWER), call(MAKE));
-const EXPORTS = { room: ROOM, make: 5, open: 6, next: 7, take: 8, takeOn: TAKES_ON, giveUp: 10 };
+const EXPORTS = { room: ROOM, make: 5, open: 6, next: 7, take: 8, takeOn: TAKES_ON, giveUp: 10, end: 11 };
 const header = () => [0, 0x61, 0x73, 0x6d, 1, 0, 0, 0,
   ...section(1, [type([I64, I64, I64], [I32]), type([I64, I64, I64, I64, I64], [I32]), type([I64, I64, I64, I64, I64, I64], [I32]),
     type([I32], []), type([], [I32]), type([I32, I32, I32, I32, I32, I32], [I32]), type([I32, I32], [I32])]),
   ...section(2, [
     ...['cellar_make', 'cellar_take', 'cellar_give_up'].map((it, i) => [...text('e'), ...text(it), FUNCTION, i]), [...text('e'), ...text('memory'), MEMORY, 0, 0],
     ...['base', 'engine', 'command', 'answer', 'effect', 'count'].map((it) => [...text('e'), ...text(it), GLOBAL, it === 'base' ? I32 : I64, 0])]),
-  ...section(3, [[3], [6], [4], [4], [5], [6], [6], [6]]),
+  ...section(3, [[3], [6], [4], [4], [5], [6], [6], [6], [5]]),
   ...section(6, [[I32, 1, ...constant(0), ...END]]),
   ...section(7, [...Object.entries(EXPORTS).map(([name, n]) => [...text(name), FUNCTION, n]), [...text('entered'), GLOBAL, ENTERED]]),
 ];
@@ -75,12 +83,14 @@ const small = () => [
     code([], roomy(0), makes), // a command that was written
     code([], roomy(1), makes), // an opening
     // an item: what and flags, the four parts of the node's key, the value's word
-    code([], roomy(2), field(0, get(0)), field(16, get(1)), field(20, get(2)), field(24, get(3)), field(28, get(4)), field(32, constant(0)),
-      field(40, get(5)), makes),
+    code([], roomy(2), field(0, get(0)), node, field(32, constant(0)), field(40, get(5)), makes),
     code([], roomy(2), get(0), get(1), call(TAKES_ON)), // the next effect of a lane; and of one that has been looked at from the same depth
     code([], entering(leaving, get(0), get(1), call(TAKES))),
     code([], roomy(0), entering(leaving, global(ENGINE), lane, long(0), global(EFFECT), long(0), global(COUNT), call(GIVE_UP), DROP),
       global(BASE), load32(LAYOUT.count)),
+    // what ends something, where the depth has been looked at: as an item, and the first effect of it
+    code([[1, I32]], field(0, get(0)), node, field(32, constant(0)), field(40, get(5)),
+      entering(leaving, global(ENGINE), global(COMMAND), global(ANSWER), call(MAKE), set(6), taking), get(6)),
 ];
 /** The bytes of the module; the large function is put in its place as it is. */
 export function glue() {

@@ -1,19 +1,21 @@
 // What the package has for a word of the engine: a node, or what a resource is released by.
 
-/** A node: its key, who hears what a root is told, and what it is for (`body`), which hears of projections and closings. */
+// A root with nothing below it: whether it has held a resource, and has been told that it is gone. Behind a second resource it is none of these.
+export const NOT_ALONE = 0, BARE = 1, WITH_ONE = 2, GONE_WITH_ONE = 3;
+
+/** A node: its key, who hears what a root is told, and what it is for (`body`), which hears of projections and closings. A leaf has the same
+ *  fields. Where it was made is added only if somebody asks for that. */
 export class Thing {
   constructor(hears, body) {
     this.slot = this.top = this.lo = this.hi = -1; // a key that names nothing, until it is open
     this.owed = 0; // how many last effects its word is owed
-    this.is_lone = false; // a root with nothing below it, which has held one resource at most
-    this.has_tag = this.is_gone = false; // of such a root: whether it has held one, and has been told that it is gone
+    this.alone = NOT_ALONE;
     this.leaves = null; // what is called once it has closed, behind its body
-    this.where = undefined; // where in the program it was subscribed to, if that is asked for, as what, and when
-    this.what = undefined;
-    this.since = 0;
     this.hears = hears;
     this.body = body;
   }
+  /** The engine has closed it. */
+  shut() { if (this.body !== null) this.body.shut(this); }
 }
 
 /** The name of a lane, in two halves. */
@@ -30,8 +32,6 @@ export class Tag {
     this.owed = 1;
     this.root = null; // the lone root that holds it
     this.slot = this.top = this.lo = this.hi = 0;
-    this.where = this.what = undefined; // as of a thing
-    this.since = 0;
     if (release !== undefined) this.release = release;
   }
 }
