@@ -95,7 +95,7 @@ export class Leaf extends Subscriber {
     if (this.closed) return;
     realm.engine.room();
     this.shut();
-    const errors = this._tag ? collecting(this._tag, false) : this._finalized(null);
+    const errors = this._tag ? collecting(this._tag) : this._finalized(null);
     if (errors !== null) throw new UnsubscriptionError(errors);
   }
 }

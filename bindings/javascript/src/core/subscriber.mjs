@@ -1,4 +1,5 @@
 // Who hears what a root is told, and what the source of a leaf tells.
+import { OVER, WAITS } from '../engine/codes.mjs';
 import { realm } from '../engine/realm.mjs';
 import { Tag } from '../engine/thing.mjs';
 import { traced } from '../engine/tracing.mjs';
@@ -20,14 +21,16 @@ export function thrown(errors) {
   else collected.push(...errors);
 }
 
-/** Closes a root, or releases a resource; answers what finalizers threw meanwhile, null if nothing. */
-export function collecting(thing, is_root, is_roomy = false) {
+/** Releases a resource; or of a root does the rest of what `disposeFirst` answered. Answers what finalizers threw meanwhile, null if nothing. */
+export function collecting(thing, how = null) {
   const outer = collected, was = is_collected;
   let mine;
   collected = null;
   is_collected = true;
   try {
-    if (is_root) realm.engine.dispose(thing, is_roomy); else realm.engine.remove(thing);
+    if (how === null) realm.engine.remove(thing);
+    else if (how === WAITS) realm.engine.actOn();
+    else realm.engine.dispose(thing);
   } finally {
     mine = collected;
     collected = outer;
@@ -35,7 +38,6 @@ export function collecting(thing, is_root, is_roomy = false) {
   }
   return mine;
 }
-
 /** A subscriber's finalizers, as one resource of its node. */
 class Finalizers extends Tag {
   constructor(of) {
@@ -124,10 +126,10 @@ export class Subscriber extends Subscription {
   unsubscribe() {
     if (this.closed) return;
     const thing = this._thing;
-    const is_roomy = thing !== null && realm.engine.roomy();
+    const how = thing === null ? OVER : realm.engine.disposeFirst(thing); // where that throws nothing has been changed
     this.closed = this.isStopped = true;
     this._thing = null;
-    let errors = thing === null ? null : collecting(thing, true, is_roomy);
+    let errors = how === OVER ? null : collecting(thing, how);
     if (this._tag === null) errors = this._finalized(errors);
     if (errors === null) return;
     if (is_collected) thrown(errors);

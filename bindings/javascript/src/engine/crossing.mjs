@@ -6,7 +6,7 @@
 // The stack has three marks. An item is made, and an effect taken, where there is room to tell it and for what that leads to; an end is told and
 // a node opened where two thirds of that are left; any other command where a third is. What a command hands out is told later
 // where there is no room for that. So what an effect leads to always finds room, and RangeError means that nothing was done.
-import { COMPLETE, DECLINE, DISPOSE, DONE, ERROR, FAIL, FLAT, HOLD, LEAF, NEXT, OPEN, PUT, REMOVE, ROOT, SHARED, SHUT, SWITCH, USING, WISHES } from './codes.mjs';
+import { COMPLETE, DECLINE, DISPOSE, DONE, ERROR, FAIL, FLAT, HOLD, LEAF, NEXT, NOT_YET, OPEN, OVER, PUT, REMOVE, ROOT, SHARED, SHUT, SWITCH, USING, WAITS, WISHES } from './codes.mjs';
 import { LAYOUT } from './glue.mjs';
 import { Table } from './table.mjs';
 import { BARE, GONE_WITH_ONE, Lane, NOT_ALONE, Tag, WITH_ONE } from './thing.mjs';
@@ -53,7 +53,7 @@ export class Crossing {
     if (this.dead !== null || this.#glue.entered.value === 0) return error;
     this.dead = error instanceof Error ? error : new Error(String(error));
     const dies = () => { throw new Error(`cellarcliff: the engine stopped within a call and is dead: ${this.dead.message}`, { cause: this.dead }); };
-    this.#glue = { room: dies, make: dies, open: dies, next: dies, take: dies, takeOn: dies, giveUp: dies, end: dies, entered: { value: 1 } };
+    this.#glue = { room: dies, make: dies, open: dies, next: dies, take: dies, takeOn: dies, giveUp: dies, end: dies, dispose: dies, entered: { value: 1 } };
     this.#wasm = { ...this.#wasm, cellar_totals: dies, cellar_dump: dies, cellar_rest: dies };
     queueMicrotask(() => this.#releaseAll());
     try { return dies(); } catch (why) { return why; }
@@ -71,15 +71,6 @@ export class Crossing {
 
   /** Throws RangeError where the stack has no room for a command and for what leads to it. */
   room() { this.#glue.room(1); }
-  /** The same; answers whether there is room for all that this leads to, so that nobody has to look again. */
-  roomy() {
-    try { this.#glue.room(2); } catch (error) {
-      if (this.dead !== null) throw error;
-      this.#glue.room(1);
-      return false;
-    }
-    return true;
-  }
 
   // Commands. Each answers its status, and first does what was put off for want of stack.
 
@@ -212,8 +203,34 @@ export class Crossing {
   error(node, error) { return this.#isRoomy() ? this.#endsNow(ERROR, node, this.#values.next(), error) : this.#fails(ERROR, node, error); }
   fail(node, error) { return this.#fails(FAIL, node, error); }
   decline(node) { return this.#ends(DECLINE, node); }
-  /** `is_roomy` as `roomy` answered. */
-  dispose(node, is_roomy) { return is_roomy ? this.#endsNow(DISPOSE, node, 0, undefined) : this.#ends(DISPOSE, node); }
+  dispose(node) { return this.#ends(DISPOSE, node); }
+  /** Disposes of a root where there is room for all that comes of it, and has called nobody yet: OVER if nobody is to be, WAITS if `actOn` is to do that;
+   *  NOT_YET where nothing was done and `dispose` is to be called. */
+  disposeFirst(node) {
+    if (this.#postponed !== null) return this.#notYet();
+    let status;
+    try { status = this.#glue.dispose(DISPOSE, node.slot, node.top, node.lo, node.hi); } catch (error) {
+      if (this.dead === null && this.#glue.entered.value === 0) return this.#notYet();
+      throw this.#failed(error);
+    }
+    this.line = null;
+    this.#made++;
+    if (this.#a.length === 0) this.#look();
+    if (status !== DONE) return OVER;
+    const a = this.#a, e = this.#e;
+    if (e[8] === 0 || e[6] !== 4 || node.alone !== BARE || a[14] > 1) return WAITS;
+    // the usual case: nothing but that it is gone comes of it, which who leaves it knows
+    const user = e[0];
+    this.#leave(a[36], a[37]);
+    if (a[14] !== 0) this.#closeOne(a[20]);
+    this.#drop(user, node);
+    return OVER;
+  }
+  actOn() { return this.#e[8] === 0 ? this.#act(undefined) : this.#ended(undefined); }
+  #notYet() {
+    this.#glue.room(1);
+    return NOT_YET;
+  }
   /** Closes all that is open: each command one root, connection or lease. What is opened meanwhile stays. */
   shut() {
     for (let many = this.totals().nodes; many > 0 && this.#ends(SHUT, NOWHERE) === DONE; many--) if (this.totals().nodes === 0) break;

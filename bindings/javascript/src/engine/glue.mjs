@@ -60,21 +60,22 @@ function room() {
   return body;
 }
 
-// Of a command that was done: the first effect of its lane, if that is one and all that it closed stands in the answer; else the count is 0.
+// A command with the first effect of its lane, if it was done, the lane is one, and all that it closed stands in the answer; else the count is 0.
+const ends = (status) => entering(leaving, global(ENGINE), global(COMMAND), global(ANSWER), call(MAKE), set(status), taking(status));
 const answer = (at) => [...global(BASE), ...load64(LAYOUT.answer + at)];
-const taking = [...global(BASE), ...constant(0), ...store32(LAYOUT.count), ...get(6), ...isNone, ...answer(DUE), ...long(1), ...isSameLong, ...BOTH,
+const taking = (status) => [...global(BASE), ...constant(0), ...store32(LAYOUT.count), ...get(status), ...isNone, ...answer(DUE), ...long(1), ...isSameLong, ...BOTH,
   ...answer(CLOSED), ...long(SHOWN), ...isAtMostLong, ...BOTH, ...IF,
   ...global(ENGINE), ...answer(LANES), ...long(0), ...global(EFFECT), ...global(COUNT), ...call(TAKE), ...DROP, ...END];
 const node = [16, 20, 24, 28].map((at, i) => field(at, get(i + 1))).flat(); // the four parts of its key
 const makes = entering(leaving, global(ENGINE), global(COMMAND), global(ANSWER), call(MAKE));
-const EXPORTS = { room: ROOM, make: 5, open: 6, next: 7, take: 8, takeOn: TAKES_ON, giveUp: 10, end: 11 };
+const EXPORTS = { room: ROOM, make: 5, open: 6, next: 7, take: 8, takeOn: TAKES_ON, giveUp: 10, end: 11, dispose: 12 };
 const header = () => [0, 0x61, 0x73, 0x6d, 1, 0, 0, 0,
   ...section(1, [type([I64, I64, I64], [I32]), type([I64, I64, I64, I64, I64], [I32]), type([I64, I64, I64, I64, I64, I64], [I32]),
-    type([I32], []), type([], [I32]), type([I32, I32, I32, I32, I32, I32], [I32]), type([I32, I32], [I32])]),
+    type([I32], []), type([], [I32]), type([I32, I32, I32, I32, I32, I32], [I32]), type([I32, I32], [I32]), type([I32, I32, I32, I32, I32], [I32])]),
   ...section(2, [
     ...['cellar_make', 'cellar_take', 'cellar_give_up'].map((it, i) => [...text('e'), ...text(it), FUNCTION, i]), [...text('e'), ...text('memory'), MEMORY, 0, 0],
     ...['base', 'engine', 'command', 'answer', 'effect', 'count'].map((it) => [...text('e'), ...text(it), GLOBAL, it === 'base' ? I32 : I64, 0])]),
-  ...section(3, [[3], [6], [4], [4], [5], [6], [6], [6], [5]]),
+  ...section(3, [[3], [6], [4], [4], [5], [6], [6], [6], [5], [7]]),
   ...section(6, [[I32, 1, ...constant(0), ...END]]),
   ...section(7, [...Object.entries(EXPORTS).map(([name, n]) => [...text(name), FUNCTION, n]), [...text('entered'), GLOBAL, ENTERED]]),
 ];
@@ -89,8 +90,8 @@ const small = () => [
     code([], roomy(0), entering(leaving, global(ENGINE), lane, long(0), global(EFFECT), long(0), global(COUNT), call(GIVE_UP), DROP),
       global(BASE), load32(LAYOUT.count)),
     // what ends something, where the depth has been looked at: as an item, and the first effect of it
-    code([[1, I32]], field(0, get(0)), node, field(32, constant(0)), field(40, get(5)),
-      entering(leaving, global(ENGINE), global(COMMAND), global(ANSWER), call(MAKE), set(6), taking), get(6)),
+    code([[1, I32]], field(0, get(0)), node, field(32, constant(0)), field(40, get(5)), ends(6), get(6)),
+    code([[1, I32]], roomy(2), field(0, get(0)), node, ends(5), get(5)), // a disposal, where there is room for all that it leads to
 ];
 /** The bytes of the module; the large function is put in its place as it is. */
 export function glue() {
