@@ -53,7 +53,7 @@ export class Crossing {
     if (this.dead !== null || this.#glue.entered.value === 0) return error;
     this.dead = error instanceof Error ? error : new Error(String(error));
     const dies = () => { throw new Error(`cellarcliff: the engine stopped within a call and is dead: ${this.dead.message}`, { cause: this.dead }); };
-    this.#glue = { room: dies, make: dies, open: dies, next: dies, take: dies, takeOn: dies, giveUp: dies, end: dies, dispose: dies, entered: { value: 1 } };
+    this.#glue = { room: dies, make: dies, open: dies, next: dies, take: dies, takeOn: dies, giveUp: dies, end: dies, dispose: dies, all: dies, entered: { value: 1 } };
     this.#wasm = { ...this.#wasm, cellar_totals: dies, cellar_dump: dies, cellar_rest: dies };
     queueMicrotask(() => this.#releaseAll());
     try { return dies(); } catch (why) { return why; }
@@ -62,7 +62,7 @@ export class Crossing {
   // What a dead engine held is known by its tags: each is released once, in a turn of its own, where the stack has room. Meanwhile nothing asks for room.
   #releaseAll() {
     const glue = this.#glue;
-    this.#glue = { ...glue, room: () => {} };
+    this.#glue = { ...glue, room: () => {}, all: () => {} };
     for (const it of this.#things.all()) {
       if (it instanceof Tag) try { it.release(); } catch (error) { this.#report(error); }
     }
@@ -241,7 +241,7 @@ export class Crossing {
     return this.#make(what, node, 0, 0) || this.#act(undefined);
   }
   #isRoomy() {
-    try { this.#glue.room(2); } catch { return false; }
+    try { this.#glue.all(0); } catch { return false; }
     return true;
   }
   // The same in one crossing with the first effect, where there is room for all.
@@ -307,7 +307,7 @@ export class Crossing {
     const a = this.#a, low = a[36], high = a[37], user = a[52], kind = a[58];
     if (a[14] !== 0) this.#close(a[14]);
     this.#depth++;
-    try { this.#glue.room(2); } catch (error) {
+    try { this.#glue.all(0); } catch (error) {
       if (this.dead !== null) throw error;
       this.#depth--;
       this.#postpone(() => {
@@ -406,7 +406,7 @@ export class Crossing {
   /** Does it, or later where there is no room for it. */
   surely(act) {
     try {
-      this.#glue.room(2);
+      this.#glue.all(0);
     } catch (error) {
       if (this.dead !== null) throw error;
       return this.#postpone(act);
@@ -416,7 +416,7 @@ export class Crossing {
 
   // The stack may still be as full: then all of it stays for a turn of its own.
   #resume() {
-    try { this.#glue.room(2); } catch { return; }
+    try { this.#glue.all(0); } catch { return; }
     const acts = this.#postponed;
     this.#postponed = null;
     this.#depth++;

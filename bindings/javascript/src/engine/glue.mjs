@@ -1,10 +1,10 @@
 // A small module of WebAssembly between the package and the engine, written here byte by byte: it takes numbers of 32 bits, which cost
 // nothing to pass, where the engine's calls have 64, and looks at the stack before each call.
 //
-// `room(n)` looks for n + 1 times STEP bytes of stack: its frame is so large, since the branch that is never taken keeps so many numbers over a
-// call, and a platform compares with its limit as a function of that size is entered. Where there is less, that is a RangeError and
-// the engine was not called. `entered` is 1 within a call of the engine: a trap has then left it in the midst of one. The engine's
-// own calls were seen to need less than 2,000 bytes; the rest of a step is for what the package does around them.
+// `room(n)` looks for n + 1 times STEP bytes of stack, and `all` for as much as `room(2)`: their frames are so large, since the branch that is
+// never taken keeps so many numbers over a call, and a platform compares with its limit as a function of that size is entered. Where there is
+// less, that is a RangeError and the engine was not called. `entered` is 1 within a call of the engine: a trap has then left it in the midst of
+// one. The engine's own calls were seen to need less than 2,000 bytes; the rest of a step is for what the package does around them.
 const STEP = 24576;
 
 const unsigned = (n) => (n < 128 ? [n] : [n % 128 | 128, ...unsigned(Math.floor(n / 128))]);
@@ -15,18 +15,19 @@ const sized = (body) => [...unsigned(body.length), ...body];
 const section = (number, items) => [number, ...sized(list(items))];
 
 const I32 = 0x7f, I64 = 0x7e, FUNCTION = 0, MEMORY = 2, GLOBAL = 3, IF = [0x04, 0x40], END = [0x0b], DROP = [0x1a], TRAP = [0x00];
-const ADD = 0x7c, ELSE = [0x05], MORE = [0x4a], LESS_ONE = [0x41, 1, 0x6b], SHIFT = [0x86], OR = [0x84], LONG = [0xad];
+const LOAD_WIDE = [0xfd, 0, 4], STORE_WIDE = [0xfd, 11, 4, 0], ADD_WIDE = [0xfd, 0xce, 1];
+const ELSE = [0x05], MORE = [0x4a], LESS_ONE = [0x41, 1, 0x6b], SHIFT = [0x86], OR = [0x84], LONG = [0xad];
 const type = (from, to) => [0x60, ...list(from.map((it) => [it])), ...list(to.map((it) => [it]))];
 const get = (n) => [0x20, ...unsigned(n)], call = (n) => [0x10, ...unsigned(n)];
 const constant = (n) => [0x41, ...signed(n)], long = (n) => [0x42, ...signed(n)];
-const set = (n) => [0x21, ...unsigned(n)], isNone = [0x45], isNoneLong = [0x50], isSameLong = [0x51], isAtMostLong = [0x58], BOTH = [0x71];
+const set = (n) => [0x21, ...unsigned(n)], isNone = [0x45], isSameLong = [0x51], isAtMostLong = [0x58], BOTH = [0x71];
 const global = (n) => [0x23, ...unsigned(n)], setGlobal = (n) => [0x24, ...unsigned(n)];
-const load64 = (at) => [0x29, 3, ...unsigned(at)], store64 = (at) => [0x37, 3, ...unsigned(at)];
+const load64 = (at) => [0x29, 3, ...unsigned(at)];
 const load32 = (at) => [0x28, 2, ...unsigned(at)], store32 = (at) => [0x36, 2, ...unsigned(at)];
 const code = (locals, ...body) => sized([...list(locals), ...body.flat(), ...END]);
 
 // Numbers of functions and of globals, and of a command's fields.
-const MAKE = 0, TAKE = 1, GIVE_UP = 2, ROOM = 3, TAKES = 4, TAKES_ON = 9;
+const MAKE = 0, TAKE = 1, GIVE_UP = 2, ROOM = 3, TAKES = 4, TAKES_ON = 9, ALL = 13;
 const CLOSED = 56, DUE = 64, LANES = 144, SHOWN = 8; // bytes within an answer, and how many of a list stand in it
 const BASE = 0, ENGINE = 1, COMMAND = 2, ANSWER = 3, EFFECT = 4, COUNT = 5, ENTERED = 6;
 /** Bytes behind the base at which the engine's handle, a command, an answer, an effect, a count and the lane that is left stand. */
@@ -37,27 +38,26 @@ const lane = [...get(1), ...LONG, ...long(32), ...SHIFT, ...get(0), ...LONG, ...
 const left = (at) => [...global(BASE), ...load32(LAYOUT.left + at)];
 // The lane that was told all is left with the next command, so that an item costs one call. If something were in it, that is a trap.
 const leaving = [...left(8), ...IF, ...left(0), ...left(4), ...call(TAKES), ...IF, ...TRAP, ...END, ...global(BASE), ...constant(0), ...store32(LAYOUT.left + 8), ...END];
-const roomy = (n) => [...constant(n), ...call(ROOM)];
+const roomy = (n) => [...constant(n), ...call(n === 2 ? ALL : ROOM)];
 
-function room() {
-  const many = STEP / 8, body = [1, ...unsigned(many), I64, ...get(0), ...constant(1000), ...MORE, ...IF];
-  // numbers of up to 21 bits in three bytes, which is quick to write
-  const number = (n) => body.push(n & 127 | 128, n >> 7 & 127 | 128, n >> 14);
-  for (let i = 1; i <= many; i++) {
-    body.push(0x20, 0, 0x29, 3);
-    number(8 * i);
-    body.push(0x21);
-    number(i);
-  }
-  // the sum begins with what is read behind the call, so that all numbers are kept over it
-  body.push(...constant(0), ...call(ROOM), ...get(0), ...get(0), ...load64(0));
-  for (let i = 1; i <= many; i++) {
-    body.push(0x20);
-    number(i);
-    body.push(ADD);
-  }
-  body.push(...store64(0), ...ELSE, ...get(0), ...IF, ...get(0), ...LESS_ONE, ...call(ROOM), ...END, ...END, ...END);
-  return body;
+/** A function with a frame of so many bytes, which does what is `next` with a number that is not too large. */
+function large(frame, next) {
+  // numbers of 128 bits, since a compiler takes longer the more there are
+  const many = frame / 16, before = [0, ...get(0), ...constant(1000), ...MORE, ...IF, ...get(0)], behind = [...STORE_WIDE, ...ELSE, ...next, ...END, ...END];
+  const middle = [...constant(0), ...call(ROOM)], length = before.length + 8 * many + middle.length + 3 * (many - 1) + behind.length;
+  const head = unsigned(length), bytes = new Uint8Array(head.length + length);
+  let at = head.length;
+  const put = (some) => {
+    bytes.set(some, at);
+    at += some.length;
+  };
+  bytes.set(head);
+  put(before);
+  for (let i = 1; i <= many; i++) put([0x20, 0, ...LOAD_WIDE, 16 * i & 127 | 128, i >> 3 & 127 | 128, i >> 10]); // each from a place of its own
+  put(middle);
+  for (let i = 1; i < many; i++) put(ADD_WIDE); // all are kept over the call, since the sum is made behind it
+  put(behind);
+  return bytes;
 }
 
 // A command with the first effect of its lane, if it was done, the lane is one, and all that it closed stands in the answer; else the count is 0.
@@ -68,14 +68,14 @@ const taking = (status) => [...global(BASE), ...constant(0), ...store32(LAYOUT.c
   ...global(ENGINE), ...answer(LANES), ...long(0), ...global(EFFECT), ...global(COUNT), ...call(TAKE), ...DROP, ...END];
 const node = [16, 20, 24, 28].map((at, i) => field(at, get(i + 1))).flat(); // the four parts of its key
 const makes = entering(leaving, global(ENGINE), global(COMMAND), global(ANSWER), call(MAKE));
-const EXPORTS = { room: ROOM, make: 5, open: 6, next: 7, take: 8, takeOn: TAKES_ON, giveUp: 10, end: 11, dispose: 12 };
+const EXPORTS = { room: ROOM, make: 5, open: 6, next: 7, take: 8, takeOn: TAKES_ON, giveUp: 10, end: 11, dispose: 12, all: ALL };
 const header = () => [0, 0x61, 0x73, 0x6d, 1, 0, 0, 0,
   ...section(1, [type([I64, I64, I64], [I32]), type([I64, I64, I64, I64, I64], [I32]), type([I64, I64, I64, I64, I64, I64], [I32]),
     type([I32], []), type([], [I32]), type([I32, I32, I32, I32, I32, I32], [I32]), type([I32, I32], [I32]), type([I32, I32, I32, I32, I32], [I32])]),
   ...section(2, [
     ...['cellar_make', 'cellar_take', 'cellar_give_up'].map((it, i) => [...text('e'), ...text(it), FUNCTION, i]), [...text('e'), ...text('memory'), MEMORY, 0, 0],
     ...['base', 'engine', 'command', 'answer', 'effect', 'count'].map((it) => [...text('e'), ...text(it), GLOBAL, it === 'base' ? I32 : I64, 0])]),
-  ...section(3, [[3], [6], [4], [4], [5], [6], [6], [6], [5], [7]]),
+  ...section(3, [[3], [6], [4], [4], [5], [6], [6], [6], [5], [7], [3]]),
   ...section(6, [[I32, 1, ...constant(0), ...END]]),
   ...section(7, [...Object.entries(EXPORTS).map(([name, n]) => [...text(name), FUNCTION, n]), [...text('entered'), GLOBAL, ENTERED]]),
 ];
@@ -93,12 +93,15 @@ const small = () => [
     code([[1, I32]], field(0, get(0)), node, field(32, constant(0)), field(40, get(5)), ends(6), get(6)),
     code([[1, I32]], roomy(2), field(0, get(0)), node, ends(5), get(5)), // a disposal, where there is room for all that it leads to
 ];
-/** The bytes of the module; the large function is put in its place as it is. */
+/** The bytes of the module. */
 export function glue() {
-  const large = room(), others = small(), before = [others.length + 1, ...unsigned(large.length)], behind = others.flat();
-  const head = [...header(), 10, ...unsigned(before.length + large.length + behind.length), ...before], bytes = new Uint8Array(head.length + large.length + behind.length);
-  bytes.set(head);
-  bytes.set(large, head.length);
-  bytes.set(behind, head.length + large.length);
+  const others = small(), room = large(STEP, [...get(0), ...IF, ...get(0), ...LESS_ONE, ...call(ROOM), ...END]), all = large(3 * STEP, []);
+  const length = 1 + room.length + others.flat().length + all.length;
+  const parts = [header(), [10, ...unsigned(length), others.length + 2], room, others.flat(), all], bytes = new Uint8Array(parts.reduce((sum, it) => sum + it.length, 0));
+  let at = 0;
+  for (const it of parts) {
+    bytes.set(it, at);
+    at += it.length;
+  }
   return bytes;
 }
