@@ -2,7 +2,7 @@ import { realm } from '../engine/realm.mjs';
 import { farther, taking } from '../engine/tracing.mjs';
 import { config, inContext } from './config.mjs';
 import { Link } from './link.mjs';
-import { isAsked, isLeft, openLeaf, rootFor } from './place.mjs';
+import { isAsked, isLeft, openLeaf } from './place.mjs';
 import { SafeSubscriber, Subscriber, isSubscriber } from './subscriber.mjs';
 import { Leaf, failing } from './leaf.mjs';
 import { isFunction, observable, pipeFromArray } from './util.mjs';
@@ -41,8 +41,8 @@ export class Observable {
     try { this._opens(root); } finally { engine.line = outer; }
   }
   _opens(root) {
-    if (config.useDeprecatedSynchronousErrorHandling) inContext(() => this._open(rootFor(root)));
-    else this._open(rootFor(root));
+    if (config.useDeprecatedSynchronousErrorHandling) inContext(() => this._open(root));
+    else this._open(root);
   }
 
   /** Opens this observable at a place of a tree. */

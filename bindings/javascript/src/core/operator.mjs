@@ -28,7 +28,7 @@ export const operator = (opens) => {
 };
 
 /** A function on items, or what does something at an end: a stage before the book. `make(up)` is called for each subscription. */
-export const staged = (make) => operator((at, source) => source._open(at.through(make(at.way))));
+export const staged = (make) => operator((at, source) => source._open(at._through(make(at._way))));
 
 /** What listens by links, and tells a leaf: `init(source, leaf)`. */
 export const operate = (init) => operator((at, source) => {

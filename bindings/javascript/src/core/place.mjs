@@ -6,21 +6,25 @@ import { Thing } from '../engine/thing.mjs';
 import { traced } from '../engine/tracing.mjs';
 import { Leaf, TERMINAL } from './leaf.mjs';
 import { Link } from './link.mjs';
+import { Subscriber } from './subscriber.mjs';
 
 /** A place in a tree: below which node, who hears (of a root), and the functions that items go through. */
 export class Place {
   constructor(place, above, hears = null, way = TERMINAL, leaves = null) {
-    this.place = place;
-    this.above = above;
-    this.hears = hears;
-    this.way = way;
-    this.leaves = leaves; // what is called once the node there has closed
+    this._place = place;
+    this._above = above;
+    this._hears = hears;
+    this._way = way;
+    this._leaves = leaves; // what is called once the node there has closed
   }
-  through(way) { return new Place(this.place, this.above, this.hears, way, this.leaves); }
+  _through(way) { return new Place(this._place, this._above, this._hears, way, this._leaves); }
 }
+// Who hears a root stands for the place of that.
+Object.assign(Subscriber.prototype, { _place: ROOT, _above: NOWHERE, _way: TERMINAL, _leaves: null, _through(way) { return new Place(ROOT, NOWHERE, this, way, null); } });
+Object.defineProperty(Subscriber.prototype, '_hears', { get() { return this; } });
+
 /** Whether a line of the program asks for it, and not an operator: what it is called then, if it is no subscription, is `asked`. */
 export const isAsked = (hears) => !(hears instanceof Link) || hears.asked !== undefined;
-export const rootFor = (hears) => new Place(ROOT, NOWHERE, hears);
 
 const unopened = new WeakSet(); // errors for which nothing was opened
 /** What stands for a node whose subscriber had left before it was opened, or whose projection ended the whole: what is to be opened below it is called, as
@@ -33,35 +37,35 @@ const OPENED = 0, BEHIND = 1, CLOSED = 2;
 function opens(at, kind, thing, flags, tag, share) {
   const { hears } = thing, { engine } = realm;
   let status = GONE;
-  if (at.above !== LEFT) try {
+  if (at._above !== LEFT) try {
     engine.begins();
     if (hears === null || !hears.closed) {
       if (engine.tracing && hears !== null && isAsked(hears)) traced(thing, hears.asked ?? 'subscription');
-      status = engine.open(at.place, kind, flags, at.above, thing, tag, share);
+      status = engine.open(at._place, kind, flags, at._above, thing, tag, share);
     }
   } catch (error) {
     unopened.add(error);
     throw error;
   }
   if (share !== null) share.status = status;
-  if (status === 0 && at.above !== LEFT) {
+  if (status === 0 && at._above !== LEFT) {
     if (hears !== null && !hears.closed) hears._roots(thing);
     return OPENED;
   }
-  return at.above === LEFT || (hears !== null && hears.closed) || (status === GONE && at.place === INNER) ? BEHIND : CLOSED;
+  return at._above === LEFT || (hears !== null && hears.closed) || (status === GONE && at._place === INNER) ? BEHIND : CLOSED;
 }
 
 /** Opens a node there: the thing, LEFT, or null where the place has closed; in both of these a tag was not taken. */
 export function openNode(at, kind, body = null, tag = null, share = null) {
-  const thing = new Thing(at.place === ROOT ? at.hears : null, body), flags = (body !== null && body.wishes !== false) || at.leaves !== null ? WISHES : 0;
-  thing.leaves = at.leaves;
+  const thing = new Thing(at._place === ROOT ? at._hears : null, body), flags = (body !== null && body.wishes !== false) || at._leaves !== null ? WISHES : 0;
+  thing.leaves = at._leaves;
   const how = opens(at, kind, thing, flags, tag, share);
   return how === OPENED ? thing : how === BEHIND ? LEFT : null;
 }
 
 /** Opens a leaf there: what tells it, or null. */
 export function openLeaf(at) {
-  const leaf = new Leaf(at.way, at.place === ROOT ? at.hears : null, at.leaves), how = opens(at, LEAF, leaf, WISHES, null, null);
+  const leaf = new Leaf(at._way, at._place === ROOT ? at._hears : null, at._leaves), how = opens(at, LEAF, leaf, WISHES, null, null);
   if (how === CLOSED) return null;
   if (how === BEHIND) leaf.closed = leaf.isStopped = true;
   else if (leaf.hears === null) leaf._thing = leaf;
@@ -73,28 +77,28 @@ export const isLeft = (leaf) => leaf.slot === -1;
 /** Opens a node that passes everything, with a resource; the place below it, or null. Below LEFT the resource is to be released behind what is opened. */
 export function openUsing(at, tag) {
   const thing = openNode(at, PASS, null, tag);
-  return thing && new Place(SOURCE, thing, null, at.way);
+  return thing && new Place(SOURCE, thing, null, at._way);
 }
 
 /** Opens a node that passes everything: the place below it, or null. */
 export function openPass(at) {
   const thing = openNode(at, PASS);
-  return thing && new Place(SOURCE, thing, null, at.way);
+  return thing && new Place(SOURCE, thing, null, at._way);
 }
 /** A resource for the node above a place; released at once where that has closed. */
 export function holdAt(below, tag) {
   let status = 1;
-  try { status = realm.engine.hold(below.above, tag); } finally { if (status) tag.release(); }
+  try { status = realm.engine.hold(below._above, tag); } finally { if (status) tag.release(); }
 }
 
 /** A tree of its own that tells a leaf at this place: the place of its root, or null. */
 export function linked(at) {
   const leaf = openLeaf(at);
-  return leaf && rootFor(new Link(leaf));
+  return leaf && new Link(leaf);
 }
 
 /** The place itself, or that of a link where functions before the book do something at an end that a node would come to. */
-export const settled = (at) => (at.way.hooked ? linked(at) : at);
+export const settled = (at) => (at._way.hooked ? linked(at) : at);
 
 /** Fails there. */
 export function failAt(at, error) { openLeaf(at)?.error(error); }

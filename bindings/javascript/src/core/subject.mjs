@@ -105,7 +105,7 @@ export class Subject extends Observable {
   _open(at) {
     if (this.operator || this.source) return super._open(at);
     if (this.closed) {
-      if (at.place === ROOT && at.way === TERMINAL) throw new ObjectUnsubscribedError();
+      if (at._place === ROOT && at._way === TERMINAL) throw new ObjectUnsubscribedError();
       return failAt(at, new ObjectUnsubscribedError());
     }
     const leaf = openLeaf(at);

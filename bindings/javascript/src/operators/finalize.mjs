@@ -8,5 +8,5 @@ export const finalize = (callback) => operator((at, source) => {
   const tag = traced(new Tag(callback), 'finalizer'), below = openUsing(at, tag);
   if (below === null) return;
   openAt(source, below);
-  if (below.above === LEFT) tag.release();
+  if (below._above === LEFT) tag.release();
 });

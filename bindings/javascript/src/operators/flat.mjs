@@ -80,7 +80,7 @@ class Exhausts extends Bounded {
 const projecting = (kind, make) => operator((at, source) => {
   const place = settled(at);
   if (place === null) return;
-  const body = make(place.way), thing = openNode(place, kind, body);
+  const body = make(place._way), thing = openNode(place, kind, body);
   if (thing === null) return;
   body.opened(thing);
   openAt(source, new Place(SOURCE, thing, null, TERMINAL));

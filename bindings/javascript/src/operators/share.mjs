@@ -34,8 +34,8 @@ function shared() {
     const share = new Share(levelOf(source));
     let other = null, many = 0; // by a subject, and how many subscribers that has
     const made = operator((at, it) => {
-      const place = at.place === ROOT && at.way === TERMINAL ? at : linked(at);
-      if (place === null || place.hears.closed) return;
+      const place = at._place === ROOT && at._way === TERMINAL ? at : linked(at);
+      if (place === null || place._hears.closed) return;
       if (many === 0) {
         if (openNode(place, SHARED, null, null, share) !== null) {
           const { connection } = share;

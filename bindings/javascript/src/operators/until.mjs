@@ -32,7 +32,7 @@ export function takeUntil(notifier) {
     const other = innerFrom(notifier), place = settled(at), thing = place && openNode(place, UNTIL);
     if (!thing) return;
     notifies(other, new Place(NOTIFIER, thing, null, new Notifies(TERMINAL)));
-    if (thing !== LEFT) openAt(source, new Place(SOURCE, thing, null, place.way));
+    if (thing !== LEFT) openAt(source, new Place(SOURCE, thing, null, place._way));
   });
 }
 

@@ -45,7 +45,7 @@ export const using = (resourceFactory, observableFactory) => opened((at) => {
   // The node is open before the resource is made: so what an exchange releases is released before.
   const below = openPass(at);
   if (below === null) return;
-  const is_left = below.above === LEFT, tag = traced(new Tag(() => resource && resource.unsubscribe()), 'resource');
+  const is_left = below._above === LEFT, tag = traced(new Tag(() => resource && resource.unsubscribe()), 'resource');
   let resource, source = null;
   try { resource = resourceFactory(); } catch (error) { return failAt(below, error); }
   if (!is_left) holdAt(below, tag);
