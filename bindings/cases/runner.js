@@ -217,6 +217,7 @@ const OPERATORS = {
   time_interval: run => ops.timeInterval(run.clock),
   observe_on: run => ops.observeOn(run.clock),
   subscribe_on: run => ops.subscribeOn(run.clock),
+  delay_subscription: (run, time) => ops.subscribeOn(run.clock, time),
   share_replay: (run, bufferSize) => ops.shareReplay({ bufferSize, refCount: true }),
   multicast: () => ops.multicast(new rx.Subject())
 }

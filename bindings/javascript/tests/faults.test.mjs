@@ -78,18 +78,6 @@ export const tests = {
     const sub = rx.of(1, 2).pipe(rx.mergeMap((x) => (say(`called ${x}`), x === 1 ? first.pipe(rx.finalize(() => sub.unsubscribe())) : rx.NEVER), 1)).subscribe();
     first.complete();
   }, ['called 1'], ['called 1', 'called 2']),
-  'forkJoin: the first has failed': test((rx, say) => {
-    rx.forkJoin([rx.throwError(() => 'no'), made(rx, say, 'r', rx.NEVER)]).subscribe({ error: () => say('error') });
-  }, ['error'], ['error', 'r made', 'r released']),
-  'combineLatest: the first has failed': test((rx, say) => {
-    rx.combineLatest([rx.throwError(() => 'no'), made(rx, say, 'r', rx.NEVER)]).subscribe({ error: () => say('error') });
-  }, ['error'], ['error', 'r made', 'r released']),
-  'withLatestFrom: an input has failed': test((rx, say) => {
-    made(rx, say, 'r', rx.NEVER).pipe(rx.withLatestFrom(rx.throwError(() => 'no'))).subscribe({ error: () => say('error') });
-  }, ['error'], ['error', 'r made', 'r released']),
-  'sample: the source has ended': test((rx, say) => {
-    rx.of(1).pipe(rx.sample(made(rx, say, 'r', rx.NEVER))).subscribe({ complete: () => say('end') });
-  }, ['end'], ['end', 'r made', 'r released']),
   'a finalizer throws at a take': test((rx, say) => {
     const s = new rx.Subject();
     s.pipe(rx.finalize(() => { throw new Error('x'); }), rx.take(1)).subscribe({ complete: () => say('end') });
@@ -143,12 +131,6 @@ export const tests = {
     s.next(inner(2));
     sub.unsubscribe();
   }, ['released 1', 'released 2', 'released 3'], ['released 1', 'released 3', 'released 2']),
-  'buffer: the source has ended': test((rx, say) => {
-    rx.of(1).pipe(rx.buffer(made(rx, say, 'r', rx.NEVER))).subscribe({ complete: () => say('end') });
-  }, ['end'], ['end', 'r made', 'r released']),
-  'window: the source has ended': test((rx, say) => {
-    rx.of(1).pipe(rx.window(made(rx, say, 'r', rx.NEVER))).subscribe({ complete: () => say('end') });
-  }, ['end'], ['end', 'r made', 'r released']),
   'race: the release of a loser makes another loser speak': test((rx, say) => {
     const [a, b, c] = [0, 1, 2].map(() => new rx.Subject());
     rx.race(a, b.pipe(rx.finalize(() => c.next('c'))), c).subscribe({ next: (x) => say(x), error: (error) => say(`error ${error.constructor.name}`) });

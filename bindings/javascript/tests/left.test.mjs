@@ -94,11 +94,23 @@ const ENDED = {
   'connect: the selector answers what has failed': ['error', ({ rx, a, fails }) => a.pipe(rx.connect(() => fails))],
   'distinct: the source has failed': ['error', ({ rx, a, fails }) => fails.pipe(rx.distinct((it) => it, a))],
   'forkJoin: the first has ended without an item': ['end', ({ rx, a }) => rx.forkJoin([rx.EMPTY, a])],
+  'forkJoin: the first has failed': ['error', ({ rx, a, fails }) => rx.forkJoin([fails, a])],
+  'combineLatest: the first has failed': ['error', ({ rx, a, fails }) => rx.combineLatest([fails, a])],
+  'combineLatestWith: the source has failed': ['error', ({ rx, a, fails }) => fails.pipe(rx.combineLatestWith(a))],
+  'withLatestFrom: an input has failed, and the source comes behind it': ['error', ({ rx, a, fails }) => a.pipe(rx.withLatestFrom(fails))],
+  'withLatestFrom: an input has failed, and another comes behind it': ['error', ({ rx, a, fails }) => rx.NEVER.pipe(rx.withLatestFrom(fails, a))],
+  'sample: the source has ended': ['end', ({ rx, a }) => rx.of(1).pipe(rx.sample(a))],
+  'sample: the source has failed': ['error', ({ rx, a, fails }) => fails.pipe(rx.sample(a))],
+  'buffer: the source has ended': ['end', ({ rx, a }) => rx.of(1).pipe(rx.buffer(a))],
+  'buffer: the source has failed': ['error', ({ rx, a, fails }) => fails.pipe(rx.buffer(a))],
+  'window: the source has ended': ['end', ({ rx, a }) => rx.of(1).pipe(rx.window(a))],
+  'window: the source has failed': ['error', ({ rx, a, fails }) => fails.pipe(rx.window(a))],
 };
 function toldAtTheEnd(rx, make) {
-  const list = [], say = (it) => list.push(it);
+  const list = [], say = (it) => list.push(it), before = rx.counts?.();
   const a = rx.using(() => (say('made'), { unsubscribe: () => say('released') }), () => rx.NEVER);
   make({ rx, a, fails: rx.throwError(() => 'no') }).subscribe({ error: () => say('error'), complete: () => say('end') });
+  if (before && (rx.counts().nodes !== before.nodes || rx.counts().held !== before.held)) say('something stays open');
   return list;
 }
 

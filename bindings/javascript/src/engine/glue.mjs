@@ -28,7 +28,7 @@ const code = (locals, ...body) => sized([...list(locals), ...body.flat(), ...END
 
 // Numbers of functions and of globals, and of a command's fields.
 const MAKE = 0, TAKE = 1, GIVE_UP = 2, ROOM = 3, TAKES = 4, TAKES_ON = 9, ALL = 13;
-const CLOSED = 56, DUE = 64, LANES = 144, SHOWN = 8; // bytes within an answer, and how many of a list stand in it
+const CLOSED_AT = 56, DUE_AT = 64, LANES_AT = 144, SHOWN = 8; // bytes within an answer, and how many of a list stand in it
 const BASE = 0, ENGINE = 1, COMMAND = 2, ANSWER = 3, EFFECT = 4, COUNT = 5, ENTERED = 6;
 /** Bytes behind the base at which the engine's handle, a command, an answer, an effect, a count and the lane that is left stand. */
 export const LAYOUT = { engine: 0, command: 64, answer: 128, effect: 384, count: 416, left: 432, words: 448, room: 64 };
@@ -61,12 +61,12 @@ function large(frame, next) {
 }
 
 // A command with the first effect of its lane, if it was done, the lane is one, and all that it closed stands in the answer; else the count is 0.
-const ends = (status) => entering(leaving, global(ENGINE), global(COMMAND), global(ANSWER), call(MAKE), set(status), taking(status));
-const answer = (at) => [...global(BASE), ...load64(LAYOUT.answer + at)];
-const taking = (status) => [...global(BASE), ...constant(0), ...store32(LAYOUT.count), ...get(status), ...isNone, ...answer(DUE), ...long(1), ...isSameLong, ...BOTH,
-  ...answer(CLOSED), ...long(SHOWN), ...isAtMostLong, ...BOTH, ...IF,
-  ...global(ENGINE), ...answer(LANES), ...long(0), ...global(EFFECT), ...global(COUNT), ...call(TAKE), ...DROP, ...END];
-const node = [16, 20, 24, 28].map((at, i) => field(at, get(i + 1))).flat(); // the four parts of its key
+const makesAndTakes = (status) => entering(leaving, global(ENGINE), global(COMMAND), global(ANSWER), call(MAKE), set(status), firstTaken(status));
+const inAnswer = (at) => [...global(BASE), ...load64(LAYOUT.answer + at)];
+const firstTaken = (status) => [...global(BASE), ...constant(0), ...store32(LAYOUT.count), ...get(status), ...isNone, ...inAnswer(DUE_AT), ...long(1), ...isSameLong, ...BOTH,
+  ...inAnswer(CLOSED_AT), ...long(SHOWN), ...isAtMostLong, ...BOTH, ...IF,
+  ...global(ENGINE), ...inAnswer(LANES_AT), ...long(0), ...global(EFFECT), ...global(COUNT), ...call(TAKE), ...DROP, ...END];
+const nodeFields = [16, 20, 24, 28].map((at, i) => field(at, get(i + 1))).flat(); // the four parts of its key
 const makes = entering(leaving, global(ENGINE), global(COMMAND), global(ANSWER), call(MAKE));
 const EXPORTS = { room: ROOM, make: 5, open: 6, next: 7, take: 8, takeOn: TAKES_ON, giveUp: 10, end: 11, dispose: 12, all: ALL };
 const header = () => [0, 0x61, 0x73, 0x6d, 1, 0, 0, 0,
@@ -84,14 +84,14 @@ const small = () => [
     code([], roomy(0), makes), // a command that was written
     code([], roomy(1), makes), // an opening
     // an item: what and flags, the four parts of the node's key, the value's word
-    code([], roomy(2), field(0, get(0)), node, field(32, constant(0)), field(40, get(5)), makes),
+    code([], roomy(2), field(0, get(0)), nodeFields, field(32, constant(0)), field(40, get(5)), makes),
     code([], roomy(2), get(0), get(1), call(TAKES_ON)), // the next effect of a lane; and of one that has been looked at from the same depth
     code([], entering(leaving, get(0), get(1), call(TAKES))),
     code([], roomy(0), entering(leaving, global(ENGINE), lane, long(0), global(EFFECT), long(0), global(COUNT), call(GIVE_UP), DROP),
       global(BASE), load32(LAYOUT.count)),
     // what ends something, where the depth has been looked at: as an item, and the first effect of it
-    code([[1, I32]], field(0, get(0)), node, field(32, constant(0)), field(40, get(5)), ends(6), get(6)),
-    code([[1, I32]], roomy(2), field(0, get(0)), node, ends(5), get(5)), // a disposal, where there is room for all that it leads to
+    code([[1, I32]], field(0, get(0)), nodeFields, field(32, constant(0)), field(40, get(5)), makesAndTakes(6), get(6)),
+    code([[1, I32]], roomy(2), field(0, get(0)), nodeFields, makesAndTakes(5), get(5)), // a disposal, where there is room for all that it leads to
 ];
 /** The bytes of the module. */
 export function glue() {

@@ -2,10 +2,12 @@
 import { Link } from '../core/link.mjs';
 import { operate } from '../core/operator.mjs';
 import { Subject } from '../core/subject.mjs';
-import { isOver } from '../sources/combining.mjs';
 import { innerFrom } from '../sources/from.mjs';
 import { EMPTY } from '../sources/simple.mjs';
 import { timer } from '../sources/timer.mjs';
+
+/** Whether it has ended since: what was left before it was opened is called all the same, as in RxJS. */
+const isOver = (to, was_left) => !was_left && (to.closed || to.isStopped);
 
 /** Subscribes again and again without depth: `start` is called while somebody asked for it meanwhile. */
 function looping(start) {

@@ -3,19 +3,16 @@ import { Link } from '../core/link.mjs';
 import { operate } from '../core/operator.mjs';
 import { Subscription } from '../core/subscription.mjs';
 import { noop, popScheduler } from '../core/util.mjs';
-import { isOver } from '../sources/combining.mjs';
 import { innerFrom } from '../sources/from.mjs';
 import { asyncScheduler } from '../schedulers/async.mjs';
 import { scheduleFor } from '../schedulers/schedule.mjs';
 
 export const buffer = (closingNotifier) => operate((source, to) => {
   let items = [];
-  const was_left = to.closed;
   source.subscribe(new Link(to, (value) => items.push(value), () => {
     to.next(items);
     to.complete();
   }));
-  if (isOver(to, was_left)) return;
   innerFrom(closingNotifier).subscribe(new Link(to, () => {
     const told = items;
     items = [];

@@ -2,7 +2,6 @@
 import { Link } from '../core/link.mjs';
 import { operate } from '../core/operator.mjs';
 import { noop } from '../core/util.mjs';
-import { isOver } from '../sources/combining.mjs';
 import { innerFrom } from '../sources/from.mjs';
 import { interval, timer } from '../sources/timer.mjs';
 import { asyncScheduler } from '../schedulers/async.mjs';
@@ -141,12 +140,10 @@ export const auditTime = (duration, scheduler = asyncScheduler) => audit(() => t
 
 export const sample = (notifier) => operate((source, to) => {
   let has = false, last = null;
-  const was_left = to.closed;
   source.subscribe(new Link(to, (value) => {
     has = true;
     last = value;
   }));
-  if (isOver(to, was_left)) return;
   innerFrom(notifier).subscribe(new Link(to, () => {
     if (!has) return;
     has = false;

@@ -5,7 +5,6 @@ import { operate } from '../core/operator.mjs';
 import { Subject } from '../core/subject.mjs';
 import { Subscription } from '../core/subscription.mjs';
 import { isFunction, noop, popScheduler } from '../core/util.mjs';
-import { isOver } from '../sources/combining.mjs';
 import { innerFrom } from '../sources/from.mjs';
 import { asyncScheduler } from '../schedulers/async.mjs';
 import { scheduleFor } from '../schedulers/schedule.mjs';
@@ -13,7 +12,6 @@ import { scheduleFor } from '../schedulers/schedule.mjs';
 export const window = (boundaries) => operate((source, to) => {
   let now = new Subject();
   to.next(now.asObservable());
-  const was_left = to.closed;
   const fails = (error) => {
     now.error(error);
     to.error(error);
@@ -26,7 +24,6 @@ export const window = (boundaries) => operate((source, to) => {
     now?.unsubscribe();
     now = null;
   };
-  if (isOver(to, was_left)) return lets;
   innerFrom(boundaries).subscribe(new Link(to, () => {
     now.complete();
     to.next((now = new Subject()));

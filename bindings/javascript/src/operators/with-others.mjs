@@ -2,7 +2,7 @@
 import { Link } from '../core/link.mjs';
 import { operate } from '../core/operator.mjs';
 import { flatList, identity, noop, pipe, popFunction, popNumber, popScheduler, spreading } from '../core/util.mjs';
-import { combineLatest, concat, isOver, latest, raceInit, zip } from '../sources/combining.mjs';
+import { combineLatest, concat, latest, raceInit, zip } from '../sources/combining.mjs';
 import { from, innerFrom } from '../sources/from.mjs';
 import { concatAll, mergeAll, mergeMap } from './flat.mjs';
 import { map } from './items.mjs';
@@ -51,9 +51,8 @@ export function withLatestFrom(...words) {
   const call = popFunction(words);
   return operate((source, to) => {
     const { length } = words, values = new Array(length), has = words.map(() => false);
-    const was_left = to.closed;
     let ready = length === 0;
-    for (let i = 0; i < length && !isOver(to, was_left); i++) {
+    for (let i = 0; i < length; i++) {
       innerFrom(words[i]).subscribe(new Link(to, (value) => {
         values[i] = value;
         if (has[i]) return;
@@ -61,7 +60,6 @@ export function withLatestFrom(...words) {
         ready = has.every(identity);
       }, noop));
     }
-    if (isOver(to, was_left)) return;
     source.subscribe(new Link(to, (value) => {
       if (!ready) return;
       const all = [value, ...values];

@@ -1,4 +1,4 @@
-// Several observables at once. Each input that fails, or an observer that leaves, keeps those behind it from being subscribed to.
+// Several observables at once. What stands behind an input that has failed is subscribed to, and left at once, as by RxJS; not so of `zip` and `race`.
 import { Link } from '../core/link.mjs';
 import { Observable } from '../core/observable.mjs';
 import { flatList, identity, inputsOf, objectOf, popFunction, popNumber, popScheduler, spreading } from '../core/util.mjs';
@@ -20,9 +20,6 @@ export function concat(...words) {
 
 const result = (made, call) => (call ? map(spreading(call))(made) : made);
 const done = (to) => to.closed || to.isStopped;
-/** Whether it has ended since: what was left before it was opened is called all the same, as in RxJS. */
-export const isOver = (to, was_left) => !was_left && done(to);
-
 export function combineLatest(...words) {
   const scheduler = popScheduler(words), call = popFunction(words), { inputs, keys } = inputsOf(words);
   if (inputs.length === 0) return from([], scheduler);
@@ -34,9 +31,8 @@ const on = (scheduler, act, to) => (scheduler ? scheduleFor(to, scheduler, act) 
 export const latest = (inputs, scheduler, valueOf = identity) => (to) => {
   on(scheduler, () => {
     const { length } = inputs, values = new Array(length);
-    const was_left = to.closed;
     let active = length, waiting = length;
-    for (let i = 0; i < length && !isOver(to, was_left); i++) {
+    for (let i = 0; i < length; i++) {
       on(scheduler, () => {
         let has = false;
         from(inputs[i], scheduler).subscribe(new Link(to, (value) => {
@@ -60,8 +56,8 @@ export function forkJoin(...words) {
     const { length } = inputs;
     if (length === 0) return to.complete();
     const values = new Array(length);
-    let active = length, with_none = length, has_failed = false;
-    for (let i = 0; i < length && !has_failed; i++) {
+    let active = length, with_none = length;
+    for (let i = 0; i < length; i++) {
       let has = false;
       const link = new Link(to, (value) => {
         if (!has) {
@@ -72,10 +68,7 @@ export function forkJoin(...words) {
       }, () => {
         active--;
         link.leave();
-      }, (error) => {
-        has_failed = true;
-        to.error(error);
-      }, () => {
+      }, undefined, () => {
         if (active && has) return;
         if (with_none === 0) to.next(keys ? objectOf(keys, values) : values);
         to.complete();
