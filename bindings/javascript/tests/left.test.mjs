@@ -116,3 +116,23 @@ function toldAtTheEnd(rx, make) {
 
 export const tests = Object.fromEntries(Object.entries(PIPELINES).map(([name, [make, is]]) => [`left before it subscribes: ${name}`, { of: (rx) => told(rx, make), is }]));
 for (const [name, [end, make]] of Object.entries(ENDED)) tests[name] = { of: (rx) => toldAtTheEnd(rx, make), is: [end, 'made', 'released'] };
+
+// Left within a finalizer: what is subscribed to again is left at once.
+const AGAIN = {
+  'repeat is left as its source is released': [(rx, source) => source.pipe(rx.repeat()), (s) => s.complete()],
+  'retry is left as its source is released': [(rx, source) => source.pipe(rx.retry()), (s) => s.error('no')],
+};
+function toldAgain(rx, make, end) {
+  const list = [], say = (it) => list.push(it), before = rx.counts?.(), first = new rx.Subject();
+  let times = 0;
+  const again = rx.using(() => (say('made'), { unsubscribe: () => say('released') }), () => rx.NEVER);
+  const source = rx.defer(() => (++times === 1 ? first : again)).pipe(rx.finalize(() => {
+    say('finalized');
+    if (times === 1) subscription.unsubscribe();
+  }));
+  const subscription = make(rx, source).subscribe({ error: () => say('error'), complete: () => say('end') });
+  end(first);
+  if (before && (rx.counts().nodes !== before.nodes || rx.counts().held !== before.held)) say('something stays open');
+  return list;
+}
+for (const [name, [make, end]] of Object.entries(AGAIN)) tests[name] = { of: (rx) => toldAgain(rx, make, end), is: ['finalized', 'made', 'released', 'finalized'] };

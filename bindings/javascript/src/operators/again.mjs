@@ -6,9 +6,6 @@ import { innerFrom } from '../sources/from.mjs';
 import { EMPTY } from '../sources/simple.mjs';
 import { timer } from '../sources/timer.mjs';
 
-/** Whether it has ended since: what was left before it was opened is called all the same, as in RxJS. */
-const isOver = (to, was_left) => !was_left && (to.closed || to.isStopped);
-
 /** Subscribes again and again without depth: `start` is called while somebody asked for it meanwhile. */
 function looping(start) {
   let is_busy = false, is_asked = false;
@@ -44,10 +41,8 @@ export function repeat(countOrConfig) {
   }
   if (count <= 0) return () => EMPTY;
   return operate((source, to) => {
-    const was_left = to.closed;
     let so_far = 0;
     const again = looping(() => {
-      if (isOver(to, was_left)) return;
       const inner = new Link(to, undefined, () => {
         if (++so_far >= count) return to.complete();
         inner.leave();
@@ -63,10 +58,8 @@ export function retry(configOrCount = Infinity) {
   const { count = Infinity, delay, resetOnSuccess = false } = configOrCount && typeof configOrCount === 'object' ? configOrCount : { count: configOrCount };
   if (count <= 0) return (source) => source;
   return operate((source, to) => {
-    const was_left = to.closed;
     let so_far = 0;
     const again = looping(() => {
-      if (isOver(to, was_left)) return;
       const inner = new Link(to, (value) => {
         if (resetOnSuccess) so_far = 0;
         to.next(value);
@@ -95,7 +88,6 @@ function waits(delay, many, to, goOn) {
 /** An observable of ends says when to go on. */
 const when = (of_error) => (notifier) => operate((source, to) => {
   let inner = null, ends = null, is_source_over = false, is_notifier_over = false;
-  const was_left = to.closed;
   const done = () => is_notifier_over && is_source_over && (to.complete(), true);
   const told = () => {
     if (ends) return ends;
@@ -108,7 +100,6 @@ const when = (of_error) => (notifier) => operate((source, to) => {
   };
   let is_asked = false;
   const again = looping(() => {
-    if (isOver(to, was_left)) return;
     is_source_over = is_asked = false;
     const it = inner = new Link(to, undefined, of_error ? undefined : () => {
       is_source_over = true;
