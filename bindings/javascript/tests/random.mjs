@@ -2,8 +2,8 @@
 // random/running.mjs; why two runs differ, in random/differences.mjs.
 //
 // Usage: node random.mjs [MANY] [SEED] [--show NAME] [--deep] [--chains]. With --chains they are chains of functions on items. With --deep each step is done where the stack is almost full, over the package
-// alone: then only what stays open is looked at. It fails where a difference has no name, more than one in a hundred differ in another way than by a
-// fault of RxJS that the package is to be without, or a resource is not released once: what a share or a connection was told to keep is closed at the end.
+// alone: then only what stays open is looked at. It fails where a difference has no name, more than one in a hundred differ, or a resource is not
+// released once: what a share or a connection was told to keep is closed at the end.
 import { createRequire } from 'node:module';
 import { chains } from './random/chains.mjs';
 import { deeply } from './random/deep.mjs';
@@ -63,4 +63,4 @@ const percent = (it) => `${it} (${(100 * it / total.pipelines).toFixed(2)} %)`;
 console.log(`${percent(total.differ)} differ: ${percent(total.differ - total.ours)} by a fault of RxJS, ${percent(total.ours)} otherwise; ${percent(total.heard)} in what an observer hears`);
 console.log(`${total['of those with an act from within']} of those that differ have an act from within; ${total.wrong} release something twice, or never`);
 for (const [name, seeds] of by) console.log(`- ${name}: ${seeds.length} (${seeds.slice(0, 8).join(', ')})`);
-process.exit(total.wrong || by.has('NO NAME') || total.ours > total.pipelines / 100 ? 1 : 0);
+process.exit(total.wrong || by.has('NO NAME') || total.differ > total.pipelines / 100 ? 1 : 0);
