@@ -1,7 +1,7 @@
 -- What the lists say of resources, and of the connections above a node.
 use Rattle.rx_audit.proofs.Common.{◌≡◌, ℕ, Bool, true, false, nat_lt, List, Some, None, refl, sym, ap, ◌∙◌, slice_get, not, ◌&&◌, ◌||◌}
 use Rattle.rx_audit.proofs.Common.{option_and_then, Event, makes_resource, makes_lease, removed_of, returned_of, taken_of, at, is_open, parent, leases_of}
-use Rattle.rx_audit.proofs.Common.{ancestors, ancestors_step, list_any, is_key, list_any-same, ◌<◌, length, get_or, arith}
+use Rattle.rx_audit.proofs.Common.{ancestors, ancestors_step, list_any, names_number, list_any-same, ◌<◌, length, get_or, arith}
 use Rattle.rx_audit.specs.declared.found.Found.{Found}
 use Rattle.rx_audit.specs.Found.{IsFoundHere}
 use Rattle.rx_event.specs.Events.{node_of_accept, is_remove_of, is_return_of, is_take_of}
@@ -11,13 +11,13 @@ use Rattle.rx_event.proofs.Laws.Resources.{held_is}
 use Rattle.rx_audit.specs.Rules.{was_removed, was_returned, was_taken}
 use Rattle.std.proofs.Common.{rules}
 
-removed_key : (r : ℕ) (e : Event) → is_key (removed_of e) r ≡ is_remove_of r e
+removed_key : (r : ℕ) (e : Event) → names_number (removed_of e) r ≡ is_remove_of r e
 removed_key r x1 = search rules
 
-returned_key : (l : ℕ) (e : Event) → is_key (returned_of e) l ≡ is_return_of l e
+returned_key : (l : ℕ) (e : Event) → names_number (returned_of e) l ≡ is_return_of l e
 returned_key l x1 = search rules
 
-taken_key : (r : ℕ) (e : Event) → is_key (taken_of e) r ≡ is_take_of r e
+taken_key : (r : ℕ) (e : Event) → names_number (taken_of e) r ≡ is_take_of r e
 taken_key r x1 = search rules
 
 -- resources --------------------------------------------------------------------------------------------

@@ -25,15 +25,15 @@ pub use Rattle.std.specs.Prelude.{is_some}
 pub use Rattle.rx_audit.specs.DueList.{Keeps, IsLostNoted, HasAll}
 unfoldable pub use Rattle.rx_audit.specs.DueList.{acts}
 pub use Rattle.rx_audit.specs.Flow.{IsReached, times, IsOften, flow}
-pub use Rattle.rx_audit.specs.Found.{IsFound, IsClimbed}
-pub use Rattle.rx_audit.specs.HubTables.{AreHubs, AreLinked, on_list, AreOpenListed, number_of, IsRow, AreLetGo}
+pub use Rattle.rx_audit.specs.Found.{AreListsFound, IsClimbed}
+pub use Rattle.rx_audit.specs.HubTables.{AreHubs, AreLinked, on_list, AreOpenListed, number_by_word, IsRow, AreLetGo}
 pub use Rattle.rx_audit.specs.Latest.{last_below, keyed, IsNoted, table_with, IsClosingBelow, AreClosed, inner_named_at, AreChildren, link_with}
 pub use Rattle.rx_audit.specs.Marking.{IsVisited, IsUntouched, due_made, IsCovered, leaf_of, touched_by, ends_so, IsKept, visited_marks, fired_key}
 pub use Rattle.rx_audit.specs.Marking.{projected_key}
 unfoldable pub use Rattle.rx_audit.specs.Marking.{node_due}
-pub use Rattle.rx_audit.specs.Rules.{is_key, hub_connected_at, hub_subscribed_at, has_key, open_connected, hub_ended, hub_ended_at, open_subscribed}
+pub use Rattle.rx_audit.specs.Rules.{names_number, hub_connected_at, hub_subscribed_at, any_has_key, open_connected, hub_ended, hub_ended_at, open_subscribed}
 pub use Rattle.rx_audit.specs.Rules.{open_waiting, joins, ends_source}
-unfoldable pub use Rattle.rx_audit.specs.Rules.{is_cut, stays_open, any_connect_due, close_due, connect_due}
+unfoldable pub use Rattle.rx_audit.specs.Rules.{is_disconnected, stays_open, any_connect_due, close_due, connect_due}
 pub use Rattle.rx_audit.specs.Standing.{IsFollowed, IsKnown}
 pub use Rattle.rx_audit.specs.Tables.{IsMarked, mark_count, marks_with, counts_with, counts_less}
 pub use Rattle.rx_audit.specs.declared.advance.Nodes.{Nodes}

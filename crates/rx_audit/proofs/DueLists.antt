@@ -5,7 +5,7 @@ use Rattle.rx_audit.proofs.Common.{slice_get_within, same_Some, none-some, nothi
 use Rattle.rx_audit.proofs.Common.{at, is_open, marks_of, connecting, cut, left, due, IsDue, IsSettled, IsLawful, MayFollow, is_open_within}
 use Rattle.rx_audit.proofs.Common.{at_within, event_at, subscriber_hub, open_old, last_connection, Hubs, keyed, IsNoted, AreClosed, last_below, node_due}
 use Rattle.rx_audit.proofs.Common.{due_made, IsCovered, AreHubs, Subscribers, on_list, AreLinked, AreOpenListed, IsLostNoted, acts, Keeps, HasAll}
-use Rattle.rx_audit.proofs.Common.{hub_connected_at, is_cut, close_due, any_connect_due, hub_ended, false_from_ne_true, ⊎_elim}
+use Rattle.rx_audit.proofs.Common.{hub_connected_at, is_disconnected, close_due, any_connect_due, hub_ended, false_from_ne_true, ⊎_elim}
 use Rattle.rx_event.specs.Forced.{IsConnected}
 use Rattle.rx_event.specs.Claims.Connections.{HowLeft, left_before, subscriber_gone, connected_now}
 use Rattle.rx_event.proofs.Laws.MarksDue.{due_at_forced, settled_by_marks}
@@ -80,7 +80,8 @@ left_after {h} {e} {known} {after} one so_far keeps lost new c is = by_reason (l
 
 -- settled or not ----------------------------------------------------------------------------------------
 
-acts_parts : (h : List Event) (n : ℕ) → acts h n ≡ true → (node_due h n ≡ true) ⊎ (((is_open h n ≡ true) × (is_cut h n ≡ true)) ⊎ (close_due h n ≡ true))
+acts_parts : (h : List Event) (n : ℕ) → acts h n ≡ true
+    → (node_due h n ≡ true) ⊎ (((is_open h n ≡ true) × (is_disconnected h n ≡ true)) ⊎ (close_due h n ≡ true))
 unfolding acts
 acts_parts h n y = search rules
 
@@ -98,7 +99,7 @@ acts_open h n y = search (rules, acts_parts, due_parts, due_close_open, close_is
 -- where no hub waits, such a node leaves the history unsettled
 pub acts_unsettled : (h : List Event) (n : ℕ) → IsConnected h → acts h n ≡ true → IsSettled nothing_kept h → ⊥
 acts_unsettled h n whole y settled = by_case (acts_parts h n y) where
-  by_case : (node_due h n ≡ true) ⊎ (((is_open h n ≡ true) × (is_cut h n ≡ true)) ⊎ (close_due h n ≡ true)) → ⊥
+  by_case : (node_due h n ≡ true) ⊎ (((is_open h n ≡ true) × (is_disconnected h n ≡ true)) ⊎ (close_due h n ≡ true)) → ⊥
   by_case (inl m) =
       let parts = due_parts h n m in
       let made = event_at h n (is_open_within h n parts.0) in
@@ -111,7 +112,7 @@ acts_by_marks : (h : List Event) (n : ℕ) → node_due h n ≡ true → acts h 
 unfolding acts
 acts_by_marks h n y = grind arith
 
-acts_by_cut : (h : List Event) (n : ℕ) → is_open h n ≡ true → is_cut h n ≡ true → acts h n ≡ true
+acts_by_cut : (h : List Event) (n : ℕ) → is_open h n ≡ true → is_disconnected h n ≡ true → acts h n ≡ true
 unfolding acts
 acts_by_cut h n o y = grind arith
 

@@ -4,7 +4,8 @@ use Rattle.rx_audit.proofs.Common.{get_or, slice_get, not, cases_Bool, both_ways
 use Rattle.rx_audit.proofs.Common.{option_and_then, option_map, option_map_or, nothing_kept, Terminal, Event, Connect, Decline, End, Close, Marks, is_open}
 use Rattle.rx_audit.proofs.Common.{marks_of, due_at, same_terminal, connecting, due, cut, IsDue, IsForced, IsConnectDue, SourceEnded, IsLawful, is_open_within}
 use Rattle.rx_audit.proofs.Common.{event_at, subscriber_hub, Hubs, last_below, keyed, IsUntouched, leaf_of, ends_so, AreHubs, hub_subscribed_at, hub_ended}
-use Rattle.rx_audit.proofs.Common.{hub_ended_at, is_cut, any_connect_due, close_due, connect_due, and_false, and_from, or_left, or_right, or_cases, not-true}
+use Rattle.rx_audit.proofs.Common.{hub_ended_at, is_disconnected, any_connect_due, close_due, connect_due, and_false, and_from, or_left, or_right, or_cases}
+use Rattle.rx_audit.proofs.Common.{not-true}
 use Rattle.rx_audit.proofs.Common.{false_from_ne_true, ⊎_elim, cases_lt}
 use Rattle.rx_event.specs.Claims.Connections.{EndsConnection, EndsLast}
 use Rattle.rx_event.proofs.Laws.Lawful.{due_open}
@@ -70,11 +71,12 @@ ended_last h g place found =
 -- what the words say of a subscriber
 module _ (h : List Event) (law : IsLawful nothing_kept h) (size : ℕ) (known : Hubs) (w : AreHubs h size known) (room : length h ≤ size) where
   cut_parts : (s : ℕ) (t : Terminal) → cut_so h known.ended.items s t ≡ true
-      → (is_open h s ≡ true) × (is_cut h s ≡ true) × (ends_last_so h known.ended.items s t ≡ true)
+      → (is_open h s ≡ true) × (is_disconnected h s ≡ true) × (ends_last_so h known.ended.items s t ≡ true)
   unfolding cut_so
   cut_parts s t y = search (rules, and_parts)
 
-  by_word : (s : ℕ) → is_cut h s ≡ true → (g : ℕ) × (place : ℕ) × (hub_subscribed_at h s ≡ Some g) × (get_or known.ended.items g 0 ≡ suc place) × (s < place)
+  by_word : (s : ℕ) → is_disconnected h s ≡ true
+      → (g : ℕ) × (place : ℕ) × (hub_subscribed_at h s ≡ Some g) × (get_or known.ended.items g 0 ≡ suc place) × (s < place)
       × (last_below (keyed (hub_ended_at h) g) (length h) ≡ suc place)
   by_word s is =
       let x = (cut_ended h s is).1 in
@@ -98,14 +100,14 @@ module _ (h : List Event) (law : IsLawful nothing_kept h) (size : ℕ) (known : 
       let same : e.0 ≡ t = terminal_is e.0 t (sym (last_so s k.0 k.1 t e.0 k.2 k.3 e.2) ∙ p.2) in
       cut p.0 ((cut_by_last law e.1 s t (subscriber_at h s k.0 k.2) p.0).1 (k.4, sym same))
 
-  unfold_cut : (s : ℕ) (t : Terminal) → is_open h s ≡ true → is_cut h s ≡ true
+  unfold_cut : (s : ℕ) (t : Terminal) → is_open h s ≡ true → is_disconnected h s ≡ true
       → ends_last_so h known.ended.items s t ≡ true → cut_so h known.ended.items s t ≡ true
   unfolding cut_so
   unfold_cut s t o c e = search (rules, and_from)
 
   pub cut_due_of : (s : ℕ) (t : Terminal) → is_open h s ≡ true → SourceEnded h s t → cut_so h known.ended.items s t ≡ true
   cut_due_of s t o x =
-      let is : is_cut h s ≡ true = is_cut_of h s t x in
+      let is : is_disconnected h s ≡ true = is_cut_of h s t x in
       let k = by_word s is in
       let e = ended_last h k.0 k.1 k.5 in
       let q = (cut_by_last law e.1 s t (subscriber_at h s k.0 k.2) o).0 x in

@@ -2,36 +2,36 @@
 use Rattle.rx_audit.proofs.Common.{◌≡◌, ℕ, zero, suc, ◌+◌, ◌*◌, nat_lt, Bool, true, false, List, [], ◌∷◌, ◌++◌, length, Option, Some, None}
 use Rattle.rx_audit.proofs.Common.{refl, sym, ap, ◌∙◌, arith, get_or, cond, count_by, replicate, take, drop, ◌||◌, list_any, sum_by, option_and_then}
 use Rattle.rx_audit.proofs.Common.{sum_by-cons, Event, Stop, climb, is_firing_of, is_projection_to, is_open, leases_of, is_open_past, IsMarked, marks_with}
-use Rattle.rx_audit.proofs.Common.{mark_count, is_key, Visit, times, IsReached, lt-ltb, or_false, ⊎_elim, cases_lt, ◌<◌, slice_get}
+use Rattle.rx_audit.proofs.Common.{mark_count, names_number, Visit, times, IsReached, lt-ltb, or_false, ⊎_elim, cases_lt, ◌<◌, slice_get}
 use Rattle.std.proofs.Common.{zero-add, rules}
 use Rattle.std.proofs.Math.Seq.{take-append_seam}
 use Rattle.std.specs.List.{filter_map, cons_option}
 use Rattle.std.proofs.lemmas.List.Folds.{list_any-append}
 use Rattle.rx_event.specs.Climb.{Delivery, Projection, Firing}
 use Rattle.rx_audit.specs.Tables.{IsTable}
-use Rattle.rx_audit.specs.Rules.{fired_by, projected_by}
+use Rattle.rx_audit.specs.Rules.{fired_by, projecting_node}
 use Rattle.rx_audit.proofs.Keys.{length-marks_with, marks_with_at}
 
 -- firings and projections --------------------------------------------------------------------------
 
 firing_cons : (u : ℕ) (o : Option Stop) (rest : List Stop) → list_any (is_firing_of u)
-    (cons_option o rest) ≡ (is_key (option_and_then fired_by o) u || list_any (is_firing_of u) rest)
+    (cons_option o rest) ≡ (names_number (option_and_then fired_by o) u || list_any (is_firing_of u) rest)
 firing_cons u x1 rest = search rules
 
 pub firing_stops : (s : ℕ → Option Stop) (u : ℕ) (nodes : List ℕ)
-    → list_any (is_firing_of u) (filter_map s nodes) ≡ list_any (λ n. is_key (option_and_then fired_by (s n)) u) nodes
+    → list_any (is_firing_of u) (filter_map s nodes) ≡ list_any (λ n. names_number (option_and_then fired_by (s n)) u) nodes
 firing_stops s u [] = refl
 firing_stops s u (n ∷ nodes) = search (rules, firing_cons, option_and_then, firing_stops s u nodes)
 
 projection_cons : (f : ℕ) (o : Option Stop) (rest : List Stop) → count_by (is_projection_to f) (cons_option o rest)
-    ≡ cond (is_key (option_and_then projected_by o) f) 1 0 + count_by (is_projection_to f) rest
+    ≡ cond (names_number (option_and_then projecting_node o) f) 1 0 + count_by (is_projection_to f) rest
 projection_cons f None rest = omega arith
 projection_cons f (Some (Delivery n)) rest = sum_by-cons (λ x. cond (is_projection_to f x) 1 0) (Delivery n) rest
 projection_cons f (Some (Projection g)) rest = sum_by-cons (λ x. cond (is_projection_to f x) 1 0) (Projection g) rest
 projection_cons f (Some (Firing v)) rest = sum_by-cons (λ x. cond (is_projection_to f x) 1 0) (Firing v) rest
 
 pub projection_stops : (s : ℕ → Option Stop) (f : ℕ) (nodes : List ℕ)
-    → count_by (is_projection_to f) (filter_map s nodes) ≡ count_by (λ n. is_key (option_and_then projected_by (s n)) f) nodes
+    → count_by (is_projection_to f) (filter_map s nodes) ≡ count_by (λ n. names_number (option_and_then projecting_node (s n)) f) nodes
 projection_stops s f [] = refl
 projection_stops s f (n ∷ nodes) = search (rules, projection_cons, cond, option_and_then, sum_by-cons, projection_stops s f nodes)
 
@@ -67,8 +67,8 @@ pub times_cond : (q : ℕ → Bool) (log : List Visit) → sum_by (λ v. cond (q
 times_cond q [] = refl
 times_cond q (v ∷ log) = search (rules, sum_by-cons, cond, sum_by, cond_times, times_cond q log)
 
-pub table_more : (key : Event → Option ℕ) (ms : List Bool) (h : List Event) (e : Event) → IsTable ms (λ n. list_any (λ x. is_key (key x) n) h)
-    → IsTable (marks_with ms (key e)) (λ n. list_any (λ x. is_key (key x) n) (h ++ e ∷ []))
+pub table_more : (key : Event → Option ℕ) (ms : List Bool) (h : List Event) (e : Event) → IsTable ms (λ n. list_any (λ x. names_number (key x) n) h)
+    → IsTable (marks_with ms (key e)) (λ n. list_any (λ x. names_number (key x) n) (h ++ e ∷ []))
 table_more key ms h e tied n l = search (rules, length, length-marks_with, marks_with_at, list_any-append, list_any, or_false)
 
 -- the list of a vector, after a slice of the same length was written back
@@ -77,8 +77,8 @@ back len new old e same = let k : len ≡ length new = omega arith in rw (k, tak
 
 -- a vector of marks, after that of the key of the event was set in its slice
 pub table_field : (key : Event → Option ℕ) (h : List Event) (e : Event) {len size : ℕ} (old : List Bool) {new : List Bool}
-    → len ≡ length old → length old ≡ size → new ≡ marks_with old (key e) → IsTable old (λ n. list_any (λ x. is_key (key x) n) h)
-    → IsTable (take len (new ++ drop (length new) old)) (λ n. list_any (λ x. is_key (key x) n) (h ++ e ∷ []))
+    → len ≡ length old → length old ≡ size → new ≡ marks_with old (key e) → IsTable old (λ n. list_any (λ x. names_number (key x) n) h)
+    → IsTable (take len (new ++ drop (length new) old)) (λ n. list_any (λ x. names_number (key x) n) (h ++ e ∷ []))
     × (length (take len (new ++ drop (length new) old)) ≡ size)
 table_field key h e {len} old {new} is_len is_size is tied = search (rules, length, length-marks_with, back, table_more)
 

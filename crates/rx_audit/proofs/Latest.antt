@@ -1,11 +1,11 @@
 -- The last number with a key.
 use Rattle.rx_audit.proofs.Common.{◌≡◌, ℕ, zero, suc, ◌<◌, ◌≤◌, Bool, true, false, List, Option, Some, None, refl, sym, ap, ◌∙◌, arith, cond}
 use Rattle.rx_audit.proofs.Common.{[], ◌∷◌, ◌++◌, length, get_or, set, get_or-set_other, get_or-set_same, length-append, nat_lt, cases_Bool}
-use Rattle.rx_audit.proofs.Common.{cases_order, false≢true, eq-eqb, eqb-true, ne_eqb, ltb-true, none-some, same_Some, is_key, length-set, option_and_then}
+use Rattle.rx_audit.proofs.Common.{cases_order, false≢true, eq-eqb, eqb-true, ne_eqb, ltb-true, none-some, same_Some, names_number, length-set, option_and_then}
 use Rattle.rx_audit.proofs.Common.{Event, parent_named, inner_named, parent, if_less, slice_get-append, slice_get_last, last_below, keyed, inner_named_at}
 use Rattle.rx_audit.proofs.Common.{table_with, link_with, AreChildren, Children, ⊎_elim, cases_eq}
 use Rattle.rx_event.proofs.Laws.Parents.{parent-append}
-use Rattle.rx_audit.specs.Latest.{IsLatest, IsLinked}
+use Rattle.rx_audit.specs.Latest.{IsLatest, IsLinkedBack}
 use Rattle.std.proofs.lemmas.List.{set_past}
 use Rattle.std.proofs.Common.{rules}
 
@@ -32,10 +32,10 @@ last_same p q (suc k) same =
     let r : last_below p k ≡ last_below q k = last_same p q k (λ j l. same j (omega arith)) in
     ap (λ b. cond b (suc k) (last_below p k)) e ∙ ap (λ v. cond (q k) (suc k) v) r
 
-pub key_is : (o : Option ℕ) (n : ℕ) → o ≡ Some n → is_key o n ≡ true
-key_is o n e = ap (λ x. is_key x n) e ∙ eq-eqb n n refl
+pub key_is : (o : Option ℕ) (n : ℕ) → o ≡ Some n → names_number o n ≡ true
+key_is o n e = ap (λ x. names_number x n) e ∙ eq-eqb n n refl
 
-pub is_key_of : (o : Option ℕ) (n : ℕ) → is_key o n ≡ true → o ≡ Some n
+pub is_key_of : (o : Option ℕ) (n : ℕ) → names_number o n ≡ true → o ≡ Some n
 is_key_of x0 n e = search (rules, false≢true, eqb-true)
 
 -- one number more ---------------------------------------------------------------------------------
@@ -50,14 +50,14 @@ pub latest_some : (table : List ℕ) {key : ℕ → Option ℕ} (more : ℕ → 
     → more bound ≡ Some p → p < length table → IsLatest (set table p (suc bound)) more (suc bound)
 latest_some table {key} more bound p tied same is inside n l = search (rules, cases_order, cond, last_same, length, set, length-set, get_or, ne_eqb, get_or-set_other, eq-eqb, get_or-set_same)
 
-pub linked_none : (next : List ℕ) (key more : ℕ → Option ℕ) (bound : ℕ) → IsLinked next key bound → ((k : ℕ) → k < bound → more k ≡ key k)
-    → more bound ≡ None → IsLinked next more (suc bound)
+pub linked_none : (next : List ℕ) (key more : ℕ → Option ℕ) (bound : ℕ) → IsLinkedBack next key bound → ((k : ℕ) → k < bound → more k ≡ key k)
+    → more bound ≡ None → IsLinkedBack next more (suc bound)
 linked_none next key more bound tied same none k n l is = ⊎_elim (λ e. absurd (none-some n (sym none ∙ sym (ap more e) ∙ is)))
     (λ apart. tied k n (omega arith) (sym (same k (omega arith)) ∙ is)
-    ∙ sym (last_same (keyed more n) (keyed key n) k (λ j i. ap (λ o. is_key o n) (same j (omega arith))))) (cases_eq k bound)
+    ∙ sym (last_same (keyed more n) (keyed key n) k (λ j i. ap (λ o. names_number o n) (same j (omega arith))))) (cases_eq k bound)
 
-pub linked_some : (next : List ℕ) {key more : ℕ → Option ℕ} {bound : ℕ} (p v : ℕ) → IsLinked next key bound → ((k : ℕ) → k < bound → more k ≡ key k)
-    → more bound ≡ Some p → bound < length next → v ≡ last_below (keyed key p) bound → IsLinked (set next bound v) more (suc bound)
+pub linked_some : (next : List ℕ) {key more : ℕ → Option ℕ} {bound : ℕ} (p v : ℕ) → IsLinkedBack next key bound → ((k : ℕ) → k < bound → more k ≡ key k)
+    → more bound ≡ Some p → bound < length next → v ≡ last_below (keyed key p) bound → IsLinkedBack (set next bound v) more (suc bound)
 linked_some next {key} {more} {bound} p v tied same has inside value k n l is = ⊎_elim
     (λ e. let p_is : p ≡ n = same_Some p n (sym has ∙ sym (ap more e) ∙ is) in
     ap (λ j. get_or (set next bound v) j 0) e ∙ get_or-set_same next bound v 0 inside ∙ value ∙ ap (λ q. last_below (keyed key q) bound) p_is
@@ -65,7 +65,7 @@ linked_some next {key} {more} {bound} p v tied same has inside value k n l is = 
     (λ apart. get_or-set_other next bound k v 0 apart ∙ tied k n (omega arith) (sym (same k (omega arith)) ∙ is) ∙ sym (before k (omega arith)))
     (cases_eq k bound) where
       before : (j : ℕ) → j ≤ bound → last_below (keyed more n) j ≡ last_below (keyed key n) j
-      before j m = last_same (keyed more n) (keyed key n) j (λ i q. ap (λ o. is_key o n) (same i (omega arith)))
+      before j m = last_same (keyed more n) (keyed key n) j (λ i q. ap (λ o. names_number o n) (same i (omega arith)))
 
 -- what stands at the last place
 pub parent_last : (h : List Event) (e : Event) → parent (h ++ e ∷ []) (length h) ≡ option_and_then (if_less (length h)) (parent_named e)
@@ -85,9 +85,9 @@ pub latest_with : (table : List ℕ) (key more : ℕ → Option ℕ) (bound : �
     → more bound ≡ o → IsLatest (table_with table o (suc bound)) more (suc bound)
 latest_with table key more bound x4 tied same is = search (rules, latest_none, cases_order, length, set, set_past, ne_eqb, cond, last_same, latest_some)
 
-pub linked_with : (next last : List ℕ) {key more : ℕ → Option ℕ} {bound : ℕ} {o : Option ℕ} → IsLinked next key bound → IsLatest last key bound
+pub linked_with : (next last : List ℕ) {key more : ℕ → Option ℕ} {bound : ℕ} {o : Option ℕ} → IsLinkedBack next key bound → IsLatest last key bound
     → ((k : ℕ) → k < bound → more k ≡ key k) → more bound ≡ o → bound < length next → ((p : ℕ) → o ≡ Some p → p < length last)
-    → IsLinked (link_with next last o bound) more (suc bound)
+    → IsLinkedBack (link_with next last o bound) more (suc bound)
 linked_with next last {key} {more} {bound} {o = None} tied from same is inside within = linked_none next key more bound tied same is
 linked_with next last {o = Some p} tied from same is inside within = linked_some next p (get_or last p 0) tied same is inside (from p (within p refl))
 

@@ -1,7 +1,7 @@
 -- How many leases of each resource an event leaves out.
 use Rattle.rx_audit.proofs.Common.{◌≡◌, ℕ, ◌+◌, ◌-◌, ◌<◌, ◌≤◌, true, false, List, [], ◌∷◌, ◌++◌, length, get_or, Option, Some, None, cond, slice_get, refl, ap}
 use Rattle.rx_audit.proofs.Common.{◌∙◌, arith, option_and_then, option_map_or, false≢true, nothing_kept, Event, Lease, Return, makes_lease, returned_of}
-use Rattle.rx_audit.proofs.Common.{leases_of, IsLawful, MayFollow, counts_with, counts_less, is_key}
+use Rattle.rx_audit.proofs.Common.{leases_of, IsLawful, MayFollow, counts_with, counts_less, names_number}
 use Rattle.rx_event.specs.Events.{leased_of}
 use Rattle.rx_event.proofs.Laws.Leases.{out_lease, leases_of_kept, leases_of_still, leases_of-return}
 use Rattle.rx_event.proofs.Laws.Steps.{may_return}
@@ -22,10 +22,10 @@ module _ (h : List Event) (old : List ℕ) (law : IsLawful nothing_kept h) (tied
     lengths : length counted ≡ length old
     lengths = length-counts_less (counts_with old (leased_of e)) key ∙ length-counts_with old (leased_of e)
 
-    at_each : (n : ℕ) → n < length old → get_or counted n 0 ≡ (leases_of h n + cond (is_key (leased_of e) n) 1 0) - cond (is_key key n) 1 0
+    at_each : (n : ℕ) → n < length old → get_or counted n 0 ≡ (leases_of h n + cond (names_number (leased_of e) n) 1 0) - cond (names_number key n) 1 0
     at_each n less = counts_less_at (counts_with old (leased_of e)) key n (let same = length-counts_with old (leased_of e) in omega arith) ∙
-        ap (λ (k : ℕ). k - cond (is_key key n) 1 0)
-        (counts_with_at old (leased_of e) n less ∙ ap (λ (k : ℕ). k + cond (is_key (leased_of e) n) 1 0) (tied n less))
+        ap (λ (k : ℕ). k - cond (names_number key n) 1 0)
+        (counts_with_at old (leased_of e) n less ∙ ap (λ (k : ℕ). k + cond (names_number (leased_of e) n) 1 0) (tied n less))
 
   -- an event that leases and returns nothing
   quiet : (e : Event) → leased_of e ≡ None → returned_of e ≡ None → ((n : ℕ) → leases_of (h ++ e ∷ []) n ≡ leases_of h n) →
@@ -41,7 +41,7 @@ module _ (h : List Event) (old : List ℕ) (law : IsLawful nothing_kept h) (tied
         let one = leased h l (out_lease h l (may_return nothing_kept next)) in
         let fewer = leases_of-return nothing_kept h l one.0 law next one.1 n in
         let key : resource_of h l ≡ Some one.0 = ap (option_and_then leased_of) one.1 in
-        at_each (Return l) (resource_of h l) n less ∙ ap (λ (k : Option ℕ). (leases_of h n + 0) - cond (is_key k n) 1 0) key ∙ omega arith
+        at_each (Return l) (resource_of h l) n less ∙ ap (λ (k : Option ℕ). (leases_of h n + 0) - cond (names_number k n) 1 0) key ∙ omega arith
     by_event x next n less = quiet x refl refl (λ m. leases_of_still nothing_kept h x law refl m refl) n less
 
   pub leases_long : (e : Event) → length (counted e (option_and_then (resource_of h) (returned_of e))) ≡ length old

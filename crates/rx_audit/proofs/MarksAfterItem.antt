@@ -2,7 +2,8 @@
 use Rattle.rx_audit.proofs.Common.{◌≡◌, ℕ, ℤ, ◌+◌, ◌<◌, Bool, true, List, [], ◌∷◌, ◌++◌, length, Option, Some, refl, sym, ap, ◌∙◌, arith, ◌==◌, cond, ◌||◌}
 use Rattle.rx_audit.proofs.Common.{◌&&◌, cases_Bool, false≢true, eq-eqb, eqb-true, none-some, same_Some, list_any, sum_by, count_by, option_or, is_some}
 use Rattle.rx_audit.proofs.Common.{nothing_kept, Terminal, Event, Item, Marks, is_open, stop_at, climb, owed, is_firing_of, is_projection_to, marks_of}
-use Rattle.rx_audit.proofs.Common.{terminal_due, IsLawful, MayFollow, is_open_within, slice_get-append, event_at, Visit, IsReached, is_key, leaf_of, IsKept}
+use Rattle.rx_audit.proofs.Common.{terminal_due, IsLawful, MayFollow, is_open_within, slice_get-append, event_at, Visit, IsReached, names_number, leaf_of}
+use Rattle.rx_audit.proofs.Common.{IsKept}
 use Rattle.rx_audit.proofs.Common.{IsCovered, IsVisited, visited_marks, fired_key, projected_key, due_made, or_false, ⊎_elim}
 use Rattle.rx_event.specs.Climb.{stops}
 use Rattle.rx_event.specs.Moments.{is_fired}
@@ -18,14 +19,14 @@ pub item_of : (e : Event) (leaf : ℕ) → leaf_of e ≡ Some leaf → (v : ℤ)
 item_of x0 leaf is = search (rules, same_Some, none-some)
 
 fires_same : (h : List Event) (leaf n : ℕ) (log : List Visit) → IsReached h leaf log
-    → list_any (λ v. is_key (fired_key h v.node) n) log ≡ list_any (is_firing_of n) (stops h leaf)
+    → list_any (λ v. names_number (fired_key h v.node) n) log ≡ list_any (is_firing_of n) (stops h leaf)
 unfolding stops
 fires_same h leaf n log r = search (rules, same_any, firing_stops)
 
 owes_same : (h : List Event) (leaf n : ℕ) (log : List Visit) → IsReached h leaf log
-    → sum_by (λ v. cond (is_key (projected_key h v.node) n) v.count 0) log ≡ count_by (is_projection_to n) (stops h leaf)
+    → sum_by (λ v. cond (names_number (projected_key h v.node) n) v.count 0) log ≡ count_by (is_projection_to n) (stops h leaf)
 unfolding stops
-owes_same h leaf n log r = times_cond (λ m. is_key (projected_key h m) n) log ∙ r.sums (λ m. cond (is_key (projected_key h m) n) 1 0)
+owes_same h leaf n log r = times_cond (λ m. names_number (projected_key h m) n) log ∙ r.sums (λ m. cond (names_number (projected_key h m) n) 1 0)
     ∙ sym (projection_stops (stop_at h) n (climb h leaf))
 
 kept_visit : {h : List Event} {leaf : ℕ} (v : ℤ) {log : List Visit} {old new : List Marks} {before : List ℕ} (after : List ℕ) → IsLawful nothing_kept h

@@ -1,7 +1,7 @@
 -- Lists that lead from one number that passes a test to its neighbours: one number less, and one more.
 use Rattle.rx_audit.proofs.Common.{◌≡◌, ◌≢◌, ℕ, zero, suc, ◌-◌, ◌<◌, ◌≤◌, Bool, true, false, List, length, refl, sym, ap, ◌∙◌, arith, inl, inr, ◌⊎◌, get_or}
 use Rattle.rx_audit.proofs.Common.{set, get_or-set_other, get_or-set_same, length-set, cases_order, both_ways, last_below, table_with, IsRow}
-use Rattle.rx_audit.proofs.Common.{number_of, cases_lt, subst, false_from_ne_true, ⊎_elim, cases_eq}
+use Rattle.rx_audit.proofs.Common.{number_by_word, cases_lt, subst, false_from_ne_true, ⊎_elim, cases_eq}
 use Rattle.rx_audit.specs.HubTables.{IsNext}
 use Rattle.rx_audit.proofs.Latest.{last_le, last_holds, last_none, last_same}
 use Rattle.std.proofs.Common.{rules}
@@ -48,8 +48,8 @@ module _ {p q : ℕ → Bool} {s : ℕ} (less : IsLess p q s) where
 -- where s is taken off
 pub row_less : {p q : ℕ → Bool} {s bound word now : ℕ} {before after : List ℕ} → IsLess p q s → HasRoom p bound before after → IsRow p bound word before after
     → (get_or after s 0 ≡ 0 → now ≡ get_or before s 0) → (0 < get_or after s 0 → now ≡ word)
-    → IsRow q bound now (table_with before (number_of (get_or after s 0)) (get_or before s 0))
-    (table_with after (number_of (get_or before s 0)) (get_or after s 0))
+    → IsRow q bound now (table_with before (number_by_word (get_or after s 0)) (get_or before s 0))
+    (table_with after (number_by_word (get_or before s 0)) (get_or after s 0))
 row_less {p} {q} {s} {bound} {now} {before} {after} less room row ends goes = record {
   top = by_word (get_or after s 0) refl;
   down = λ k y. before_is (get_or after s 0) refl k y;
@@ -80,7 +80,7 @@ row_less {p} {q} {s} {bound} {now} {before} {after} less room row ends goes = re
   alone m k e y apart is = let b = below_is m e in let t = last_le p k in let u = last_le p m in ⊎_elim apart (⊎_elim
       (λ l. both_ways (p k) (last_none p m k (omega arith) l) y) (λ l. both_ways (p m) (last_none p k m (omega arith) l) (next.some m e).0)) (cases_order k m)
 
-  before_is : (a : ℕ) → get_or after s 0 ≡ a → (k : ℕ) → q k ≡ true → get_or (table_with before (number_of a) (get_or before s 0)) k 0 ≡ last_below q k
+  before_is : (a : ℕ) → get_or after s 0 ≡ a → (k : ℕ) → q k ≡ true → get_or (table_with before (number_by_word a) (get_or before s 0)) k 0 ≡ last_below q k
   before_is zero e k y = row.down k (was less k y) ∙ sym (last_still less k (λ is. let l = last_le p k in
       let m = next.none e k (was less k y) in omega arith))
   before_is (suc m) e k y = ⊎_elim
@@ -108,7 +108,7 @@ row_less {p} {q} {s} {bound} {now} {before} {after} less room row ends goes = re
     some = λ m e. let b = below_is m e in let t = last_le p m in (less.same m (omega arith) ∙ (next.some m e).0, last_skips less m b ∙ is);
   }
 
-  after_is : (b : ℕ) → get_or before s 0 ≡ b → (k : ℕ) → q k ≡ true → IsNext q k (get_or (table_with after (number_of b) (get_or after s 0)) k 0)
+  after_is : (b : ℕ) → get_or before s 0 ≡ b → (k : ℕ) → q k ≡ true → IsNext q k (get_or (table_with after (number_by_word b) (get_or after s 0)) k 0)
   after_is zero e k y = stays k y (λ is. absurd (let t : 0 ≡ suc k = sym e ∙ prior ∙ is in omega arith))
   after_is (suc m) e k y = ⊎_elim (λ is. subst (IsNext q k) (sym (ap (λ j. get_or (set after j (get_or after s 0)) k 0) (sym is)
       ∙ get_or-set_same after k (get_or after s 0) 0 (room.in_after k (was less k y)))) (joins k y (sym prior ∙ e ∙ ap suc (sym is))))
@@ -118,7 +118,7 @@ row_less {p} {q} {s} {bound} {now} {before} {after} less room row ends goes = re
 -- where the bound itself comes on the list
 pub row_more : {p : ℕ → Bool} (q : ℕ → Bool) {n word : ℕ} {before after : List ℕ} → ((k : ℕ) → k < n → q k ≡ p k) → q n ≡ true → ((k : ℕ) → q k ≡ true → k ≤ n)
     → ((k : ℕ) → p k ≡ true → k < n) → n < length before → n < length after → IsRow p n word before after
-    → IsRow q (suc n) (suc n) (set before n word) (table_with (set after n 0) (number_of word) (suc n))
+    → IsRow q (suc n) (suc n) (set before n word) (table_with (set after n 0) (number_by_word word) (suc n))
 row_more {p} q {n} {word} {before} {after} same new most within before_room after_room row = record {
   top = sym (last_unique q (suc n) (suc n) (omega arith) (λ j l m. absurd (omega arith)) (λ j e. let is : j ≡ n = omega arith in ap q is ∙ new));
   down = λ k y. down_is k y (cases_order k n);
@@ -153,7 +153,8 @@ row_more {p} q {n} {word} {before} {after} same new most within before_room afte
     some = λ m e. let found = w.some m e in let b = within m found.0 in (same m b ∙ found.0, early m (omega arith) ∙ found.1);
   }
 
-  up_is : (v : ℕ) → word ≡ v → (k : ℕ) → q k ≡ true → (k ≡ n) ⊎ ((k < n) ⊎ (n < k)) → IsNext q k (get_or (table_with (set after n 0) (number_of v) (suc n)) k 0)
+  up_is : (v : ℕ) → word ≡ v → (k : ℕ) → q k ≡ true → (k ≡ n) ⊎ ((k < n) ⊎ (n < k))
+      → IsNext q k (get_or (table_with (set after n 0) (number_by_word v) (suc n)) k 0)
   up_is v e k y (inr (inr l)) = absurd (let m = most k y in omega arith)
   up_is zero e k y (inl is) = rw (ap (λ j. get_or (set after n 0) j 0) is ∙ get_or-set_same after n 0 0 after_room, is) up_last
   up_is zero e k y (inr (inl l)) = rw (get_or-set_other after n k 0 0 (omega arith)) (up_old k l y (omega arith))

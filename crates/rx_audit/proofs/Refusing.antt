@@ -2,7 +2,8 @@
 use Rattle.rx_audit.proofs.Common.{◌≡◌, ℕ, ℤ, ◌+◌, ◌-◌, ◌<◌, ◌≤◌, Bool, true, false, List, [], ◌∷◌, length, Option, Some, None, cond, slice_get, refl, sym, ap, ◌∙◌}
 use Rattle.rx_audit.proofs.Common.{inl, inr, ◌⊎◌, arith, nat_lt, not, ◌&&◌, list_any, filter, option_map_or, cases_Bool, false≢true, both_ways, lt-ltb, ltb-true}
 use Rattle.rx_audit.proofs.Common.{nothing_kept, Event, Place, Source, Inner, Notifier, is_connect_of, is_merging, at, places, hubs, is_open, open_nodes}
-use Rattle.rx_audit.proofs.Common.{visits, most_visits, hub_connected_at, has_key, open_connected, MatchBool, owed, and_parts, eqb-true, ◌==◌, false_from_ne_true, option_and_then, none-some}
+use Rattle.rx_audit.proofs.Common.{visits, most_visits, hub_connected_at, any_has_key, open_connected, MatchBool, owed, and_parts, eqb-true, ◌==◌}
+use Rattle.rx_audit.proofs.Common.{false_from_ne_true, option_and_then, none-some}
 use Rattle.std.proofs.lemmas.Bool.{le-ltb, ltb-false, not-false}
 use Rattle.std.proofs.lemmas.List.Sums.{length-filter}
 use Rattle.rx_note.specs.declared.note.Terminal.TheVariants.{Error}
@@ -29,7 +30,7 @@ any_filtered p (x ∷ xs) = by_test (p x) refl (any_filtered p xs) where
   by_test true is rest = rw is (sym (lt-ltb 0 (length (x ∷ filter p xs)) (omega arith)))
   by_test false is rest = rw is rest
 
-pub connected_listed : (h : List Event) (g : ℕ) → has_key (open_connected h) h g ≡ has_connection h g
+pub connected_listed : (h : List Event) (g : ℕ) → any_has_key (open_connected h) h g ≡ has_connection h g
 connected_listed h g = connected_key h g ∙ any_filtered (λ n. at (is_connect_of g) h n && is_open h n) (places h)
 
 connects_event : (g : ℕ) (e : Event) → option_map_or (λ k. not (nat_lt g k)) (hub_connected e) false ≡ connects_up_to g e

@@ -3,7 +3,7 @@ use Rattle.rx_audit.proofs.Common.{◌≡◌, ◌≢◌, ℕ, zero, suc, ◌+◌
 use Rattle.rx_audit.proofs.Common.{refl, sym, ap, ◌∙◌, arith, get_or, set, get_or-set_other, get_or-set_same, length-set, length-replicate, ◌&&◌}
 use Rattle.rx_audit.proofs.Common.{sum_by, sum_by-cons, option_map_or, cases_Bool, cases_order, both_ways, false≢true, and_parts, ne_eqb, none-some, Event}
 use Rattle.rx_audit.proofs.Common.{is_subscriber_of, hub_subscribed, at, is_open, open_subscribers, falling, at-append, at_within, slice_get_last, Subscribers}
-use Rattle.rx_audit.proofs.Common.{last_below, table_with, on_list, IsRow, number_of, AreLinked, AreOpenListed, hub_subscribed_at, and_false}
+use Rattle.rx_audit.proofs.Common.{last_below, table_with, on_list, IsRow, number_by_word, AreLinked, AreOpenListed, hub_subscribed_at, and_false}
 use Rattle.rx_audit.proofs.Common.{false_from_ne_true, subscribed_event, ⊎_elim, cases_eq}
 use Rattle.std.proofs.lemmas.List.Sums.{sum_by_push}
 use Rattle.std.proofs.lemmas.Option.{slice_get_past}
@@ -26,7 +26,8 @@ on_marked : (h : List Event) (ms : List Bool) (g k : ℕ) → on_list h ms g k �
 on_marked h ms g k y = within_marks ms k (and_parts (at (is_subscriber_of g) h k) (get_or ms k false) y).1
 
 -- what a word does not lead to stays
-with_other : (table : List ℕ) (word k value : ℕ) → ((m : ℕ) → word ≡ suc m → k ≢ m) → get_or (table_with table (number_of word) value) k 0 ≡ get_or table k 0
+with_other : (table : List ℕ) (word k value : ℕ) → ((m : ℕ) → word ≡ suc m → k ≢ m)
+    → get_or (table_with table (number_by_word word) value) k 0 ≡ get_or table k 0
 with_other table zero k value apart = refl
 with_other table (suc m) k value apart = get_or-set_other table m k value 0 (apart m refl)
 
@@ -95,8 +96,8 @@ rows_still {h} {size} {old} new s w none listed last before after = record {
 pub rows_less : {h : List Event} {size : ℕ} {old new : Subscribers} (g s : ℕ) → AreLinked h size old → listed_hub h old.listed.items s ≡ Some g
     → new.listed.items ≡ set old.listed.items s false
     → new.last.items ≡ table_with old.last.items (hub_if_last (get_or old.after.items s 0) g) (get_or old.before.items s 0)
-    → new.before.items ≡ table_with old.before.items (number_of (get_or old.after.items s 0)) (get_or old.before.items s 0)
-    → new.after.items ≡ table_with old.after.items (number_of (get_or old.before.items s 0)) (get_or old.after.items s 0) → AreLinked h size new
+    → new.before.items ≡ table_with old.before.items (number_by_word (get_or old.after.items s 0)) (get_or old.before.items s 0)
+    → new.after.items ≡ table_with old.after.items (number_by_word (get_or old.before.items s 0)) (get_or old.after.items s 0) → AreLinked h size new
 rows_less {h} {size} {old} {new} g s w hub listed last before after = record {
   rows = λ j. ⊎_elim (λ same. rw same own) (λ apart. other j apart) (cases_eq j g);
   hubbed = λ j k y. w.hubbed j k (on_was h size old new w s listed j k y);
@@ -189,7 +190,7 @@ pub record IsPutLast (g n : ℕ) (old new : Subscribers) : Type 0 where
   pub listed : new.listed.items ≡ set old.listed.items n true
   pub last : new.last.items ≡ set old.last.items g (suc n)
   pub before : new.before.items ≡ set old.before.items n (get_or old.last.items g 0)
-  pub after : new.after.items ≡ table_with (set old.after.items n 0) (number_of (get_or old.last.items g 0)) (suc n)
+  pub after : new.after.items ≡ table_with (set old.after.items n 0) (number_by_word (get_or old.last.items g 0)) (suc n)
 
 pub rows_more : {h : List Event} (e : Event) {size g : ℕ} {old new : Subscribers} → AreLinked h size old → length h < size → g < size
     → hub_subscribed e ≡ Some g → IsPutLast g (length h) old new → AreLinked (h ++ e ∷ []) size new

@@ -2,8 +2,10 @@
 use Rattle.rx_audit.proofs.Common.{◌≡◌, ℕ, zero, suc, ◌+◌, ◌<◌, ◌≤◌, Bool, true, false, List, [], ◌∷◌, Option, Some, None, refl, ap, arith, cond}
 use Rattle.rx_audit.proofs.Common.{drop, slice_get, ◌&&◌, list_any, range_with_len, filter, option_map_or, option_and_then, cases_Bool}
 use Rattle.rx_audit.proofs.Common.{eqb-true, eq-eqb, false≢true, none-some, option_and_then_some, Terminal, Event, Connect, End}
-use Rattle.rx_audit.proofs.Common.{is_subscriber_of, is_connect_of, hub_subscribed, hub_connected, at, places, is_open, SourceEnded, same_terminal, is_key}
-use Rattle.rx_audit.proofs.Common.{hub_subscribed_at, hub_connected_at, joins, ends_source, is_cut, open_subscribed, open_connected, has_key, subscribed_event}
+use Rattle.rx_audit.proofs.Common.{is_subscriber_of, is_connect_of, hub_subscribed, hub_connected, at, places, is_open, SourceEnded, same_terminal}
+use Rattle.rx_audit.proofs.Common.{names_number}
+use Rattle.rx_audit.proofs.Common.{hub_subscribed_at, hub_connected_at, joins, ends_source, is_disconnected, open_subscribed, open_connected, any_has_key}
+use Rattle.rx_audit.proofs.Common.{subscribed_event}
 use Rattle.rx_audit.proofs.Common.{connected_event, list_any-same, and_true, and_false, hub_ended, ⊎_elim, ◌∙◌}
 use Rattle.std.proofs.lemmas.Bool.{or_parts}
 use Rattle.std.proofs.lemmas.Map.Keys.{any_passes_from_place}
@@ -66,10 +68,10 @@ find_number q n e = let f = find_from q 0 n e in record { number = f.number; wit
 is_subscribed : (e : Event) (g : ℕ) → is_subscriber_of g e ≡ true → hub_subscribed e ≡ Some g
 is_subscribed x0 g s = search (rules, eqb-true, false≢true)
 
-same_connected : (e : Event) (g : ℕ) → is_key (hub_connected e) g ≡ is_connect_of g e
+same_connected : (e : Event) (g : ℕ) → names_number (hub_connected e) g ≡ is_connect_of g e
 same_connected x0 g = search rules
 
-pub same_subscribed : (e : Event) (g : ℕ) → is_key (hub_subscribed e) g ≡ is_subscriber_of g e
+pub same_subscribed : (e : Event) (g : ℕ) → names_number (hub_subscribed e) g ≡ is_subscriber_of g e
 same_subscribed x0 g = search rules
 
 pub subscriber_at : (h : List Event) (s g : ℕ) → hub_subscribed_at h s ≡ Some g → at (is_subscriber_of g) h s ≡ true
@@ -111,12 +113,12 @@ cut_at h s i e l at_i holds =
       },
     )
 
-pub cut_ended : (h : List Event) (s : ℕ) → is_cut h s ≡ true → (t : Terminal) × SourceEnded h s t
-unfolding is_cut
+pub cut_ended : (h : List Event) (s : ℕ) → is_disconnected h s ≡ true → (t : Terminal) × SourceEnded h s t
+unfolding is_disconnected
 cut_ended h s e = let f = find_after (ends_source h s) (suc s) h e in cut_at h s f.place f.event f.after f.found f.holds
 
-pub is_cut_of : (h : List Event) (s : ℕ) (t : Terminal) → SourceEnded h s t → is_cut h s ≡ true
-unfolding is_cut
+pub is_cut_of : (h : List Event) (s : ℕ) (t : Terminal) → SourceEnded h s t → is_disconnected h s ≡ true
+unfolding is_disconnected
 is_cut_of h s t d = search (rules, any_after, joins_of, at_subscriber, at_connection)
 
 -- keys of open nodes ---------------------------------------------------------------------------------
@@ -132,12 +134,12 @@ pub none_filtered : {X : Type 0} (q : X → Bool) (xs : List X) → filter q xs 
 none_filtered q [] e = refl
 none_filtered q (x ∷ xs) e = search (rules, cases_Bool, filter, list_any, no_cons, none_filtered q xs)
 
-pub guarded : (key : Event → Option ℕ) (test : ℕ → Event → Bool) (g : ℕ) → ((e : Event) → is_key (key e) g ≡ test g e)
-    → (b : Bool) (o : Option Event) → is_key (cond b (option_and_then key o) None) g ≡ (option_map_or (test g) o false && b)
+pub guarded : (key : Event → Option ℕ) (test : ℕ → Event → Bool) (g : ℕ) → ((e : Event) → names_number (key e) g ≡ test g e)
+    → (b : Bool) (o : Option Event) → names_number (cond b (option_and_then key o) None) g ≡ (option_map_or (test g) o false && b)
 guarded key test g same x4 x5 = search (rules, and_true, and_false)
 
-pub subscribed_key : (h : List Event) (g : ℕ) → has_key (open_subscribed h) h g ≡ list_any (λ n. at (is_subscriber_of g) h n && is_open h n) (places h)
+pub subscribed_key : (h : List Event) (g : ℕ) → any_has_key (open_subscribed h) h g ≡ list_any (λ n. at (is_subscriber_of g) h n && is_open h n) (places h)
 subscribed_key h g = search (rules, list_any-same, guarded, same_subscribed, slice_get)
 
-pub connected_key : (h : List Event) (g : ℕ) → has_key (open_connected h) h g ≡ list_any (λ n. at (is_connect_of g) h n && is_open h n) (places h)
+pub connected_key : (h : List Event) (g : ℕ) → any_has_key (open_connected h) h g ≡ list_any (λ n. at (is_connect_of g) h n && is_open h n) (places h)
 connected_key h g = search (rules, list_any-same, guarded, same_connected, slice_get)

@@ -3,7 +3,7 @@ use Rattle.rx_audit.proofs.Common.{◌≡◌, ℕ, ℤ, zero, suc, ◌+◌, ◌<
 use Rattle.rx_audit.proofs.Common.{subst, ◌∙◌, arith, ◌==◌, slice_get, get_or, IsTrue, ◌↔◌, length-append, drop, take-append-drop, ◌&&◌, option_map_or}
 use Rattle.rx_audit.proofs.Common.{and_parts, both_ways, false≢true, eqb-true, eq-eqb, nothing_kept, Place, Pass, Event, Open, Accept, Item, at, is_open}
 use Rattle.rx_audit.proofs.Common.{IsForced, IsSettled, due, IsAllowed, accepted, IsLawful, MayFollow, same_Some, Nodes, IsFollowed, IsKnown}
-use Rattle.rx_audit.proofs.Common.{IsFound, IsClimbed, IsReached, leaf_of, Visit, and_from}
+use Rattle.rx_audit.proofs.Common.{AreListsFound, IsClimbed, IsReached, leaf_of, Visit, and_from}
 use Rattle.rx_event.specs.Lawful.{forced, allowed, opened_with as accepted_with}
 use Rattle.rx_event.proofs.Laws.Begin.{shown_nothing}
 use Rattle.rx_event.proofs.Laws.Lawful.{IsLawful-push, FoundAt, in_base, since_base, found_at}
@@ -88,7 +88,7 @@ pub lawful_more : (h : List Event) (i : ℕ) (d : Event) (b : Bool) → i < leng
 lawful_more h i d b l law follows w = rw (take_more h i d l) (IsLawful-push nothing_kept (take i h) (get_or h i d) law (w.0 follows))
 
 pub found_more : (h : List Event) (i : ℕ) (d : Event) (size : ℕ) (found : Found) → i < length h → size ≡ length h
-    → IsFound (take i h ++ get_or h i d ∷ []) size found → IsFound (take (i + 1) h) (length h) found
+    → AreListsFound (take i h ++ get_or h i d ∷ []) size found → AreListsFound (take (i + 1) h) (length h) found
 found_more h i d size found l same f = rw (take_more h i d l, ← same) f
 
 -- what is climbed for is an item
@@ -121,7 +121,7 @@ length-take-most : (i : ℕ) (h : List Event) → length (take i h) ≤ length h
 length-take-most i h = let s = length-append (take i h) (drop i h) in let t = ap length (take-append-drop i h) in omega arith
 
 -- what is known of the events so far
-pub known_from : (h : List Event) (i : ℕ) (found : Found) (nodes : Nodes) → IsLawful nothing_kept (take i h) → IsFound (take i h) (length h) found
+pub known_from : (h : List Event) (i : ℕ) (found : Found) (nodes : Nodes) → IsLawful nothing_kept (take i h) → AreListsFound (take i h) (length h) found
     → IsFollowed (take i h) (length h) nodes → IsKnown (take i h) found.live.items nodes
 known_from h i found nodes law f w = search (rules, length-take-most)
 

@@ -6,7 +6,7 @@ use Rattle.rx_audit.specs.Tables.{IsMarked, IsTable, IsTally, mark_count}
 use Rattle.rx_audit.specs.Rules.{was_removed, was_returned, was_taken}
 
 -- each list says what the definitions say of these events, and has so many places
-pub record IsFound (h : List Event) (size : ℕ) (found : Found) : Type 0 where
+pub record AreListsFound (h : List Event) (size : ℕ) (found : Found) : Type 0 where
   pub live : IsMarked found.live.items (is_open h)
   pub live_size : length found.live.items ≡ size
   pub live_count : found.live_count ≡ mark_count found.live.items
@@ -23,7 +23,7 @@ pub record IsFound (h : List Event) (size : ℕ) (found : Found) : Type 0 where
 -- the same, with room for each event
 pub record IsFoundHere (h : List Event) (found : Found) : Type 0 where
   pub room : length h ≤ length found.live.items
-  pub is : IsFound h (length found.live.items) found
+  pub is : AreListsFound h (length found.live.items) found
 
 -- if the event is an item, the log has the nodes that it visits
 abbrev pub IsClimbed : List Event → Event → List Visit → Type 0

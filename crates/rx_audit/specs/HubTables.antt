@@ -5,7 +5,7 @@ use Rattle.rx_audit.specs.Imports.{Terminal, Event, Connect, End, Close, same_te
 use Rattle.rx_audit.specs.declared.hubs.Hubs.{Hubs}
 use Rattle.rx_audit.specs.Latest.{IsLatest, last_below, IsNoted}
 use Rattle.rx_audit.specs.Marking.{forced_end}
-use Rattle.rx_audit.specs.Rules.{hub_connected_at, hub_subscribed_at, hub_ended_at, is_cut, connect_due, any_connect_due, close_due}
+use Rattle.rx_audit.specs.Rules.{hub_connected_at, hub_subscribed_at, hub_ended_at, is_disconnected, connect_due, any_connect_due, close_due}
 use Rattle.rx_audit.specs.declared.subscribers.Subscribers.{Subscribers}
 
 -- the lists lead from each hub to its last connection and to the last end of one, no hub but that one waits, and there are so many
@@ -17,14 +17,14 @@ pub record AreHubs (h : List Event) (size : ℕ) (known : Hubs) : Type 0 where
   pub waiting : (g : ℕ) → IsConnectDue h g → known.waiting ≡ Some g
   pub count : known.count ≡ length (hubs h)
 
-abbrev pub terminal_of : Event → Option Terminal
-terminal_of (End n t) = Some t
-terminal_of _ = None
+abbrev pub terminal_of_end : Event → Option Terminal
+terminal_of_end (End n t) = Some t
+terminal_of_end _ = None
 
 -- how the event that the word leads to ends a node
 abbrev pub terminal_of_word : List Event → ℕ → Option Terminal
 terminal_of_word h zero = None
-terminal_of_word h (suc k) = option_and_then terminal_of (slice_get h k)
+terminal_of_word h (suc k) = option_and_then terminal_of_end (slice_get h k)
 
 -- the last end of a connection of the hub of s, by these words, is so
 abbrev pub ends_last_so : List Event → List ℕ → ℕ → Terminal → Bool
@@ -33,7 +33,7 @@ ends_last_so h ended s t =
 
 -- s is open, and its source ended so
 unfoldable pub cut_so : List Event → List ℕ → ℕ → Terminal → Bool
-cut_so h ended s t = is_open h s && is_cut h s && ends_last_so h ended s t
+cut_so h ended s t = is_open h s && is_disconnected h s && ends_last_so h ended s t
 
 -- node n has to end so
 unfoldable pub ends_now : List Event → List ℕ → ℕ → Terminal → Bool
@@ -64,9 +64,9 @@ pub record IsRow (passes : ℕ → Bool) (bound word : ℕ) (before after : List
   pub up : (k : ℕ) → passes k ≡ true → IsNext passes k (slice_index_or after k 0)
 
 -- the number that a word leads to
-abbrev pub number_of : ℕ → Option ℕ
-number_of zero = None
-number_of (suc n) = Some n
+abbrev pub number_by_word : ℕ → Option ℕ
+number_by_word zero = None
+number_by_word (suc n) = Some n
 
 -- the hub, where nothing follows
 abbrev pub hub_if_last : ℕ → ℕ → Option ℕ

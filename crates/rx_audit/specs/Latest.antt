@@ -4,7 +4,7 @@ use Rattle.rx_audit.specs.Imports.{ℕ, zero, suc, Bool, true, false, Option, So
 use Rattle.rx_audit.specs.Imports.{parent, is_open}
 use Rattle.rx_audit.specs.declared.children.Children.{Children}
 use Rattle.rx_audit.specs.Tables.{mark_count}
-use Rattle.rx_audit.specs.Rules.{is_key, stays_open}
+use Rattle.rx_audit.specs.Rules.{names_number, stays_open}
 
 -- one more than the last number below the bound that passes the test
 abbrev pub last_below : (ℕ → Bool) → ℕ → ℕ
@@ -12,15 +12,15 @@ last_below p zero = 0
 last_below p (suc k) = if p k then suc k else last_below p k
 
 abbrev pub keyed : (ℕ → Option ℕ) → ℕ → ℕ → Bool
-keyed key n k = is_key (key k) n
+keyed key n k = names_number (key k) n
 
 -- the table leads from each number to the last below the bound that has it as its key
 abbrev pub IsLatest : List ℕ → (ℕ → Option ℕ) → ℕ → Type 0
 IsLatest table key bound = (n : ℕ) → n < length table → slice_index_or table n 0 ≡ last_below (keyed key n) bound
 
 -- and from each number below the bound to the one before it with the same key
-abbrev pub IsLinked : List ℕ → (ℕ → Option ℕ) → ℕ → Type 0
-IsLinked next key bound = (k n : ℕ) → k < bound → key k ≡ Some n → slice_index_or next k 0 ≡ last_below (keyed key n) k
+abbrev pub IsLinkedBack : List ℕ → (ℕ → Option ℕ) → ℕ → Type 0
+IsLinkedBack next key bound = (k n : ℕ) → k < bound → key k ≡ Some n → slice_index_or next k 0 ≡ last_below (keyed key n) k
 
 -- the table with the value at the place of the key
 abbrev pub table_with : List ℕ → Option ℕ → ℕ → List ℕ
@@ -39,7 +39,7 @@ inner_named_at h k = option_and_then inner_named (slice_get h k)
 pub record AreChildren (h : List Event) (size : ℕ) (children : Children) : Type 0 where
   pub youngest : IsLatest children.youngest.items (parent h) (length h)
   pub youngest_size : length children.youngest.items ≡ size
-  pub older : IsLinked children.older.items (parent h) (length h)
+  pub older : IsLinkedBack children.older.items (parent h) (length h)
   pub older_size : length children.older.items ≡ size
   pub inner : IsLatest children.inner.items (inner_named_at h) (length h)
   pub inner_size : length children.inner.items ≡ size

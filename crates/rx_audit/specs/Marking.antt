@@ -3,7 +3,7 @@ use Rattle.std.specs.Prelude.{◌≡◌, ◌&&◌, ◌||◌, slice_index_or, sli
 use Rattle.rx_audit.specs.Imports.{ℕ, Bool, true, false, Option, Some, None, List, slice_get, length, sum_by, [], option_map_or, option_and_then}
 use Rattle.rx_audit.specs.Imports.{list_any, nothing_kept, stop_at, Visit, Event, Open, End, Decline, Item, Terminal, same_terminal, named_by, is_item}
 use Rattle.rx_audit.specs.Imports.{parent, is_open, shuts, marks_of, blank_marks, terminal_due, touches, after_firing}
-use Rattle.rx_audit.specs.Rules.{fired_by, projected_by, is_key}
+use Rattle.rx_audit.specs.Rules.{fired_by, projecting_node, names_number}
 use Rattle.rx_event.specs.Marks.{Marks}
 use Rattle.rx_audit.specs.Latest.{ShutsNone, IsShutAlone, IsNoted}
 
@@ -50,7 +50,7 @@ abbrev pub fired_key : List Event → ℕ → Option ℕ
 fired_key h n = option_and_then fired_by (stop_at h n)
 
 abbrev pub projected_key : List Event → ℕ → Option ℕ
-projected_key h n = option_and_then projected_by (stop_at h n)
+projected_key h n = option_and_then projecting_node (stop_at h n)
 
 abbrev pub fired_marks : List Marks → Option ℕ → List Marks
 fired_marks ms None = ms
@@ -70,16 +70,16 @@ noted_with due (Some u) = due ++ u ∷ []
 -- the marks of node n after these visits
 abbrev pub visited_marks : List Event → List Visit → ℕ → Marks → Marks
 visited_marks h log n m = record m {
-  fired = m.fired || list_any (λ v. is_key (fired_key h v.node) n) log;
+  fired = m.fired || list_any (λ v. names_number (fired_key h v.node) n) log;
   owed = m.owed + sum_by
-      (λ v. if is_key (projected_key h v.node) n then v.count else 0) log;
+      (λ v. if names_number (projected_key h v.node) n then v.count else 0) log;
 }
 
 -- the visits of an item changed the marks so, and what they fired is noted
 pub record IsVisited (h : List Event) (log : List Visit) (old new : List Marks) (before after : List ℕ) : Type 0 where
   pub size : length new ≡ length old
   pub marks : (n : ℕ) → n < length old → slice_index_or new n blank_marks ≡ visited_marks h log n (slice_index_or old n blank_marks)
-  pub noted : (n : ℕ) → list_any (λ v. is_key (fired_key h v.node) n) log ≡ true → IsNoted 0 after n
+  pub noted : (n : ℕ) → list_any (λ v. names_number (fired_key h v.node) n) log ≡ true → IsNoted 0 after n
   pub kept : (n : ℕ) → IsNoted 0 before n → IsNoted 0 after n
 
 -- node n is open and has to end so, by its marks

@@ -9,26 +9,26 @@ use Rattle.rx_event.specs.declared.refusal.Refusal.{Refusal}
 use Rattle.rx_rules.specs.Behind.{refusal_of}
 
 -- the number is the one that was named, if one was
-abbrev pub is_key : Option ℕ → ℕ → Bool
-is_key None n = false
-is_key (Some r) n = r == n
+abbrev pub names_number : Option ℕ → ℕ → Bool
+names_number None n = false
+names_number (Some r) n = r == n
 
 abbrev pub fired_by : Stop → Option ℕ
 fired_by (Firing u) = Some u
 fired_by _ = None
 
-abbrev pub projected_by : Stop → Option ℕ
-projected_by (Projection f) = Some f
-projected_by _ = None
+abbrev pub projecting_node : Stop → Option ℕ
+projecting_node (Projection f) = Some f
+projecting_node _ = None
 
 abbrev pub was_removed : List Event → ℕ → Bool
-was_removed h r = list_any (λ e. is_key (removed_of e) r) h
+was_removed h r = list_any (λ e. names_number (removed_of e) r) h
 
 abbrev pub was_taken : List Event → ℕ → Bool
-was_taken h r = list_any (λ e. is_key (taken_of e) r) h
+was_taken h r = list_any (λ e. names_number (taken_of e) r) h
 
 abbrev pub was_returned : List Event → ℕ → Bool
-was_returned h l = list_any (λ e. is_key (returned_of e) l) h
+was_returned h l = list_any (λ e. names_number (returned_of e) l) h
 
 -- the resource of a lease
 abbrev pub resource_of : List Event → ℕ → Option ℕ
@@ -59,13 +59,13 @@ abbrev pub open_connected : List Event → ℕ → Option ℕ
 open_connected h k = if is_open h k then hub_connected_at h k else None
 
 -- some number has the key
-abbrev pub has_key : (ℕ → Option ℕ) → List Event → ℕ → Bool
-has_key key h n = list_any (λ k. is_key (key k) n) (places h)
+abbrev pub any_has_key : (ℕ → Option ℕ) → List Event → ℕ → Bool
+any_has_key key h n = list_any (λ k. names_number (key k) n) (places h)
 
 -- both are there, and the same
 abbrev pub joins : Option ℕ → Option ℕ → Bool
 joins None o = false
-joins (Some g) o = is_key o g
+joins (Some g) o = names_number o g
 
 -- the hub whose connection the event ends
 abbrev pub hub_ended : List Event → Event → Option ℕ
@@ -80,29 +80,29 @@ abbrev pub ends_source : List Event → ℕ → Event → Bool
 ends_source h s e = joins (hub_subscribed_at h s) (hub_ended h e)
 
 -- a connection of the hub of s ended after s was opened
-unfoldable pub is_cut : List Event → ℕ → Bool
-is_cut h s = list_any (ends_source h s) (drop (suc s) h)
+unfoldable pub is_disconnected : List Event → ℕ → Bool
+is_disconnected h s = list_any (ends_source h s) (drop (suc s) h)
 
 -- the hub of node k, where k is an open subscriber that waits for a connection
 abbrev pub open_waiting : List Event → ℕ → Option ℕ
-open_waiting h k = if is_cut h k then None else open_subscribed h k
+open_waiting h k = if is_disconnected h k then None else open_subscribed h k
 
 -- what is due ----------------------------------------------------------------------------------------
 
 unfoldable pub connect_due : List Event → ℕ → Bool
-connect_due h g = at is_auto_hub h g && has_key (open_waiting h) h g && not (has_key (open_connected h) h g)
+connect_due h g = at is_auto_hub h g && any_has_key (open_waiting h) h g && not (any_has_key (open_connected h) h g)
 
 -- some hub waits for its connection
 unfoldable pub any_connect_due : List Event → Bool
 any_connect_due h = list_any (connect_due h) (places h)
 
 -- hub g has lost its subscribers
-abbrev pub is_left : List Event → ℕ → Bool
-is_left h g = at is_auto_hub h g && not (has_key (open_subscribed h) h g)
+abbrev pub has_lost_subscribers : List Event → ℕ → Bool
+has_lost_subscribers h g = at is_auto_hub h g && not (any_has_key (open_subscribed h) h g)
 
 -- connection c is open, and its hub has lost its subscribers
 unfoldable pub close_due : List Event → ℕ → Bool
-close_due h c = is_open h c && option_map_or (is_left h) (hub_connected_at h c) false
+close_due h c = is_open h c && option_map_or (has_lost_subscribers h) (hub_connected_at h c) false
 
 -- Using --------------------------------------------------------------------------------------------
 

@@ -21,7 +21,7 @@ pub record IsFollowed (h : List Event) (size : ℕ) (nodes : Nodes) : Type 0 whe
   pub covered : HasAll h nodes.due.items
 
 -- what nodes remember is that of one event more, and the list has whom the event may force by that; all else is as it was
-pub record IsRemarked (h : List Event) (e : Event) (old new : Nodes) : Type 0 where
+pub record AreNodesRemarked (h : List Event) (e : Event) (old new : Nodes) : Type 0 where
   pub kept : IsKept (h ++ e ∷ []) new.marks.items
   pub covered : IsCovered (h ++ e ∷ []) new.due.items
   pub keeps : Keeps old.due.items new.due.items

@@ -8,7 +8,7 @@ ghost use Rattle.rx_audit.specs.Flow.{IsReached};
 ghost use Rattle.rx_audit.specs.Found.{IsClimbed};
 ghost use Rattle.rx_audit.specs.Marking.{leaf_of};
 ghost use Rattle.rx_audit.specs.HubTables.{AreHubs, AreLinked, AreOpenListed};
-ghost use Rattle.rx_audit.specs.Standing.{IsFollowed, IsRemarked};
+ghost use Rattle.rx_audit.specs.Standing.{IsFollowed, AreNodesRemarked};
 
 use crate::children::{Children, link_child, no_children};
 use crate::closing::{mark_open, shut_top};
@@ -76,7 +76,7 @@ fn keep_item(
     requires reached { IsReached past.now leaf log.now }
     requires room { length past.now < length live.now }
     requires followed { IsFollowed past.now (length live.now) nodes.old }
-    ensures { OnOk result (IsRemarked past.now event nodes.old nodes.new) }
+    ensures { OnOk result (AreNodesRemarked past.now event nodes.old nodes.new) }
 {
     remark_visits(past, log, &mut nodes.marks, &mut nodes.due)?;
     Ok(())
@@ -95,7 +95,7 @@ fn keep_other(
     requires live { IsMarked live.now (is_open past.now) }
     requires room { length past.now < length live.now }
     requires followed { IsFollowed past.now (length live.now) nodes.old }
-    ensures { OnOk result (IsRemarked past.now event nodes.old nodes.new) }
+    ensures { OnOk result (AreNodesRemarked past.now event nodes.old nodes.new) }
 {
     let top = shut_top(past, event, &nodes.children, live);
     remark(past, event, top, &mut nodes.marks);
@@ -117,7 +117,7 @@ fn keep(
     requires live { IsMarked live.now (is_open past.now) }
     requires room { length past.now < length live.now }
     requires followed { IsFollowed past.now (length live.now) nodes.old }
-    ensures { OnOk result (IsRemarked past.now event nodes.old nodes.new) }
+    ensures { OnOk result (AreNodesRemarked past.now event nodes.old nodes.new) }
 {
     match leaf_of(event) {
         Some(leaf) => keep_item(past, event, log, live, leaf, nodes),

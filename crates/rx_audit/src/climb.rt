@@ -4,7 +4,7 @@ ghost use Rattle.std.specs.Prelude.{◌≡◌, ◌-◌, ◌<◌, OnOk, is_some};
 ghost use Rattle.rx_audit.specs.Imports.{ℕ, false, true, [], Some, None, length, sum_by, option_and_then, option_to_list, at, parent, stop_made};
 ghost use Rattle.rx_audit.specs.Imports.{stop_at, onward_from, onward};
 ghost use Rattle.rx_audit.specs.HubTables.{AreLinked, AreOpenListed};
-ghost use Rattle.rx_audit.specs.Rules.{fired_by, projected_by};
+ghost use Rattle.rx_audit.specs.Rules.{fired_by, projecting_node};
 
 use crate::event_tests::{at, event_at};
 use crate::openness::parent_of;
@@ -14,7 +14,7 @@ use std::alloc::AllocError;
 
 /// The FlatMap or Switch to which an item is projected at node `n`.
 pub fn projected_at(past: &[Event], n: u64) -> Option<u64>
-    ensures { result ≡ option_and_then projected_by (stop_at past.now n) }
+    ensures { result ≡ option_and_then projecting_node (stop_at past.now n) }
 {
     let f = past.get(n as usize)?.source_of()?;
     if at(Event::is_merging, past, f) {

@@ -7,17 +7,17 @@ ghost use Rattle.rx_audit.specs.Tables.{IsMarked};
 ghost use Rattle.rx_audit.specs.Marking.{IsKept, IsCovered, IsUntouched, node_due};
 ghost use Rattle.rx_audit.specs.DueList.{acts, Keeps, HasEnded, HasLost, IsLostNoted, lost_connection};
 ghost use Rattle.rx_audit.specs.HubTables.{AreLinked, AreOpenListed, on_list};
-ghost use Rattle.rx_audit.specs.Rules.{is_cut};
+ghost use Rattle.rx_audit.specs.Rules.{is_disconnected};
 ghost use Rattle.rx_audit.specs.Standing.{IsKnown};
 
 use crate::advance::Nodes;
 use crate::children::value_at;
 use crate::event_tests::event_at;
-use crate::forced::{any_connect_due, close_due, is_cut};
+use crate::forced::{any_connect_due, close_due, is_disconnected};
 use crate::hubs::{Hubs, hub_ended};
 use crate::marks::is_marked;
 use crate::nodes::{marks_at, touched};
-use crate::subscribers::{Subscribers, hub_subscribed_at, number_of};
+use crate::subscribers::{Subscribers, hub_subscribed_at, number_by_word};
 use rx_event::{Event, Marks};
 use std::alloc::AllocError;
 
@@ -39,9 +39,9 @@ fn node_due(past: &[Event], live: &[bool], marks: &Vec<Marks>, n: usize) -> bool
 /// Whether node `n` is open, and its source ended.
 fn is_cut_off(past: &[Event], live: &[bool], nodes: &Nodes, n: usize) -> bool
     requires { IsKnown past.now live.now nodes.now }
-    ensures { result ≡ (is_open past.now n && is_cut past.now n) }
+    ensures { result ≡ (is_open past.now n && is_disconnected past.now n) }
 {
-    is_marked(live, n as u64) && is_cut(past, live, nodes, n as u64)
+    is_marked(live, n as u64) && is_disconnected(past, live, nodes, n as u64)
 }
 
 /// Whether node `n` has to end or to close.
@@ -145,7 +145,7 @@ pub fn note_cut(
 fn lost_connection(past: &[Event], hubs: &Hubs, s: u64) -> Option<u64>
     ensures { result ≡ lost_connection past.now hubs.now.connection.items s }
 {
-    number_of(value_at(&hubs.connection, hub_subscribed_at(past, s)?))
+    number_by_word(value_at(&hubs.connection, hub_subscribed_at(past, s)?))
 }
 
 /// Notes it.

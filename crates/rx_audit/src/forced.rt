@@ -4,9 +4,9 @@ ghost use Rattle.std.specs.Prelude.{◌≡◌, ◌-◌, ◌&&◌, ◌||◌, ◌�
 ghost use Rattle.rx_audit.specs.Imports.{nothing_kept, IsTrue, false, Some, None, nat_lt, not, at, is_open, IsForced, same_terminal};
 ghost use Rattle.rx_audit.specs.Tables.{IsMarked};
 ghost use Rattle.rx_audit.specs.Marking.{IsKept, ends_so, forced_end};
-ghost use Rattle.rx_audit.specs.HubTables.{terminal_of, terminal_of_word, ends_last_so, cut_so, ends_now, forced_now};
-ghost use Rattle.rx_audit.specs.Rules.{has_key, open_connected, open_subscribed, open_waiting, connect_due, any_connect_due, is_left, close_due};
-ghost use Rattle.rx_audit.specs.Rules.{is_cut};
+ghost use Rattle.rx_audit.specs.HubTables.{terminal_of_end, terminal_of_word, ends_last_so, cut_so, ends_now, forced_now};
+ghost use Rattle.rx_audit.specs.Rules.{any_has_key, open_connected, open_subscribed, open_waiting, connect_due, any_connect_due, has_lost_subscribers, close_due};
+ghost use Rattle.rx_audit.specs.Rules.{is_disconnected};
 ghost use Rattle.rx_audit.specs.Standing.{IsKnown};
 
 use crate::advance::Nodes;
@@ -31,7 +31,7 @@ pub fn same_terminal(one: Terminal, other: Terminal) -> bool
 /// Whether hub `g` has an open subscriber.
 fn is_subscribed(past: &[Event], live: &[bool], nodes: &Nodes, g: u64) -> bool
     requires { IsKnown past.now live.now nodes.now }
-    ensures { result ≡ has_key (open_subscribed past.now) past.now g }
+    ensures { result ≡ any_has_key (open_subscribed past.now) past.now g }
 {
     value_at(&nodes.subscribers.last, g) > 0
 }
@@ -63,7 +63,7 @@ fn leads_no_less(word: usize, other: usize) -> bool
 /// Whether hub `g` has an open connection.
 pub fn is_connected(past: &[Event], live: &[bool], nodes: &Nodes, g: u64) -> bool
     requires { IsKnown past.now live.now nodes.now }
-    ensures { result ≡ has_key (open_connected past.now) past.now g }
+    ensures { result ≡ any_has_key (open_connected past.now) past.now g }
 {
     leads_to_marked(live, value_at(&nodes.hubs.connection, g))
 }
@@ -71,7 +71,7 @@ pub fn is_connected(past: &[Event], live: &[bool], nodes: &Nodes, g: u64) -> boo
 /// Whether hub `g` has an open subscriber that waits for a connection: the last one, if any does.
 fn is_waited_for(past: &[Event], live: &[bool], nodes: &Nodes, g: u64) -> bool
     requires { IsKnown past.now live.now nodes.now }
-    ensures { result ≡ has_key (open_waiting past.now) past.now g }
+    ensures { result ≡ any_has_key (open_waiting past.now) past.now g }
 {
     let last = value_at(&nodes.subscribers.last, g);
     let ended = value_at(&nodes.hubs.ended, g);
@@ -79,9 +79,9 @@ fn is_waited_for(past: &[Event], live: &[bool], nodes: &Nodes, g: u64) -> bool
 }
 
 /// Whether a connection of the hub of node `s` ended after it was opened.
-pub fn is_cut(past: &[Event], live: &[bool], nodes: &Nodes, s: u64) -> bool
+pub fn is_disconnected(past: &[Event], live: &[bool], nodes: &Nodes, s: u64) -> bool
     requires { IsKnown past.now live.now nodes.now }
-    ensures { result ≡ is_cut past.now s }
+    ensures { result ≡ is_disconnected past.now s }
 {
     match hub_subscribed_at(past, s) {
         Some(g) => leads_past(value_at(&nodes.hubs.ended, g), s),
@@ -112,9 +112,9 @@ pub fn any_connect_due(past: &[Event], live: &[bool], nodes: &Nodes) -> bool
 }
 
 /// Whether RefCount disconnects hub `g`, whose subscribers have all gone.
-fn is_left(past: &[Event], live: &[bool], nodes: &Nodes, g: u64) -> bool
+fn has_lost_subscribers(past: &[Event], live: &[bool], nodes: &Nodes, g: u64) -> bool
     requires { IsKnown past.now live.now nodes.now }
-    ensures { result ≡ is_left past.now g }
+    ensures { result ≡ has_lost_subscribers past.now g }
 {
     at(Event::is_auto_hub, past, g) && !is_subscribed(past, live, nodes, g)
 }
@@ -127,14 +127,14 @@ pub fn close_due(past: &[Event], live: &[bool], nodes: &Nodes, c: u64) -> bool
 {
     is_marked(live, c)
         && match hub_connected_at(past, c) {
-            Some(g) => is_left(past, live, nodes, g),
+            Some(g) => has_lost_subscribers(past, live, nodes, g),
             None => false,
         }
 }
 
 /// How the event ends a node, if it ends one.
-fn terminal_of(event: Event) -> Option<Terminal>
-    ensures { result ≡ terminal_of event }
+fn terminal_of_end(event: Event) -> Option<Terminal>
+    ensures { result ≡ terminal_of_end event }
 {
     match event {
         Event::End(_, terminal) => Some(terminal),
@@ -149,7 +149,7 @@ fn terminal_of_word(past: &[Event], word: usize) -> Option<Terminal>
     if word == 0 {
         return None;
     }
-    terminal_of(*past.get(word - 1)?)
+    terminal_of_end(*past.get(word - 1)?)
 }
 
 /// Whether the last end of a connection of the hub of node `s` is so.
@@ -171,7 +171,9 @@ fn cut_so(past: &[Event], live: &[bool], nodes: &Nodes, s: u64, terminal: Termin
     requires { IsKnown past.now live.now nodes.now }
     ensures { result ≡ cut_so past.now nodes.now.hubs.ended.items s terminal }
 {
-    is_marked(live, s) && is_cut(past, live, nodes, s) && ended_last_so(past, nodes, s, terminal)
+    is_marked(live, s)
+        && is_disconnected(past, live, nodes, s)
+        && ended_last_so(past, nodes, s, terminal)
 }
 
 /// Whether the node has to end so, by its marks.

@@ -2,7 +2,7 @@
 
 ghost use Rattle.std.specs.Prelude.{◌≡◌, ◌+◌, ◌<◌, ◌≤◌, ◌∷◌, ◌++◌, IfOk, OnOk, replicate, slice_index_or};
 ghost use Rattle.rx_audit.specs.Imports.{nothing_kept, ℕ, false, [], length, option_and_then, returned_of, leases_of, IsLawful, MayFollow};
-ghost use Rattle.rx_audit.specs.Found.{IsFound, IsClimbed};
+ghost use Rattle.rx_audit.specs.Found.{AreListsFound, IsClimbed};
 ghost use Rattle.rx_audit.specs.Rules.{resource_of};
 ghost use Rattle.rx_audit.specs.Standing.{IsFollowed};
 ghost use Rattle.rx_audit.specs.Tables.{IsTally};
@@ -41,7 +41,7 @@ pub fn unmarked(alloc: Global, size: usize) -> Result<Vec<bool>, AllocError>
 
 /// Nothing was found yet, of this many events.
 pub fn nothing_found(alloc: Global, size: usize) -> Result<Found, AllocError>
-    ensures { IfOk result (λ f. IsFound [] size f) }
+    ensures { IfOk result (λ f. AreListsFound [] size f) }
 {
     Ok(Found {
         live: unmarked(alloc, size)?,
@@ -88,11 +88,11 @@ pub fn follow(
     requires lawful { IsLawful nothing_kept past.now }
     requires next { MayFollow nothing_kept past.now event }
     requires followed { IsFollowed past.now (length found.old.live.items) nodes.old }
-    requires found { IsFound past.now (length found.old.live.items) found.old }
+    requires found { AreListsFound past.now (length found.old.live.items) found.old }
     requires room { length past.now < length found.old.live.items }
     requires short { length past.now < 4294967295 }
     requires climbed { IsClimbed past.now event log.now }
-    ensures found { OnOk result (IsFound (past.now ++ event ∷ []) (length found.old.live.items) found.new) }
+    ensures found { OnOk result (AreListsFound (past.now ++ event ∷ []) (length found.old.live.items) found.new) }
     ensures followed { OnOk result (IsFollowed (past.now ++ event ∷ []) (length found.old.live.items) nodes.new) }
 {
     advance(

@@ -4,7 +4,7 @@ ghost use Rattle.std.specs.Prelude.{◌≡◌, ◌+◌, ◌<◌, ◌∷◌, ◌+
 ghost use Rattle.rx_audit.specs.Imports.{ℕ, true, false, Some, None, [], length, sum_by, is_subscriber_of, open_subscribers};
 ghost use Rattle.rx_audit.specs.Latest.{table_with};
 ghost use Rattle.rx_audit.specs.Rules.{hub_subscribed_at, hub_connected_at};
-ghost use Rattle.rx_audit.specs.HubTables.{number_of, hub_if_last, listed_hub, AreLinked, AreOpenListed, AreLetGo};
+ghost use Rattle.rx_audit.specs.HubTables.{number_by_word, hub_if_last, listed_hub, AreLinked, AreOpenListed, AreLetGo};
 
 use crate::children::{one_more, put, value_at, word_at, zeros};
 use crate::found::unmarked;
@@ -54,8 +54,8 @@ pub fn no_subscribers(alloc: Global, size: usize) -> Result<Subscribers, AllocEr
 }
 
 /// The number that a word leads to.
-pub fn number_of(word: usize) -> Option<u64>
-    ensures { result ≡ number_of word }
+pub fn number_by_word(word: usize) -> Option<u64>
+    ensures { result ≡ number_by_word word }
 {
     if word == 0 {
         None
@@ -97,16 +97,16 @@ fn join_neighbours(subs: &mut Subscribers, g: u64, s: u64)
     ensures last { subs.new.last.items ≡ table_with subs.old.last.items
         (hub_if_last (slice_index_or subs.old.after.items s 0) g) (slice_index_or subs.old.before.items s 0) }
     ensures before { subs.new.before.items ≡ table_with subs.old.before.items
-        (number_of (slice_index_or subs.old.after.items s 0)) (slice_index_or subs.old.before.items s 0) }
+        (number_by_word (slice_index_or subs.old.after.items s 0)) (slice_index_or subs.old.before.items s 0) }
     ensures after { subs.new.after.items ≡ table_with subs.old.after.items
-        (number_of (slice_index_or subs.old.before.items s 0)) (slice_index_or subs.old.after.items s 0) }
+        (number_by_word (slice_index_or subs.old.before.items s 0)) (slice_index_or subs.old.after.items s 0) }
     ensures listed { subs.new.listed.items ≡ subs.old.listed.items }
 {
     let below = word_at(&subs.before, s);
     let above = word_at(&subs.after, s);
     put(&mut subs.last, hub_if_last(above as usize, g), below);
-    put(&mut subs.before, number_of(above as usize), below);
-    put(&mut subs.after, number_of(below as usize), above);
+    put(&mut subs.before, number_by_word(above as usize), below);
+    put(&mut subs.after, number_by_word(below as usize), above);
 }
 
 /// Takes node `s` off the list of its hub, if it is on one.
@@ -138,7 +138,7 @@ fn put_last(subs: &mut Subscribers, g: u64, n: usize)
     ensures last { subs.new.last.items ≡ table_with subs.old.last.items (Some g) (n + 1) }
     ensures before { subs.new.before.items ≡ table_with subs.old.before.items (Some n) (slice_index_or subs.old.last.items g 0) }
     ensures after { subs.new.after.items ≡ table_with (table_with subs.old.after.items (Some n) 0)
-        (number_of (slice_index_or subs.old.last.items g 0)) (n + 1) }
+        (number_by_word (slice_index_or subs.old.last.items g 0)) (n + 1) }
     ensures listed { subs.new.listed.items ≡ slice_set subs.old.listed.items n true }
 {
     let below = word_at(&subs.last, g);
@@ -146,7 +146,7 @@ fn put_last(subs: &mut Subscribers, g: u64, n: usize)
     put(&mut subs.last, Some(g), next);
     put(&mut subs.before, Some(n as u64), below);
     put(&mut subs.after, Some(n as u64), 0);
-    put(&mut subs.after, number_of(below as usize), next);
+    put(&mut subs.after, number_by_word(below as usize), next);
     put_mark(&mut subs.listed, n as u64, true);
 }
 

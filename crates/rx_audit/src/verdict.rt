@@ -6,7 +6,7 @@ ghost use Rattle.rx_audit.specs.Imports.{waiting_resources, IsSettled, MayFollow
 ghost use Rattle.rx_event.specs.Allowed.{IsAllowed};
 ghost use Rattle.rx_audit.specs.Rules.{opens_pass, opened_with};
 ghost use Rattle.rx_audit.specs.Standing.{IsFollowed, IsKnown, IsAllFound};
-ghost use Rattle.rx_audit.specs.Found.{IsFound, IsFoundHere, IsClimbed};
+ghost use Rattle.rx_audit.specs.Found.{AreListsFound, IsFoundHere, IsClimbed};
 ghost use Rattle.rx_audit.specs.Verdict.{IsVerdict, IsFoundUnlawful, IsRefusedAfter, most_judged};
 
 use crate::advance::{Nodes, no_nodes};
@@ -142,7 +142,7 @@ fn first_unlawful(
     nodes: &mut Nodes,
     climb: &mut Climb,
 ) -> Result<Option<u64>, AllocError>
-    requires found { IsFound [] (length events.now) found.old }
+    requires found { AreListsFound [] (length events.now) found.old }
     requires followed { IsFollowed [] (length events.now) nodes.old }
     requires short { length events.now ≤ most_judged }
     ensures { IfOk result

@@ -1,4 +1,4 @@
-use Rattle.rx_audit.proofs.Common.{◌≡◌, suc, ◌+◌, set, length, sym, ap, ◌∙◌, arith, table_with, number_of, subscribed_event}
+use Rattle.rx_audit.proofs.Common.{◌≡◌, suc, ◌+◌, set, length, sym, ap, ◌∙◌, arith, table_with, number_by_word, subscribed_event}
 use Rattle.rx_audit.proofs.SubscriberRows.{rows_more, rows_same, subscribes_none}
 use Rattle.rx_audit.proofs.subscribers.list_new.Goals as goal
 
@@ -8,7 +8,7 @@ returns-in-Some-clause-linked c = let h = c.args.past.now in let old = c.args.su
       listed = c.put_last.ensures.listed;
       last = c.put_last.ensures.last ∙ ap (set old.last.items _) next;
       before = c.put_last.ensures.before;
-      after = c.put_last.ensures.after ∙ ap (table_with (set old.after.items (length h) 0) (number_of _)) next;
+      after = c.put_last.ensures.after ∙ ap (table_with (set old.after.items (length h) 0) (number_by_word _)) next;
     })
 
 pub returns-in_default-clause-linked : goal.returns-in_default-clause-linked

@@ -1,7 +1,7 @@
 use Rattle.rx_audit.proofs.Common.{length, sym, ◌∙◌}
 use Rattle.rx_audit.proofs.KnownNodesAndHubs.{ended_word}
 use Rattle.rx_audit.proofs.HubWords.{past_word, cut_word, uncut}
-use Rattle.rx_audit.proofs.forced.is_cut.Goals as goal
+use Rattle.rx_audit.proofs.forced.is_disconnected.Goals as goal
 
 pub returns-in-Some : goal.returns-in-Some
 returns-in-Some c = let h = c.args.past.now in let k = c.requires in c.leads_past.ensures ∙ past_word _ c.value_at.result ∙ cut_word h _ _ _ (sym
