@@ -2,7 +2,7 @@
 use Rattle.rx_crew.proofs.Common.{◌≡◌, ℕ, ◌+◌, ◌<◌, IsTrue, List, length, refl, sym, ap, ◌∙◌, arith, Some, add-one, None, length-drop, is_item, Event, Shares}
 use Rattle.rx_crew.proofs.Common.{Receipt, Pull, Stop, ends_once}
 use Rattle.rx_event.proofs.Laws.Common.{zero, suc, true, false, [], ◌∷◌, ◌++◌, take, drop, false≢true, map-append, length-append, sum_by_push, cond, map}
-use Rattle.rx_crew.specs.Feeds.{event_of, items_of, items_in, is_end, AreOfPulls, IsFed, IsEmitted, IsTurn}
+use Rattle.rx_crew.specs.Feeds.{event_of, items_pulled, items_in, is_end, AreOfPulls, IsFed, IsPullEmitted, IsFeedTurn}
 use Rattle.rx_crew.specs.declared.feeding.Pull.TheVariants.{Item as PullItem, Done as PullDone}
 use Rattle.rx_crew.specs.declared.working.Stop.TheVariants.{Done, Turns, Refused}
 
@@ -42,13 +42,13 @@ goes_on : (p : Pull) (rest : List Pull) → is_end p ≡ false → ends_once (p 
 goes_on (PullItem v) rest is e = e
 goes_on (PullDone t) rest is e = absurd (false≢true (sym is))
 
-item_or_none : (leaf : ℕ) (p : Pull) → items_of p ≡ cond (is_item (event_of leaf p)) 1 0
+item_or_none : (leaf : ℕ) (p : Pull) → items_pulled p ≡ cond (is_item (event_of leaf p)) 1 0
 item_or_none leaf (PullItem v) = refl
 item_or_none leaf (PullDone t) = refl
 
 -- the count of the items among the receipts
 items-push : (leaf : ℕ) (p : Pull) (receipts : List Receipt) (r : Receipt)
-    → r.event ≡ event_of leaf p → items_in (receipts ++ r ∷ []) ≡ items_in receipts + items_of p
+    → r.event ≡ event_of leaf p → items_in (receipts ++ r ∷ []) ≡ items_in receipts + items_pulled p
 items-push leaf p receipts r is =
     sum_by_push (λ (r : Receipt). cond (is_item r.event) 1 0) receipts r
     ∙ ap (λ (n : ℕ). items_in receipts + n) (ap (λ (e : Event). cond (is_item e) 1 0) is ∙ sym (item_or_none leaf p))
@@ -60,13 +60,13 @@ pub record SoFar (leaf : ℕ) (before now : List Pull) (first seat : Shares) (re
   pub shares : seat ≡ record first { items = first.items + items_in receipts }
 
 one_more : {leaf : ℕ} {before now : List Pull} (after : List Pull) {first seat : Shares} (seat' : Shares) (receipts receipts' : List Receipt) (pull : Pull)
-    → SoFar leaf before now first seat receipts → now ≡ pull ∷ after → IsEmitted leaf pull seat seat' receipts receipts'
+    → SoFar leaf before now first seat receipts → now ≡ pull ∷ after → IsPullEmitted leaf pull seat seat' receipts receipts'
     → (length receipts' ≡ length receipts + 1) × (length receipts < length before) × SoFar leaf before after first seat' receipts'
 one_more {leaf} {before} after {first} seat' receipts receipts' pull far pulled emitted =
     let next = next_pull (length receipts) before pull after (sym far.left ∙ pulled) in
     let one : length receipts' ≡ length receipts + 1 = ap length emitted.added ∙ length-append receipts (emitted.receipt ∷ []) in
     let more = items-push leaf pull receipts emitted.receipt emitted.event in
-    let sum : (first.items + items_in receipts) + items_of pull ≡ first.items + items_in receipts' = rw emitted.added (omega (arith, more)) in (
+    let sum : (first.items + items_in receipts) + items_pulled pull ≡ first.items + items_in receipts' = rw emitted.added (omega (arith, more)) in (
       one,
       next.within,
       record {
@@ -77,7 +77,7 @@ one_more {leaf} {before} after {first} seat' receipts receipts' pull far pulled 
             ∙ ap (λ (e : Event). map (event_of leaf) (take (length receipts) before) ++ e ∷ []) emitted.event
             ∙ sym (map-append (event_of leaf) (take (length receipts) before) (pull ∷ [])) ∙ ap (map (event_of leaf)) (sym next.taken));
         shares = emitted.counted
-            ∙ ap (λ (s : Shares). record s { items = s.items + items_of pull }) far.shares
+            ∙ ap (λ (s : Shares). record s { items = s.items + items_pulled pull }) far.shares
             ∙ ap (λ (n : ℕ). record first { items = n }) sum;
       },
     )
@@ -89,7 +89,7 @@ pub record GoesOn (leaf : ℕ) (before after : List Pull) (first seat' : Shares)
   pub course : IsTrue (ends_once after)
 
 pub turn_more : {leaf : ℕ} {before now after : List Pull} (first seat seat' : Shares) (receipts receipts' : List Receipt)
-    → SoFar leaf before now first seat receipts → IsTrue (ends_once now) → IsTurn leaf None now after seat seat' receipts receipts'
+    → SoFar leaf before now first seat receipts → IsTrue (ends_once now) → IsFeedTurn leaf None now after seat seat' receipts receipts'
     → GoesOn leaf before after first seat' receipts receipts'
 turn_more {after} first seat seat' receipts receipts' far course turn =
     let more = one_more after seat' receipts receipts' turn.pull far turn.pulled turn.becomes.1 in
@@ -107,7 +107,7 @@ pub record Stops (leaf : ℕ) (why : Stop) (turns : ℕ) (before after : List Pu
 
 pub last_turn : {leaf : ℕ} (turns : ℕ) (stop : Stop) {before now after : List Pull} {first seat seat' : Shares} (receipts receipts' : List Receipt)
     → SoFar leaf before now first seat receipts → IsTrue (ends_once now) → length receipts < turns
-    → IsTurn leaf (Some stop) now after seat seat' receipts receipts'
+    → IsFeedTurn leaf (Some stop) now after seat seat' receipts receipts'
     → Stops leaf stop turns before after first seat' receipts'
 last_turn turns Done {before} {after} {seat'} receipts receipts' far course within turn =
     let more = one_more after seat' receipts receipts' turn.pull far turn.pulled turn.becomes.1 in

@@ -32,9 +32,9 @@ is_end (PullItem value) = false
 is_end (PullDone terminal) = true
 
 -- how many items a pull is
-abbrev pub items_of : Pull → ℕ
-items_of (PullItem value) = 1
-items_of (PullDone terminal) = 0
+abbrev pub items_pulled : Pull → ℕ
+items_pulled (PullItem value) = 1
+items_pulled (PullDone terminal) = 0
 
 -- what a pull asks of the book, and why it is refused: an item may take memory, an end takes none
 abbrev pub pull_request : State → Key → Pull → Request
@@ -68,22 +68,22 @@ IsFed (Refused why) receipts turns before after =
     (receipts < turns) × (receipts < length before) × (after ≡ drop (receipts + 1) before)
 
 -- a pull's event was written: there is one receipt more, of that event, and the seat counts it if it is an item
-pub record IsEmitted (leaf : ℕ) (pull : Pull) (seat seat' : Shares) (receipts receipts' : List Receipt) : Type 0 where
+pub record IsPullEmitted (leaf : ℕ) (pull : Pull) (seat seat' : Shares) (receipts receipts' : List Receipt) : Type 0 where
   pub receipt : Receipt
   pub event : receipt.event ≡ event_of leaf pull
   pub added : receipts' ≡ receipts ++ receipt ∷ []
-  pub counted : seat' ≡ record seat { items = seat.items + items_of pull }
+  pub counted : seat' ≡ record seat { items = seat.items + items_pulled pull }
 
 -- what becomes of a turn's pull, by why the feed stops with it: it goes on after an item; or it stops after the end; or it
 -- stops where the pull was refused, which leaves the seat and the receipts
-abbrev pub Becomes : Option Stop → (leaf : ℕ) (pull : Pull) (seat seat' : Shares) (receipts receipts' : List Receipt) → Type 0
-Becomes None leaf pull seat seat' receipts receipts' = (is_end pull ≡ false) × IsEmitted leaf pull seat seat' receipts receipts'
-Becomes (Some Done) leaf pull seat seat' receipts receipts' = (is_end pull ≡ true) × IsEmitted leaf pull seat seat' receipts receipts'
-Becomes (Some Turns) leaf pull seat seat' receipts receipts' = ⊥
-Becomes (Some (Refused why)) leaf pull seat seat' receipts receipts' = (seat' ≡ seat) × (receipts' ≡ receipts)
+abbrev pub PullBecomes : Option Stop → (leaf : ℕ) (pull : Pull) (seat seat' : Shares) (receipts receipts' : List Receipt) → Type 0
+PullBecomes None leaf pull seat seat' receipts receipts' = (is_end pull ≡ false) × IsPullEmitted leaf pull seat seat' receipts receipts'
+PullBecomes (Some Done) leaf pull seat seat' receipts receipts' = (is_end pull ≡ true) × IsPullEmitted leaf pull seat seat' receipts receipts'
+PullBecomes (Some Turns) leaf pull seat seat' receipts receipts' = ⊥
+PullBecomes (Some (Refused why)) leaf pull seat seat' receipts receipts' = (seat' ≡ seat) × (receipts' ≡ receipts)
 
 -- one turn: just one pull is taken, and this becomes of it
-pub record IsTurn (leaf : ℕ) (stop : Option Stop) (before after : List Pull) (seat seat' : Shares) (receipts receipts' : List Receipt) : Type 0 where
+pub record IsFeedTurn (leaf : ℕ) (stop : Option Stop) (before after : List Pull) (seat seat' : Shares) (receipts receipts' : List Receipt) : Type 0 where
   pub pull : Pull
   pub pulled : before ≡ pull ∷ after
-  pub becomes : Becomes stop leaf pull seat seat' receipts receipts'
+  pub becomes : PullBecomes stop leaf pull seat seat' receipts receipts'

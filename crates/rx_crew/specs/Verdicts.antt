@@ -10,8 +10,8 @@ use Rattle.rx_crew.specs.declared.finishing.Totals.{Totals}
 use Rattle.rx_crew.specs.declared.finishing.Mismatch.{Mismatch}
 use Rattle.rx_crew.specs.declared.finishing.Mismatch.TheVariants.{Items, Accepted, Taken, Receipt}
 
-abbrev pub totals_of : Kept → List Event → Totals
-totals_of base h = record {
+abbrev pub totals_written : Kept → List Event → Totals
+totals_written base h = record {
   items = item_count base h;
   accepted = accepted_count base h;
   taken = taken_count base h;
@@ -42,15 +42,15 @@ abbrev pub Differ : (shares book sum total : ℕ) → Type 0
 Differ shares book sum total = (shares ≡ sum) × (book ≡ total) × (shares ≢ book)
 
 -- Ok where all agrees, else the first that does not: the items, the accepted resources, the taken ones, the receipts
-abbrev pub IsVerdict : Kept → List Event → Sums → List Slip → Result Totals Mismatch → Type 0
-IsVerdict base h s receipts (Ok totals) =
-    (totals ≡ totals_of base h) ×
+abbrev pub IsVerdictOnThreads : Kept → List Event → Sums → List Slip → Result Totals Mismatch → Type 0
+IsVerdictOnThreads base h s receipts (Ok totals) =
+    (totals ≡ totals_written base h) ×
     (s.items ≡ item_count base h) × (s.accepted ≡ accepted_count base h) × (s.taken ≡ taken_count base h) × All (Stands base h) receipts
-IsVerdict base h s receipts (Err (Items shares book)) = Differ shares book s.items (item_count base h)
-IsVerdict base h s receipts (Err (Accepted shares book)) = (s.items ≡ item_count base h) × Differ shares book s.accepted (accepted_count base h)
-IsVerdict base h s receipts (Err (Taken shares book)) =
+IsVerdictOnThreads base h s receipts (Err (Items shares book)) = Differ shares book s.items (item_count base h)
+IsVerdictOnThreads base h s receipts (Err (Accepted shares book)) = (s.items ≡ item_count base h) × Differ shares book s.accepted (accepted_count base h)
+IsVerdictOnThreads base h s receipts (Err (Taken shares book)) =
     (s.items ≡ item_count base h) × (s.accepted ≡ accepted_count base h) × Differ shares book s.taken (taken_count base h)
-IsVerdict base h s receipts (Err (Receipt place)) =
+IsVerdictOnThreads base h s receipts (Err (Receipt place)) =
     (s.items ≡ item_count base h) × (s.accepted ≡ accepted_count base h) × (s.taken ≡ taken_count base h) × IsFirstWrong base h receipts place
 
 -- where no node is open, no lease is out and nothing waits, each resource that was accepted was taken

@@ -1,7 +1,7 @@
 //! A floor behind its lock.
 
 ghost use Rattle.std.specs.Prelude.{◌≡◌};
-ghost use Rattle.rx_ledger.specs.Shares.{Opens, whole};
+ghost use Rattle.rx_ledger.specs.Shares.{OpensFromBlank, whole};
 ghost use Rattle.rx_crew.specs.Counting.{sums_of};
 
 use crate::floor::Floor;
@@ -37,9 +37,9 @@ impl<R: Resource, I: Ledger, A: Ledger, K: Ledger> Desk<R, I, A, K> {
         accepted: Blank,
         taken: Blank,
     ) -> (Desk<R, I, A, K>, Seat<I, A, K>)
-        requires items { Opens I.name I.parts items.name items.parts }
-        requires accepted { Opens A.name A.parts accepted.name accepted.parts }
-        requires taken { Opens K.name K.parts taken.name taken.parts }
+        requires items { OpensFromBlank I.name I.parts items.name items.parts }
+        requires accepted { OpensFromBlank A.name A.parts accepted.name accepted.parts }
+        requires taken { OpensFromBlank K.name K.parts taken.name taken.parts }
         ensures { result.1 ≡ whole (sums_of book.base book.history) }
     {
         let (floor, seat) = Floor::new(book, items, accepted, taken);

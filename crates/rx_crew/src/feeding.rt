@@ -5,8 +5,8 @@ ghost use Rattle.std.specs.Prelude.{IsTrue, IfErr, OnOk, OnErr};
 ghost use Rattle.rx_book.specs.Answers.{Accepts};
 ghost use Rattle.rx_crew.specs.declared.working.Stop.{Stop};
 ghost use Rattle.rx_crew.specs.declared.feeding.Pull.{Pull};
-ghost use Rattle.rx_crew.specs.Feeds.{ends_once, event_of, is_end, items_of, items_in, AreOfPulls, IsFed, IsTurn};
-ghost use Rattle.rx_crew.specs.Feeds.{pull_request, refuses_pull, AnswersPull, receipt_of, IsEmitted};
+ghost use Rattle.rx_crew.specs.Feeds.{ends_once, event_of, is_end, items_pulled, items_in, AreOfPulls, IsFed, IsFeedTurn};
+ghost use Rattle.rx_crew.specs.Feeds.{pull_request, refuses_pull, AnswersPull, receipt_of, IsPullEmitted};
 
 use crate::desk::Desk;
 use crate::floor::Floor;
@@ -79,7 +79,7 @@ fn write_event<R: Resource, I: Ledger, A: Ledger, K: Ledger>(
     pull: Pull,
 ) -> Result<u64, Refusal>
     ensures book { AnswersPull floor.old.book leaf pull floor.new.book result }
-    ensures counted { OnOk result (seat.new ≡ record seat.old { items = seat.old.items + items_of pull }) }
+    ensures counted { OnOk result (seat.new ≡ record seat.old { items = seat.old.items + items_pulled pull }) }
     ensures uncounted { OnErr result (seat.new ≡ seat.old) }
     ensures shut { floor.new.is_shut ≡ floor.old.is_shut }
 {
@@ -104,7 +104,7 @@ fn write_pull<R: Resource, I: Ledger, A: Ledger, K: Ledger>(
     ensures receipt { OnOk result (receipts.new.items
         ≡ receipts.old.items ++ receipt_of (length floor.old.book.history) leaf.number pull ∷ []) }
     ensures no_receipt { OnErr result (receipts.new.items ≡ receipts.old.items) }
-    ensures counted { OnOk result (seat.new ≡ record seat.old { items = seat.old.items + items_of pull }) }
+    ensures counted { OnOk result (seat.new ≡ record seat.old { items = seat.old.items + items_pulled pull }) }
     ensures uncounted { OnErr result (seat.new ≡ seat.old) }
     ensures shut { floor.new.is_shut ≡ floor.old.is_shut }
 {
@@ -126,7 +126,7 @@ fn emit<R: Resource, I: Ledger, A: Ledger, K: Ledger>(
     pull: Pull,
 ) -> Result<(), Refusal>
     requires room { vec_len receipts.old < vec_capacity receipts.old }
-    ensures emitted { OnOk result (IsEmitted leaf.number pull seat.old seat.new receipts.old.items receipts.new.items) }
+    ensures emitted { OnOk result (IsPullEmitted leaf.number pull seat.old seat.new receipts.old.items receipts.new.items) }
     ensures uncounted { OnErr result (seat.new ≡ seat.old) }
     ensures no_receipt { OnErr result (receipts.new.items ≡ receipts.old.items) }
 {
@@ -151,7 +151,7 @@ fn turn<R: Resource, I: Ledger, A: Ledger, K: Ledger, S: Source>(
     source: &mut S,
 ) -> Option<Stop>
     requires { IsTrue (ends_once (S.pulls source.old)) }
-    ensures { IsTurn leaf.number result (S.pulls source.old) (S.pulls source.new)
+    ensures { IsFeedTurn leaf.number result (S.pulls source.old) (S.pulls source.new)
         seat.old seat.new receipts.old.items receipts.new.items }
 {
     let pull = source.pull();

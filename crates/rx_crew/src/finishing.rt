@@ -4,7 +4,7 @@ ghost use Rattle.std.specs.Prelude.{◌≡◌, ◌↔◌, IfOk, IsTrue};
 ghost use Rattle.rx_book.specs.State.{IsPromised};
 ghost use Rattle.rx_ledger.specs.Shares.{all_parts, together, sums_in};
 ghost use Rattle.rx_crew.specs.Counting.{sums_of};
-ghost use Rattle.rx_crew.specs.Verdicts.{AllTaken, IsVerdict, FirstWrong, Stands, totals_of};
+ghost use Rattle.rx_crew.specs.Verdicts.{AllTaken, IsVerdictOnThreads, FirstWrong, Stands, totals_written};
 
 use crate::desk::Desk;
 use crate::floor::Floor;
@@ -76,7 +76,7 @@ fn first_wrong<R: Resource>(book: &Book<R>, receipts: &[Receipt]) -> Option<u64>
 
 /// The totals of a book.
 fn count_all<R: Resource>(book: &Book<R>) -> Totals
-    ensures { result ≡ totals_of book.now.base book.now.history }
+    ensures { result ≡ totals_written book.now.base book.now.history }
 {
     Totals {
         items: book.items(),
@@ -94,7 +94,7 @@ fn compare<R: Resource>(
     sums: Sums,
     receipts: &[Receipt],
 ) -> Result<Totals, Mismatch>
-    ensures { IsVerdict book.now.base book.now.history sums receipts.now result }
+    ensures { IsVerdictOnThreads book.now.base book.now.history sums receipts.now result }
 {
     let totals = count_all(book);
     if sums.items != totals.items {
@@ -124,7 +124,7 @@ fn compare<R: Resource>(
 /// The same of a book as it is out of its desk: where all agrees and nothing of it is left, no lease
 /// either, all that was accepted was taken.
 fn judge<R: Resource>(book: &Book<R>, sums: Sums, receipts: &[Receipt]) -> Result<Totals, Mismatch>
-    ensures verdict { IsVerdict book.now.base book.now.history sums receipts.now result }
+    ensures verdict { IsVerdictOnThreads book.now.base book.now.history sums receipts.now result }
     ensures all_taken { IfOk result (λ _. AllTaken book.now.history sums) }
 {
     book.promise();
@@ -167,7 +167,8 @@ pub fn finish<R: Resource, I: Ledger, A: Ledger, K: Ledger>(
     receipts: &[Receipt],
 ) -> Finished<R>
     ensures book { IsPromised result.book }
-    ensures verdict { IsVerdict result.book.base result.book.history (sums_in (together seats.items)) receipts.now result.verdict }
+    ensures verdict { IsVerdictOnThreads result.book.base result.book.history
+        (sums_in (together seats.items)) receipts.now result.verdict }
     ensures all { (together seats.items).parts ≡ all_parts → sums_in (together seats.items) ≡ sums_of result.book.base result.book.history }
     ensures all_taken { IfOk result.verdict (λ _. AllTaken result.book.history (sums_in (together seats.items))) }
 {

@@ -1,7 +1,7 @@
 //! What lies behind the lock: the book, its ledgers, and whether the desk is shut.
 
 ghost use Rattle.std.specs.Prelude.{◌≡◌, true, false};
-ghost use Rattle.rx_ledger.specs.Shares.{Opens, IsWithin, all_parts, sums_in, whole};
+ghost use Rattle.rx_ledger.specs.Shares.{OpensFromBlank, IsWithin, all_parts, sums_in, whole};
 ghost use Rattle.rx_book.specs.State.{IsPromised};
 ghost use Rattle.rx_crew.specs.Counting.{sums_of, AreCountable};
 
@@ -41,9 +41,9 @@ impl<R: Resource, I: Ledger, A: Ledger, K: Ledger> Floor<R, I, A, K> {
         accepted: Blank,
         taken: Blank,
     ) -> (Floor<R, I, A, K>, Seat<I, A, K>)
-        requires items { Opens I.name I.parts items.name items.parts }
-        requires accepted { Opens A.name A.parts accepted.name accepted.parts }
-        requires taken { Opens K.name K.parts taken.name taken.parts }
+        requires items { OpensFromBlank I.name I.parts items.name items.parts }
+        requires accepted { OpensFromBlank A.name A.parts accepted.name accepted.parts }
+        requires taken { OpensFromBlank K.name K.parts taken.name taken.parts }
         ensures book { result.0.book ≡ book }
         ensures shut { result.0.is_shut ≡ false }
         ensures seat { result.1 ≡ whole (sums_of book.base book.history) }

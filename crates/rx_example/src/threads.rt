@@ -2,7 +2,7 @@
 //! resource, and a worker releases what comes to wait. Then the desk is ended, and its book.
 
 ghost use Rattle.std.specs.Prelude.{◌≡◌, ◌+◌, IfOk, IsOk};
-ghost use Rattle.rx_ledger.specs.Shares.{Opens, all_parts, together};
+ghost use Rattle.rx_ledger.specs.Shares.{OpensFromBlank, all_parts, together};
 
 use crate::countdown::Countdown;
 use rx_book::{At, Book, Closed, Kind};
@@ -100,9 +100,9 @@ fn run<
     alloc: Global,
     blanks: (Blank, Blank, Blank),
 ) -> Result<(Result<Totals, Mismatch>, Closed), AllocError>
-    requires items { Opens I.name I.parts blanks.0.name blanks.0.parts }
-    requires accepted { Opens A.name A.parts blanks.1.name blanks.1.parts }
-    requires taken { Opens K.name K.parts blanks.2.name blanks.2.parts }
+    requires items { OpensFromBlank I.name I.parts blanks.0.name blanks.0.parts }
+    requires accepted { OpensFromBlank A.name A.parts blanks.1.name blanks.1.parts }
+    requires taken { OpensFromBlank K.name K.parts blanks.2.name blanks.2.parts }
     ensures { IfOk result (λ ended. IsOk ended.0) }
 {
     let mut seats = Vec::new(alloc);

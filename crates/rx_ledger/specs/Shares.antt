@@ -15,8 +15,8 @@ pub record Shares : Type 0 where
   pub taken : ℕ
 
 -- a ledger of this name and these parts can be opened from a blank of that name and those parts, and has all of them
-abbrev pub Opens : (name parts blank_name blank_parts : ℕ) → Type 0
-Opens name parts blank_name blank_parts = (blank_name ≡ name) × (blank_parts ≡ parts) × (parts ≡ all_parts)
+abbrev pub OpensFromBlank : (name parts blank_name blank_parts : ℕ) → Type 0
+OpensFromBlank name parts blank_name blank_parts = (blank_name ≡ name) × (blank_parts ≡ parts) × (parts ≡ all_parts)
 
 -- what was counted, without the parts
 abbrev pub sums_in : Shares → Sums

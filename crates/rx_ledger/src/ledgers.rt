@@ -1,7 +1,7 @@
 //! The totals over all seats, which lie with the book.
 
 ghost use Rattle.std.specs.Prelude.{◌≡◌, ◌+◌};
-ghost use Rattle.rx_ledger.specs.Shares.{Opens, all_parts, sums_in, whole, IsWithin};
+ghost use Rattle.rx_ledger.specs.Shares.{OpensFromBlank, all_parts, sums_in, whole, IsWithin};
 
 use crate::seat::{PARTS, Seat};
 use std::marker::Model;
@@ -47,9 +47,9 @@ impl<I: Ledger, A: Ledger, K: Ledger> Ledgers<I, A, K> {
         accepted: Blank,
         taken: Blank,
     ) -> (Ledgers<I, A, K>, Seat<I, A, K>)
-        requires items { Opens I.name I.parts items.name items.parts }
-        requires accepted { Opens A.name A.parts accepted.name accepted.parts }
-        requires taken { Opens K.name K.parts taken.name taken.parts }
+        requires items { OpensFromBlank I.name I.parts items.name items.parts }
+        requires accepted { OpensFromBlank A.name A.parts accepted.name accepted.parts }
+        requires taken { OpensFromBlank K.name K.parts taken.name taken.parts }
         ensures sums { result.0 ≡ sums }
         ensures shares { result.1 ≡ whole sums }
     {

@@ -10,5 +10,6 @@ pub use Rattle.rx_crew.specs.declared.{finishing.Mismatch.Mismatch, finishing.To
 pub use Rattle.rx_event.specs.{Events.is_item, declared.event.Event.Event, declared.event.Event.TheVariants.End, declared.refusal.Refusal.Refusal}
 pub use Rattle.rx_ledger.specs.{Shares.Shares, Shares.sums_in, Shares.together, declared.ledgers.Sums.Sums, declared.receipt.Receipt.Receipt}
 pub use Rattle.rx_note.specs.declared.note.Terminal.TheVariants.{Completed}
-pub use Rattle.rx_storm.specs.{Storms.events_of, Storms.items_at, Storms.count_up, Storms.IsEnd, Storms.HasBegun, Storms.HasEmitted, Storms.HasEmittedSome, declared.StormFault.StormFault}
+pub use Rattle.rx_storm.specs.{Storms.events_of, Storms.items_at, Storms.count_up, Storms.IsStormEnd, Storms.HasBegun, Storms.HasEmitted, Storms.HasEmittedSome}
+pub use Rattle.rx_storm.specs.{declared.StormFault.StormFault}
 pub use Rattle.rx_storm.specs.declared.{figures.Figures.Figures, outcome.Lack.Lack}

@@ -1,12 +1,12 @@
 -- What an outcome tells.
 use Rattle.rx_storm.proofs.Common.{◌≡◌, Option, Some, None, Result, Ok, Err, IfOk, Bool, ℕ, List, refl, subst, ◌∙◌, is_ok, IfErr, OnOk, State, Totals, Lack}
-use Rattle.rx_storm.proofs.Common.{Mismatch, Figures, IsEnd, Sums, Receipt, StormFault}
-use Rattle.rx_storm.specs.Storms.{figures_of, figures_text, outcome_of, TellsOf, TellsFrontOf, Tells, TellsFront}
+use Rattle.rx_storm.proofs.Common.{Mismatch, Figures, IsStormEnd, Sums, Receipt, StormFault}
+use Rattle.rx_storm.specs.Storms.{figures_of, figures_text, storm_outcome, TellsOf, TellsFrontOf, Tells, TellsFront}
 use Rattle.rx_device.specs.Device.{AppendsPrefix}
 
 -- what holds of the figures with the answer of their verdict
 pub outcome_tells : (lack : Option Lack) (figures : Figures) (verdict : Result Totals Mismatch) (P : Figures → Bool → Type 0)
-    → P figures (is_ok verdict) → IfOk (outcome_of lack figures verdict) (λ told. P told.0 told.1)
+    → P figures (is_ok verdict) → IfOk (storm_outcome lack figures verdict) (λ told. P told.0 told.1)
 outcome_tells (Some lack) figures verdict P is = tt
 outcome_tells None figures verdict P is = is
 
@@ -24,12 +24,12 @@ told_of (Err fault) shares receipts released faults old new tells = tt
 
 -- an outcome that is Ok lacks nothing, and one that is not tells what it lacks
 pub outcome_done : (lack : Option Lack) (figures : Figures) (verdict : Result Totals Mismatch)
-    → OnOk (outcome_of lack figures verdict) (lack ≡ None)
+    → OnOk (storm_outcome lack figures verdict) (lack ≡ None)
 outcome_done (Some lack) figures verdict = tt
 outcome_done None figures verdict = refl
 
 pub outcome_lacks : (lack : Option Lack) (figures : Figures) (verdict : Result Totals Mismatch)
-    → IfErr (outcome_of lack figures verdict) (λ l. lack ≡ Some l)
+    → IfErr (storm_outcome lack figures verdict) (λ l. lack ≡ Some l)
 outcome_lacks (Some lack) figures verdict = refl
 outcome_lacks None figures verdict = tt
 
@@ -52,13 +52,13 @@ front_of shares receipts released faults old new tells = record {
 -- a front of these bytes is one of the figures that the threads came to
 pub front_told : (outcome : Result (Figures × Bool) Lack) (told : Figures × Bool) (shares : Sums) (receipts : List Receipt) (released faults : ℕ)
     (old new : Option (List ℕ)) (bytes text : List ℕ) → outcome ≡ Ok told
-    → IfOk outcome (λ t. IsEnd shares receipts t.0 t.1) → IfOk outcome (λ t. t.0.released ≡ released) → IfOk outcome (λ t. t.0.faults ≡ faults)
+    → IfOk outcome (λ t. IsStormEnd shares receipts t.0 t.1) → IfOk outcome (λ t. t.0.released ≡ released) → IfOk outcome (λ t. t.0.faults ≡ faults)
     → text ≡ figures_text told.0 → bytes ≡ text → AppendsPrefix old new bytes → TellsFrontOf shares receipts released faults old new
 front_told outcome told shares receipts released faults old new bytes text is ended freed met tells same front = record {
   told = told.0;
   answer = told.1;
   released_is = subst (λ (o : Result (Figures × Bool) Lack). IfOk o (λ t. t.0.released ≡ released)) is freed;
   faults_is = subst (λ (o : Result (Figures × Bool) Lack). IfOk o (λ t. t.0.faults ≡ faults)) is met;
-  ended = subst (λ (o : Result (Figures × Bool) Lack). IfOk o (λ t. IsEnd shares receipts t.0 t.1)) is ended;
+  ended = subst (λ (o : Result (Figures × Bool) Lack). IfOk o (λ t. IsStormEnd shares receipts t.0 t.1)) is ended;
   written = subst (λ (b : List ℕ). AppendsPrefix old new b) (same ∙ tells) front;
 }

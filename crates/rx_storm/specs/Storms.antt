@@ -17,7 +17,7 @@ use Rattle.rx_crew.specs.declared.feeding.Pull.TheVariants.{Item, Done}
 use Rattle.rx_crew.specs.declared.finishing.Totals.{Totals}
 use Rattle.rx_crew.specs.declared.finishing.Mismatch.{Mismatch}
 use Rattle.rx_crew.specs.Feeds.{event_of}
-use Rattle.rx_crew.specs.Verdicts.{IsVerdict}
+use Rattle.rx_crew.specs.Verdicts.{IsVerdictOnThreads}
 use Rattle.rx_storm.specs.declared.outcome.Lack.{Lack}
 use Rattle.rx_storm.specs.declared.figures.Figures.{Figures}
 
@@ -98,12 +98,12 @@ pub record IsClosing (old new : State) : Type 0 where
 -- what a storm came to whose threads counted these shares together and have these receipts: a book that keeps its
 -- promise, the verdict on the threads, the figures of the book, and that it was closed; the answer is whether there
 -- is no mismatch
-pub record IsEnd (shares : Sums) (receipts : List Receipt) (told : Figures) (answer : Bool) : Type 0 where
+pub record IsStormEnd (shares : Sums) (receipts : List Receipt) (told : Figures) (answer : Bool) : Type 0 where
   pub book : State
   pub closed : State
   pub verdict : Result Totals Mismatch
   pub promised : IsPromised book
-  pub judged : IsVerdict book.base book.history shares receipts verdict
+  pub judged : IsVerdictOnThreads book.base book.history shares receipts verdict
   pub agrees : answer ≡ is_ok verdict
   pub figures : told ≡ figures_of book told.released told.faults
   pub closing : IsClosing book closed
@@ -114,7 +114,7 @@ pub record TellsOf (shares : Sums) (receipts : List Receipt) (released faults : 
   pub told : Figures
   pub released_is : told.released ≡ released
   pub faults_is : told.faults ≡ faults
-  pub ended : IsEnd shares receipts told answer
+  pub ended : IsStormEnd shares receipts told answer
   pub written : Appends old new (figures_text told)
 
 -- a front of them was written
@@ -124,7 +124,7 @@ pub record TellsFrontOf (shares : Sums) (receipts : List Receipt) (released faul
   pub answer : Bool
   pub released_is : told.released ≡ released
   pub faults_is : told.faults ≡ faults
-  pub ended : IsEnd shares receipts told answer
+  pub ended : IsStormEnd shares receipts told answer
   pub written : AppendsPrefix old new (figures_text told)
 
 -- the figures of a storm that answers so were written, and nothing else
@@ -144,6 +144,6 @@ pub record TellsFront (old new : Option (List ℕ)) : Type 0 where
   pub tells : TellsFrontOf shares receipts released faults old new
 
 -- what the storm lacked; else the figures, and whether seats and receipts agree with the book
-abbrev pub outcome_of : Option Lack → Figures → Result Totals Mismatch → Result (Figures × Bool) Lack
-outcome_of (Some lack) figures verdict = Err lack
-outcome_of None figures verdict = Ok (figures, is_ok verdict)
+abbrev pub storm_outcome : Option Lack → Figures → Result Totals Mismatch → Result (Figures × Bool) Lack
+storm_outcome (Some lack) figures verdict = Err lack
+storm_outcome None figures verdict = Ok (figures, is_ok verdict)

@@ -3,10 +3,10 @@
 ghost use Rattle.std.specs.Prelude.{◌≡◌, ◌-◌, [], min, length, None, Some, IfOk, IfErr, OnOk};
 ghost use Rattle.rx_event.specs.Notes.{notes};
 ghost use Rattle.rx_ledger.specs.Shares.{together, sums_in};
-ghost use Rattle.rx_storm.specs.Storms.{figures_of, IsClosing, IsEnd};
+ghost use Rattle.rx_storm.specs.Storms.{figures_of, IsClosing, IsStormEnd};
 
 use crate::figures::Figures;
-use crate::outcome::{Lack, outcome_of};
+use crate::outcome::{Lack, storm_outcome};
 use crate::threads::Gathered;
 use rx_book::Book;
 use rx_crew::{Desk, Finished, finish};
@@ -67,7 +67,7 @@ pub fn settle<R: Resource, I: Ledger, A: Ledger, K: Ledger>(
     ensures none_open { result.book.keys ≡ [] }
     ensures none_held { result.book.held ≡ [] }
     ensures none_waits { result.book.waiting ≡ [] }
-    ensures told { IfOk result.outcome (λ told. IsEnd (sums_in (together gathered.seats.items))
+    ensures told { IfOk result.outcome (λ told. IsStormEnd (sums_in (together gathered.seats.items))
         gathered.receipts.items told.0 told.1) }
     ensures released { IfOk result.outcome (λ told. told.0.released ≡ gathered.released) }
     ensures faults { IfOk result.outcome (λ told. told.0.faults ≡ gathered.faults) }
@@ -86,6 +86,6 @@ pub fn settle<R: Resource, I: Ledger, A: Ledger, K: Ledger>(
     let figures = close_book(&mut book, released, faults);
     Settled {
         book,
-        outcome: outcome_of(fault, figures, verdict),
+        outcome: storm_outcome(fault, figures, verdict),
     }
 }

@@ -34,7 +34,7 @@
 ghost use Rattle.std.specs.Prelude.{◌≡◌, ◌≤◌, ◌↔◌, [], Err, Some, vec_len, IfOk, OnOk, IsErrOf};
 ghost use Rattle.std.specs.List.{All};
 ghost use Rattle.rx_resource.specs.declared.Life.{Life};
-ghost use Rattle.rx_ledger.specs.Shares.{Opens, together, sums_in};
+ghost use Rattle.rx_ledger.specs.Shares.{OpensFromBlank, together, sums_in};
 ghost use Rattle.rx_device.specs.Device.{device_of, has_failed, has_stopped, HasWriteFault, KeepsDevice};
 ghost use Rattle.rx_storm.specs.declared.StormFault.{StormFault};
 ghost use Rattle.rx_storm.specs.declared.outcome.Lack.{Lack};
@@ -149,9 +149,9 @@ fn storm_named<
     gate: &G,
     writer: &mut Watched<'_, W>,
 ) -> Result<bool, StormFault>
-    requires items { Opens I.name I.parts blanks.0.name blanks.0.parts }
-    requires accepted { Opens A.name A.parts blanks.1.name blanks.1.parts }
-    requires taken { Opens K.name K.parts blanks.2.name blanks.2.parts }
+    requires items { OpensFromBlank I.name I.parts blanks.0.name blanks.0.parts }
+    requires accepted { OpensFromBlank A.name A.parts blanks.1.name blanks.1.parts }
+    requires taken { OpensFromBlank K.name K.parts blanks.2.name blanks.2.parts }
     ensures told { IfOk result (λ answer.
         Tells answer (W.contents (device_of writer.old)) (W.contents (device_of writer.new))) }
     ensures front { IsErrOf result StormFault.Write

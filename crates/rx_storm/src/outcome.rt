@@ -1,7 +1,7 @@
 //! How a storm ended.
 
 ghost use Rattle.std.specs.Prelude.{◌≡◌};
-ghost use Rattle.rx_storm.specs.Storms.{outcome_of};
+ghost use Rattle.rx_storm.specs.Storms.{storm_outcome};
 
 use crate::figures::Figures;
 use rx_crew::{Mismatch, Totals};
@@ -17,12 +17,12 @@ pub enum Lack {
 
 /// What kept the storm from its end, where something did; else its figures, and whether the seats and
 /// receipts agree with the book.
-pub fn outcome_of(
+pub fn storm_outcome(
     lack: Option<Lack>,
     figures: Figures,
     verdict: Result<Totals, Mismatch>,
 ) -> Result<(Figures, bool), Lack>
-    ensures { result ≡ outcome_of lack figures verdict }
+    ensures { result ≡ storm_outcome lack figures verdict }
 {
     match lack {
         Some(lack) => Err(lack),

@@ -2,7 +2,7 @@
 //! waits here gives up after a million turns.
 
 ghost use Rattle.rx_resource.specs.declared.Life.{Life};
-ghost use Rattle.rx_ledger.specs.Shares.{Opens};
+ghost use Rattle.rx_ledger.specs.Shares.{OpensFromBlank};
 
 use super::desk_calls::{Call, Deed, NO_SLOTS, key_of, make_all};
 use super::parts::{Open, blanks, tell};
@@ -138,9 +138,9 @@ fn disposes_meanwhile<
     blanks: (Blank, Blank, Blank),
     stage: &AtomicU64,
 ) -> (u64, Result<u64, Refusal>)
-    requires items { Opens I.name I.parts blanks.0.name blanks.0.parts }
-    requires accepted { Opens A.name A.parts blanks.1.name blanks.1.parts }
-    requires taken { Opens K.name K.parts blanks.2.name blanks.2.parts }
+    requires items { OpensFromBlank I.name I.parts blanks.0.name blanks.0.parts }
+    requires accepted { OpensFromBlank A.name A.parts blanks.1.name blanks.1.parts }
+    requires taken { OpensFromBlank K.name K.parts blanks.2.name blanks.2.parts }
 {
     let book = Book::new(alloc, 1000);
     let (desk, mut seat) = Desk::<Actor<'_>, I, A, K>::new(book, blanks.0, blanks.1, blanks.2);

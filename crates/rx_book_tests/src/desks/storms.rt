@@ -4,7 +4,7 @@
 ghost use Rattle.std.specs.Prelude.{◌≡◌, vec_len, IfOk};
 ghost use Rattle.std.specs.List.{All};
 ghost use Rattle.rx_resource.specs.declared.Life.{Life};
-ghost use Rattle.rx_ledger.specs.Shares.{Opens};
+ghost use Rattle.rx_ledger.specs.Shares.{OpensFromBlank};
 
 use super::meetings::Pair;
 use super::parts::{Open, blanks};
@@ -103,9 +103,9 @@ fn weather<
     forged: &[Receipt],
     output: &mut Vec<u8>,
 ) -> (Result<bool, StormFault>, u64, (usize, usize))
-    requires items { Opens I.name I.parts blanks.0.name blanks.0.parts }
-    requires accepted { Opens A.name A.parts blanks.1.name blanks.1.parts }
-    requires taken { Opens K.name K.parts blanks.2.name blanks.2.parts }
+    requires items { OpensFromBlank I.name I.parts blanks.0.name blanks.0.parts }
+    requires accepted { OpensFromBlank A.name A.parts blanks.1.name blanks.1.parts }
+    requires taken { OpensFromBlank K.name K.parts blanks.2.name blanks.2.parts }
 {
     let book = Book::new(alloc, 1_000_000);
     let (desk, first) = Desk::<Tracked, I, A, K>::new(book, blanks.0, blanks.1, blanks.2);
@@ -253,9 +253,9 @@ fn end_with_an_open_root<I: Ledger, A: Ledger, K: Ledger>(
     fault: Option<Lack>,
     writer: &mut Narrow,
 ) -> Result<Result<bool, StormFault>, Fail>
-    requires items { Opens I.name I.parts blanks.0.name blanks.0.parts }
-    requires accepted { Opens A.name A.parts blanks.1.name blanks.1.parts }
-    requires taken { Opens K.name K.parts blanks.2.name blanks.2.parts }
+    requires items { OpensFromBlank I.name I.parts blanks.0.name blanks.0.parts }
+    requires accepted { OpensFromBlank A.name A.parts blanks.1.name blanks.1.parts }
+    requires taken { OpensFromBlank K.name K.parts blanks.2.name blanks.2.parts }
 {
     let book = Book::new(alloc, 1000);
     let (desk, mut first) = Desk::<Tracked, I, A, K>::new(book, blanks.0, blanks.1, blanks.2);

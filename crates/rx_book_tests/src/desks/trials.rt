@@ -1,6 +1,6 @@
 //! What is tried at a desk, from its beginning to the end of its book, and what is told of it.
 
-ghost use Rattle.rx_ledger.specs.Shares.{Opens};
+ghost use Rattle.rx_ledger.specs.Shares.{OpensFromBlank};
 
 use super::closed::eight_knock;
 use super::days::work;
@@ -124,9 +124,9 @@ fn at_desk<
     K: Ledger + Send + Sync,
     T: Threads + Wait + Sync,
 >(rt: &T, alloc: Global, blanks: (Blank, Blank, Blank), trial: Trial, told: &mut String)
-    requires items { Opens I.name I.parts blanks.0.name blanks.0.parts }
-    requires accepted { Opens A.name A.parts blanks.1.name blanks.1.parts }
-    requires taken { Opens K.name K.parts blanks.2.name blanks.2.parts }
+    requires items { OpensFromBlank I.name I.parts blanks.0.name blanks.0.parts }
+    requires accepted { OpensFromBlank A.name A.parts blanks.1.name blanks.1.parts }
+    requires taken { OpensFromBlank K.name K.parts blanks.2.name blanks.2.parts }
 {
     let mut book = Book::new(alloc, u64::from(limit_of(trial)));
     if let Trial::Past = trial {
