@@ -1,5 +1,5 @@
 -- The comparison is an order.
-use Rattle.rx_agenda.proofs.Common.{◌≡◌, ◌⊎◌, cases_lt, Origin, Turn, Placed, IsScheduledBefore, IsEarlierTurn, ComesBefore}
+use Rattle.rx_agenda.proofs.Common.{◌≡◌, ◌⊎◌, cases_lt, Origin, Turn, PlacedStep, IsScheduledBefore, IsEarlierTurn, ComesBefore}
 use Rattle.std.proofs.Common.{rules}
 
 pub scheduled-trans : (a b c : Origin) → IsScheduledBefore a b → IsScheduledBefore b c → IsScheduledBefore a c
@@ -20,15 +20,15 @@ earlier-asym t u x2 x3 = search (rules, scheduled-asym)
 pub earlier-self : (t u : Turn) → t ≡ u → IsEarlierTurn t u → ⊥
 earlier-self t u same before = search (rules, earlier-asym)
 
-pub comes-trans : (x y z : Placed) → ComesBefore x y → ComesBefore y z → ComesBefore x z
+pub comes-trans : (x y z : PlacedStep) → ComesBefore x y → ComesBefore y z → ComesBefore x z
 comes-trans x y z x3 x4 = search (rules, earlier-trans, scheduled-trans)
 
-pub comes-asym : (x y : Placed) → ComesBefore x y → ComesBefore y x → ⊥
+pub comes-asym : (x y : PlacedStep) → ComesBefore x y → ComesBefore y x → ⊥
 comes-asym x y x2 x3 = search (rules, earlier-asym, earlier-self, scheduled-asym)
 
-pub comes-self : (x y : Placed) → x ≡ y → ComesBefore x y → ⊥
+pub comes-self : (x y : PlacedStep) → x ≡ y → ComesBefore x y → ⊥
 comes-self x y same before = search (rules, comes-asym)
 
 -- of two steps one comes first, or they are held at one place and have one turn
-pub comes-cases : (x y : Placed) → (ComesBefore x y ⊎ ComesBefore y x) ⊎ ((x.turn ≡ y.turn) × (x.origin ≡ y.origin))
+pub comes-cases : (x y : PlacedStep) → (ComesBefore x y ⊎ ComesBefore y x) ⊎ ((x.turn ≡ y.turn) × (x.origin ≡ y.origin))
 comes-cases x y = search (rules, cases_lt)

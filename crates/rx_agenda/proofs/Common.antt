@@ -13,12 +13,13 @@ pub use Rattle.rx_agenda.specs.Agenda.{followed_by}
 pub use Rattle.rx_agenda.specs.Bindings.{Binding, is_bound, with_binding}
 unfoldable pub use Rattle.rx_agenda.specs.Bindings.{bound}
 pub use Rattle.rx_agenda.specs.Come.{Acts, does_command, does_cancel, HaveCome, none_yet, one_more}
-pub use Rattle.rx_agenda.specs.Names.{name_of}
-unfoldable pub use Rattle.rx_agenda.specs.Names.{key_of}
-pub use Rattle.rx_agenda.specs.Order.{Placed, Turn, Origin, IsScheduledBefore, IsEarlierTurn, ComesBefore, WaitsUnder, Executed, held_by, placed_at, IsHeld}
-pub use Rattle.rx_agenda.specs.Order.{by_scenario, by_step, IsCancelled, IsDue, WaitsAt, IsAnswered, one_waits, no_step_waits, opening_turn, turn_after}
+pub use Rattle.rx_agenda.specs.Names.{name_bytes}
+unfoldable pub use Rattle.rx_agenda.specs.Names.{key_named}
+pub use Rattle.rx_agenda.specs.Order.{PlacedStep, Turn, Origin, IsScheduledBefore, IsEarlierTurn, ComesBefore, WaitsUnder, Executed, held_by, placed_at, IsHeld}
+pub use Rattle.rx_agenda.specs.Order.{by_scenario, by_step, IsCancelled, IsStepDue, WaitsAt, IsCancelAnswered, one_waits, no_step_waits, opening_turn}
+pub use Rattle.rx_agenda.specs.Order.{turn_after}
 pub use Rattle.rx_agenda.specs.Order.{done_in, IsExecuted, AreCancelsAnswered, IsInOrder}
-pub use Rattle.rx_agenda.specs.Shown.{agenda_of, size_of, number_binding, size_left}
+pub use Rattle.rx_agenda.specs.Shown.{agenda_of, steps_to_come, number_binding, size_left}
 pub use Rattle.rx_agenda.specs.Ties.{IsTied}
 pub use Rattle.rx_agenda.specs.declared.answer.Answer.{Answer}
 pub use Rattle.rx_agenda.specs.declared.answer.Answer.TheVariants.{Accepted, Refused}

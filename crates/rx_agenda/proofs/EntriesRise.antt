@@ -1,6 +1,6 @@
 -- What holds of a placed agenda at each moment: its entries stand in the order of scheduling, and its turn too.
 use Rattle.rx_agenda.proofs.Common.{◌≡◌, ◌<◌, ℕ, List, Bool, true, false, cond, refl, sym, ap, subst, ◌∙◌, inl, inr, ◌⊎◌, Option, Some, None, option_map}
-use Rattle.rx_agenda.proofs.Common.{is_some, find, bytes_eq, bytes_eq-Decides, Work, Name, Binding, bound, is_bound, with_binding, Origin, Turn, Placed}
+use Rattle.rx_agenda.proofs.Common.{is_some, find, bytes_eq, bytes_eq-Decides, Work, Name, Binding, bound, is_bound, with_binding, Origin, Turn, PlacedStep}
 use Rattle.rx_agenda.proofs.Common.{IsScheduledBefore, IsEarlierTurn, WaitsUnder}
 use Rattle.rx_agenda.proofs.Members.{IsIn, Pairwise}
 use Rattle.rx_agenda.proofs.ComesBeforeIsAnOrder.{scheduled-trans}
@@ -78,7 +78,7 @@ pub record IsEntry (now : Turn) (next : Origin) (tickets : ℕ) (e : Entry) : Ty
   pub later : IsEarlierTurn now e.1.item.turn
   pub known : IsScheduledBefore e.1.item.origin next
 
-pub record IsOfTurn (now : Turn) (next : Origin) (x : Placed) : Type 0 where
+pub record IsOfTurn (now : Turn) (next : Origin) (x : PlacedStep) : Type 0 where
   pub in_turn : x.turn ≡ now
   pub at_once : is_some x.step.delay ≡ false
   pub known : IsScheduledBefore x.origin next
@@ -87,38 +87,39 @@ pub record IsOfTurn (now : Turn) (next : Origin) (x : Placed) : Type 0 where
 abbrev pub Rises : Entry → Entry → Type 0
 Rises e f = (e.0 < f.0) × IsScheduledBefore e.1.item.origin f.1.item.origin
 
-abbrev pub FirstOf : (Placed → Type 0) → Name → Origin → Type 0
-FirstOf Ever label o = (y : Placed) → Ever y → WaitsUnder label y → ¬ IsScheduledBefore y.origin o
+abbrev pub FirstOf : (PlacedStep → Type 0) → Name → Origin → Type 0
+FirstOf Ever label o = (y : PlacedStep) → Ever y → WaitsUnder label y → ¬ IsScheduledBefore y.origin o
 
 -- one that was scheduled waits under this label
-pub record IsBorne (Ever : Placed → Type 0) (next : Origin) (l : Name) : Type 0 where
-  pub placed : Placed
+pub record IsBorne (Ever : PlacedStep → Type 0) (next : Origin) (l : Name) : Type 0 where
+  pub placed : PlacedStep
   pub ever : Ever placed
   pub waits : WaitsUnder l placed
   pub known : IsScheduledBefore placed.origin next
 
 -- of the steps that were scheduled ever, a label stands for the first
-pub record IsLabelled (Ever : Placed → Type 0) (next : Origin) (tickets : ℕ) (work : List Entry) (labels : List Binding) : Type 0 where
-  pub unbound : (l : Name) → bound labels l ≡ None → (y : Placed) → Ever y → ¬ WaitsUnder l y
-  pub first : (l : Name) (t : ℕ) (w : Work Placed) → bound labels l ≡ Some t → IsIn (t, w) work → (w.item.step.label ≡ Some l) × FirstOf Ever l w.item.origin
+pub record IsLabelled (Ever : PlacedStep → Type 0) (next : Origin) (tickets : ℕ) (work : List Entry) (labels : List Binding) : Type 0 where
+  pub unbound : (l : Name) → bound labels l ≡ None → (y : PlacedStep) → Ever y → ¬ WaitsUnder l y
+  pub first : (l : Name) (t : ℕ) (w : Work PlacedStep) → bound labels l ≡ Some t → IsIn (t, w) work
+      → (w.item.step.label ≡ Some l) × FirstOf Ever l w.item.origin
   pub given : (l : Name) (t : ℕ) → bound labels l ≡ Some t → t < tickets
   pub borne : (l : Name) (t : ℕ) → bound labels l ≡ Some t → IsBorne Ever next l
   pub bears : (l : Name) (f : Entry) → IsIn f work → WaitsUnder l f.1.item → FirstOf Ever l f.1.item.origin → bound labels l ≡ Some f.0
 
-pub record IsReady (Ever : Placed → Type 0) (now : Turn) (next : Origin) (g : PlacedAgenda) : Type 0 where
+pub record IsReady (Ever : PlacedStep → Type 0) (now : Turn) (next : Origin) (g : PlacedAgenda) : Type 0 where
   pub clock : g.timeline.clock ≡ now.moment
   pub rises : Pairwise Rises g.timeline.work
   pub entries : (e : Entry) → IsIn e g.timeline.work → IsEntry now next g.timeline.tickets e
   pub turn_rises : Pairwise (λ x y. IsScheduledBefore x.origin y.origin) g.turn
-  pub members : (x : Placed) → IsIn x g.turn → IsOfTurn now next x
+  pub members : (x : PlacedStep) → IsIn x g.turn → IsOfTurn now next x
   pub head : IsScheduledBefore now.head next
   pub labelled : IsLabelled Ever next g.timeline.tickets g.timeline.work g.labels
 
 -- later on, and said of the same steps in other words ----------------------------------------------
 
-abbrev pub labelled_as : {Ever : Placed → Type 0} (Same : Placed → Type 0) {next : Origin} (beyond : Origin) {tickets : ℕ} (work : List Entry)
+abbrev pub labelled_as : {Ever : PlacedStep → Type 0} (Same : PlacedStep → Type 0) {next : Origin} (beyond : Origin) {tickets : ℕ} (work : List Entry)
     (labels : List Binding)
-    → ((o : Origin) → IsScheduledBefore o next → IsScheduledBefore o beyond) → ((y : Placed) → Same y → Ever y) → ((y : Placed) → Ever y → Same y)
+    → ((o : Origin) → IsScheduledBefore o next → IsScheduledBefore o beyond) → ((y : PlacedStep) → Same y → Ever y) → ((y : PlacedStep) → Ever y → Same y)
     → IsLabelled Ever next tickets work labels → IsLabelled Same beyond tickets work labels
 labelled_as Same beyond work labels on to from was = record {
   unbound = λ l free y ever. was.unbound l free y (to y ever);
@@ -129,10 +130,10 @@ labelled_as Same beyond work labels on to from was = record {
   bears = λ l f there waits first. was.bears l f there waits (λ y ever. first y (from y ever));
 }
 
-abbrev pub ready_later : {Ever : Placed → Type 0} (Same : Placed → Type 0) {now : Turn} (next beyond : Origin) (g : PlacedAgenda) →
+abbrev pub ready_later : {Ever : PlacedStep → Type 0} (Same : PlacedStep → Type 0) {now : Turn} (next beyond : Origin) (g : PlacedAgenda) →
     IsScheduledBefore next beyond
-    → ((y : Placed) → Same y → Ever y)
-    → ((y : Placed) → Ever y → Same y) → IsReady Ever now next g → IsReady Same now beyond g
+    → ((y : PlacedStep) → Same y → Ever y)
+    → ((y : PlacedStep) → Ever y → Same y) → IsReady Ever now next g → IsReady Same now beyond g
 ready_later Same {now} next beyond g on to from r = record {
   clock = r.clock;
   rises = r.rises;

@@ -11,7 +11,7 @@ use Rattle.rx_event.specs.declared.event.Mode.TheVariants.{Auto}
 use Rattle.rx_event.specs.declared.refusal.Refusal.TheVariants.{Gone}
 use Rattle.rx_scenario.specs.Scenario.{root, source, leaf, sub, open_node, remove, next, dispose, make_hub, drain, steps_of}
 use Rattle.rx_agenda.specs.declared.answer.Cause.TheVariants.{Book}
-use Rattle.rx_agenda.specs.Claims.{IsOrderOf}
+use Rattle.rx_agenda.specs.Claims.{AreStepsInOrder}
 use Rattle.rx_agenda.proofs.RunsInOrder.{runs_in_order}
 use Rattle.rx_agenda.proofs.OneOrder.{determined}
 
@@ -71,7 +71,7 @@ computed until first (answer ∷ answers) before a run = go (next_step until a) 
           (rw append_assoc refl) (rest p (one_more run is (acts answer p.0.action p.1)))
 
 worked : (steps : List Step) (until : ℕ) (answers : List Answer) → next_step until (left_from until answers (with_steps steps empty_agenda)) ≡ None
-    → IsOrderOf steps until (done_from until answers (with_steps steps empty_agenda))
+    → AreStepsInOrder steps until (done_from until answers (with_steps steps empty_agenda))
 worked steps until answers over = runs_in_order steps until _ _
     (computed until (with_steps steps empty_agenda) answers [] (with_steps steps empty_agenda) none_yet) over
 
@@ -88,8 +88,8 @@ agreed (a ∷ xs) [] same k x y at_x at_y = absurd (cc)
 agreed (a ∷ xs) (b ∷ ys) same zero x y at_x at_y = search (rules, Answer)
 agreed (a ∷ xs) (b ∷ ys) same (suc k) x y at_x at_y = agreed xs ys same.1 k x y at_x at_y
 
-only_one : (steps : List Step) (until : ℕ) (one other : List (Step × Answer)) → IsOrderOf steps until one → AgreesWith one other
-    → IsOrderOf steps until other → one ≡ other
+only_one : (steps : List Step) (until : ℕ) (one other : List (Step × Answer)) → AreStepsInOrder steps until one → AgreesWith one other
+    → AreStepsInOrder steps until other → one ≡ other
 only_one steps until one other right same wrong =
     let at : (es : List Executed) (done : List (Step × Answer)) → map done_in es ≡ done → (k : ℕ) (x : Executed) → slice_get es k ≡ Some x
     → slice_get done k ≡ Some (done_in x) =
@@ -134,10 +134,10 @@ ties = a_at 5 [] ∷ b_at 5 [] ∷ c_at 3 [] ∷ []
 abbrev ties_come : List (Step × Answer)
 ties_come = (c_at 3 [], Accepted) ∷ (a_at 5 [], Accepted) ∷ (b_at 5 [], Accepted) ∷ []
 
-ties_in_order : IsOrderOf ties 100 ties_come
+ties_in_order : AreStepsInOrder ties 100 ties_come
 ties_in_order = worked ties 100 (Accepted ∷ Accepted ∷ Accepted ∷ []) refl
 
-ties_in_reverse : ¬ IsOrderOf ties 100 ((c_at 3 [], Accepted) ∷ (b_at 5 [], Accepted) ∷ (a_at 5 [], Accepted) ∷ [])
+ties_in_reverse : ¬ AreStepsInOrder ties 100 ((c_at 3 [], Accepted) ∷ (b_at 5 [], Accepted) ∷ (a_at 5 [], Accepted) ∷ [])
 ties_in_reverse wrong = let same = ap (map action_in) (only_one ties 100 ties_come _ ties_in_order (refl, (refl, (refl, tt))) wrong) in absurd (cc)
 
 -- a step with `after` 0 comes behind one of the scenario's at that moment, and one without before it
@@ -147,10 +147,10 @@ at_once = a_at 5 (c_at 0 [] ∷ d_then [] ∷ []) ∷ b_at 5 [] ∷ []
 abbrev at_once_come : List (Step × Answer)
 at_once_come = (a_at 5 (c_at 0 [] ∷ d_then [] ∷ []), Accepted) ∷ (d_then [], Accepted) ∷ (b_at 5 [], Accepted) ∷ (c_at 0 [], Accepted) ∷ []
 
-at_once_in_order : IsOrderOf at_once 100 at_once_come
+at_once_in_order : AreStepsInOrder at_once 100 at_once_come
 at_once_in_order = worked at_once 100 (Accepted ∷ Accepted ∷ Accepted ∷ Accepted ∷ []) refl
 
-after_0_overtakes : ¬ IsOrderOf at_once 100 ((a_at 5 (c_at 0 [] ∷ d_then [] ∷ []), Accepted) ∷ (d_then [], Accepted) ∷ (c_at 0 [], Accepted) ∷
+after_0_overtakes : ¬ AreStepsInOrder at_once 100 ((a_at 5 (c_at 0 [] ∷ d_then [] ∷ []), Accepted) ∷ (d_then [], Accepted) ∷ (c_at 0 [], Accepted) ∷
     (b_at 5 [], Accepted) ∷ [])
 after_0_overtakes wrong = let same = ap (map action_in) (only_one at_once 100 at_once_come _ at_once_in_order (refl, (refl, (refl, (refl, tt)))) wrong) in
     absurd (cc)
@@ -163,10 +163,10 @@ abbrev pushed_come : List (Step × Answer)
 pushed_come = (a_at 0 (b_then (d_then [] ∷ []) ∷ c_then [] ∷ []), Accepted) ∷ (b_then (d_then [] ∷ []), Accepted) ∷ (c_then [], Accepted) ∷
     (d_then [], Accepted) ∷ []
 
-pushed_in_order : IsOrderOf pushed 100 pushed_come
+pushed_in_order : AreStepsInOrder pushed 100 pushed_come
 pushed_in_order = worked pushed 100 (Accepted ∷ Accepted ∷ Accepted ∷ Accepted ∷ []) refl
 
-last_pushed_overtakes : ¬ IsOrderOf pushed 100
+last_pushed_overtakes : ¬ AreStepsInOrder pushed 100
     ((a_at 0 (b_then (d_then [] ∷ []) ∷ c_then [] ∷ []), Accepted) ∷ (b_then (d_then [] ∷ []), Accepted) ∷ (d_then [], Accepted) ∷ (c_then [], Accepted) ∷ [])
 last_pushed_overtakes wrong = let same = ap (map action_in) (only_one pushed 100 pushed_come _ pushed_in_order (refl, (refl, (refl, (refl, tt)))) wrong) in
     absurd (cc)
@@ -178,10 +178,10 @@ delayed = a_at 10 (c_at 2 [] ∷ []) ∷ b_at 11 [] ∷ []
 abbrev delayed_come : List (Step × Answer)
 delayed_come = (a_at 10 (c_at 2 [] ∷ []), Accepted) ∷ (b_at 11 [], Accepted) ∷ (c_at 2 [], Accepted) ∷ []
 
-delayed_in_order : IsOrderOf delayed 100 delayed_come
+delayed_in_order : AreStepsInOrder delayed 100 delayed_come
 delayed_in_order = worked delayed 100 (Accepted ∷ Accepted ∷ Accepted ∷ []) refl
 
-past_overtakes : ¬ IsOrderOf delayed 100 ((a_at 10 (c_at 2 [] ∷ []), Accepted) ∷ (c_at 2 [], Accepted) ∷ (b_at 11 [], Accepted) ∷ [])
+past_overtakes : ¬ AreStepsInOrder delayed 100 ((a_at 10 (c_at 2 [] ∷ []), Accepted) ∷ (c_at 2 [], Accepted) ∷ (b_at 11 [], Accepted) ∷ [])
 past_overtakes wrong = let same = ap (map action_in) (only_one delayed 100 delayed_come _ delayed_in_order (refl, (refl, (refl, tt))) wrong) in absurd (cc)
 
 -- what would follow a refused step does not come
@@ -191,10 +191,10 @@ refused = a_at 0 (b_then [] ∷ []) ∷ []
 abbrev refused_come : List (Step × Answer)
 refused_come = (a_at 0 (b_then [] ∷ []), Refused (Book Gone)) ∷ []
 
-refused_in_order : IsOrderOf refused 100 refused_come
+refused_in_order : AreStepsInOrder refused 100 refused_come
 refused_in_order = worked refused 100 (Refused (Book Gone) ∷ []) refl
 
-refused_is_followed : ¬ IsOrderOf refused 100 ((a_at 0 (b_then [] ∷ []), Refused (Book Gone)) ∷ (b_then [], Accepted) ∷ [])
+refused_is_followed : ¬ AreStepsInOrder refused 100 ((a_at 0 (b_then [] ∷ []), Refused (Book Gone)) ∷ (b_then [], Accepted) ∷ [])
 refused_is_followed wrong = let same = only_one refused 100 refused_come _ refused_in_order (refl, tt) wrong in absurd (cc)
 
 -- nor does a step after the end, and one at the end comes
@@ -204,13 +204,13 @@ late = a_at 5 [] ∷ b_at 6 [] ∷ []
 abbrev late_come : List (Step × Answer)
 late_come = (a_at 5 [], Accepted) ∷ []
 
-late_in_order : IsOrderOf late 5 late_come
+late_in_order : AreStepsInOrder late 5 late_come
 late_in_order = worked late 5 (Accepted ∷ []) refl
 
-late_comes : ¬ IsOrderOf late 5 ((a_at 5 [], Accepted) ∷ (b_at 6 [], Accepted) ∷ [])
+late_comes : ¬ AreStepsInOrder late 5 ((a_at 5 [], Accepted) ∷ (b_at 6 [], Accepted) ∷ [])
 late_comes wrong = let same = only_one late 5 late_come _ late_in_order (refl, tt) wrong in absurd (cc)
 
-last_is_missed : ¬ IsOrderOf late 5 []
+last_is_missed : ¬ AreStepsInOrder late 5 []
 last_is_missed wrong = let same = only_one late 5 late_come _ late_in_order tt wrong in absurd (cc)
 
 -- a cancel of a step of its own moment: it is in time where it stands before, and not where it stands behind
@@ -220,14 +220,14 @@ cancels_x = record { label = None; delay = Some 5; action = cancel (codes "x"); 
 abbrev x_at_5 : Step
 x_at_5 = record { label = Some (codes "x"); delay = Some 5; action = command drain; followers = steps_of [] }
 
-cancel_in_time : IsOrderOf (cancels_x ∷ x_at_5 ∷ []) 100 ((cancels_x, Accepted) ∷ [])
+cancel_in_time : AreStepsInOrder (cancels_x ∷ x_at_5 ∷ []) 100 ((cancels_x, Accepted) ∷ [])
 unfolding bound
 cancel_in_time = worked (cancels_x ∷ x_at_5 ∷ []) 100 (Accepted ∷ []) refl
 
-cancelled_step_comes : ¬ IsOrderOf (cancels_x ∷ x_at_5 ∷ []) 100 ((cancels_x, Accepted) ∷ (x_at_5, Accepted) ∷ [])
+cancelled_step_comes : ¬ AreStepsInOrder (cancels_x ∷ x_at_5 ∷ []) 100 ((cancels_x, Accepted) ∷ (x_at_5, Accepted) ∷ [])
 cancelled_step_comes wrong = let same = only_one (cancels_x ∷ x_at_5 ∷ []) 100 ((cancels_x, Accepted) ∷ []) _ cancel_in_time (refl, tt) wrong in absurd (cc)
 
-cancel_too_late : IsOrderOf (x_at_5 ∷ cancels_x ∷ []) 100 ((x_at_5, Accepted) ∷ (cancels_x, Refused NoStep) ∷ [])
+cancel_too_late : AreStepsInOrder (x_at_5 ∷ cancels_x ∷ []) 100 ((x_at_5, Accepted) ∷ (cancels_x, Refused NoStep) ∷ [])
 unfolding bound
 cancel_too_late = worked (x_at_5 ∷ cancels_x ∷ []) 100 (Accepted ∷ Accepted ∷ []) refl
 
@@ -250,7 +250,7 @@ subscribes = doing (open_node (codes "s") root (sub (codes "h") (Some (codes "c"
 abbrev gives_late : Step
 gives_late = doing (next (codes "l") (pos 8)) (Some 10) []
 
-subscribed_in_order : IsOrderOf (disposal ∷ hub ∷ subscribes ∷ gives_late ∷ []) 1000000000000000
+subscribed_in_order : AreStepsInOrder (disposal ∷ hub ∷ subscribes ∷ gives_late ∷ []) 1000000000000000
     ((hub, Accepted) ∷ (subscribes, Accepted) ∷ (opens_leaf, Accepted) ∷ (gives_first, Accepted) ∷ (disposal, Accepted) ∷
     (gives_late, Refused (Book Gone)) ∷ [])
 subscribed_in_order = worked (disposal ∷ hub ∷ subscribes ∷ gives_late ∷ []) 1000000000000000
@@ -268,7 +268,7 @@ cancel_x = record { label = None; delay = None; action = cancel (codes "x"); fol
 abbrev opens_a : Step
 opens_a = doing (open_node (codes "a") root leaf) (Some 0) (item_x ∷ item_2 ∷ cancel_x ∷ cancel_x ∷ [])
 
-cancelled_once_in_order : IsOrderOf (opens_a ∷ []) 1000000000000000
+cancelled_once_in_order : AreStepsInOrder (opens_a ∷ []) 1000000000000000
     ((opens_a, Accepted) ∷ (item_2, Accepted) ∷ (cancel_x, Accepted) ∷ (cancel_x, Refused NoStep) ∷ [])
 unfolding bound
 cancelled_once_in_order = worked (opens_a ∷ []) 1000000000000000 (Accepted ∷ Accepted ∷ Accepted ∷ Accepted ∷ []) refl

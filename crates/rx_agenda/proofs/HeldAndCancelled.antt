@@ -1,8 +1,8 @@
 -- The executed steps so far are in order, and so they are after one more.
 use Rattle.rx_agenda.proofs.Common.{◌≡◌, ◌<◌, ◌≤◌, ◌+◌, ℕ, List, [], ◌∷◌, ◌++◌, length, sym, ap, subst, ◌∙◌, inl, inr, arith, ◌⊎◌, Some, slice_get}
-use Rattle.rx_agenda.proofs.Common.{slice_get_within, Name, Command, command, cancel, Step, list_of, Answer, Accepted, Origin, Turn, Placed, Executed}
-use Rattle.rx_agenda.proofs.Common.{IsScheduledBefore, ComesBefore, placed_at, held_by, IsHeld, by_scenario, by_step, WaitsUnder, IsCancelled, IsDue}
-use Rattle.rx_agenda.proofs.Common.{IsExecuted, WaitsAt, IsAnswered, one_waits, no_step_waits, AreCancelsAnswered}
+use Rattle.rx_agenda.proofs.Common.{slice_get_within, Name, Command, command, cancel, Step, list_of, Answer, Accepted, Origin, Turn, PlacedStep, Executed}
+use Rattle.rx_agenda.proofs.Common.{IsScheduledBefore, ComesBefore, placed_at, held_by, IsHeld, by_scenario, by_step, WaitsUnder, IsCancelled, IsStepDue}
+use Rattle.rx_agenda.proofs.Common.{IsExecuted, WaitsAt, IsCancelAnswered, one_waits, no_step_waits, AreCancelsAnswered}
 use Rattle.rx_agenda.specs.Order.{IsMeant}
 use Rattle.rx_agenda.proofs.Members.{get_push, get_old, get_last}
 use Rattle.rx_agenda.proofs.PlacedSteps.{PlacedAgenda, IsPending, IsWithin, Takes}
@@ -12,7 +12,7 @@ use Rattle.rx_agenda.proofs.LeastStepLeaves.{TakesWell, takes_well, Says}
 use Rattle.std.proofs.Common.{rules}
 
 -- it is what this step, with this answer, takes off
-pub record IsTakenBy (Ever : Placed → Type 0) (s : Step) (answer : Answer) (y : Placed) : Type 0 where
+pub record IsTakenBy (Ever : PlacedStep → Type 0) (s : Step) (answer : Answer) (y : PlacedStep) : Type 0 where
   pub label : Name
   pub cancels : s.action ≡ cancel label
   pub accepted : answer ≡ Accepted
@@ -20,14 +20,15 @@ pub record IsTakenBy (Ever : Placed → Type 0) (s : Step) (answer : Answer) (y 
   pub first : FirstOf Ever label y.origin
 
 -- what is to come after a step's action
-pub record ActsWell (Ever : Placed → Type 0) (now : Turn) (next : Origin) (g : PlacedAgenda) (s : Step) (answer : Answer) (left : PlacedAgenda) : Type 0 where
+pub record ActsWell (Ever : PlacedStep → Type 0) (now : Turn) (next : Origin) (g : PlacedAgenda) (s : Step) (answer : Answer)
+    (left : PlacedAgenda) : Type 0 where
   pub ready : IsReady Ever now next left
   pub from : IsWithin left g
-  pub gone : (y : Placed) → IsPending g y → IsPending left y ⊎ IsTakenBy Ever s answer y
-  pub kept : (y : Placed) → IsPending left y → ¬ IsTakenBy Ever s answer y
+  pub gone : (y : PlacedStep) → IsPending g y → IsPending left y ⊎ IsTakenBy Ever s answer y
+  pub kept : (y : PlacedStep) → IsPending left y → ¬ IsTakenBy Ever s answer y
   pub says : (label : Name) → s.action ≡ cancel label → Says Ever g label answer
 
-module _ (Ever : Placed → Type 0) (now : Turn) (next : Origin) (g : PlacedAgenda) (s : Step) (answer : Answer) (r : IsReady Ever now next g) where
+module _ (Ever : PlacedStep → Type 0) (now : Turn) (next : Origin) (g : PlacedAgenda) (s : Step) (answer : Answer) (r : IsReady Ever now next g) where
   pub command_well : (c : Command) → s.action ≡ command c → ActsWell Ever now next g s answer g
   command_well c is = record {
     ready = r;
@@ -37,7 +38,7 @@ module _ (Ever : Placed → Type 0) (now : Turn) (next : Origin) (g : PlacedAgen
     says = λ label cancels. let other : command c ≡ cancel label = sym is ∙ cancels in absurd (cc);
   }
 
-  pub cancel_well : (label : Name) (left : PlacedAgenda) → s.action ≡ cancel label → ((y : Placed) → IsPending g y → Ever y) → Takes g label answer left
+  pub cancel_well : (label : Name) (left : PlacedAgenda) → s.action ≡ cancel label → ((y : PlacedStep) → IsPending g y → Ever y) → Takes g label answer left
       → ActsWell Ever now next g s answer left
   cancel_well label left is ever taking =
       let t : TakesWell Ever 0 now next g r label answer left = takes_well Ever 0 now next g r label ever answer left taking in
@@ -62,28 +63,28 @@ module _ (Ever : Placed → Type 0) (now : Turn) (next : Origin) (g : PlacedAgen
 
 pub record IsSoFar (steps : List Step) (until : ℕ) (es : List Executed) (g : PlacedAgenda) (now : Turn) : Type 0 where
   pub at : IsReadyAt (IsHeld steps es) now (length es) g
-  pub held : (x : Placed) → IsPending g x → IsHeld steps es x
-  pub after : (k : ℕ) (e : Executed) (x : Placed) → slice_get es k ≡ Some e → IsPending g x → ComesBefore e.placed x
-  pub alive : (x : Placed) → IsPending g x → ¬ IsCancelled steps es x
-  pub complete : (x : Placed) → IsHeld steps es x → IsExecuted es x ⊎ (IsPending g x ⊎ IsCancelled steps es x)
+  pub held : (x : PlacedStep) → IsPending g x → IsHeld steps es x
+  pub after : (k : ℕ) (e : Executed) (x : PlacedStep) → slice_get es k ≡ Some e → IsPending g x → ComesBefore e.placed x
+  pub alive : (x : PlacedStep) → IsPending g x → ¬ IsCancelled steps es x
+  pub complete : (x : PlacedStep) → IsHeld steps es x → IsExecuted es x ⊎ (IsPending g x ⊎ IsCancelled steps es x)
   pub in_order : (i j : ℕ) (x y : Executed) → i < j → slice_get es i ≡ Some x → slice_get es j ≡ Some y → ComesBefore x.placed y.placed
   pub behind_holder : (i : ℕ) (x : Executed) → slice_get es i ≡ Some x → x.placed.origin.holder ≤ i
-  pub only_due : (x : Placed) → IsExecuted es x → IsDue steps until es x
+  pub only_due : (x : PlacedStep) → IsExecuted es x → IsStepDue steps until es x
   pub cancels : AreCancelsAnswered steps es
   pub within : now.moment ≤ until
 
 -- what is held, before and after one more ----------------------------------------------------------
 
 module _ (steps : List Step) (es : List Executed) where
-  pub held_holder : (y : Placed) → IsHeld steps es y → y.origin.holder ≤ length es
+  pub held_holder : (y : PlacedStep) → IsHeld steps es y → y.origin.holder ≤ length es
   held_holder y x1 = search (rules, length, slice_get_within)
 
   module _ (e : Executed) where
-    pub held_more : (y : Placed) → IsHeld steps es y → IsHeld steps (es ++ e ∷ []) y
+    pub held_more : (y : PlacedStep) → IsHeld steps es y → IsHeld steps (es ++ e ∷ []) y
     held_more y (by_scenario i s got) = by_scenario i s got
     held_more y (by_step k i f s there accepted got) = by_step k i f s (get_old es e f k there) accepted got
 
-    pub held_cases : (y : Placed) → IsHeld steps (es ++ e ∷ []) y
+    pub held_cases : (y : PlacedStep) → IsHeld steps (es ++ e ∷ []) y
         → IsHeld steps es y ⊎ ((e.answer ≡ Accepted) × IsOneOf e.placed.turn (length es + 1) 0 (list_of e.placed.step.followers) y)
     held_cases y (by_scenario i s got) = inl (by_scenario i s got)
     held_cases y (by_step k i f s there accepted got) = elim (get_push es e f k there) [
@@ -103,7 +104,7 @@ module _ (steps : List Step) (es : List Executed) where
           (same j).placed.turn (numbered j) s in
           subst (IsOneOf e.placed.turn (length es + 1) 0 (list_of e.placed.step.followers)) moved here
 
-    pub one_held : e.answer ≡ Accepted → (y : Placed) → IsOneOf e.placed.turn (length es + 1) 0 (list_of e.placed.step.followers) y → IsHeld steps
+    pub one_held : e.answer ≡ Accepted → (y : PlacedStep) → IsOneOf e.placed.turn (length es + 1) 0 (list_of e.placed.step.followers) y → IsHeld steps
         (es ++ e ∷ []) y
     one_held accepted y one =
         let at = get_one_of e.placed.turn (length es + 1) 0 (list_of e.placed.step.followers) y one in
@@ -112,18 +113,18 @@ module _ (steps : List Step) (es : List Executed) where
         (λ (n : ℕ). placed_at e.placed.turn (held_by (length es + 1) n) at.step) plain ∙ at.is in
         subst (IsHeld steps (es ++ e ∷ [])) is (by_step (length es) at.place e at.step (get_last es e) accepted at.got)
 
-    pub one_holder : (y : Placed) → IsOneOf e.placed.turn (length es + 1) 0 (list_of e.placed.step.followers) y → y.origin.holder ≡ length es + 1
-    one_holder y one = sym (ap (λ (x : Placed). x.origin.holder) (get_one_of e.placed.turn (length es + 1) 0 (list_of e.placed.step.followers) y one).is)
+    pub one_holder : (y : PlacedStep) → IsOneOf e.placed.turn (length es + 1) 0 (list_of e.placed.step.followers) y → y.origin.holder ≡ length es + 1
+    one_holder y one = sym (ap (λ (x : PlacedStep). x.origin.holder) (get_one_of e.placed.turn (length es + 1) 0 (list_of e.placed.step.followers) y one).is)
 
     -- what a label means, before and after
-    pub no_joiner : (z y : Placed) (number : ℕ) → y.origin.holder ≤ number → number ≤ length es → IsOneOf e.placed.turn (length es + 1) 0
+    pub no_joiner : (z y : PlacedStep) (number : ℕ) → y.origin.holder ≤ number → number ≤ length es → IsOneOf e.placed.turn (length es + 1) 0
         (list_of e.placed.step.followers) z
         → ¬ IsScheduledBefore z.origin y.origin
     no_joiner z y number scheduled below one lower =
         let holder : z.origin.holder ≡ length es + 1 = one_holder z one in
         elim lower [ inl less ↦ absurd (omega arith) | inr same ↦ let tie : z.origin.holder ≡ y.origin.holder = same.0 in absurd (omega arith) ]
 
-    abbrev pub meant_more : (label : Name) (number : ℕ) (by : Executed) (y : Placed) → number ≤ length es → IsMeant steps es label number by y
+    abbrev pub meant_more : (label : Name) (number : ℕ) (by : Executed) (y : PlacedStep) → number ≤ length es → IsMeant steps es label number by y
         → IsMeant steps (es ++ e ∷ []) label number by y
     meant_more label number by y below m = record {
       waits = m.waits;
@@ -132,7 +133,7 @@ module _ (steps : List Step) (es : List Executed) where
       first = λ z held waits. elim (held_cases z held) [ inl old ↦ m.first z old waits | inr new ↦ no_joiner z y number m.scheduled below new.1 ];
     }
 
-    abbrev pub meant_less : (label : Name) (number : ℕ) (by : Executed) (y : Placed) → IsMeant steps (es ++ e ∷ []) label number by y
+    abbrev pub meant_less : (label : Name) (number : ℕ) (by : Executed) (y : PlacedStep) → IsMeant steps (es ++ e ∷ []) label number by y
         → IsMeant steps es label number by y
     meant_less label number by y m = record {
       waits = m.waits;
@@ -146,7 +147,7 @@ module _ (steps : List Step) (es : List Executed) where
     pub within_old : (k : ℕ) (f : Executed) → slice_get es k ≡ Some f → k ≤ length es
     within_old k f there = let below : k < length es = slice_get_within es k f there in omega arith
 
-    abbrev pub cancelled_more : (y : Placed) → IsCancelled steps es y → IsCancelled steps (es ++ e ∷ []) y
+    abbrev pub cancelled_more : (y : PlacedStep) → IsCancelled steps es y → IsCancelled steps (es ++ e ∷ []) y
     cancelled_more y c = record {
       number = c.number;
       by = c.by;
@@ -157,7 +158,7 @@ module _ (steps : List Step) (es : List Executed) where
       meant = meant_more c.label c.number c.by y (within_old c.number c.by c.there) c.meant;
     }
 
-    abbrev pub cancelled_before : (y : Placed) (c : IsCancelled steps (es ++ e ∷ []) y) → slice_get es c.number ≡ Some c.by → IsCancelled steps es y
+    abbrev pub cancelled_before : (y : PlacedStep) (c : IsCancelled steps (es ++ e ∷ []) y) → slice_get es c.number ≡ Some c.by → IsCancelled steps es y
     cancelled_before y c there = record {
       number = c.number;
       by = c.by;
@@ -168,7 +169,7 @@ module _ (steps : List Step) (es : List Executed) where
       meant = meant_less c.label c.number c.by y c.meant;
     }
 
-    pub cancelled_cases : (y : Placed) → IsCancelled steps (es ++ e ∷ []) y
+    pub cancelled_cases : (y : PlacedStep) → IsCancelled steps (es ++ e ∷ []) y
         → IsCancelled steps es y ⊎ ((IsTakenBy (IsHeld steps es) e.placed.step e.answer y) × ComesBefore e.placed y × (y.origin.holder ≤ length es))
     cancelled_cases y c = elim (get_push es e c.by c.number c.there) [
       | inl old ↦ inl (cancelled_before y c old)
@@ -190,7 +191,7 @@ module _ (steps : List Step) (es : List Executed) where
     ]
 
     -- what the new step means
-    pub meant_now : (label : Name) (y : Placed) → WaitsUnder label y → FirstOf (IsHeld steps es) label y.origin → IsHeld steps es y → ComesBefore e.placed y
+    pub meant_now : (label : Name) (y : PlacedStep) → WaitsUnder label y → FirstOf (IsHeld steps es) label y.origin → IsHeld steps es y → ComesBefore e.placed y
         → IsMeant steps (es ++ e ∷ []) label (length es) e y
     meant_now label y waits first held before = record {
       waits = waits;
@@ -202,7 +203,7 @@ module _ (steps : List Step) (es : List Executed) where
       ];
     }
 
-    pub taken_cancelled : (y : Placed) → IsTakenBy (IsHeld steps es) e.placed.step e.answer y → IsHeld steps es y → ComesBefore e.placed y
+    pub taken_cancelled : (y : PlacedStep) → IsTakenBy (IsHeld steps es) e.placed.step e.answer y → IsHeld steps es y → ComesBefore e.placed y
         → IsCancelled steps (es ++ e ∷ []) y
     taken_cancelled y t held before = record {
       number = length es;
@@ -240,7 +241,7 @@ module _ (steps : List Step) (es : List Executed) where
       not_cancelled = λ c sooner. w.not_cancelled (cancelled_more w.placed c) sooner;
     }
 
-    pub answered_more : (label : Name) (i : ℕ) (x : Executed) → i < length es → (answer : Answer) → IsAnswered steps es label i x answer
-        → IsAnswered steps (es ++ e ∷ []) label i x answer
+    pub answered_more : (label : Name) (i : ℕ) (x : Executed) → i < length es → (answer : Answer) → IsCancelAnswered steps es label i x answer
+        → IsCancelAnswered steps (es ++ e ∷ []) label i x answer
     answered_more label i x below answer (one_waits w) = one_waits (waits_more label i x below w)
     answered_more label i x below answer (no_step_waits none) = no_step_waits (λ w. none (waits_less label i x below w))

@@ -1,6 +1,6 @@
 -- What names stand for, by keys and by numbers.
 use Rattle.rx_agenda.proofs.Common.{◌≡◌, ℕ, List, [], ◌∷◌, ◌++◌, Bool, true, false, map, cond, refl, subst, arith, Option, Some, None, is_some}
-use Rattle.rx_agenda.proofs.Common.{option_map, find, bytes_eq, bytes_eq-Decides, Name, Named, name_of, key_of, Binding, bound, number_binding}
+use Rattle.rx_agenda.proofs.Common.{option_map, find, bytes_eq, bytes_eq-Decides, Name, Named, name_bytes, key_named, Binding, bound, number_binding}
 use Rattle.std.specs.List.{All}
 use Rattle.std.proofs.lemmas.List.Elements.{All-tail}
 use Rattle.rx_agenda.proofs.FoundAtTheEnd.{or_last, find-push}
@@ -25,28 +25,29 @@ option_key : {K : Type 0} (P : K → Type 0) (o : Option (Named K)) (k : K) → 
 option_key x0 x1 k each e = search rules
 
 -- what holds of all keys holds of the one that a name stands for
-pub key_of-holds : {K : Type 0} (P : K → Type 0) (names : List (Named K)) (name : Name) (k : K) → All (λ n. P n.key) names → key_of names name ≡ Some k → P k
-unfolding key_of
-key_of-holds P names name k all e = option_key P _ k (λ n. found_passes (λ n. P n.key) (λ n. bytes_eq (name_of n) name) names n all) e
+pub key_named-holds : {K : Type 0} (P : K → Type 0) (names : List (Named K)) (name : Name) (k : K) → All (λ n. P n.key) names
+    → key_named names name ≡ Some k → P k
+unfolding key_named
+key_named-holds P names name k all e = option_key P _ k (λ n. found_passes (λ n. P n.key) (λ n. bytes_eq (name_bytes n) name) names n all) e
 
 -- names that stand for keys, each of which has a number
 module _ {K : Type 0} (number_of : K → ℕ) where
   abbrev pub binding_of : Named K → Binding
-  binding_of n = record { name = name_of n; number = number_of n.key }
+  binding_of n = record { name = name_bytes n; number = number_of n.key }
 
   keyed_number : (o : Option (Named K)) → option_map (λ (b : Binding). b.number) (option_map binding_of o) ≡ option_map number_of (option_map (λ n. n.key) o)
   keyed_number x0 = search rules
 
-  pub bound-keys : (names : List (Named K)) (name : Name) → bound (map binding_of names) name ≡ option_map number_of (key_of names name)
-  unfolding bound key_of
+  pub bound-keys : (names : List (Named K)) (name : Name) → bound (map binding_of names) name ≡ option_map number_of (key_named names name)
+  unfolding bound key_named
   bound-keys names name = search (rules, option_map, find-map, bytes_eq, keyed_number)
 
 numbers_number : (o : Option (Named ℕ)) → option_map (λ b. b.number) (option_map number_binding o) ≡ option_map (λ n. n.key) o
 numbers_number x0 = search rules
 
 -- of hubs, or of labels
-pub bound-numbers : (names : List (Named ℕ)) (name : Name) → bound (map number_binding names) name ≡ key_of names name
-unfolding bound key_of
+pub bound-numbers : (names : List (Named ℕ)) (name : Name) → bound (map number_binding names) name ≡ key_named names name
+unfolding bound key_named
 bound-numbers names name = search (rules, option_map, find-map, bytes_eq, numbers_number)
 
 -- one more name is bound ---------------------------------------------------------------------------
@@ -60,10 +61,10 @@ module _ {K : Type 0} (n : Named K) where
   same_last : (p : Named K → Bool) (o : Option (Named K)) → or_last p n o ≡ or_last (λ m. p n) n o
   same_last p x1 = search rules
 
-  pub key_of-bind : (names : List (Named K)) (q : Name) → key_of names (name_of n) ≡ None
-      → key_of (names ++ n ∷ []) q ≡ cond (bytes_eq (name_of n) q) (Some n.key) (key_of names q)
-  unfolding key_of
-  key_of-bind names q free =
+  pub key_named-bind : (names : List (Named K)) (q : Name) → key_named names (name_bytes n) ≡ None
+      → key_named (names ++ n ∷ []) q ≡ cond (bytes_eq (name_bytes n) q) (Some n.key) (key_named names q)
+  unfolding key_named
+  key_named-bind names q free =
       search (rules, bytes_eq, bytes_eq-Decides, option_map, find-push, same_last, find, answered)
 
 pub none_there : {K : Type 0} (o : Option K) → is_some o ≡ false → o ≡ None

@@ -1,7 +1,7 @@
 -- A step leaves what is to come: the one that comes next, or one that is cancelled.
 use Rattle.rx_agenda.proofs.Common.{◌≡◌, ◌<◌, ◌≤◌, ℕ, List, [], ◌∷◌, true, false, cond, nat_eq, refl, sym, ap, subst, ◌∙◌, inl, inr, arith, ◌⊎◌, Option, Some}
 use Rattle.rx_agenda.proofs.Common.{None, is_some, lookup, cases_lt, Work, next_due, without, Name, bound, Answer, Accepted, Refused, NoStep, Origin, Turn}
-use Rattle.rx_agenda.proofs.Common.{Placed, IsScheduledBefore, IsEarlierTurn, ComesBefore, WaitsUnder}
+use Rattle.rx_agenda.proofs.Common.{PlacedStep, IsScheduledBefore, IsEarlierTurn, ComesBefore, WaitsUnder}
 use Rattle.std.proofs.Common.{nat_le, rules}
 use Rattle.std.proofs.lemmas.Bool.{le-leb, lt-leb}
 use Rattle.rx_time.specs.Schedule.{earlier, next_of, if_due}
@@ -92,24 +92,25 @@ ticket_rises : (e f : Entry) → Rises e f → e.0 < f.0
 ticket_rises e f r = r.0
 
 -- a cancel is accepted where one is meant that is to come, and else refused
-pub data Says (Ever : Placed → Type 0) (g : PlacedAgenda) (label : Name) : Answer → Type 0 where
-  one_there : (w : Placed) → IsPending g w → WaitsUnder label w → FirstOf Ever label w.origin → Says Ever g label Accepted
-  none_there : ((y : Placed) → IsPending g y → WaitsUnder label y → FirstOf Ever label y.origin → ⊥) → Says Ever g label (Refused NoStep)
+pub data Says (Ever : PlacedStep → Type 0) (g : PlacedAgenda) (label : Name) : Answer → Type 0 where
+  one_there : (w : PlacedStep) → IsPending g w → WaitsUnder label w → FirstOf Ever label w.origin → Says Ever g label Accepted
+  none_there : ((y : PlacedStep) → IsPending g y → WaitsUnder label y → FirstOf Ever label y.origin → ⊥) → Says Ever g label (Refused NoStep)
 
-pub record PopsWell (Ever : Placed → Type 0) (until : ℕ) (now : Turn) (next : Origin) (g : PlacedAgenda) (x : Placed) (left : PlacedAgenda) : Type 0 where
+pub record PopsWell (Ever : PlacedStep → Type 0) (until : ℕ) (now : Turn) (next : Origin) (g : PlacedAgenda) (x : PlacedStep)
+    (left : PlacedAgenda) : Type 0 where
   pub ready : IsReady Ever x.turn next left
   pub was : IsPending g x
-  pub comes : (y : Placed) → IsPending left y → IsPending g y × ComesBefore x y
-  pub others : (y : Placed) → IsPending g y → (y ≡ x) ⊎ IsPending left y
+  pub comes : (y : PlacedStep) → IsPending left y → IsPending g y × ComesBefore x y
+  pub others : (y : PlacedStep) → IsPending g y → (y ≡ x) ⊎ IsPending left y
   pub in_time : now.moment ≤ until → x.turn.moment ≤ until
 
-module _ (Ever : Placed → Type 0) (until : ℕ) (now : Turn) (next : Origin) (g : PlacedAgenda) (r : IsReady Ever now next g) where
-  pops_turn_well : (x : Placed) (rest : List Placed) → g.turn ≡ x ∷ rest → PopsWell Ever until now next g x (without_first rest g)
+module _ (Ever : PlacedStep → Type 0) (until : ℕ) (now : Turn) (next : Origin) (g : PlacedAgenda) (r : IsReady Ever now next g) where
+  pops_turn_well : (x : PlacedStep) (rest : List PlacedStep) → g.turn ≡ x ∷ rest → PopsWell Ever until now next g x (without_first rest g)
   pops_turn_well x rest is =
-      let back : (y : Placed) → IsIn y (x ∷ rest) → IsIn y g.turn = λ y there. subst (λ (l : List Placed). IsIn y l) (sym is) there in
-      let forth : (y : Placed) → IsIn y g.turn → IsIn y (x ∷ rest) = λ y there. subst (λ (l : List Placed). IsIn y l) is there in
-      let pairs : Pairwise (λ (y z : Placed). IsScheduledBefore y.origin z.origin) (x ∷ rest) =
-      subst (λ (l : List Placed). Pairwise (λ y z. IsScheduledBefore y.origin z.origin) l) is r.turn_rises in
+      let back : (y : PlacedStep) → IsIn y (x ∷ rest) → IsIn y g.turn = λ y there. subst (λ (l : List PlacedStep). IsIn y l) (sym is) there in
+      let forth : (y : PlacedStep) → IsIn y g.turn → IsIn y (x ∷ rest) = λ y there. subst (λ (l : List PlacedStep). IsIn y l) is there in
+      let pairs : Pairwise (λ (y z : PlacedStep). IsScheduledBefore y.origin z.origin) (x ∷ rest) =
+      subst (λ (l : List PlacedStep). Pairwise (λ y z. IsScheduledBefore y.origin z.origin) l) is r.turn_rises in
       let here : x.turn ≡ now = (r.members x (back x (inl refl))).in_turn in
       record {
         ready = subst (λ (t : Turn). IsReady Ever t next (without_first rest g)) (sym here) (record {
@@ -127,7 +128,7 @@ module _ (Ever : Placed → Type 0) (until : ℕ) (now : Turn) (next : Origin) (
           | inr waits ↦ (
             inr waits,
             inl (subst (λ (t : Turn). IsEarlierTurn t y.turn) (sym here)
-                (subst (λ (z : Placed). IsEarlierTurn now z.turn) waits.2 (r.entries waits.0 waits.1).later)),
+                (subst (λ (z : PlacedStep). IsEarlierTurn now z.turn) waits.2 (r.entries waits.0 waits.1).later)),
           )
         ];
         others = λ y there. elim there [
@@ -198,11 +199,11 @@ module _ (Ever : Placed → Type 0) (until : ℕ) (now : Turn) (next : Origin) (
             | inr waits ↦ (
               inr (waits.0, removed_in (nat_eq e.0) waits.0 g.timeline.work waits.1, waits.2),
               inl
-                  (subst (λ (z : Placed). IsEarlierTurn e.1.item.turn z.turn) waits.2 (later_than waits.0 waits.1)),
+                  (subst (λ (z : PlacedStep). IsEarlierTurn e.1.item.turn z.turn) waits.2 (later_than waits.0 waits.1)),
             )
           ];
           others = λ y there. elim there [
-            | inl in_turn ↦ absurd (subst (λ (l : List Placed). IsIn y l) over in_turn)
+            | inl in_turn ↦ absurd (subst (λ (l : List PlacedStep). IsIn y l) over in_turn)
             | inr waits ↦ elim (removed_or_stays e.0 e.1 waits.0 g.timeline.work found waits.1) [
               | inl same ↦ inl (sym waits.2 ∙ ap (λ (k : Entry). k.1.item) same)
               | inr stays ↦ inr (inr (waits.0, stays, waits.2))
@@ -212,24 +213,24 @@ module _ (Ever : Placed → Type 0) (until : ℕ) (now : Turn) (next : Origin) (
               (if_due_some until (next_of g.timeline.work) e comes_next).1 in omega arith;
         }
 
-  pub pops_well : (x : Placed) (left : PlacedAgenda) → Pops until g x left → PopsWell Ever until now next g x left
+  pub pops_well : (x : PlacedStep) (left : PlacedAgenda) → Pops until g x left → PopsWell Ever until now next g x left
   pops_well x left (of_turn _ rest is) = pops_turn_well x rest is
   pops_well x left (of_timeline e over comes) = pops_timeline_well e over comes
 
   -- a cancel ---------------------------------------------------------------------------------------
 
-  abbrev pub IsTakenOff : Name → Answer → Placed → Type 0
+  abbrev pub IsTakenOff : Name → Answer → PlacedStep → Type 0
   IsTakenOff label answer y = (answer ≡ Accepted) × (WaitsUnder label y) × FirstOf Ever label y.origin
 
   pub record TakesWell (label : Name) (answer : Answer) (left : PlacedAgenda) : Type 0 where
     pub ready : IsReady Ever now next left
     pub from : IsWithin left g
-    pub gone : (y : Placed) → IsPending g y → IsPending left y ⊎ IsTakenOff label answer y
-    pub kept : (y : Placed) → IsPending left y → ¬ IsTakenOff label answer y
+    pub gone : (y : PlacedStep) → IsPending g y → IsPending left y ⊎ IsTakenOff label answer y
+    pub kept : (y : PlacedStep) → IsPending left y → ¬ IsTakenOff label answer y
     pub says : Says Ever g label answer
 
-  module _ (label : Name) (ever : (y : Placed) → IsPending g y → Ever y) where
-    module _ (ticket : ℕ) (w : Work Placed) (known : bound g.labels label ≡ Some ticket) (there : lookup (nat_eq ticket) g.timeline.work ≡ Some w) where
+  module _ (label : Name) (ever : (y : PlacedStep) → IsPending g y → Ever y) where
+    module _ (ticket : ℕ) (w : Work PlacedStep) (known : bound g.labels label ≡ Some ticket) (there : lookup (nat_eq ticket) g.timeline.work ≡ Some w) where
       inside : IsIn (ticket, w) g.timeline.work
       inside = lookup_in ticket w g.timeline.work there
 
@@ -239,7 +240,7 @@ module _ (Ever : Placed → Type 0) (until : ℕ) (now : Turn) (next : Origin) (
       waits_under : WaitsUnder label w.item
       waits_under = (bears.0, (r.entries (ticket, w) inside).waits)
 
-      kept_by : (y : Placed) → IsPending (without_placed ticket g) y → ¬ IsTakenOff label Accepted y
+      kept_by : (y : PlacedStep) → IsPending (without_placed ticket g) y → ¬ IsTakenOff label Accepted y
       kept_by y (inl in_turn) taken = let no : is_some y.step.delay ≡ false = (r.members y in_turn).at_once in let yes : is_some y.step.delay ≡ true =
           taken.1.1 in absurd (cc)
       kept_by y (inr waits) taken =
@@ -250,8 +251,8 @@ module _ (Ever : Placed → Type 0) (until : ℕ) (now : Turn) (next : Origin) (
           elim (pairwise_cases Rises f (ticket, w) g.timeline.work r.rises at inside) [
             | inl same ↦ absurd (removed_apart Rises ticket_rises ticket f g.timeline.work w r.rises there waits.1 (ap (λ (k : Entry). k.0) same))
             | inr apart ↦ elim apart [
-              | inl before ↦ its (subst (λ (z : Placed). IsScheduledBefore z.origin w.item.origin) waits.2 before.1)
-              | inr after ↦ mine (subst (λ (z : Placed). IsScheduledBefore w.item.origin z.origin) waits.2 after.1)
+              | inl before ↦ its (subst (λ (z : PlacedStep). IsScheduledBefore z.origin w.item.origin) waits.2 before.1)
+              | inr after ↦ mine (subst (λ (z : PlacedStep). IsScheduledBefore w.item.origin z.origin) waits.2 after.1)
             ]
           ]
 
@@ -278,7 +279,7 @@ module _ (Ever : Placed → Type 0) (until : ℕ) (now : Turn) (next : Origin) (
           | inr waits ↦ elim (removed_or_stays ticket w waits.0 g.timeline.work there waits.1) [
             | inl same ↦
                 let is : w.item ≡ y = sym (ap (λ (k : Entry). k.1.item) same) ∙ waits.2 in
-                inr (refl, subst (WaitsUnder label) is waits_under, subst (λ (z : Placed). FirstOf Ever label z.origin) is bears.1)
+                inr (refl, subst (WaitsUnder label) is waits_under, subst (λ (z : PlacedStep). FirstOf Ever label z.origin) is bears.1)
             | inr stays ↦ inl (inr (waits.0, stays, waits.2))
           ]
         ];
@@ -286,13 +287,14 @@ module _ (Ever : Placed → Type 0) (until : ℕ) (now : Turn) (next : Origin) (
         says = one_there w.item (inr ((ticket, w), inside, refl)) waits_under bears.1;
       }
 
-    none_meant : ((t : ℕ) → bound g.labels label ≡ Some t → lookup (nat_eq t) g.timeline.work ≡ None) → (y : Placed) → IsPending g y → WaitsUnder label y
+    none_meant : ((t : ℕ) → bound g.labels label ≡ Some t → lookup (nat_eq t) g.timeline.work ≡ None) → (y : PlacedStep) → IsPending g y → WaitsUnder label y
         → FirstOf Ever label y.origin → ⊥
     none_meant none y (inl in_turn) waits first = let no : is_some y.step.delay ≡ false = (r.members y in_turn).at_once in
         let yes : is_some y.step.delay ≡ true = waits.1 in absurd (cc)
     none_meant none y (inr at) waits first =
         let known : bound g.labels label ≡ Some at.0.0 =
-        r.labelled.bears label at.0 at.1 (subst (WaitsUnder label) (sym at.2) waits) (subst (λ (z : Placed). FirstOf Ever label z.origin) (sym at.2) first) in
+        r.labelled.bears label at.0 at.1 (subst (WaitsUnder label) (sym at.2) waits)
+        (subst (λ (z : PlacedStep). FirstOf Ever label z.origin) (sym at.2) first) in
         let found : lookup (nat_eq at.0.0) g.timeline.work ≡ Some at.0.1 = lookup_at Rises ticket_rises at.0 g.timeline.work r.rises at.1 in
         let gone : lookup (nat_eq at.0.0) g.timeline.work ≡ None = none at.0.0 known in
         absurd (cc)

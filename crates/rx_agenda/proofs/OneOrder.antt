@@ -1,8 +1,8 @@
 -- What the answers were determines which steps came, and in which order.
 use Rattle.rx_agenda.proofs.Common.{◌≡◌, ◌<◌, ◌≤◌, ◌+◌, ℕ, zero, suc, List, [], ◌∷◌, refl, sym, ap, subst, ◌∙◌, inl, inr, arith, ◌⊎◌, Option, Some, None}
-use Rattle.rx_agenda.proofs.Common.{slice_get, cases_lt, Name, Step, Answer, Origin, Turn, Placed, Executed, IsScheduledBefore, ComesBefore}
-use Rattle.rx_agenda.proofs.Common.{placed_at, held_by, IsHeld, by_scenario, by_step, IsCancelled, IsDue, IsInOrder, WaitsAt}
-use Rattle.rx_agenda.proofs.Common.{IsAnswered, one_waits, no_step_waits}
+use Rattle.rx_agenda.proofs.Common.{slice_get, cases_lt, Name, Step, Answer, Origin, Turn, PlacedStep, Executed, IsScheduledBefore, ComesBefore}
+use Rattle.rx_agenda.proofs.Common.{placed_at, held_by, IsHeld, by_scenario, by_step, IsCancelled, IsStepDue, IsInOrder, WaitsAt}
+use Rattle.rx_agenda.proofs.Common.{IsCancelAnswered, one_waits, no_step_waits}
 use Rattle.rx_agenda.specs.Claims.{OrderIsDetermined, HeadsComeFirst}
 use Rattle.rx_agenda.proofs.ComesBeforeIsAnOrder.{comes-trans, comes-asym, comes-self, comes-cases}
 use Rattle.std.proofs.Common.{rules}
@@ -20,12 +20,12 @@ agrees-sym : (one other : List Executed) (k : ℕ) → Agrees one other k → Ag
 agrees-sym one other k agree j lt = sym (agree j lt)
 
 -- so far what is held in one is held in the other
-held_over : (steps : List Step) (one other : List Executed) (k : ℕ) (x : Placed) → Agrees one other k → IsHeld steps one x → x.origin.holder ≤ k
+held_over : (steps : List Step) (one other : List Executed) (k : ℕ) (x : PlacedStep) → Agrees one other k → IsHeld steps one x → x.origin.holder ≤ k
     → IsHeld steps other x
 held_over steps one other k x agree x6 below = search (rules, by_scenario, by_step)
 
 -- a step is told by where it is held
-step_told : {steps : List Step} {one other : List Executed} (k : ℕ) (x y : Placed) → Agrees one other k → IsHeld steps one x → IsHeld steps other y
+step_told : {steps : List Step} {one other : List Executed} (k : ℕ) (x y : PlacedStep) → Agrees one other k → IsHeld steps one x → IsHeld steps other y
     → x.origin.holder ≤ k
     → x.origin ≡ y.origin → x.step ≡ y.step
 step_told k x y agree x5 x6 below same = search (rules, slice_get)
@@ -33,7 +33,7 @@ step_told k x y agree x5 x6 below same = search (rules, slice_get)
 module _ (steps : List Step) (until : ℕ) (one other : List Executed) (first : IsInOrder steps until one) (second : IsInOrder steps until other) (k : ℕ)
     (agree : Agrees one other k)
     (x y : Executed) (x_there : slice_get one k ≡ Some x) (y_there : slice_get other k ≡ Some y) where
-  x_due : IsDue steps until one x.placed
+  x_due : IsStepDue steps until one x.placed
   x_due = first.only_due x.placed (record { number = k; by = x; there = x_there; same = refl })
 
   x_holder : x.placed.origin.holder ≤ k
@@ -43,7 +43,7 @@ module _ (steps : List Step) (until : ℕ) (one other : List Executed) (first : 
   x_over = held_over steps one other k x.placed agree x_due.held x_holder
 
   -- one of the first list that is lower was held in the other too
-  lower_over : (z : Placed) → IsHeld steps one z → IsScheduledBefore z.origin x.placed.origin → IsHeld steps other z
+  lower_over : (z : PlacedStep) → IsHeld steps one z → IsScheduledBefore z.origin x.placed.origin → IsHeld steps other z
   lower_over z held lower =
       search (rules, x_holder, held_over)
 
@@ -87,7 +87,7 @@ module _ (steps : List Step) (until : ℕ) (one other : List Executed) (first : 
               (first.in_order done.number k done.by x sooner (agree done.number sooner ∙ done.there) x_there)
           | inr later ↦ elim (cases_lt k done.number) [
             | inl above ↦
-                comes-asym x.placed y.placed before (subst (λ (v : Placed). ComesBefore y.placed v) done.same
+                comes-asym x.placed y.placed before (subst (λ (v : PlacedStep). ComesBefore y.placed v) done.same
                 (second.in_order k done.number y done.by above y_there done.there))
             | inr equal ↦
                 let at : done.number ≡ k = omega arith in
@@ -107,7 +107,7 @@ none_beyond (x ∷ xs) (suc k) (suc j) none on = none_beyond xs k j none (omega 
 module _ (steps : List Step) (until : ℕ) (one other : List Executed) (first : IsInOrder steps until one) (second : IsInOrder steps until other) (k : ℕ)
     (agree : Agrees one other k)
     (over : slice_get one k ≡ None) (y : Executed) (y_there : slice_get other k ≡ Some y) where
-  y_due : IsDue steps until other y.placed
+  y_due : IsStepDue steps until other y.placed
   y_due = second.only_due y.placed (record { number = k; by = y; there = y_there; same = refl })
 
   y_holder : y.placed.origin.holder ≤ k
@@ -117,7 +117,7 @@ module _ (steps : List Step) (until : ℕ) (one other : List Executed) (first : 
   before_end : (m : ℕ) (z : Executed) → slice_get one m ≡ Some z → m < k
   before_end m z there = search (rules, cases_lt, slice_get, none_beyond)
 
-  back_over : (z : Placed) → IsHeld steps other z → z.origin.holder ≤ k → IsHeld steps one z
+  back_over : (z : PlacedStep) → IsHeld steps other z → z.origin.holder ≤ k → IsHeld steps one z
   back_over z held below = held_over steps other one k z (agrees-sym one other k agree) held below
 
   y_alive : ¬ IsCancelled steps one y.placed
@@ -140,8 +140,8 @@ module _ (steps : List Step) (until : ℕ) (one other : List Executed) (first : 
       | inr later ↦ absurd (none_sooner steps until other one second first k (agrees-sym one other k agree) y x at_b at_a later)
     ]
     | inr same ↦
-        let x_due : IsDue steps until one x.placed = first.only_due x.placed (record { number = k; by = x; there = at_a; same = refl }) in
-        let y_due : IsDue steps until other y.placed = second.only_due y.placed (record { number = k; by = y; there = at_b; same = refl }) in
+        let x_due : IsStepDue steps until one x.placed = first.only_due x.placed (record { number = k; by = x; there = at_a; same = refl }) in
+        let y_due : IsStepDue steps until other y.placed = second.only_due y.placed (record { number = k; by = y; there = at_b; same = refl }) in
         let step : x.placed.step ≡ y.placed.step = step_told k x.placed y.placed agree x_due.held y_due.held
         (first.behind_holder k x at_a) same.1 in
         let placed : x.placed ≡ y.placed = λ i. record { step = step i; origin = same.1 i; turn = same.0 i } in
@@ -183,13 +183,13 @@ determined steps until one other first second alike =
 
 -- where all before it is the same, a cancel finds the same steps waiting
 module _ (steps : List Step) (one other : List Executed) (k : ℕ) (agree : Agrees one other k) (x y : Executed) (same : x.placed ≡ y.placed) where
-  scheduled_too : (z p : Placed) → IsScheduledBefore z.origin p.origin → p.origin.holder ≤ k → z.origin.holder ≤ k
+  scheduled_too : (z p : PlacedStep) → IsScheduledBefore z.origin p.origin → p.origin.holder ≤ k → z.origin.holder ≤ k
   scheduled_too z p lower below = search rules
 
-  back : (z : Placed) → IsHeld steps other z → z.origin.holder ≤ k → IsHeld steps one z
+  back : (z : PlacedStep) → IsHeld steps other z → z.origin.holder ≤ k → IsHeld steps one z
   back z held below = held_over steps other one k z (agrees-sym one other k agree) held below
 
-  cancelled_back : (p : Placed) → p.origin.holder ≤ k → (c : IsCancelled steps other p) → c.number < k → IsCancelled steps one p
+  cancelled_back : (p : PlacedStep) → p.origin.holder ≤ k → (c : IsCancelled steps other p) → c.number < k → IsCancelled steps one p
   cancelled_back p below c sooner = record {
     number = c.number;
     by = c.by;
@@ -213,7 +213,7 @@ module _ (steps : List Step) (one other : List Executed) (k : ℕ) (agree : Agre
     meant = record {
       waits = w.meant.waits;
       scheduled = w.meant.scheduled;
-      to_come = subst (λ (v : Placed). ComesBefore v w.placed) same w.meant.to_come;
+      to_come = subst (λ (v : PlacedStep). ComesBefore v w.placed) same w.meant.to_come;
       first = λ z held waits lower. w.meant.first z (back z held (scheduled_too z w.placed lower w.meant.scheduled)) waits lower;
     };
     not_cancelled = λ c sooner. w.not_cancelled (cancelled_back w.placed w.meant.scheduled c sooner) sooner;
@@ -222,7 +222,7 @@ module _ (steps : List Step) (one other : List Executed) (k : ℕ) (agree : Agre
 -- and so it is answered the same
 pub cancel_alike : {steps : List Step} {one other : List Executed} {k : ℕ} → Agrees one other k → {x : Executed} (y : Executed) → x.placed ≡ y.placed →
     (label : Name)
-    → (a b : Answer) → IsAnswered steps one label k x a → IsAnswered steps other label k y b → a ≡ b
+    → (a b : Answer) → IsCancelAnswered steps one label k x a → IsCancelAnswered steps other label k y b → a ≡ b
 cancel_alike agree y same label a b (one_waits w) (one_waits v) = refl
 cancel_alike {steps} {one} {other} {k} agree {x} y same label a b (one_waits w) (no_step_waits none) = absurd
     (none (waits_over steps one other k agree x y same label w))
@@ -234,7 +234,7 @@ cancel_alike agree y same label a b (no_step_waits none) (no_step_waits also) = 
 
 module _ (steps : List Step) (until : ℕ) (executed : List Executed) (order : IsInOrder steps until executed) where
   -- it is the head, or was scheduled after it
-  abbrev IsHeadOrBehind : Placed → Type 0
+  abbrev IsHeadOrBehind : PlacedStep → Type 0
   IsHeadOrBehind x = (x.turn.head ≡ x.origin) ⊎ IsScheduledBefore x.turn.head x.origin
 
   in_turn_of : (now : Turn) (h i : ℕ) (s : Step) → now.head.holder < h ⊎ ((now.head.holder ≡ h) × (now.head.place < i + 1)) → (delay : Option ℕ)
@@ -245,20 +245,20 @@ module _ (steps : List Step) (until : ℕ) (executed : List Executed) (order : I
   holder_behind : (e : Executed) (j : ℕ) → e.placed.origin.holder ≤ j → IsHeadOrBehind e.placed → e.placed.turn.head.holder < j + 1
   holder_behind e j below x3 = search rules
 
-  behind_by : (n : ℕ) (x : Placed) → IsHeld steps executed x → x.origin.holder ≤ n
+  behind_by : (n : ℕ) (x : PlacedStep) → IsHeld steps executed x → x.origin.holder ≤ n
       → ((j : ℕ) (e : Executed) → j < n → slice_get executed j ≡ Some e → IsHeadOrBehind e.placed) → IsHeadOrBehind x
   behind_by n x x2 below each = search (rules, in_turn_of, holder_behind)
 
   behind_head : (n k : ℕ) (x : Executed) → k < n → slice_get executed k ≡ Some x → IsHeadOrBehind x.placed
   behind_head zero k x below there = absurd (omega arith)
   behind_head (suc n) k x below there =
-      let due : IsDue steps until executed x.placed = order.only_due x.placed (record { number = k; by = x; there = there; same = refl }) in
+      let due : IsStepDue steps until executed x.placed = order.only_due x.placed (record { number = k; by = x; there = there; same = refl }) in
       behind_by k x.placed due.held (order.behind_holder k x there) (λ j e lt at. behind_head n j e (omega arith) at)
 
 pub heads_first : HeadsComeFirst
 heads_first steps until executed order x y x_done y_done same heads other =
     let behind : (y.turn.head ≡ y.origin) ⊎ IsScheduledBefore y.turn.head y.origin =
-    subst (λ (z : Placed). (z.turn.head ≡ z.origin) ⊎ IsScheduledBefore z.turn.head z.origin) y_done.same
+    subst (λ (z : PlacedStep). (z.turn.head ≡ z.origin) ⊎ IsScheduledBefore z.turn.head z.origin) y_done.same
     (behind_head steps until executed order (suc y_done.number) y_done.number y_done.by (omega arith) y_done.there) in
     let one_head : x.origin ≡ y.turn.head = heads ∙ ap (λ (t : Turn). t.head) same in
     elim behind [

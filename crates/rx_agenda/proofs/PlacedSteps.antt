@@ -2,7 +2,7 @@
 use Rattle.rx_agenda.proofs.Common.{◌≡◌, ℕ, ◌+◌, List, [], ◌∷◌, ◌++◌, map, nat_eq, refl, sym, ap, ◌∙◌, ◌⊎◌, Option, Some, None, option_map, lookup, map-append}
 use Rattle.rx_agenda.proofs.Common.{Work, Schedule, schedule, entry_seen, with_work, next_due, item_of, without, next_due-seen, without-seen, item_of-seen}
 use Rattle.rx_agenda.proofs.Common.{Name, Step, Binding, bound, Agenda, with_label, with_step, next_step, Cancels, taken_off, none_waits, without_ticket}
-use Rattle.rx_agenda.proofs.Common.{Answer, Accepted, Refused, NoStep, Placed}
+use Rattle.rx_agenda.proofs.Common.{Answer, Accepted, Refused, NoStep, PlacedStep}
 use Rattle.std.specs.Prelude.{option_and_then}
 use Rattle.rx_time.specs.Schedule.{seen_as}
 use Rattle.rx_agenda.specs.Agenda.{with_step_after}
@@ -11,71 +11,72 @@ use Rattle.std.proofs.Common.{rules}
 
 -- an entry of the timeline
 abbrev pub Entry : Type 0
-Entry = ℕ × Work Placed
+Entry = ℕ × Work PlacedStep
 
 pub record PlacedAgenda : Type 0 where
-  pub timeline : Schedule Placed
-  pub turn : List Placed
+  pub timeline : Schedule PlacedStep
+  pub turn : List PlacedStep
   pub labels : List Binding
 
-abbrev pub step_in : Placed → Step
+abbrev pub step_in : PlacedStep → Step
 step_in x = x.step
 
 abbrev pub seen : PlacedAgenda → Agenda
 seen g = record { timeline = seen_as step_in g.timeline; turn = map step_in g.turn; labels = g.labels }
 
 -- it waits, or it is one of this turn
-abbrev pub IsWaiting : PlacedAgenda → Placed → Type 0
+abbrev pub IsWaiting : PlacedAgenda → PlacedStep → Type 0
 IsWaiting g x = (e : Entry) × IsIn e g.timeline.work × (e.1.item ≡ x)
 
-abbrev pub IsPending : PlacedAgenda → Placed → Type 0
+abbrev pub IsPending : PlacedAgenda → PlacedStep → Type 0
 IsPending g x = IsIn x g.turn ⊎ IsWaiting g x
 
 -- nothing is to come that was not before
 abbrev pub IsWithin : PlacedAgenda → PlacedAgenda → Type 0
-IsWithin left g = (y : Placed) → IsPending left y → IsPending g y
+IsWithin left g = (y : PlacedStep) → IsPending left y → IsPending g y
 
 -- a step joins
-abbrev pub with_placed_after : Option ℕ → Placed → PlacedAgenda → PlacedAgenda
+abbrev pub with_placed_after : Option ℕ → PlacedStep → PlacedAgenda → PlacedAgenda
 with_placed_after None x g = record { timeline = g.timeline; turn = g.turn ++ x ∷ []; labels = g.labels }
 with_placed_after (Some delay) x g =
     record { timeline = with_work (g.timeline.clock + delay) x g.timeline; turn = g.turn; labels = with_label x.step.label g.timeline.tickets g.labels }
 
-abbrev pub with_placed : Placed → PlacedAgenda → PlacedAgenda
+abbrev pub with_placed : PlacedStep → PlacedAgenda → PlacedAgenda
 with_placed x g = with_placed_after x.step.delay x g
 
-with_placed_after-seen : (delay : Option ℕ) (x : Placed) (g : PlacedAgenda) → with_step_after delay x.step (seen g) ≡ seen (with_placed_after delay x g)
+with_placed_after-seen : (delay : Option ℕ) (x : PlacedStep) (g : PlacedAgenda) → with_step_after delay x.step (seen g) ≡ seen (with_placed_after delay x g)
 with_placed_after-seen x0 x g = search (rules, map-append, entry_seen)
 
-pub with_placed-seen : (x : Placed) (g : PlacedAgenda) → with_step x.step (seen g) ≡ seen (with_placed x g)
+pub with_placed-seen : (x : PlacedStep) (g : PlacedAgenda) → with_step x.step (seen g) ≡ seen (with_placed x g)
 with_placed-seen x g = with_placed_after-seen x.step.delay x g
 
 -- the step that comes next -------------------------------------------------------------------------
 
 -- what is left where the turn goes on, and where an entry begins a new one
-abbrev pub without_first : List Placed → PlacedAgenda → PlacedAgenda
+abbrev pub without_first : List PlacedStep → PlacedAgenda → PlacedAgenda
 without_first rest g = record { timeline = g.timeline; turn = rest; labels = g.labels }
 
 abbrev pub without_entry : Entry → PlacedAgenda → PlacedAgenda
 without_entry e g = record { timeline = schedule e.1.due g.timeline.tickets (without e.0 g.timeline.work); turn = []; labels = g.labels }
 
-pub data Pops (until : ℕ) (g : PlacedAgenda) : Placed → PlacedAgenda → Type 0 where
-  of_turn : (x : Placed) (rest : List Placed) → g.turn ≡ x ∷ rest → Pops until g x (without_first rest g)
+pub data Pops (until : ℕ) (g : PlacedAgenda) : PlacedStep → PlacedAgenda → Type 0 where
+  of_turn : (x : PlacedStep) (rest : List PlacedStep) → g.turn ≡ x ∷ rest → Pops until g x (without_first rest g)
   of_timeline : (e : Entry) → g.turn ≡ [] → next_due until g.timeline.work ≡ Some e → Pops until g e.1.item (without_entry e g)
 
 -- what comes next of an agenda comes next of the placed one
 pub record PopsSeen (until : ℕ) (g : PlacedAgenda) (s : Step) (rest : Agenda) : Type 0 where
-  pub placed : Placed
+  pub placed : PlacedStep
   pub left : PlacedAgenda
   pub pops : Pops until g placed left
   pub step : placed.step ≡ s
   pub is_seen : rest ≡ seen left
 
-abbrev pub unordered : Schedule Placed → List Placed → List Binding → PlacedAgenda
+abbrev pub unordered : Schedule PlacedStep → List PlacedStep → List Binding → PlacedAgenda
 unordered timeline turn labels = record { timeline = timeline; turn = turn; labels = labels }
 
-module _ (until : ℕ) (timeline : Schedule Placed) (labels : List Binding) where
-  pops_turn : (x : Placed) (more : List Placed) (s : Step) (rest : Agenda) → next_step until (seen (unordered timeline (x ∷ more) labels)) ≡ Some (s, rest)
+module _ (until : ℕ) (timeline : Schedule PlacedStep) (labels : List Binding) where
+  pops_turn : (x : PlacedStep) (more : List PlacedStep) (s : Step) (rest : Agenda)
+      → next_step until (seen (unordered timeline (x ∷ more) labels)) ≡ Some (s, rest)
       → PopsSeen until (unordered timeline (x ∷ more) labels) s rest
   pops_turn x more s rest comes =
       let pair : (x.step, seen (unordered timeline more labels)) ≡ (s, rest) = cc in
@@ -113,7 +114,7 @@ module _ (until : ℕ) (timeline : Schedule Placed) (labels : List Binding) wher
         is_seen = sym (left ∙ ap (λ (p : Step × Agenda). p.1) pair);
       }
 
-  pub pops_seen : (turn : List Placed) (s : Step) (rest : Agenda) → next_step until (seen (unordered timeline turn labels)) ≡ Some (s, rest)
+  pub pops_seen : (turn : List PlacedStep) (s : Step) (rest : Agenda) → next_step until (seen (unordered timeline turn labels)) ≡ Some (s, rest)
       → PopsSeen until (unordered timeline turn labels) s rest
   pops_seen [] s rest comes = pops_timeline (next_due until timeline.work) s rest refl
       (sym (ap (option_map begun) (next_due-seen step_in until timeline.work)) ∙ comes)
@@ -124,7 +125,8 @@ module _ (until : ℕ) (timeline : Schedule Placed) (labels : List Binding) wher
       → next_due until timeline.work ≡ None
   none_timeline x0 is over = search rules
 
-  pub over_seen : (turn : List Placed) → next_step until (seen (unordered timeline turn labels)) ≡ None → (turn ≡ []) × (next_due until timeline.work ≡ None)
+  pub over_seen : (turn : List PlacedStep) → next_step until (seen (unordered timeline turn labels)) ≡ None
+      → (turn ≡ []) × (next_due until timeline.work ≡ None)
   over_seen [] over = (refl, none_timeline (next_due until timeline.work) refl (sym (ap (option_map begun) (next_due-seen step_in until timeline.work)) ∙ over))
   over_seen (x ∷ more) over = absurd (cc)
 
@@ -136,7 +138,7 @@ without_placed ticket g =
 
 -- a cancel takes an entry off, or leaves all
 pub data Takes (g : PlacedAgenda) (label : Name) : Answer → PlacedAgenda → Type 0 where
-  takes : (ticket : ℕ) (w : Work Placed) → bound g.labels label ≡ Some ticket → lookup (nat_eq ticket) g.timeline.work ≡ Some w
+  takes : (ticket : ℕ) (w : Work PlacedStep) → bound g.labels label ≡ Some ticket → lookup (nat_eq ticket) g.timeline.work ≡ Some w
       → Takes g label Accepted (without_placed ticket g)
   leaves : ((t : ℕ) → bound g.labels label ≡ Some t → lookup (nat_eq t) g.timeline.work ≡ None) → Takes g label (Refused NoStep) g
 
@@ -145,7 +147,7 @@ pub record TakesSeen (g : PlacedAgenda) (label : Name) (answer : Answer) (b : Ag
   pub takes_off : Takes g label answer left
   pub is_seen : b ≡ seen left
 
-some_entry : (g : PlacedAgenda) (label : Name) (ticket : ℕ) (s : Step) (o : Option (Work Placed)) → lookup (nat_eq ticket) g.timeline.work ≡ o
+some_entry : (g : PlacedAgenda) (label : Name) (ticket : ℕ) (s : Step) (o : Option (Work PlacedStep)) → lookup (nat_eq ticket) g.timeline.work ≡ o
     → option_map step_in (option_map (λ w. w.item) o) ≡ Some s → bound g.labels label ≡ Some ticket
     → TakesSeen g label Accepted (without_ticket ticket (seen g))
 some_entry g label ticket s None is found known = absurd (cc)
@@ -155,7 +157,7 @@ some_entry g label ticket s (Some w) is found known = record {
   is_seen = rw (without-seen step_in ticket g.timeline.work) refl;
 }
 
-no_work : (o : Option (Work Placed)) → option_map step_in (option_map (λ w. w.item) o) ≡ None → o ≡ None
+no_work : (o : Option (Work PlacedStep)) → option_map step_in (option_map (λ w. w.item) o) ≡ None → o ≡ None
 no_work x0 none = search rules
 
 none_bound : (g : PlacedAgenda) (t : ℕ) → item_of t (map (entry_seen step_in) g.timeline.work) ≡ None → lookup (nat_eq t) g.timeline.work ≡ None

@@ -1,7 +1,7 @@
 -- Every run of an agenda executes the steps in order.
 use Rattle.rx_agenda.proofs.Common.{◌≡◌, ◌+◌, ℕ, List, [], ◌∷◌, ◌++◌, map, length, refl, ap, subst, ◌∙◌, Some, None, map-append, Action, Step, list_of, Answer}
 use Rattle.rx_agenda.proofs.Common.{Accepted, Refused, Agenda, empty_agenda, with_steps, followed_by, next_step, Cancels, Acts, does_command, does_cancel}
-use Rattle.rx_agenda.proofs.Common.{HaveCome, none_yet, one_more, Origin, Turn, Placed, Executed, opening_turn, held_by, IsHeld, done_in}
+use Rattle.rx_agenda.proofs.Common.{HaveCome, none_yet, one_more, Origin, Turn, PlacedStep, Executed, opening_turn, held_by, IsHeld, done_in}
 use Rattle.rx_agenda.specs.Claims.{RunsAreInOrder}
 use Rattle.rx_agenda.proofs.PlacedSteps.{PlacedAgenda, seen, IsPending, PopsSeen, pops_seen, over_seen, takes_seen}
 use Rattle.rx_agenda.proofs.EntriesRise.{IsReady}
@@ -20,13 +20,13 @@ pub record Reaches (steps : List Step) (until : ℕ) (done : List (Step × Answe
   pub so_far : IsSoFar steps until executed agenda now
 
 -- the agenda after the step's action, placed
-record ActsPlaced (Ever : Placed → Type 0) (now : Turn) (next : Origin) (g : PlacedAgenda) (s : Step) (answer : Answer) (b : Agenda) : Type 0 where
+record ActsPlaced (Ever : PlacedStep → Type 0) (now : Turn) (next : Origin) (g : PlacedAgenda) (s : Step) (answer : Answer) (b : Agenda) : Type 0 where
   left : PlacedAgenda
   is_seen : b ≡ seen left
   well : ActsWell Ever now next g s answer left
 
-acts_placed : {Ever : Placed → Type 0} {now : Turn} {next : Origin} {g : PlacedAgenda} (s : Step) {answer : Answer} → IsReady Ever now next g
-    → ((y : Placed) → IsPending g y → Ever y) → {a : Agenda} (b : Agenda) (action : Action) → s.action ≡ action → a ≡ seen g → Acts a action answer b
+acts_placed : {Ever : PlacedStep → Type 0} {now : Turn} {next : Origin} {g : PlacedAgenda} (s : Step) {answer : Answer} → IsReady Ever now next g
+    → ((y : PlacedStep) → IsPending g y → Ever y) → {a : Agenda} (b : Agenda) (action : Action) → s.action ≡ action → a ≡ seen g → Acts a action answer b
     → ActsPlaced Ever now next g s answer b
 acts_placed {Ever} {now} {next} {g} s {answer} r ever b action is same (does_command {c}) =
     record { left = g; is_seen = same; well = command_well Ever now next g s answer r c is }
@@ -36,7 +36,8 @@ acts_placed {Ever} {now} {next} {g} s {answer} r ever b action is same (does_can
 
 module _ (steps : List Step) (until : ℕ) where
   -- what follows the step joins, or is dropped
-  follows : {done : List (Step × Answer)} {a : Agenda} (b : Agenda) (here : Reaches steps until done a) {p : Placed} (mid left : PlacedAgenda) (answer : Answer)
+  follows : {done : List (Step × Answer)} {a : Agenda} (b : Agenda) (here : Reaches steps until done a) {p : PlacedStep} (mid left : PlacedAgenda)
+      (answer : Answer)
       → PopsWell (IsHeld steps here.executed) until here.now (held_by (length here.executed) here.so_far.at.place) here.agenda p mid
       → ActsWell (IsHeld steps here.executed) p.turn (held_by (length here.executed) here.so_far.at.place) mid p.step answer left
       → b ≡ seen left → Reaches steps until (done ++ (p.step, answer) ∷ []) (followed_by answer (list_of p.step.followers) b)

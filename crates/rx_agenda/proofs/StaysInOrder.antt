@@ -1,8 +1,8 @@
 -- From one step to the next: the executed steps stay in order.
 use Rattle.rx_agenda.proofs.Common.{◌≡◌, ◌<◌, ◌≤◌, ◌+◌, ℕ, List, [], ◌∷◌, ◌++◌, length, refl, sym, ap, subst, ◌∙◌, inl, inr, arith, ◌⊎◌, Option, Some, None}
-use Rattle.rx_agenda.proofs.Common.{slice_get, slice_get_within, schedule, next_due, Name, Step, list_of, bound, Answer, Accepted, Turn, Placed, Executed}
+use Rattle.rx_agenda.proofs.Common.{slice_get, slice_get_within, schedule, next_due, Name, Step, list_of, bound, Answer, Accepted, Turn, PlacedStep, Executed}
 use Rattle.rx_agenda.proofs.Common.{ComesBefore, opening_turn, placed_at, held_by, IsHeld, by_scenario, by_step, WaitsUnder}
-use Rattle.rx_agenda.proofs.Common.{IsCancelled, IsDue, IsExecuted, IsInOrder, WaitsAt, IsAnswered, one_waits, no_step_waits, AreCancelsAnswered}
+use Rattle.rx_agenda.proofs.Common.{IsCancelled, IsStepDue, IsExecuted, IsInOrder, WaitsAt, IsCancelAnswered, one_waits, no_step_waits, AreCancelsAnswered}
 use Rattle.std.proofs.Common.{length-append, rules}
 use Rattle.rx_agenda.proofs.Members.{IsIn, get_push, get_old, get_last}
 use Rattle.rx_agenda.proofs.ComesBeforeIsAnOrder.{comes-trans, comes-asym, comes-self}
@@ -14,11 +14,11 @@ use Rattle.rx_agenda.proofs.HeldAndCancelled.{ActsWell, IsSoFar, held_holder, he
 use Rattle.rx_agenda.proofs.HeldAndCancelled.{cancelled_more, cancelled_before, cancelled_cases, taken_cancelled, answered_more}
 
 -- a step that joins comes after the one that holds it
-module _ (x : Placed) (h : ℕ) (before : x.origin.holder < h) (head : x.turn.head.holder < h) where
+module _ (x : PlacedStep) (h : ℕ) (before : x.origin.holder < h) (head : x.turn.head.holder < h) where
   one_placed : (i : ℕ) (s : Step) (delay : Option ℕ) → s.delay ≡ delay → ComesBefore x (placed_at x.turn (held_by h i) s)
   one_placed i s x2 is = search (rules, later_turn)
 
-  comes_first : (i : ℕ) (ss : List Step) (y : Placed) → IsOneOf x.turn h i ss y → ComesBefore x y
+  comes_first : (i : ℕ) (ss : List Step) (y : PlacedStep) → IsOneOf x.turn h i ss y → ComesBefore x y
   comes_first i ss y one =
       search (rules, get_one_of, one_placed)
 
@@ -39,29 +39,29 @@ module _ (steps : List Step) (until : ℕ) (es : List Executed) (g : PlacedAgend
   x_holder = held_holder steps es e.placed x_held
 
   -- what may be to come then
-  abbrev pub Joins : Placed → Type 0
+  abbrev pub Joins : PlacedStep → Type 0
   Joins y = (e.answer ≡ Accepted) × IsOneOf e.placed.turn (length es + 1) 0 followers y
 
   x_head : e.placed.turn.head.holder < length es + 1
   x_head = search (rules, length)
 
-  after_x : (y : Placed) → IsPending left y ⊎ Joins y → ComesBefore e.placed y
+  after_x : (y : PlacedStep) → IsPending left y ⊎ Joins y → ComesBefore e.placed y
   after_x y (inl at) = (p.comes y (a.from y at)).1
   after_x y (inr joins) =
       let holder : e.placed.origin.holder ≤ length es = x_holder in
       comes_first e.placed (length es + 1) (omega arith) x_head 0 followers y joins.1
 
-  after_more : (k : ℕ) (f : Executed) (y : Placed) → slice_get more k ≡ Some f → IsPending left y ⊎ Joins y → ComesBefore f.placed y
+  after_more : (k : ℕ) (f : Executed) (y : PlacedStep) → slice_get more k ≡ Some f → IsPending left y ⊎ Joins y → ComesBefore f.placed y
   after_more k f y got at = elim (get_push es e f k got) [
     | inl old ↦ comes-trans f.placed e.placed y (so.after k f e.placed old p.was) (after_x y at)
     | inr new ↦ subst (λ (x : Executed). ComesBefore x.placed y) new.1 (after_x y at)
   ]
 
-  held_then : (y : Placed) → IsPending left y ⊎ Joins y → IsHeld steps more y
+  held_then : (y : PlacedStep) → IsPending left y ⊎ Joins y → IsHeld steps more y
   held_then y (inl at) = held_more steps es e y (so.held y (p.comes y (a.from y at)).0)
   held_then y (inr joins) = one_held steps es e joins.0 y joins.1
 
-  alive_then : (y : Placed) → IsPending left y ⊎ Joins y → ¬ IsCancelled steps more y
+  alive_then : (y : PlacedStep) → IsPending left y ⊎ Joins y → ¬ IsCancelled steps more y
   alive_then y (inl at) c = elim (cancelled_cases steps es e y c) [ inl old ↦ so.alive y (p.comes y (a.from y at)).0 old | inr new ↦ a.kept y at new.0 ]
   alive_then y (inr joins) c =
       let holder : y.origin.holder ≡ length es + 1 = one_holder steps es e y joins.1 in
@@ -73,7 +73,7 @@ module _ (steps : List Step) (until : ℕ) (es : List Executed) (g : PlacedAgend
         | inr new ↦ let scheduled : y.origin.holder ≤ length es = new.2 in absurd (omega arith)
       ]
 
-  complete_then : (y : Placed) → IsHeld steps more y → IsExecuted more y ⊎ ((IsPending left y ⊎ Joins y) ⊎ IsCancelled steps more y)
+  complete_then : (y : PlacedStep) → IsHeld steps more y → IsExecuted more y ⊎ ((IsPending left y ⊎ Joins y) ⊎ IsCancelled steps more y)
   complete_then y held = elim (held_cases steps es e y held) [
     | inr joins ↦ inr (inl (inr joins))
     | inl old ↦ elim (so.complete y old) [
@@ -111,7 +111,7 @@ module _ (steps : List Step) (until : ℕ) (es : List Executed) (g : PlacedAgend
   within_then : e.placed.turn.moment ≤ until
   within_then = p.in_time so.within
 
-  x_due : IsDue steps until more e.placed
+  x_due : IsStepDue steps until more e.placed
   x_due = record {
     held = held_more steps es e e.placed x_held;
     in_time = within_then;
@@ -121,24 +121,24 @@ module _ (steps : List Step) (until : ℕ) (es : List Executed) (g : PlacedAgend
     ];
   }
 
-  old_due : (k : ℕ) (f : Executed) → slice_get es k ≡ Some f → (y : Placed) → f.placed ≡ y → IsDue steps until es y → IsDue steps until more y
+  old_due : (k : ℕ) (f : Executed) → slice_get es k ≡ Some f → (y : PlacedStep) → f.placed ≡ y → IsStepDue steps until es y → IsStepDue steps until more y
   old_due k f there y same due = record {
     held = held_more steps es e y due.held;
     in_time = due.in_time;
     not_cancelled = λ c. elim (cancelled_cases steps es e y c) [
       | inl old ↦ due.not_cancelled old
-      | inr new ↦ comes-asym e.placed y new.1 (subst (λ (z : Placed). ComesBefore z e.placed) same (so.after k f e.placed there p.was))
+      | inr new ↦ comes-asym e.placed y new.1 (subst (λ (z : PlacedStep). ComesBefore z e.placed) same (so.after k f e.placed there p.was))
     ];
   }
 
-  only_due_then : (y : Placed) → IsExecuted more y → IsDue steps until more y
+  only_due_then : (y : PlacedStep) → IsExecuted more y → IsStepDue steps until more y
   only_due_then y done = elim (get_push es e done.by done.number done.there) [
     | inl old ↦ old_due done.number done.by old y done.same (so.only_due y (record { number = done.number; by = done.by; there = old; same = done.same }))
-    | inr new ↦ subst (IsDue steps until more) (ap (λ (z : Executed). z.placed) new.1 ∙ done.same) x_due
+    | inr new ↦ subst (IsStepDue steps until more) (ap (λ (z : Executed). z.placed) new.1 ∙ done.same) x_due
   ]
 
   -- what the new step is answered, if it cancels
-  waits_now : (label : Name) (w : Placed) → IsPending mid w → WaitsUnder label w → FirstOf (IsHeld steps es) label w.origin → WaitsAt steps more label
+  waits_now : (label : Name) (w : PlacedStep) → IsPending mid w → WaitsUnder label w → FirstOf (IsHeld steps es) label w.origin → WaitsAt steps more label
       (length es) e
   waits_now label w at waits first =
       let held : IsHeld steps es w = so.held w (p.comes w at).0 in
@@ -152,7 +152,7 @@ module _ (steps : List Step) (until : ℕ) (es : List Executed) (g : PlacedAgend
         ];
       }
 
-  none_waits_now : (label : Name) → ((y : Placed) → IsPending mid y → WaitsUnder label y → FirstOf (IsHeld steps es) label y.origin → ⊥)
+  none_waits_now : (label : Name) → ((y : PlacedStep) → IsPending mid y → WaitsUnder label y → FirstOf (IsHeld steps es) label y.origin → ⊥)
       → ¬ WaitsAt steps more label (length es) e
   none_waits_now label none w = elim (held_cases steps es e w.placed w.held) [
     | inr joins ↦
@@ -161,7 +161,7 @@ module _ (steps : List Step) (until : ℕ) (es : List Executed) (g : PlacedAgend
         absurd (omega arith)
     | inl held ↦ elim (so.complete w.placed held) [
       | inl done ↦ comes-asym e.placed w.placed w.meant.to_come
-          (subst (λ (z : Placed). ComesBefore z e.placed) done.same (so.after done.number done.by e.placed done.there p.was))
+          (subst (λ (z : PlacedStep). ComesBefore z e.placed) done.same (so.after done.number done.by e.placed done.there p.was))
       | inr rest ↦ elim rest [
         | inr gone ↦ w.not_cancelled (cancelled_more steps es e w.placed gone) (slice_get_within es gone.number gone.by gone.there)
         | inl at ↦ elim (p.others w.placed at) [
@@ -172,7 +172,7 @@ module _ (steps : List Step) (until : ℕ) (es : List Executed) (g : PlacedAgend
     ]
   ]
 
-  answered_now : (label : Name) (answer : Answer) → Says (IsHeld steps es) mid label answer → IsAnswered steps more label (length es) e answer
+  answered_now : (label : Name) (answer : Answer) → Says (IsHeld steps es) mid label answer → IsCancelAnswered steps more label (length es) e answer
   answered_now label answer (one_there w at waits first) = one_waits (waits_now label w at waits first)
   answered_now label answer (none_there none) = no_step_waits (none_waits_now label none)
 
@@ -185,7 +185,7 @@ module _ (steps : List Step) (until : ℕ) (es : List Executed) (g : PlacedAgend
   -- it was accepted: what follows it joins
   pub so_far_accepted : e.answer ≡ Accepted → IsSoFar steps until more (with_all e.placed.turn (length es + 1) 0 followers left) e.placed.turn
   so_far_accepted accepted =
-      let to : (y : Placed) → IsPending (with_all e.placed.turn (length es + 1) 0 followers left) y → IsPending left y ⊎ Joins y =
+      let to : (y : PlacedStep) → IsPending (with_all e.placed.turn (length es + 1) 0 followers left) y → IsPending left y ⊎ Joins y =
       λ y at. elim (pending_all e.placed.turn (length es + 1) 0 followers left y at) [ inl before ↦ inl before | inr one ↦ inr (accepted, one) ] in
       let ready : IsReady (IsHeld steps es) e.placed.turn (held_by (length es + 1) 0) left =
       ready_later (IsHeld steps es) (held_by (length es) so.at.place) (held_by (length es + 1) 0) left (inl (omega arith))
@@ -243,7 +243,7 @@ module _ (steps : List Step) (until : ℕ) (es : List Executed) (g : PlacedAgend
 abbrev pub no_agenda : PlacedAgenda
 no_agenda = record { timeline = schedule 0 0 []; turn = []; labels = [] }
 
-abbrev NoneEver : Placed → Type 0
+abbrev NoneEver : PlacedStep → Type 0
 NoneEver y = ⊥
 
 none_ready : IsReady NoneEver opening_turn (held_by 0 0) no_agenda
@@ -251,17 +251,17 @@ unfolding bound
 none_ready = search rules
 
 module _ (steps : List Step) (until : ℕ) where
-  held_first : (y : Placed) → IsHeld steps [] y → IsOneOf opening_turn 0 0 steps y
+  held_first : (y : PlacedStep) → IsHeld steps [] y → IsOneOf opening_turn 0 0 steps y
   held_first y (by_scenario i s got) =
       let plain : 0 + i ≡ i = omega arith in
       subst (λ (n : ℕ). IsOneOf opening_turn 0 0 steps (placed_at opening_turn (held_by 0 n) s)) plain (one_of_get opening_turn 0 0 i steps s got)
   held_first y (by_step k i e s there accepted got) = absurd (cc)
 
-  first_held : (y : Placed) → IsOneOf opening_turn 0 0 steps y → IsHeld steps [] y
+  first_held : (y : PlacedStep) → IsOneOf opening_turn 0 0 steps y → IsHeld steps [] y
   first_held y one =
       search (rules, get_one_of, by_scenario)
 
-  first_pending : (y : Placed) → IsPending (with_all opening_turn 0 0 steps no_agenda) y → IsOneOf opening_turn 0 0 steps y
+  first_pending : (y : PlacedStep) → IsPending (with_all opening_turn 0 0 steps no_agenda) y → IsOneOf opening_turn 0 0 steps y
   first_pending y at = search (rules, pending_all)
 
   pub so_far_none : IsSoFar steps until [] (with_all opening_turn 0 0 steps no_agenda) opening_turn
@@ -280,11 +280,11 @@ module _ (steps : List Step) (until : ℕ) where
       | inr rest ↦ elim rest [
         | inr gone ↦ absurd (due.not_cancelled gone)
         | inl at ↦ elim at [
-          | inl in_turn ↦ absurd (subst (λ (l : List Placed). IsIn x l) over in_turn)
+          | inl in_turn ↦ absurd (subst (λ (l : List PlacedStep). IsIn x l) over in_turn)
           | inr waits ↦
               let later : until < waits.0.1.due = none_due until g.timeline.work so.at.ready.rises none waits.0 waits.1 in
               let same : waits.0.1.due ≡ waits.0.1.item.turn.moment = (so.at.ready.entries waits.0 waits.1).due in
-              let its : waits.0.1.item.turn.moment ≡ x.turn.moment = ap (λ (z : Placed). z.turn.moment) waits.2 in
+              let its : waits.0.1.item.turn.moment ≡ x.turn.moment = ap (λ (z : PlacedStep). z.turn.moment) waits.2 in
               let in_time : x.turn.moment ≤ until = due.in_time in
               absurd (omega arith)
         ]

@@ -1,7 +1,8 @@
 -- A step joins what is to come, and steps one after another.
 use Rattle.rx_agenda.proofs.Common.{◌≡◌, ◌<◌, ◌≤◌, ◌+◌, ℕ, zero, suc, List, [], ◌∷◌, ◌++◌, true, false, cond, refl, sym, ap, subst, ◌∙◌, inl, inr, arith, ◌⊎◌}
 use Rattle.rx_agenda.proofs.Common.{Option, Some, None, is_some, slice_get, cases_lt, Work, with_work, Name, Step, Binding, bound, is_bound, with_binding}
-use Rattle.rx_agenda.proofs.Common.{with_label, with_steps, Origin, Turn, Placed, IsScheduledBefore, IsEarlierTurn, WaitsUnder, held_by, placed_at, turn_after}
+use Rattle.rx_agenda.proofs.Common.{with_label, with_steps, Origin, Turn, PlacedStep, IsScheduledBefore, IsEarlierTurn, WaitsUnder, held_by, placed_at}
+use Rattle.rx_agenda.proofs.Common.{turn_after}
 use Rattle.std.proofs.Common.{max, rules}
 use Rattle.rx_agenda.proofs.Members.{IsIn, in-push, in_front, in_back, pairwise_push}
 use Rattle.rx_agenda.proofs.ComesBeforeIsAnOrder.{scheduled-trans, scheduled-asym, scheduled-self}
@@ -10,7 +11,7 @@ use Rattle.rx_agenda.proofs.EntriesRise.{bound_old_or_new, bound_none, bound_kep
 use Rattle.rx_agenda.proofs.EntriesRise.{IsLabelled, IsReady}
 
 -- those before, and one more
-abbrev pub OrOne : (Placed → Type 0) → Placed → Placed → Type 0
+abbrev pub OrOne : (PlacedStep → Type 0) → PlacedStep → PlacedStep → Type 0
 OrOne Ever x y = Ever y ⊎ (y ≡ x)
 
 max_above : (a b : ℕ) → max (a + b) a ≡ a + b
@@ -19,7 +20,7 @@ max_above a b = omega arith
 pub later_turn : (now : Turn) (delay : ℕ) (o : Origin) → IsScheduledBefore now.head o → IsEarlierTurn now (record { moment = now.moment + delay; head = o })
 later_turn now delay o before = elim (cases_lt 0 delay) [ inl more ↦ inl (omega arith) | inr none ↦ inr (omega arith, before) ]
 
-module _ (Ever : Placed → Type 0) (x : Placed) (next beyond : Origin) (at : x.origin ≡ next) (on : IsScheduledBefore next beyond) where
+module _ (Ever : PlacedStep → Type 0) (x : PlacedStep) (next beyond : Origin) (at : x.origin ≡ next) (on : IsScheduledBefore next beyond) where
   known_now : IsScheduledBefore x.origin beyond
   known_now = subst (λ (o : Origin). IsScheduledBefore o beyond) (sym at) on
 
@@ -37,7 +38,7 @@ module _ (Ever : Placed → Type 0) (x : Placed) (next beyond : Origin) (at : x.
       known = scheduled-trans e.1.item.origin next beyond was.known on;
     }
 
-    member_later : (y : Placed) → IsIn y g.turn → IsOfTurn now beyond y
+    member_later : (y : PlacedStep) → IsIn y g.turn → IsOfTurn now beyond y
     member_later y there = let was = r.members y there in
         record { in_turn = was.in_turn; at_once = was.at_once; known = scheduled-trans y.origin next beyond was.known on }
 
@@ -84,7 +85,7 @@ module _ (Ever : Placed → Type 0) (x : Placed) (next beyond : Origin) (at : x.
       abbrev longer : List Entry
       longer = g.timeline.work ++ entry ∷ []
 
-      first_old : (l : Name) (t : ℕ) (w : Work Placed) → bound g.labels l ≡ Some t → IsIn (t, w) longer → (w.item.step.label ≡ Some l) × FirstOf
+      first_old : (l : Name) (t : ℕ) (w : Work PlacedStep) → bound g.labels l ≡ Some t → IsIn (t, w) longer → (w.item.step.label ≡ Some l) × FirstOf
           (OrOne Ever x) l w.item.origin
       first_old l t w known there = elim (in-push (t, w) g.timeline.work entry there) [
         | inl old ↦ (
@@ -94,7 +95,7 @@ module _ (Ever : Placed → Type 0) (x : Placed) (next beyond : Origin) (at : x.
             | inr same ↦ λ waits lower.
                 let above : IsScheduledBefore w.item.origin next = (r.entries (t, w) old).known in
                 let below : IsScheduledBefore y.origin w.item.origin = lower in
-                let here : y.origin ≡ next = ap (λ (z : Placed). z.origin) same ∙ at in
+                let here : y.origin ≡ next = ap (λ (z : PlacedStep). z.origin) same ∙ at in
                 scheduled-asym w.item.origin next above (subst (λ (o : Origin). IsScheduledBefore o w.item.origin) here below)
           ],
         )
@@ -111,7 +112,7 @@ module _ (Ever : Placed → Type 0) (x : Placed) (next beyond : Origin) (at : x.
         unbound = λ l free y ever. elim ever [
           | inl old ↦ r.labelled.unbound l free y old
           | inr same ↦ λ waits.
-              let under : Some l ≡ Some name = sym waits.0 ∙ ap (λ (z : Placed). z.step.label) same ∙ is in
+              let under : Some l ≡ Some name = sym waits.0 ∙ ap (λ (z : PlacedStep). z.step.label) same ∙ is in
               let label : l ≡ name = cc in
               let none : is_some (bound g.labels l) ≡ false = ap is_some free in
               let some : is_some (bound g.labels l) ≡ true = subst (λ (n : Name). is_some (bound g.labels n) ≡ true) (sym label) there in
@@ -124,7 +125,7 @@ module _ (Ever : Placed → Type 0) (x : Placed) (next beyond : Origin) (at : x.
           | inl old ↦ r.labelled.bears l f old waits (λ y ever. first y (inl ever))
           | inr new ↦
               let item : f.1.item ≡ x = ap (λ (k : Entry). k.1.item) new in
-              let under : Some l ≡ Some name = sym waits.0 ∙ ap (λ (z : Placed). z.step.label) item ∙ is in
+              let under : Some l ≡ Some name = sym waits.0 ∙ ap (λ (z : PlacedStep). z.step.label) item ∙ is in
               let label : l ≡ name = cc in
               absurd (none_first l f label item first (bound g.labels name) refl there_then)
         ];
@@ -137,7 +138,7 @@ module _ (Ever : Placed → Type 0) (x : Placed) (next beyond : Origin) (at : x.
         none_first l f label item first None known some = absurd (cc)
         none_first l f label item first (Some t) known some =
             let b = r.labelled.borne name t known in
-            let place : f.1.item.origin ≡ next = ap (λ (z : Placed). z.origin) item ∙ at in
+            let place : f.1.item.origin ≡ next = ap (λ (z : PlacedStep). z.origin) item ∙ at in
             first b.placed (inl b.ever) (subst (λ (n : Name). WaitsUnder n b.placed) (sym label) b.waits)
             (subst (λ (o : Origin). IsScheduledBefore b.placed.origin o) (sym place) b.known)
 
@@ -149,7 +150,7 @@ module _ (Ever : Placed → Type 0) (x : Placed) (next beyond : Origin) (at : x.
             elim ever [
               | inl old ↦ r.labelled.unbound l parts.0 y old
               | inr same ↦ λ waits.
-                  let under : Some l ≡ Some name = sym waits.0 ∙ ap (λ (z : Placed). z.step.label) same ∙ is in
+                  let under : Some l ≡ Some name = sym waits.0 ∙ ap (λ (z : PlacedStep). z.step.label) same ∙ is in
                   let label : name ≡ l = cc in
                   absurd (parts.1 label)
             ];
@@ -158,11 +159,11 @@ module _ (Ever : Placed → Type 0) (x : Placed) (next beyond : Origin) (at : x.
           | inr new ↦ elim (in-push (t, w) g.timeline.work entry there) [
             | inl before ↦ let below = (r.entries (t, w) before).given in let number : t ≡ g.timeline.tickets = new.2 in absurd (omega arith)
             | inr same ↦ (
-              (let item : w.item ≡ x = ap (λ (e : Entry). e.1.item) same in ap (λ (z : Placed). z.step.label) item ∙ is ∙ ap (λ (n : Name). Some n) new.1),
+              (let item : w.item ≡ x = ap (λ (e : Entry). e.1.item) same in ap (λ (z : PlacedStep). z.step.label) item ∙ is ∙ ap (λ (n : Name). Some n) new.1),
               (λ y ever. elim ever [
                 | inl old ↦ λ waits. absurd (r.labelled.unbound l new.0 y old waits)
                 | inr one ↦ λ waits lower. let item : w.item ≡ x = ap (λ (e : Entry). e.1.item) same in
-                    scheduled-self y.origin w.item.origin (ap (λ (z : Placed). z.origin) (one ∙ sym item)) lower
+                    scheduled-self y.origin w.item.origin (ap (λ (z : PlacedStep). z.origin) (one ∙ sym item)) lower
               ]),
             )
           ]
@@ -179,7 +180,7 @@ module _ (Ever : Placed → Type 0) (x : Placed) (next beyond : Origin) (at : x.
           | inl old ↦ bound_kept g.labels name g.timeline.tickets l f.0 (r.labelled.bears l f old waits (λ y ever. first y (inl ever)))
           | inr new ↦
               let item : f.1.item ≡ x = ap (λ (k : Entry). k.1.item) new in
-              let under : Some name ≡ Some l = sym is ∙ sym (ap (λ (z : Placed). z.step.label) item) ∙ waits.0 in
+              let under : Some name ≡ Some l = sym is ∙ sym (ap (λ (z : PlacedStep). z.step.label) item) ∙ waits.0 in
               let label : name ≡ l = cc in
               bound_new g.labels name g.timeline.tickets l free label ∙ ap (λ (n : ℕ). Some n) (sym (ap (λ (k : Entry). k.0) new))
         ];
@@ -237,7 +238,7 @@ module _ (Ever : Placed → Type 0) (x : Placed) (next beyond : Origin) (at : x.
 next_place : (h i : ℕ) → IsScheduledBefore (held_by h i) (held_by h (i + 1))
 next_place h i = inr (refl, omega arith)
 
-pub ready_one : {Ever : Placed → Type 0} (now : Turn) (h i : ℕ) (s : Step) (g : PlacedAgenda) → IsReady Ever now (held_by h i) g
+pub ready_one : {Ever : PlacedStep → Type 0} (now : Turn) (h i : ℕ) (s : Step) (g : PlacedAgenda) → IsReady Ever now (held_by h i) g
     → (delay : Option ℕ) → s.delay ≡ delay
     → IsReady (OrOne Ever (placed_at now (held_by h i) s)) now (held_by h (i + 1)) (with_placed_after delay (placed_at now (held_by h i) s) g)
 ready_one {Ever} now h i s g r None is = ready_turn Ever (placed_at now (held_by h i) s) (held_by h i) (held_by h (i + 1)) refl (next_place h i) now g r
@@ -245,10 +246,10 @@ ready_one {Ever} now h i s g r None is = ready_turn Ever (placed_at now (held_by
 ready_one {Ever} now h i s g r (Some delay) is = ready_wait Ever (placed_at now (held_by h i) s) (held_by h i) (held_by h (i + 1)) refl
     (next_place h i) now g r delay (ap (turn_after now (held_by h i)) is) (ap is_some is)
 
-pending_one : (delay : Option ℕ) (x y : Placed) (g : PlacedAgenda) → IsPending (with_placed_after delay x g) y → IsPending g y ⊎ (y ≡ x)
+pending_one : (delay : Option ℕ) (x y : PlacedStep) (g : PlacedAgenda) → IsPending (with_placed_after delay x g) y → IsPending g y ⊎ (y ≡ x)
 pending_one x0 x y g x4 = search (rules, in-push)
 
-one_pending : (delay : Option ℕ) (x y : Placed) (g : PlacedAgenda) → IsPending g y ⊎ (y ≡ x) → IsPending (with_placed_after delay x g) y
+one_pending : (delay : Option ℕ) (x y : PlacedStep) (g : PlacedAgenda) → IsPending g y ⊎ (y ≡ x) → IsPending (with_placed_after delay x g) y
 one_pending None x y g (inl (inl there)) = inl (in_front y g.turn (x ∷ []) there)
 one_pending None x y g (inl (inr there)) = inr there
 one_pending None x y g (inr same) = inl (in_back y g.turn (x ∷ []) (inl same))
@@ -269,7 +270,7 @@ one_pending (Some delay) x y g (inr same) = inr (
 
 -- steps one after another --------------------------------------------------------------------------
 
-abbrev pub IsOneOf : Turn → ℕ → ℕ → List Step → Placed → Type 0
+abbrev pub IsOneOf : Turn → ℕ → ℕ → List Step → PlacedStep → Type 0
 IsOneOf now h i [] y = ⊥
 IsOneOf now h i (s ∷ ss) y = (y ≡ placed_at now (held_by h i) s) ⊎ IsOneOf now h (i + 1) ss y
 
@@ -284,17 +285,17 @@ with_all-seen now h i (s ∷ ss) g =
     ap (with_steps ss) (with_placed-seen x g) ∙ with_all-seen now h (i + 1) ss (with_placed x g)
 
 -- where the next step would be held
-pub record IsReadyAt (Ever : Placed → Type 0) (now : Turn) (h : ℕ) (g : PlacedAgenda) : Type 0 where
+pub record IsReadyAt (Ever : PlacedStep → Type 0) (now : Turn) (h : ℕ) (g : PlacedAgenda) : Type 0 where
   pub place : ℕ
   pub ready : IsReady Ever now (held_by h place) g
 
-ready_as : (Ever Same : Placed → Type 0) (now : Turn) (next : Origin) (g : PlacedAgenda) → ((y : Placed) → Same y → Ever y)
-    → ((y : Placed) → Ever y → Same y) → IsReady Ever now next g
+ready_as : (Ever Same : PlacedStep → Type 0) (now : Turn) (next : Origin) (g : PlacedAgenda) → ((y : PlacedStep) → Same y → Ever y)
+    → ((y : PlacedStep) → Ever y → Same y) → IsReady Ever now next g
     → IsReady Same now next g
 ready_as Ever Same now next g to from r = search (rules, labelled_as)
 
-pub ready_all : (Ever Same : Placed → Type 0) {now : Turn} (h i : ℕ) (ss : List Step) {g : PlacedAgenda} → IsReady Ever now (held_by h i) g
-    → ((y : Placed) → Same y → Ever y ⊎ IsOneOf now h i ss y) → ((y : Placed) → Ever y ⊎ IsOneOf now h i ss y → Same y) → IsReadyAt Same now h
+pub ready_all : (Ever Same : PlacedStep → Type 0) {now : Turn} (h i : ℕ) (ss : List Step) {g : PlacedAgenda} → IsReady Ever now (held_by h i) g
+    → ((y : PlacedStep) → Same y → Ever y ⊎ IsOneOf now h i ss y) → ((y : PlacedStep) → Ever y ⊎ IsOneOf now h i ss y → Same y) → IsReadyAt Same now h
     (with_all now h i ss g)
 ready_all Ever Same {now} h i [] {g} r to from =
     record {
@@ -303,7 +304,7 @@ ready_all Ever Same {now} h i [] {g} r to from =
           (λ y ever. from y (inl ever)) r;
     }
 ready_all Ever Same {now} h i (s ∷ ss) {g} r to from =
-    let x : Placed = placed_at now (held_by h i) s in
+    let x : PlacedStep = placed_at now (held_by h i) s in
     ready_all (OrOne Ever x) Same h (i + 1) ss (ready_one now h i s g r s.delay refl)
     (λ y same. elim (to y same) [
       | inl ever ↦ inl (inl ever)
@@ -314,26 +315,26 @@ ready_all Ever Same {now} h i (s ∷ ss) {g} r to from =
       | inr more ↦ from y (inr (inr more))
     ])
 
-pub pending_all : (now : Turn) (h i : ℕ) (ss : List Step) (g : PlacedAgenda) (y : Placed) → IsPending (with_all now h i ss g) y → IsPending g y
+pub pending_all : (now : Turn) (h i : ℕ) (ss : List Step) (g : PlacedAgenda) (y : PlacedStep) → IsPending (with_all now h i ss g) y → IsPending g y
     ⊎ IsOneOf now h i ss y
 pending_all now h i [] g y there = inl there
 pending_all now h i (s ∷ ss) g y there =
-    let x : Placed = placed_at now (held_by h i) s in
+    let x : PlacedStep = placed_at now (held_by h i) s in
     elim (pending_all now h (i + 1) ss (with_placed x g) y there) [
       | inl before ↦ elim (pending_one s.delay x y g before) [ inl old ↦ inl old | inr same ↦ inr (inl same) ]
       | inr more ↦ inr (inr more)
     ]
 
-pub all_pending : (now : Turn) (h i : ℕ) (ss : List Step) (g : PlacedAgenda) (y : Placed) → IsPending g y ⊎ IsOneOf now h i ss y → IsPending
+pub all_pending : (now : Turn) (h i : ℕ) (ss : List Step) (g : PlacedAgenda) (y : PlacedStep) → IsPending g y ⊎ IsOneOf now h i ss y → IsPending
     (with_all now h i ss g) y
 all_pending now h i [] g y (inl there) = there
 all_pending now h i [] g y (inr none) = absurd none
 all_pending now h i (s ∷ ss) g y (inl there) =
-    let x : Placed = placed_at now (held_by h i) s in all_pending now h (i + 1) ss (with_placed x g) y (inl (one_pending s.delay x y g (inl there)))
+    let x : PlacedStep = placed_at now (held_by h i) s in all_pending now h (i + 1) ss (with_placed x g) y (inl (one_pending s.delay x y g (inl there)))
 all_pending now h i (s ∷ ss) g y (inr (inl same)) =
-    let x : Placed = placed_at now (held_by h i) s in all_pending now h (i + 1) ss (with_placed x g) y (inl (one_pending s.delay x y g (inr same)))
+    let x : PlacedStep = placed_at now (held_by h i) s in all_pending now h (i + 1) ss (with_placed x g) y (inl (one_pending s.delay x y g (inr same)))
 all_pending now h i (s ∷ ss) g y (inr (inr more)) =
-    let x : Placed = placed_at now (held_by h i) s in all_pending now h (i + 1) ss (with_placed x g) y (inr more)
+    let x : PlacedStep = placed_at now (held_by h i) s in all_pending now h (i + 1) ss (with_placed x g) y (inr more)
 
 -- the steps by their places
 pub one_of_get : (now : Turn) (h i j : ℕ) (ss : List Step) (s : Step) → slice_get ss j ≡ Some s → IsOneOf now h i ss (placed_at now (held_by h (i + j)) s)
@@ -343,13 +344,13 @@ one_of_get now h i zero (x ∷ ss) s got =
 one_of_get now h i (suc j) (x ∷ ss) s got =
     search (rules, got, one_of_get now h (i + 1) j ss s got)
 
-pub record IsAt (now : Turn) (h i : ℕ) (ss : List Step) (y : Placed) : Type 0 where
+pub record IsAt (now : Turn) (h i : ℕ) (ss : List Step) (y : PlacedStep) : Type 0 where
   pub place : ℕ
   pub step : Step
   pub got : slice_get ss place ≡ Some step
   pub is : placed_at now (held_by h (i + place)) step ≡ y
 
-pub get_one_of : (now : Turn) (h i : ℕ) (ss : List Step) (y : Placed) → IsOneOf now h i ss y → IsAt now h i ss y
+pub get_one_of : (now : Turn) (h i : ℕ) (ss : List Step) (y : PlacedStep) → IsOneOf now h i ss y → IsAt now h i ss y
 get_one_of now h i [] y none = absurd none
 get_one_of now h i (s ∷ ss) y (inl same) = let at : i + 0 ≡ i = omega arith in
     record { place = 0; step = s; got = refl; is = ap (λ n. placed_at now (held_by h n) s) at ∙ sym same }

@@ -18,14 +18,14 @@ pub record Turn : Type 0 where
   pub head : Origin
 
 -- a step, where it is held, and the turn in which it is to be executed
-pub record Placed : Type 0 where
+pub record PlacedStep : Type 0 where
   pub step : Step
   pub origin : Origin
   pub turn : Turn
 
 -- an executed step, and its answer
 pub record Executed : Type 0 where
-  pub placed : Placed
+  pub placed : PlacedStep
   pub answer : Answer
 
 -- a step and its answer
@@ -43,7 +43,7 @@ abbrev pub IsEarlierTurn : Turn → Turn → Type 0
 IsEarlierTurn t u = (t.moment < u.moment) ⊎ ((t.moment ≡ u.moment) × IsScheduledBefore t.head u.head)
 
 -- steps go by turn, and in one turn by their scheduling; so its head comes first, which was scheduled before any step of its turn came
-abbrev pub ComesBefore : Placed → Placed → Type 0
+abbrev pub ComesBefore : PlacedStep → PlacedStep → Type 0
 ComesBefore x y = IsEarlierTurn x.turn y.turn ⊎ ((x.turn ≡ y.turn) × IsScheduledBefore x.origin y.origin)
 
 -- what is executed, and what is missing -----------------------------------------------------------
@@ -58,7 +58,7 @@ turn_after held_in origin None = held_in
 turn_after held_in origin (Some delay) = record { moment = held_in.moment + delay; head = origin }
 
 -- a step in its turn, where its holder is in this one
-abbrev pub placed_at : Turn → Origin → Step → Placed
+abbrev pub placed_at : Turn → Origin → Step → PlacedStep
 placed_at held_in origin s = record { step = s; origin = origin; turn = turn_after held_in origin s.delay }
 
 -- the i-th step of this holder, from 0 on
@@ -66,25 +66,25 @@ abbrev pub held_by : ℕ → ℕ → Origin
 held_by holder i = record { holder = holder; place = i + 1 }
 
 -- the steps of the scenario, and those that follow an accepted step
-pub data IsHeld (steps : List Step) (executed : List Executed) : Placed → Type 0 where
+pub data IsHeld (steps : List Step) (executed : List Executed) : PlacedStep → Type 0 where
   by_scenario : (i : ℕ) (s : Step) → slice_get steps i ≡ Some s → IsHeld steps executed (placed_at opening_turn (held_by 0 i) s)
   by_step : (k i : ℕ) (e : Executed) (s : Step) → slice_get executed k ≡ Some e → e.answer ≡ Accepted
       → slice_get (list_of e.placed.step.followers) i ≡ Some s → IsHeld steps executed (placed_at e.placed.turn (held_by (k + 1) i) s)
 
 -- it waits for its time, under this label
-abbrev pub WaitsUnder : Name → Placed → Type 0
+abbrev pub WaitsUnder : Name → PlacedStep → Type 0
 WaitsUnder label x = (x.step.label ≡ Some label) × (is_some x.step.delay ≡ true)
 
 -- the step that this label means when the step of this number comes: it was scheduled by then, and it has yet to come. Of several steps
 -- with one label, which no scenario has, the one that was scheduled first
-pub record IsMeant (steps : List Step) (executed : List Executed) (label : Name) (number : ℕ) (by : Executed) (x : Placed) : Type 0 where
+pub record IsMeant (steps : List Step) (executed : List Executed) (label : Name) (number : ℕ) (by : Executed) (x : PlacedStep) : Type 0 where
   pub waits : WaitsUnder label x
   pub scheduled : x.origin.holder ≤ number
   pub to_come : ComesBefore by.placed x
-  pub first : (y : Placed) → IsHeld steps executed y → WaitsUnder label y → ¬ IsScheduledBefore y.origin x.origin
+  pub first : (y : PlacedStep) → IsHeld steps executed y → WaitsUnder label y → ¬ IsScheduledBefore y.origin x.origin
 
 -- a cancel that was accepted means it
-pub record IsCancelled (steps : List Step) (executed : List Executed) (x : Placed) : Type 0 where
+pub record IsCancelled (steps : List Step) (executed : List Executed) (x : PlacedStep) : Type 0 where
   pub number : ℕ
   pub by : Executed
   pub label : Name
@@ -94,13 +94,13 @@ pub record IsCancelled (steps : List Step) (executed : List Executed) (x : Place
   pub meant : IsMeant steps executed label number by x
 
 -- what is to be executed until this time
-pub record IsDue (steps : List Step) (until : ℕ) (executed : List Executed) (x : Placed) : Type 0 where
+pub record IsStepDue (steps : List Step) (until : ℕ) (executed : List Executed) (x : PlacedStep) : Type 0 where
   pub held : IsHeld steps executed x
   pub in_time : x.turn.moment ≤ until
   pub not_cancelled : ¬ IsCancelled steps executed x
 
 -- one of the executed steps is this one
-pub record IsExecuted (executed : List Executed) (x : Placed) : Type 0 where
+pub record IsExecuted (executed : List Executed) (x : PlacedStep) : Type 0 where
   pub number : ℕ
   pub by : Executed
   pub there : slice_get executed number ≡ Some by
@@ -112,24 +112,24 @@ pub record IsInOrder (steps : List Step) (until : ℕ) (executed : List Executed
   pub in_order : (i j : ℕ) (x y : Executed) → i < j → slice_get executed i ≡ Some x → slice_get executed j ≡ Some y
       → ComesBefore x.placed y.placed
   pub behind_holder : (i : ℕ) (x : Executed) → slice_get executed i ≡ Some x → x.placed.origin.holder ≤ i
-  pub only_due : (x : Placed) → IsExecuted executed x → IsDue steps until executed x
-  pub all_due : (x : Placed) → IsDue steps until executed x → IsExecuted executed x
+  pub only_due : (x : PlacedStep) → IsExecuted executed x → IsStepDue steps until executed x
+  pub all_due : (x : PlacedStep) → IsStepDue steps until executed x → IsExecuted executed x
 
 -- what a cancel is answered --------------------------------------------------------------------------
 
 -- when the step of this number comes, a step waits under this label that was not cancelled before
 pub record WaitsAt (steps : List Step) (executed : List Executed) (label : Name) (number : ℕ) (by : Executed) : Type 0 where
-  pub placed : Placed
+  pub placed : PlacedStep
   pub held : IsHeld steps executed placed
   pub meant : IsMeant steps executed label number by placed
   pub not_cancelled : (c : IsCancelled steps executed placed) → ¬ (c.number < number)
 
 -- a cancel is accepted where a step waits under its label, and refused where none does
-pub data IsAnswered (steps : List Step) (executed : List Executed) (label : Name) (number : ℕ) (by : Executed) : Answer → Type 0 where
-  one_waits : WaitsAt steps executed label number by → IsAnswered steps executed label number by Accepted
-  no_step_waits : ¬ WaitsAt steps executed label number by → IsAnswered steps executed label number by (Refused NoStep)
+pub data IsCancelAnswered (steps : List Step) (executed : List Executed) (label : Name) (number : ℕ) (by : Executed) : Answer → Type 0 where
+  one_waits : WaitsAt steps executed label number by → IsCancelAnswered steps executed label number by Accepted
+  no_step_waits : ¬ WaitsAt steps executed label number by → IsCancelAnswered steps executed label number by (Refused NoStep)
 
 -- each executed cancel is answered so
 abbrev pub AreCancelsAnswered : List Step → List Executed → Type 0
 AreCancelsAnswered steps executed = (i : ℕ) (x : Executed) (label : Name) → slice_get executed i ≡ Some x → x.placed.step.action ≡ cancel label
-    → IsAnswered steps executed label i x x.answer
+    → IsCancelAnswered steps executed label i x x.answer

@@ -4,7 +4,7 @@ ghost use Rattle.std.specs.Prelude.{◌≡◌, ◌+◌, ◌≤◌, Some, None, m
 ghost use Rattle.rx_time.specs.Schedule.{with_work};
 ghost use Rattle.rx_scenario.specs.Scenario.{step_of};
 ghost use Rattle.rx_agenda.specs.Agenda.{empty_agenda, with_label, with_step_after, with_step, with_steps, followed_by, next_step, Cancels};
-ghost use Rattle.rx_agenda.specs.Shown.{number_binding, agenda_of, size_of, size_left};
+ghost use Rattle.rx_agenda.specs.Shown.{number_binding, agenda_of, steps_to_come, size_left};
 
 use crate::answer::{Answer, Cause};
 use crate::names::Names;
@@ -86,7 +86,7 @@ fn wait(agenda: &mut Agenda, delay: Ticks, step: Step) -> Result<(), AllocError>
     requires { agenda.old.timeline.clock ≤ 1000000000000000 }
     ensures ok { OnOk result (agenda_of agenda.new
         ≡ with_step_after (Some delay) (step_of step) (agenda_of agenda.old)) }
-    ensures size { OnOk result (size_left agenda.new ≡ size_left agenda.old + size_of step) }
+    ensures size { OnOk result (size_left agenda.new ≡ size_left agenda.old + steps_to_come step) }
     ensures clock { OnOk result (agenda.new.timeline.clock ≡ agenda.old.timeline.clock) }
 {
     let label = label_of(&step)?;
@@ -99,7 +99,7 @@ fn wait(agenda: &mut Agenda, delay: Ticks, step: Step) -> Result<(), AllocError>
 pub fn add(agenda: &mut Agenda, step: Step) -> Result<(), AllocError>
     requires { agenda.old.timeline.clock ≤ 1000000000000000 }
     ensures ok { OnOk result (agenda_of agenda.new ≡ with_step (step_of step) (agenda_of agenda.old)) }
-    ensures size { OnOk result (size_left agenda.new ≡ size_left agenda.old + size_of step) }
+    ensures size { OnOk result (size_left agenda.new ≡ size_left agenda.old + steps_to_come step) }
     ensures clock { OnOk result (agenda.new.timeline.clock ≡ agenda.old.timeline.clock) }
 {
     match step.delay {
@@ -115,7 +115,7 @@ pub fn add(agenda: &mut Agenda, step: Step) -> Result<(), AllocError>
 fn add_each(agenda: &mut Agenda, steps: Vec<Step>) -> Result<(), AllocError>
     requires { agenda.old.timeline.clock ≤ 1000000000000000 }
     ensures ok { OnOk result (agenda_of agenda.new ≡ with_steps (map step_of steps.items) (agenda_of agenda.old)) }
-    ensures size { OnOk result (size_left agenda.new ≡ size_left agenda.old + sum_by size_of steps.items) }
+    ensures size { OnOk result (size_left agenda.new ≡ size_left agenda.old + sum_by steps_to_come steps.items) }
     ensures clock { OnOk result (agenda.new.timeline.clock ≡ agenda.old.timeline.clock) }
 {
     for step in steps {
@@ -128,7 +128,7 @@ fn add_each(agenda: &mut Agenda, steps: Vec<Step>) -> Result<(), AllocError>
 pub fn add_all(agenda: &mut Agenda, steps: Vec<Step>) -> Result<(), AllocError>
     requires { agenda.old.timeline.clock ≤ 1000000000000000 }
     ensures ok { OnOk result (agenda_of agenda.new ≡ with_steps (map step_of steps.items) (agenda_of agenda.old)) }
-    ensures size { OnOk result (size_left agenda.new ≡ size_left agenda.old + sum_by size_of steps.items) }
+    ensures size { OnOk result (size_left agenda.new ≡ size_left agenda.old + sum_by steps_to_come steps.items) }
     ensures clock { OnOk result (agenda.new.timeline.clock ≡ agenda.old.timeline.clock) }
 {
     agenda.timeline.reserve(steps.len())?;
@@ -141,7 +141,7 @@ pub fn follow(agenda: &mut Agenda, answer: Answer, steps: Vec<Step>) -> Result<(
     requires { agenda.old.timeline.clock ≤ 1000000000000000 }
     ensures ok { OnOk result (agenda_of agenda.new
         ≡ followed_by answer (map step_of steps.items) (agenda_of agenda.old)) }
-    ensures size { OnOk result (size_left agenda.new ≤ size_left agenda.old + sum_by size_of steps.items) }
+    ensures size { OnOk result (size_left agenda.new ≤ size_left agenda.old + sum_by steps_to_come steps.items) }
     ensures clock { OnOk result (agenda.new.timeline.clock ≡ agenda.old.timeline.clock) }
 {
     match answer {
@@ -155,7 +155,7 @@ pub fn next_step(agenda: &mut Agenda, until: u64) -> Option<Step>
     ensures some { IfSome result (λ s. next_step until (agenda_of agenda.old)
         ≡ Some (step_of s, agenda_of agenda.new)) }
     ensures none { IfNone result (next_step until (agenda_of agenda.old) ≡ None) }
-    ensures size { IfSome result (λ s. size_left agenda.new + size_of s ≡ size_left agenda.old) }
+    ensures size { IfSome result (λ s. size_left agenda.new + steps_to_come s ≡ size_left agenda.old) }
     ensures clock { agenda.old.timeline.clock ≤ until → agenda.new.timeline.clock ≤ until }
 {
     match agenda.turn.next() {

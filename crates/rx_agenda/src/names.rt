@@ -1,7 +1,7 @@
 //! What names stand for.
 
 ghost use Rattle.std.specs.Prelude.{◌≡◌, [], ◌∷◌, ◌++◌, is_some, false, string_bytes, OnOk};
-ghost use Rattle.rx_agenda.specs.Names.{key_of};
+ghost use Rattle.rx_agenda.specs.Names.{key_named};
 
 use std::alloc::{AllocError, Global};
 use std::collections::HashMap;
@@ -49,21 +49,21 @@ impl<K: Copy> Names<K> {
 
     /// The key that the name stands for.
     pub fn get(&self, name: &str) -> Option<K>
-        ensures { result ≡ key_of self.now name.now }
+        ensures { result ≡ key_named self.now name.now }
     {
         self.by_name.get(name).copied()
     }
 
     /// Whether the name stands for a key.
     pub fn is_bound(&self, name: &str) -> bool
-        ensures { result ≡ is_some (key_of self.now name.now) }
+        ensures { result ≡ is_some (key_named self.now name.now) }
     {
         self.get(name).is_some()
     }
 
     /// Binds a name that is not bound. Err where memory is refused.
     pub fn bind(&mut self, name: String, key: K) -> Result<(), AllocError>
-        requires { is_some (key_of self.old (string_bytes name)) ≡ false }
+        requires { is_some (key_named self.old (string_bytes name)) ≡ false }
         ensures { OnOk result (self.new ≡ self.old ++ record { name = name; key = key } ∷ []) }
     {
         self.in_order.reserve(1)?;

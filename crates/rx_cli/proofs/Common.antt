@@ -6,6 +6,6 @@ pub use Rattle.std.specs.{Str.Parse.ParsesUnsigned, Str.Parse.digits_value, Str.
 pub use Rattle.clap.{proofs.WalkLemmas.first_value-rows, specs.Values.IsUnsignedIn, specs.declared.builder.value_parser.ValueParser.TheVariants.Unsigned}
 pub use Rattle.clap.specs.Words.{app_of, App, fault_of, found_of, new_app, with_rule, Text, is_simple, is_simple_and_free, subcommand_of, with_subcommand}
 unfoldable pub use Rattle.clap.proofs.OnLiterals.{clap_on_literals}
-pub use Rattle.rx_cli.specs.{Told.Bytes, Told.IsTold}
-pub use Rattle.rx_cli.specs.{Words.number_by, Words.rxbook, Words.form_by, Words.run_by, Words.labels_by, Words.order_of}
+pub use Rattle.rx_cli.specs.{Told.Bytes, Told.IsTextWritten}
+pub use Rattle.rx_cli.specs.{Words.number_by, Words.rxbook, Words.form_by, Words.run_by, Words.labels_by, Words.order_of_subcommand}
 pub use Rattle.rx_device.specs.declared.{fault.ScriptError.TheVariants.Memory, watched.Watched.Watched}

@@ -11,7 +11,7 @@ use Rattle.rx_device.specs.Device.{device_of, has_failed, has_stopped, HasReadFa
 use Rattle.rx_device.specs.Input.{GivesTooMuch, GivesNoJson}
 use Rattle.rx_dump.specs.Verdict.{is_lawful}
 use Rattle.rx_names.specs.declared.judging.Labels.{Labels}
-use Rattle.rx_names.specs.Judged.{Judges, GivesNoHistory}
+use Rattle.rx_names.specs.Judged.{JudgesNamed, GivesNoHistory}
 use Rattle.rx_script.specs.declared.Form.{Form}
 use Rattle.rx_script.specs.declared.Form.TheVariants.{Report}
 use Rattle.rx_script.specs.Stage.{Ware}
@@ -21,7 +21,7 @@ use Rattle.rx_storm.specs.declared.StormFault.{StormFault}
 use Rattle.rx_storm.specs.declared.StormFault.TheVariants.{Memory as NoMemory, Thread as NoThread, Write as NoWrite}
 use Rattle.rx_storm.specs.Storms.{Tells as TellsFigures, TellsFront}
 use Rattle.rx_cli.specs.Status.{line_of, status_of, audit_status_of, storm_status_of, storm_line_of}
-use Rattle.rx_cli.specs.Told.{Bytes, IsTold}
+use Rattle.rx_cli.specs.Told.{Bytes, IsTextWritten}
 
 -- ---- a run
 
@@ -45,10 +45,10 @@ pub record Ran {I O : Type 0} (remaining : I → Bytes) (contents : O → Bytes)
   pub shape : IsErrOf outcome Shape → LacksOutput form (remaining (device_of input)) (remaining (device_of input'))
 
 -- the status and the line tell this outcome
-pub record Tells {E : Type 0} (contents : E → Bytes) (errors errors' : Watched E)
+pub record TellsOutcome {E : Type 0} (contents : E → Bytes) (errors errors' : Watched E)
     (outcome : Result (Unit {0}) ScriptError) (status : ℕ) : Type 0 where
   pub says : status ≡ status_of outcome
-  pub line : IsTold contents errors errors' (line_of outcome)
+  pub line : IsTextWritten contents errors errors' (line_of outcome)
 
 -- ---- a traced run
 
@@ -77,13 +77,13 @@ pub record Traced {I O : Type 0} (remaining : I → Bytes) (contents : O → Byt
 pub record Audited {I O : Type 0} (remaining : I → Bytes) (contents : O → Bytes) (labels : Labels)
     (input input' : Watched I) (output output' : Watched O) (outcome : Result Bool ScriptError) : Type 0 where
   pub verdict : IfOk outcome (λ lawful. (v : Verdict) × (lawful ≡ is_lawful v)
-      × Judges labels v (remaining (device_of input)) (remaining (device_of input'))
+      × JudgesNamed labels v (remaining (device_of input)) (remaining (device_of input'))
       (Appends (contents (device_of output)) (contents (device_of output'))))
   pub stopped : OnOk outcome (has_stopped input' ≡ true)
   pub unhurt : OnOk outcome ((has_failed input' ≡ false) × (has_failed output' ≡ false))
   pub moved : OnOk outcome (has_stopped output' ≡ false)
   pub front : IsErrOf outcome Write → (v : Verdict)
-      × Judges labels v (remaining (device_of input)) (remaining (device_of input'))
+      × JudgesNamed labels v (remaining (device_of input)) (remaining (device_of input'))
       (AppendsPrefix (contents (device_of output)) (contents (device_of output')))
   pub silent : IfErr outcome (λ e. e ≢ Write → output' ≡ output)
   pub read : IsErrOf outcome Read → HasReadFault input'
@@ -96,7 +96,7 @@ pub record Audited {I O : Type 0} (remaining : I → Bytes) (contents : O → By
 pub record TellsAudit {E : Type 0} (contents : E → Bytes) (errors errors' : Watched E)
     (outcome : Result Bool ScriptError) (status : ℕ) : Type 0 where
   pub says : status ≡ audit_status_of outcome
-  pub line : IsTold contents errors errors' (line_of outcome)
+  pub line : IsTextWritten contents errors errors' (line_of outcome)
 
 -- ---- a storm
 
@@ -116,7 +116,7 @@ pub record Stormed {O : Type 0} (contents : O → Bytes)
 pub record TellsStorm {E : Type 0} (contents : E → Bytes) (errors errors' : Watched E)
     (outcome : Result Bool StormFault) (status : ℕ) : Type 0 where
   pub says : status ≡ storm_status_of outcome
-  pub line : IsTold contents errors errors' (storm_line_of outcome)
+  pub line : IsTextWritten contents errors errors' (storm_line_of outcome)
 
 -- ---- words that are refused, or ask for help
 
@@ -131,13 +131,13 @@ module _ {O E : Type 0} (output_of : O → Bytes) (errors_of : E → Bytes)
   -- memory was refused
   pub record LacksMemory : Type 0 where
     pub says : status ≡ 4
-    pub line : IsTold errors_of errors errors' (codes "rxbook: out of memory\n")
+    pub line : IsTextWritten errors_of errors errors' (codes "rxbook: out of memory\n")
     pub silent : output' ≡ output
 
   -- the words are no order, and a text says so
   pub record TellsUsage : Type 0 where
     pub says : status ≡ 2
-    pub line : (text : List ℕ) × IsTold errors_of errors errors' text
+    pub line : (text : List ℕ) × IsTextWritten errors_of errors errors' text
     pub silent : output' ≡ output
 
   -- the words ask for help, and a text is written
@@ -153,7 +153,7 @@ module _ {O E : Type 0} (output_of : O → Bytes) (errors_of : E → Bytes)
     pub says : status ≡ 1
     pub shown : (text : List ℕ) × AppendsPrefix (output_of (device_of output)) (output_of (device_of output')) text
     pub failed : HasWriteFault output'
-    pub line : IsTold errors_of errors errors' (codes "rxbook: write fault\n")
+    pub line : IsTextWritten errors_of errors errors' (codes "rxbook: write fault\n")
 
   -- how words that are refused by an error of this kind are answered
   abbrev pub RefusedBy : ErrorKind → Type 0

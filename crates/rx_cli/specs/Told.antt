@@ -9,7 +9,7 @@ abbrev pub Bytes : Type 0
 Bytes = Option (List ℕ)
 
 -- the text was written, or a front of it where the stream failed or took no byte
-abbrev pub IsTold : {E : Type 0} → (E → Bytes) → Watched E → Watched E → List ℕ → Type 0
-IsTold contents old new text =
+abbrev pub IsTextWritten : {E : Type 0} → (E → Bytes) → Watched E → Watched E → List ℕ → Type 0
+IsTextWritten contents old new text =
     Appends (contents (device_of old)) (contents (device_of new)) text
     ⊎ (AppendsPrefix (contents (device_of old)) (contents (device_of new)) text × HasWriteFault new)

@@ -75,8 +75,8 @@ run_of rows = run_by (first_of (codes "trace") rows) (form_of rows)
 abbrev pub labels_by : Option Text → Labels
 labels_by names = if is_set names then Names else Numbers
 
-abbrev pub labels_of : List Row → Labels
-labels_of rows = labels_by (first_of (codes "names") rows)
+abbrev pub audit_labels : List Row → Labels
+audit_labels rows = labels_by (first_of (codes "names") rows)
 
 -- the number that the text of an option writes; the least where it writes none from the least to the most,
 -- which `clap` refuses
@@ -92,10 +92,10 @@ storm_by rows =
 
 -- the order of the subcommand that was matched, with its options: an audit, a storm, or else a run;
 -- without one a report
-abbrev pub order_of : Option (Text × List Row) → Order
-order_of None = Run Report
-order_of (Some p) =
-    if bytes_eq p.0 (codes "audit") then Audit (labels_of p.1)
+abbrev pub order_of_subcommand : Option (Text × List Row) → Order
+order_of_subcommand None = Run Report
+order_of_subcommand (Some p) =
+    if bytes_eq p.0 (codes "audit") then Audit (audit_labels p.1)
     else (if bytes_eq p.0 (codes "storm") then storm_by p.1 else run_of p.1)
 
 -- the numbers of a storm are those that there may be
@@ -107,7 +107,7 @@ IsInRange _ = ⊤
 -- `clap` takes the words, and this is what they order
 pub record Orders (words : List Text) (order : Order) : Type 0 where
   pub taken : fault_of rxbook words ≡ []
-  pub named : order_of (subcommand_of rxbook words) ≡ order
+  pub named : order_of_subcommand (subcommand_of rxbook words) ≡ order
 
 -- the words of a storm of these numbers
 abbrev pub storm_words : (sources workers items : Text) → List Text

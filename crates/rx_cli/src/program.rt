@@ -10,9 +10,9 @@ ghost use Rattle.rx_script.specs.declared.Form.{Form};
 ghost use Rattle.rx_storm.specs.declared.StormFault.{StormFault};
 ghost use Rattle.rx_cli.specs.declared.request.Order.{Order};
 ghost use Rattle.rx_cli.specs.Words.{rxbook, Orders};
-ghost use Rattle.rx_device.specs.Device.{IsFresh, KeepsDevice};
+ghost use Rattle.rx_device.specs.Device.{IsUnasked, KeepsDevice};
 ghost use Rattle.rx_script.specs.Stage.{ware_of};
-ghost use Rattle.rx_cli.specs.Served.{Ran, Traced, Tells, Audited, TellsAudit, Stormed, TellsStorm, RefusedBy};
+ghost use Rattle.rx_cli.specs.Served.{Ran, Traced, TellsOutcome, Audited, TellsAudit, Stormed, TellsStorm, RefusedBy};
 
 use crate::request::Order;
 use crate::statuses::{ended, judged, out_of_memory, weathered};
@@ -67,8 +67,8 @@ pub fn serve<T: Threads + Wait + Sync, S: AsStr, R: Resource, I: Read, O: Write,
     output: &mut Watched<'_, O>,
     errors: &mut Watched<'_, E>,
 ) -> u8
-    requires input { IsFresh input.old }
-    requires output { IsFresh output.old }
+    requires input { IsUnasked input.old }
+    requires output { IsUnasked output.old }
     requires stock { 64 ≤ vec_len stock }
     requires live { All (λ r. R.life_of r ≡ Life.Live) stock.items }
     requires unused { All (λ r. R.uses_of r ≡ 0) stock.items }
@@ -77,12 +77,12 @@ pub fn serve<T: Threads + Wait + Sync, S: AsStr, R: Resource, I: Read, O: Write,
         → (outcome : Result (Unit {0}) ScriptError)
         × Ran I.remaining O.contents (map (ware_of R.Resource) stock.items) form
         input.old input.new output.old output.new outcome
-        × Tells E.contents errors.old errors.new outcome result }
+        × TellsOutcome E.contents errors.old errors.new outcome result }
     ensures traced { Orders (map S.text words.now) Order.Trace
         → (outcome : Result (Unit {0}) ScriptError)
         × Traced I.remaining O.contents (map (ware_of R.Resource) stock.items)
         input.old input.new output.old output.new outcome
-        × Tells E.contents errors.old errors.new outcome result }
+        × TellsOutcome E.contents errors.old errors.new outcome result }
     ensures audited { (labels : Label) → Orders (map S.text words.now) (Order.Audit labels)
         → (outcome : Result Bool ScriptError)
         × Audited I.remaining O.contents labels input.old input.new output.old output.new outcome

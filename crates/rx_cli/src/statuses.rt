@@ -2,7 +2,7 @@
 ghost use Rattle.std.specs.Prelude.{◌≡◌, codes};
 ghost use Rattle.rx_cli.specs.Status.{fault_line, fault_status, status_of, audit_status_of, line_of, storm_status_of, storm_line_of};
 ghost use Rattle.rx_device.specs.Device.{KeepsDevice};
-ghost use Rattle.rx_cli.specs.Told.{IsTold};
+ghost use Rattle.rx_cli.specs.Told.{IsTextWritten};
 
 use crate::telling::tell;
 use rx_script::{ScriptError, Watched};
@@ -60,7 +60,7 @@ fn storm_status(outcome: Result<bool, StormFault>) -> u8
 /// that fails there changes nothing.
 pub fn ended<E: Write>(errors: &mut Watched<'_, E>, outcome: Result<(), ScriptError>) -> u8
     ensures status { result ≡ status_of outcome }
-    ensures line { IsTold E.contents errors.old errors.new (line_of outcome) }
+    ensures line { IsTextWritten E.contents errors.old errors.new (line_of outcome) }
     ensures same_errors { KeepsDevice errors.old errors.new }
 {
     match outcome {
@@ -76,7 +76,7 @@ pub fn ended<E: Write>(errors: &mut Watched<'_, E>, outcome: Result<(), ScriptEr
 /// Where the audit failed, the status and the line are those of its fault.
 pub fn judged<E: Write>(errors: &mut Watched<'_, E>, outcome: Result<bool, ScriptError>) -> u8
     ensures status { result ≡ audit_status_of outcome }
-    ensures line { IsTold E.contents errors.old errors.new (line_of outcome) }
+    ensures line { IsTextWritten E.contents errors.old errors.new (line_of outcome) }
     ensures same_errors { KeepsDevice errors.old errors.new }
 {
     match outcome {
@@ -91,7 +91,7 @@ pub fn judged<E: Write>(errors: &mut Watched<'_, E>, outcome: Result<bool, Scrip
 /// written to `errors`. A write that fails there changes nothing.
 pub fn weathered<E: Write>(errors: &mut Watched<'_, E>, outcome: Result<bool, StormFault>) -> u8
     ensures status { result ≡ storm_status_of outcome }
-    ensures line { IsTold E.contents errors.old errors.new (storm_line_of outcome) }
+    ensures line { IsTextWritten E.contents errors.old errors.new (storm_line_of outcome) }
     ensures same_errors { KeepsDevice errors.old errors.new }
 {
     tell(errors, storm_line(outcome).as_bytes());
@@ -101,7 +101,7 @@ pub fn weathered<E: Write>(errors: &mut Watched<'_, E>, outcome: Result<bool, St
 /// The exit status of a program that memory was refused, 4, after its line is written to `errors`.
 pub fn out_of_memory<E: Write>(errors: &mut Watched<'_, E>) -> u8
     ensures status { result ≡ 4 }
-    ensures line { IsTold E.contents errors.old errors.new (codes "rxbook: out of memory\n") }
+    ensures line { IsTextWritten E.contents errors.old errors.new (codes "rxbook: out of memory\n") }
     ensures same_errors { KeepsDevice errors.old errors.new }
 {
     ended(errors, Err(ScriptError::Memory))

@@ -2,7 +2,7 @@
 ghost use Rattle.std.specs.Prelude.{◌≡◌, ◌≢◌};
 ghost use Rattle.clap.specs.Words.{kind_of};
 ghost use Rattle.rx_device.specs.Device.{KeepsDevice};
-ghost use Rattle.rx_cli.specs.Told.{IsTold};
+ghost use Rattle.rx_cli.specs.Told.{IsTextWritten};
 ghost use Rattle.rx_cli.specs.Status.{no_text_line};
 ghost use Rattle.rx_cli.specs.Served.{RefusedBy, is_help};
 
@@ -56,7 +56,7 @@ pub fn refuse<O: Write, E: Write>(
 /// that is written to `errors`.
 pub fn refuse_bytes<E: Write>(errors: &mut Watched<'_, E>) -> u8
     ensures status { result ≡ 2 }
-    ensures line { IsTold E.contents errors.old errors.new no_text_line }
+    ensures line { IsTextWritten E.contents errors.old errors.new no_text_line }
     ensures same_errors { KeepsDevice errors.old errors.new }
 {
     tell(errors, NO_TEXT.as_bytes());

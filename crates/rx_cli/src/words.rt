@@ -2,8 +2,8 @@
 ghost use Rattle.std.specs.Prelude.{◌≡◌, ◌≤◌, false, map, option_map, codes, IfOk};
 ghost use Rattle.clap.specs.Words.{app_of, new_app, rule_of, subcommand_of, subcommand_rows_of, fault_of, found_of, rows_of, FailsBy};
 ghost use Rattle.rx_cli.specs.Words.{rxbook, run_app, audit_app, storm_app, with_version, flag_rule, number_rule};
-ghost use Rattle.rx_cli.specs.Words.{is_set, form_by, form_of, run_by, run_of, labels_by, labels_of, number_by};
-ghost use Rattle.rx_cli.specs.Words.{storm_by, order_of, IsInRange};
+ghost use Rattle.rx_cli.specs.Words.{is_set, form_by, form_of, run_by, run_of, labels_by, audit_labels, number_by};
+ghost use Rattle.rx_cli.specs.Words.{storm_by, order_of_subcommand, IsInRange};
 
 use crate::request::Order;
 use clap::builder::ValueParser;
@@ -223,7 +223,7 @@ fn labels_by(names: Option<&str>) -> Labels
 
 // The labels that an audit's options say.
 fn labels_in(options: &ArgMatches<'_>) -> Labels
-    ensures { result ≡ labels_of (rows_of (found_of options.now)) }
+    ensures { result ≡ audit_labels (rows_of (found_of options.now)) }
 {
     labels_by(options.get_str("names"))
 }
@@ -258,7 +258,7 @@ fn storm_in(options: &ArgMatches<'_>) -> Order
 
 // The order that the matches are.
 fn order_in(matches: &ArgMatches<'_>) -> Order
-    ensures is { result ≡ order_of (subcommand_rows_of matches.now) }
+    ensures is { result ≡ order_of_subcommand (subcommand_rows_of matches.now) }
     ensures in_range { IsInRange result }
 {
     match matches.subcommand() {
@@ -275,7 +275,7 @@ fn order_in(matches: &ArgMatches<'_>) -> Order
 /// Err comes where `clap` refuses the words or they ask for help, with the kinds that it has for them,
 /// or where memory is refused, with `OutOfMemory`.
 pub fn order<S: AsStr>(alloc: Global, words: &[S]) -> Result<Order, Error>
-    ensures ok { IfOk result (λ o. o ≡ order_of (subcommand_of rxbook (map S.text words.now))) }
+    ensures ok { IfOk result (λ o. o ≡ order_of_subcommand (subcommand_of rxbook (map S.text words.now))) }
     ensures in_range { IfOk result IsInRange }
     ensures kinds { FailsBy (fault_of rxbook (map S.text words.now)) result }
 {

@@ -39,14 +39,14 @@ pub record NotesFailed {D : Type 0} (old new : Watched D) : Type 0 where
   pub stopped : has_stopped new ≡ has_stopped old
 
 -- nothing was asked of it yet
-pub record IsFresh {D : Type 0} (w : Watched D) : Type 0 where
+pub record IsUnasked {D : Type 0} (w : Watched D) : Type 0 where
   pub turns : turns_of w ≡ 0
   pub failed : has_failed w ≡ false
   pub stopped : has_stopped w ≡ false
 
 -- how often a reader is asked for bytes at most
-abbrev pub most_turns : ℕ
-most_turns = 33554432
+abbrev pub most_reads : ℕ
+most_reads = 33554432
 
 -- the reader failed; one that never ends gives too many bytes before it was asked so often
 abbrev pub HasReadFault : {D : Type 0} → Watched D → Type 0

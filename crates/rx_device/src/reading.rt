@@ -1,7 +1,7 @@
 //! Reading a device to its end.
 
 ghost use Rattle.std.specs.Prelude.{◌≡◌, ◌≢◌, ◌≤◌, false, true, IfOk, IfErr, OnOk, IsErrOf};
-ghost use Rattle.rx_device.specs.Device.{device_of, KeepsDevice, turns_of, most_turns, has_failed, has_stopped, HasReadFault, IsFresh};
+ghost use Rattle.rx_device.specs.Device.{device_of, KeepsDevice, turns_of, most_reads, has_failed, has_stopped, HasReadFault, IsUnasked};
 ghost use Rattle.rx_device.specs.Input.{GivesWhole, GivesTooMuch};
 
 use crate::fault::ScriptError;
@@ -20,13 +20,13 @@ const PIECE: usize = 4096;
 
 /// All that the reader has left.
 pub fn read_all<R: Read>(alloc: Global, reader: &mut Watched<'_, R>) -> Result<Vec<u8>, ScriptError>
-    requires fresh { IsFresh reader.old }
+    requires fresh { IsUnasked reader.old }
 
     ensures ok { IfOk result
         (λ v. GivesWhole (R.remaining (device_of reader.old)) (R.remaining (device_of reader.new)) v.items) }
     ensures unhurt { OnOk result (has_failed reader.new ≡ false) }
     ensures stopped { OnOk result (has_stopped reader.new ≡ true) }
-    ensures bound { turns_of reader.new ≤ most_turns }
+    ensures bound { turns_of reader.new ≤ most_reads }
     ensures same_device { KeepsDevice reader.old reader.new }
 
     ensures read { IsErrOf result ScriptError.Read → HasReadFault reader.new }

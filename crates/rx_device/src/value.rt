@@ -3,7 +3,7 @@
 ghost use Rattle.std.specs.Prelude.{◌≡◌, ◌≢◌, ◌≤◌, ◌⊎◌, false, true, IfOk, IfErr, OnOk, IsErrOf};
 ghost use Rattle.serde_json.specs.View.{view};
 ghost use Rattle.serde_json.specs.Data.{Data};
-ghost use Rattle.rx_device.specs.Device.{device_of, KeepsDevice, turns_of, most_turns, has_failed, has_stopped, HasReadFault, IsFresh};
+ghost use Rattle.rx_device.specs.Device.{device_of, KeepsDevice, turns_of, most_reads, has_failed, has_stopped, HasReadFault, IsUnasked};
 ghost use Rattle.rx_device.specs.Input.{IsJsonOf, GivesJson, GivesTooMuch, GivesNoJson};
 
 use crate::fault::ScriptError;
@@ -35,13 +35,13 @@ pub fn value_of(alloc: Global, input: &[u8]) -> Result<Value, ScriptError>
 /// `Read` comes where the reader failed, and `Syntax` where it gave no JSON text, or more than
 /// [`MOST_BYTES`](crate::MOST_BYTES) bytes.
 pub fn read_value<R: Read>(alloc: Global, reader: &mut Watched<'_, R>) -> Result<Value, ScriptError>
-    requires fresh { IsFresh reader.old }
+    requires fresh { IsUnasked reader.old }
 
     ensures ok { IfOk result
         (λ v. GivesJson (R.remaining (device_of reader.old)) (R.remaining (device_of reader.new)) (view v)) }
     ensures unhurt { OnOk result (has_failed reader.new ≡ false) }
     ensures stopped { OnOk result (has_stopped reader.new ≡ true) }
-    ensures bound { turns_of reader.new ≤ most_turns }
+    ensures bound { turns_of reader.new ≤ most_reads }
     ensures same_device { KeepsDevice reader.old reader.new }
 
     ensures read { IsErrOf result ScriptError.Read → HasReadFault reader.new }

@@ -3,7 +3,7 @@
 ghost use Rattle.std.specs.Prelude.{◌≡◌, ◌<◌, ◌≤◌, ◌+◌, ◌-◌, ◌^◌, ◌⊎◌, length, min, take, IfSome, IfNone};
 ghost use Rattle.std.specs.Result.{result_ok};
 ghost use Rattle.std.specs.Io.KnownBytes.{Appends, Consumes, IsAtEnd, Keeps};
-ghost use Rattle.rx_device.specs.Device.{device_of, KeepsDevice, Watches, turns_of, NotesMoved, NotesFailed, IsFresh};
+ghost use Rattle.rx_device.specs.Device.{device_of, KeepsDevice, Watches, turns_of, NotesMoved, NotesFailed, IsUnasked};
 
 use std::io::{Read, Result, Write};
 
@@ -22,7 +22,7 @@ impl<'a, D> Watched<'a, D> {
     pub fn new(device: &'a mut D) -> Self
         ensures device { device_of result ≡ device.old }
         ensures watches { Watches result device.entry }
-        ensures fresh { IsFresh result }
+        ensures fresh { IsUnasked result }
     {
         Watched {
             device,

@@ -9,9 +9,9 @@ use Rattle.std.proofs.lemmas.Bool.Decides.{nat_tests}
 use Rattle.std.proofs.lemmas.Cmp.{ranked}
 use Rattle.std.proofs.lemmas.List.Elements.{All-from_all_within}
 use Rattle.rx_disposable.specs.declared.members.Member.{Member}
-use Rattle.rx_disposable.specs.Members.{AreInOrder}
+use Rattle.rx_disposable.specs.Members.{AreTicketsRising}
 
-module _ {T : Type 0} (ms : List (Member T)) (ordered : AreInOrder ms) (ticket : ℕ) where
+module _ {T : Type 0} (ms : List (Member T)) (ordered : AreTicketsRising ms) (ticket : ℕ) where
   -- the comparisons with the ticket rise along the list, as a binary search asks
   comparisons_rise : IsNonDecreasingBy (λ m. ordering_index (nat_cmp m.ticket ticket)) ms
   comparisons_rise i j d le within =

@@ -17,8 +17,8 @@ module _ {T : Type 0} where
   value_out counted = if is_over counted then counted.value else None
 
   -- what that call leaves
-  abbrev pub rest_of : Counted T → Counted T
-  rest_of counted = if is_over counted then record counted { value = None } else counted
+  abbrev pub without_value_out : Counted T → Counted T
+  without_value_out counted = if is_over counted then record counted { value = None } else counted
 
   -- the value is inside until the whole is disposed of and no lease is out
   abbrev pub KeepsUntilOver : Counted T → Type 0

@@ -12,8 +12,8 @@ pub record Group (T : Type 0) : Type 0 where
 
 module _ {T : Type 0} where
   -- the value that is inside under a ticket
-  abbrev pub value_at : Group T → ℕ → Option T
-  value_at group ticket = lookup (nat_eq ticket) group.members
+  abbrev pub value_under : Group T → ℕ → Option T
+  value_under group ticket = lookup (nat_eq ticket) group.members
 
   -- the group with one value more, under the next ticket
   abbrev pub with_added : Group T → T → Group T
@@ -25,14 +25,14 @@ module _ {T : Type 0} where
   without group ticket = record group { members = remove_entry (nat_eq ticket) group.members }
 
   -- the group with another value at a ticket
-  abbrev pub with_value : Group T → ℕ → T → Group T
-  with_value group ticket value =
+  abbrev pub with_value_under : Group T → ℕ → T → Group T
+  with_value_under group ticket value =
       record group { members = set_value (nat_eq ticket) group.members value }
 
   -- the new group has this at the ticket, and every other ticket keeps what it had
   pub record Updates (old new : Group T) (ticket : ℕ) (inside : Option T) : Type 0 where
-    pub changed : value_at new ticket ≡ inside
-    pub others : (other : ℕ) → other ≢ ticket → value_at new other ≡ value_at old other
+    pub changed : value_under new ticket ≡ inside
+    pub others : (other : ℕ) → other ≢ ticket → value_under new other ≡ value_under old other
 
   -- the tickets rise, the first is no lower than `first`, and all are below `next`
   abbrev pub TicketsRise : ℕ → ℕ → List (ℕ × T) → Type 0

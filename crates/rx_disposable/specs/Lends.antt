@@ -2,7 +2,7 @@
 use Rattle.std.specs.Prelude.{ℕ, Option, Some}
 use Rattle.std.specs.Borrow.{LendsIf, Fml, RattleType, MutBor}
 use Rattle.rx_disposable.specs.Counted.{Counted}
-use Rattle.rx_disposable.specs.Group.{Group, with_value}
+use Rattle.rx_disposable.specs.Group.{Group, with_value_under}
 use Rattle.rx_disposable.specs.contracts.counted.Counted as counted
 use Rattle.rx_disposable.specs.contracts.group.Group as group
 
@@ -15,4 +15,4 @@ LendsValue T place result =
 abbrev pub LendsMember :
     (T : RattleType) → MutBor (Group T.Denot) → ℕ → Option (MutBor T.Denot) → Fml
 LendsMember T lender ticket result =
-    LendsIf (group.the_row T) T lender result (with_value lender.now ticket) lender.now
+    LendsIf (group.the_row T) T lender result (with_value_under lender.now ticket) lender.now

@@ -46,7 +46,7 @@ impl<T> Model for Counted<T> {
 }
 
 impl<T> Counted<T> {
-    ghost use Rattle.rx_disposable.specs.Counted.{value_out, rest_of, KeepsUntilOver};
+    ghost use Rattle.rx_disposable.specs.Counted.{value_out, without_value_out, KeepsUntilOver};
     ghost use Rattle.rx_disposable.specs.Lends.{LendsValue};
     ghost use Rattle.rx_disposable.specs.declared.counted.Denied.{Denied};
 
@@ -91,7 +91,7 @@ impl<T> Counted<T> {
     pub fn give_back(&mut self) -> Result<Option<T>, NoLease>
         ensures accepted { IsOk result ↔ (0 < self.old.leases) }
         ensures ok { IfOk result (λ out. out ≡ value_out (record self.old { leases = self.old.leases - 1 })) }
-        ensures rest { OnOk result (self.new ≡ rest_of (record self.old { leases = self.old.leases - 1 })) }
+        ensures rest { OnOk result (self.new ≡ without_value_out (record self.old { leases = self.old.leases - 1 })) }
 
         ensures refused_no_lease { IsErr result ↔ (self.old.leases ≡ 0) }
         ensures err { OnErr result (self.new ≡ self.old) }
@@ -127,7 +127,7 @@ impl<T> Counted<T> {
     #[must_use]
     pub fn dispose(&mut self) -> Option<T>
         ensures value { result ≡ value_out (record self.old { disposed = true }) }
-        ensures rest { self.new ≡ rest_of (record self.old { disposed = true }) }
+        ensures rest { self.new ≡ without_value_out (record self.old { disposed = true }) }
     {
         self.disposed = true;
         if self.leases > 0 {

@@ -36,17 +36,17 @@ impl<T: Drop> Model for Group<T> {
 
     ghost Value = { GroupValue T };
 
-    ghost use Rattle.rx_disposable.specs.Members.{entries_of, IsKept};
+    ghost use Rattle.rx_disposable.specs.Members.{member_entries, IsKept};
 
     ghost view = { λ group.
-        record { members = entries_of group.members.items; given = group.given; disposed = group.disposed } };
+        record { members = member_entries group.members.items; given = group.given; disposed = group.disposed } };
 
     ghost invariant = { λ group. IsKept group.members.items group.members.capacity group.given group.disposed };
 }
 
 impl<T: Drop> Group<T> {
     ghost use Rattle.rx_disposable.specs.Lends.{LendsMember};
-    ghost use Rattle.rx_disposable.specs.Group.{value_at, with_added, without, Updates, IsSound};
+    ghost use Rattle.rx_disposable.specs.Group.{value_under, with_added, without, Updates, IsSound};
 
     /// An empty group. It asks `alloc` for memory where more than `INLINE_LEN` values are inside.
     pub fn new(alloc: Global) -> Self
@@ -86,7 +86,7 @@ impl<T: Drop> Group<T> {
         ensures added { OnOk result (self.new ≡ with_added self.old value) }
 
         // The same as look-ups.
-        ensures fresh { OnOk result (value_at self.old self.old.given ≡ None) }
+        ensures fresh { OnOk result (value_under self.old self.old.given ≡ None) }
         ensures updates { OnOk result (Updates self.old self.new self.old.given (Some value)) }
 
         ensures refused_disposed { (result ≡ Err (refusal Why.Disposed value)) ↔ (self.old.disposed ≡ true) }
@@ -118,7 +118,7 @@ impl<T: Drop> Group<T> {
     /// The value of the ticket, for writing; `None` where it is not inside.
     pub fn get_mut(&mut self, ticket: u64) -> Option<&mut T>
         ensures* writes_back { sem 𝓛 (LendsMember T.row self.entry ticket result) }
-        ensures value { option_copied_mut result ≡ value_at self.old ticket }
+        ensures value { option_copied_mut result ≡ value_under self.old ticket }
     {
         let place = place_of(self.members.as_slice(), ticket)?;
         let member = self.members.get_mut(place)?;
@@ -127,7 +127,7 @@ impl<T: Drop> Group<T> {
 
     /// Takes the value of the ticket out; `None`, and nothing changed, where it is not inside.
     pub fn remove(&mut self, ticket: u64) -> Option<T>
-        ensures value { result ≡ value_at self.old ticket }
+        ensures value { result ≡ value_under self.old ticket }
         ensures rest { self.new ≡ without self.old ticket }
 
         // The same as look-ups.

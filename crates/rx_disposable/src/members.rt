@@ -2,7 +2,7 @@ ghost use Rattle.std.specs.Prelude.{◌≡◌, ◌≢◌, ◌<◌, length, Some,
 ghost use Rattle.std.specs.List.{HoldsAt};
 ghost use Rattle.std.specs.Iterator.{YieldsFirst, UpTo, item_count, at_most};
 ghost use Rattle.std.specs.Iterator.SizeHint.{IsWithinCount};
-ghost use Rattle.rx_disposable.specs.Members.{AreInOrder};
+ghost use Rattle.rx_disposable.specs.Members.{AreTicketsRising};
 
 use smallvec::{IntoIter, SmallVec};
 use std::iter::FusedIterator;
@@ -20,10 +20,10 @@ pub(crate) struct Member<T> {
 }
 
 impl<T> Member<T> {
-    ghost use Rattle.rx_disposable.specs.Members.{member_of};
+    ghost use Rattle.rx_disposable.specs.Members.{member_of_entry};
 
     pub(crate) fn new(ticket: u64, value: T) -> Self
-        ensures { result ≡ member_of (ticket, value) }
+        ensures { result ≡ member_of_entry (ticket, value) }
     {
         Member {
             ticket,
@@ -63,21 +63,21 @@ pub struct Members<T: Drop> {
 
 impl<T: Drop> Model for Members<T> {
     ghost use Rattle.std.specs.Prelude.{ℕ, List};
-    ghost use Rattle.rx_disposable.specs.Members.{entries_of, AreFilled};
+    ghost use Rattle.rx_disposable.specs.Members.{member_entries, AreFilled};
 
     ghost Value = { List (ℕ × T) };
 
-    ghost view = { λ members. entries_of members.rest };
+    ghost view = { λ members. member_entries members.rest };
 
     ghost invariant = { λ members. AreFilled members.rest };
 }
 
 impl<T: Drop> Members<T> {
-    ghost use Rattle.rx_disposable.specs.Members.{entries_of, AreFilled};
+    ghost use Rattle.rx_disposable.specs.Members.{member_entries, AreFilled};
 
     pub(crate) fn new(members: SmallVec<Member<T>, INLINE_LEN>) -> Self
         requires { AreFilled members.items }
-        ensures { result ≡ entries_of members.items }
+        ensures { result ≡ member_entries members.items }
     {
         Members {
             rest: members.into_iter(),
@@ -117,7 +117,7 @@ impl<T: Drop> FusedIterator for Members<T> {}
 
 // The place of a ticket among members in order of their tickets.
 pub(crate) fn place_of<T>(members: &[Member<T>], ticket: u64) -> Option<usize>
-    requires { AreInOrder members.now }
+    requires { AreTicketsRising members.now }
     ensures found { IfSome result (λ place. place < length members.now) }
     ensures has_ticket { IfSome result (HoldsAt (λ member. member.ticket ≡ ticket) members.now) }
     ensures absent { IfNone result (All (λ member. member.ticket ≢ ticket) members.now) }

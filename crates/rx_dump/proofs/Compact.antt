@@ -1,6 +1,7 @@
 -- The dump's text as that of its JSON value.
 use Rattle.rx_dump.proofs.Common.{◌≡◌, pos, negsuc, true, false, List, [], ◌∷◌, ◌++◌, refl, ap, sym, ◌∙◌, codes, map, decimal, append_assoc, flat_map, Error}
-use Rattle.rx_dump.proofs.Common.{items_of, Completed, Place, Root, Source, Inner, Notifier, Kind, Leaf, Auto, Event, Open, Hub, Accept, Item, End, next_text}
+use Rattle.rx_dump.proofs.Common.{items_of, Completed, Place, Root, Source, Inner, Notifier, Kind, Leaf, Auto, Event, Open, Hub, Accept, Item, End}
+use Rattle.rx_dump.proofs.Common.{following_event_text}
 use Rattle.serde_json.proofs.OnLiterals.{serde_json_on_literals}
 use Rattle.serde_json.specs.Written.{compact_text, items_text}
 use Rattle.rx_note.specs.declared.note.Terminal.{Terminal}
@@ -35,7 +36,7 @@ event_compact (Item leaf (negsuc n)) = simp append_assoc
 event_compact (End node terminal) = ap (λ s. codes "[\"end\"," ++ (decimal node ++ s)) (terminal_compact terminal) ∙ simp append_assoc
 event_compact _ = refl
 
-rest_compact : (h : List Event) → items_text true (items_of (map event_data h)) ≡ flat_map next_text h ++ codes "]"
+rest_compact : (h : List Event) → items_text true (items_of (map event_data h)) ≡ flat_map following_event_text h ++ codes "]"
 rest_compact [] = refl
 rest_compact (e ∷ es) =
     ap (λ s. codes "," ++ (s ++ items_text true (items_of (map event_data es)))) (event_compact e)
@@ -47,7 +48,7 @@ events_compact [] = refl
 events_compact (e ∷ es) =
     ap (λ s. s ++ items_text true (items_of (map event_data es))) (event_compact e)
     ∙ ap (λ s. event_text e ++ s) (rest_compact es)
-    ∙ sym (append_assoc (event_text e) (flat_map next_text es) (codes "]"))
+    ∙ sym (append_assoc (event_text e) (flat_map following_event_text es) (codes "]"))
 
 pub compact : (h : List Event) → dump h ≡ compact_text (history_data h) ++ codes "\n"
 unfolding dump

@@ -42,12 +42,12 @@ event_text (Close node) = codes "[\"close\"," ++ decimal node ++ codes "]"
 event_text (Take res) = codes "[\"take\"," ++ decimal res ++ codes "]"
 
 -- an event that another one precedes
-abbrev pub next_text : Event → List ℕ
-next_text e = codes "," ++ event_text e
+abbrev pub following_event_text : Event → List ℕ
+following_event_text e = codes "," ++ event_text e
 
 abbrev pub events_text : List Event → List ℕ
 events_text [] = []
-events_text (e ∷ es) = event_text e ++ flat_map next_text es
+events_text (e ∷ es) = event_text e ++ flat_map following_event_text es
 
 -- the array with no space, and a newline
 unfoldable pub dump : List Event → List ℕ

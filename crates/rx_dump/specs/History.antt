@@ -20,16 +20,16 @@ unfoldable pub word_at : ℕ → Data → Option (List ℕ)
 word_at i d = option_and_then as_str (at i d)
 
 -- the number of a node, a hub, a resource or a lease, or a tag: they fit 64 bits
-unfoldable pub number_at : ℕ → Data → Option ℕ
-number_at i d = option_and_then as_u64 (option_and_then as_number (at i d))
+unfoldable pub number_element : ℕ → Data → Option ℕ
+number_element i d = option_and_then as_u64 (option_and_then as_number (at i d))
 
 -- an item fits 64 bits with its sign
-unfoldable pub value_at : ℕ → Data → Option ℤ
-value_at i d = option_and_then as_i64 (option_and_then as_number (at i d))
+unfoldable pub value_element : ℕ → Data → Option ℤ
+value_element i d = option_and_then as_i64 (option_and_then as_number (at i d))
 
 -- the one number of an event that has no other part
 unfoldable pub only_number : Data → Option ℕ
-only_number d = if has_count 2 d then number_at 1 d else None
+only_number d = if has_count 2 d then number_element 1 d else None
 
 -- openings ----------------------------------------------------------------------------------------
 
@@ -48,7 +48,7 @@ kind_from i d =
     if has_count (i + 1) d then option_and_then plain_kind (word_at i d)
     else if has_count (i + 2) d
     then option_and_then (λ word.
-    if bytes_eq word (codes "sub") then option_map Sub (number_at (i + 1) d) else None) (word_at i d)
+    if bytes_eq word (codes "sub") then option_map Sub (number_element (i + 1) d) else None) (word_at i d)
     else None
 
 -- a place below a node
@@ -62,58 +62,58 @@ place_below word n =
 -- ["open",PLACE,n,KIND]
 unfoldable pub open_below : List ℕ → Data → Option Event
 open_below word d =
-    option_and_then (λ n. option_and_then (λ place. option_map (Open place) (kind_from 3 d)) (place_below word n)) (number_at 2 d)
+    option_and_then (λ n. option_and_then (λ place. option_map (Open place) (kind_from 3 d)) (place_below word n)) (number_element 2 d)
 
 -- ["open","root",KIND], or below a node
 unfoldable pub open_by : List ℕ → Data → Option Event
 open_by word d = if bytes_eq word (codes "root") then option_map (Open Root) (kind_from 2 d) else open_below word d
 
-unfoldable pub open_of : Data → Option Event
-open_of d = option_and_then (λ word. open_by word d) (word_at 1 d)
+unfoldable pub open_event_of : Data → Option Event
+open_event_of d = option_and_then (λ word. open_by word d) (word_at 1 d)
 
 -- ends --------------------------------------------------------------------------------------------
 
 -- an error's code fits 32 bits
-abbrev pub if_code : ℕ → Option Terminal
-if_code n = if nat_lt n (2 ^ 32) then Some (Error n) else None
+abbrev pub error_of_code : ℕ → Option Terminal
+error_of_code n = if nat_lt n (2 ^ 32) then Some (Error n) else None
 
 -- "completed", or two parts, "error" and its code
 unfoldable pub terminal_by : List ℕ → Data → Option Terminal
 terminal_by word d =
     if bytes_eq word (codes "completed") then (if has_count 3 d then Some Completed else None)
-    else if bytes_eq word (codes "error") then (if has_count 4 d then option_and_then if_code (number_at 3 d) else None)
+    else if bytes_eq word (codes "error") then (if has_count 4 d then option_and_then error_of_code (number_element 3 d) else None)
     else None
 
-unfoldable pub end_of : Data → Option Event
-end_of d =
-    option_and_then (λ n. option_map (End n) (option_and_then (λ word. terminal_by word d) (word_at 2 d))) (number_at 1 d)
+unfoldable pub end_event_of : Data → Option Event
+end_event_of d =
+    option_and_then (λ n. option_map (End n) (option_and_then (λ word. terminal_by word d) (word_at 2 d))) (number_element 1 d)
 
 -- the other events of more than one number --------------------------------------------------------
 
-unfoldable pub mode_by : List ℕ → Option Mode
-mode_by word =
+unfoldable pub mode_by_word : List ℕ → Option Mode
+mode_by_word word =
     if bytes_eq word (codes "auto") then Some Auto
     else if bytes_eq word (codes "manual") then Some Manual
     else None
 
 -- ["hub","auto"], ["hub","manual"]
 unfoldable pub hub_of : Data → Option Event
-hub_of d = if has_count 2 d then option_map Hub (option_and_then mode_by (word_at 1 d)) else None
+hub_of d = if has_count 2 d then option_map Hub (option_and_then mode_by_word (word_at 1 d)) else None
 
 -- ["accept",node,tag]
 unfoldable pub accept_of : Data → Option Event
 accept_of d =
-    if has_count 3 d then option_and_then (λ n. option_map (Accept n) (number_at 2 d)) (number_at 1 d) else None
+    if has_count 3 d then option_and_then (λ n. option_map (Accept n) (number_element 2 d)) (number_element 1 d) else None
 
 -- ["item",leaf,value]
-unfoldable pub item_of : Data → Option Event
-item_of d = if has_count 3 d then option_and_then (λ n. option_map (Item n) (value_at 2 d)) (number_at 1 d) else None
+unfoldable pub item_event_of : Data → Option Event
+item_event_of d = if has_count 3 d then option_and_then (λ n. option_map (Item n) (value_element 2 d)) (number_element 1 d) else None
 
 -- histories ---------------------------------------------------------------------------------------
 
-unfoldable pub event_by : List ℕ → Data → Option Event
-event_by word d =
-    if bytes_eq word (codes "open") then open_of d
+unfoldable pub event_by_word : List ℕ → Data → Option Event
+event_by_word word d =
+    if bytes_eq word (codes "open") then open_event_of d
     else if bytes_eq word (codes "hub") then hub_of d
     else if bytes_eq word (codes "connect") then option_map Connect (only_number d)
     else if bytes_eq word (codes "accept") then accept_of d
@@ -121,16 +121,16 @@ event_by word d =
     else if bytes_eq word (codes "remove") then option_map Remove (only_number d)
     else if bytes_eq word (codes "lease") then option_map Lease (only_number d)
     else if bytes_eq word (codes "return") then option_map Return (only_number d)
-    else if bytes_eq word (codes "item") then item_of d
+    else if bytes_eq word (codes "item") then item_event_of d
     else if bytes_eq word (codes "decline") then option_map Decline (only_number d)
-    else if bytes_eq word (codes "end") then end_of d
+    else if bytes_eq word (codes "end") then end_event_of d
     else if bytes_eq word (codes "close") then option_map Close (only_number d)
     else if bytes_eq word (codes "take") then option_map Take (only_number d)
     else None
 
 -- the event, by its first part
 unfoldable pub event_of : Data → Option Event
-event_of d = option_and_then (λ word. event_by word d) (word_at 0 d)
+event_of d = option_and_then (λ word. event_by_word word d) (word_at 0 d)
 
 abbrev pub each_event : Items → Option (List Event)
 each_event no_items = Some []

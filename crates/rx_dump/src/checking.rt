@@ -3,7 +3,7 @@
 ghost use Rattle.std.specs.Prelude.{◌≡◌, ◌≢◌, ◌⊎◌, IfOk, IfErr, OnOk, IsErrOf};
 ghost use Rattle.std.specs.Io.KnownBytes.{Appends};
 ghost use Rattle.rx_dump.specs.Imports.{false, true, Data, Verdict, IsJsonOf, GivesTooMuch, GivesNoJson};
-ghost use Rattle.rx_device.specs.Device.{device_of, KeepsDevice, has_failed, has_stopped, HasReadFault, HasWriteFault, IsFresh, AppendsPrefix};
+ghost use Rattle.rx_device.specs.Device.{device_of, KeepsDevice, has_failed, has_stopped, HasReadFault, HasWriteFault, IsUnasked, AppendsPrefix};
 ghost use Rattle.rx_dump.specs.Verdict.{is_lawful};
 ghost use Rattle.rx_dump.specs.Checking.{Judges, GivesNoDump};
 ghost use Rattle.rx_dump.specs.Inputs.{IsDumpOf, IsVerdictOf, IsNoDump};
@@ -78,8 +78,8 @@ pub fn check<R: Read, W: Write>(
     reader: &mut Watched<'_, R>,
     writer: &mut Watched<'_, W>,
 ) -> Result<bool, ScriptError>
-    requires reader { IsFresh reader.old }
-    requires writer { IsFresh writer.old }
+    requires reader { IsUnasked reader.old }
+    requires writer { IsUnasked writer.old }
 
     ensures ok { IfOk result (λ lawful. (v : Verdict) × (lawful ≡ is_lawful v)
         × Judges v (R.remaining (device_of reader.old)) (R.remaining (device_of reader.new))

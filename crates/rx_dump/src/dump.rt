@@ -1,7 +1,7 @@
 //! The dump of a history, written behind a text.
 
 ghost use Rattle.std.specs.Prelude.{◌≡◌, ◌++◌, flat_map, string_bytes, OnOk};
-ghost use Rattle.rx_dump.specs.Dump.{place_text, kind_text, mode_text, terminal_text, event_text, next_text, events_text, dump};
+ghost use Rattle.rx_dump.specs.Dump.{place_text, kind_text, mode_text, terminal_text, event_text, following_event_text, events_text, dump};
 
 use rx_event::{Event, Kind, Mode, Place, Terminal};
 use std::alloc::AllocError;
@@ -93,7 +93,7 @@ fn push_event(text: &mut String, event: Event) -> Result<(), AllocError>
 }
 
 fn push_rest(text: &mut String, events: &[Event]) -> Result<(), AllocError>
-    ensures { OnOk result (string_bytes text.new ≡ string_bytes text.old ++ flat_map next_text events.now) }
+    ensures { OnOk result (string_bytes text.new ≡ string_bytes text.old ++ flat_map following_event_text events.now) }
 {
     for event in events {
         text.push_str(",")?;

@@ -10,8 +10,8 @@ use Rattle.serde_json.specs.Read.{read}
 use Rattle.rx_note.specs.declared.note.Terminal.TheVariants.{Completed}
 use Rattle.rx_device.specs.Input.{IsJsonOf}
 use Rattle.rx_scenario.specs.Scenario.{Command, remove, give_back, end, decline, dispose, disconnect, drain}
-use Rattle.rx_scenario.specs.Reading.{is_name, is_name_byte, action_in, action_by, command_by, is_one_of, has_only, has_only_steps, name_in, terminal_in}
-use Rattle.rx_scenario.specs.Reading.{remove_of, return_of, end_of, decline_of, dispose_of, disconnect_of, drain_of}
+use Rattle.rx_scenario.specs.Reading.{is_name_text, is_name_byte, action_in, action_by, command_by, is_one_of, has_only, has_only_steps, name_in, terminal_in}
+use Rattle.rx_scenario.specs.Reading.{remove_of, return_of, end_command_of, decline_of, dispose_of, disconnect_of, drain_of}
 use Rattle.rx_line.specs.Orders.{plain, task, order_in, does, says, query_in, is_timed, command_in, task_in, IsOrderOf}
 use Rattle.rx_line.specs.declared.free.FreeCommand.{FreeCommand}
 use Rattle.rx_line.specs.FreeCommands.{free_command_of, past_mark, word_in, Said, member_in, is_end, free_of_node, free_named, free_by, free_said, free_first, free_in}
@@ -27,27 +27,27 @@ asks_drain : Asks (of_one (codes "do") (codes "drain")) drain
 unfolding order_in says does task_in command_in is_timed action_in action_by command_by is_one_of has_only has_only_steps drain_of
 asks_drain = refl
 
-asks_end : (name : List ℕ) → is_name name ≡ true → Asks (of_two (codes "do") (codes "end") (codes "node") name) (end name Completed)
-unfolding order_in says does task_in command_in is_timed action_in action_by command_by is_one_of has_only has_only_steps name_in terminal_in end_of
+asks_end : (name : List ℕ) → is_name_text name ≡ true → Asks (of_two (codes "do") (codes "end") (codes "node") name) (end name Completed)
+unfolding order_in says does task_in command_in is_timed action_in action_by command_by is_one_of has_only has_only_steps name_in terminal_in end_command_of
 asks_end name is = rw is refl
 
-asks_decline : (name : List ℕ) → is_name name ≡ true → Asks (of_two (codes "do") (codes "decline") (codes "node") name) (decline name)
+asks_decline : (name : List ℕ) → is_name_text name ≡ true → Asks (of_two (codes "do") (codes "decline") (codes "node") name) (decline name)
 unfolding order_in says does task_in command_in is_timed action_in action_by command_by is_one_of has_only has_only_steps name_in decline_of
 asks_decline name is = rw is refl
 
-asks_dispose : (name : List ℕ) → is_name name ≡ true → Asks (of_two (codes "do") (codes "dispose") (codes "node") name) (dispose name)
+asks_dispose : (name : List ℕ) → is_name_text name ≡ true → Asks (of_two (codes "do") (codes "dispose") (codes "node") name) (dispose name)
 unfolding order_in says does task_in command_in is_timed action_in action_by command_by is_one_of has_only has_only_steps name_in dispose_of
 asks_dispose name is = rw is refl
 
-asks_disconnect : (name : List ℕ) → is_name name ≡ true → Asks (of_two (codes "do") (codes "disconnect") (codes "hub") name) (disconnect name)
+asks_disconnect : (name : List ℕ) → is_name_text name ≡ true → Asks (of_two (codes "do") (codes "disconnect") (codes "hub") name) (disconnect name)
 unfolding order_in says does task_in command_in is_timed action_in action_by command_by is_one_of has_only has_only_steps name_in disconnect_of
 asks_disconnect name is = rw is refl
 
-asks_remove : (name : List ℕ) → is_name name ≡ true → Asks (of_two (codes "do") (codes "remove") (codes "res") name) (remove name)
+asks_remove : (name : List ℕ) → is_name_text name ≡ true → Asks (of_two (codes "do") (codes "remove") (codes "res") name) (remove name)
 unfolding order_in says does task_in command_in is_timed action_in action_by command_by is_one_of has_only has_only_steps name_in remove_of
 asks_remove name is = rw is refl
 
-asks_return : (name : List ℕ) → is_name name ≡ true → Asks (of_two (codes "do") (codes "return") (codes "lease") name) (give_back name)
+asks_return : (name : List ℕ) → is_name_text name ≡ true → Asks (of_two (codes "do") (codes "return") (codes "lease") name) (give_back name)
 unfolding order_in says does task_in command_in is_timed action_in action_by command_by is_one_of has_only has_only_steps name_in return_of
 asks_return name is = rw is refl
 
@@ -61,7 +61,7 @@ pick : {A : Type 0} (b : Bool) (x : A) (o : Option A) (c : A) (P : Type 0) → (
 pick true x o c P here there is = here refl (same_rest x c is)
 pick false x o c P here there is = there is
 
-module _ (what key name : List ℕ) (named : is_name name ≡ true) (c : Command) where
+module _ (what key name : List ℕ) (named : is_name_text name ≡ true) (c : Command) where
   abbrev Goal : Type 0
   Goal = Asks (of_two (codes "do") what key name) c
 
@@ -121,10 +121,10 @@ second_of rest what c (Some s) e is = second_by rest what s c e (member_in s) re
 -- what is behind the tests of a member
 record Whole (what : List ℕ) (other : Said) (c : Command) : Type 0 where
   ends : is_end other.rest ≡ true
-  name : is_name other.value ≡ true
+  name : is_name_text other.value ≡ true
   named : free_named what other.key other.value ≡ Some c
 
-whole_by : (what : List ℕ) (other : Said) (c : Command) (e n : Bool) → is_end other.rest ≡ e → is_name other.value ≡ n
+whole_by : (what : List ℕ) (other : Said) (c : Command) (e n : Bool) → is_end other.rest ≡ e → is_name_text other.value ≡ n
     → (if e && n then free_named what other.key other.value else None) ≡ Some c → Whole what other c
 whole_by what other c true true a b is = record { ends = a; name = b; named = is }
 whole_by what other c false n a b is = absurd (no_none c is)
@@ -134,7 +134,7 @@ module _ (line : List ℕ) (c : Command) where
   two : (r : List ℕ) (said : Said) → past_mark 123 line ≡ Some r → member_in r ≡ Some said → said.key ≡ codes "do"
       → Second said.rest said.value c → (d : Data) × (read line ≡ Some d) × Asks d c
   two r said begins first word second =
-      let whole = whole_by said.value second.other c (is_end second.other.rest) (is_name second.other.value) refl refl second.by in (
+      let whole = whole_by said.value second.other c (is_end second.other.rest) (is_name_text second.other.value) refl refl second.by in (
         of_two said.key said.value second.other.key second.other.value,
         reads_two line r second.after_comma said second.other begins first second.comma_is second.member_is whole.ends,
         subst (λ k. Asks (of_two k said.value second.other.key second.other.value) c) (sym word)

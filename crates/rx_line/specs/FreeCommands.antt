@@ -7,7 +7,7 @@ use Rattle.std.specs.Option.{option_map_or}
 use Rattle.json.specs.Word.{is_space}
 use Rattle.rx_note.specs.declared.note.Terminal.TheVariants.{Completed}
 use Rattle.rx_scenario.specs.Scenario.{Command, remove, give_back, end, decline, dispose, disconnect, drain}
-use Rattle.rx_scenario.specs.Reading.{is_name, is_name_byte}
+use Rattle.rx_scenario.specs.Reading.{is_name_text, is_name_byte}
 use Rattle.rx_line.specs.declared.free.FreeCommand.{FreeCommand}
 use Rattle.rx_line.specs.declared.free.FreeCommand.TheVariants.{Remove, Return, End, Decline, Dispose, Disconnect, Drain}
 use Rattle.rx_line.specs.declared.free.Said.{Said as SaidInCode}
@@ -84,7 +84,7 @@ free_named what key name =
     else None
 
 abbrev pub free_by : (what : List ℕ) → Said → Option Command
-free_by what said = if is_end said.rest && is_name said.value then free_named what said.key said.value else None
+free_by what said = if is_end said.rest && is_name_text said.value then free_named what said.key said.value else None
 
 unfoldable pub free_said : (what text : List ℕ) → Option Command
 free_said what text =

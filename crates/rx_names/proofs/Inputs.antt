@@ -12,9 +12,9 @@ use Rattle.rx_dump.specs.Inputs.{IsVerdictOf}
 use Rattle.rx_dump.specs.Verdict.{verdict_text}
 use Rattle.rx_names.specs.declared.judging.Labels.{Labels}
 use Rattle.rx_names.specs.declared.judging.Labels.TheVariants.{Numbers, Names}
-use Rattle.rx_names.specs.Names.{dump_in, names_in, name_of}
+use Rattle.rx_names.specs.Names.{dump_in, names_in, name_in_object}
 use Rattle.rx_names.specs.NamedVerdict.{named_verdict}
-use Rattle.rx_names.specs.Judged.{names_for, IsJudgedSo, IsNoHistory, Judges as JudgesNamed, GivesNoHistory}
+use Rattle.rx_names.specs.Judged.{names_for, IsJudgedSo, IsNoHistory, JudgesNamed, GivesNoHistory}
 use Rattle.rx_names.proofs.Texts.{alone}
 use Rattle.std.proofs.lemmas.Option.{none-some}
 
@@ -78,7 +78,7 @@ judged_alone labels input text v is same =
       value = is.value;
       json = is.json;
       verdict = subst (λ (d : Data). IsVerdictOn d v) (sym (itself is.value is.verdict.history reading).0) is.verdict;
-      tells = same ∙ sym (alone v) ∙ ap (λ (d : Data). named_verdict (name_of d) v) (sym none);
+      tells = same ∙ sym (alone v) ∙ ap (λ (d : Data). named_verdict (name_in_object d) v) (sym none);
     }
 
 -- what is said of the bytes of an input, of the reader that gave them ------------------------------

@@ -8,7 +8,7 @@ use Rattle.rx_dump.specs.Checking.{IsVerdictOn}
 use Rattle.rx_dump.specs.Verdict.{is_lawful}
 use Rattle.rx_names.specs.declared.judging.Labels.{Labels}
 use Rattle.rx_names.specs.declared.judging.Labels.TheVariants.{Numbers, Names}
-use Rattle.rx_names.specs.Names.{dump_in, names_in, name_of}
+use Rattle.rx_names.specs.Names.{dump_in, names_in, name_in_object}
 use Rattle.rx_names.specs.NamedVerdict.{named_verdict}
 
 -- the names that a verdict on the value tells
@@ -22,7 +22,7 @@ pub record IsJudgedSo (labels : Labels) (input : List ℕ) (v : Verdict) (text :
   pub value : Data
   pub json : IsJsonOf input value
   pub verdict : IsVerdictOn (dump_in value) v
-  pub tells : text ≡ named_verdict (name_of (names_for labels value)) v
+  pub tells : text ≡ named_verdict (name_in_object (names_for labels value)) v
 
 -- the same of a verdict that is lawful, or is not
 abbrev pub IsJudgement : Labels → List ℕ → Bool → List ℕ → Type 0
@@ -36,12 +36,12 @@ pub record IsNoHistory (input : List ℕ) : Type 0 where
 
 -- the reader gave a dump, with or without names, the verdict is that on its history, and what tells it was written in
 -- this way: whole, or a front of it
-pub record Judges (labels : Labels) (v : Verdict) (given left : Option (List ℕ))
+pub record JudgesNamed (labels : Labels) (v : Verdict) (given left : Option (List ℕ))
     (Writes : List ℕ → Type 0) : Type 0 where
   pub value : Data
   pub gave : GivesJson given left value
   pub verdict : IsVerdictOn (dump_in value) v
-  pub written : Writes (named_verdict (name_of (names_for labels value)) v)
+  pub written : Writes (named_verdict (name_in_object (names_for labels value)) v)
 
 -- the reader gave JSON that has no dump
 pub record GivesNoHistory (old new : Option (List ℕ)) : Type 0 where

@@ -7,12 +7,12 @@ use Rattle.rx_audit.specs.declared.verdict.Verdict.{Verdict}
 use Rattle.rx_audit.specs.declared.verdict.Verdict.TheVariants.{Lawful, Unlawful, Unsettled}
 
 -- behind a number its name, as a JSON string
-abbrev pub name_text : Option (List ℕ) → List ℕ
-name_text None = []
-name_text (Some name) = codes " " ++ compact_text (string name)
+abbrev pub name_after_number : Option (List ℕ) → List ℕ
+name_after_number None = []
+name_after_number (Some name) = codes " " ++ compact_text (string name)
 
 unfoldable pub label_text : (ℕ → Option (List ℕ)) → ℕ → List ℕ
-label_text names n = decimal n ++ name_text (names n)
+label_text names n = decimal n ++ name_after_number (names n)
 
 abbrev pub entry_text : (ℕ → Option (List ℕ)) → ℕ → List ℕ
 entry_text names n = codes " " ++ label_text names n

@@ -12,5 +12,5 @@ abbrev pub names_in : Data → Data
 names_in d = unwrap_or (get (codes "names") d) null
 
 -- the name of a number, by an object that leads from numbers to names
-abbrev pub name_of : Data → ℕ → Option (List ℕ)
-name_of names n = option_and_then as_str (get (decimal n) names)
+abbrev pub name_in_object : Data → ℕ → Option (List ℕ)
+name_in_object names n = option_and_then as_str (get (decimal n) names)

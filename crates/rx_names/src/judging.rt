@@ -5,7 +5,7 @@ ghost use Rattle.std.specs.Io.KnownBytes.{Appends};
 ghost use Rattle.serde_json.specs.Data.{Data, null};
 ghost use Rattle.serde_json.specs.View.{view};
 ghost use Rattle.rx_audit.specs.declared.verdict.Verdict.{Verdict};
-ghost use Rattle.rx_device.specs.Device.{device_of, KeepsDevice, has_failed, has_stopped, IsFresh};
+ghost use Rattle.rx_device.specs.Device.{device_of, KeepsDevice, has_failed, has_stopped, IsUnasked};
 ghost use Rattle.rx_device.specs.Device.{HasReadFault, HasWriteFault, AppendsPrefix};
 ghost use Rattle.rx_device.specs.Input.{IsJsonOf, GivesTooMuch, GivesNoJson, most_bytes};
 ghost use Rattle.rx_dump.specs.History.{history_of};
@@ -13,7 +13,7 @@ ghost use Rattle.rx_dump.specs.Checking.{IsVerdictOn};
 ghost use Rattle.rx_dump.specs.Inputs.{IsVerdictOf};
 ghost use Rattle.rx_dump.specs.Verdict.{is_lawful, verdict_text};
 ghost use Rattle.rx_names.specs.Names.{dump_in};
-ghost use Rattle.rx_names.specs.Judged.{names_for, IsJudgement, IsNoHistory, Judges, GivesNoHistory};
+ghost use Rattle.rx_names.specs.Judged.{names_for, IsJudgement, IsNoHistory, JudgesNamed, GivesNoHistory};
 
 use crate::input::{dump_in, names_or};
 use crate::names::Names;
@@ -174,11 +174,11 @@ pub fn judge<R: Read, W: Write>(
     writer: &mut Watched<'_, W>,
     labels: Labels,
 ) -> Result<bool, ScriptError>
-    requires reader { IsFresh reader.old }
-    requires writer { IsFresh writer.old }
+    requires reader { IsUnasked reader.old }
+    requires writer { IsUnasked writer.old }
 
     ensures ok { IfOk result (λ lawful. (v : Verdict) × (lawful ≡ is_lawful v)
-        × Judges labels v (R.remaining (device_of reader.old)) (R.remaining (device_of reader.new))
+        × JudgesNamed labels v (R.remaining (device_of reader.old)) (R.remaining (device_of reader.new))
         (Appends (W.contents (device_of writer.old)) (W.contents (device_of writer.new)))) }
     ensures stopped { OnOk result (has_stopped reader.new ≡ true) }
     ensures unhurt { OnOk result ((has_failed reader.new ≡ false) × (has_failed writer.new ≡ false)) }
@@ -194,7 +194,7 @@ pub fn judge<R: Read, W: Write>(
 
     // With a write fault a front of the verdict is written, and with any other fault nothing.
     ensures front { IsErrOf result ScriptError.Write → (v : Verdict)
-        × Judges labels v (R.remaining (device_of reader.old)) (R.remaining (device_of reader.new))
+        × JudgesNamed labels v (R.remaining (device_of reader.old)) (R.remaining (device_of reader.new))
         (AppendsPrefix (W.contents (device_of writer.old)) (W.contents (device_of writer.new))) }
     ensures silent { IfErr result (λ e. e ≢ ScriptError.Write → writer.new ≡ writer.old) }
 

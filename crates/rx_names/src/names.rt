@@ -5,8 +5,8 @@ ghost use Rattle.serde_json.specs.Data.{string};
 ghost use Rattle.serde_json.specs.Find.{get, as_str};
 ghost use Rattle.serde_json.specs.View.{view};
 ghost use Rattle.serde_json.specs.Written.{compact_text};
-ghost use Rattle.rx_names.specs.Names.{name_of};
-ghost use Rattle.rx_names.specs.NamedVerdict.{name_text, label_text};
+ghost use Rattle.rx_names.specs.Names.{name_in_object};
+ghost use Rattle.rx_names.specs.NamedVerdict.{name_after_number, label_text};
 
 use serde_json::Value;
 use std::alloc::{AllocError, Global};
@@ -29,7 +29,7 @@ fn text_at<'a>(object: &'a Value, member: &str) -> Option<&'a str>
 
 /// The name of the number, if it has one.
 pub fn name_of<'a>(names: Names<'a>, n: u64) -> Result<Option<&'a str>, AllocError>
-    ensures { IfOk result (λ name. option_map (λ s. s.now) name ≡ name_of (view names.entry.object.now) n) }
+    ensures { IfOk result (λ name. option_map (λ s. s.now) name ≡ name_in_object (view names.entry.object.now) n) }
 {
     let alloc = names.alloc;
     let number = format!(in alloc; "{n}")?;
@@ -46,7 +46,7 @@ fn quoted(alloc: Global, text: &str) -> Result<String, AllocError>
 
 /// What stands behind a number of this name: a space and the name as a JSON string, or nothing if there is none.
 pub fn name_text(alloc: Global, name: Option<&str>) -> Result<String, AllocError>
-    ensures { IfOk result (λ s. string_bytes s ≡ name_text (option_map (λ s. s.now) name.entry)) }
+    ensures { IfOk result (λ s. string_bytes s ≡ name_after_number (option_map (λ s. s.now) name.entry)) }
 {
     let Some(name) = name else {
         return Ok(String::new(alloc));
@@ -58,7 +58,7 @@ pub fn name_text(alloc: Global, name: Option<&str>) -> Result<String, AllocError
 /// The number, and behind it its name as a JSON string, if it has one: `4 "socket"`.
 #[tactic(auto, unfolding(crate::specs::NamedVerdict::label_text))]
 pub fn label(names: Names<'_>, n: u64) -> Result<String, AllocError>
-    ensures { IfOk result (λ s. string_bytes s ≡ label_text (name_of (view names.entry.object.now)) n) }
+    ensures { IfOk result (λ s. string_bytes s ≡ label_text (name_in_object (view names.entry.object.now)) n) }
 {
     let alloc = names.alloc;
     let name = name_text(alloc, name_of(names, n)?)?;

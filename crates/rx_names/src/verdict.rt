@@ -2,7 +2,7 @@
 
 ghost use Rattle.std.specs.Prelude.{◌≡◌, ◌++◌, flat_map, string_bytes, OnOk, IfOk};
 ghost use Rattle.serde_json.specs.View.{view};
-ghost use Rattle.rx_names.specs.Names.{name_of};
+ghost use Rattle.rx_names.specs.Names.{name_in_object};
 ghost use Rattle.rx_names.specs.NamedVerdict.{entry_text, named_line, named_verdict};
 
 use crate::names::{Names, label};
@@ -12,7 +12,7 @@ use std::alloc::AllocError;
 // Each number, and its name.
 fn push_each(text: &mut String, names: Names<'_>, numbers: &[u64]) -> Result<(), AllocError>
     ensures { OnOk result (string_bytes text.new
-        ≡ string_bytes text.old ++ flat_map (entry_text (name_of (view names.entry.object.now))) numbers.now) }
+        ≡ string_bytes text.old ++ flat_map (entry_text (name_in_object (view names.entry.object.now))) numbers.now) }
 {
     for number in numbers {
         let label = label(names, *number)?;
@@ -30,7 +30,7 @@ fn push_line(
     numbers: &[u64],
 ) -> Result<(), AllocError>
     ensures { OnOk result (string_bytes text.new
-        ≡ string_bytes text.old ++ named_line (name_of (view names.entry.object.now)) word.now numbers.now) }
+        ≡ string_bytes text.old ++ named_line (name_in_object (view names.entry.object.now)) word.now numbers.now) }
 {
     write!(text, "{word}:")?;
     push_each(text, names, numbers)?;
@@ -40,7 +40,7 @@ fn push_line(
 /// The text of a verdict, in which the name of each number stands behind it.
 #[tactic(auto, unfolding(crate::specs::NamedVerdict::named_verdict))]
 pub fn verdict_text(names: Names<'_>, verdict: &Verdict) -> Result<String, AllocError>
-    ensures { IfOk result (λ s. string_bytes s ≡ named_verdict (name_of (view names.entry.object.now)) verdict.now) }
+    ensures { IfOk result (λ s. string_bytes s ≡ named_verdict (name_in_object (view names.entry.object.now)) verdict.now) }
 {
     let mut text = String::new(names.alloc);
     match verdict {

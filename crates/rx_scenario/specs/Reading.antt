@@ -58,11 +58,11 @@ unfoldable pub is_name_byte : ℕ → Bool
 is_name_byte b = (nat_le 48 b && nat_le b 57) || (nat_le 65 b && nat_le b 90) || (nat_le 97 b && nat_le b 122) || (b == 45) || (b == 95)
 
 -- 1 to 32 of them
-unfoldable pub is_name : List ℕ → Bool
-is_name s = nat_le 1 (length s) && nat_le (length s) 32 && list_all is_name_byte s
+unfoldable pub is_name_text : List ℕ → Bool
+is_name_text s = nat_le 1 (length s) && nat_le (length s) 32 && list_all is_name_byte s
 
 abbrev pub if_name : List ℕ → Option Name
-if_name s = if is_name s then Some s else None
+if_name s = if is_name_text s then Some s else None
 
 -- the name at a key
 unfoldable pub name_in : List ℕ → Data → Option Name
@@ -137,14 +137,14 @@ unfoldable pub sub_in : Data → Option Sort
 sub_in d = option_and_then (λ h. option_map (sub h) (optional_name_in (codes "connection") d)) (name_in (codes "hub") d)
 
 -- every other node has neither
-unfoldable pub kind_by : List ℕ → Data → Option Sort
-kind_by kind d =
+unfoldable pub sort_by_kind : List ℕ → Data → Option Sort
+sort_by_kind kind d =
     if bytes_eq kind (codes "sub") then sub_in d
     else if is_some (get (codes "hub") d) || is_some (get (codes "connection") d) then None
     else plain_by kind
 
 unfoldable pub kind_in : Data → Option Sort
-kind_in d = option_and_then (λ kind. kind_by kind d) (option_and_then as_str (get (codes "kind") d))
+kind_in d = option_and_then (λ kind. sort_by_kind kind d) (option_and_then as_str (get (codes "kind") d))
 
 unfoldable pub mode_by : List ℕ → Option Mode
 mode_by mode =
@@ -158,14 +158,14 @@ mode_in d = option_and_then mode_by (option_and_then as_str (get (codes "mode") 
 
 -- commands ----------------------------------------------------------------------------------------
 
-unfoldable pub using_of : Data → Option Command
-using_of d =
+unfoldable pub using_command_of : Data → Option Command
+using_command_of d =
     if is_step_of (codes "name" ∷ codes "place" ∷ codes "of" ∷ codes "res" ∷ []) d
     then option_and_then (λ n. option_and_then (λ s. option_map (using n s) (name_in (codes "res") d)) (site_in d)) (name_in (codes "name") d)
     else None
 
-unfoldable pub open_of : Data → Option Command
-open_of d =
+unfoldable pub open_command_of : Data → Option Command
+open_command_of d =
     if is_step_of (codes "name" ∷ codes "place" ∷ codes "of" ∷ codes "kind" ∷ codes "hub" ∷ codes "connection" ∷ []) d
     then option_and_then (λ n. option_and_then (λ s. option_map (open_node n s) (kind_in d)) (site_in d)) (name_in (codes "name") d)
     else None
@@ -188,8 +188,8 @@ remove_of d =
     then option_map remove (name_in (codes "res") d)
     else None
 
-unfoldable pub lease_of : Data → Option Command
-lease_of d =
+unfoldable pub lease_command_of : Data → Option Command
+lease_command_of d =
     if is_step_of (codes "res" ∷ codes "name" ∷ []) d
     then option_and_then (λ r. option_map (lease r) (name_in (codes "name") d)) (name_in (codes "res") d)
     else None
@@ -206,8 +206,8 @@ next_of d =
     then option_and_then (λ n. option_map (next n) (value_in d)) (name_in (codes "node") d)
     else None
 
-unfoldable pub end_of : Data → Option Command
-end_of d =
+unfoldable pub end_command_of : Data → Option Command
+end_command_of d =
     if is_step_of (codes "node" ∷ codes "error" ∷ []) d
     then option_and_then (λ n. option_map (end n) (terminal_in d)) (name_in (codes "node") d)
     else None
@@ -262,15 +262,15 @@ checkpoint_of d = if is_step_of [] d then Some checkpoint else None
 
 unfoldable pub command_by : List ℕ → Data → Option Command
 command_by what d =
-    if bytes_eq what (codes "using") then using_of d
-    else if bytes_eq what (codes "open") then open_of d
+    if bytes_eq what (codes "using") then using_command_of d
+    else if bytes_eq what (codes "open") then open_command_of d
     else if bytes_eq what (codes "hold") then hold_of d
     else if bytes_eq what (codes "apply") then apply_of d
     else if bytes_eq what (codes "remove") then remove_of d
-    else if bytes_eq what (codes "lease") then lease_of d
+    else if bytes_eq what (codes "lease") then lease_command_of d
     else if bytes_eq what (codes "return") then return_of d
     else if bytes_eq what (codes "next") then next_of d
-    else if bytes_eq what (codes "end") then end_of d
+    else if bytes_eq what (codes "end") then end_command_of d
     else if bytes_eq what (codes "abort") then abort_of d
     else if bytes_eq what (codes "decline") then decline_of d
     else if bytes_eq what (codes "fail") then fail_of d

@@ -64,9 +64,9 @@ pub data Action : Type 0 where
   cancel : (label : Name) → Action
 
 -- steps in order, each with those that follow it
-pub data Steps : Type 0 where
-  no_steps : Steps
-  one_more : (label : Option Name) → (delay : Option ℕ) → Action → (followers : Steps) → (others : Steps) → Steps
+pub data StepList : Type 0 where
+  no_steps : StepList
+  one_more : (label : Option Name) → (delay : Option ℕ) → Action → (followers : StepList) → (others : StepList) → StepList
 
 -- a step: its label; how long after the step that it follows, or after the beginning, it is due, where it waits at all; what it
 -- does; and the steps that follow it once it is accepted
@@ -74,19 +74,19 @@ pub record Step : Type 0 where
   pub label : Option Name
   pub delay : Option ℕ
   pub action : Action
-  pub followers : Steps
+  pub followers : StepList
 
 -- steps as a list, and back
-abbrev pub list_of : Steps → List Step
+abbrev pub list_of : StepList → List Step
 list_of no_steps = []
 list_of (one_more label delay action followers others) = record { label = label; delay = delay; action = action; followers = followers } ∷ list_of others
 
-abbrev pub steps_of : List Step → Steps
+abbrev pub steps_of : List Step → StepList
 steps_of [] = no_steps
 steps_of (s ∷ ss) = one_more s.label s.delay s.action s.followers (steps_of ss)
 
 -- the label of each of these steps and of each that follows it, in the order of the text; None where a step has no label
-abbrev pub labels_in : Steps → List (Option Name)
+abbrev pub labels_in : StepList → List (Option Name)
 labels_in no_steps = []
 labels_in (one_more label delay action followers others) = label ∷ labels_in followers ++ labels_in others
 

@@ -2,12 +2,12 @@
 
 ghost use Rattle.std.specs.Prelude.{◌≡◌, map};
 ghost use Rattle.rx_scenario.specs.Scenario.{action_of, step_of, steps_of};
-ghost use Rattle.rx_scenario.specs.Checkpoints.{is_checkpoint, has_checkpoint};
+ghost use Rattle.rx_scenario.specs.Checkpoints.{is_checkpoint_command, has_checkpoint};
 
 use crate::scenario::{Action, Command, Step};
 
-fn is_checkpoint(action: &Action) -> bool
-    ensures { result ≡ is_checkpoint (action_of action.now) }
+fn is_checkpoint_command(action: &Action) -> bool
+    ensures { result ≡ is_checkpoint_command (action_of action.now) }
 {
     matches!(action, Action::Command(Command::Checkpoint))
 }
@@ -18,7 +18,7 @@ pub fn has_checkpoint(steps: &[Step]) -> bool
     ensures { result ≡ has_checkpoint (steps_of (map step_of steps.now)) }
 {
     for step in steps {
-        if is_checkpoint(&step.action) || has_checkpoint(&step.then) {
+        if is_checkpoint_command(&step.action) || has_checkpoint(&step.then) {
             return true;
         }
     }

@@ -4,7 +4,7 @@ use Rattle.rx_script.proofs.Common.{◌≡◌, ◌⊎◌, ℕ, Bool, false, List
 use Rattle.rx_script.proofs.Common.{same_Some, none-some, Event, Source, Inner, Notifier, Call, Applying, Aborting, IsReady, NoName, NameTaken, NoStock, bound}
 use Rattle.rx_script.proofs.Common.{Site, root, source, inner, notifier, Sort, Command, using, open_node, hold, apply, remove, lease, give_back, next, end}
 use Rattle.rx_script.proofs.Common.{abort, decline, fail, dispose, connect, disconnect, drain, checkpoint, Ware, Stage, is_unbound_site, is_unbound_hub}
-use Rattle.rx_script.proofs.Common.{is_empty, lacks_name, lacks_stock, ◌∙◌, own_cause, place_at, kind_at, call_of, after}
+use Rattle.rx_script.proofs.Common.{has_no_ware, lacks_name, lacks_stock, ◌∙◌, own_cause, place_at, kind_at_stage, call_of, after}
 use Rattle.rx_script.proofs.MadeOfOptions.{made_of, made_of_two, is_none-map, is_none-two}
 use Rattle.std.proofs.Common.{rules}
 
@@ -35,10 +35,10 @@ none_placed s (source name) = is_none-map Source (bound s.nodes name)
 none_placed s (inner name) = is_none-map Inner (bound s.nodes name)
 none_placed s (notifier name) = is_none-map Notifier (bound s.nodes name)
 
-none_sorted : (s : Stage) (sort : Sort) → is_none (kind_at s sort) ≡ is_unbound_hub s sort
+none_sorted : (s : Stage) (sort : Sort) → is_none (kind_at_stage s sort) ≡ is_unbound_hub s sort
 none_sorted s x1 = search (rules, is_none-map)
 
-none_stocked : (stock : List Ware) → is_none (slice_get stock 0) ≡ is_empty stock
+none_stocked : (stock : List Ware) → is_none (slice_get stock 0) ≡ has_no_ware stock
 none_stocked x0 = search rules
 
 -- without a cause of the scenario's own it makes one

@@ -1,8 +1,9 @@
 -- A checkpoint, carried out by an engine: what is to be reported is gathered, and then the book lets its events go.
 use Rattle.rx_script.proofs.Common.{◌≡◌, ◌++◌, ℕ, List, [], length, drop, refl, sym, ap, subst, ◌∙◌, arith, append-nil, Event, nothing_kept, shown}
 use Rattle.rx_script.proofs.Common.{notes, alike_of, base_length, checkpoints_agree, Key, ResKey, LeaseKey, State, IsPromised}
-use Rattle.rx_script.proofs.Common.{Checkpoints, Accepted, checkpoint, Tallies, AreNotesOf, AreTalliesOf, GoesOn, Gathers, IsNodeKey, IsHeldKey, IsLeaseKey}
-use Rattle.rx_script.proofs.Common.{Engine, limited, Executes, checkpointed, stage_of, IsHistoryOf, IsSound, Carries, take, append_assoc, Mail, inr}
+use Rattle.rx_script.proofs.Common.{Checkpoints, Accepted, checkpoint, Tallies, AreNotesOf, AreTalliesOf, GoesOnFromFront, Gathers, IsNodeKey, IsHeldKey}
+use Rattle.rx_script.proofs.Common.{IsLeaseKey}
+use Rattle.rx_script.proofs.Common.{Engine, limited, Executes, checkpointed, stage_of, IsHistoryOf, IsSound, CarriesStep, take, append_assoc, Mail, inr}
 use Rattle.std.proofs.lemmas.List.{take-append-drop}
 use Rattle.std.proofs.Math.Seq.{drop-append_seam}
 use Rattle.rx_event.proofs.Laws.SameForcedAndAllowed.{agree_back, settled_too}
@@ -12,7 +13,7 @@ use Rattle.std.proofs.Common.{rules}
 
 -- what was gathered is that of the whole history
 module _ {t : Tallies} {s : State} {h : List Event} (w : IsHistoryOf h t s) (kept : IsPromised s) where
-  goes_on : GoesOn w.front h s
+  goes_on : GoesOnFromFront w.front h s
   goes_on = search (rules, kept_length, drop, length, shown_length, drop-append_seam)
 
   pub all_told : notes w.front ++ notes s.history ≡ notes h
@@ -80,7 +81,7 @@ module _ {R : Type 0} (e : Engine R) (t : Tallies) (given : ℕ) (book : State) 
     checked_history h w,
   )
 
-  pub checkpointed_to : Carries e checkpoint Accepted checked_engine
+  pub checkpointed_to : CarriesStep e checkpoint Accepted checked_engine
   checkpointed_to = record {
     executes = checks;
     sound = record {

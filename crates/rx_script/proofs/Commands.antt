@@ -4,8 +4,10 @@ use Rattle.rx_script.proofs.Common.{option_and_then, Kind, Refusal, Gone, NoMemo
 use Rattle.rx_script.proofs.Common.{Failing, Disposing, Applying, Removing, Leasing, GivingBack, first_cause, Key, ResKey, At, State, has_key, has_res_key}
 use Rattle.rx_script.proofs.Common.{has_lease_key, place_of, is_known_place, causes, by_key, by_res_key, stands, Refused, Cause, NoName, NameTaken, NoStock}
 use Rattle.rx_script.proofs.Common.{Book, Named, Engine, Name, Site, Sort, Command, open_node, apply, remove, lease, next, end, abort, decline, fail, dispose}
-use Rattle.rx_script.proofs.Common.{make_hub, connect, disconnect, false≢true, lacks_name, takes_name, lacks_stock, kind_at, call_of, front_is_fresh, bound}
-use Rattle.rx_script.proofs.Common.{is_unbound, key_of, at_of, kind_of, IsSound, Carries, IsNodeKey, IsHeldKey, IsLeaseKey, key_of-holds, is_unbound_hub}
+use Rattle.rx_script.proofs.Common.{make_hub, connect, disconnect, false≢true, lacks_name, takes_name, lacks_stock, kind_at_stage, call_of, front_is_fresh}
+use Rattle.rx_script.proofs.Common.{bound}
+use Rattle.rx_script.proofs.Common.{is_unbound, key_named, at_of, kind_by_hubs, IsSound, CarriesStep, IsNodeKey, IsHeldKey, IsLeaseKey, key_named-holds}
+use Rattle.rx_script.proofs.Common.{is_unbound_hub}
 use Rattle.rx_script.proofs.Common.{own_cause, bound-numbers, give_back}
 use Rattle.rx_agenda.proofs.Laws.{bound-keys}
 use Rattle.rx_event.specs.Causes.{by_lease_key}
@@ -36,10 +38,10 @@ IsResolved e step None = lacks_name (stored_stage e) step ≡ true
 IsResolved e step (Some call) = IsCalled e step call
 
 -- kinds: a sort stands for the same by numbers as by names
-kind_same : {R : Type 0} (e : Engine R) (sort : Sort) → kind_at (stored_stage e) sort ≡ kind_of e.hubs sort
+kind_same : {R : Type 0} (e : Engine R) (sort : Sort) → kind_at_stage (stored_stage e) sort ≡ kind_by_hubs e.hubs sort
 kind_same e x1 = search (rules, option_map, bound-numbers)
 
-hub_same : {R : Type 0} (e : Engine R) (sort : Sort) → is_unbound_hub (stored_stage e) sort ≡ is_none (kind_of e.hubs sort)
+hub_same : {R : Type 0} (e : Engine R) (sort : Sort) → is_unbound_hub (stored_stage e) sort ≡ is_none (kind_by_hubs e.hubs sort)
 hub_same e x1 = search (rules, is_none, bound-numbers, is_none-map)
 
 -- to look for the key is to look whether the resource is held, or the lease out
@@ -53,8 +55,8 @@ by_lease_same x0 stand none = search rules
 
 -- a command that uses one name, for which this stands if it is bound
 by_name : {R K : Type 0} (e : Engine R) (step : Command) (number_of : K → ℕ) (names : List (Named K)) (name : Name) (f : K → Asked) (o : Option K)
-    → key_of names name ≡ o → lacks_name (stored_stage e) step ≡ is_unbound (map (binding_by number_of) names) name
-    → ((k : K) → key_of names name ≡ Some k → bound (map (binding_by number_of) names) name ≡ Some (number_of k) → IsCalled e step (f k))
+    → key_named names name ≡ o → lacks_name (stored_stage e) step ≡ is_unbound (map (binding_by number_of) names) name
+    → ((k : K) → key_named names name ≡ Some k → bound (map (binding_by number_of) names) name ≡ Some (number_of k) → IsCalled e step (f k))
     → IsResolved e step (option_map f o)
 by_name e step number_of names name f x6 at lacks is = search (rules, is_none, bound-keys, option_map)
 
@@ -67,36 +69,36 @@ module _ {R : Type 0} (e : Engine R) (sound : IsSound e) where
       → ((k : Key) → bound (stored_stage e).nodes node ≡ Some k.number
       → ((stand : Refusal → Bool) → (is_open e.book.history k.number ≡ false → stand Gone ≡ true)
       → first_cause (by_key (has_key e.book.keys k) stand) ≡ first_cause stand) → IsCalled e step (f k))
-      → IsResolved e step (option_map f (key_of e.nodes node))
-  at_node step node f lacks called = by_name e step (λ k. k.number) e.nodes node f (key_of e.nodes node) refl lacks (λ k at is.
+      → IsResolved e step (option_map f (key_named e.nodes node))
+  at_node step node f lacks called = by_name e step (λ k. k.number) e.nodes node f (key_named e.nodes node) refl lacks (λ k at is.
       called k is (λ stand gone. first_cause-by_key (has_key e.book.keys k) stand (λ unknown.
-      gone (sym (has_key-is_open e.book k sound.kept (key_of-holds (IsNodeKey e.book) e.nodes node k sound.nodes at)) ∙ unknown))))
+      gone (sym (has_key-is_open e.book k sound.kept (key_named-holds (IsNodeKey e.book) e.nodes node k sound.nodes at)) ∙ unknown))))
 
   at_res : (step : Command) (res : Name) (f : ResKey → Asked) → lacks_name (stored_stage e) step ≡ is_unbound (stored_stage e).resources res
       → ((k : ResKey) → bound (stored_stage e).resources res ≡ Some k.number
       → ((stand : Refusal → Bool) → (is_held e.book.history k.number ≡ false → first_cause stand ≡ Some NotHeld)
       → first_cause (by_res_key (has_res_key e.book.res_keys k) stand) ≡ first_cause stand) → IsCalled e step (f k))
-      → IsResolved e step (option_map f (key_of e.resources res))
-  at_res step res f lacks called = by_name e step (λ k. k.number) e.resources res f (key_of e.resources res) refl lacks (λ k at is.
+      → IsResolved e step (option_map f (key_named e.resources res))
+  at_res step res f lacks called = by_name e step (λ k. k.number) e.resources res f (key_named e.resources res) refl lacks (λ k at is.
       called k is (λ stand gone. by_res_same (has_res_key e.book.res_keys k) stand (λ unknown.
-      gone (sym (has_res_key-is_held e.book k sound.kept (key_of-holds (IsHeldKey e.book) e.resources res k sound.resources at)) ∙ unknown))))
+      gone (sym (has_res_key-is_held e.book k sound.kept (key_named-holds (IsHeldKey e.book) e.resources res k sound.resources at)) ∙ unknown))))
 
   at_hub : (step : Command) (hub : Name) (f : ℕ → Asked) → lacks_name (stored_stage e) step ≡ is_unbound (stored_stage e).hubs hub
-      → ((number : ℕ) → bound (stored_stage e).hubs hub ≡ Some number → IsCalled e step (f number)) → IsResolved e step (option_map f (key_of e.hubs hub))
-  at_hub step hub f lacks called = by_name e step (λ n. n) e.hubs hub f (key_of e.hubs hub) refl lacks (λ number at is. called number is)
+      → ((number : ℕ) → bound (stored_stage e).hubs hub ≡ Some number → IsCalled e step (f number)) → IsResolved e step (option_map f (key_named e.hubs hub))
+  at_hub step hub f lacks called = by_name e step (λ n. n) e.hubs hub f (key_named e.hubs hub) refl lacks (λ number at is. called number is)
 
-  at_lease : (name : Name) → IsResolved e (give_back name) (option_map GiveBack (key_of e.leases name))
-  at_lease name = by_name e (give_back name) (λ k. k.number) e.leases name GiveBack (key_of e.leases name) refl refl (λ k at is. record {
+  at_lease : (name : Name) → IsResolved e (give_back name) (option_map GiveBack (key_named e.leases name))
+  at_lease name = by_name e (give_back name) (λ k. k.number) e.leases name GiveBack (key_named e.leases name) refl refl (λ k at is. record {
     named = rw is refl;
     stocked = refl;
     called = rw is refl;
     same = by_lease_same (has_lease_key e.book.lease_keys k) (against (GivingBack k.number)) (λ unknown.
-        let none = sym (has_lease_key-is_out e.book k sound.kept (key_of-holds (IsLeaseKey e.book) e.leases name k sound.leases at)) ∙ unknown in
+        let none = sym (has_lease_key-is_out e.book k sound.kept (key_named-holds (IsLeaseKey e.book) e.leases name k sound.leases at)) ∙ unknown in
         rw none refl);
   })
 
   module _ (name : Name) (site : Site) (sort : Sort) where
-    of_kind : (place : At) → IsPlaced e site place → (o : Option Kind) → kind_of e.hubs sort ≡ o
+    of_kind : (place : At) → IsPlaced e site place → (o : Option Kind) → kind_by_hubs e.hubs sort ≡ o
         → IsResolved e (open_node name site sort) (option_map (Open place) o)
     of_kind place facts None none =
         let named = facts.named in
@@ -107,15 +109,15 @@ module _ {R : Type 0} (e : Engine R) (sound : IsSound e) where
         record {
           named = rw (placed, hubbed) refl;
           stocked = refl;
-          called = ap (option_and_then (λ p. option_map (Opening p) (kind_at (stored_stage e) sort))) facts.placed
+          called = ap (option_and_then (λ p. option_map (Opening p) (kind_at_stage (stored_stage e) sort))) facts.placed
               ∙ ap (option_map (Opening (place_of place))) (kind_same e sort ∙ is);
           same = first_cause-by_key (is_known_place e.book.keys place) (against (Opening (place_of place) kind)) facts.gone;
         }
 
     at_place : (o : Option At) → at_of e.nodes site ≡ o
-        → IsResolved e (open_node name site sort) (option_and_then (λ place. option_map (Open place) (kind_of e.hubs sort)) o)
+        → IsResolved e (open_node name site sort) (option_and_then (λ place. option_map (Open place) (kind_by_hubs e.hubs sort)) o)
     at_place None at = let nameless = site_nameless e site at in rw nameless refl
-    at_place (Some place) at = of_kind place (site_placed e site place sound at) (kind_of e.hubs sort) refl
+    at_place (Some place) at = of_kind place (site_placed e site place sound at) (kind_by_hubs e.hubs sort) refl
 
   resolved : (step : Command) → is_asked step ≡ true → IsResolved e step (keyed_call e step)
   resolved (open_node name site sort) asked = at_place name site sort (at_of e.nodes site) refl
@@ -160,7 +162,7 @@ abbrev own_by : (lacks takes stockless : Bool) → Option Cause
 own_by lacks takes stockless = cond lacks (Some NoName) (cond takes (Some NameTaken) (cond stockless (Some NoStock) None))
 
 module _ {R : Type 0} (e : Engine R) (sound : IsSound e) (step : Command) (asked : is_asked step ≡ true) where
-  pub call_nameless : keyed_call e step ≡ None → Carries e step (Refused NoName) (with e e.book e.stock)
+  pub call_nameless : keyed_call e step ≡ None → CarriesStep e step (Refused NoName) (with e e.book e.stock)
   call_nameless none =
       let lacks : lacks_name (stored_stage e) step ≡ true = subst (λ o. IsResolved e step o) none (resolved e sound step asked) in
       refused_own step NoName e.book e.stock sound refl refl (λ i. own_by (lacks i) (takes_name (stored_stage e) step) (lacks_stock (stored_stage e) step))
@@ -172,7 +174,7 @@ module _ {R : Type 0} (e : Engine R) (sound : IsSound e) (step : Command) (asked
     own_is : (takes : Bool) → rebinds e.nodes e.hubs e.leases step ≡ takes → own_cause (stored_stage e) step ≡ cond takes (Some NameTaken) None
     own_is takes same = λ i. own_by (facts.named i) ((takes_name-rebinds e step asked ∙ same) i) (facts.stocked i)
 
-    pub call_taken : rebinds e.nodes e.hubs e.leases step ≡ true → Carries e step (Refused NameTaken) (with e e.book e.stock)
+    pub call_taken : rebinds e.nodes e.hubs e.leases step ≡ true → CarriesStep e step (Refused NameTaken) (with e e.book e.stock)
     call_taken taken = refused_own step NameTaken e.book e.stock sound refl refl (own_is true taken)
 
     module _ (free : rebinds e.nodes e.hubs e.leases step ≡ false) where
@@ -180,6 +182,6 @@ module _ {R : Type 0} (e : Engine R) (sound : IsSound e) (step : Command) (asked
       call_agrees = record { own = own_is false free; called = facts.called; same = facts.same }
 
       pub call_refused : (book : State) (why : Refusal) → book ≡ e.book → refuses e.book call why → why ≢ NoMemory
-          → Carries e step (Refused (Book why)) (with e book e.stock)
+          → CarriesStep e step (Refused (Book why)) (with e book e.stock)
       call_refused book why same refusal other = refused_there book e.stock sound same refl call_agrees
           (cause_asked (takes_memory call) (stands e.book (request_of e.book call)) why refusal other)

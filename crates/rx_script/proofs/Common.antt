@@ -21,12 +21,12 @@ pub use Rattle.std.specs.HashMap.{get}
 pub use Rattle.std.specs.List.{All, Contains}
 pub use Rattle.std.specs.Prelude.{is_some, is_none, flat_map, nat_eq, Err, IfOk, unwrap_or, Result, Ok, codes}
 pub use Rattle.std.specs.Str.{bytes_eq}
-pub use Rattle.rx_agenda.proofs.Laws.{key_of-holds, bound-numbers}
+pub use Rattle.rx_agenda.proofs.Laws.{key_named-holds, bound-numbers}
 pub use Rattle.rx_agenda.specs.Agenda.{Agenda, next_step, followed_by, empty_agenda, with_steps, Cancels, taken_off, none_waits}
 pub use Rattle.rx_agenda.specs.Bindings.{Binding, is_unbound, with_binding, is_bound}
 unfoldable pub use Rattle.rx_agenda.specs.Bindings.{bound}
-pub use Rattle.rx_agenda.specs.Names.{key_of, name_of}
-pub use Rattle.rx_agenda.specs.Order.{done_in, Executed, Placed}
+pub use Rattle.rx_agenda.specs.Names.{key_named, name_bytes}
+pub use Rattle.rx_agenda.specs.Order.{done_in, Executed, PlacedStep}
 pub use Rattle.rx_agenda.specs.Shown.{agenda_of, size_left, number_binding}
 pub use Rattle.rx_agenda.specs.declared.answer.Answer.{Answer}
 pub use Rattle.rx_agenda.specs.declared.answer.Answer.TheVariants.{Accepted, Refused}
@@ -83,24 +83,25 @@ pub use Rattle.rx_scenario.proofs.Laws.{list_of-steps_of}
 pub use Rattle.rx_scenario.specs.Checkpoints.{has_checkpoint}
 pub use Rattle.rx_scenario.specs.Scenario.{Name, Command, Step, Script, checkpoint, root, using, open_node, make_hub, sub, Site, source, leaf, Action, command}
 pub use Rattle.rx_scenario.specs.Scenario.{notifier, until, hold, lease, next, end, dispose, connect, drain, Sort, apply, steps_of, list_of, inner, pass, flat}
-pub use Rattle.rx_scenario.specs.Scenario.{switch, remove, give_back, abort, decline, fail, disconnect, Steps, no_steps, step_of, cancel, site_of}
+pub use Rattle.rx_scenario.specs.Scenario.{switch, remove, give_back, abort, decline, fail, disconnect, StepList, no_steps, step_of, cancel, site_of}
 pub use Rattle.rx_script.specs.Course.{limited, Course, accepted, Executes, refused_by_book, in_one_order, checkpointed, drained, refused, Does, does, leaves}
 pub use Rattle.rx_script.specs.Course.{Plays, none_played, one_played, cause_in, IsCanonicalCourseOf, IsCourseOf, HasNoFull, Manner, DrainsInOrder}
 pub use Rattle.rx_script.specs.Course.{nothing_left, least_taken, IsCourseIn, HasOneCourse}
-pub use Rattle.rx_script.specs.Engine.{IsSound, Carries, stage_of, at_of, with_named, IsHistoryOf, is_taken_beside, kind_of, MovesOn}
+pub use Rattle.rx_script.specs.Engine.{IsSound, CarriesStep, stage_of, at_of, with_named, IsHistoryOf, is_taken_beside, kind_by_hubs, MovesOn}
 pub use Rattle.rx_script.specs.Keys.{IsNodeKey, node_binding, IsHeldKey, res_binding, IsLeaseKey, lease_binding}
-pub use Rattle.rx_script.specs.Lines.{node_lines, res_lines, refused_lines, is_told, node_shown, res_shown, account_of, totals_of}
+pub use Rattle.rx_script.specs.Lines.{node_lines, res_lines, refused_lines, is_told, line_of_node, res_shown, account_of, totals_reported}
 pub use Rattle.rx_script.specs.NamedDumps.{binding_text, named_dump}
 pub use Rattle.rx_script.specs.Outputs.{unclosed_output, has_history, IsCarriedOut}
-pub use Rattle.rx_script.specs.Progress.{begin, executes, not_begun, advanced, Progress, Leads, Ends, Performs, cancels, Advances}
+pub use Rattle.rx_script.specs.Progress.{begin, executes, not_begun, advanced, Progress, LeadsBySteps, Ends, PerformsStep, cancels, Advances}
 pub use Rattle.rx_script.specs.Report.{lacks_form}
 unfoldable pub use Rattle.rx_script.specs.Report.{report, unclosed_report}
 pub use Rattle.rx_script.specs.Shelf.{Shelf}
-pub use Rattle.rx_script.specs.Stage.{Stage, Ware, own_cause, call_of, after, front_is_fresh, start, place_at, kind_at, front, with_connection, connection_name}
-pub use Rattle.rx_script.specs.Stage.{is_unbound_site, is_unbound_hub, is_empty, takes_name, ware_of, lacks_name, lacks_stock}
-pub use Rattle.rx_script.specs.Tallies.{AreNotesOf, IsWhole, AreCountsOf, GoesOn, AreTalliesOf, Gathers}
+pub use Rattle.rx_script.specs.Stage.{Stage, Ware, own_cause, call_of, after, front_is_fresh, start, place_at, kind_at_stage, front, with_connection_bound}
+pub use Rattle.rx_script.specs.Stage.{connection_name}
+pub use Rattle.rx_script.specs.Stage.{is_unbound_site, is_unbound_hub, has_no_ware, takes_name, ware_of, lacks_name, lacks_stock}
+pub use Rattle.rx_script.specs.Tallies.{AreNotesOf, IsWhole, AreCountsOf, GoesOnFromFront, AreTalliesOf, Gathers}
 pub use Rattle.rx_script.specs.Text.{res_line}
-unfoldable pub use Rattle.rx_script.specs.Text.{totals_line, node_line, refused_line, note_text, closed_line}
+unfoldable pub use Rattle.rx_script.specs.Text.{totals_line, node_line, refused_line, note_in_line, closed_line}
 pub use Rattle.rx_script.specs.declared.Form.{Form}
 pub use Rattle.rx_script.specs.declared.engine.Engine.{Engine}
 pub use Rattle.rx_script.specs.declared.line.Whereabouts.TheVariants.{Held, Waiting, Taken}

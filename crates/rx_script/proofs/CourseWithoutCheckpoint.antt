@@ -1,10 +1,10 @@
 -- A course of a scenario that makes no checkpoint is at none.
 use Rattle.rx_script.proofs.Common.{◌≡◌, ℕ, zero, suc, ◌<◌, false, List, [], ◌∷◌, ◌++◌, Some, map, slice_get, refl, ap, ◌∙◌, arith, AllByRecursion, Event}
-use Rattle.rx_script.proofs.Common.{Answer, Placed, Executed, done_in, Command, checkpoint, Action, command, Step, steps_of, Script, has_checkpoint}
+use Rattle.rx_script.proofs.Common.{Answer, PlacedStep, Executed, done_in, Command, checkpoint, Action, command, Step, steps_of, Script, has_checkpoint}
 use Rattle.rx_script.proofs.Common.{list_of-steps_of, Ware, Stage, after, Manner, Executes, Does, Plays, none_played, one_played, Course, IsCourseIn}
 use Rattle.rx_agenda.specs.Order.{IsHeld, by_scenario, by_step, IsInOrder}
 use Rattle.rx_scenario.specs.Checkpoints.{makes_checkpoint}
-use Rattle.rx_scenario.proofs.Laws.Checkpoints.{is_checkpoint-makes, has_checkpoint-followers, makes_checkpoint-at}
+use Rattle.rx_scenario.proofs.Laws.Checkpoints.{is_checkpoint_command-makes, has_checkpoint-followers, makes_checkpoint-at}
 use Rattle.std.proofs.Common.{rules}
 
 -- the executed steps ---------------------------------------------------------------------------------
@@ -12,7 +12,7 @@ use Rattle.std.proofs.Common.{rules}
 module _ (steps : List Step) (until : ℕ) (executed : List Executed) (order : IsInOrder steps until executed)
     (none : has_checkpoint (steps_of steps) ≡ false) where
   held_plain : (k : ℕ) → ((i : ℕ) (e : Executed) → i < k → slice_get executed i ≡ Some e → makes_checkpoint e.placed.step ≡ false)
-      → (x : Placed) → x.origin.holder < suc k → IsHeld steps executed x → makes_checkpoint x.step ≡ false
+      → (x : PlacedStep) → x.origin.holder < suc k → IsHeld steps executed x → makes_checkpoint x.step ≡ false
   held_plain k before x less (by_scenario i s there) =
       makes_checkpoint-at (steps_of steps) i s none (ap (λ (l : List Step). slice_get l i) (list_of-steps_of steps) ∙ there)
   held_plain k before x less (by_step j i e s found was there) =
@@ -48,7 +48,7 @@ played_unchecked : {m : Manner} {first last : Stage} {done : List (Step × Answe
 played_unchecked none_played all = refl
 played_unchecked (one_played {done = done} s {answer = answer} plays did) all =
     let parts = all_front done (s, answer) all in
-    did_unchecked (is_checkpoint-makes s parts.1) did ∙ played_unchecked plays parts.0
+    did_unchecked (is_checkpoint_command-makes s parts.1) did ∙ played_unchecked plays parts.0
 
 each_plain : (es : List Executed) → ((i : ℕ) (e : Executed) → slice_get es i ≡ Some e → makes_checkpoint e.placed.step ≡ false) → AllPlain (map done_in es)
 each_plain [] each = tt

@@ -1,16 +1,16 @@
 -- What the steps of an agenda lead to is a course: they come in the order of the comparison.
 use Rattle.rx_script.proofs.Common.{◌≡◌, ℕ, List, [], ◌∷◌, ◌++◌, map, refl, sym, ap, subst, ◌∙◌, map-append, Action, Step, Script, Answer, Agenda, Executed}
 use Rattle.rx_script.proofs.Common.{done_in, Ware, Stage, start, Manner, Does, does, leaves, Plays, none_played, one_played, IsCourseIn, Progress, begin}
-use Rattle.rx_script.proofs.Common.{Performs, executes, cancels, Advances, Leads, not_begun, advanced, Ends}
+use Rattle.rx_script.proofs.Common.{PerformsStep, executes, cancels, Advances, LeadsBySteps, not_begun, advanced, Ends}
 use Rattle.rx_agenda.specs.Come.{Acts, does_command, does_cancel, HaveCome, none_yet, one_more}
-use Rattle.rx_agenda.specs.Claims.{IsOrderOf}
+use Rattle.rx_agenda.specs.Claims.{AreStepsInOrder}
 use Rattle.rx_agenda.proofs.Laws.{runs_in_order}
 
 -- a step and its answer
 abbrev pub answer_in : Step × Answer → Answer
 answer_in done = done.1
 
-acts_in : (m : Manner) (p : Progress) (action : Action) (answer : Answer) (q : Progress) → Performs m p action answer q
+acts_in : (m : Manner) (p : Progress) (action : Action) (answer : Answer) (q : Progress) → PerformsStep m p action answer q
     → Acts p.agenda action answer q.agenda × Does m p.stage action answer q.stage
 acts_in m p action answer q (executes e) = (does_command, does e)
 acts_in m p action answer q (cancels c) = (does_cancel c, leaves)
@@ -35,7 +35,7 @@ module _ (m : Manner) (until : ℕ) (first : Progress) where
         plays = subst (λ (s : Stage). Plays m first.stage more s) (sym a.stage) (one_played a.step so.plays both.1);
       }
 
-  leads_by : (answers : List Answer) (p : Progress) → Leads m until first answers p → LeadsBy m until first answers p
+  leads_by : (answers : List Answer) (p : Progress) → LeadsBySteps m until first answers p → LeadsBy m until first answers p
   leads_by answers p not_begun = record { done = []; told = refl; runs = none_yet; plays = none_played }
   leads_by answers p (advanced {answers = before} {answer} {p = between} {q} leads a) = leads_on before answer between q (leads_by before between leads) a
 
@@ -49,7 +49,7 @@ pub course_in_order : (m : Manner) (script : Script) (stock : List Ware) (answer
 course_in_order m script stock answers last ends =
     let by : LeadsBy m script.until (begin stock script.steps) answers (record { stage = last; agenda = ends.left }) =
     leads_by m script.until (begin stock script.steps) answers (record { stage = last; agenda = ends.left }) ends.leads in
-    let order : IsOrderOf script.steps script.until by.done = runs_in_order script.steps script.until by.done ends.left by.runs ends.over in
+    let order : AreStepsInOrder script.steps script.until by.done = runs_in_order script.steps script.until by.done ends.left by.runs ends.over in
     record {
       executed = order.executed;
       answers = answers_done order.executed ∙ ap (map answer_in) order.told ∙ by.told;

@@ -4,8 +4,9 @@ use Rattle.rx_script.proofs.Common.{append_assoc, append-nil, option_and_then, n
 use Rattle.rx_script.proofs.Common.{settled_empty, Answer, Accepted, Refused, Cause, Book, bound, Agenda, empty_agenda, with_steps, followed_by, next_step}
 use Rattle.rx_script.proofs.Common.{Cancels, taken_off, none_waits, Name, Command, drain, checkpoint, Action, command, cancel, Step, list_of, Script, Ware}
 use Rattle.rx_script.proofs.Common.{Stage, own_cause, call_of, front_is_fresh, after, in_one_order, cause_in, Executes, refused, refused_by_book, accepted}
-use Rattle.rx_script.proofs.Common.{drained, checkpointed, Course, IsCanonicalCourseOf, HasOneCourse, Progress, begin, Performs, executes, cancels, Advances}
-use Rattle.rx_script.proofs.Common.{Leads, not_begun, advanced, Ends}
+use Rattle.rx_script.proofs.Common.{drained, checkpointed, Course, IsCanonicalCourseOf, HasOneCourse, Progress, begin, PerformsStep, executes, cancels}
+use Rattle.rx_script.proofs.Common.{Advances}
+use Rattle.rx_script.proofs.Common.{LeadsBySteps, not_begun, advanced, Ends}
 use Rattle.rx_time.specs.Schedule.{item_of}
 use Rattle.rx_agenda.specs.declared.answer.Cause.TheVariants.{NoStep}
 use Rattle.rx_agenda.specs.Agenda.{without_ticket}
@@ -89,7 +90,7 @@ is_cancelled a label = by_ticket (bound a.labels label) refl where
 record IsPerformed (p : Progress) (action : Action) : Type 0 where
   pub answer : Answer
   pub done : Progress
-  pub performs : Performs in_one_order p action answer done
+  pub performs : PerformsStep in_one_order p action answer done
   pub law : IsLawful nothing_kept done.stage.history
   pub settled : IsSettled nothing_kept done.stage.history
   pub left : IsNoMore p.agenda done.agenda
@@ -159,7 +160,8 @@ go_far until (suc steps) p law settled orderly few = by_next (next_step until p.
         beyond = on q w.law w.settled (followed-orderly w.answer (list_of step.followers) w.done.agenda w.left.orderly) less
 
 -- the same course, as it grows
-led_on : {until : ℕ} {first p : Progress} {answers rest : List Answer} {last : Stage} → Leads in_one_order until first answers p → GoesOn until p rest last
+led_on : {until : ℕ} {first p : Progress} {answers rest : List Answer} {last : Stage} → LeadsBySteps in_one_order until first answers p
+    → GoesOn until p rest last
     → Ends in_one_order until first (answers ++ rest) last
 led_on {until = until} {first = first} {p = p} {answers = answers} leads (halts over) = search (rules, Answer, in_one_order, append-nil)
 led_on {until = until} {first = first} {answers = answers} {last = last} leads (goes {answer = answer} {answers = rest} step on) =

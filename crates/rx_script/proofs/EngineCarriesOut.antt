@@ -4,7 +4,7 @@ use Rattle.rx_script.proofs.Common.{◌≡◌, ◌≤◌, ◌+◌, ◌++◌, ℕ
 use Rattle.rx_script.proofs.Common.{none-some, Event, Refusal, Gone, nothing_kept, Agree, taken_count, IsLawful, Call, IsStepOf, first_cause, State}
 use Rattle.rx_script.proofs.Common.{IsPromised, Continues, by_key, causes, Request, stands, Accepts, connection_made, Answer, Accepted, Refused, Cause, Book}
 use Rattle.rx_script.proofs.Common.{Engine, Command, drain, checkpoint, Stage, own_cause, call_of, after, front_is_fresh, Drains, limited, Executes, refused}
-use Rattle.rx_script.proofs.Common.{refused_by_book, accepted, drained, Shelf, Tallies, stage_of, IsHistoryOf, IsSound, Carries}
+use Rattle.rx_script.proofs.Common.{refused_by_book, accepted, drained, Shelf, Tallies, stage_of, IsHistoryOf, IsSound, CarriesStep}
 use Rattle.rx_script.proofs.Common.{◌≢◌, inl, inr, NoMemory, IsRefusal, Result, IfOk, take, append-nil, notes, Mail, ◌∷◌, by_pushes, AreCountsOf, AreNotesOf}
 use Rattle.std.proofs.lemmas.List.{take-append-le}
 use Rattle.rx_event.specs.Notes.{mail_of}
@@ -120,9 +120,9 @@ answered x0 why x2 told here = search rules
 pub unchanged : {R : Type 0} {e : Engine R} (step : Command) (answer : Answer) (book : State) (stock : Shelf) → IsSound e → book ≡ e.book
     → stock.wares ≡ e.stock.wares
     → ((h : List Event) → IsHistoryOf h e.tallies e.book → Executes (limited e.book.limit) (stage_of e h) step answer (stage_of e h))
-    → Carries e step answer (with e book stock)
+    → CarriesStep e step answer (with e book stock)
 unchanged {R} {e} step answer book stock sound same_book same_stock executes =
-    let at_book : Carries e step answer (with e e.book stock) = record {
+    let at_book : CarriesStep e step answer (with e e.book stock) = record {
       executes = λ h w. (
         h,
         subst (λ wares. Executes (limited e.book.limit) (stage_of e h) step answer (record (stage_of e h) { stock = wares })) (sym same_stock) (executes h w),
@@ -132,15 +132,15 @@ unchanged {R} {e} step answer book stock sound same_book same_stock executes =
       limit = refl;
       given = inl refl;
     } in
-    subst (λ b. Carries e step answer (with e b stock)) (sym same_book) at_book
+    subst (λ b. CarriesStep e step answer (with e b stock)) (sym same_book) at_book
 
 pub refused_own : {R : Type 0} {e : Engine R} (step : Command) (why : Cause) (book : State) (stock : Shelf) → IsSound e → book ≡ e.book
-    → stock.wares ≡ e.stock.wares → own_cause (stored_stage e) step ≡ Some why → Carries e step (Refused why) (with e book stock)
+    → stock.wares ≡ e.stock.wares → own_cause (stored_stage e) step ≡ Some why → CarriesStep e step (Refused why) (with e book stock)
 refused_own {e} step why book stock sound same_book same_stock own = search (rules, unchanged, refused, own_kept, own)
 
 pub refused_there : {R : Type 0} {e : Engine R} {step : Command} {asked : Request} {why : Refusal} (book : State) (stock : Shelf) → IsSound e
     → book ≡ e.book → stock.wares ≡ e.stock.wares → Agrees e asked step
-    → first_cause (stands e.book asked) ≡ Some why → Carries e step (Refused (Book why)) (with e book stock)
+    → first_cause (stands e.book asked) ≡ Some why → CarriesStep e step (Refused (Book why)) (with e book stock)
 refused_there {e} {step} {asked} {why} book stock sound same_book same_stock agrees cause =
     unchanged step (Refused (Book why)) book stock sound same_book same_stock (λ h w.
     refused_by_book (own_kept (stored_stage e) h e.book.base.at_length step ∙ agrees.own)
@@ -191,7 +191,7 @@ module _ {R : Type 0} {e new : Engine R} {step : Command} {asked : Request} (sou
       history_on w sound.kept new.tallies new.book over.events done.rest.1 done.accepts.base done.accepts.given over.same,
     )
 
-  pub accepted_to : Carries e step Accepted new
+  pub accepted_to : CarriesStep e step Accepted new
   accepted_to = record {
     executes = goes_to;
     sound = record {
@@ -230,7 +230,7 @@ module _ {R : Type 0} (e : Engine R) (book : State) (faults : ℕ) (sound : IsSo
         (subst (λ (l : List Event). Drains e.book.base l book.history) w.history drains)
 
   pub drained_to : (released : ℕ) → IsPromised book → taken_count book.base book.history ≡ taken_count e.book.base e.book.history + released
-      → faults ≤ e.faults + released → Carries e drain Accepted drained_engine
+      → faults ≤ e.faults + released → CarriesStep e drain Accepted drained_engine
   drained_to released kept rose few = record {
     executes = drains_to;
     sound = let older = keys_kept sound kept goes in record {

@@ -2,8 +2,9 @@
 use Rattle.rx_script.proofs.Common.{◌≡◌, ◌∷◌, [], List, Bool, true, false, refl, sym, ap, ◌∙◌, length, arith, ◌≢◌, ◌||◌, Some, None, is_none, is_some}
 use Rattle.rx_script.proofs.Common.{slice_get, drop, not, Refusal, NoMemory, Gone, is_open, Call, OpeningUsing, Holding, first_cause, IsRefusal, Key, ResKey}
 use Rattle.rx_script.proofs.Common.{At, State, IsPromised, has_key, causes, by_key, Request, place_of, is_known_place, stands, Accepts, IsNewResKey, Accepted}
-use Rattle.rx_script.proofs.Common.{Refused, NoName, NameTaken, NoStock, Book, Named, Engine, Name, Site, using, hold, Ware, is_empty, own_cause, front}
-use Rattle.rx_script.proofs.Common.{front_is_fresh, bound, Shelf, key_of, IsNodeKey, IsHeldKey, at_of, IsSound, Carries, key_of-holds, accepted_continues}
+use Rattle.rx_script.proofs.Common.{Refused, NoName, NameTaken, NoStock, Book, Named, Engine, Name, Site, using, hold, Ware, has_no_ware, own_cause, front}
+use Rattle.rx_script.proofs.Common.{front_is_fresh, bound, Shelf, key_named, IsNodeKey, IsHeldKey, at_of, IsSound, CarriesStep, key_named-holds}
+use Rattle.rx_script.proofs.Common.{accepted_continues}
 use Rattle.rx_book.specs.declared.answer.OpenedUsing.{OpenedUsing}
 use Rattle.rx_book.specs.Answers.{IsOpenedUsing}
 use Rattle.rx_script.proofs.KeysByNumber.{has_key-is_open}
@@ -22,8 +23,8 @@ module _ {R : Type 0} (e : Engine R) (w : Ware) (rest : List Ware) (stocked : e.
   pub fresh_stocked : front_is_fresh (stored_stage e) ≡ w.is_fresh
   fresh_stocked = rw front_stocked refl
 
-  pub some_stocked : is_empty (stored_stage e).stock ≡ false
-  some_stocked = ap is_empty stocked
+  pub some_stocked : has_no_ware (stored_stage e).stock ≡ false
+  some_stocked = ap has_no_ware stocked
 
   pub rest_stocked : drop 1 (stored_stage e).stock ≡ rest
   rest_stocked = ap (drop 1) stocked
@@ -37,23 +38,24 @@ module _ {R : Type 0} (e : Engine R) (w : Ware) (rest : List Ware) (stocked : e.
 -- opening with a resource --------------------------------------------------------------------------
 
 module _ {R : Type 0} (e : Engine R) (name : Name) (site : Site) (res : Name) (sound : IsSound e) where
-  pub using_nameless : at_of e.nodes site ≡ None → Carries e (using name site res) (Refused NoName) (with e e.book e.stock)
+  pub using_nameless : at_of e.nodes site ≡ None → CarriesStep e (using name site res) (Refused NoName) (with e e.book e.stock)
   using_nameless none = search (rules, site_nameless, refused_own, using)
 
   module _ (place : At) (at : at_of e.nodes site ≡ Some place) where
     facts : IsPlaced e site place
     facts = site_placed e site place sound at
 
-    pub using_taken : (is_some (key_of e.nodes name) || is_some (key_of e.resources res)) ≡ true
-        → Carries e (using name site res) (Refused NameTaken) (with e e.book e.stock)
+    pub using_taken : (is_some (key_named e.nodes name) || is_some (key_named e.resources res)) ≡ true
+        → CarriesStep e (using name site res) (Refused NameTaken) (with e e.book e.stock)
     using_taken taken =
         let named = facts.named in
         let node_named = is_bound-nodes e.nodes name in
         let res_named = is_bound-resources e.resources res in
         refused_own (using name site res) NameTaken e.book e.stock sound refl refl (rw (named, node_named, res_named, taken) refl)
 
-    module _ (free : (is_some (key_of e.nodes name) || is_some (key_of e.resources res)) ≡ false) where
-      pub using_stockless : (stock : Shelf) → e.stock.wares ≡ [] → stock.wares ≡ [] → Carries e (using name site res) (Refused NoStock) (with e e.book stock)
+    module _ (free : (is_some (key_named e.nodes name) || is_some (key_named e.resources res)) ≡ false) where
+      pub using_stockless : (stock : Shelf) → e.stock.wares ≡ [] → stock.wares ≡ []
+          → CarriesStep e (using name site res) (Refused NoStock) (with e e.book stock)
       using_stockless stock none same =
           let named = facts.named in
           let node_named = is_bound-nodes e.nodes name in
@@ -85,7 +87,7 @@ module _ {R : Type 0} (e : Engine R) (name : Name) (site : Site) (res : Name) (s
           call = OpeningUsing (place_of place) w.tag;
           is_known = is_known_place e.book.keys place;
           is_fresh = w.is_fresh;
-        })) why → why ≢ NoMemory → Carries e (using name site res) (Refused (Book why)) (with e book stock)
+        })) why → why ≢ NoMemory → CarriesStep e (using name site res) (Refused (Book why)) (with e book stock)
         using_refused book stock why same same_stock refusal other = refused_there book stock sound same same_stock agrees
             (cause_of (stands e.book asked) why refusal other)
 
@@ -95,7 +97,7 @@ module _ {R : Type 0} (e : Engine R) (name : Name) (site : Site) (res : Name) (s
               is_known = is_known_place e.book.keys place;
               is_fresh = w.is_fresh;
             }) book → IsOpenedUsing e.book book opened → Binds e.nodes name opened.key nodes → Binds e.resources res opened.res resources → stock.wares ≡ rest
-            → Carries e (using name site res) Accepted (record e { book = book; nodes = nodes; resources = resources; stock = stock })
+            → CarriesStep e (using name site res) Accepted (record e { book = book; nodes = nodes; resources = resources; stock = stock })
         using_accepted {book} {nodes} {resources} {stock} kept accepts given binds binds_res same_stock =
             let older = keys_kept sound kept (accepted_continues e.book book asked accepts) in
             accepted_to {new = record e { book = book; nodes = nodes; resources = resources; stock = stock }} sound agrees (record {
@@ -118,21 +120,21 @@ module _ {R : Type 0} (e : Engine R) (name : Name) (site : Site) (res : Name) (s
 -- holding ------------------------------------------------------------------------------------------
 
 module _ {R : Type 0} (e : Engine R) (node : Name) (res : Name) (sound : IsSound e) where
-  pub hold_nameless : key_of e.nodes node ≡ None → Carries e (hold node res) (Refused NoName) (with e e.book e.stock)
+  pub hold_nameless : key_named e.nodes node ≡ None → CarriesStep e (hold node res) (Refused NoName) (with e e.book e.stock)
   hold_nameless none = search (rules, stored_stage, is_none, node_unbound, refused_own, hold)
 
-  module _ (k : Key) (at : key_of e.nodes node ≡ Some k) where
+  module _ (k : Key) (at : key_named e.nodes node ≡ Some k) where
     number_named : bound (stored_stage e).nodes node ≡ Some k.number
     number_named = node_bound e.nodes node k at
 
-    pub hold_taken : is_some (key_of e.resources res) ≡ true → Carries e (hold node res) (Refused NameTaken) (with e e.book e.stock)
+    pub hold_taken : is_some (key_named e.resources res) ≡ true → CarriesStep e (hold node res) (Refused NameTaken) (with e e.book e.stock)
     hold_taken taken =
         let named = number_named in
         let res_named = is_bound-resources e.resources res ∙ taken in
         refused_own (hold node res) NameTaken e.book e.stock sound refl refl (rw (named, res_named) refl)
 
-    module _ (free : is_some (key_of e.resources res) ≡ false) where
-      pub hold_stockless : (stock : Shelf) → e.stock.wares ≡ [] → stock.wares ≡ [] → Carries e (hold node res) (Refused NoStock) (with e e.book stock)
+    module _ (free : is_some (key_named e.resources res) ≡ false) where
+      pub hold_stockless : (stock : Shelf) → e.stock.wares ≡ [] → stock.wares ≡ [] → CarriesStep e (hold node res) (Refused NoStock) (with e e.book stock)
       hold_stockless stock none same =
           let named = number_named in
           let res_named = is_bound-resources e.resources res ∙ free in
@@ -146,7 +148,7 @@ module _ {R : Type 0} (e : Engine R) (node : Name) (res : Name) (sound : IsSound
             let some = some_stocked e w rest stocked in rw (named, res_named, some) refl
 
         hold_known : has_key e.book.keys k ≡ is_open e.book.history k.number
-        hold_known = has_key-is_open e.book k sound.kept (key_of-holds (IsNodeKey e.book) e.nodes node k sound.nodes at)
+        hold_known = has_key-is_open e.book k sound.kept (key_named-holds (IsNodeKey e.book) e.nodes node k sound.nodes at)
 
         abbrev hold_asked : Request
         hold_asked = record { call = Holding k.number w.tag; is_known = has_key e.book.keys k; is_fresh = w.is_fresh }
@@ -163,14 +165,14 @@ module _ {R : Type 0} (e : Engine R) (node : Name) (res : Name) (sound : IsSound
 
         pub hold_refused : (book : State) (stock : Shelf) (why : Refusal) → book ≡ e.book → stock.wares ≡ e.stock.wares
             → IsRefusal (stands e.book (record { call = Holding k.number w.tag; is_known = has_key e.book.keys k; is_fresh = w.is_fresh })) why → why ≢ NoMemory
-            → Carries e (hold node res) (Refused (Book why)) (with e book stock)
+            → CarriesStep e (hold node res) (Refused (Book why)) (with e book stock)
         hold_refused book stock why same same_stock refusal other = refused_there book stock sound same same_stock hold_agrees
             (cause_of (stands e.book hold_asked) why refusal other)
 
         pub hold_accepted : {book : State} {resources : List (Named ResKey)} {stock : Shelf} {held : ResKey} → IsPromised book
             → Accepts e.book (record { call = Holding k.number w.tag; is_known = has_key e.book.keys k; is_fresh = w.is_fresh }) book
             → IsNewResKey book (length e.book.history) held → Binds e.resources res held resources → stock.wares ≡ rest
-            → Carries e (hold node res) Accepted (record e { book = book; resources = resources; stock = stock })
+            → CarriesStep e (hold node res) Accepted (record e { book = book; resources = resources; stock = stock })
         hold_accepted {book} {resources} {stock} kept accepts given binds same_stock =
             let older = keys_kept sound kept (accepted_continues e.book book hold_asked accepts) in
             accepted_to {new = record e { book = book; resources = resources; stock = stock }} sound hold_agrees (record {

@@ -1,7 +1,7 @@
 -- The lines of nodes and of resources, one more at a time.
 use Rattle.rx_script.proofs.Common.{◌≡◌, ◌<◌, ◌+◌, ◌++◌, ◌∷◌, [], ℕ, List, Bool, true, false, map, filter, length, take, get_or, cond, refl, sym, ap, ◌∙◌}
 use Rattle.rx_script.proofs.Common.{append_assoc, append-nil, flat_map, take_more, map-append, flat_map-append, Event, at, is_open, notes_to, Key, Named}
-use Rattle.rx_script.proofs.Common.{name_of, node_binding, node_line, Binding, is_held, is_taken, Held, Waiting, Taken, is_told, node_shown, node_lines}
+use Rattle.rx_script.proofs.Common.{name_bytes, node_binding, node_line, Binding, is_held, is_taken, Held, Waiting, Taken, is_told, line_of_node, node_lines}
 use Rattle.rx_script.proofs.Common.{res_shown, res_lines}
 use Rattle.rx_note.specs.declared.note.Note.{Note}
 use Rattle.rx_script.specs.Lines.{whereabouts}
@@ -15,7 +15,7 @@ filter-push p (y ∷ ys) x =
     [ true ↦ ap (λ l. y ∷ l) (filter-push p ys x) | false ↦ filter-push p ys x ]
 
 node_lines-push : (h : List Event) (nodes : List Binding) (b : Binding)
-    → node_lines h (nodes ++ b ∷ []) ≡ node_lines h nodes ++ cond (at is_told h b.number) (node_shown h b) []
+    → node_lines h (nodes ++ b ∷ []) ≡ node_lines h nodes ++ cond (at is_told h b.number) (line_of_node h b) []
 node_lines-push h nodes b = search (rules, flat_map, filter-push, flat_map-append, filter, cond, append-nil)
 
 res_lines-push : (h : List Event) (resources : List Binding) (b : Binding) → res_lines h (resources ++ b ∷ []) ≡ res_lines h resources ++ res_shown h b
@@ -26,7 +26,7 @@ module _ {A : Type 0} (binding : A → Binding) (xs : List A) (i : ℕ) (x : A) 
   bindings_more = ap (map binding) (take_more xs i x within ∙ ap (λ y. take i xs ++ y ∷ []) (sym is)) ∙ map-append binding (take i xs) (x ∷ [])
 
   pub node_line_told : (h : List Event) (old mid new : List ℕ) → mid ≡ old ++ node_lines h (map binding (take i xs))
-      → at is_told h (binding x).number ≡ true → new ≡ mid ++ node_shown h (binding x) → new ≡ old ++ node_lines h (map binding (take (i + 1) xs))
+      → at is_told h (binding x).number ≡ true → new ≡ mid ++ line_of_node h (binding x) → new ≡ old ++ node_lines h (map binding (take (i + 1) xs))
   node_line_told h old mid new before told here = search (rules, append_assoc, map, take, cond, bindings_more, node_lines-push)
 
   pub node_line_untold : (h : List Event) (old mid : List ℕ) → mid ≡ old ++ node_lines h (map binding (take i xs)) → at is_told h (binding x).number ≡ false
@@ -39,7 +39,7 @@ module _ {A : Type 0} (binding : A → Binding) (xs : List A) (i : ℕ) (x : A) 
 
 -- a node's line, from what the book and its tallies say
 pub node_line_shown : (h : List Event) (x : Named Key) (name : List ℕ) (open_now : Bool) (told : List Note)
-    → name ≡ name_of x → open_now ≡ is_open h x.key.number → told ≡ notes_to h x.key.number → node_line name open_now told ≡ node_shown h (node_binding x)
+    → name ≡ name_bytes x → open_now ≡ is_open h x.key.number → told ≡ notes_to h x.key.number → node_line name open_now told ≡ line_of_node h (node_binding x)
 node_line_shown h x name open_now told same_name same_open same_notes = search rules
 
 -- where a resource is

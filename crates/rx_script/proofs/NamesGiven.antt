@@ -1,8 +1,9 @@
 -- A command that its book accepts binds its name to what its call gave.
 use Rattle.rx_script.proofs.Common.{◌≡◌, ◌++◌, ◌∷◌, [], ℕ, List, true, false, refl, ap, subst, ◌∙◌, arith, length, map, Option, Some, option_map, All}
 use Rattle.rx_script.proofs.Common.{String, Global, string_bytes, Kind, Mode, Key, ResKey, At, State, IsPromised, Accepts, Request}
-use Rattle.rx_script.proofs.Common.{Accepted, Named, Engine, Binding, with_binding, with_connection, connection_name, key_of, at_of, kind_of, node_binding}
-use Rattle.rx_script.proofs.Common.{IsNodeKey, IsLeaseKey, IsSound, Carries, accepted_continues, same_Some, false≢true}
+use Rattle.rx_script.proofs.Common.{Accepted, Named, Engine, Binding, with_binding, with_connection_bound, connection_name, key_named, at_of, kind_by_hubs}
+use Rattle.rx_script.proofs.Common.{node_binding}
+use Rattle.rx_script.proofs.Common.{IsNodeKey, IsLeaseKey, IsSound, CarriesStep, accepted_continues, same_Some, false≢true}
 use Rattle.rx_scenario.specs.declared.scenario.Site.{Site as SiteInCode}
 use Rattle.rx_scenario.specs.declared.scenario.Sort.{Sort as SortInCode}
 use Rattle.rx_scenario.specs.declared.scenario.Command.{Command as CommandInCode}
@@ -53,8 +54,10 @@ module _ {R : Type 0} (e : Engine R) (sound : IsSound e) {book : State} (kept : 
         kept = kept;
         accepts = accepts;
         staged = ap (λ bound. record (stored_stage e) { history = book.history; nodes = bound }) (named_bound named (connection_of sort) o.connected
-            ∙ ap (λ bound. with_connection bound (option_map string_bytes (connection_of sort)) number) (numbers_bound binds (λ k. k.number) is.key.number)
-            ∙ ap (λ c. with_connection behind c number) (connection_named sort) ∙ ap (with_connection behind (connection_name (sort_of sort))) is.connection);
+            ∙ ap (λ bound. with_connection_bound bound (option_map string_bytes (connection_of sort)) number)
+            (numbers_bound binds (λ k. k.number) is.key.number)
+            ∙ ap (λ c. with_connection_bound behind c number) (connection_named sort)
+            ∙ ap (with_connection_bound behind (connection_name (sort_of sort))) is.connection);
         keys = record {
           nodes = all_named (IsNodeKey book) named (connection_of sort) o.connected all (forced_node_key e.book book o.connected is);
           resources = old.resources;
@@ -103,7 +106,7 @@ module _ {R : Type 0} (e : Engine R) (sound : IsSound e) {book : State} (kept : 
         kept = kept;
         accepts = accepts;
         staged = ap (λ bound. record (stored_stage e) { history = book.history; nodes = bound }) (named_bound e.nodes name (Some k)
-            ∙ ap (λ n. with_connection (map node_binding e.nodes) (option_map string_bytes name) (Some n)) is.number);
+            ∙ ap (λ n. with_connection_bound (map node_binding e.nodes) (option_map string_bytes name) (Some n)) is.number);
         keys = record {
           nodes = all_named (IsNodeKey book) e.nodes name (Some k) old.nodes (new_node_key accepts is (omega arith));
           resources = old.resources;
@@ -116,15 +119,15 @@ module _ {R : Type 0} (e : Engine R) (sound : IsSound e) {book : State} (kept : 
   all_given : (command : CommandInCode) (given : Given) (call : Asked) → is_asked (command_of command) ≡ true
       → keyed_call e (command_of command) ≡ Some call → MayBind command given call
   all_given (OpenThere name site sort) given call asked is =
-      let k = made_of_two Open (at_of e.nodes (site_of site)) (kind_of e.hubs (sort_of sort)) call is in
+      let k = made_of_two Open (at_of e.nodes (site_of site)) (kind_by_hubs e.hubs (sort_of sort)) call is in
       subst (λ c. MayBind (OpenThere name site sort) given c) k.4 (open_bound name site sort k.0 k.1 given)
   all_given (LeaseThere res name) given call asked is =
-      let k = made_of Lease (key_of e.resources (string_bytes res)) call is in
+      let k = made_of Lease (key_named e.resources (string_bytes res)) call is in
       subst (λ c. MayBind (LeaseThere res name) given c) k.2 (lease_bound res name k.0 given)
   all_given (HubThere name mode) given call asked is =
       subst (λ c. MayBind (HubThere name mode) given c) (same_Some (Hub mode) call is) (hub_bound name mode given)
   all_given (ConnectThere hub name) given call asked is =
-      let k = made_of Connect (key_of e.hubs (string_bytes hub)) call is in
+      let k = made_of Connect (key_named e.hubs (string_bytes hub)) call is in
       subst (λ c. MayBind (ConnectThere hub name) given c) k.2 (connect_bound hub name k.0 given)
   all_given (UsingThere name site res) given call asked is = absurd (false≢true asked)
   all_given (HoldThere node res) given call asked is = absurd (false≢true asked)
@@ -142,6 +145,6 @@ module _ {R : Type 0} (e : Engine R) (sound : IsSound e) {book : State} (kept : 
   pub call_accepted : (command : CommandInCode) (asked : is_asked (command_of command) ≡ true) (call : Asked)
       → keyed_call e (command_of command) ≡ Some call → rebinds e.nodes e.hubs e.leases (command_of command) ≡ false → (given : Given)
       → Accepts e.book (request_of e.book call) book → gives e.book call book given
-      → Carries e (command_of command) Accepted (with_given (record e { book = book }) command given)
+      → CarriesStep e (command_of command) Accepted (with_given (record e { book = book }) command given)
   call_accepted command asked call is free given accepts gave = accepted_to {new = with_given between command given} sound
       (call_agrees e sound (command_of command) asked call is free) (all_given command given call asked is accepts gave)

@@ -2,7 +2,7 @@
 use Rattle.rx_script.proofs.Common.{◌≡◌, ℕ, zero, suc, List, [], ◌∷◌, ◌++◌, map, Option, Some, None, refl, sym, ap, subst, ◌∙◌, arith, append_assoc, append-nil}
 use Rattle.rx_script.proofs.Common.{slice_get, option_map, same_Some, none-some, nothing_kept, Event, waiting_resources, IsSettled, Call, Taking, outside_of}
 use Rattle.rx_script.proofs.Common.{first_forced, IsFirstStep, first_is_forced, Command, checkpoint, Action, command, cancel, Step, Script, Answer, Accepted}
-use Rattle.rx_script.proofs.Common.{Refused, Cause, Book, Placed, Executed, done_in, Ware, Stage, start, own_cause, call_of, after, in_one_order, cause_in}
+use Rattle.rx_script.proofs.Common.{Refused, Cause, Book, PlacedStep, Executed, done_in, Ware, Stage, start, own_cause, call_of, after, in_one_order, cause_in}
 use Rattle.rx_script.proofs.Common.{DrainsInOrder, nothing_left, least_taken, Executes, refused, refused_by_book, accepted, drained, checkpointed, Does, does}
 use Rattle.rx_script.proofs.Common.{leaves, Plays, none_played, one_played, Course, IsCanonicalCourseOf}
 use Rattle.std.specs.Option.{option_or}
@@ -149,7 +149,7 @@ one_canonical_course script stock c d one other = λ i. record { answers = answe
     by_action (command what) is = answered_alike one.executed other.executed (plays c one) (plays d other)
         (record { before = agree; at_one = at_x; at_other = at_y; same = same }) is
     by_action (cancel label) is = cancel_alike agree y same label x.answer y.answer
-        (one.answered k x label at_x is) (other.answered k y label at_y (ap (λ (p : Placed). p.step.action) (sym same) ∙ is))
+        (one.answered k x label at_x is) (other.answered k y label at_y (ap (λ (p : PlacedStep). p.step.action) (sym same) ∙ is))
 
   executed : one.executed ≡ other.executed
   executed = determined_so_far script.steps script.until one.executed other.executed one.in_order other.in_order alike

@@ -1,7 +1,8 @@
 -- One more step of a course.
 use Rattle.rx_script.proofs.Common.{◌≡◌, ◌≤◌, ◌+◌, ◌++◌, ◌∷◌, [], ℕ, List, length, map, string_bytes, String, Global, refl, sym, ap, subst, ◌∙◌, arith, Result, inl}
 use Rattle.rx_script.proofs.Common.{IfOk, Some, None, Event, step_of, list_of, list_of-steps_of, Answer, Engine, Cancels, followed_by, next_step}
-use Rattle.rx_script.proofs.Common.{limited, Performs, executes, cancels, Advances, Leads, not_begun, advanced, Ends, stage_of, MovesOn, IsSound, Carries}
+use Rattle.rx_script.proofs.Common.{limited, PerformsStep, executes, cancels, Advances, LeadsBySteps, not_begun, advanced, Ends, stage_of, MovesOn, IsSound}
+use Rattle.rx_script.proofs.Common.{CarriesStep}
 use Rattle.rx_script.proofs.Common.{agenda_of, size_left}
 use Rattle.std.specs.Prelude.{sum_by}
 use Rattle.rx_scenario.specs.declared.scenario.Action.TheVariants.{Command as CommandThere, Cancel}
@@ -11,7 +12,7 @@ use Rattle.rx_scenario.specs.Scenario.{command_of}
 use Rattle.rx_scenario.proofs.Laws.{step_of-parts, length-labels_in}
 use Rattle.rx_agenda.specs.declared.agenda.Agenda.{Agenda as AgendaInCode}
 use Rattle.rx_script.specs.Engine.{Performed, Followed}
-use Rattle.rx_agenda.specs.Shown.{size_of}
+use Rattle.rx_agenda.specs.Shown.{steps_to_come}
 use Rattle.std.proofs.Common.{rules}
 
 pub IfOk-map : {T E : Type 0} {A B : T → Type 0} (r : Result T E) → ((x : T) → A x → B x) → IfOk r A → IfOk r B
@@ -21,11 +22,11 @@ IfOk-map x0 f here = search rules
 pub followers-listed : (s : StepInCode) → list_of (step_of s).followers ≡ map step_of (out-Step s).then.items
 followers-listed s = search (rules, step_of-parts, list_of-steps_of, map)
 
-size_of-parts : (s : StepInCode) → size_of s ≡ 1 + sum_by size_of (out-Step s).then.items
+size_of-parts : (s : StepInCode) → steps_to_come s ≡ 1 + sum_by steps_to_come (out-Step s).then.items
 size_of-parts s = search (rules, length, step_of-parts, length-labels_in)
 
 module _ {R : Type 0} where
-  pub performed_command : (e new : Engine R) (a : AgendaInCode) (c : CommandInCode) (answer : Answer) → Carries e (command_of c) answer new
+  pub performed_command : (e new : Engine R) (a : AgendaInCode) (c : CommandInCode) (answer : Answer) → CarriesStep e (command_of c) answer new
       → Performed e a (CommandThere c) answer new a
   performed_command e new a c answer carried = record {
     performs = λ h w. let to = carried.executes h w in (to.0, executes to.1, to.2);
@@ -50,13 +51,13 @@ module _ {R : Type 0} where
 
   module _ (e new : Engine R) (before between : AgendaInCode) (s : StepInCode) (answer : Answer)
       (done : Performed e before (out-Step s).action answer new between) where
-    performs_step : MovesOn e new (λ p q. Performs (limited e.book.limit) (record { stage = p; agenda = agenda_of before }) (step_of s).action answer
+    performs_step : MovesOn e new (λ p q. PerformsStep (limited e.book.limit) (record { stage = p; agenda = agenda_of before }) (step_of s).action answer
         (record { stage = q; agenda = agenda_of between }))
-    performs_step = subst (λ t. MovesOn e new (λ p q. Performs (limited e.book.limit) (record { stage = p; agenda = agenda_of before }) t.action answer
+    performs_step = subst (λ t. MovesOn e new (λ p q. PerformsStep (limited e.book.limit) (record { stage = p; agenda = agenda_of before }) t.action answer
         (record { stage = q; agenda = agenda_of between }))) (sym (step_of-parts s)) done.performs
 
     pub followed : (now : AgendaInCode) → agenda_of now ≡ followed_by answer (map step_of (out-Step s).then.items) (agenda_of between)
-        → size_left now ≤ size_left between + sum_by size_of (out-Step s).then.items
+        → size_left now ≤ size_left between + sum_by steps_to_come (out-Step s).then.items
         → now.timeline.clock ≡ between.timeline.clock → Followed e before s answer new now
     followed now joined size clock =
         let parts = size_of-parts s in
@@ -74,7 +75,8 @@ module _ {R : Type 0} where
 
   -- what a run has led to
   abbrev pub HasLed : ℕ → ℕ → Engine R → AgendaInCode → List Answer → Engine R → AgendaInCode → Type 0
-  HasLed limit until first begun answers e now = MovesOn first e (λ s t. Leads (limited limit) until (record { stage = s; agenda = agenda_of begun }) answers
+  HasLed limit until first begun answers e now =
+      MovesOn first e (λ s t. LeadsBySteps (limited limit) until (record { stage = s; agenda = agenda_of begun }) answers
       (record { stage = t; agenda = agenda_of now }))
 
   pub not_led : (limit until : ℕ) (first : Engine R) (begun : AgendaInCode) (answers : List Answer) → answers ≡ []
@@ -85,7 +87,7 @@ module _ {R : Type 0} where
       (answers pushed : List Answer) (answer : Answer) (same : e.book.limit ≡ limit)
       (comes : next_step until (agenda_of before) ≡ Some (step_of s, agenda_of between))
       (after : Followed e between s answer new now) (is_pushed : pushed ≡ answers ++ answer ∷ []) where
-    advances : (h k : List Event) → Performs (limited e.book.limit) (record { stage = stage_of e h; agenda = agenda_of between }) (step_of s).action answer
+    advances : (h k : List Event) → PerformsStep (limited e.book.limit) (record { stage = stage_of e h; agenda = agenda_of between }) (step_of s).action answer
         (record { stage = stage_of new k; agenda = after.left })
         → Advances (limited limit) until (record { stage = stage_of e h; agenda = agenda_of before }) answer
         (record { stage = stage_of new k; agenda = agenda_of now })
@@ -94,7 +96,7 @@ module _ {R : Type 0} where
       rest = agenda_of between;
       comes = comes;
       done = record { stage = stage_of new k; agenda = after.left };
-      performs = subst (λ n. Performs (limited n) (record { stage = stage_of e h; agenda = agenda_of between }) (step_of s).action answer
+      performs = subst (λ n. PerformsStep (limited n) (record { stage = stage_of e h; agenda = agenda_of between }) (step_of s).action answer
           (record { stage = stage_of new k; agenda = after.left })) same performs;
       stage = refl;
       follows = after.follows;
@@ -105,7 +107,7 @@ module _ {R : Type 0} where
         let to = led h w in
         let on = after.performs to.0 to.2 in (
           on.0,
-          subst (λ l. Leads (limited limit) until (record { stage = stage_of first h; agenda = agenda_of begun }) l
+          subst (λ l. LeadsBySteps (limited limit) until (record { stage = stage_of first h; agenda = agenda_of begun }) l
               (record { stage = stage_of new on.0; agenda = agenda_of now })) (sym is_pushed) (advanced to.1 (advances to.0 on.0 on.1)),
           on.2,
         )

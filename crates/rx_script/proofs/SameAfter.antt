@@ -5,7 +5,7 @@ use Rattle.rx_script.proofs.Common.{none-some, nothing_kept, Place, Kind, Pass, 
 use Rattle.rx_script.proofs.Common.{makes_lease, at, IsSettled, IsForcedOn, stays, more, Call, Opening, OpeningUsing, Holding, Leasing, Publishing, Connecting}
 use Rattle.rx_script.proofs.Common.{IsStepOf, event_by, is_named, AreSameBy, AreSameSince, slice_get-append, slice_get_last, at_within, makes_connection}
 use Rattle.rx_script.proofs.Common.{connection_made, Binding, bound, with_binding, Name, Command, using, open_node, hold, lease, make_hub, connect, checkpoint}
-use Rattle.rx_script.proofs.Common.{Ware, Stage, connection_name, place_at, kind_at, front, call_of, with_connection, after}
+use Rattle.rx_script.proofs.Common.{Ware, Stage, connection_name, place_at, kind_at_stage, front, call_of, with_connection_bound, after}
 use Rattle.rx_event.specs.Lawful.{IsStep}
 use Rattle.rx_script.proofs.NamesForOtherNumbers.{renamed, AllNumbers, all_numbers, renamed-same, with_binding-renamed, with_binding-all}
 use Rattle.rx_script.proofs.SameStages.{AreSameStages}
@@ -132,13 +132,14 @@ module _ (q t : ℕ → ℕ) (x y : Stage) (a : AreSameStages q t x y) where
   with_lease name n m made number = with_names (a.nodes, a.nodes_made) (a.hubs, a.hubs_made) (a.resources, a.resources_made)
       (one_more makes_lease x.leases y.leases (a.leases, a.leases_made) name n m made number) a.stock
 
-  with_connection-same : (o : Option Name) (c d : Option ℕ) → d ≡ option_map q c → ((n : ℕ) → c ≡ Some n → at makes_node x.history n ≡ true)
-      → AreSameStages q t (record x { nodes = with_connection x.nodes o c }) (record y { nodes = with_connection y.nodes o d })
-  with_connection-same o c d same made =
-      subst (λ (z : Option ℕ). AreSameStages q t (record x { nodes = with_connection x.nodes o c }) (record y { nodes = with_connection y.nodes o z }))
+  with_connection_bound-same : (o : Option Name) (c d : Option ℕ) → d ≡ option_map q c → ((n : ℕ) → c ≡ Some n → at makes_node x.history n ≡ true)
+      → AreSameStages q t (record x { nodes = with_connection_bound x.nodes o c }) (record y { nodes = with_connection_bound y.nodes o d })
+  with_connection_bound-same o c d same made =
+      subst (λ (z : Option ℕ). AreSameStages q t (record x { nodes = with_connection_bound x.nodes o c })
+      (record y { nodes = with_connection_bound y.nodes o z }))
       (sym same) (by_name o c made) where
         by_name : (o : Option Name) (c : Option ℕ) → ((n : ℕ) → c ≡ Some n → at makes_node x.history n ≡ true)
-            → AreSameStages q t (record x { nodes = with_connection x.nodes o c }) (record y { nodes = with_connection y.nodes o (option_map q c) })
+            → AreSameStages q t (record x { nodes = with_connection_bound x.nodes o c }) (record y { nodes = with_connection_bound y.nodes o (option_map q c) })
         by_name (Some name) (Some n) made = with_node name n (q n) (made n refl) refl
         by_name (Some name) None made = a
         by_name None (Some n) made = a
@@ -275,9 +276,9 @@ module _ (r s : ℕ → ℕ) (x y : Stage) (k j : List Event) (a : AreSameStages
 
   after_open : (name : Name) (connection : Option Name) → (place : Place) × (kind : Kind) × (Opening place kind ≡ call)
       → AreSameStages since.reads since.reads_back
-      (record X { nodes = with_connection (with_binding x.nodes name (length x.history)) connection (connection_made x.history k) })
-      (record Y { nodes = with_connection (with_binding y.nodes name (length y.history)) connection (connection_made y.history j) })
-  after_open name connection w = with_connection-same since.reads since.reads_back (record X { nodes = with_binding x.nodes name (length x.history) })
+      (record X { nodes = with_connection_bound (with_binding x.nodes name (length x.history)) connection (connection_made x.history k) })
+      (record Y { nodes = with_connection_bound (with_binding y.nodes name (length y.history)) connection (connection_made y.history j) })
+  after_open name connection w = with_connection_bound-same since.reads since.reads_back (record X { nodes = with_binding x.nodes name (length x.history) })
       (record Y { nodes = with_binding y.nodes name (length y.history) })
       (with_node since.reads since.reads_back X Y base name (length x.history) (length y.history) (one_there (Open w.0 w.1) makes_node refl opened)
       (next_number (Open w.0 w.1) refl opened)) connection (connection_made x.history k) (connection_made y.history j)
@@ -307,9 +308,9 @@ module _ (r s : ℕ → ℕ) (x y : Stage) (k j : List Event) (a : AreSameStages
       given = new_event x.history k [] (Lease w.0) (subst (λ (z : Call). IsStepOf nothing_kept x.history z k) (sym w.1) step)
 
   after_connect : (connection : Option Name) → (hub : ℕ) × (Connecting hub ≡ call)
-      → AreSameStages since.reads since.reads_back (record X { nodes = with_connection x.nodes connection (Some (length x.history)) })
-      (record Y { nodes = with_connection y.nodes connection (Some (length y.history)) })
-  after_connect connection w = with_connection-same since.reads since.reads_back X Y base connection (Some (length x.history)) (Some (length y.history))
+      → AreSameStages since.reads since.reads_back (record X { nodes = with_connection_bound x.nodes connection (Some (length x.history)) })
+      (record Y { nodes = with_connection_bound y.nodes connection (Some (length y.history)) })
+  after_connect connection w = with_connection_bound-same since.reads since.reads_back X Y base connection (Some (length x.history)) (Some (length y.history))
       (ap (λ (n : ℕ). Some n) (sym (next_number (Connect w.0) refl made)))
       (λ n same. ap (at makes_node k) (sym (same_Some (length x.history) n same)) ∙ one_there (Connect w.0) makes_node refl made)
     where
@@ -321,7 +322,7 @@ module _ (r s : ℕ → ℕ) (x y : Stage) (k j : List Event) (a : AreSameStages
       let v = made_of_two (λ (place : Place) (w : Ware). OpeningUsing place w.tag) (place_at x site) (front x) call called in
       after_using name res (v.0, v.1.tag, v.4)
   after_same (open_node name site sort) called =
-      let v = made_of_two Opening (place_at x site) (kind_at x sort) call called in after_open name (connection_name sort) (v.0, v.1, v.4)
+      let v = made_of_two Opening (place_at x site) (kind_at_stage x sort) call called in after_open name (connection_name sort) (v.0, v.1, v.4)
   after_same (hold node res) called =
       let v = made_of_two (λ (n : ℕ) (w : Ware). Holding n w.tag) (bound x.nodes node) (front x) call called in after_hold res (v.0, v.1.tag, v.4)
   after_same (lease res name) called = let v = made_of Leasing (bound x.resources res) call called in after_lease name (v.0, v.2)

@@ -2,7 +2,7 @@
 -- the same names where it adds the same events.
 use Rattle.rx_script.proofs.Common.{◌≡◌, ℕ, suc, ◌+◌, List, [], ◌∷◌, ◌++◌, length, cond, refl, ap, ◌∙◌, arith, slice_get, drop, option_map, option_and_then}
 use Rattle.rx_script.proofs.Common.{option_map_or, Event, connection_made, Site, root, Sort, Command, checkpoint, Stage, is_unbound_site, is_unbound_hub}
-use Rattle.rx_script.proofs.Common.{lacks_name, takes_name, lacks_stock, own_cause, place_at, kind_at, call_of, after}
+use Rattle.rx_script.proofs.Common.{lacks_name, takes_name, lacks_stock, own_cause, place_at, kind_at_stage, call_of, after}
 use Rattle.std.proofs.Common.{rules}
 
 -- a stage with another history, in which so many events came before the last checkpoint
@@ -21,7 +21,7 @@ module _ (s : Stage) (h : List Event) (n : ℕ) where
   place_kept root = refl
   place_kept _ = refl
 
-  kind_kept : (sort : Sort) → kind_at (with_history s h n) sort ≡ kind_at s sort
+  kind_kept : (sort : Sort) → kind_at_stage (with_history s h n) sort ≡ kind_at_stage s sort
   kind_kept x0 = search rules
 
   lacks_kept : (step : Command) → lacks_name (with_history s h n) step ≡ lacks_name s step

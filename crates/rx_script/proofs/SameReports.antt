@@ -2,8 +2,8 @@
 use Rattle.rx_script.proofs.Common.{◌≡◌, ℕ, ◌+◌, Bool, true, false, List, [], ◌∷◌, ◌++◌, length, Option, Some, cond, map, filter, slice_get, refl, sym, ap, ◌∙◌}
 use Rattle.rx_script.proofs.Common.{flat_map, unwrap_or, option_and_then, option_map_or, false≢true, length-map, nothing_kept, Event, Accept, makes_node}
 use Rattle.rx_script.proofs.Common.{makes_resource, at, places, is_held, held_count, waiting_count, event_by, is_named, AreSameBy, accepted_count-parts}
-use Rattle.rx_script.proofs.Common.{accepted_tag, Answer, Binding, node_line, res_line, Held, Waiting, Taken, is_told, node_shown, node_lines, account_of}
-use Rattle.rx_script.proofs.Common.{res_lines, totals_of, Stage, unclosed_report, report}
+use Rattle.rx_script.proofs.Common.{accepted_tag, Answer, Binding, node_line, res_line, Held, Waiting, Taken, is_told, line_of_node, node_lines, account_of}
+use Rattle.rx_script.proofs.Common.{res_lines, totals_reported, Stage, unclosed_report, report}
 use Rattle.std.proofs.lemmas.List.Sums.{length-filter}
 use Rattle.rx_event.specs.Resources.{held_resources}
 use Rattle.rx_event.specs.Claims.Seen.{CallersSeeTheSame}
@@ -34,21 +34,21 @@ module _ (r s : ℕ → ℕ) (h c : List Event) (a : AreSameBy nothing_kept r s 
       ap (λ (o : Option Event). option_map_or is_told o false) (a.shown.kept n w.0 (node_named w.0 w.2) w.1) ∙ told_by r w.0 ∙
       ap (λ (o : Option Event). option_map_or is_told o false) (sym w.1)
 
-  node_line_same : (b : Binding) → at makes_node h b.number ≡ true → node_shown c (renamed r b) ≡ node_shown h b
+  node_line_same : (b : Binding) → at makes_node h b.number ≡ true → line_of_node c (renamed r b) ≡ line_of_node h b
   node_line_same b made = λ i. node_line b.name (seen.same_open b.number made i) (a.shown.told b.number made i)
 
   pub node_lines_same : (bindings : List Binding) → AllNumbers (λ n. at makes_node h n ≡ true) bindings
       → node_lines c (map (renamed r) bindings) ≡ node_lines h bindings
   node_lines_same [] all = refl
-  node_lines_same (b ∷ bindings) all = ap (λ (t : Bool). flat_map (node_shown c)
+  node_lines_same (b ∷ bindings) all = ap (λ (t : Bool). flat_map (line_of_node c)
       (cond t (renamed r b ∷ filter (λ x. at is_told c x.number) (map (renamed r) bindings))
       (filter (λ x. at is_told c x.number) (map (renamed r) bindings))))
       (told_same b.number all.0) ∙ by_test (at is_told h b.number) (node_lines_same bindings all.1)
     where
       by_test : (t : Bool) → node_lines c (map (renamed r) bindings) ≡ node_lines h bindings
-          → flat_map (node_shown c) (cond t (renamed r b ∷ filter (λ x. at is_told c x.number) (map (renamed r) bindings))
+          → flat_map (line_of_node c) (cond t (renamed r b ∷ filter (λ x. at is_told c x.number) (map (renamed r) bindings))
           (filter (λ x. at is_told c x.number) (map (renamed r) bindings)))
-          ≡ flat_map (node_shown h) (cond t (b ∷ filter (λ x. at is_told h x.number) bindings) (filter (λ x. at is_told h x.number) bindings))
+          ≡ flat_map (line_of_node h) (cond t (b ∷ filter (λ x. at is_told h x.number) bindings) (filter (λ x. at is_told h x.number) bindings))
       by_test true rest = λ i. node_line_same b all.0 i ++ rest i
       by_test false rest = rest
 
@@ -95,7 +95,7 @@ module _ (r s : ℕ → ℕ) (h c : List Event) (a : AreSameBy nothing_kept r s 
   waiting_count_same : waiting_count c ≡ waiting_count h
   waiting_count_same = search (rules, held_count_same, accepted_count-parts)
 
-  pub totals_same : totals_of nothing_kept c ≡ totals_of nothing_kept h
+  pub totals_same : totals_reported nothing_kept c ≡ totals_reported nothing_kept h
   totals_same = λ i. record {
     nodes = a.shown.node_total i;
     open_nodes = seen.open_total i;

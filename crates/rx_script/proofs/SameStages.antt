@@ -7,7 +7,7 @@ use Rattle.rx_script.proofs.Common.{Holding, Applying, Removing, Leasing, Giving
 use Rattle.rx_script.proofs.Common.{Connecting, Disconnecting, call_by, AreSameBy, NamesKnown, Binding, bound, is_unbound, is_bound, Name, Site, root, source}
 use Rattle.rx_script.proofs.Common.{inner, notifier, Sort, leaf, pass, flat, switch, until, sub, Command, using, open_node, hold, apply, remove, lease}
 use Rattle.rx_script.proofs.Common.{give_back, next, end, abort, decline, fail, dispose, make_hub, connect, disconnect, Ware, Stage, is_unbound_site}
-use Rattle.rx_script.proofs.Common.{is_unbound_hub, lacks_name, takes_name, lacks_stock, own_cause, place_at, kind_at, front, call_of}
+use Rattle.rx_script.proofs.Common.{is_unbound_hub, lacks_name, takes_name, lacks_stock, own_cause, place_at, kind_at_stage, front, call_of}
 use Rattle.rx_event.specs.Renumbered.{place_by, kind_by}
 use Rattle.rx_register.proofs.Laws.SameCauses.{NamesPlace, NamesKind}
 use Rattle.rx_script.proofs.NamesForOtherNumbers.{renamed, AllNumbers, bound-same, is_bound-same, is_unbound-same, bound-holds}
@@ -106,7 +106,7 @@ module _ (r s : ℕ → ℕ) (x y : Stage) (a : AreSameStages r s x y) where
   place_same (inner name) = number_same Inner (place_by r) (λ n. refl) x.nodes y.nodes name a.nodes
   place_same (notifier name) = number_same Notifier (place_by r) (λ n. refl) x.nodes y.nodes name a.nodes
 
-  kind_same : (sort : Sort) → kind_at y sort ≡ option_map (kind_by r) (kind_at x sort)
+  kind_same : (sort : Sort) → kind_at_stage y sort ≡ option_map (kind_by r) (kind_at_stage x sort)
   kind_same x0 = search (rules, number_same)
 
   pub front_same : front y ≡ front x
@@ -141,7 +141,7 @@ module _ (r s : ℕ → ℕ) (x y : Stage) (a : AreSameStages r s x y) where
   call_same (using name site res) =
       (λ i. option_and_then (λ place. option_map (λ v. OpeningUsing place v.tag) (front_same i)) (place_same site i)) ∙ using_moved (place_at x site) (front x)
   call_same (open_node name site sort) =
-      (λ i. option_and_then (λ place. option_map (Opening place) (kind_same sort i)) (place_same site i)) ∙ open_moved (place_at x site) (kind_at x sort)
+      (λ i. option_and_then (λ place. option_map (Opening place) (kind_same sort i)) (place_same site i)) ∙ open_moved (place_at x site) (kind_at_stage x sort)
   call_same (hold node res) = (λ i. option_and_then (λ n. option_map (λ v. Holding n v.tag) (front_same i)) (bound-same r x.nodes y.nodes node a.nodes i))
       ∙ hold_moved (bound x.nodes node) (front x)
   call_same (apply res word) = resource_call Applying (λ n. refl) res
@@ -190,7 +190,7 @@ module _ (r s : ℕ → ℕ) (x y : Stage) (a : AreSameStages r s x y) where
   place_known (inner name) place placed = place_of_number Inner (λ n made. made) name place placed
   place_known (notifier name) place placed = place_of_number Notifier (λ n made. made) name place placed
 
-  kind_known : (sort : Sort) (kind : Kind) → kind_at x sort ≡ Some kind → NamesKind x.history kind
+  kind_known : (sort : Sort) (kind : Kind) → kind_at_stage x sort ≡ Some kind → NamesKind x.history kind
   kind_known (sub hub connection) kind of_kind =
       let v = made_of Sub (bound x.hubs hub) kind of_kind in
       subst (NamesKind x.history) v.2 (bound-holds (λ m. at makes_hub x.history m ≡ true) x.hubs hub v.0 a.hubs_made v.1)
@@ -205,7 +205,7 @@ module _ (r s : ℕ → ℕ) (x y : Stage) (a : AreSameStages r s x y) where
       let v = made_of_two (λ (place : Place) (w : Ware). OpeningUsing place w.tag) (place_at x site) (front x) call called in
       subst (NamesKnown x.history) v.4 (place_known site v.0 v.2)
   call_known (open_node name site sort) call called =
-      let v = made_of_two Opening (place_at x site) (kind_at x sort) call called in
+      let v = made_of_two Opening (place_at x site) (kind_at_stage x sort) call called in
       subst (NamesKnown x.history) v.4 (place_known site v.0 v.2, kind_known sort v.1 v.3)
   call_known (hold node res) call called =
       let v = made_of_two (λ (n : ℕ) (w : Ware). Holding n w.tag) (bound x.nodes node) (front x) call called in

@@ -2,7 +2,8 @@
 -- than those that follow it.
 use Rattle.rx_script.proofs.Common.{◌≡◌, ℕ, suc, ◌+◌, ◌<◌, ◌≤◌, Bool, true, false, List, [], ◌∷◌, ◌++◌, Option, Some, None, cond, refl, ap, subst, arith}
 use Rattle.rx_script.proofs.Common.{nat_lt, nat_eq, option_map, AllByRecursion, false_from_ne_true, eqb-true, eq-eqb, ltb-true, same_Some, none-some}
-use Rattle.rx_script.proofs.Common.{AllByRecursion-both, Name, Steps, no_steps, Step, list_of, Answer, Agenda, empty_agenda, with_steps, followed_by, next_step}
+use Rattle.rx_script.proofs.Common.{AllByRecursion-both, Name, StepList, no_steps, Step, list_of, Answer, Agenda, empty_agenda, with_steps, followed_by}
+use Rattle.rx_script.proofs.Common.{next_step}
 use Rattle.rx_script.proofs.Common.{Cancels, taken_off, none_waits}
 use Rattle.std.proofs.Common.{nat_le, rules}
 use Rattle.std.proofs.lemmas.Bool.{lt-ltb}
@@ -12,7 +13,7 @@ use Rattle.rx_scenario.specs.Scenario.{one_more}
 use Rattle.rx_agenda.specs.Agenda.{with_step_after, with_step, first_of_turn, next_of_turn}
 
 -- a step and those that follow it
-abbrev count_in : Steps → ℕ
+abbrev count_in : StepList → ℕ
 count_in no_steps = 0
 count_in (one_more label delay action followers others) = suc (count_in followers + count_in others)
 
@@ -41,7 +42,7 @@ pub record IsOrderly (a : Agenda) : Type 0 where
 
 -- totals -----------------------------------------------------------------------------------------------------------------------------
 
-total-list_of : (ss : Steps) → total (list_of ss) ≡ count_in ss
+total-list_of : (ss : StepList) → total (list_of ss) ≡ count_in ss
 total-list_of no_steps = refl
 total-list_of (one_more label delay action followers others) = let rest = total-list_of others in omega arith
 

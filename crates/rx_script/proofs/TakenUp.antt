@@ -2,7 +2,7 @@
 use Rattle.rx_script.proofs.Common.{◌≡◌, ◌<◌, ◌≤◌, ◌+◌, ◌++◌, ◌∷◌, [], ℕ, zero, suc, List, true, false, length, take, drop, refl, sym, ap, subst, ◌∙◌}
 use Rattle.rx_script.proofs.Common.{append_assoc, append-nil, length-append, length-take, arith, inl, inr, ◌⊎◌, Some, None, slice_get, nat_eq, nat_lt}
 use Rattle.rx_script.proofs.Common.{option_map_or, get, take_more, cases_Bool, ltb-true, none-some, slice_get_past, Event, Mail, Kept, nothing_kept, IsLawful}
-use Rattle.rx_script.proofs.Common.{by_pushes, State, IsPromised, Tallies, AreCountsOf, AreNotesOf, GoesOn, slice_get_within}
+use Rattle.rx_script.proofs.Common.{by_pushes, State, IsPromised, Tallies, AreCountsOf, AreNotesOf, GoesOnFromFront, slice_get_within}
 use Rattle.std.proofs.Math.Seq.{take-append_seam}
 use Rattle.std.specs.Prelude.{if◌then◌else◌}
 use Rattle.std.proofs.lemmas.List.{take_all, take-append-le, drop-append-le, drop_all}
@@ -61,7 +61,7 @@ same_past (x ∷ front) [] n past = ap (λ l. slice_get l n) (append-nil (x ∷ 
 same_past (x ∷ front) (y ∷ xs) zero past = absurd (omega arith)
 same_past (x ∷ front) (y ∷ xs) (suc n) past = same_past front xs n (omega arith)
 
-pub front_is : (front h : List Event) (s : State) → GoesOn front h s → take (length front) h ≡ front
+pub front_is : (front h : List Event) (s : State) → GoesOnFromFront front h s → take (length front) h ≡ front
 front_is front h s goes = ap (take (length front)) goes.rest ∙ take-append_seam front (drop (length front) s.history)
 
 lawful_take : (h : List Event) → IsLawful nothing_kept h → (n : ℕ) → IsLawful nothing_kept (take n h)
@@ -78,13 +78,13 @@ pub record Counted (front h : List Event) (t : Tallies) : Type 0 where
   pub counts : AreCountsOf (take t.events h) t
   pub past : length front ≤ t.events
 
-pub counted_first : (front h : List Event) (s : State) (t : Tallies) → GoesOn front h s → AreCountsOf front t → Counted front h t
+pub counted_first : (front h : List Event) (s : State) (t : Tallies) → GoesOnFromFront front h s → AreCountsOf front t → Counted front h t
 counted_first front h s t goes counts = record {
   counts = subst (λ k. AreCountsOf k t) (sym (ap (λ n. take n h) counts.events ∙ front_is front h s goes)) counts;
   past = let e = counts.events in omega arith;
 }
 
-pub counted_next : {front h : List Event} {s : State} {old : Tallies} (new : Tallies) (e : Event) → GoesOn front h s → IsLawful nothing_kept h →
+pub counted_next : {front h : List Event} {s : State} {old : Tallies} (new : Tallies) (e : Event) → GoesOnFromFront front h s → IsLawful nothing_kept h →
     Counted front h old → Some e ≡ event_since s.base s.history old.events → new.events ≡ old.events + 1
     → ((k : List Event) → IsLawful nothing_kept (k ++ e ∷ []) → AreCountsOf k old → AreCountsOf (k ++ e ∷ []) new) → Counted front h new
 counted_next {front} {h} {s} {old} new e goes law before found more count = record {
@@ -101,7 +101,8 @@ counted_next {front} {h} {s} {old} new e goes law before found more count = reco
     lawful : IsLawful nothing_kept (take old.events h ++ e ∷ [])
     lawful = subst (IsLawful nothing_kept) longer (lawful_take h law (old.events + 1))
 
-pub counted_all : (front h : List Event) (s : State) (t : Tallies) → GoesOn front h s → Counted front h t → None ≡ event_since s.base s.history t.events
+pub counted_all : (front h : List Event) (s : State) (t : Tallies) → GoesOnFromFront front h s → Counted front h t
+    → None ≡ event_since s.base s.history t.events
     → AreCountsOf h t
 counted_all front h s t goes before missing = search (rules, slice_get, same_past, take_all, slice_get-past)
 
@@ -140,8 +141,8 @@ all_given all m within missing = let past = slice_get-past all m (sym missing) i
 pub counts_kept : (h : List Event) (old new : Tallies) → new ≡ record old { notes = new.notes } → AreCountsOf h old → AreCountsOf h new
 counts_kept h old new same counts = search rules
 
-pub goes_kept : (front h : List Event) (old new : State) → new ≡ record old { given = new.given } → GoesOn front h old → GoesOn front h new
-goes_kept front h old new same goes = subst (λ s. GoesOn front h s) (sym same) (record { stored = goes.stored; rest = goes.rest })
+pub goes_kept : (front h : List Event) (old new : State) → new ≡ record old { given = new.given } → GoesOnFromFront front h old → GoesOnFromFront front h new
+goes_kept front h old new same goes = subst (λ s. GoesOnFromFront front h s) (sym same) (record { stored = goes.stored; rest = goes.rest })
 
 pub notes_kept : (mail : List Mail) (old new : Tallies) → new.notes ≡ old.notes → AreNotesOf mail old → AreNotesOf mail new
 notes_kept mail old new same before = λ n. ap (λ m. option_map_or (λ g. g.items) (get nat_eq m n) []) same ∙ before n

@@ -1,6 +1,7 @@
 -- The whole report of a course.
 use Rattle.rx_script.proofs.Common.{◌≡◌, ◌≤◌, ◌+◌, ◌++◌, ℕ, List, true, false, refl, sym, ap, ◌∙◌, append-nil, count_by, range_with_len, false≢true}
-use Rattle.rx_script.proofs.Common.{nothing_kept, Agree, held_count, waiting_count, accepted_count-parts, IsPromised, Steps, steps_of, Script, has_checkpoint}
+use Rattle.rx_script.proofs.Common.{nothing_kept, Agree, held_count, waiting_count, accepted_count-parts, IsPromised, StepList, steps_of, Script}
+use Rattle.rx_script.proofs.Common.{has_checkpoint}
 use Rattle.rx_script.proofs.Common.{Engine, Ware, Stage, start, with_steps, empty_agenda, limited, Course, HasNoFull, IsCourseOf, HasOneCourse, Form, report}
 use Rattle.rx_script.proofs.Common.{lacks_form, has_history, unclosed_output, IsCarriedOut}
 use Rattle.std.proofs.Common.{min, rules}
@@ -19,7 +20,7 @@ outputs_whole : (form : Form) (c : Course) (faults : ℕ)
 unfolding report
 outputs_whole x0 c faults = search (rules, append-nil)
 
-without_checkpoint : (form : Form) (steps : Steps) → has_history form ≡ true → lacks_form form steps ≡ false → has_checkpoint steps ≡ false
+without_checkpoint : (form : Form) (steps : StepList) → has_history form ≡ true → lacks_form form steps ≡ false → has_checkpoint steps ≡ false
 without_checkpoint x0 steps has has_form = search (rules, false≢true)
 
 -- a course that no full history cut short is reported as the canonical one

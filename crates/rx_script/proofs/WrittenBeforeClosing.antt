@@ -1,6 +1,7 @@
 -- What is written before the closing, of the whole history.
 use Rattle.rx_script.proofs.Common.{◌≡◌, ◌≤◌, ◌++◌, ℕ, true, List, map, sym, ap, subst, ◌∙◌, Result, IfOk, Event, nothing_kept, Agree, taken_count, Answer}
-use Rattle.rx_script.proofs.Common.{Tallies, Gathers, IsWhole, node_binding, res_binding, totals_line, refused_lines, node_lines, res_lines, totals_of, Engine}
+use Rattle.rx_script.proofs.Common.{Tallies, Gathers, IsWhole, node_binding, res_binding, totals_line, refused_lines, node_lines, res_lines, totals_reported}
+use Rattle.rx_script.proofs.Common.{Engine}
 use Rattle.rx_script.proofs.Common.{Form, Manner, Progress, Ends, unclosed_report, has_history, unclosed_output, IsCarriedOut, stage_of, IsHistoryOf, IsSound}
 use Rattle.std.specs.Prelude.{OnOk}
 use Rattle.rx_script.proofs.EngineCarriesOut.{history_lawful, history_agrees}
@@ -15,7 +16,7 @@ module _ {R : Type 0} (e : Engine R) (sound : IsSound e) (h : List Event) (w : I
 
   -- the lines, one kind after the other
   pub lines_report : (answers : List Answer) {a : List ℕ} (b c d : List ℕ) → a ≡ refused_lines answers → b ≡ a ++ node_lines h (map node_binding e.nodes)
-      → c ≡ b ++ res_lines h (map res_binding e.resources) → d ≡ c ++ totals_line (totals_of nothing_kept h) → d ≡ unclosed_report answers (stage_of e h)
+      → c ≡ b ++ res_lines h (map res_binding e.resources) → d ≡ c ++ totals_line (totals_reported nothing_kept h) → d ≡ unclosed_report answers (stage_of e h)
   unfolding unclosed_report
   lines_report answers b c d refusals nodes resources totals = search (rules, map)
 

@@ -13,13 +13,13 @@ pub record Box : Type 0 where
   pub sum : ℕ
 
 -- the kind of the stock's resource of this tag
-abbrev pub kind_by : ℕ → ResourceKind
-kind_by tag = if tag % 8 == 3 then Faulty else (if tag % 8 == 5 then Tally else Plain)
+abbrev pub kind_of_tag : ℕ → ResourceKind
+kind_of_tag tag = if tag % 8 == 3 then Faulty else (if tag % 8 == 5 then Tally else Plain)
 
 -- what it answers to a word: a tally the exclusive or of all its words, the others the word
-abbrev pub word_of : ResourceKind → (sum word : ℕ) → ℕ
-word_of Tally sum word = bit_xor sum word
-word_of _ sum word = word
+abbrev pub word_answered : ResourceKind → (sum word : ℕ) → ℕ
+word_answered Tally sum word = bit_xor sum word
+word_answered _ sum word = word
 
 -- what its release answers: a faulty one the fault of code 2
 abbrev pub release_of : ResourceKind → Result (Unit {0}) ℕ

@@ -25,42 +25,42 @@ use Rattle.rx_scenario.specs.declared.scenario.Action.{Action as ActionInCode}
 use Rattle.rx_scenario.specs.declared.scenario.Step.{Step as StepInCode}
 use Rattle.rx_scenario.specs.Scenario.{Name, Site, root, source, inner, notifier, Sort, leaf, pass}
 use Rattle.rx_scenario.specs.Scenario.{flat, switch, until, sub, Command, action_of, list_of, step_of}
-use Rattle.rx_agenda.specs.Names.{key_of}
+use Rattle.rx_agenda.specs.Names.{key_named}
 use Rattle.rx_agenda.specs.Bindings.{Binding}
-use Rattle.rx_agenda.specs.Shown.{number_binding, agenda_of, size_of, size_left}
+use Rattle.rx_agenda.specs.Shown.{number_binding, agenda_of, steps_to_come, size_left}
 use Rattle.rx_script.specs.declared.tallies.Tallies.{Tallies}
 use Rattle.rx_script.specs.Tallies.{AreCountsOf, AreNotesOf}
 use Rattle.rx_script.specs.Keys.{node_binding, res_binding, lease_binding, IsNodeKey, IsHeldKey, IsLeaseKey}
 use Rattle.rx_script.specs.Stage.{Stage}
 use Rattle.rx_agenda.specs.Agenda.{Agenda, followed_by}
 use Rattle.rx_script.specs.Course.{limited, Executes}
-use Rattle.rx_script.specs.Progress.{Performs}
+use Rattle.rx_script.specs.Progress.{PerformsStep}
 
 -- names --------------------------------------------------------------------------------------------
 
 -- where a node is to be opened, by keys
 abbrev pub at_of : List (Named Key) → Site → Option At
 at_of names root = Some AtRoot
-at_of names (source name) = option_map AtSource (key_of names name)
-at_of names (inner name) = option_map AtInner (key_of names name)
-at_of names (notifier name) = option_map AtNotifier (key_of names name)
+at_of names (source name) = option_map AtSource (key_named names name)
+at_of names (inner name) = option_map AtInner (key_named names name)
+at_of names (notifier name) = option_map AtNotifier (key_named names name)
 
 -- the kind of node that is to be opened, by the numbers of hubs
-abbrev pub kind_of : List (Named ℕ) → Sort → Option Kind
-kind_of names leaf = Some Leaf
-kind_of names pass = Some Pass
-kind_of names flat = Some Flat
-kind_of names switch = Some Switch
-kind_of names until = Some Until
-kind_of names (sub hub connection) = option_map Sub (key_of names hub)
+abbrev pub kind_by_hubs : List (Named ℕ) → Sort → Option Kind
+kind_by_hubs names leaf = Some Leaf
+kind_by_hubs names pass = Some Pass
+kind_by_hubs names flat = Some Flat
+kind_by_hubs names switch = Some Switch
+kind_by_hubs names until = Some Until
+kind_by_hubs names (sub hub connection) = option_map Sub (key_named names hub)
 
 -- a name for a connection, where there is one, is bound
-abbrev pub is_taken : List (Named Key) → Option Name → Bool
-is_taken names name = option_map_or (λ n. is_some (key_of names n)) name false
+abbrev pub is_connection_bound : List (Named Key) → Option Name → Bool
+is_connection_bound names name = option_map_or (λ n. is_some (key_named names n)) name false
 
 -- or is this one, which another node is to get before
 abbrev pub is_taken_beside : List (Named Key) → Name → Option Name → Bool
-is_taken_beside names node name = option_map_or (λ n. is_some (key_of names n) || bytes_eq node n) name false
+is_taken_beside names node name = option_map_or (λ n. is_some (key_named names n) || bytes_eq node n) name false
 
 -- a connection that was made gets its name, where there are both
 abbrev pub with_named : List (Named Key) → Option (String Global) → Option Key → List (Named Key)
@@ -120,7 +120,7 @@ abbrev pub HandsOutNone : {R : Type 0} → Engine R → Engine R → Type 0
 HandsOutNone old new = (new.book.given ≡ old.book.given) ⊎ (new.book.history ≡ shown new.book.base)
 
 -- the step was executed with this answer
-pub record Carries {R : Type 0} (old : Engine R) (step : Command) (answer : Answer) (new : Engine R) : Type 0 where
+pub record CarriesStep {R : Type 0} (old : Engine R) (step : Command) (answer : Answer) (new : Engine R) : Type 0 where
   pub executes : MovesOn old new (λ s t. Executes (limited old.book.limit) s step answer t)
   pub sound : IsSound new
   pub limit : new.book.limit ≡ old.book.limit
@@ -138,7 +138,7 @@ pub record StaysAt {R : Type 0} (old new : Engine R) : Type 0 where
 -- what a step does was done with this answer
 pub record Performed {R : Type 0} (old : Engine R) (before : AgendaInCode) (action : ActionInCode) (answer : Answer)
     (new : Engine R) (now : AgendaInCode) : Type 0 where
-  pub performs : MovesOn old new (λ s t. Performs (limited old.book.limit) (record { stage = s; agenda = agenda_of before }) (action_of action) answer
+  pub performs : MovesOn old new (λ s t. PerformsStep (limited old.book.limit) (record { stage = s; agenda = agenda_of before }) (action_of action) answer
       (record { stage = t; agenda = agenda_of now }))
   pub sound : IsSound new
   pub limit : new.book.limit ≡ old.book.limit
@@ -150,11 +150,11 @@ pub record Performed {R : Type 0} (old : Engine R) (before : AgendaInCode) (acti
 pub record Followed {R : Type 0} (old : Engine R) (before : AgendaInCode) (step : StepInCode) (answer : Answer)
     (new : Engine R) (now : AgendaInCode) : Type 0 where
   pub left : Agenda
-  pub performs : MovesOn old new (λ s t. Performs (limited old.book.limit) (record { stage = s; agenda = agenda_of before }) (step_of step).action answer
+  pub performs : MovesOn old new (λ s t. PerformsStep (limited old.book.limit) (record { stage = s; agenda = agenda_of before }) (step_of step).action answer
       (record { stage = t; agenda = left }))
   pub follows : agenda_of now ≡ followed_by answer (list_of (step_of step).followers) left
   pub sound : IsSound new
   pub limit : new.book.limit ≡ old.book.limit
   pub given : HandsOutNone old new
-  pub size : size_left now < size_left before + size_of step
+  pub size : size_left now < size_left before + steps_to_come step
   pub clock : now.timeline.clock ≡ before.timeline.clock

@@ -14,11 +14,11 @@ use Rattle.rx_scenario.specs.declared.scenario.Command.{Command as CommandInCode
 use Rattle.rx_scenario.specs.declared.scenario.Command.TheVariants.{Open as OpenThere, Lease as LeaseThere, Hub as HubThere, Connect as ConnectThere}
 use Rattle.rx_scenario.specs.Scenario.{Command, open_node, apply, remove, lease, give_back, next, end, abort, decline, fail, dispose}
 use Rattle.rx_scenario.specs.Scenario.{using, hold, make_hub, connect, disconnect, drain, checkpoint}
-use Rattle.rx_agenda.specs.Names.{key_of}
+use Rattle.rx_agenda.specs.Names.{key_named}
 use Rattle.rx_agenda.specs.declared.names.Named.{Named}
 use Rattle.rx_script.specs.declared.engine.Engine.{Engine}
 use Rattle.rx_script.specs.Stage.{connection_name}
-use Rattle.rx_script.specs.Engine.{at_of, kind_of, is_taken, is_taken_beside, with_named}
+use Rattle.rx_script.specs.Engine.{at_of, kind_by_hubs, is_connection_bound, is_taken_beside, with_named}
 
 -- it makes a call that hands no resource in
 abbrev pub is_asked : Command → Bool
@@ -30,28 +30,28 @@ is_asked _ = true
 
 -- that call, with keys in place of names; None where a name is not bound
 abbrev pub keyed_call : {R : Type 0} → Engine R → Command → Option Call
-keyed_call e (open_node name site sort) = option_and_then (λ place. option_map (Open place) (kind_of e.hubs sort)) (at_of e.nodes site)
-keyed_call e (apply res word) = option_map (λ k. Apply k word) (key_of e.resources res)
-keyed_call e (remove res) = option_map Remove (key_of e.resources res)
-keyed_call e (lease res name) = option_map Lease (key_of e.resources res)
-keyed_call e (give_back name) = option_map GiveBack (key_of e.leases name)
-keyed_call e (next node value) = option_map (λ k. Next k value) (key_of e.nodes node)
-keyed_call e (end node t) = option_map (λ k. End k t) (key_of e.nodes node)
-keyed_call e (abort node code) = option_map (λ k. Abort k code) (key_of e.nodes node)
-keyed_call e (decline node) = option_map Decline (key_of e.nodes node)
-keyed_call e (fail node code) = option_map (λ k. Fail k code) (key_of e.nodes node)
-keyed_call e (dispose node) = option_map Dispose (key_of e.nodes node)
+keyed_call e (open_node name site sort) = option_and_then (λ place. option_map (Open place) (kind_by_hubs e.hubs sort)) (at_of e.nodes site)
+keyed_call e (apply res word) = option_map (λ k. Apply k word) (key_named e.resources res)
+keyed_call e (remove res) = option_map Remove (key_named e.resources res)
+keyed_call e (lease res name) = option_map Lease (key_named e.resources res)
+keyed_call e (give_back name) = option_map GiveBack (key_named e.leases name)
+keyed_call e (next node value) = option_map (λ k. Next k value) (key_named e.nodes node)
+keyed_call e (end node t) = option_map (λ k. End k t) (key_named e.nodes node)
+keyed_call e (abort node code) = option_map (λ k. Abort k code) (key_named e.nodes node)
+keyed_call e (decline node) = option_map Decline (key_named e.nodes node)
+keyed_call e (fail node code) = option_map (λ k. Fail k code) (key_named e.nodes node)
+keyed_call e (dispose node) = option_map Dispose (key_named e.nodes node)
 keyed_call e (make_hub name mode) = Some (Hub mode)
-keyed_call e (connect hub name) = option_map Connect (key_of e.hubs hub)
-keyed_call e (disconnect hub) = option_map Disconnect (key_of e.hubs hub)
+keyed_call e (connect hub name) = option_map Connect (key_named e.hubs hub)
+keyed_call e (disconnect hub) = option_map Disconnect (key_named e.hubs hub)
 keyed_call e _ = None
 
 -- it would bind a name that is bound, or one name twice
 abbrev pub rebinds : List (Named Key) → List (Named ℕ) → List (Named LeaseKey) → Command → Bool
-rebinds nodes hubs leases (open_node name site sort) = is_some (key_of nodes name) || is_taken_beside nodes name (connection_name sort)
-rebinds nodes hubs leases (lease res name) = is_some (key_of leases name)
-rebinds nodes hubs leases (make_hub name mode) = is_some (key_of hubs name)
-rebinds nodes hubs leases (connect hub name) = is_taken nodes name
+rebinds nodes hubs leases (open_node name site sort) = is_some (key_named nodes name) || is_taken_beside nodes name (connection_name sort)
+rebinds nodes hubs leases (lease res name) = is_some (key_named leases name)
+rebinds nodes hubs leases (make_hub name mode) = is_some (key_named hubs name)
+rebinds nodes hubs leases (connect hub name) = is_connection_bound nodes name
 rebinds nodes hubs leases _ = false
 
 -- the name for the connection that the opening of a subscriber makes, if it is given one

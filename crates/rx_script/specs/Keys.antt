@@ -8,17 +8,17 @@ use Rattle.rx_tree.specs.declared.node.ResKey.{ResKey}
 use Rattle.rx_ground.specs.declared.leases.LeaseKey.{LeaseKey}
 use Rattle.rx_book.specs.State.{State}
 use Rattle.rx_agenda.specs.declared.names.Named.{Named}
-use Rattle.rx_agenda.specs.Names.{name_of}
+use Rattle.rx_agenda.specs.Names.{name_bytes}
 use Rattle.rx_agenda.specs.Bindings.{Binding}
 
 abbrev pub node_binding : Named Key → Binding
-node_binding n = record { name = name_of n; number = n.key.number }
+node_binding n = record { name = name_bytes n; number = n.key.number }
 
 abbrev pub res_binding : Named ResKey → Binding
-res_binding n = record { name = name_of n; number = n.key.number }
+res_binding n = record { name = name_bytes n; number = n.key.number }
 
 abbrev pub lease_binding : Named LeaseKey → Binding
-lease_binding n = record { name = name_of n; number = n.key.number }
+lease_binding n = record { name = name_bytes n; number = n.key.number }
 
 -- a key that a book gave: it is the key of its node as long as that is open
 pub record IsNodeKey (s : State) (k : Key) : Type 0 where

@@ -32,11 +32,11 @@ is_told (Open place Switch) = true
 is_told _ = false
 
 -- a node that the scenario opened, with what it was told
-abbrev pub node_shown : List Event → Binding → List ℕ
-node_shown h b = node_line b.name (is_open h b.number) (notes_to h b.number)
+abbrev pub line_of_node : List Event → Binding → List ℕ
+line_of_node h b = node_line b.name (is_open h b.number) (notes_to h b.number)
 
 abbrev pub node_lines : List Event → List Binding → List ℕ
-node_lines h nodes = flat_map (node_shown h) (filter (λ b. at is_told h b.number) nodes)
+node_lines h nodes = flat_map (line_of_node h) (filter (λ b. at is_told h b.number) nodes)
 
 abbrev pub whereabouts : List Event → ℕ → Whereabouts
 whereabouts h r = if is_held h r then Held else if is_taken h r then Taken else Waiting
@@ -56,8 +56,8 @@ res_shown h b = res_line b.name (account_of h b.number)
 abbrev pub res_lines : List Event → List Binding → List ℕ
 res_lines h resources = flat_map (res_shown h) resources
 
-abbrev pub totals_of : Kept → List Event → Totals
-totals_of base h = record {
+abbrev pub totals_reported : Kept → List Event → Totals
+totals_reported base h = record {
   nodes = count_by makes_node h;
   open_nodes = open_count h;
   accepted = accepted_count base h;

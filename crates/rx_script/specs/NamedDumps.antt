@@ -14,20 +14,20 @@ abbrev pub run_names : Stage → List Binding
 run_names s = s.nodes ++ s.hubs ++ s.resources
 
 -- a member of an object: the number, in quotes, leads to the name as a JSON string
-unfoldable pub member_text : ℕ → Name → List ℕ
-member_text number name = codes "\"" ++ decimal number ++ codes "\":" ++ compact_text (string name)
+unfoldable pub number_member_text : ℕ → Name → List ℕ
+number_member_text number name = codes "\"" ++ decimal number ++ codes "\":" ++ compact_text (string name)
 
 abbrev pub binding_text : Binding → List ℕ
-binding_text b = member_text b.number b.name
+binding_text b = number_member_text b.number b.name
 
 -- a text that another one precedes
-abbrev pub next_text : List ℕ → List ℕ
-next_text t = codes "," ++ t
+abbrev pub following_text : List ℕ → List ℕ
+following_text t = codes "," ++ t
 
 -- texts, with a comma between them
 abbrev pub joined : List (List ℕ) → List ℕ
 joined [] = []
-joined (t ∷ ts) = t ++ flat_map next_text ts
+joined (t ∷ ts) = t ++ flat_map following_text ts
 
 -- the dump, and behind it the names
 unfoldable pub named_dump : List Event → List Binding → List ℕ

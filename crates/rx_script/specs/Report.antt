@@ -5,10 +5,10 @@ use Rattle.rx_event.specs.Totals.{held_count, waiting_count}
 use Rattle.rx_dump.specs.Dump.{dump}
 use Rattle.rx_agenda.specs.declared.answer.Answer.{Answer}
 use Rattle.rx_script.specs.Text.{totals_line, closed_line}
-use Rattle.rx_script.specs.Lines.{refused_lines, node_lines, res_lines, totals_of}
+use Rattle.rx_script.specs.Lines.{refused_lines, node_lines, res_lines, totals_reported}
 use Rattle.rx_script.specs.declared.Form.{Form}
 use Rattle.rx_script.specs.declared.Form.TheVariants.{Report, Dump, NamedDump}
-use Rattle.rx_scenario.specs.Scenario.{Steps, Script}
+use Rattle.rx_scenario.specs.Scenario.{StepList, Script}
 use Rattle.rx_scenario.specs.Checkpoints.{has_checkpoint}
 use Rattle.rx_script.specs.Stage.{Ware, Stage}
 use Rattle.rx_script.specs.Course.{Course, HasNoFull, IsCourseOf}
@@ -17,7 +17,7 @@ use Rattle.rx_script.specs.NamedDumps.{run_names, named_dump}
 -- all lines but the last
 unfoldable pub unclosed_report : List Answer → Stage → List ℕ
 unclosed_report answers s =
-    refused_lines answers ++ node_lines s.history s.nodes ++ res_lines s.history s.resources ++ totals_line (totals_of nothing_kept s.history)
+    refused_lines answers ++ node_lines s.history s.nodes ++ res_lines s.history s.resources ++ totals_line (totals_reported nothing_kept s.history)
 
 -- the text, where so many releases of the whole run met a fault. What is held or waits after the last step is released then
 unfoldable pub report : Course → ℕ → List ℕ
@@ -37,7 +37,7 @@ output Dump c faults = dump c.last.history
 output NamedDump c faults = named_dump c.last.history (run_names c.last)
 
 -- a scenario that may make a checkpoint has no dump, since a book lets its events go there
-abbrev pub lacks_form : Form → Steps → Bool
+abbrev pub lacks_form : Form → StepList → Bool
 lacks_form Report steps = false
 lacks_form Dump steps = has_checkpoint steps
 lacks_form NamedDump steps = has_checkpoint steps

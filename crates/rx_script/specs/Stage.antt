@@ -104,15 +104,15 @@ takes_name s (disconnect hub) = false
 takes_name s drain = false
 takes_name s checkpoint = false
 
-abbrev pub is_empty : List Ware → Bool
-is_empty [] = true
-is_empty (ware ∷ stock) = false
+abbrev pub has_no_ware : List Ware → Bool
+has_no_ware [] = true
+has_no_ware (ware ∷ stock) = false
 
 -- it takes a resource of the stock, and none is left
 abbrev pub lacks_stock : Stage → Command → Bool
-lacks_stock s (using name site res) = is_empty s.stock
+lacks_stock s (using name site res) = has_no_ware s.stock
 lacks_stock s (open_node name site sort) = false
-lacks_stock s (hold node res) = is_empty s.stock
+lacks_stock s (hold node res) = has_no_ware s.stock
 lacks_stock s (apply res word) = false
 lacks_stock s (remove res) = false
 lacks_stock s (lease res name) = false
@@ -146,13 +146,13 @@ place_at s (inner name) = option_map Inner (bound s.nodes name)
 place_at s (notifier name) = option_map Notifier (bound s.nodes name)
 
 -- the kind of the node, with a hub's number in place of its name
-abbrev pub kind_at : Stage → Sort → Option Kind
-kind_at s leaf = Some Leaf
-kind_at s pass = Some Pass
-kind_at s flat = Some Flat
-kind_at s switch = Some Switch
-kind_at s until = Some Until
-kind_at s (sub hub connection) = option_map Sub (bound s.hubs hub)
+abbrev pub kind_at_stage : Stage → Sort → Option Kind
+kind_at_stage s leaf = Some Leaf
+kind_at_stage s pass = Some Pass
+kind_at_stage s flat = Some Flat
+kind_at_stage s switch = Some Switch
+kind_at_stage s until = Some Until
+kind_at_stage s (sub hub connection) = option_map Sub (bound s.hubs hub)
 
 -- the next resource of the stock
 abbrev pub front : Stage → Option Ware
@@ -164,7 +164,7 @@ front_is_fresh s = option_map_or (λ w. w.is_fresh) (front s) true
 -- the call that a step makes, with numbers in place of names
 abbrev pub call_of : Stage → Command → Option Call
 call_of s (using name site res) = option_and_then (λ place. option_map (λ w. OpeningUsing place w.tag) (front s)) (place_at s site)
-call_of s (open_node name site sort) = option_and_then (λ place. option_map (Opening place) (kind_at s sort)) (place_at s site)
+call_of s (open_node name site sort) = option_and_then (λ place. option_map (Opening place) (kind_at_stage s sort)) (place_at s site)
 call_of s (hold node res) = option_and_then (λ n. option_map (λ w. Holding n w.tag) (front s)) (bound s.nodes node)
 call_of s (apply res word) = option_map Applying (bound s.resources res)
 call_of s (remove res) = option_map Removing (bound s.resources res)
@@ -185,9 +185,9 @@ call_of s checkpoint = None
 -- what follows -------------------------------------------------------------------------------------
 
 -- a connection that was made gets its name, where there are both
-abbrev pub with_connection : List Binding → Option Name → Option ℕ → List Binding
-with_connection bindings (Some name) (Some number) = with_binding bindings name number
-with_connection bindings _ _ = bindings
+abbrev pub with_connection_bound : List Binding → Option Name → Option ℕ → List Binding
+with_connection_bound bindings (Some name) (Some number) = with_binding bindings name number
+with_connection_bound bindings _ _ = bindings
 
 -- after an accepted step that took the history to k: a node or a hub is numbered by the place of the event that made it, a
 -- resource by the place of its acceptance, and a lease by the place where it was given out. The connection of a subscriber's hub is
@@ -200,7 +200,7 @@ after s (using name site res) k = record s {
   stock = drop 1 s.stock;
 }
 after s (open_node name site sort) k =
-    record s { history = k; nodes = with_connection (with_binding s.nodes name (length s.history)) (connection_name sort) (connection_made s.history k) }
+    record s { history = k; nodes = with_connection_bound (with_binding s.nodes name (length s.history)) (connection_name sort) (connection_made s.history k) }
 after s (hold node res) k = record s { history = k; resources = with_binding s.resources res (length s.history); stock = drop 1 s.stock }
 after s (apply res word) k = record s { history = k }
 after s (remove res) k = record s { history = k }
@@ -213,7 +213,7 @@ after s (decline node) k = record s { history = k }
 after s (fail node code) k = record s { history = k }
 after s (dispose node) k = record s { history = k }
 after s (make_hub name mode) k = record s { history = k; hubs = with_binding s.hubs name (length s.history) }
-after s (connect hub name) k = record s { history = k; nodes = with_connection s.nodes name (Some (length s.history)) }
+after s (connect hub name) k = record s { history = k; nodes = with_connection_bound s.nodes name (Some (length s.history)) }
 after s (disconnect hub) k = record s { history = k }
 after s drain k = record s { history = k }
 after s checkpoint k = record s { history = k; checked = length k }

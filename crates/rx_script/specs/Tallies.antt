@@ -44,13 +44,13 @@ pub record AreTalliesOf (h : List Event) (t : Tallies) : Type 0 where
   pub notes : AreNotesOf (notes_in h) t
 
 -- h is the whole history of a book, from place 0, of which the front was counted: the events after that are all stored
-pub record GoesOn (front h : List Event) (s : State) : Type 0 where
+pub record GoesOnFromFront (front h : List Event) (s : State) : Type 0 where
   pub stored : s.base.at_length ≤ length front
   pub rest : h ≡ front ++ drop (length front) s.history
 
 -- counts of the front became those of the whole history, and notes those with all that the book had not handed out
 pub record Gathers (old new : Tallies) (s : State) : Type 0 where
-  pub counts : (front h : List Event) → AreCountsOf front old → GoesOn front h s → IsLawful nothing_kept h → AreCountsOf h new
+  pub counts : (front h : List Event) → AreCountsOf front old → GoesOnFromFront front h s → IsLawful nothing_kept h → AreCountsOf h new
   pub notes : (mail : List Mail) → AreNotesOf mail old → AreNotesOf (mail ++ drop s.given (notes_in s.history)) new
 
 -- h is the whole history: these are its tallies, and what the book stores agrees with it

@@ -19,53 +19,53 @@ use Rattle.rx_scenario.specs.Scenario.{Name}
 
 -- refused steps ------------------------------------------------------------------------------------
 
-abbrev pub refusal_name : Refusal → List ℕ
-refusal_name NoMemory = codes "NoMemory"
-refusal_name Full = codes "Full"
-refusal_name Gone = codes "Gone"
-refusal_name WrongKind = codes "WrongKind"
-refusal_name PlaceTaken = codes "PlaceTaken"
-refusal_name NothingOwed = codes "NothingOwed"
-refusal_name NotRoot = codes "NotRoot"
-refusal_name NoHub = codes "NoHub"
-refusal_name HubOrder = codes "HubOrder"
-refusal_name Connected = codes "Connected"
-refusal_name NotConnected = codes "NotConnected"
-refusal_name NotFresh = codes "NotFresh"
-refusal_name NotHeld = codes "NotHeld"
-refusal_name HasChild = codes "HasChild"
-refusal_name TooMany = codes "TooMany"
-refusal_name NoLease = codes "NoLease"
-refusal_name Leased = codes "Leased"
-refusal_name MailLeft = codes "MailLeft"
+abbrev pub refusal_word : Refusal → List ℕ
+refusal_word NoMemory = codes "NoMemory"
+refusal_word Full = codes "Full"
+refusal_word Gone = codes "Gone"
+refusal_word WrongKind = codes "WrongKind"
+refusal_word PlaceTaken = codes "PlaceTaken"
+refusal_word NothingOwed = codes "NothingOwed"
+refusal_word NotRoot = codes "NotRoot"
+refusal_word NoHub = codes "NoHub"
+refusal_word HubOrder = codes "HubOrder"
+refusal_word Connected = codes "Connected"
+refusal_word NotConnected = codes "NotConnected"
+refusal_word NotFresh = codes "NotFresh"
+refusal_word NotHeld = codes "NotHeld"
+refusal_word HasChild = codes "HasChild"
+refusal_word TooMany = codes "TooMany"
+refusal_word NoLease = codes "NoLease"
+refusal_word Leased = codes "Leased"
+refusal_word MailLeft = codes "MailLeft"
 
-abbrev pub cause_name : Cause → List ℕ
-cause_name NoName = codes "NoName"
-cause_name NameTaken = codes "NameTaken"
-cause_name NoStock = codes "NoStock"
-cause_name NoStep = codes "NoStep"
-cause_name (Book why) = refusal_name why
+abbrev pub cause_word : Cause → List ℕ
+cause_word NoName = codes "NoName"
+cause_word NameTaken = codes "NameTaken"
+cause_word NoStock = codes "NoStock"
+cause_word NoStep = codes "NoStep"
+cause_word (Book why) = refusal_word why
 
 -- the line of the step that was executed as the k-th, counted from 0; an accepted one has none
 unfoldable pub refused_line : ℕ → Answer → List ℕ
 refused_line k Accepted = []
-refused_line k (Refused why) = codes "refused " ++ decimal k ++ codes " " ++ cause_name why ++ codes "\n"
+refused_line k (Refused why) = codes "refused " ++ decimal k ++ codes " " ++ cause_word why ++ codes "\n"
 
 -- nodes --------------------------------------------------------------------------------------------
 
 -- one more note of a node's line
-unfoldable pub note_text : Note → List ℕ
-note_text (Next v) = codes " next=" ++ signed_decimal v
-note_text (Project v) = codes " project=" ++ signed_decimal v
-note_text (End Completed) = codes " completed"
-note_text (End (Error code)) = codes " error=" ++ decimal code
+unfoldable pub note_in_line : Note → List ℕ
+note_in_line (Next v) = codes " next=" ++ signed_decimal v
+note_in_line (Project v) = codes " project=" ++ signed_decimal v
+note_in_line (End Completed) = codes " completed"
+note_in_line (End (Error code)) = codes " error=" ++ decimal code
 
 abbrev pub openness_text : Bool → List ℕ
 openness_text is_open = if is_open then codes "open" else codes "closed"
 
 -- a node: its name, whether it is open, and its notes
 unfoldable pub node_line : Name → Bool → List Note → List ℕ
-node_line name is_open notes = codes "node " ++ name ++ codes " " ++ openness_text is_open ++ codes ":" ++ flat_map note_text notes ++ codes "\n"
+node_line name is_open notes = codes "node " ++ name ++ codes " " ++ openness_text is_open ++ codes ":" ++ flat_map note_in_line notes ++ codes "\n"
 
 -- resources ----------------------------------------------------------------------------------------
 

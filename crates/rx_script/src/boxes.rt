@@ -3,7 +3,7 @@
 ghost use Rattle.std.specs.Prelude.{◌≡◌, ◌+◌, ◌<◌, ◌^◌, IfOk, map, vec_len, bit_xor};
 ghost use Rattle.std.specs.List.{All, range_with_len};
 ghost use Rattle.rx_resource.specs.declared.Life.{Life};
-ghost use Rattle.rx_script.specs.Boxes.{Box, kind_by, fresh_by, word_of, release_of};
+ghost use Rattle.rx_script.specs.Boxes.{Box, kind_of_tag, fresh_by, word_answered, release_of};
 
 use rx_resource::{Life, Resource};
 use std::alloc::{AllocError, Global};
@@ -27,7 +27,7 @@ impl ResourceKind {
     /// The kind of the stock's resource with this tag: `Faulty` where the tag modulo 8 is 3, `Tally`
     /// where it is 5, else `Plain`.
     pub fn by_tag(tag: u64) -> ResourceKind
-        ensures { result ≡ kind_by tag }
+        ensures { result ≡ kind_of_tag tag }
     {
         match tag % 8 {
             3 => ResourceKind::Faulty,
@@ -90,7 +90,7 @@ impl Resource for Stocked {
     /// Answers the exclusive or of all its words where the kind is `Tally`, else the word.
     fn apply(&mut self, word: u64) -> u64
         requires { self.old.uses + 1 < 2 ^ 64 }
-        ensures word { result ≡ word_of (kind_by self.old.tag) self.old.sum word }
+        ensures word { result ≡ word_answered (kind_of_tag self.old.tag) self.old.sum word }
         ensures applied { self.new ≡ record self.old { uses = self.old.uses + 1; sum = bit_xor self.old.sum word } }
     {
         self.uses += 1;
@@ -104,7 +104,7 @@ impl Resource for Stocked {
     /// Answers the fault of code 2 where the kind is `Faulty`, else `Ok`.
     fn release(&mut self) -> Result<(), u32>
         requires live { self.old.life ≡ Life.Live }
-        ensures answer { result ≡ release_of (kind_by self.old.tag) }
+        ensures answer { result ≡ release_of (kind_of_tag self.old.tag) }
         ensures released { self.new ≡ record self.old { life = Life.Released } }
     {
         self.life = Life::Released;

@@ -3,10 +3,12 @@
 ghost use Rattle.std.specs.Prelude.{◌≡◌, true, false, IfOk, OnOk};
 ghost use Rattle.rx_scenario.specs.Scenario.{command_of};
 ghost use Rattle.rx_script.specs.KeyedCalls.{is_asked, keyed_call, rebinds, with_given};
-ghost use Rattle.rx_script.specs.Engine.{IsSound, Carries};
+ghost use Rattle.rx_script.specs.Engine.{IsSound, CarriesStep};
 
 use crate::engine::{Engine, checkpoint, drain, hold, place_of, refused, using};
-use crate::opening::{bind_connection, connection_name, is_named_twice, is_taken, kind_of};
+use crate::opening::{
+    bind_connection, connection_name, is_connection_bound, is_named_twice, kind_by_hubs,
+};
 use rx_agenda::{Answer, Cause};
 use rx_book::{Answer as Given, Call};
 use rx_resource::Resource;
@@ -25,7 +27,7 @@ fn keyed_call<R: Resource>(engine: &Engine<R>, command: &Command) -> Option<Call
             name: _,
             place,
             kind,
-        } => { Some(Call::Open(place_of(nodes, place)?, kind_of(&engine.hubs, kind)?)) }
+        } => { Some(Call::Open(place_of(nodes, place)?, kind_by_hubs(&engine.hubs, kind)?)) }
         Command::Apply { res, word } => Some(Call::Apply(resources.get(res.as_str())?, *word)),
         Command::Remove { res } => resources.get(res.as_str()).map(Call::Remove),
         Command::Lease { res, name: _ } => resources.get(res.as_str()).map(Call::Lease),
@@ -58,7 +60,7 @@ fn rebinds<R: Resource>(engine: &Engine<R>, command: &Command) -> bool
         }
         Command::Lease { res: _, name } => engine.leases.is_bound(name.as_str()),
         Command::Hub { name, mode: _ } => engine.hubs.is_bound(name.as_str()),
-        Command::Connect { hub: _, name } => is_taken(&engine.nodes, name),
+        Command::Connect { hub: _, name } => is_connection_bound(&engine.nodes, name),
         _ => false,
     }
 }
@@ -109,7 +111,7 @@ fn bind<R: Resource>(
 fn ask<R: Resource>(engine: &mut Engine<R>, command: Command) -> Result<Answer, AllocError>
     requires sound { IsSound engine.old }
     requires asked { is_asked (command_of command) ≡ true }
-    ensures { IfOk result (λ a. Carries engine.old (command_of command) a engine.new) }
+    ensures { IfOk result (λ a. CarriesStep engine.old (command_of command) a engine.new) }
 {
     let Some(call) = keyed_call(engine, &command) else {
         return Ok(Answer::Refused(Cause::NoName));
@@ -130,7 +132,7 @@ fn ask<R: Resource>(engine: &mut Engine<R>, command: Command) -> Result<Answer, 
 /// Carries out one command. Err where memory was refused; then the scenario goes no further.
 pub fn execute<R: Resource>(engine: &mut Engine<R>, command: Command) -> Result<Answer, AllocError>
     requires { IsSound engine.old }
-    ensures { IfOk result (λ a. Carries engine.old (command_of command) a engine.new) }
+    ensures { IfOk result (λ a. CarriesStep engine.old (command_of command) a engine.new) }
 {
     match command {
         Command::Using { name, place, res } => using(engine, name, &place, res),

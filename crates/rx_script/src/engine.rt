@@ -6,7 +6,7 @@ ghost use Rattle.rx_agenda.specs.declared.answer.Answer.{Answer};
 ghost use Rattle.rx_agenda.specs.declared.answer.Cause.{Cause};
 ghost use Rattle.rx_scenario.specs.Scenario.{site_of, using, hold as holding, drain as draining, checkpoint as checkpointing};
 ghost use Rattle.rx_script.specs.Stage.{start, ware_of};
-ghost use Rattle.rx_script.specs.Engine.{at_of, stage_of, IsHistoryOf, IsSound, Carries};
+ghost use Rattle.rx_script.specs.Engine.{at_of, stage_of, IsHistoryOf, IsSound, CarriesStep};
 
 use crate::gathering::gather;
 use crate::shelf::Stock;
@@ -101,7 +101,8 @@ pub fn using<R: Resource>(
     res: String,
 ) -> Result<Answer, AllocError>
     requires { IsSound engine.old }
-    ensures { IfOk result (λ a. Carries engine.old (using (string_bytes name) (site_of site.now) (string_bytes res)) a engine.new) }
+    ensures { IfOk result
+        (λ a. CarriesStep engine.old (using (string_bytes name) (site_of site.now) (string_bytes res)) a engine.new) }
 {
     let Some(place) = place_of(&engine.nodes, site) else {
         return Ok(Answer::Refused(Cause::NoName));
@@ -136,7 +137,7 @@ pub fn hold<R: Resource>(
     res: String,
 ) -> Result<Answer, AllocError>
     requires { IsSound engine.old }
-    ensures { IfOk result (λ a. Carries engine.old (holding node.now (string_bytes res)) a engine.new) }
+    ensures { IfOk result (λ a. CarriesStep engine.old (holding node.now (string_bytes res)) a engine.new) }
 {
     let Some(key) = engine.nodes.get(node) else {
         return Ok(Answer::Refused(Cause::NoName));
@@ -163,7 +164,7 @@ pub fn hold<R: Resource>(
 /// All that waits is taken and released.
 pub fn drain<R: Resource>(engine: &mut Engine<R>)
     requires { IsSound engine.old }
-    ensures { Carries engine.old draining Answer.Accepted engine.new }
+    ensures { CarriesStep engine.old draining Answer.Accepted engine.new }
 {
     let closed = engine.book.release_waiting();
     engine.book.promise();
@@ -178,7 +179,7 @@ pub fn drain<R: Resource>(engine: &mut Engine<R>)
 /// come between two checkpoints. A run that came so far would end here, as where memory is refused.
 pub fn checkpoint<R: Resource>(engine: &mut Engine<R>) -> Result<Answer, AllocError>
     requires { IsSound engine.old }
-    ensures { IfOk result (λ a. Carries engine.old checkpointing a engine.new) }
+    ensures { IfOk result (λ a. CarriesStep engine.old checkpointing a engine.new) }
 {
     gather(&mut engine.tallies, &mut engine.book)?;
     engine.book.promise();

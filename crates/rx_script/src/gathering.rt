@@ -6,7 +6,7 @@ ghost use Rattle.rx_event.specs.declared.mail.Mail.{Mail};
 ghost use Rattle.rx_event.specs.Kept.{nothing_kept};
 ghost use Rattle.rx_event.specs.Lawful.{IsLawful};
 ghost use Rattle.rx_event.specs.Notes.{notes};
-ghost use Rattle.rx_script.specs.Tallies.{AreCountsOf, AreNotesOf, GoesOn, Gathers};
+ghost use Rattle.rx_script.specs.Tallies.{AreCountsOf, AreNotesOf, GoesOnFromFront, Gathers};
 
 use crate::tallies::Tallies;
 use rx_book::Book;
@@ -31,7 +31,7 @@ fn gather_notes<R: Resource>(tallies: &mut Tallies, book: &mut Book<R>) -> Resul
 
 // Counts the events that were not counted yet.
 fn gather_events<R: Resource>(tallies: &mut Tallies, book: &Book<R>) -> Result<(), AllocError>
-    ensures counts { OnOk result ((front h : List Event) → AreCountsOf front tallies.old → GoesOn front h book.now
+    ensures counts { OnOk result ((front h : List Event) → AreCountsOf front tallies.old → GoesOnFromFront front h book.now
         → IsLawful nothing_kept h → AreCountsOf h tallies.new) }
     ensures notes { tallies.new.notes ≡ tallies.old.notes }
 {

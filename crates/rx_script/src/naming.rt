@@ -6,7 +6,7 @@ ghost use Rattle.serde_json.specs.Written.{compact_text};
 ghost use Rattle.rx_event.specs.Kept.{nothing_kept};
 ghost use Rattle.rx_agenda.specs.Shown.{number_binding};
 ghost use Rattle.rx_script.specs.Keys.{node_binding, res_binding};
-ghost use Rattle.rx_script.specs.NamedDumps.{member_text, binding_text, next_text, joined, named_dump};
+ghost use Rattle.rx_script.specs.NamedDumps.{number_member_text, binding_text, following_text, joined, named_dump};
 ghost use Rattle.rx_script.specs.Engine.{engine_names};
 
 use crate::engine::Engine;
@@ -27,9 +27,9 @@ fn quoted(alloc: Global, text: &str) -> Result<String, AllocError>
 }
 
 // The member of a JSON object that leads from the number to the name.
-#[tactic(auto, unfolding(crate::specs::NamedDumps::member_text))]
+#[tactic(auto, unfolding(crate::specs::NamedDumps::number_member_text))]
 fn member(alloc: Global, number: u64, name: &str) -> Result<String, AllocError>
-    ensures { IfOk result (λ s. string_bytes s ≡ member_text number name.now) }
+    ensures { IfOk result (λ s. string_bytes s ≡ number_member_text number name.now) }
 {
     let name = quoted(alloc, name)?;
     format!(in alloc; "\"{number}\":{name}")
@@ -90,7 +90,7 @@ fn members<S: Resource>(alloc: Global, engine: &Engine<S>) -> Result<Vec<String>
 // Each text behind a comma.
 fn push_rest(text: &mut String, texts: &[String]) -> Result<(), AllocError>
     ensures { OnOk result (string_bytes text.new
-        ≡ string_bytes text.old ++ flat_map next_text (map string_bytes texts.now)) }
+        ≡ string_bytes text.old ++ flat_map following_text (map string_bytes texts.now)) }
 {
     for one in texts {
         text.push_str(",")?;

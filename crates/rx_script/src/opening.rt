@@ -3,7 +3,7 @@
 ghost use Rattle.std.specs.Prelude.{◌≡◌, false, option_map, string_bytes, OnOk};
 ghost use Rattle.rx_scenario.specs.Scenario.{sort_of};
 ghost use Rattle.rx_script.specs.Stage.{connection_name};
-ghost use Rattle.rx_script.specs.Engine.{kind_of, is_taken, is_taken_beside, with_named};
+ghost use Rattle.rx_script.specs.Engine.{kind_by_hubs, is_connection_bound, is_taken_beside, with_named};
 ghost use Rattle.rx_script.specs.KeyedCalls.{connection_of};
 
 use rx_agenda::Names;
@@ -13,8 +13,8 @@ use rx_scenario::Sort;
 use std::alloc::AllocError;
 
 /// The kind that a sort stands for; None where the name of a subscriber's hub is not bound.
-pub fn kind_of(hubs: &Names<u64>, sort: &Sort) -> Option<Kind>
-    ensures { result ≡ kind_of hubs.now (sort_of sort.now) }
+pub fn kind_by_hubs(hubs: &Names<u64>, sort: &Sort) -> Option<Kind>
+    ensures { result ≡ kind_by_hubs hubs.now (sort_of sort.now) }
 {
     match sort {
         Sort::Leaf => Some(Kind::Leaf),
@@ -37,8 +37,8 @@ pub fn connection_name(sort: Sort) -> Option<String>
 }
 
 /// Whether the name, where there is one, is bound.
-pub fn is_taken(nodes: &Names<Key>, name: &Option<String>) -> bool
-    ensures { result ≡ is_taken nodes.now (option_map string_bytes name.now) }
+pub fn is_connection_bound(nodes: &Names<Key>, name: &Option<String>) -> bool
+    ensures { result ≡ is_connection_bound nodes.now (option_map string_bytes name.now) }
 {
     match name {
         Some(name) => nodes.is_bound(name.as_str()),
@@ -65,7 +65,7 @@ pub fn bind_connection(
     name: Option<String>,
     made: Option<Key>,
 ) -> Result<(), AllocError>
-    requires { is_taken nodes.old (option_map string_bytes name) ≡ false }
+    requires { is_connection_bound nodes.old (option_map string_bytes name) ≡ false }
     ensures { OnOk result (nodes.new ≡ with_named nodes.old name made) }
 {
     let Some(name) = name else {

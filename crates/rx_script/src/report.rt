@@ -6,7 +6,7 @@ ghost use Rattle.rx_event.specs.declared.event.Event.{Event};
 ghost use Rattle.rx_event.specs.Resources.{is_taken as is_taken_in};
 ghost use Rattle.rx_event.specs.Kept.{nothing_kept};
 ghost use Rattle.rx_book.specs.State.{IsPromised};
-ghost use Rattle.rx_script.specs.Lines.{node_lines, res_lines, whereabouts, account_of, totals_of};
+ghost use Rattle.rx_script.specs.Lines.{node_lines, res_lines, whereabouts, account_of, totals_reported};
 ghost use Rattle.rx_script.specs.Keys.{node_binding, res_binding, IsNodeKey, IsHeldKey};
 ghost use Rattle.rx_script.specs.Tallies.{AreCountsOf, IsWhole};
 
@@ -117,8 +117,8 @@ pub fn push_resources<R: Resource>(
 }
 
 /// The counts.
-pub fn totals_of<R: Resource>(tallies: &Tallies, book: &Book<R>) -> Totals
-    ensures { (h : List Event) → IsWhole h tallies.now book.now → result ≡ totals_of nothing_kept h }
+pub fn totals_reported<R: Resource>(tallies: &Tallies, book: &Book<R>) -> Totals
+    ensures { (h : List Event) → IsWhole h tallies.now book.now → result ≡ totals_reported nothing_kept h }
 {
     Totals {
         nodes: tallies.nodes,

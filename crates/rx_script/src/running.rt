@@ -6,7 +6,7 @@ ghost use Rattle.std.specs.Prelude.{◌≡◌, ◌≢◌, ◌≤◌, ◌⊎◌, 
 ghost use Rattle.std.specs.Io.KnownBytes.{Appends};
 ghost use Rattle.serde_json.specs.Data.{Data};
 ghost use Rattle.rx_event.specs.Totals.{accepted_count};
-ghost use Rattle.rx_device.specs.Device.{device_of, KeepsDevice, has_failed, has_stopped, HasReadFault, HasWriteFault, IsFresh, AppendsPrefix};
+ghost use Rattle.rx_device.specs.Device.{device_of, KeepsDevice, has_failed, has_stopped, HasReadFault, HasWriteFault, IsUnasked, AppendsPrefix};
 ghost use Rattle.rx_device.specs.Input.{IsJsonOf, GivesTooMuch, GivesNoJson};
 ghost use Rattle.rx_device.specs.Part.{part_data};
 ghost use Rattle.rx_scenario.specs.Scenario.{step_of, steps_of, script_of};
@@ -26,7 +26,7 @@ use crate::course::run_course;
 use crate::engine::{Engine, begin};
 use crate::gathering::gather;
 use crate::naming::named_dump;
-use crate::report::{events_of, push_nodes, push_resources, totals_of};
+use crate::report::{events_of, push_nodes, push_resources, totals_reported};
 use crate::text::{push_all_refused, push_closed, push_totals};
 use json::Scratch;
 use rx_agenda::Answer;
@@ -68,7 +68,7 @@ fn unclosed_report<S: Resource>(
         &engine.book,
         engine.resources.in_order(),
     )?;
-    push_totals(&mut text, totals_of(&engine.tallies, &engine.book))?;
+    push_totals(&mut text, totals_reported(&engine.tallies, &engine.book))?;
     Ok(text)
 }
 
@@ -229,8 +229,8 @@ pub fn run<R: Read, W: Write, S: Resource>(
     stock: Vec<S>,
     form: Form,
 ) -> Result<(), ScriptError>
-    requires reader { IsFresh reader.old }
-    requires writer { IsFresh writer.old }
+    requires reader { IsUnasked reader.old }
+    requires writer { IsUnasked writer.old }
 
     ensures ok { OnOk result (Runs (map (ware_of S.Resource) stock.items) form
         (R.remaining (device_of reader.old)) (R.remaining (device_of reader.new))

@@ -1,7 +1,7 @@
 //! The lines of a report, each written behind a text.
 
 ghost use Rattle.std.specs.Prelude.{◌≡◌, ◌++◌, flat_map, string_bytes, OnOk};
-ghost use Rattle.rx_script.specs.Text.{refusal_name, cause_name, refused_line, note_text, node_line};
+ghost use Rattle.rx_script.specs.Text.{refusal_word, cause_word, refused_line, note_in_line, node_line};
 ghost use Rattle.rx_script.specs.Text.{whereabouts_text, leases_text, res_line, totals_line, closed_line};
 ghost use Rattle.rx_script.specs.Lines.{refused_lines};
 
@@ -11,8 +11,8 @@ use rx_event::{Refusal, Terminal};
 use rx_note::Note;
 use std::alloc::AllocError;
 
-fn refusal_name(why: Refusal) -> &'static str
-    ensures { result.now ≡ refusal_name why }
+fn refusal_word(why: Refusal) -> &'static str
+    ensures { result.now ≡ refusal_word why }
 {
     match why {
         Refusal::NoMemory => "NoMemory",
@@ -38,14 +38,14 @@ fn refusal_name(why: Refusal) -> &'static str
 
 /// The name of a cause.
 pub fn cause_name(why: Cause) -> &'static str
-    ensures { result.now ≡ cause_name why }
+    ensures { result.now ≡ cause_word why }
 {
     match why {
         Cause::NoName => "NoName",
         Cause::NameTaken => "NameTaken",
         Cause::NoStock => "NoStock",
         Cause::NoStep => "NoStep",
-        Cause::Book(why) => refusal_name(why),
+        Cause::Book(why) => refusal_word(why),
     }
 }
 
@@ -72,9 +72,9 @@ pub fn push_all_refused(text: &mut String, answers: &[Answer]) -> Result<(), All
     Ok(())
 }
 
-#[tactic(auto, unfolding(crate::specs::Text::note_text))]
+#[tactic(auto, unfolding(crate::specs::Text::note_in_line))]
 fn push_note(text: &mut String, note: &Note) -> Result<(), AllocError>
-    ensures { OnOk result (string_bytes text.new ≡ string_bytes text.old ++ note_text note.now) }
+    ensures { OnOk result (string_bytes text.new ≡ string_bytes text.old ++ note_in_line note.now) }
 {
     match *note {
         Note::Next(value) => write!(text, " next={value}"),
@@ -85,7 +85,7 @@ fn push_note(text: &mut String, note: &Note) -> Result<(), AllocError>
 }
 
 fn push_notes(text: &mut String, notes: &[Note]) -> Result<(), AllocError>
-    ensures { OnOk result (string_bytes text.new ≡ string_bytes text.old ++ flat_map note_text notes.now) }
+    ensures { OnOk result (string_bytes text.new ≡ string_bytes text.old ++ flat_map note_in_line notes.now) }
 {
     for note in notes {
         push_note(text, note)?;

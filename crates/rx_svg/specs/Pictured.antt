@@ -4,11 +4,11 @@ use Rattle.serde_json.specs.Data.{Data}
 use Rattle.rx_event.specs.declared.event.Event.{Event}
 use Rattle.rx_dump.specs.History.{history_of}
 pub use Rattle.rx_names.specs.Names.{dump_in, names_in}
-use Rattle.rx_names.specs.Names.{name_of}
+use Rattle.rx_names.specs.Names.{name_in_object}
 use Rattle.rx_svg.specs.Page.{IsPicture}
 
 -- the JSON value has the dump of a history, and the text is a picture of that, with its names
 pub record IsPictureOn (d : Data) (text : List ℕ) : Type 0 where
   pub history : List Event
   pub reading : history_of (dump_in d) ≡ Some history
-  pub picture : IsPicture history (name_of (names_in d)) text
+  pub picture : IsPicture history (name_in_object (names_in d)) text

@@ -2,7 +2,7 @@
 
 ghost use Rattle.std.specs.Prelude.{◌≡◌, ◌++◌, string_bytes, OnOk};
 ghost use Rattle.serde_json.specs.View.{view};
-ghost use Rattle.rx_names.specs.Names.{name_of};
+ghost use Rattle.rx_names.specs.Names.{name_in_object};
 ghost use Rattle.rx_svg.specs.Label.{kind_label, place_label, mode_label, terminal_label, event_label, called_text};
 ghost use Rattle.rx_svg.specs.Said.{said_label};
 
@@ -95,7 +95,7 @@ pub fn push_called(
     made: Event,
 ) -> Result<(), AllocError>
     ensures { OnOk result (string_bytes text.new ≡ string_bytes text.old
-        ++ called_text n (name_of (view names.entry.object.now) n) made) }
+        ++ called_text n (name_in_object (view names.entry.object.now) n) made) }
 {
     write!(text, "{n}")?;
     push_named(text, names, n)?;

@@ -4,7 +4,7 @@ ghost use Rattle.std.specs.Prelude.{◌≡◌, ◌++◌, ◌≤◌, string_bytes
 ghost use Rattle.rx_picture.specs.Rows.{lane_of};
 ghost use Rattle.rx_picture.specs.Leaks.{is_leaking};
 ghost use Rattle.serde_json.specs.View.{view};
-ghost use Rattle.rx_names.specs.Names.{name_of};
+ghost use Rattle.rx_names.specs.Names.{name_in_object};
 ghost use Rattle.rx_svg.specs.Lane.{x_of, y_of, has_lane, is_root_point, is_root_of, label_element, ending_text, life_text};
 ghost use Rattle.rx_svg.specs.Lane.{stretch_text, held_class, wait_class, owned_text, loan_text, wait_text, release_text};
 ghost use Rattle.rx_svg.specs.Lane.{shape_text, row_label, row_text, in_lane_text, emitted_text, done_text, tick_text, note_marble};
@@ -86,7 +86,7 @@ fn push_label(
     made: Event,
 ) -> Result<(), AllocError>
     ensures { OnOk result (string_bytes text.new ≡ string_bytes text.old
-        ++ label_element x y n (name_of (view names.entry.object.now) n) made) }
+        ++ label_element x y n (name_in_object (view names.entry.object.now) n) made) }
 {
     put!(text; "<text class=\"label\" x=\"" [x] "\" y=\"" [y] "\" dy=\"4\">")?;
     push_called(text, names, n, made)?;
@@ -300,7 +300,7 @@ fn push_name(
     made: Event,
 ) -> Result<(), AllocError>
     ensures { OnOk result (string_bytes text.new ≡ string_bytes text.old
-        ++ row_label drawing.now n (name_of (view names.entry.object.now) n) made) }
+        ++ row_label drawing.now n (name_in_object (view names.entry.object.now) n) made) }
 {
     match made {
         Event::Lease(_) => Ok(()),
@@ -331,7 +331,7 @@ pub fn push_row(
     row: Row,
 ) -> Result<(), AllocError>
     ensures { OnOk result (string_bytes text.new ≡ string_bytes text.old
-        ++ row_text drawing.now (name_of (view names.entry.object.now)) end row) }
+        ++ row_text drawing.now (name_in_object (view names.entry.object.now)) end row) }
 {
     push_name(text, names, drawing, row.number, row.made)?;
     let y = y_of(drawing, lane_of(row.number, row.made));

@@ -2,7 +2,7 @@
 
 ghost use Rattle.std.specs.Prelude.{◌≡◌, ◌≤◌, IfOk};
 ghost use Rattle.serde_json.specs.View.{view};
-ghost use Rattle.rx_names.specs.Names.{name_of};
+ghost use Rattle.rx_names.specs.Names.{name_in_object};
 ghost use Rattle.rx_svg.specs.Lane.{label_start, margin};
 
 use crate::labels::push_called;
@@ -14,7 +14,7 @@ use std::alloc::AllocError;
 /// Where the label of a row begins.
 #[tactic(auto, unfolding(crate::specs::Lane::label_start))]
 fn label_start(names: Names<'_>, drawing: &Drawing, row: Row) -> Result<u64, AllocError>
-    ensures { IfOk result (λ x. x ≡ label_start drawing.now (name_of (view names.entry.object.now)) row) }
+    ensures { IfOk result (λ x. x ≡ label_start drawing.now (name_in_object (view names.entry.object.now)) row) }
 {
     let mut label = String::new(names.alloc);
     push_called(&mut label, names, row.number, row.made)?;
@@ -24,7 +24,7 @@ fn label_start(names: Names<'_>, drawing: &Drawing, row: Row) -> Result<u64, All
 
 /// Where the first of the labels begins.
 pub fn margin(names: Names<'_>, drawing: &Drawing, rows: &[Row]) -> Result<u64, AllocError>
-    ensures value { IfOk result (λ x. x ≡ margin drawing.now (name_of (view names.entry.object.now)) rows.now) }
+    ensures value { IfOk result (λ x. x ≡ margin drawing.now (name_in_object (view names.entry.object.now)) rows.now) }
     ensures few { IfOk result (λ x. x ≤ 44050) }
 {
     let mut left = x_of(drawing, 0);

@@ -3,7 +3,7 @@
 ghost use Rattle.std.specs.Prelude.{◌≡◌, ◌<◌, ◌==◌, ◌∷◌, [], ◌++◌, codes, string_bytes, OnOk, flat_map, option_map};
 ghost use Rattle.std.specs.List.{list_any};
 ghost use Rattle.serde_json.specs.View.{view};
-ghost use Rattle.rx_names.specs.Names.{name_of};
+ghost use Rattle.rx_names.specs.Names.{name_in_object};
 ghost use Rattle.rx_svg.specs.WellFormed.{is_plain_character};
 ghost use Rattle.rx_svg.specs.Name.{escape, byte_text, shown_name, name_label};
 
@@ -95,7 +95,7 @@ fn push_if_named(text: &mut String, name: Option<&str>) -> Result<(), AllocError
 /// The name of the number, if it has one.
 pub fn push_named(text: &mut String, names: Names<'_>, n: u64) -> Result<(), AllocError>
     ensures { OnOk result (string_bytes text.new ≡ string_bytes text.old
-        ++ name_label (name_of (view names.entry.object.now) n)) }
+        ++ name_label (name_in_object (view names.entry.object.now) n)) }
 {
     let name = name_of(names, n)?;
     push_if_named(text, name)

@@ -3,7 +3,7 @@
 ghost use Rattle.std.specs.Prelude.{◌≡◌, ◌+◌, ◌++◌, ◌≤◌, string_bytes, OnOk, IfOk, flat_map};
 ghost use Rattle.serde_json.specs.Data.{null};
 ghost use Rattle.serde_json.specs.View.{view};
-ghost use Rattle.rx_names.specs.Names.{name_of};
+ghost use Rattle.rx_names.specs.Names.{name_in_object};
 ghost use Rattle.rx_svg.specs.Lane.{row_text, tick_text, note_marble};
 ghost use Rattle.rx_svg.specs.Page.{lanes_shown, places_shown, width_of, head_text, point_text, legend_front, listed_text, list_text, lawful_text};
 ghost use Rattle.rx_svg.specs.Page.{verdict_label, leak_words, leak_entry, leaking_text, leaks_text, leaks_class};
@@ -106,7 +106,7 @@ fn push_rows(
     rows: &[Row],
 ) -> Result<(), AllocError>
     ensures { OnOk result (string_bytes text.new ≡ string_bytes text.old
-        ++ flat_map (row_text drawing.now (name_of (view names.entry.object.now)) end) rows.now) }
+        ++ flat_map (row_text drawing.now (name_in_object (view names.entry.object.now)) end) rows.now) }
 {
     for row in rows {
         push_row(text, names, drawing, end, *row)?;
@@ -217,7 +217,8 @@ fn leak_words(n: u64) -> &'static str
 /// One number after a space, and its name.
 #[tactic(auto, unfolding(crate::specs::Page::leak_entry))]
 fn push_entry(text: &mut String, names: Names<'_>, n: u64) -> Result<(), AllocError>
-    ensures { OnOk result (string_bytes text.new ≡ string_bytes text.old ++ leak_entry (name_of (view names.entry.object.now)) n) }
+    ensures { OnOk result
+        (string_bytes text.new ≡ string_bytes text.old ++ leak_entry (name_in_object (view names.entry.object.now)) n) }
 {
     push_one(text, n)?;
     push_named(text, names, n)
@@ -226,7 +227,7 @@ fn push_entry(text: &mut String, names: Names<'_>, n: u64) -> Result<(), AllocEr
 /// Each number after a space, and its name.
 fn push_entries(text: &mut String, names: Names<'_>, numbers: &[u64]) -> Result<(), AllocError>
     ensures { OnOk result (string_bytes text.new ≡ string_bytes text.old
-        ++ flat_map (leak_entry (name_of (view names.entry.object.now))) numbers.now) }
+        ++ flat_map (leak_entry (name_in_object (view names.entry.object.now))) numbers.now) }
 {
     for n in numbers {
         push_entry(text, names, *n)?;
@@ -238,7 +239,7 @@ fn push_entries(text: &mut String, names: Names<'_>, numbers: &[u64]) -> Result<
 #[tactic(auto, unfolding(crate::specs::Page::leaking_text, crate::specs::Page::count_text, crate::specs::Parts::text_of))]
 fn push_leaking(text: &mut String, names: Names<'_>, leaks: &[u64]) -> Result<(), AllocError>
     ensures { OnOk result (string_bytes text.new ≡ string_bytes text.old
-        ++ leaking_text (name_of (view names.entry.object.now)) leaks.now) }
+        ++ leaking_text (name_in_object (view names.entry.object.now)) leaks.now) }
 {
     let count = leaks.len() as u64;
     let words = leak_words(count);
@@ -249,7 +250,7 @@ fn push_leaking(text: &mut String, names: Names<'_>, leaks: &[u64]) -> Result<()
 /// How many resources leak, and which, if any does.
 fn push_leaks(text: &mut String, names: Names<'_>, leaks: &[u64]) -> Result<(), AllocError>
     ensures { OnOk result (string_bytes text.new ≡ string_bytes text.old
-        ++ leaks_text (name_of (view names.entry.object.now)) leaks.now) }
+        ++ leaks_text (name_in_object (view names.entry.object.now)) leaks.now) }
 {
     if leaks.len() == 0 {
         return text.push_str("no resource leaks");
@@ -306,7 +307,7 @@ fn push_leaks_line(
 ) -> Result<(), AllocError>
     requires { height ≤ 10000 }
     ensures { OnOk result (string_bytes text.new ≡ string_bytes text.old
-        ++ leaks_line (name_of (view names.entry.object.now)) x height leaks.now) }
+        ++ leaks_line (name_in_object (view names.entry.object.now)) x height leaks.now) }
 {
     push_below(text, leaks_class(leaks), x, height + 72)?;
     push_leaks(text, names, leaks)?;
@@ -348,7 +349,7 @@ fn push_under(
     requires near { x ≤ 45000 }
     requires high { height ≤ 10000 }
     ensures { OnOk result (string_bytes text.new ≡ string_bytes text.old
-        ++ under_text drawing.now (name_of (view names.entry.object.now)) end x height verdict.now) }
+        ++ under_text drawing.now (name_in_object (view names.entry.object.now)) end x height verdict.now) }
 {
     push_verdict_line(text, x, height, verdict)?;
     push_leaks_line(text, names, x, height, drawing.leaks.as_slice())?;
@@ -367,7 +368,7 @@ fn push_lanes(
     verdict: &Verdict,
 ) -> Result<(), AllocError>
     ensures { OnOk result (string_bytes text.new ≡ string_bytes text.old
-        ++ lanes_text drawing.now (name_of (view names.entry.object.now)) end height verdict.now) }
+        ++ lanes_text drawing.now (name_in_object (view names.entry.object.now)) end height verdict.now) }
 {
     push_points(text, drawing, height, drawing.points.as_slice())?;
     push_rows(text, names, drawing, end, drawing.rows.as_slice())?;
@@ -388,7 +389,7 @@ fn push_page(
 ) -> Result<(), AllocError>
     requires { left ≤ 44050 }
     ensures { OnOk result (string_bytes text.new ≡ string_bytes text.old
-        ++ page_text drawing.now (name_of (view names.entry.object.now)) end verdict.now left) }
+        ++ page_text drawing.now (name_in_object (view names.entry.object.now)) end verdict.now left) }
 {
     let height = 32 + 28 * lanes_shown(drawing, end);
     push_head(text, left, width_of(drawing, left, end), height + 240)?;
@@ -407,7 +408,7 @@ fn push_svg(
     verdict: &Verdict,
 ) -> Result<(), AllocError>
     ensures { OnOk result (string_bytes text.new ≡ string_bytes text.old
-        ++ svg_text drawing.now (name_of (view names.entry.object.now)) end verdict.now) }
+        ++ svg_text drawing.now (name_in_object (view names.entry.object.now)) end verdict.now) }
 {
     let left = margin(names, drawing, drawing.rows.as_slice())?;
     push_page(text, names, drawing, end, verdict, left)
@@ -418,7 +419,7 @@ fn push_svg(
 /// object `names` leads to a text from the number, written as a decimal; any other value has no names.
 /// The error comes where memory is refused, and for more events than `rx_audit` judges.
 pub fn named_picture(alloc: Global, events: &[Event], names: &Value) -> Result<String, AllocError>
-    ensures { IfOk result (λ s. IsPicture events.now (name_of (view names.now)) (string_bytes s)) }
+    ensures { IfOk result (λ s. IsPicture events.now (name_in_object (view names.now)) (string_bytes s)) }
 {
     let drawing = draw(alloc, events)?;
     let Ok(verdict) = audit(alloc, events) else {
@@ -435,7 +436,7 @@ pub fn named_picture(alloc: Global, events: &[Event], names: &Value) -> Result<S
 
 /// [`named_picture`] with no names.
 pub fn picture(alloc: Global, events: &[Event]) -> Result<String, AllocError>
-    ensures { IfOk result (λ s. IsPicture events.now (name_of null) (string_bytes s)) }
+    ensures { IfOk result (λ s. IsPicture events.now (name_in_object null) (string_bytes s)) }
 {
     let none = Value::Null;
     named_picture(alloc, events, &none)

@@ -20,7 +20,7 @@ use Rattle.std.specs.Option.{option_or}
 use Rattle.std.specs.Ordering.{is_eq, nat_cmp}
 use Rattle.std.specs.declared.cmp.Ordering.TheVariants.{Less, Greater}
 use Rattle.rx_time.specs.declared.work.Work.{Work}
-use Rattle.rx_time.specs.Schedule.{items_of}
+use Rattle.rx_time.specs.Schedule.{scheduled_items}
 
 -- a search by `cmp` stops where one by `==` does
 is_eq-nat_cmp : (t k : ℕ) → is_eq (nat_cmp t k) ≡ nat_eq t k
@@ -161,19 +161,20 @@ module _ {X : Type 0} where
       grind (arith, nat_tests)
 
 -- the item of an entry, and those of the others, are all items
-pub items_of-without : {T : Type 0} (t : ℕ) (w : Work T) (es : List (ℕ × Work T))
-    → lookup (nat_eq t) es ≡ Some w → IsPermutation (items_of es) (w.item ∷ items_of (remove_entry (nat_eq t) es))
-items_of-without t w [] found = cc
-items_of-without t w (e ∷ es) found =
-    elim (nat_eq t e.0) as (λ b. nat_eq t e.0 ≡ b → IsPermutation (items_of (e ∷ es)) (w.item ∷ items_of (cond b es (e ∷ remove_entry (nat_eq t) es)))) [
+pub scheduled_items-without : {T : Type 0} (t : ℕ) (w : Work T) (es : List (ℕ × Work T))
+    → lookup (nat_eq t) es ≡ Some w → IsPermutation (scheduled_items es) (w.item ∷ scheduled_items (remove_entry (nat_eq t) es))
+scheduled_items-without t w [] found = cc
+scheduled_items-without t w (e ∷ es) found =
+    elim (nat_eq t e.0) as
+    (λ b. nat_eq t e.0 ≡ b → IsPermutation (scheduled_items (e ∷ es)) (w.item ∷ scheduled_items (cond b es (e ∷ remove_entry (nat_eq t) es)))) [
       | true ↦ λ same.
           let here : Some e.1 ≡ Some w = rw same at found in
           let is : w ≡ e.1 = cc in
-          rw is (IsPermutation-refl (items_of (e ∷ es)))
+          rw is (IsPermutation-refl (scheduled_items (e ∷ es)))
       | false ↦ λ apart.
-          let rest = items_of (remove_entry (nat_eq t) es) in
-          let later = items_of-without t w es (rw apart at found) in
+          let rest = scheduled_items (remove_entry (nat_eq t) es) in
+          let later = scheduled_items-without t w es (rw apart at found) in
           let exchange = IsPermutation-sym (w.item ∷ e.1.item ∷ rest) (e.1.item ∷ w.item ∷ rest) (IsPermutation-insert (e.1.item ∷ rest) 1 w.item) in
-          IsPermutation-trans (items_of (e ∷ es)) (e.1.item ∷ w.item ∷ rest) (w.item ∷ e.1.item ∷ rest)
-          (IsPermutation-cons e.1.item (items_of es) (w.item ∷ rest) later) exchange
+          IsPermutation-trans (scheduled_items (e ∷ es)) (e.1.item ∷ w.item ∷ rest) (w.item ∷ e.1.item ∷ rest)
+          (IsPermutation-cons e.1.item (scheduled_items es) (w.item ∷ rest) later) exchange
     ] refl

@@ -17,7 +17,7 @@ use Rattle.rx_time.specs.declared.run.Slot.{Slot}
 use Rattle.rx_time.specs.declared.work.Work.{Work}
 use Rattle.rx_time.specs.Agenda.{PointsAt}
 use Rattle.rx_time.specs.Schedule.{next_of}
-use Rattle.rx_time.specs.Runs.{slot_of, work_of, entry_of, entries_of, IsBefore, is_front_empty, IsRun}
+use Rattle.rx_time.specs.Runs.{slot_of_work, work_of, slot_entry, slot_entries, IsBefore, is_front_empty, AreRunSlots}
 use Rattle.rx_time.proofs.Entries.{remove_entry-absent}
 use Rattle.rx_time.proofs.Next.{IfSome-next_of, earlier-keeps}
 use Rattle.std.proofs.Common.{rules}
@@ -39,7 +39,7 @@ module _ {T : Type 0} where
   first_work ss rs s is = rw is (λ d. refl)
 
   pub first_left : (ss rs : List (Slot T)) (s : Slot T) → ss ≡ s ∷ rs
-      → HoldsAt (λ r. entries_of rs ≡ entries_of (set ss 0 (record r { item = None }))) ss 0
+      → HoldsAt (λ r. slot_entries rs ≡ slot_entries (set ss 0 (record r { item = None }))) ss 0
   first_left ss rs s is = rw is (λ d. refl)
 
   pub pairs_behind : (ss rs : List (Slot T)) (s : Slot T) → ss ≡ s ∷ rs → AllPairs IsBefore ss → AllPairs IsBefore rs
@@ -59,60 +59,60 @@ module _ {T : Type 0} where
             (omega (arith, before.0, (end d).0), omega (arith, before.1, (end d).1))
       ]
 
-  pub IsRun-push : (ss : List (Slot T)) (t : ℕ) (w : Work T) → IsRun ss → All (λ s. (s.ticket < t) × (s.due ≤ w.due)) ss
-      → IsRun (ss ++ slot_of t w ∷ [])
-  IsRun-push ss t w run above = record {
-    in_order = all_pairs_push IsBefore ss (slot_of t w) run.in_order above;
+  pub AreRunSlots-push : (ss : List (Slot T)) (t : ℕ) (w : Work T) → AreRunSlots ss → All (λ s. (s.ticket < t) × (s.due ≤ w.due)) ss
+      → AreRunSlots (ss ++ slot_of_work t w ∷ [])
+  AreRunSlots-push ss t w run above = record {
+    in_order = all_pairs_push IsBefore ss (slot_of_work t w) run.in_order above;
     filled = front ss run.filled;
   } where
-    front : (rs : List (Slot T)) → is_front_empty rs ≡ false → is_front_empty (rs ++ slot_of t w ∷ []) ≡ false
+    front : (rs : List (Slot T)) → is_front_empty rs ≡ false → is_front_empty (rs ++ slot_of_work t w ∷ []) ≡ false
     front [] filled = refl
     front (r ∷ rs) filled = filled
 
-  pub IsRun-nil : (ss : List (Slot T)) → ss ≡ [] → IsRun ss
-  IsRun-nil ss none = rw none (record { in_order = (λ i j d before within. absurd (omega arith)); filled = refl })
+  pub AreRunSlots-nil : (ss : List (Slot T)) → ss ≡ [] → AreRunSlots ss
+  AreRunSlots-nil ss none = rw none (record { in_order = (λ i j d before within. absurd (omega arith)); filled = refl })
 
-  pub entries-push : (ss : List (Slot T)) (t : ℕ) (w : Work T) → entries_of (ss ++ slot_of t w ∷ []) ≡ entries_of ss ++ (t, w) ∷ []
-  entries-push ss t w = filter_map-append entry_of ss (slot_of t w ∷ [])
+  pub entries-push : (ss : List (Slot T)) (t : ℕ) (w : Work T) → slot_entries (ss ++ slot_of_work t w ∷ []) ≡ slot_entries ss ++ (t, w) ∷ []
+  entries-push ss t w = filter_map-append slot_entry ss (slot_of_work t w ∷ [])
 
   -- what comes next -------------------------------------------------------------------------------
 
-  All-entries : (n : ℕ) (ss : List (Slot T)) → All (λ s. n ≤ s.due) ss → All (λ e. n ≤ e.1.due) (entries_of ss)
+  All-entries : (n : ℕ) (ss : List (Slot T)) → All (λ s. n ≤ s.due) ss → All (λ e. n ≤ e.1.due) (slot_entries ss)
   All-entries n [] all = All-nil (λ e. n ≤ e.1.due)
   All-entries n (s ∷ ss) all = by_item (All-entries n ss (All-tail (λ r. n ≤ r.due) s ss all)) s.item where
-    by_item : All (λ e. n ≤ e.1.due) (entries_of ss) → (o : Option T) → All (λ e. n ≤ e.1.due) (entries_with s o (entries_of ss))
+    by_item : All (λ e. n ≤ e.1.due) (slot_entries ss) → (o : Option T) → All (λ e. n ≤ e.1.due) (entries_with s o (slot_entries ss))
     by_item rest None = rest
     by_item rest (Some item) =
-        All-cons (λ e. n ≤ e.1.due) (s.ticket, record { due = s.due; item = item }) (entries_of ss) (All-head (λ r. n ≤ r.due) s ss all) rest
+        All-cons (λ e. n ≤ e.1.due) (s.ticket, record { due = s.due; item = item }) (slot_entries ss) (All-head (λ r. n ≤ r.due) s ss all) rest
 
   front-points : (s : Slot T) (ss : List (Slot T)) (o : Option T) → is_none o ≡ false → AllPairs IsBefore (s ∷ ss)
-      → PointsAt (entries_with s o (entries_of ss)) (next_of (entries_with s o (entries_of ss))) (Some (s.due, s.ticket))
+      → PointsAt (entries_with s o (slot_entries ss)) (next_of (entries_with s o (slot_entries ss))) (Some (s.due, s.ticket))
   front-points s ss None filled pairs = absurd (true≢false filled)
   front-points s ss (Some item) filled pairs =
       let w : Work T = record { due = s.due; item = item } in
       let later : All (λ r. s.due ≤ r.due) ss = All-weaker (IsBefore s) (λ r. s.due ≤ r.due) (λ r before. before.1) ss (all_after s ss pairs) in
-      let next : next_of ((s.ticket, w) ∷ entries_of ss) ≡ Some (s.ticket, w) =
-      earlier-keeps (s.ticket, w) (next_of (entries_of ss))
-      (IfSome-next_of (λ e. s.due ≤ e.1.due) (entries_of ss) (All-entries s.due ss later)) in
-      rw (cond-true (nat_eq s.ticket s.ticket) (Some w) (lookup (nat_eq s.ticket) (entries_of ss)) (eq-eqb s.ticket s.ticket refl)) (refl, next)
+      let next : next_of ((s.ticket, w) ∷ slot_entries ss) ≡ Some (s.ticket, w) =
+      earlier-keeps (s.ticket, w) (next_of (slot_entries ss))
+      (IfSome-next_of (λ e. s.due ≤ e.1.due) (slot_entries ss) (All-entries s.due ss later)) in
+      rw (cond-true (nat_eq s.ticket s.ticket) (Some w) (lookup (nat_eq s.ticket) (slot_entries ss)) (eq-eqb s.ticket s.ticket refl)) (refl, next)
 
   -- the first slot points at what comes next
-  pub PointsAt-front : (ss : List (Slot T)) (s : Slot T) → IsRun ss → 0 < length ss → s ≡ get_or ss 0 s
-      → PointsAt (entries_of ss) (next_of (entries_of ss)) (Some (s.due, s.ticket))
+  pub PointsAt-front : (ss : List (Slot T)) (s : Slot T) → AreRunSlots ss → 0 < length ss → s ≡ get_or ss 0 s
+      → PointsAt (slot_entries ss) (next_of (slot_entries ss)) (Some (s.due, s.ticket))
   PointsAt-front [] s run some is = absurd (omega arith)
   PointsAt-front (r ∷ rs) s run some is = rw is (front-points r rs r.item run.filled run.in_order)
 
-  pub nothing_next : (ss : List (Slot T)) → length ss ≡ 0 → next_of (entries_of ss) ≡ None
+  pub nothing_next : (ss : List (Slot T)) → length ss ≡ 0 → next_of (slot_entries ss) ≡ None
   nothing_next [] none = refl
   nothing_next (s ∷ ss) none = absurd (omega arith)
 
-  front-some : (s : Slot T) (ss : List (Slot T)) (o : Option T) → is_none o ≡ false → entries_with s o (entries_of ss) ≡ [] → ⊥
+  front-some : (s : Slot T) (ss : List (Slot T)) (o : Option T) → is_none o ≡ false → entries_with s o (slot_entries ss) ≡ [] → ⊥
   front-some s ss x2 filled none = search (rules, true≢false)
 
-  pub no_slots : (ss : List (Slot T)) → IsRun ss → entries_of ss ≡ [] → ss ≡ []
+  pub no_slots : (ss : List (Slot T)) → AreRunSlots ss → slot_entries ss ≡ [] → ss ≡ []
   no_slots x0 run none = search (rules, front-some)
 
-  pub empty_iff : (ss : List (Slot T)) (n : ℕ) (b : Bool) → IsRun ss → n ≡ length ss → b ≡ (n == 0) → (b ≡ true) ↔ (entries_of ss ≡ [])
+  pub empty_iff : (ss : List (Slot T)) (n : ℕ) (b : Bool) → AreRunSlots ss → n ≡ length ss → b ≡ (n == 0) → (b ≡ true) ↔ (slot_entries ss ≡ [])
   empty_iff x0 n b run few is = search (rules, ne_eqb, true≢false, front-some)
 
   -- a ticket's place ------------------------------------------------------------------------------
@@ -138,13 +138,13 @@ module _ {T : Type 0} where
   )
 
   -- a ticket that no slot has stands for nothing
-  pub lookup-absent : (ss : List (Slot T)) (t : ℕ) → All (λ s. s.ticket ≢ t) ss → lookup (nat_eq t) (entries_of ss) ≡ None
+  pub lookup-absent : (ss : List (Slot T)) (t : ℕ) → All (λ s. s.ticket ≢ t) ss → lookup (nat_eq t) (slot_entries ss) ≡ None
   lookup-absent [] t apart = refl
   lookup-absent (s ∷ ss) t apart = by_item (lookup-absent ss t (All-tail (λ r. r.ticket ≢ t) s ss apart)) s.item where
-    by_item : lookup (nat_eq t) (entries_of ss) ≡ None → (o : Option T) → lookup (nat_eq t) (entries_with s o (entries_of ss)) ≡ None
+    by_item : lookup (nat_eq t) (slot_entries ss) ≡ None → (o : Option T) → lookup (nat_eq t) (entries_with s o (slot_entries ss)) ≡ None
     by_item rest None = rest
     by_item rest (Some item) =
-        cond-false (nat_eq t s.ticket) (Some (record { due = s.due; item = item })) (lookup (nat_eq t) (entries_of ss))
+        cond-false (nat_eq t s.ticket) (Some (record { due = s.due; item = item })) (lookup (nat_eq t) (slot_entries ss))
         (ne_eqb t s.ticket (λ same. All-head (λ r. r.ticket ≢ t) s ss apart (sym same))) ∙ rest
 
   apart_after : (s : Slot T) (ss : List (Slot T)) (t : ℕ) → s.ticket ≡ t → AllPairs IsBefore (s ∷ ss) → All (λ r. r.ticket ≢ t) ss
@@ -153,37 +153,37 @@ module _ {T : Type 0} where
 
   -- the slot of a ticket has the work that the ticket stands for
   pub lookup-at : (ss : List (Slot T)) (t i : ℕ) (d : Slot T) → AllPairs IsBefore ss → i < length ss → (get_or ss i d).ticket ≡ t
-      → lookup (nat_eq t) (entries_of ss) ≡ work_of (get_or ss i d)
+      → lookup (nat_eq t) (slot_entries ss) ≡ work_of (get_or ss i d)
   lookup-at [] t i d pairs within has = absurd (omega arith)
   lookup-at (s ∷ ss) t zero d pairs within has = by_item s.item where
-    rest : lookup (nat_eq t) (entries_of ss) ≡ None
+    rest : lookup (nat_eq t) (slot_entries ss) ≡ None
     rest = lookup-absent ss t (apart_after s ss t has pairs)
 
-    by_item : (o : Option T) → lookup (nat_eq t) (entries_with s o (entries_of ss)) ≡ option_map (λ item. record { due = s.due; item = item }) o
+    by_item : (o : Option T) → lookup (nat_eq t) (entries_with s o (slot_entries ss)) ≡ option_map (λ item. record { due = s.due; item = item }) o
     by_item None = rest
     by_item (Some item) =
-        cond-true (nat_eq t s.ticket) (Some (record { due = s.due; item = item })) (lookup (nat_eq t) (entries_of ss)) (eq-eqb t s.ticket (sym has))
+        cond-true (nat_eq t s.ticket) (Some (record { due = s.due; item = item })) (lookup (nat_eq t) (slot_entries ss)) (eq-eqb t s.ticket (sym has))
   lookup-at (s ∷ ss) t (suc i) d pairs within has = by_item (lookup-at ss t i d (pairs-tail s ss pairs) (omega arith) has) s.item where
     below : s.ticket < (get_or ss i d).ticket
     below = (all_after s ss pairs i d (omega arith)).0
 
-    by_item : lookup (nat_eq t) (entries_of ss) ≡ work_of (get_or ss i d) → (o : Option T)
-        → lookup (nat_eq t) (entries_with s o (entries_of ss)) ≡ work_of (get_or ss i d)
+    by_item : lookup (nat_eq t) (slot_entries ss) ≡ work_of (get_or ss i d) → (o : Option T)
+        → lookup (nat_eq t) (entries_with s o (slot_entries ss)) ≡ work_of (get_or ss i d)
     by_item rest None = rest
     by_item rest (Some item) =
-        cond-false (nat_eq t s.ticket) (Some (record { due = s.due; item = item })) (lookup (nat_eq t) (entries_of ss))
+        cond-false (nat_eq t s.ticket) (Some (record { due = s.due; item = item })) (lookup (nat_eq t) (slot_entries ss))
         (ne_eqb t s.ticket (λ same. absurd (omega (arith, below, has)))) ∙ rest
 
   -- and to empty it is to take the ticket's work out
   pub remove_entry-at : (ss : List (Slot T)) (t i : ℕ) (d : Slot T) → AllPairs IsBefore ss → i < length ss → (get_or ss i d).ticket ≡ t
-      → remove_entry (nat_eq t) (entries_of ss) ≡ entries_of (set ss i (record (get_or ss i d) { item = None }))
+      → remove_entry (nat_eq t) (slot_entries ss) ≡ slot_entries (set ss i (record (get_or ss i d) { item = None }))
   remove_entry-at [] t i d pairs within has = absurd (omega arith)
   remove_entry-at (s ∷ ss) t zero d pairs within has = by_item s.item where
-    by_item : (o : Option T) → remove_entry (nat_eq t) (entries_with s o (entries_of ss)) ≡ entries_of ss
-    by_item None = remove_entry-absent (nat_eq t) (entries_of ss) (lookup-absent ss t (apart_after s ss t has pairs))
+    by_item : (o : Option T) → remove_entry (nat_eq t) (entries_with s o (slot_entries ss)) ≡ slot_entries ss
+    by_item None = remove_entry-absent (nat_eq t) (slot_entries ss) (lookup-absent ss t (apart_after s ss t has pairs))
     by_item (Some item) =
-        cond-true (nat_eq t s.ticket) (entries_of ss)
-        ((s.ticket, record { due = s.due; item = item }) ∷ remove_entry (nat_eq t) (entries_of ss)) (eq-eqb t s.ticket (sym has))
+        cond-true (nat_eq t s.ticket) (slot_entries ss)
+        ((s.ticket, record { due = s.due; item = item }) ∷ remove_entry (nat_eq t) (slot_entries ss)) (eq-eqb t s.ticket (sym has))
   remove_entry-at (s ∷ ss) t (suc i) d pairs within has = by_item (remove_entry-at ss t i d (pairs-tail s ss pairs) (omega arith) has) s.item where
     emptied : List (Slot T)
     emptied = set ss i (record (get_or ss i d) { item = None })
@@ -191,12 +191,12 @@ module _ {T : Type 0} where
     below : s.ticket < (get_or ss i d).ticket
     below = (all_after s ss pairs i d (omega arith)).0
 
-    by_item : remove_entry (nat_eq t) (entries_of ss) ≡ entries_of emptied → (o : Option T)
-        → remove_entry (nat_eq t) (entries_with s o (entries_of ss)) ≡ entries_with s o (entries_of emptied)
+    by_item : remove_entry (nat_eq t) (slot_entries ss) ≡ slot_entries emptied → (o : Option T)
+        → remove_entry (nat_eq t) (entries_with s o (slot_entries ss)) ≡ entries_with s o (slot_entries emptied)
     by_item rest None = rest
     by_item rest (Some item) =
-        cond-false (nat_eq t s.ticket) (entries_of ss)
-        ((s.ticket, record { due = s.due; item = item }) ∷ remove_entry (nat_eq t) (entries_of ss))
+        cond-false (nat_eq t s.ticket) (slot_entries ss)
+        ((s.ticket, record { due = s.due; item = item }) ∷ remove_entry (nat_eq t) (slot_entries ss))
         (ne_eqb t s.ticket (λ same. absurd (omega (arith, below, has))))
         ∙ ap (λ (es : List (ℕ × Work T)). (s.ticket, record { due = s.due; item = item }) ∷ es) rest
 
@@ -220,12 +220,12 @@ module _ {T : Type 0} where
 
   -- the same of any element that is at that place
   pub lookup_held : (ss : List (Slot T)) (t i : ℕ) (r : Option (Work T)) → AllPairs IsBefore ss → i < length ss → HoldsAt (λ s. s.ticket ≡ t) ss i
-      → HoldsAt (λ s. r ≡ work_of s) ss i → r ≡ lookup (nat_eq t) (entries_of ss)
+      → HoldsAt (λ s. r ≡ work_of s) ss i → r ≡ lookup (nat_eq t) (slot_entries ss)
   lookup_held [] t i r pairs within has is = absurd (omega arith)
   lookup_held (s ∷ ss) t i r pairs within has is = is s ∙ sym (lookup-at (s ∷ ss) t i s pairs within (has s))
 
   pub removed_held : (ss rs : List (Slot T)) (t i : ℕ) → AllPairs IsBefore ss → i < length ss → HoldsAt (λ s. s.ticket ≡ t) ss i
-      → HoldsAt (λ s. entries_of rs ≡ entries_of (set ss i (record s { item = None }))) ss i → entries_of rs ≡ remove_entry (nat_eq t) (entries_of ss)
+      → HoldsAt (λ s. slot_entries rs ≡ slot_entries (set ss i (record s { item = None }))) ss i → slot_entries rs ≡ remove_entry (nat_eq t) (slot_entries ss)
   removed_held [] rs t i pairs within has is = absurd (omega arith)
   removed_held (s ∷ ss) rs t i pairs within has is = is s ∙ sym (remove_entry-at (s ∷ ss) t i s pairs within (has s))
 

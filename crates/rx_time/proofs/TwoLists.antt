@@ -8,8 +8,8 @@ use Rattle.std.proofs.lemmas.List.Elements.{All-tail}
 use Rattle.std.proofs.lemmas.Map.Entries.{All-lookup}
 use Rattle.rx_time.specs.Agenda.{PointsAt}
 use Rattle.rx_time.specs.declared.work.Work.{Work}
-use Rattle.rx_time.specs.Schedule.{items_of, next_of, without}
-use Rattle.rx_time.proofs.Entries.{items_of-without, length-remove_entry, lookup-append, remove_entry-absent, remove_entry-back, remove_entry-front}
+use Rattle.rx_time.specs.Schedule.{scheduled_items, next_of, without}
+use Rattle.rx_time.proofs.Entries.{scheduled_items-without, length-remove_entry, lookup-append, remove_entry-absent, remove_entry-back, remove_entry-front}
 
 module _ {X : Type 0} where
   pub nil_front : (es fs : List X) → es ++ fs ≡ [] → es ≡ []
@@ -59,8 +59,8 @@ module _ {T : Type 0} where
 
   -- what is taken out, and what is left
   pub once_taken : (t : ℕ) (es : List (ℕ × Work T)) (r : Option (Work T)) → r ≡ lookup (nat_eq t) es
-      → IfSome r (λ w. IsPermutation (items_of es) (w.item ∷ items_of (without t es)))
-  once_taken t es x2 found = search (rules, items_of-without)
+      → IfSome r (λ w. IsPermutation (scheduled_items es) (w.item ∷ scheduled_items (without t es)))
+  once_taken t es x2 found = search (rules, scheduled_items-without)
 
   pub fewer_taken : (t : ℕ) (es : List (ℕ × Work T)) (r : Option (Work T)) → r ≡ lookup (nat_eq t) es → OnSome r (length (without t es) + 1 ≡ length es)
   fewer_taken t es x2 found = search (rules, length-remove_entry, nat_eq)

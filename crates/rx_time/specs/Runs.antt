@@ -7,18 +7,18 @@ use Rattle.rx_time.specs.declared.run.Slot.{Slot}
 
 module _ {T : Type 0} where
   -- the slot of a ticket and its work
-  abbrev pub slot_of : ℕ → Work T → Slot T
-  slot_of ticket work = record { ticket = ticket; due = work.due; item = Some work.item }
+  abbrev pub slot_of_work : ℕ → Work T → Slot T
+  slot_of_work ticket work = record { ticket = ticket; due = work.due; item = Some work.item }
 
   -- the work in a slot, and its entry, if it has one
   abbrev pub work_of : Slot T → Option (Work T)
   work_of slot = option_map (λ item. record { due = slot.due; item = item }) slot.item
 
-  abbrev pub entry_of : Slot T → Option (ℕ × Work T)
-  entry_of slot = option_map (λ item. (slot.ticket, record { due = slot.due; item = item })) slot.item
+  abbrev pub slot_entry : Slot T → Option (ℕ × Work T)
+  slot_entry slot = option_map (λ item. (slot.ticket, record { due = slot.due; item = item })) slot.item
 
-  abbrev pub entries_of : List (Slot T) → List (ℕ × Work T)
-  entries_of slots = filter_map entry_of slots
+  abbrev pub slot_entries : List (Slot T) → List (ℕ × Work T)
+  slot_entries slots = filter_map slot_entry slots
 
   -- the tickets rise, and the due times do not fall
   abbrev pub IsBefore : Slot T → Slot T → Type 0
@@ -30,6 +30,6 @@ module _ {T : Type 0} where
   is_front_empty (slot ∷ slots) = is_none slot.item
 
   -- what a run keeps true of its slots
-  pub record IsRun (slots : List (Slot T)) : Type 0 where
+  pub record AreRunSlots (slots : List (Slot T)) : Type 0 where
     pub in_order : AllPairs IsBefore slots
     pub filled : is_front_empty slots ≡ false

@@ -58,8 +58,8 @@ module _ {T : Type 0} where
   without ticket work = remove_entry (nat_eq ticket) work
 
   -- the items, in order of scheduling
-  abbrev pub items_of : List (ℕ × Work T) → List T
-  items_of work = map (λ e. e.1.item) work
+  abbrev pub scheduled_items : List (ℕ × Work T) → List T
+  scheduled_items work = map (λ e. e.1.item) work
 
   -- an entry, and a timeline, with each item seen as another
   abbrev pub entry_seen : {U : Type 0} → (T → U) → ℕ × Work T → ℕ × Work U

@@ -4,7 +4,7 @@ ghost use Rattle.std.specs.Prelude.{◌≡◌, ◌≢◌, ◌+◌, ◌<◌, ◌�
 ghost use Rattle.std.specs.Prelude.{is_none, slice_set, All, Some, None, IsSome, IsTrue, IfSome, IfNone, OnOk, OnErr, IfErr};
 ghost use Rattle.std.specs.List.{AllPairs, HoldsAt};
 ghost use Rattle.std.specs.Map.{lookup};
-ghost use Rattle.rx_time.specs.Runs.{work_of, slot_of, entries_of, is_front_empty, IsBefore, IsRun};
+ghost use Rattle.rx_time.specs.Runs.{work_of, slot_of_work, slot_entries, is_front_empty, IsBefore, AreRunSlots};
 
 use crate::work::Work;
 use std::alloc::{AllocError, Global};
@@ -21,7 +21,7 @@ pub(crate) struct Slot<T> {
 
 impl<T> Slot<T> {
     fn new(ticket: u32, work: Work<T>) -> Self
-        ensures { result ≡ slot_of ticket work }
+        ensures { result ≡ slot_of_work ticket work }
     {
         let Work { due, item } = work;
         Slot {
@@ -117,13 +117,13 @@ pub(crate) struct Run<T> {
 impl<T> Model for Run<T> {
     ghost use Rattle.std.specs.Prelude.{List, ℕ};
     ghost use Rattle.rx_time.specs.declared.work.Work.{Work};
-    ghost use Rattle.rx_time.specs.Runs.{entries_of, IsRun};
+    ghost use Rattle.rx_time.specs.Runs.{slot_entries, AreRunSlots};
 
     ghost Value = { List (ℕ × Work T) };
 
-    ghost view = { λ r. entries_of r.slots.items };
+    ghost view = { λ r. slot_entries r.slots.items };
 
-    ghost invariant = { λ r. IsRun r.slots.items };
+    ghost invariant = { λ r. AreRunSlots r.slots.items };
 }
 
 impl<T> Run<T> {
@@ -224,12 +224,12 @@ fn comes_last<T>(slots: &VecDeque<Slot<T>>, ticket: u32, due: u64) -> bool
 
 // Puts the work in a slot behind all others. Gives it back where memory is refused.
 fn push_slot<T>(slots: &mut VecDeque<Slot<T>>, ticket: u32, work: Work<T>) -> Result<(), Work<T>>
-    requires run { IsRun slots.old.items }
+    requires run { AreRunSlots slots.old.items }
     requires last { All (λ s. (s.ticket < ticket) × (s.due ≤ work.due)) slots.old.items }
-    ensures ok { OnOk result (entries_of slots.new.items ≡ entries_of slots.old.items ++ (ticket, work) ∷ []) }
+    ensures ok { OnOk result (slot_entries slots.new.items ≡ slot_entries slots.old.items ++ (ticket, work) ∷ []) }
     ensures back { IfErr result (λ back. back ≡ work) }
-    ensures kept { OnErr result (entries_of slots.new.items ≡ entries_of slots.old.items) }
-    ensures run { IsRun slots.new.items }
+    ensures kept { OnErr result (slot_entries slots.new.items ≡ slot_entries slots.old.items) }
+    ensures run { AreRunSlots slots.new.items }
 {
     match slots.push_back(Slot::new(ticket, work)) {
         Ok(()) => Ok(()),
@@ -256,8 +256,8 @@ fn take_at<T>(slots: &mut VecDeque<Slot<T>>, place: usize) -> Option<Work<T>>
     requires in_order { AllPairs IsBefore slots.old.items }
     requires within { place < length slots.old.items }
     ensures value { HoldsAt (λ s. result ≡ work_of s) slots.old.items place }
-    ensures others { HoldsAt (λ s. entries_of slots.new.items
-        ≡ entries_of (slice_set slots.old.items place (record s { item = None }))) slots.old.items place }
+    ensures others { HoldsAt (λ s. slot_entries slots.new.items
+        ≡ slot_entries (slice_set slots.old.items place (record s { item = None }))) slots.old.items place }
     ensures in_order { AllPairs IsBefore slots.new.items }
     ensures filled { is_front_empty slots.new.items ≡ false }
 {
@@ -271,8 +271,8 @@ fn take_at<T>(slots: &mut VecDeque<Slot<T>>, place: usize) -> Option<Work<T>>
 fn take_slot<T>(slots: &mut VecDeque<Slot<T>>, place: usize) -> Option<Work<T>>
     requires { place < length slots.old.items }
     ensures value { HoldsAt (λ s. result ≡ work_of s) slots.old.items place }
-    ensures others { HoldsAt (λ s. entries_of slots.new.items
-        ≡ entries_of (slice_set slots.old.items place (record s { item = None }))) slots.old.items place }
+    ensures others { HoldsAt (λ s. slot_entries slots.new.items
+        ≡ slot_entries (slice_set slots.old.items place (record s { item = None }))) slots.old.items place }
     ensures in_order { AllPairs IsBefore slots.old.items → AllPairs IsBefore slots.new.items }
 {
     if place == 0 {
@@ -286,8 +286,8 @@ fn take_slot<T>(slots: &mut VecDeque<Slot<T>>, place: usize) -> Option<Work<T>>
 fn pop_first<T>(slots: &mut VecDeque<Slot<T>>) -> Option<Work<T>>
     requires { 0 < length slots.old.items }
     ensures value { HoldsAt (λ s. result ≡ work_of s) slots.old.items 0 }
-    ensures others { HoldsAt (λ s. entries_of slots.new.items
-        ≡ entries_of (slice_set slots.old.items 0 (record s { item = None }))) slots.old.items 0 }
+    ensures others { HoldsAt (λ s. slot_entries slots.new.items
+        ≡ slot_entries (slice_set slots.old.items 0 (record s { item = None }))) slots.old.items 0 }
     ensures in_order { AllPairs IsBefore slots.old.items → AllPairs IsBefore slots.new.items }
 {
     match slots.pop_front() {
@@ -322,7 +322,7 @@ fn is_front_empty<T>(slots: &VecDeque<Slot<T>>) -> bool
 // Takes slots without work off the front.
 fn pass_empty<T>(slots: &mut VecDeque<Slot<T>>)
     requires { AllPairs IsBefore slots.old.items }
-    ensures entries { entries_of slots.new.items ≡ entries_of slots.old.items }
+    ensures entries { slot_entries slots.new.items ≡ slot_entries slots.old.items }
     ensures in_order { AllPairs IsBefore slots.new.items }
     ensures filled { is_front_empty slots.new.items ≡ false }
 {
@@ -334,7 +334,7 @@ fn pass_empty<T>(slots: &mut VecDeque<Slot<T>>)
 // Takes the first slot off, which has no work.
 fn pop_empty<T>(slots: &mut VecDeque<Slot<T>>)
     requires { is_front_empty slots.old.items ≡ true }
-    ensures entries { entries_of slots.new.items ≡ entries_of slots.old.items }
+    ensures entries { slot_entries slots.new.items ≡ slot_entries slots.old.items }
     ensures in_order { AllPairs IsBefore slots.old.items → AllPairs IsBefore slots.new.items }
     ensures shorter { length slots.new.items + 1 ≡ length slots.old.items }
 {

@@ -51,7 +51,7 @@ impl<T> Model for Timeline<T> {
 impl<T> Timeline<T> {
     ghost use Rattle.std.specs.Option.{option_map};
     ghost use Rattle.rx_time.specs.Agenda.{PointsAt};
-    ghost use Rattle.rx_time.specs.Schedule.{schedule, next_of, next_due, with_work, item_of, items_of, without, IsNext, IsSound};
+    ghost use Rattle.rx_time.specs.Schedule.{schedule, next_of, next_due, with_work, item_of, scheduled_items, without, IsNext, IsSound};
 
     /// A timeline with no work, at time 0. It allocates nothing.
     pub fn new(alloc: Global) -> Self
@@ -131,7 +131,7 @@ impl<T> Timeline<T> {
         ensures others { self.new ≡ record self.old { work = without ticket self.old.work } }
 
         ensures once { IfSome result
-            (λ item. IsPermutation (items_of self.old.work) (item ∷ items_of self.new.work)) }
+            (λ item. IsPermutation (scheduled_items self.old.work) (item ∷ scheduled_items self.new.work)) }
         ensures fewer { OnSome result (length self.new.work + 1 ≡ length self.old.work) }
         ensures kept { IfNone result (self.new ≡ self.old) }
     {
@@ -158,7 +158,7 @@ impl<T> Timeline<T> {
         // goes back.
         ensures next { IfSome (next_due until self.old.work) (IsNext self.old.work) }
         ensures once { IfSome result
-            (λ came. IsPermutation (items_of self.old.work) (came.1 ∷ items_of self.new.work)) }
+            (λ came. IsPermutation (scheduled_items self.old.work) (came.1 ∷ scheduled_items self.new.work)) }
         ensures fewer { OnSome result (length self.new.work + 1 ≡ length self.old.work) }
         ensures forward { self.old.clock ≤ self.new.clock }
     {
@@ -217,7 +217,7 @@ impl<T> Timeline<T> {
         ensures value { result ≡ lookup (nat_eq number) self.old.work }
         ensures others { self.new ≡ record self.old { work = without number self.old.work } }
         ensures once { IfSome result
-            (λ work. IsPermutation (items_of self.old.work) (work.item ∷ items_of self.new.work)) }
+            (λ work. IsPermutation (scheduled_items self.old.work) (work.item ∷ scheduled_items self.new.work)) }
         ensures fewer { OnSome result (length self.new.work + 1 ≡ length self.old.work) }
         ensures kept { IfNone result (self.new ≡ self.old) }
     {

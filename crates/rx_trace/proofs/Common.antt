@@ -35,7 +35,7 @@ pub use Rattle.rx_script.specs.declared.engine.Engine.{Engine}
 pub use Rattle.rx_script.specs.Course.{Manner, limited, Executes, refused, refused_by_book, accepted, drained, checkpointed}
 pub use Rattle.rx_script.specs.Engine.{IsSound, StaysAt, HandsOutNone, IsHistoryOf, Followed, stage_of}
 pub use Rattle.rx_script.specs.Keys.{node_binding, res_binding, IsHeldKey}
-pub use Rattle.rx_script.specs.Progress.{Progress, begin, Performs, executes, cancels, Advances, Leads, not_begun, advanced, Ends}
+pub use Rattle.rx_script.specs.Progress.{Progress, begin, PerformsStep, executes, cancels, Advances, LeadsBySteps, not_begun, advanced, Ends}
 pub use Rattle.rx_script.specs.Stage.{Ware, Stage, start, ware_of, call_of, after}
 pub use Rattle.rx_script.proofs.Laws.{kept_length, shown_length, stored_untold, take_next, event_within, few_events, all_told, history_agrees, history_lawful}
 pub use Rattle.rx_script.proofs.Laws.{has_res_key-is_held, course_in_order}

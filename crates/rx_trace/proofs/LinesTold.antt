@@ -3,7 +3,7 @@ use Rattle.rx_trace.proofs.Common.{◌≡◌, ◌-◌, ◌∙◌, sym, ◌++◌,
 use Rattle.rx_trace.proofs.Common.{append_assoc, append-nil, length-append, drop_all, drop-append-add, drop-append_seam, take-append_seam, take-append-le, ◌&&◌, not}
 use Rattle.rx_trace.proofs.Common.{codes, filter_map, next_step, agenda_of, AgendaInCode, Answer, Event, notes, shown}
 use Rattle.rx_trace.proofs.Common.{StepInCode, out-Step, Action, action_of, step_of, step_of-parts, Engine, limited}
-use Rattle.rx_trace.proofs.Common.{IsSound, StaysAt, HandsOutNone, IsHistoryOf, Followed, stage_of, Performs, Advances, history_agrees, history_lawful}
+use Rattle.rx_trace.proofs.Common.{IsSound, StaysAt, HandsOutNone, IsHistoryOf, Followed, stage_of, PerformsStep, Advances, history_agrees, history_lawful}
 use Rattle.rx_trace.proofs.Common.{kept_length, shown_length, stored_untold, all_told, node_binding, res_binding}
 use Rattle.rx_trace.proofs.Common.{name_text, member_text, names_where, told_note, resource_told, taken_by, waits_after}
 use Rattle.rx_trace.proofs.Common.{step_told, trace_line, step_text, outcome_text, Traces, nothing_done, one_more}
@@ -155,7 +155,8 @@ module _ {R : Type 0} (old mid new : Engine R) (before now : AgendaInCode) (s : 
     (written : mid.book.base.at_length ≤ place → longer ≡ text ++ (step_text k before.timeline.clock (step_of s).action ++ outcome_text answer place
     ++ told_in_code mid handed' place ++ codes "}\n")) where
   module _ (h : List Event) (w : IsHistoryOf h old.tallies old.book) (known : AreHandedOut handed h) where
-    abbrev to : (j : List Event) × Performs (limited old.book.limit) (record { stage = stage_of old h; agenda = agenda_of before }) (step_of s).action answer
+    abbrev to : (j : List Event)
+        × PerformsStep (limited old.book.limit) (record { stage = stage_of old h; agenda = agenda_of before }) (step_of s).action answer
         (record { stage = stage_of mid j; agenda = f.left }) × IsHistoryOf j mid.tallies mid.book
     to = f.performs h w
 
@@ -179,13 +180,13 @@ module _ {R : Type 0} (old mid new : Engine R) (before now : AgendaInCode) (s : 
         (told_is old mid h to.0 w to.2 sound f.sound all f.given on handed' then)
         ∙ ap (λ t. text ++ trace_line k before.timeline.clock (step_of s).action answer (stage_of old h) t) (sym (stays.stage to.0))
 
-    done : (j : List Event) × Performs (limited old.book.limit) (record { stage = stage_of old h; agenda = agenda_of before }) (step_of s).action answer
+    done : (j : List Event) × PerformsStep (limited old.book.limit) (record { stage = stage_of old h; agenda = agenda_of before }) (step_of s).action answer
         (record { stage = stage_of new j; agenda = f.left })
         × (longer ≡ text ++ trace_line k before.timeline.clock (step_of s).action answer (stage_of old h) (stage_of new j))
         × AreHandedOut handed' j × IsHistoryOf j new.tallies new.book
     done = (
       to.0,
-      subst (λ t. Performs (limited old.book.limit) (record { stage = stage_of old h; agenda = agenda_of before }) (step_of s).action answer
+      subst (λ t. PerformsStep (limited old.book.limit) (record { stage = stage_of old h; agenda = agenda_of before }) (step_of s).action answer
           (record { stage = t; agenda = f.left })) (sym (stays.stage to.0)) to.1,
       line,
       then,
@@ -238,7 +239,8 @@ module _ {R : Type 0} where
       (answers pushed : List Answer) (answer : Answer) (text longer : List ℕ) (same : e.book.limit ≡ limit)
       (comes : next_step until (agenda_of before) ≡ Some (step_of s, agenda_of between))
       (told : TakesTold e between t text (length answers) s answer new now t' longer) (is_pushed : pushed ≡ answers ++ answer ∷ []) where
-    abbrev advances : (h k : List Event) → Performs (limited e.book.limit) (record { stage = stage_of e h; agenda = agenda_of between }) (step_of s).action answer
+    abbrev advances : (h k : List Event)
+        → PerformsStep (limited e.book.limit) (record { stage = stage_of e h; agenda = agenda_of between }) (step_of s).action answer
         (record { stage = stage_of new k; agenda = told.left })
         → Advances (limited limit) until (record { stage = stage_of e h; agenda = agenda_of before }) answer
         (record { stage = stage_of new k; agenda = agenda_of now })
@@ -247,7 +249,7 @@ module _ {R : Type 0} where
       rest = agenda_of between;
       comes = comes;
       done = record { stage = stage_of new k; agenda = told.left };
-      performs = subst (λ n. Performs (limited n) (record { stage = stage_of e h; agenda = agenda_of between }) (step_of s).action answer
+      performs = subst (λ n. PerformsStep (limited n) (record { stage = stage_of e h; agenda = agenda_of between }) (step_of s).action answer
           (record { stage = stage_of new k; agenda = told.left })) same performs;
       stage = refl;
       follows = told.follows;

@@ -2,7 +2,7 @@
 use Rattle.rx_trace.proofs.Common.{◌≡◌, ◌∙◌, sym, ◌++◌, ap, refl, List, [], ℕ, ◌∷◌, ◌⊎◌, inl, inr, length, append_assoc, append-nil, nothing_kept, rules}
 use Rattle.rx_trace.proofs.Common.{none-some, Event, IsForcedOn, stays, more, Call, outside_of, IsStepOf, Taking, Takes, none_taken, next_taken}
 use Rattle.rx_trace.proofs.Common.{Action, Answer, Command, checkpoint, Stage, call_of, after, Executes, limited, refused, refused_by_book, accepted, drained}
-use Rattle.rx_trace.proofs.Common.{checkpointed, Progress, Performs, executes, cancels}
+use Rattle.rx_trace.proofs.Common.{checkpointed, Progress, PerformsStep, executes, cancels}
 
 abbrev Longer : List Event → List Event → Type 0
 Longer h k = (events : List Event) × (k ≡ h ++ events)
@@ -46,7 +46,7 @@ executed_on {s = s} (drained {k = k} drains) =
     let longer = takes_on drains.takes in record { events = longer.0; history = longer.1; checked = inl refl }
 executed_on {s = s} checkpointed = record { events = []; history = sym (append-nil s.history); checked = inr (refl, refl) }
 
-pub performed_on : {limit : ℕ} {p q : Progress} {action : Action} {answer : Answer} → Performs (limited limit) p action answer q
+pub performed_on : {limit : ℕ} {p q : Progress} {action : Action} {answer : Answer} → PerformsStep (limited limit) p action answer q
     → HasGoneOn p.stage q.stage
 performed_on (executes done) = executed_on done
 performed_on {p = p} (cancels done) = stood p.stage

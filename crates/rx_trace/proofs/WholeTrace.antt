@@ -1,6 +1,7 @@
 -- The whole trace of a scenario.
 use Rattle.rx_trace.proofs.Common.{◌≡◌, ◌∙◌, sym, ◌++◌, ap, List, ℕ, subst, map, not, refl, Answer, Script, with_steps, empty_agenda, Manner, limited}
-use Rattle.rx_trace.proofs.Common.{Progress, begin, Leads, not_begun, advanced, Ends, Ware, Stage, start, course_in_order, closing_text, Event, nothing_kept}
+use Rattle.rx_trace.proofs.Common.{Progress, begin, LeadsBySteps, not_begun, advanced, Ends, Ware, Stage, start, course_in_order, closing_text, Event}
+use Rattle.rx_trace.proofs.Common.{nothing_kept}
 use Rattle.rx_trace.proofs.Common.{Traces, nothing_done, one_more, TracesTo, IsTraceOf, IsLawful, HandedOut, AreHandedOut, contains, nat_eq, is_left_in, names_where}
 use Rattle.rx_trace.proofs.Common.{name_text, member_text, codes, append_assoc, Binding, [], length, length-append, arith, notes, Engine, IsHistoryOf, IsSound, HasToldAll}
 use Rattle.rx_trace.proofs.Common.{all_told, moments}
@@ -8,7 +9,7 @@ use Rattle.rx_trace.proofs.TakenOne.{taken_is}
 
 -- without the lines that is what leads there
 leads_of : {m : Manner} {until : ℕ} {first : Progress} {answers : List Answer} {text : List ℕ} {p : Progress}
-    → Traces m until first answers text p → Leads m until first answers p
+    → Traces m until first answers text p → LeadsBySteps m until first answers p
 leads_of nothing_done = not_begun
 leads_of (one_more before a) = advanced (leads_of before) a
 

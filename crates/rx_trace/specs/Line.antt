@@ -5,7 +5,7 @@ use Rattle.rx_agenda.specs.declared.answer.Answer.{Answer}
 use Rattle.rx_agenda.specs.declared.answer.Answer.TheVariants.{Accepted, Refused}
 use Rattle.rx_scenario.specs.Scenario.{Name, Command, using, open_node, hold, apply, remove, lease, give_back, next, end, abort, decline}
 use Rattle.rx_scenario.specs.Scenario.{fail, dispose, make_hub, connect, disconnect, drain, checkpoint, Action, command, cancel}
-use Rattle.rx_script.specs.Text.{cause_name}
+use Rattle.rx_script.specs.Text.{cause_word}
 use Rattle.rx_script.specs.Stage.{Stage}
 use Rattle.rx_line.specs.Pieces.{name_text, member_text}
 use Rattle.rx_trace.specs.Told.{names_where, told_between, told_note, waits_after, is_left_in, taken_between, resource_told}
@@ -77,7 +77,7 @@ step_text k at action = codes "{\"step\":" ++ decimal k ++ codes ",\"at\":" ++ d
 -- its answer: where it is accepted, the place of its first event in the history
 unfoldable pub outcome_text : Answer → (place : ℕ) → List ℕ
 outcome_text Accepted place = codes ",\"ok\":" ++ decimal place
-outcome_text (Refused why) place = named_member (codes "refused") (cause_name why)
+outcome_text (Refused why) place = named_member (codes "refused") (cause_word why)
 
 -- what is told of a step that led from one stage to the other: what observers were told, the names of all resources that wait for their
 -- release then, and the names of those that it handed out

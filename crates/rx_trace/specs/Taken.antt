@@ -11,7 +11,7 @@ use Rattle.rx_book.specs.State.{State}
 use Rattle.rx_agenda.specs.declared.agenda.Agenda.{Agenda as AgendaInCode}
 use Rattle.rx_agenda.specs.declared.answer.Answer.{Answer}
 use Rattle.rx_agenda.specs.Agenda.{Agenda, followed_by}
-use Rattle.rx_agenda.specs.Shown.{agenda_of, size_of, size_left}
+use Rattle.rx_agenda.specs.Shown.{agenda_of, steps_to_come, size_left}
 use Rattle.rx_line.specs.Pieces.{name_text, member_text}
 use Rattle.rx_scenario.specs.declared.scenario.Step.{Step as StepInCode}
 use Rattle.rx_scenario.specs.Scenario.{step_of, list_of}
@@ -19,7 +19,7 @@ use Rattle.rx_script.specs.declared.engine.Engine.{Engine}
 use Rattle.rx_script.specs.Engine.{IsSound, IsHistoryOf, stage_of}
 use Rattle.rx_script.specs.Keys.{node_binding, res_binding}
 use Rattle.rx_script.specs.Course.{limited}
-use Rattle.rx_script.specs.Progress.{Performs}
+use Rattle.rx_script.specs.Progress.{PerformsStep}
 use Rattle.rx_trace.specs.declared.handed.HandedOut.{HandedOut}
 use Rattle.rx_trace.specs.Told.{names_where, told_note, taken_by, resource_told}
 use Rattle.rx_script.specs.Stage.{Stage}
@@ -56,7 +56,7 @@ pub record TakesTold {R : Type 0} (old : Engine R) (before : AgendaInCode) (hand
     (answer : Answer) (new : Engine R) (now : AgendaInCode) (handed' : HandedOut) (longer : List ℕ) : Type 0 where
   pub left : Agenda
   pub performs : (h : List Event) → IsHistoryOf h old.tallies old.book → AreHandedOut handed h
-      → (j : List Event) × Performs (limited old.book.limit) (record { stage = stage_of old h; agenda = agenda_of before }) (step_of step).action answer
+      → (j : List Event) × PerformsStep (limited old.book.limit) (record { stage = stage_of old h; agenda = agenda_of before }) (step_of step).action answer
       (record { stage = stage_of new j; agenda = left })
       × (longer ≡ text ++ trace_line k before.timeline.clock (step_of step).action answer (stage_of old h) (stage_of new j))
       × AreHandedOut handed' j × IsHistoryOf j new.tallies new.book
@@ -64,5 +64,5 @@ pub record TakesTold {R : Type 0} (old : Engine R) (before : AgendaInCode) (hand
   pub sound : IsSound new
   pub told : HasToldAll new
   pub limit : new.book.limit ≡ old.book.limit
-  pub size : size_left now < size_left before + size_of step
+  pub size : size_left now < size_left before + steps_to_come step
   pub clock : now.timeline.clock ≡ before.timeline.clock

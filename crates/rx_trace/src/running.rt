@@ -3,7 +3,7 @@
 ghost use Rattle.std.specs.Prelude.{◌≡◌, ◌≢◌, ◌≤◌, ◌⊎◌, ◌++◌, ℕ, List, false, true, map, string_bytes, IfOk, IfErr, OnOk, IsErrOf};
 ghost use Rattle.std.specs.Io.KnownBytes.{Appends};
 ghost use Rattle.serde_json.specs.Data.{Data};
-ghost use Rattle.rx_device.specs.Device.{device_of, KeepsDevice, has_failed, has_stopped, HasReadFault, HasWriteFault, IsFresh, AppendsPrefix};
+ghost use Rattle.rx_device.specs.Device.{device_of, KeepsDevice, has_failed, has_stopped, HasReadFault, HasWriteFault, IsUnasked, AppendsPrefix};
 ghost use Rattle.rx_device.specs.Input.{IsJsonOf, GivesTooMuch, GivesNoJson};
 ghost use Rattle.rx_device.specs.Part.{part_data};
 ghost use Rattle.rx_scenario.specs.Scenario.{script_of};
@@ -120,8 +120,8 @@ pub fn trace<R: Read, W: Write, S: Resource>(
     writer: &mut Watched<'_, W>,
     stock: Vec<S>,
 ) -> Result<(), ScriptError>
-    requires reader { IsFresh reader.old }
-    requires writer { IsFresh writer.old }
+    requires reader { IsUnasked reader.old }
+    requires writer { IsUnasked writer.old }
 
     ensures ok { OnOk result (IsTraced (map (ware_of S.Resource) stock.items)
         (R.remaining (device_of reader.old)) (R.remaining (device_of reader.new))

@@ -6,7 +6,7 @@
 
 ghost use Rattle.std.specs.Prelude.{◌≡◌, ◌≢◌, false, IfOk, IfErr, IsErrOf};
 ghost use Rattle.rx_device.specs.declared.fault.ScriptError.{ScriptError};
-ghost use Rattle.rx_device.specs.Device.{device_of, HasReadFault, HasWriteFault, IsFresh};
+ghost use Rattle.rx_device.specs.Device.{device_of, HasReadFault, HasWriteFault, IsUnasked};
 ghost use Rattle.rxexplain.specs.Explained.{IsOn, Says, status_of};
 
 use rx_device::{ScriptError, Watched, read_all, write_text};
@@ -21,7 +21,7 @@ fn told_of<R: Read>(
     alloc: Global,
     reader: &mut Watched<'_, R>,
 ) -> Result<Option<String>, ScriptError>
-    requires { IsFresh reader.old }
+    requires { IsUnasked reader.old }
     ensures ok { IfOk result (IsOn (R.remaining (device_of reader.old)) (R.remaining (device_of reader.new))) }
     ensures read { IsErrOf result ScriptError.Read → HasReadFault reader.new }
     ensures never { IfErr result (λ e. (e ≢ ScriptError.Write) × (e ≢ ScriptError.Syntax) × (e ≢ ScriptError.Shape)) }
@@ -46,7 +46,7 @@ fn serve<R: Read, W: Write>(
     reader: &mut Watched<'_, R>,
     writer: &mut Watched<'_, W>,
 ) -> Result<bool, ScriptError>
-    requires { IsFresh reader.old }
+    requires { IsUnasked reader.old }
     ensures ok { IfOk result (λ said. Says said
         (R.remaining (device_of reader.old)) (R.remaining (device_of reader.new))
         (W.contents (device_of writer.old)) (W.contents (device_of writer.new))) }

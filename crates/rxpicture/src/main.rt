@@ -10,7 +10,7 @@ ghost use Rattle.std.specs.Prelude.{◌≡◌, ◌≢◌, ◌⊎◌, None, IfOk,
 ghost use Rattle.std.specs.Io.KnownBytes.{Appends};
 ghost use Rattle.serde_json.specs.View.{view};
 ghost use Rattle.rx_device.specs.declared.fault.ScriptError.{ScriptError};
-ghost use Rattle.rx_device.specs.Device.{device_of, HasReadFault, HasWriteFault, IsFresh, AppendsPrefix};
+ghost use Rattle.rx_device.specs.Device.{device_of, HasReadFault, HasWriteFault, IsUnasked, AppendsPrefix};
 ghost use Rattle.rx_device.specs.Input.{GivesTooMuch, GivesNoJson};
 ghost use Rattle.rx_dump.specs.History.{history_of};
 ghost use Rattle.rx_names.specs.Names.{dump_in};
@@ -46,7 +46,7 @@ fn draw<R: Read, W: Write>(
     reader: &mut Watched<'_, R>,
     writer: &mut Watched<'_, W>,
 ) -> Result<(), ScriptError>
-    requires { IsFresh reader.old }
+    requires { IsUnasked reader.old }
     ensures ok { OnOk result (Draws (R.remaining (device_of reader.old)) (R.remaining (device_of reader.new))
         (Appends (W.contents (device_of writer.old)) (W.contents (device_of writer.new)))) }
     ensures front { IsErrOf result ScriptError.Write

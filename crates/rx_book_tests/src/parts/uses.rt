@@ -1,7 +1,7 @@
 //! Callers, as examples of what can be said of a group.
 ghost use Rattle.std.specs.Prelude.{◌≡◌, ◌≢◌, ◌++◌, ℕ, [], IfOk, OnOk, OnErr};
 ghost use Rattle.std.specs.Mem.{FitsInMemory};
-ghost use Rattle.rx_disposable.specs.Group.{value_at};
+ghost use Rattle.rx_disposable.specs.Group.{value_under};
 ghost use Rattle.rx_disposable.specs.contracts.members.Members.{the_row};
 
 use rx_disposable::{Back, Group};
@@ -10,7 +10,7 @@ use std::alloc::AllocError;
 // Adds a value and takes it out again, which changes no other value.
 pub(crate) fn there_and_back<T: Drop>(group: &mut Group<T>, value: T) -> Result<T, Back<T>>
     ensures ok { IfOk result (λ same. same ≡ value) }
-    ensures others { (ticket : ℕ) → ticket ≢ group.old.given → value_at group.new ticket ≡ value_at group.old ticket }
+    ensures others { (ticket : ℕ) → ticket ≢ group.old.given → value_under group.new ticket ≡ value_under group.old ticket }
     ensures err { OnErr result (group.new ≡ group.old) }
 {
     let ticket = group.add(value)?;

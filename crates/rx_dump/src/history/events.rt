@@ -2,10 +2,10 @@
 
 ghost use Rattle.std.specs.Prelude.{◌≡◌, ◌+◌, ◌^◌, ◌<◌};
 ghost use Rattle.serde_json.specs.View.{view};
-ghost use Rattle.rx_dump.specs.History.{plain_kind, kind_from, place_below, open_below, open_by, open_of, terminal_by};
-ghost use Rattle.rx_dump.specs.History.{end_of, mode_by, hub_of, accept_of, item_of, event_by, event_of};
+ghost use Rattle.rx_dump.specs.History.{plain_kind, kind_from, place_below, open_below, open_by, open_event_of, terminal_by};
+ghost use Rattle.rx_dump.specs.History.{end_event_of, mode_by_word, hub_of, accept_of, item_event_of, event_by_word, event_of};
 
-use super::parts::{has_count, number_at, only_number, value_at, word_at};
+use super::parts::{has_count, number_element, only_number, value_element, word_at};
 use rx_event::{Event, Kind, Mode, Place, Terminal};
 use serde_json::Value;
 
@@ -35,7 +35,7 @@ fn kind_from(event: &Value, place: usize) -> Option<Kind>
         return None;
     }
     match word_at(event, place)? {
-        "sub" => Some(Kind::Sub(number_at(event, place + 1)?)),
+        "sub" => Some(Kind::Sub(number_element(event, place + 1)?)),
         _ => None,
     }
 }
@@ -56,7 +56,7 @@ fn place_below(word: &str, node: u64) -> Option<Place>
 fn open_below(word: &str, event: &Value) -> Option<Event>
     ensures { result ≡ open_below word.now (view event.now) }
 {
-    let node = number_at(event, 2)?;
+    let node = number_element(event, 2)?;
     let place = place_below(word, node)?;
     let kind = kind_from(event, 3)?;
     Some(Event::Open { place, kind })
@@ -78,9 +78,9 @@ fn open_by(word: &str, event: &Value) -> Option<Event>
     }
 }
 
-#[tactic(auto, unfolding(crate::specs::History::open_of))]
-fn open_of(event: &Value) -> Option<Event>
-    ensures { result ≡ open_of (view event.now) }
+#[tactic(auto, unfolding(crate::specs::History::open_event_of))]
+fn open_event_of(event: &Value) -> Option<Event>
+    ensures { result ≡ open_event_of (view event.now) }
 {
     open_by(word_at(event, 1)?, event)
 }
@@ -91,7 +91,7 @@ fn terminal_by(word: &str, event: &Value) -> Option<Terminal>
 {
     match word {
         "completed" if has_count(event, 3) => Some(Terminal::Completed),
-        "error" if has_count(event, 4) => match number_at(event, 3) {
+        "error" if has_count(event, 4) => match number_element(event, 3) {
             Some(code) if code < 4_294_967_296 => Some(Terminal::Error(code as u32)),
             _ => None,
         },
@@ -99,18 +99,18 @@ fn terminal_by(word: &str, event: &Value) -> Option<Terminal>
     }
 }
 
-#[tactic(auto, unfolding(crate::specs::History::end_of))]
-fn end_of(event: &Value) -> Option<Event>
-    ensures { result ≡ end_of (view event.now) }
+#[tactic(auto, unfolding(crate::specs::History::end_event_of))]
+fn end_event_of(event: &Value) -> Option<Event>
+    ensures { result ≡ end_event_of (view event.now) }
 {
-    let node = number_at(event, 1)?;
+    let node = number_element(event, 1)?;
     let terminal = terminal_by(word_at(event, 2)?, event)?;
     Some(Event::End(node, terminal))
 }
 
-#[tactic(auto, unfolding(crate::specs::History::mode_by))]
-fn mode_by(word: &str) -> Option<Mode>
-    ensures { result ≡ mode_by word.now }
+#[tactic(auto, unfolding(crate::specs::History::mode_by_word))]
+fn mode_by_word(word: &str) -> Option<Mode>
+    ensures { result ≡ mode_by_word word.now }
 {
     match word {
         "auto" => Some(Mode::Auto),
@@ -126,7 +126,7 @@ fn hub_of(event: &Value) -> Option<Event>
     if !has_count(event, 2) {
         return None;
     }
-    let mode = mode_by(word_at(event, 1)?)?;
+    let mode = mode_by_word(word_at(event, 1)?)?;
     Some(Event::Hub(mode))
 }
 
@@ -137,29 +137,29 @@ fn accept_of(event: &Value) -> Option<Event>
     if !has_count(event, 3) {
         return None;
     }
-    let node = number_at(event, 1)?;
-    let tag = number_at(event, 2)?;
+    let node = number_element(event, 1)?;
+    let tag = number_element(event, 2)?;
     Some(Event::Accept(node, tag))
 }
 
-#[tactic(auto, unfolding(crate::specs::History::item_of))]
-fn item_of(event: &Value) -> Option<Event>
-    ensures { result ≡ item_of (view event.now) }
+#[tactic(auto, unfolding(crate::specs::History::item_event_of))]
+fn item_event_of(event: &Value) -> Option<Event>
+    ensures { result ≡ item_event_of (view event.now) }
 {
     if !has_count(event, 3) {
         return None;
     }
-    let leaf = number_at(event, 1)?;
-    let value = value_at(event, 2)?;
+    let leaf = number_element(event, 1)?;
+    let value = value_element(event, 2)?;
     Some(Event::Item(leaf, value))
 }
 
-#[tactic(auto, unfolding(crate::specs::History::event_by))]
-fn event_by(word: &str, event: &Value) -> Option<Event>
-    ensures { result ≡ event_by word.now (view event.now) }
+#[tactic(auto, unfolding(crate::specs::History::event_by_word))]
+fn event_by_word(word: &str, event: &Value) -> Option<Event>
+    ensures { result ≡ event_by_word word.now (view event.now) }
 {
     match word {
-        "open" => open_of(event),
+        "open" => open_event_of(event),
         "hub" => hub_of(event),
         "connect" => only_number(event).map(Event::Connect),
         "accept" => accept_of(event),
@@ -167,9 +167,9 @@ fn event_by(word: &str, event: &Value) -> Option<Event>
         "remove" => only_number(event).map(Event::Remove),
         "lease" => only_number(event).map(Event::Lease),
         "return" => only_number(event).map(Event::Return),
-        "item" => item_of(event),
+        "item" => item_event_of(event),
         "decline" => only_number(event).map(Event::Decline),
-        "end" => end_of(event),
+        "end" => end_event_of(event),
         "close" => only_number(event).map(Event::Close),
         "take" => only_number(event).map(Event::Take),
         _ => None,
@@ -181,5 +181,5 @@ fn event_by(word: &str, event: &Value) -> Option<Event>
 pub fn event_of(event: &Value) -> Option<Event>
     ensures { result ≡ event_of (view event.now) }
 {
-    event_by(word_at(event, 0)?, event)
+    event_by_word(word_at(event, 0)?, event)
 }

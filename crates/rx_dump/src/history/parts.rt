@@ -2,7 +2,7 @@
 
 ghost use Rattle.std.specs.Prelude.{◌≡◌, option_map};
 ghost use Rattle.serde_json.specs.View.{view};
-ghost use Rattle.rx_dump.specs.History.{has_count, word_at, number_at, value_at, only_number};
+ghost use Rattle.rx_dump.specs.History.{has_count, word_at, number_element, value_element, only_number};
 
 use serde_json::Value;
 
@@ -26,17 +26,17 @@ pub fn word_at(event: &Value, place: usize) -> Option<&str>
 }
 
 /// The number of a node, a hub, a resource or a lease, or the tag, at a place.
-#[tactic(auto, unfolding(crate::specs::History::number_at))]
-pub fn number_at(event: &Value, place: usize) -> Option<u64>
-    ensures { result ≡ number_at place (view event.now) }
+#[tactic(auto, unfolding(crate::specs::History::number_element))]
+pub fn number_element(event: &Value, place: usize) -> Option<u64>
+    ensures { result ≡ number_element place (view event.now) }
 {
     event.get(place).and_then(Value::as_u64)
 }
 
 /// The item at a place.
-#[tactic(auto, unfolding(crate::specs::History::value_at))]
-pub fn value_at(event: &Value, place: usize) -> Option<i64>
-    ensures { result ≡ value_at place (view event.now) }
+#[tactic(auto, unfolding(crate::specs::History::value_element))]
+pub fn value_element(event: &Value, place: usize) -> Option<i64>
+    ensures { result ≡ value_element place (view event.now) }
 {
     event.get(place).and_then(Value::as_i64)
 }
@@ -49,5 +49,5 @@ pub fn only_number(event: &Value) -> Option<u64>
     if !has_count(event, 2) {
         return None;
     }
-    number_at(event, 1)
+    number_element(event, 1)
 }

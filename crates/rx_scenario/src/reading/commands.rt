@@ -3,8 +3,8 @@
 ghost use Rattle.rx_device.specs.Part.{part_data};
 ghost use Rattle.rx_scenario.specs.Scenario.{command_of as command_meant, action_of as action_meant};
 ghost use Rattle.rx_device.specs.Gives.{Gives};
-ghost use Rattle.rx_scenario.specs.Reading.{using_of, open_of, hold_of, apply_of, remove_of, lease_of, return_of};
-ghost use Rattle.rx_scenario.specs.Reading.{next_of, end_of, abort_of, decline_of, fail_of, dispose_of, hub_of};
+ghost use Rattle.rx_scenario.specs.Reading.{using_command_of, open_command_of, hold_of, apply_of, remove_of, lease_command_of, return_of};
+ghost use Rattle.rx_scenario.specs.Reading.{next_of, end_command_of, abort_of, decline_of, fail_of, dispose_of, hub_of};
 ghost use Rattle.rx_scenario.specs.Reading.{connect_of, disconnect_of, drain_of, checkpoint_of, command_by, cancel_of, action_by, action_in};
 
 use super::members::{
@@ -15,9 +15,9 @@ use crate::scenario::{Action, Command};
 use rx_device::{Part, ShapeError};
 use std::alloc::Global;
 
-#[tactic(auto, unfolding(crate::specs::Reading::using_of))]
-fn using_of(alloc: Global, object: Part<'_, '_>) -> Result<Command, ShapeError>
-    ensures { Gives command_meant result (using_of (part_data object.entry)) }
+#[tactic(auto, unfolding(crate::specs::Reading::using_command_of))]
+fn using_command_of(alloc: Global, object: Part<'_, '_>) -> Result<Command, ShapeError>
+    ensures { Gives command_meant result (using_command_of (part_data object.entry)) }
 {
     if !is_step_of(object, &["name", "place", "of", "res"]) {
         return Err(ShapeError::Shape);
@@ -28,9 +28,9 @@ fn using_of(alloc: Global, object: Part<'_, '_>) -> Result<Command, ShapeError>
     Ok(Command::Using { name, place, res })
 }
 
-#[tactic(auto, unfolding(crate::specs::Reading::open_of))]
-fn open_of(alloc: Global, object: Part<'_, '_>) -> Result<Command, ShapeError>
-    ensures { Gives command_meant result (open_of (part_data object.entry)) }
+#[tactic(auto, unfolding(crate::specs::Reading::open_command_of))]
+fn open_command_of(alloc: Global, object: Part<'_, '_>) -> Result<Command, ShapeError>
+    ensures { Gives command_meant result (open_command_of (part_data object.entry)) }
 {
     if !is_step_of(
         object,
@@ -79,9 +79,9 @@ fn remove_of(alloc: Global, object: Part<'_, '_>) -> Result<Command, ShapeError>
     Ok(Command::Remove { res })
 }
 
-#[tactic(auto, unfolding(crate::specs::Reading::lease_of))]
-fn lease_of(alloc: Global, object: Part<'_, '_>) -> Result<Command, ShapeError>
-    ensures { Gives command_meant result (lease_of (part_data object.entry)) }
+#[tactic(auto, unfolding(crate::specs::Reading::lease_command_of))]
+fn lease_command_of(alloc: Global, object: Part<'_, '_>) -> Result<Command, ShapeError>
+    ensures { Gives command_meant result (lease_command_of (part_data object.entry)) }
 {
     if !is_step_of(object, &["res", "name"]) {
         return Err(ShapeError::Shape);
@@ -114,9 +114,9 @@ fn next_of(alloc: Global, object: Part<'_, '_>) -> Result<Command, ShapeError>
     Ok(Command::Next { node, value })
 }
 
-#[tactic(auto, unfolding(crate::specs::Reading::end_of))]
-fn end_of(alloc: Global, object: Part<'_, '_>) -> Result<Command, ShapeError>
-    ensures { Gives command_meant result (end_of (part_data object.entry)) }
+#[tactic(auto, unfolding(crate::specs::Reading::end_command_of))]
+fn end_command_of(alloc: Global, object: Part<'_, '_>) -> Result<Command, ShapeError>
+    ensures { Gives command_meant result (end_command_of (part_data object.entry)) }
 {
     if !is_step_of(object, &["node", "error"]) {
         return Err(ShapeError::Shape);
@@ -232,15 +232,15 @@ fn command_by(alloc: Global, what: &str, object: Part<'_, '_>) -> Result<Command
     ensures { Gives command_meant result (command_by what.now (part_data object.entry)) }
 {
     match what {
-        "using" => using_of(alloc, object),
-        "open" => open_of(alloc, object),
+        "using" => using_command_of(alloc, object),
+        "open" => open_command_of(alloc, object),
         "hold" => hold_of(alloc, object),
         "apply" => apply_of(alloc, object),
         "remove" => remove_of(alloc, object),
-        "lease" => lease_of(alloc, object),
+        "lease" => lease_command_of(alloc, object),
         "return" => return_of(alloc, object),
         "next" => next_of(alloc, object),
-        "end" => end_of(alloc, object),
+        "end" => end_command_of(alloc, object),
         "abort" => abort_of(alloc, object),
         "decline" => decline_of(alloc, object),
         "fail" => fail_of(alloc, object),

@@ -9,9 +9,9 @@ ghost use Rattle.rx_device.specs.Part.{part_data, members_data};
 ghost use Rattle.rx_scenario.specs.Scenario.{site_of, sort_of};
 ghost use Rattle.rx_device.specs.Gives.{Gives};
 ghost use Rattle.rx_scenario.specs.Reading.{is_one_of, has_only, is_object_of, is_of_steps, has_only_steps, is_step_of, is_name_byte};
-ghost use Rattle.rx_scenario.specs.Reading.{is_name, name_in, optional_name_in, value_in, word_in, code_in, terminal_in, if_name};
+ghost use Rattle.rx_scenario.specs.Reading.{is_name_text, name_in, optional_name_in, value_in, word_in, code_in, terminal_in, if_name};
 ghost use Rattle.rx_scenario.specs.Reading.{root_in, site_below, site_by};
-ghost use Rattle.rx_scenario.specs.Reading.{site_in, plain_by, sub_in, kind_by, kind_in, mode_by, mode_in, events_in, until_in, time_in, delay_in};
+ghost use Rattle.rx_scenario.specs.Reading.{site_in, plain_by, sub_in, sort_by_kind, kind_in, mode_by, mode_in, events_in, until_in, time_in, delay_in};
 
 use crate::scenario::{Site, Sort, Ticks};
 use json::Value;
@@ -91,9 +91,9 @@ fn are_name_bytes(bytes: &[u8]) -> bool
 }
 
 /// Whether a text is a name: 1 to 32 ASCII letters, digits, dashes and underscores.
-#[tactic(auto, unfolding(crate::specs::Reading::is_name))]
+#[tactic(auto, unfolding(crate::specs::Reading::is_name_text))]
 pub fn is_name(text: &str) -> bool
-    ensures { result ≡ is_name text.now }
+    ensures { result ≡ is_name_text text.now }
 {
     let bytes = text.as_bytes();
     1 <= bytes.len() && bytes.len() <= 32 && are_name_bytes(bytes)
@@ -254,9 +254,9 @@ fn sub_in(alloc: Global, object: Part<'_, '_>) -> Result<Sort, ShapeError>
     Ok(Sort::Sub { hub, connection })
 }
 
-#[tactic(auto, unfolding(crate::specs::Reading::kind_by))]
-fn kind_by(alloc: Global, kind: &str, object: Part<'_, '_>) -> Result<Sort, ShapeError>
-    ensures { Gives sort_of result (kind_by kind.now (part_data object.entry)) }
+#[tactic(auto, unfolding(crate::specs::Reading::sort_by_kind))]
+fn sort_by_kind(alloc: Global, kind: &str, object: Part<'_, '_>) -> Result<Sort, ShapeError>
+    ensures { Gives sort_of result (sort_by_kind kind.now (part_data object.entry)) }
 {
     if kind == "sub" {
         return sub_in(alloc, object);
@@ -276,7 +276,7 @@ pub fn kind_in(alloc: Global, object: Part<'_, '_>) -> Result<Sort, ShapeError>
     let Some(kind) = object.get("kind").and_then(Part::as_str) else {
         return Err(ShapeError::Shape);
     };
-    kind_by(alloc, kind, object)
+    sort_by_kind(alloc, kind, object)
 }
 
 #[tactic(auto, unfolding(crate::specs::Reading::mode_by))]

@@ -5,7 +5,7 @@ use Rattle.rx_script.proofs.Common.{is_shut, is_open, is_owned, is_out, leases_o
 use Rattle.rx_script.proofs.Common.{is_fired, moments, most_nodes, child_terminal, source_completed, open_children, debt, OpeningUsing, Applying, IsStepOf}
 use Rattle.rx_script.proofs.Common.{source_end, first_forced, IsLawful_nothing, settled_empty, Answer, Accepted, Refused, Book, Agenda, followed_by, next_step}
 use Rattle.rx_script.proofs.Common.{bound, Name, root, Command, using, apply, checkpoint, Step, Script, Ware, Stage, limited, Executes, refused_by_book}
-use Rattle.rx_script.proofs.Common.{accepted, checkpointed, Course, IsCourseOf, Progress, begin, executes, Leads, not_begun, advanced, start}
+use Rattle.rx_script.proofs.Common.{accepted, checkpointed, Course, IsCourseOf, Progress, begin, executes, LeadsBySteps, not_begun, advanced, start}
 use Rattle.rx_script.proofs.CoursesInOrder.{course_in_order}
 use Rattle.rx_script.proofs.Examples.StepsThatForceNothing.{doing, turn_of, plain_step}
 
@@ -61,7 +61,7 @@ at h checked = record (start []) {
 }
 
 abbrev Led : List Answer → Progress → Type 0
-Led answers p = Leads (limited 6) 0 (begin stock steps) answers p
+Led answers p = LeadsBySteps (limited 6) 0 (begin stock steps) answers p
 
 -- one more step, which none follows
 led_on : {answers : List Answer} {p : Progress} (c : Command) (rest : Agenda) (answer : Answer) (last : Stage) → next_step 0 p.agenda ≡ Some (doing c, rest)

@@ -6,7 +6,7 @@ use Rattle.rx_script.proofs.Common.{Leaf, Sub, Until, Auto, Event, Open, Hub, Co
 use Rattle.rx_script.proofs.Common.{ancestors, is_shut, is_open, most_visits, visits, climb, stops, projections, owed, is_fired, moments, most_nodes, most_hubs}
 use Rattle.rx_script.proofs.Common.{child_terminal, source_completed, open_children, Opening, Emitting, Ending, Publishing, source_end, first_forced}
 use Rattle.rx_script.proofs.Common.{IsFirstStep, nothing_yet, first_next, Accepted, bound, Name, root, source, notifier, leaf, until, sub, Command, make_hub}
-use Rattle.rx_script.proofs.Common.{open_node, next, end, Step, Script, Stage, in_one_order, Course, IsCanonicalCourseOf, refused_line, node_line, note_text}
+use Rattle.rx_script.proofs.Common.{open_node, next, end, Step, Script, Stage, in_one_order, Course, IsCanonicalCourseOf, refused_line, node_line, note_in_line}
 use Rattle.rx_script.proofs.Common.{totals_line, closed_line, report, unclosed_report, start}
 use Rattle.rx_script.proofs.CoursesInOrder.{course_in_order}
 use Rattle.rx_script.proofs.Examples.StepsThatForceNothing.{doing, turn_of}
@@ -153,11 +153,11 @@ end_course events =
 -- and this is its report
 pub item_report : report (course fired) 0
     ≡ codes "node u closed: next=9 completed\ntotals nodes=5 open=0 accepted=0 held=0 waiting=0 taken=0\nclosed 0 faults 0\n"
-unfolding report unclosed_report refused_line node_line note_text totals_line closed_line notes shown digits is_owned is_held is_waiting is_open is_shut
+unfolding report unclosed_report refused_line node_line note_in_line totals_line closed_line notes shown digits is_owned is_held is_waiting is_open is_shut
     ancestors parent stops climb most_visits moments projections owed
 item_report = refl
 
 pub end_report : report (course ended) 0 ≡ codes "node u closed: completed\ntotals nodes=5 open=0 accepted=0 held=0 waiting=0 taken=0\nclosed 0 faults 0\n"
-unfolding report unclosed_report refused_line node_line note_text totals_line closed_line notes shown digits is_owned is_held is_waiting is_open is_shut
+unfolding report unclosed_report refused_line node_line note_in_line totals_line closed_line notes shown digits is_owned is_held is_waiting is_open is_shut
     ancestors parent stops climb most_visits moments projections owed
 end_report = refl

@@ -2,7 +2,7 @@
 use Rattle.rx_script.proofs.Common.{◌≡◌, ℕ, ◌+◌, ◌≤◌, Bool, List, [], ◌∷◌, ◌++◌, Some, None, refl, ◌∙◌, arith, nothing_kept, Event, IsSettled, forced, IsLawful}
 use Rattle.rx_script.proofs.Common.{IsForcedOn, stays, more, Call, outside_of, IsStepOf, first_cause, first_forced, IsLawful-push, causes, unlimited, IsReady}
 use Rattle.rx_script.proofs.Common.{Answer, Accepted, Agenda, next_step, Command, command, no_steps, Step, Ware, own_cause, call_of, front_is_fresh, after}
-use Rattle.rx_script.proofs.Common.{limited, in_one_order, cause_in, accepted, Progress, begin, executes, Leads, advanced}
+use Rattle.rx_script.proofs.Common.{limited, in_one_order, cause_in, accepted, Progress, begin, executes, LeadsBySteps, advanced}
 use Rattle.rx_event.proofs.Laws.InOrder.{settled_by_order}
 use Rattle.rx_script.proofs.StepsInOneOrder.{roomy, roomy_first, outside_lawful}
 use Rattle.std.proofs.Common.{rules}
@@ -34,7 +34,7 @@ plain_step h fresh call law settled ready none over = step_to fresh call law set
 -- with so much room, and with more, the steps so far lead here
 pub record Led (stock : List Ware) (steps : List Step) (answers : List Answer) (p : Progress) : Type 0 where
   pub least : ℕ
-  pub leads : (limit : ℕ) → least ≤ limit → Leads (limited limit) 0 (begin stock steps) answers p
+  pub leads : (limit : ℕ) → least ≤ limit → LeadsBySteps (limited limit) 0 (begin stock steps) answers p
 
 pub led_on : {stock : List Ware} {steps : List Step} {answers : List Answer} {p : Progress} (c : Command) (rest : Agenda) {call : Call} {k : List Event}
     → next_step 0 p.agenda ≡ Some (doing c, rest) → own_cause p.stage c ≡ None → call_of p.stage c ≡ Some call → cause_in in_one_order p.stage call ≡ None

@@ -6,7 +6,7 @@ use Rattle.rx_script.proofs.Common.{most_visits, visits, climb, stops, projectio
 use Rattle.rx_script.proofs.Common.{source_completed, open_children, Opening, Emitting, Disposing, Publishing, source_end, first_forced, IsFirstStep}
 use Rattle.rx_script.proofs.Common.{nothing_yet, first_next, Accepted, Refused, Book, bound, root, source, leaf, sub, Command, make_hub, open_node, next}
 use Rattle.rx_script.proofs.Common.{dispose, command, no_steps, Step, steps_of, Script, Stage, in_one_order, Course, IsCanonicalCourseOf, refused_line}
-use Rattle.rx_script.proofs.Common.{node_line, note_text, totals_line, closed_line, report, unclosed_report, start}
+use Rattle.rx_script.proofs.Common.{node_line, note_in_line, totals_line, closed_line, report, unclosed_report, start}
 use Rattle.std.specs.Prelude.{negsuc}
 use Rattle.rx_script.proofs.CoursesInOrder.{course_in_order}
 use Rattle.rx_script.proofs.Examples.InOneOrder.{ordered_to, stands_after, first_of_all, ordered_on, refused_on}
@@ -85,6 +85,6 @@ time_course events =
 
 pub time_report : report course 0
     ≡ codes "refused 5 Gone\nnode s closed: next=-1\ntotals nodes=3 open=0 accepted=0 held=0 waiting=0 taken=0\nclosed 0 faults 0\n"
-unfolding report unclosed_report refused_line node_line note_text totals_line closed_line notes shown digits is_owned is_held is_waiting is_open is_shut
+unfolding report unclosed_report refused_line node_line note_in_line totals_line closed_line notes shown digits is_owned is_held is_waiting is_open is_shut
     ancestors parent stops climb most_visits moments projections owed
 time_report = refl

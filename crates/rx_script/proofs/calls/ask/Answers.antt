@@ -1,4 +1,4 @@
-use Rattle.rx_script.proofs.Common.{◌≡◌, false, sym, subst, ◌∙◌, Accepted, Carries}
+use Rattle.rx_script.proofs.Common.{◌≡◌, false, sym, subst, ◌∙◌, Accepted, CarriesStep}
 use Rattle.rx_scenario.specs.Scenario.{command_of}
 use Rattle.rx_script.specs.KeyedCalls.{rebinds}
 use Rattle.rx_script.proofs.EngineCarriesOut.{answered}
@@ -17,7 +17,7 @@ pub returns-in_ok-bind-in-Ok : goal.returns-in_ok-bind-in-Ok
 returns-in_ok-bind-in-Ok g c =
     let e = c.args.engine.now in
     let free : rebinds e.nodes e.hubs e.leases (command_of c.args.command) ≡ false = cc in
-    subst (λ n. Carries e (command_of c.args.command) Accepted n) (sym c.in_ok-bind-in-Ok.ensures)
+    subst (λ n. CarriesStep e (command_of c.args.command) Accepted n) (sym c.in_ok-bind-in-Ok.ensures)
     (call_accepted e c.requires.sound c.promise.ensures c.args.command c.requires.asked c.in-Some.call (sym c.keyed_call.ensures ∙ c.in-Some.is) free
     c.in-Ok.given c.in-Ok.ensures.accepted c.in-Ok.ensures.ok)
 

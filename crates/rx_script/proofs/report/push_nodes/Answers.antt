@@ -1,4 +1,4 @@
-use Rattle.rx_script.proofs.Common.{◌≡◌, ◌++◌, ◌∙◌, sym, ap, subst, true, false, string_bytes, at, is_open, notes_to, is_told, node_shown, node_binding}
+use Rattle.rx_script.proofs.Common.{◌≡◌, ◌++◌, ◌∙◌, sym, ap, subst, true, false, string_bytes, at, is_open, notes_to, is_told, line_of_node, node_binding}
 use Rattle.rx_script.proofs.Common.{IsNodeKey}
 use Rattle.rx_script.proofs.TalliesOfWholeHistory.{open_here}
 use Rattle.rx_script.proofs.LinesMade.{node_line_told, node_line_untold, node_line_shown}
@@ -20,7 +20,7 @@ loop-named-preserved g c = λ h whole.
           w.is_open.ensures ∙ open_here h c.args.tallies.now book whole item.key c.requires.kept known in
           let told_of : w.notes_to.result.now ≡ notes_to h item.key.number = w.notes_to.ensures ∙ whole.tallies.notes item.key.number in
           let line = node_line_shown h item w.as_str.result.now w.is_open.result w.notes_to.result.now w.as_str.ensures.value open_now told_of in
-          let here : string_bytes c.if-is_told.text ≡ string_bytes c.loop-named.text ++ node_shown h (node_binding item) =
+          let here : string_bytes c.if-is_told.text ≡ string_bytes c.loop-named.text ++ line_of_node h (node_binding item) =
           ap string_bytes w.text-is ∙ w.in_ok-push_node.ensures ∙ ap (λ l. string_bytes c.loop-named.text ++ l) line in
           node_line_told node_binding c.args.nodes.now c.loop-named.named-index item c.loop-named-test.true c.named-item.is h
           (string_bytes c.args.text.now) (string_bytes c.loop-named.text) (string_bytes c.if-is_told.text) so_far told here

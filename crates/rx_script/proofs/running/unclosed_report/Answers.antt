@@ -11,4 +11,4 @@ returns-clause-ok g c = λ h w.
     (c.in_ok-push_all_refused.ensures ∙ ap (λ l. l ++ refused_lines c.args.answers.now) c.new-text.ensures.bytes)
     (c.in_ok-push_nodes.ensures h whole ∙ ap (λ ns. string_bytes c.push_all_refused.new.text ++ node_lines h (map node_binding ns)) c.in_order.ensures)
     (c.in_ok-push_resources.ensures h whole ∙ ap (λ ns. string_bytes c.push_nodes.new.text ++ res_lines h (map res_binding ns)) c.in_order-2.ensures)
-    (c.in_ok-push_totals.ensures ∙ ap (λ t. string_bytes c.push_resources.new.text ++ totals_line t) (c.totals_of.ensures h whole))
+    (c.in_ok-push_totals.ensures ∙ ap (λ t. string_bytes c.push_resources.new.text ++ totals_line t) (c.totals_reported.ensures h whole))

@@ -1,5 +1,5 @@
 use Rattle.std.proofs.Common.{refl, arith}
-use Rattle.rx_disposable.proofs.Places.{kept_added, entries_added, length-entries_of}
+use Rattle.rx_disposable.proofs.Places.{kept_added, entries_added, length-member_entries}
 use Rattle.rx_disposable.proofs.Tickets.{lookup_next, updates_added}
 use Rattle.rx_disposable.proofs.group.Group.add.Goals as goal
 
@@ -15,7 +15,7 @@ returns-in-Ok-clause-added g c =
 pub returns-in-Err-clause-succeeds_inline : goal.returns-in-Err-clause-succeeds_inline
 returns-in-Err-clause-succeeds_inline g c usable left short =
     let few = rw (← c.self.view_is) at short in
-    rw c.refuse-in-Err.ensures (c.in-Err.ensures.succeeds (omega (arith, few, c.self.invariant.inline, length-entries_of _ c.self.invariant.filled)))
+    rw c.refuse-in-Err.ensures (c.in-Err.ensures.succeeds (omega (arith, few, c.self.invariant.inline, length-member_entries _ c.self.invariant.filled)))
 
 pub returns-in-Ok-clause-fresh : goal.returns-in-Ok-clause-fresh
 returns-in-Ok-clause-fresh g c =

@@ -1,7 +1,7 @@
 use Rattle.std.proofs.Common.{refl, sym, ◌∙◌}
 use borrow.Follows.Closed.{read_of}
 use Rattle.std.specs.Option.{ghost_name_of}
-use Rattle.rx_disposable.specs.Members.{entries_of}
+use Rattle.rx_disposable.specs.Members.{member_entries}
 use Rattle.rx_disposable.proofs.Places.{kept_in_order, kept_absent, kept_value, kept_set, entries_set, set_same}
 use Rattle.rx_disposable.proofs.group.Group.get_mut.Goals as goal
 
@@ -37,7 +37,7 @@ returns g c =
     rw (← c.self.view_is) (
       λ t. read_of (ghost_name_of c.as_mut.result)
           (λ (w : g.row.T.Denot). record { members = written w t; given = c.self.inside.given; disposed = c.self.inside.disposed })
-          (record { members = entries_of (same t); given = c.self.inside.given; disposed = c.self.inside.disposed }),
+          (record { members = member_entries (same t); given = c.self.inside.given; disposed = c.self.inside.disposed }),
       record {
         writes_back = tt;
         value = c.as_mut.ensures.value

@@ -1,6 +1,6 @@
 use Rattle.rx_script.proofs.Common.{◌∙◌, sym}
 use Rattle.rx_script.proofs.TalliesOfWholeHistory.{open_total, held_total, waiting_total}
-use Rattle.rx_script.proofs.report.totals_of.Goals as goal
+use Rattle.rx_script.proofs.report.totals_reported.Goals as goal
 
 pub returns : goal.returns
 returns g c = λ h whole i. record {
