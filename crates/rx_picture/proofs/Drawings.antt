@@ -1,29 +1,31 @@
 -- The drawing, by the marks of what is shown.
 use Rattle.rx_picture.proofs.Common.{◌≡◌, ℕ, Bool, true, List, length, filter, replicate, ap, ◌∙◌, nat_lt, Event, at, places, Drawing, count_below, marked}
-use Rattle.rx_picture.proofs.Common.{AreMarks, AreLevels, AreRows, is_drawn, leaks, is_left, marbles, is_shown, is_placed, is_rowed, is_rowed_by, AreColumns}
+use Rattle.rx_picture.proofs.Common.{AreMarksByTest, AreLevels, AreRowsShown, is_drawn, leaks, is_left_behind, marbles, is_shown, is_placed, is_rowed}
+use Rattle.rx_picture.proofs.Common.{is_rowed_by, AreColumns}
 use Rattle.rx_picture.proofs.Common.{IsDrawing}
 use Rattle.rx_picture.specs.Told.{ArePoints}
 use Rattle.rx_picture.proofs.FewAreChosen.{few_chosen}
 use Rattle.rx_picture.proofs.MarksStandForTests.{count_same, marks_all, rows_same, rowed_same, columns_same, shown_anywhere, placed_anywhere}
 use Rattle.std.proofs.Common.{rules}
 
-pub marks_every : (size : ℕ) (every : List Bool) → every ≡ replicate size true → AreMarks every size (λ n. nat_lt n size)
+pub marks_every : (size : ℕ) (every : List Bool) → every ≡ replicate size true → AreMarksByTest every size (λ n. nat_lt n size)
 marks_every size every is = rw is (marks_all size)
 
-points_same : (h : List Event) (d : Drawing) (placed : List Bool) → AreMarks placed (length h) (is_placed h) → ArePoints h (marked placed) d.points.items →
+points_same : (h : List Event) (d : Drawing) (placed : List Bool) → AreMarksByTest placed (length h) (is_placed h)
+    → ArePoints h (marked placed) d.points.items →
     ArePoints h (is_placed h) d.points.items
 points_same h d placed tied told = search (rules, filter, placed_anywhere)
 
 -- lists that mark what is drawn, shown, placed and rowed of a history
 pub record AreMarked (h : List Event) (drawn shown placed rowed : List Bool) : Type 0 where
-  pub of_drawn : AreMarks drawn (length h) (at is_drawn h)
-  pub of_shown : AreMarks shown (length h) (is_shown h)
-  pub of_placed : AreMarks placed (length h) (is_placed h)
-  pub of_rowed : AreMarks rowed (length h) (is_rowed_by (marked shown) h)
+  pub of_drawn : AreMarksByTest drawn (length h) (at is_drawn h)
+  pub of_shown : AreMarksByTest shown (length h) (is_shown h)
+  pub of_placed : AreMarksByTest placed (length h) (is_placed h)
+  pub of_rowed : AreMarksByTest rowed (length h) (is_rowed_by (marked shown) h)
 
 -- the drawing has what such lists mark
 pub record IsDrawnByMarks (h : List Event) (drawn shown placed rowed : List Bool) (d : Drawing) : Type 0 where
-  pub rows : AreRows h (marked rowed) d.rows.items
+  pub rows : AreRowsShown h (marked rowed) d.rows.items
   pub all : d.all ≡ count_below (marked drawn) (length drawn)
   pub leaking : d.leaks.items ≡ filter (leaks h) (places h)
   pub marbles : d.marbles.items ≡ marbles (marked shown) (marked placed) h
@@ -45,6 +47,6 @@ drawing_is {h} {d} {drawn} {shown} {placed} {rowed} marks by = record {
   lanes = columns_same shown (length h) (is_shown h) d.lanes.items marks.of_shown by.lanes;
   columns = columns_same placed (length h) (is_placed h) d.columns.items marks.of_placed by.columns;
   levels = by.levels;
-  few_lanes = few_chosen (is_left h) (at is_drawn h) 200 (length h);
+  few_lanes = few_chosen (is_left_behind h) (at is_drawn h) 200 (length h);
   few_places = few_chosen (is_shown h) (λ n. nat_lt n (length h)) 2000 (length h);
 }

@@ -1,7 +1,7 @@
 -- Marks of the numbers so far, and how many are chosen.
 use Rattle.rx_picture.proofs.Common.{◌≡◌, ℕ, zero, suc, ◌+◌, ◌-◌, ◌<◌, ◌≤◌, min, Bool, cond, List, [], ◌∷◌, ◌++◌, length, refl, arith}
 use Rattle.rx_picture.proofs.Common.{nat_lt, not, ◌&&◌, cases_lt, lt-ltb, le-ltb, length_push, bit, count_below, leads, follows, is_chosen}
-use Rattle.rx_picture.proofs.Common.{marked, AreMarks}
+use Rattle.rx_picture.proofs.Common.{marked, AreMarksByTest}
 use Rattle.rx_picture.proofs.Ranges.{count_next}
 use Rattle.std.proofs.Common.{rules}
 
@@ -17,7 +17,7 @@ mark_new [] y = refl
 mark_new (x ∷ xs) y = mark_new xs y
 
 pub marks_more : (marks : List Bool) (n : ℕ) (test : ℕ → Bool) (mark : Bool)
-    → AreMarks marks n test → mark ≡ test n → AreMarks (marks ++ mark ∷ []) (n + 1) test
+    → AreMarksByTest marks n test → mark ≡ test n → AreMarksByTest (marks ++ mark ∷ []) (n + 1) test
 marks_more marks n test mark tied is = search (rules, length_push, ℕ, cases_lt, mark_old, length, mark_new)
 
 -- room --------------------------------------------------------------------------------------------

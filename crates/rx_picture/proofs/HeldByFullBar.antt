@@ -3,7 +3,7 @@ use Rattle.rx_picture.proofs.Common.{◌≡◌, ℕ, zero, suc, ◌+◌, ◌<◌
 use Rattle.rx_picture.proofs.Common.{◌∙◌, arith, ◌⊎◌, ◌==◌, nat_lt, slice_get, not, ◌&&◌, ◌||◌, AllByRecursion, list_any, range_with_len}
 use Rattle.rx_picture.proofs.Common.{option_map_or, false≢true, and_parts, and_from, or_left, or_right, eqb-true, eq-eqb, ltb-true, length-take-le, none-some}
 use Rattle.rx_picture.proofs.Common.{same_Some, Event, Accept, Lease, makes_node, makes_hub, makes_resource, at, places, is_owned, is_out, is_held, at_within}
-use Rattle.rx_picture.proofs.Common.{Row, Shape, Node, Resource, Loan, Drawing, AreRows, IsRow, IsShape, has_row, is_shown, is_rowed, IsDrawing}
+use Rattle.rx_picture.proofs.Common.{Row, Shape, Node, Resource, Loan, Drawing, AreRowsShown, IsRowMade, IsShape, has_row, is_shown, is_rowed, IsDrawing}
 use Rattle.rx_picture.proofs.Common.{false_from_ne_true}
 use Rattle.std.proofs.Common.{subst, rules}
 use Rattle.std.proofs.lemmas.Bool.{cases_order, true_from_ne_false}
@@ -32,7 +32,7 @@ any_map : (n : ℕ) (rows : List Row) → list_any (λ m. n == m) (map (λ row. 
 any_map n [] = refl
 any_map n (row ∷ rows) = ap (λ (b : Bool). (n == row.number) || b) (any_map n rows)
 
-row_there : (h : List Event) (shown : ℕ → Bool) (rows : List Row) → AreRows h shown rows → (n : ℕ) → n < length h → (at has_row h n && shown n) ≡ true →
+row_there : (h : List Event) (shown : ℕ → Bool) (rows : List Row) → AreRowsShown h shown rows → (n : ℕ) → n < length h → (at has_row h n && shown n) ≡ true →
     (i : ℕ) × (row : Row) × (slice_get rows i ≡ Some row) × ((n == row.number) ≡ true)
 row_there h shown rows are n within has = list_any_found (λ row. n == row.number) rows
     (sym (any_map n rows) ∙ ap (list_any (λ m. n == m)) are.numbers
@@ -72,7 +72,7 @@ module _ (h : List Event) (d : Drawing) (is : IsDrawing h d) (r : ℕ) (made : a
   barred_by n within has holds =
       let found = row_there h (is_rowed h) d.rows.items is.rows n within has in
       let same : n ≡ found.1.number = eqb-true n found.1.number found.3 in
-      let row = all_at (IsRow h) d.rows.items found.0 found.1 is.rows.each found.2 in
+      let row = all_at (IsRowMade h) d.rows.items found.0 found.1 is.rows.each found.2 in
       list_any_holds (bars_row r k) d.rows.items found.0 found.1 found.2
       (ap (λ (j : ℕ). bars r k j found.1.shape) (sym same) ∙ holds found.1.shape (subst (λ (j : ℕ). IsShape h j found.1.shape) (sym same) row.shape))
 

@@ -2,7 +2,7 @@
 use Rattle.rx_picture.proofs.Common.{◌≡◌, ℕ, ◌≤◌, Bool, true, false, List, [], ◌∷◌, length, Option, sym, ap, ◌∙◌, arith}
 use Rattle.rx_picture.proofs.Common.{◌==◌, nat_lt, slice_get, not, ◌&&◌, ◌||◌, take-length, AllByRecursion, list_any, option_map_or, cases_lt, lt-ltb, le-ltb}
 use Rattle.rx_picture.proofs.Common.{false≢true, eq-eqb, Event, Accept, Lease, makes_node, makes_hub, makes_resource, makes_lease, is_return_of, at, is_out}
-use Rattle.rx_picture.proofs.Common.{is_taken, at_within, Row, Shape, Node, Hub, Resource, Loan, IsRow, IsShape, leaks, or_false, ne_eqb}
+use Rattle.rx_picture.proofs.Common.{is_taken, at_within, Row, Shape, Node, Hub, Resource, Loan, IsRowMade, IsShape, leaks, or_false, ne_eqb}
 use Rattle.rx_event.specs.Resources.{is_waiting}
 use Rattle.rx_event.proofs.Laws.Resources.{held_resource, held_not_taken}
 use Rattle.rx_picture.specs.Leaks.{is_leaking, is_leaking_row, LeaksAreDrawn, LeaksAreLeft}
@@ -56,7 +56,7 @@ module _ (h : List Event) (n : ℕ) where
       ∙ ap (λ (x : Bool). x && not (nat_lt until (length h))) (lt-ltb n (length h) (at_within makes_lease h n made))
       ∙ not_before until (length h) loan.within)
 
-each_row : (h : List Event) (rows : List Row) → AllByRecursion (IsRow h) rows
+each_row : (h : List Event) (rows : List Row) → AllByRecursion (IsRowMade h) rows
     → AllByRecursion (λ row. is_leaking_row (length h) row ≡ (leaks h row.number || is_out h row.number)) rows
 each_row h [] each = tt
 each_row h (row ∷ rows) each = (lasting h row.number row.shape each.0.shape, each_row h rows each.1)

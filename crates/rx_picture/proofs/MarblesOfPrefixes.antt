@@ -1,7 +1,7 @@
 -- The notes of a prefix, so far as they are shown, and what one more event tells.
 use Rattle.rx_picture.proofs.Common.{◌≡◌, ℕ, suc, ◌+◌, ◌<◌, ◌≤◌, Bool, true, false, cond, List, [], ◌∷◌, ◌++◌, length, take, filter, Option, Some, None}
 use Rattle.rx_picture.proofs.Common.{refl, sym, ap, ◌∙◌, arith, slice_get, append-nil, ◌&&◌, take-length, AllByRecursion, flat_map, option_and_then}
-use Rattle.rx_picture.proofs.Common.{option_map_or, length-take-le, filter-append, Event, End, at, climb, marbles, told_at, and_true, and_false, event_at}
+use Rattle.rx_picture.proofs.Common.{option_map_or, length-take-le, filter-append, Event, End, at, climb, marbles, told_in_lane, and_true, and_false, event_at}
 use Rattle.std.proofs.Common.{ℤ, rules, take_all}
 use Rattle.std.specs.List.{filter_map, cons_option}
 use Rattle.std.specs.Option.{option_to_list}
@@ -33,11 +33,11 @@ module _ (lane : ℕ → Bool) (past : List Event) (value : ℤ) where
 
   -- what the stops tell, visit by visit
   told_visits : (ns : List ℕ) → filter (λ m. lane m.to) (filter_map (told (length past) value) (filter_map (stop_at past) ns))
-      ≡ flat_map (told_at lane past value) ns
+      ≡ flat_map (told_in_lane lane past value) ns
   told_visits [] = refl
   told_visits (n ∷ ns) = search (rules, told_stop, flat_map, told_visits ns)
 
-  pub item_told : (leaf : ℕ) → flat_map (told_at lane past value) (climb past leaf) ≡ filter (λ m. lane m.to) (mail_of past (Item leaf value))
+  pub item_told : (leaf : ℕ) → flat_map (told_in_lane lane past value) (climb past leaf) ≡ filter (λ m. lane m.to) (mail_of past (Item leaf value))
   unfolding stops
   item_told leaf = sym (told_visits (climb past leaf))
 

@@ -3,7 +3,7 @@ use Rattle.rx_picture.proofs.Common.{◌≡◌, ℕ, zero, suc, ◌+◌, ◌<◌
 use Rattle.rx_picture.proofs.Common.{None, refl, sym, ap, ◌∙◌, arith, ◌==◌, nat_lt, slice_get, ◌&&◌, ◌||◌, list_any, option_and_then}
 use Rattle.rx_picture.proofs.Common.{option_map_or, cases_Bool, cases_lt, cases_eq, lt-ltb, le-ltb, ltb-true, eq-eqb, ne_eqb, eqb-true, and_left, and_from}
 use Rattle.rx_picture.proofs.Common.{and_parts, both_ways, false≢true, none-some, same_Some, get_or-set_same, get_or-set_other, length-set, length-replicate}
-use Rattle.rx_picture.proofs.Common.{Event, End, at, is_shut, is_key, AreTurns, AreInners, noted, was_shut, event_at, false_from_ne_true}
+use Rattle.rx_picture.proofs.Common.{Event, End, at, is_shut, has_number, AreTurns, AreInners, noted, was_shut, event_at, false_from_ne_true}
 use Rattle.std.proofs.lemmas.Bool.{and_right, or_from, or_parts}
 use Rattle.std.proofs.lemmas.Option.{cond_some, option_and_then_some, slice_get_within}
 use Rattle.std.proofs.lemmas.List.{drop_all}
@@ -15,17 +15,17 @@ use Rattle.rx_picture.proofs.Prefixes.{same_tests, take_next, in_prefix, past_pr
 use Rattle.rx_picture.proofs.WhereTestsTurnTrue.{turns_step}
 use Rattle.std.proofs.Common.{rules, ⊎_elim}
 
-is_key_of : (o : Option ℕ) (n : ℕ) → is_key o n ≡ true → o ≡ Some n
+is_key_of : (o : Option ℕ) (n : ℕ) → has_number o n ≡ true → o ≡ Some n
 is_key_of x0 n e = search (rules, false≢true, Some, eqb-true)
 
 -- inners of a Switch ------------------------------------------------------------------------------
 
 switch_shape : (h : List Event) (f n : ℕ) (o : Option Event) →
-    ((nat_lt f n && at is_switch h f) && option_map_or (is_inner_of f) o false) ≡ is_key (option_and_then (if_switch h n) (option_and_then inner_named o)) f
+    ((nat_lt f n && at is_switch h f) && option_map_or (is_inner_of f) o false) ≡ has_number (option_and_then (if_switch h n) (option_and_then inner_named o)) f
 switch_shape h f n x3 = search (rules, and_right, cases_eq, Bool, cond, Some, None, eq-eqb, nat_lt, ℕ, ne_eqb)
 
 -- an inner of a Switch among the first events
-switched_is : (h : List Event) (b f n : ℕ) → n < b → b ≤ length h → is_switched_inner (take b h) f n ≡ is_key (switch_of h n) f
+switched_is : (h : List Event) (b f n : ℕ) → n < b → b ≤ length h → is_switched_inner (take b h) f n ≡ has_number (switch_of h n) f
 switched_is h b f n l m = search (rules, cases_lt, take, Bool, nat_lt, at_prefix, switch_shape, slice_get, le-ltb)
 
 switch_parts : (h : List Event) (n f : ℕ) → switch_of h n ≡ Some f → (nat_lt f n ≡ true) × (at is_switch h f ≡ true)
@@ -49,12 +49,12 @@ is_shut_short : (k : List Event) (n : ℕ) → length k ≤ suc n → is_shut k 
 unfolding is_shut
 is_shut_short k n l = ap (λ (x : List Event). list_any (shuts k n) x) (drop_all (suc n) k l)
 
-below_key : (b m n : ℕ) → is_key (if_less b m) n ≡ (nat_lt n b && (m == n))
+below_key : (b m n : ℕ) → has_number (if_less b m) n ≡ (nat_lt n b && (m == n))
 below_key b m n = search (rules, cases_eq, Bool, cond, Some, None, and_right, nat_lt, ne_eqb)
 
 -- the last inner of the Switch is the one that is not shut
 module _ (h : List Event) (b : ℕ) (inner : List ℕ) (n f : ℕ) (within : b ≤ length h) (tied : AreInners h b inner) (still : is_shut (take b h) n ≡ false) where
-  named_last : (v : ℕ) → get_or inner f 0 ≡ v → is_key (number_before v) n ≡ true → (nat_lt n b && is_switched_inner (take b h) f n) ≡ true
+  named_last : (v : ℕ) → get_or inner f 0 ≡ v → has_number (number_before v) n ≡ true → (nat_lt n b && is_switched_inner (take b h) f n) ≡ true
   named_last zero is keyed = absurd (false≢true keyed)
   named_last (suc c) is keyed =
       let same : c ≡ n = eqb-true c n keyed in
@@ -62,20 +62,20 @@ module _ (h : List Event) (b : ℕ) (inner : List ℕ) (n f : ℕ) (within : b �
       let l : c < b = one.0 in
       let m : n < b = omega arith in
       let named : switch_of h n ≡ Some f = ap (switch_of h) (sym same) ∙ one.1 in
-      and_from _ _ (lt-ltb n b m) (switched_is h b f n m within ∙ ap (λ (o : Option ℕ). is_key o f) named ∙ eq-eqb f f refl)
+      and_from _ _ (lt-ltb n b m) (switched_is h b f n m within ∙ ap (λ (o : Option ℕ). has_number o f) named ∙ eq-eqb f f refl)
 
   switched_parts : (nat_lt n b && is_switched_inner (take b h) f n) ≡ true → (n < b) × (switch_of h n ≡ Some f)
   switched_parts passes =
       search (rules, and_parts, ltb-true, is_key_of, switched_is)
 
-  last_named : (nat_lt n b && is_switched_inner (take b h) f n) ≡ true → is_key (number_before (get_or inner f 0)) n ≡ true
+  last_named : (nat_lt n b && is_switched_inner (take b h) f n) ≡ true → has_number (number_before (get_or inner f 0)) n ≡ true
   last_named passes =
       search (rules, switched_parts, ℕ, eq-eqb)
 
-  shut_inner : is_key (latest_of inner (if_switch h b f)) n ≡ (nat_lt n b && is_switched_inner (take b h) f n)
-  shut_inner = ⊎_elim (λ (here : (nat_lt f b && at is_switch h f) ≡ true). ap (λ (x : Bool). is_key (latest_of inner (cond x (Some f) None)) n) here
+  shut_inner : has_number (latest_of inner (if_switch h b f)) n ≡ (nat_lt n b && is_switched_inner (take b h) f n)
+  shut_inner = ⊎_elim (λ (here : (nat_lt f b && at is_switch h f) ≡ true). ap (λ (x : Bool). has_number (latest_of inner (cond x (Some f) None)) n) here
       ∙ same_tests _ _ (named_last (get_or inner f 0) refl) last_named)
-      (λ (none : (nat_lt f b && at is_switch h f) ≡ false). ap (λ (x : Bool). is_key (latest_of inner (cond x (Some f) None)) n) none
+      (λ (none : (nat_lt f b && at is_switch h f) ≡ false). ap (λ (x : Bool). has_number (latest_of inner (cond x (Some f) None)) n) none
       ∙ sym (false_from_ne_true _ (λ passes.
       let parts = switched_parts passes in
       let of_switch = switch_parts h n f parts.1 in
@@ -143,7 +143,7 @@ inners_step h b inner inside tied = by_key (switch_of h b) refl where
         let l : c < b = one.0 in (omega arith, one.1)) (cases_eq f g);
     others = λ f c l named still. ⊎_elim
         (λ m. ⊎_elim (λ same. absurd (both_ways _ (before c m still).1 (shuts_inner (take b h) c e g (switch_inner h b g e at_b some)
-        ∙ switched_is h b g c m (omega arith) ∙ ap (λ (o : Option ℕ). is_key o g) named ∙ eq-eqb f g same)))
+        ∙ switched_is h b g c m (omega arith) ∙ ap (λ (o : Option ℕ). has_number o g) named ∙ eq-eqb f g same)))
         (λ differs. get_or-set_other inner g f (b + 1) 0 differs ∙ tied.others f c m named (before c m still).0) (cases_eq f g))
         (λ m. let here : b ≡ c = omega arith in
         ap (λ (j : ℕ). get_or (set inner g (b + 1)) j 0) (sym (same_Some g f (sym some ∙ ap (switch_of h) here ∙ named)))

@@ -2,7 +2,7 @@
 use Rattle.rx_picture.proofs.Common.{◌≡◌, ℕ, ◌<◌, ◌≤◌, min, max, Bool, true, false, cond, List, length, take, get_or, Option, Some, sym, ap, ◌∙◌}
 use Rattle.rx_picture.proofs.Common.{arith, inl, inr, ◌⊎◌, nat_lt, slice_get, not, ◌&&◌, list_any, option_and_then, option_map_or, cases_lt, lt-ltb, le-ltb}
 use Rattle.rx_picture.proofs.Common.{and_left, none-some, Event, makes_resource, is_open, is_owned, is_taken, is_open_past}
-use Rattle.rx_picture.proofs.Common.{Spans, IsTurn, AreLines, was_removed, was_taken}
+use Rattle.rx_picture.proofs.Common.{Spans, TurnsAt, AreLines, has_removed, has_taken}
 use Rattle.rx_event.specs.Events.{node_of_accept}
 use Rattle.rx_event.proofs.Laws.Resources.{is_owned_past, is_taken_past}
 use Rattle.rx_picture.specs.Rows.{Begins, IsBar}
@@ -28,13 +28,13 @@ bar_within : (h : List Event) (r node gone : ℕ) (ends : List ℕ) → r < leng
 bar_within h r node gone ends inside lines x7 = search (rules, lt-ltb, length, le-ltb)
 
 module _ (h : List Event) (r node : ℕ) (accepted : option_and_then node_of_accept (slice_get h r) ≡ Some node) where
-  owned_prefix : (gone k : ℕ) → IsTurn h (was_removed r) (length h) (length h) gone → r < k
+  owned_prefix : (gone k : ℕ) → TurnsAt h (has_removed r) (length h) (length h) gone → r < k
       → k ≤ length h → is_owned (take k h) r ≡ (is_open (take k h) node && not (nat_lt gone k))
   unfolding is_owned
   owned_prefix gone k removed l m =
       search (rules, Option, Event, option_map_or, take, option_and_then, not, list_any, get_prefix, ℕ, Bool)
 
-  bar_owned : (gone : ℕ) (ends : List ℕ) → IsTurn h (was_removed r) (length h) (length h) gone → AreLines h (length h) ends →
+  bar_owned : (gone : ℕ) (ends : List ℕ) → TurnsAt h (has_removed r) (length h) (length h) gone → AreLines h (length h) ends →
       Spans h (λ k. is_owned k r) (owned_start ends node r) (max (owned_end ends node gone) (owned_start ends node r))
   bar_owned gone ends removed lines k m = by_place (cases_lt r k) where
     by_node : r < k → (node < length h) ⊎ (length h ≤ node) →
@@ -59,15 +59,15 @@ module _ (h : List Event) (r node : ℕ) (accepted : option_and_then node_of_acc
     by_place (inr l) = let later =
         start_after ends node r in is_owned_past (take k h) r (past_prefix h k r l m) ∙ sym (and_left _ _ (le-ltb (owned_start ends node r) k (omega arith)))
 
-  taken_prefix : (out k : ℕ) → IsTurn h (was_taken r) (length h) (length h) out → r < k → k ≤ length h → is_taken (take k h) r ≡ nat_lt out k
+  taken_prefix : (out k : ℕ) → TurnsAt h (has_taken r) (length h) (length h) out → r < k → k ≤ length h → is_taken (take k h) r ≡ nat_lt out k
   unfolding is_taken
   taken_prefix out k taken l m =
       search (rules, Bool, list_any, take, at_prefix, accepted_makes, slice_get)
 
-  bar_taken : (out : ℕ) → IsTurn h (was_taken r) (length h) (length h) out → Begins h (λ k. is_taken k r) (max out r)
+  bar_taken : (out : ℕ) → TurnsAt h (has_taken r) (length h) (length h) out → Begins h (λ k. is_taken k r) (max out r)
   bar_taken out taken k m = search (rules, cases_lt, take, nat_lt, max, taken_prefix, cut_alone, is_taken_past, past_prefix, le-ltb)
 
-  pub bar_is : (gone out : ℕ) (ends : List ℕ) → r < length h → IsTurn h (was_removed r) (length h) (length h) gone
-      → IsTurn h (was_taken r) (length h) (length h) out → AreLines h (length h) ends →
+  pub bar_is : (gone out : ℕ) (ends : List ℕ) → r < length h → TurnsAt h (has_removed r) (length h) (length h) gone
+      → TurnsAt h (has_taken r) (length h) (length h) out → AreLines h (length h) ends →
       IsBar h r (owned_start ends node r) (max (owned_end ends node gone) (owned_start ends node r)) (max out r)
   bar_is gone out ends inside removed taken lines = search (rules, start_after, bar_within, cases_lt, length, bar_owned, turn_within, bar_taken)

@@ -1,14 +1,14 @@
 -- The rows of the first places.
 use Rattle.rx_picture.proofs.Common.{◌≡◌, ℕ, ◌+◌, Bool, true, false, cond, List, [], ◌∷◌, ◌++◌, map, filter, Option, Some, None, refl, sym, ap, ◌∙◌, slice_get}
 use Rattle.rx_picture.proofs.Common.{◌&&◌, AllByRecursion, range_with_len, option_map_or, or_left, or_right, and_from, map-append, filter-append, append-nil}
-use Rattle.rx_picture.proofs.Common.{Event, at, AllByRecursion-both, Row, Shape, Node, Resource, Loan, IsRow, IsShape, has_row}
+use Rattle.rx_picture.proofs.Common.{Event, at, AllByRecursion-both, Row, Shape, Node, Resource, Loan, IsRowMade, IsShape, has_row}
 use Rattle.rx_picture.specs.Tables.{IsShownAt}
 use Rattle.rx_picture.proofs.Ranges.{below_push}
 use Rattle.std.proofs.Common.{rules}
 
 pub record RowsUpTo (h : List Event) (shown : ℕ → Bool) (n : ℕ) (rows : List Row) : Type 0 where
   pub numbers : map (λ row. row.number) rows ≡ filter (λ k. at has_row h k && shown k) (range_with_len 0 n)
-  pub each : AllByRecursion (IsRow h) rows
+  pub each : AllByRecursion (IsRowMade h) rows
 
 pub next_filter : (p : ℕ → Bool) (n : ℕ) → filter p (range_with_len 0 (n + 1)) ≡ filter p (range_with_len 0 n) ++ cond (p n) (n ∷ []) []
 next_filter p n = ap (filter p) (below_push n) ∙ filter-append p (range_with_len 0 n) (n ∷ [])
@@ -30,7 +30,7 @@ rows_more h shown n rows row tied here = record {
       ∙ ap (λ (k : ℕ). filter (λ k. at has_row h k && shown k) (range_with_len 0 n) ++ k ∷ []) here.number
       ∙ sym (next_filter (λ k. at has_row h k && shown k) n
       ∙ ap (λ (x : Bool). filter (λ k. at has_row h k && shown k) (range_with_len 0 n) ++ cond x (n ∷ []) []) here_made);
-  each = AllByRecursion-both (IsRow h) rows (row ∷ []) tied.each (here.is, tt);
+  each = AllByRecursion-both (IsRowMade h) rows (row ∷ []) tied.each (here.is, tt);
 }
 
 pub rows_skip : (h : List Event) (shown : ℕ → Bool) (n : ℕ) (rows : List Row)

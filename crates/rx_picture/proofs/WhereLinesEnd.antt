@@ -2,7 +2,7 @@
 use Rattle.rx_picture.proofs.Common.{◌≡◌, ℕ, zero, suc, ◌<◌, ◌≤◌, min, max, Bool, true, false, List, [], ◌∷◌, ◌++◌, length, take, get_or, Option, Some, None}
 use Rattle.rx_picture.proofs.Common.{refl, sym, ap, ◌∙◌, arith, inl, inr, ◌⊎◌, nat_lt, not, ◌&&◌, ◌||◌, option_map_or, cases_lt, lt-ltb, le-ltb, ltb-true}
 use Rattle.rx_picture.proofs.Common.{and_left, or_left, or_right, or_cases, Event, makes_node, at, parent, is_shut, is_open, is_open_past, parent-lt, Spans}
-use Rattle.rx_picture.proofs.Common.{IsTurn, was_shut}
+use Rattle.rx_picture.proofs.Common.{TurnsAt, was_shut}
 use Rattle.rx_event.proofs.Laws.Openness.{is_open_step}
 use Rattle.rx_picture.proofs.Prefixes.{same_tests, past_prefix, at_prefix, parent_prefix}
 use Rattle.std.proofs.Common.{rules}
@@ -31,7 +31,7 @@ open_prefix h n k l m =
 pub line_none : (h : List Event) (n : ℕ) → at makes_node h n ≡ false → Spans h (λ k. is_open k n) n n
 line_none h n none k m = search (rules, cases_lt, and_not, nat_lt, take, open_prefix, Bool, not, option_map_or, is_open_past, past_prefix)
 
-module _ (h : List Event) (n s : ℕ) (node : at makes_node h n ≡ true) (shut : IsTurn h (was_shut n) (length h) (length h) s) where
+module _ (h : List Event) (n s : ℕ) (node : at makes_node h n ≡ true) (shut : TurnsAt h (was_shut n) (length h) (length h) s) where
   line_whole : (k until : ℕ) (above : Bool) → n < k → k ≤ length h
       → option_map_or (is_open (take k h)) (parent h n) true ≡ not above → nat_lt until k ≡ (nat_lt s k || above) →
       is_open (take k h) n ≡ (nat_lt n k && not (nat_lt until k))

@@ -3,7 +3,7 @@ use Rattle.rx_picture.proofs.Common.{◌≡◌, ℕ, suc, ◌+◌, ◌<◌, ◌�
 use Rattle.rx_picture.proofs.Common.{sym, ap, ◌∙◌, arith, ◌==◌, nat_lt, slice_get, ◌||◌, list_any, option_and_then, cases_Bool}
 use Rattle.rx_picture.proofs.Common.{cases_lt, cases_eq, lt-ltb, le-ltb, ltb-true, eq-eqb, ne_eqb, eqb-true, or_left, or_right, or_cases, both_ways}
 use Rattle.rx_picture.proofs.Common.{get_or-set_same, get_or-set_other, length-set, get_or-replicate, length-replicate, Event, is_remove_of, is_return_of}
-use Rattle.rx_picture.proofs.Common.{is_take_of, is_key, IsTurn, AreTurns, noted, was_removed, was_returned, was_taken, or_false, event_at}
+use Rattle.rx_picture.proofs.Common.{is_take_of, has_number, TurnsAt, AreTurns, noted, has_removed, has_returned, has_taken, or_false, event_at}
 use Rattle.std.proofs.lemmas.List.Folds.{list_any-append}
 use Rattle.rx_event.specs.Events.{removed_of, returned_of, taken_of}
 use Rattle.rx_picture.proofs.Prefixes.{take_next}
@@ -11,19 +11,19 @@ use Rattle.std.proofs.Common.{rules, ⊎_elim}
 
 -- one test ----------------------------------------------------------------------------------------
 
-pub turn_none : (h : List Event) (test : List Event → Bool) → test [] ≡ false → IsTurn h test 0 (length h) (length h)
+pub turn_none : (h : List Event) (test : List Event → Bool) → test [] ≡ false → TurnsAt h test 0 (length h) (length h)
 turn_none h test never = search (rules, le-ltb, length, or_right, eq-eqb)
 
-pub turn_within : (h : List Event) (test : List Event → Bool) (at : ℕ) → IsTurn h test (length h) (length h) at → at ≤ length h
+pub turn_within : (h : List Event) (test : List Event → Bool) (at : ℕ) → TurnsAt h test (length h) (length h) at → at ≤ length h
 turn_within h test at tied = search (rules, or_cases, nat_lt, length, ltb-true, eqb-true)
 
 kept_value : (now full : Bool) (b at : ℕ) → full ≡ false → cond now (cond full b at) at ≡ at
 kept_value x0 full b at gone = search (rules, cond)
 
 module _ (h : List Event) (test : List Event → Bool) (b at : ℕ) (s : Bool) (inside : b < length h) (next : test (take (suc b) h) ≡ (test (take b h) || s))
-    (tied : IsTurn h test b (length h) at) where
+    (tied : TurnsAt h test b (length h) at) where
   -- it was true before
-  turned : test (take b h) ≡ true → IsTurn h test (suc b) (length h) at
+  turned : test (take b h) ≡ true → TurnsAt h test (suc b) (length h) at
   turned was = let below : at < b = ltb-true at b (sym (tied.turns b (omega arith)) ∙ was) in record {
     turns = λ k m. ⊎_elim (λ l. let same : k ≡ suc b = omega arith in ap (λ (j : ℕ). test (take j h)) same ∙ next ∙ or_left _ _ was
         ∙ sym (lt-ltb at k (omega arith))) (λ l. tied.turns k l) (cases_lt b k);
@@ -34,18 +34,18 @@ module _ (h : List Event) (test : List Event → Bool) (b at : ℕ) (s : Bool) (
   unturned was = search (rules, or_cases, nat_lt, length, both_ways, eqb-true)
 
   -- the event makes it true
-  turns_now : test (take b h) ≡ false → s ≡ true → IsTurn h test (suc b) (length h) b
+  turns_now : test (take b h) ≡ false → s ≡ true → TurnsAt h test (suc b) (length h) b
   turns_now was now = search (rules, cases_lt, or_left, lt-ltb, length, unturned, ℕ, take, nat_lt, or_right, le-ltb)
 
   -- it stays false
-  turns_later : test (take b h) ≡ false → s ≡ false → IsTurn h test (suc b) (length h) at
+  turns_later : test (take b h) ≡ false → s ≡ false → TurnsAt h test (suc b) (length h) at
   turns_later was never = let last = unturned was in record {
     turns = λ k m. ⊎_elim (λ l. let same : k ≡ suc b = omega arith in ap (λ (j : ℕ). test (take j h)) same ∙ next ∙ ap (λ x. x || s) was ∙ never
         ∙ sym (le-ltb at k (omega arith))) (λ l. tied.turns k l) (cases_lt b k);
     told = or_right _ _ (eq-eqb at (length h) last);
   }
 
-  pub turn_step : (now : Bool) → (test (take b h) ≡ false → now ≡ s) → IsTurn h test (suc b) (length h) (cond now (cond (at == length h) b at) at)
+  pub turn_step : (now : Bool) → (test (take b h) ≡ false → now ≡ s) → TurnsAt h test (suc b) (length h) (cond now (cond (at == length h) b at) at)
   turn_step now same = search (rules, cases_Bool, take, length, cond, ltb-true, kept_value, ne_eqb, turned, eq-eqb, unturned, turns_now, turns_later)
 
 -- a table -----------------------------------------------------------------------------------------
@@ -57,11 +57,11 @@ noted_size : (table : List ℕ) (key : Option ℕ) (place : ℕ) → length (not
 noted_size table x1 place = search (rules, get_or, length, Bool, cond, set, length-set)
 
 noted_at : (table : List ℕ) (key : Option ℕ) (place n : ℕ) → n < length table →
-    get_or (noted table key place) n 0 ≡ cond (is_key key n) (cond (get_or table n 0 == length table) place (get_or table n 0)) (get_or table n 0)
+    get_or (noted table key place) n 0 ≡ cond (has_number key n) (cond (get_or table n 0 == length table) place (get_or table n 0)) (get_or table n 0)
 noted_at table x1 place n l = search (rules, cases_eq, Bool, get_or, cond, set, get_or-set_same, get_or-set_other, length, eq-eqb, ne_eqb)
 
 pub turns_step : {h : List Event} {test : ℕ → List Event → Bool} (b : ℕ) (table : List ℕ) (key : Option ℕ) (s : ℕ → Bool) → b < length h →
-    ((n : ℕ) → test n (take (suc b) h) ≡ (test n (take b h) || s n)) → ((n : ℕ) → test n (take b h) ≡ false → is_key key n ≡ s n) →
+    ((n : ℕ) → test n (take (suc b) h) ≡ (test n (take b h) || s n)) → ((n : ℕ) → test n (take b h) ≡ false → has_number key n ≡ s n) →
     AreTurns h test b table → AreTurns h test (b + 1) (noted table key b)
 turns_step {h} {test} b table key s inside next same tied = record {
   size = noted_size table key b ∙ tied.size;
@@ -69,7 +69,8 @@ turns_step {h} {test} b table key s inside next same tied = record {
       let size : length (noted table key b) ≡ length table = noted_size table key b in
       let more : b + 1 ≡ suc b = omega arith in
       let m : n < length table = omega arith in
-      rw (more, noted_at table key b n m, tied.size) (turn_step h (test n) b (get_or table n 0) (s n) inside (next n) (tied.each n m) (is_key key n) (same n));
+      rw (more, noted_at table key b n m, tied.size)
+      (turn_step h (test n) b (get_or table n 0) (s n) inside (next n) (tied.each n m) (has_number key n) (same n));
 }
 
 -- removals and takings ----------------------------------------------------------------------------
@@ -79,33 +80,34 @@ any_next : (p : Event → Bool) (h : List Event) (b : ℕ) (e : Event) → slice
 any_next p h b e at_b = ap (λ (k : List Event). list_any p k) (take_next h b e at_b)
     ∙ list_any-append p (take b h) (e ∷ []) ∙ ap (λ x. list_any p (take b h) || x) (or_false (p e))
 
-removes : (e : Event) (n : ℕ) → is_key (removed_of e) n ≡ is_remove_of n e
+removes : (e : Event) (n : ℕ) → has_number (removed_of e) n ≡ is_remove_of n e
 removes x0 n = search rules
 
-returned : (e : Event) (n : ℕ) → is_key (returned_of e) n ≡ is_return_of n e
+returned : (e : Event) (n : ℕ) → has_number (returned_of e) n ≡ is_return_of n e
 returned x0 n = search rules
 
-takes : (e : Event) (n : ℕ) → is_key (taken_of e) n ≡ is_take_of n e
+takes : (e : Event) (n : ℕ) → has_number (taken_of e) n ≡ is_take_of n e
 takes x0 n = search rules
 
 -- where an event has a key just where the test holds of it
-event_step : (h : List Event) (b : ℕ) (table : List ℕ) (key : Event → Option ℕ) (test : ℕ → Event → Bool) → ((e : Event) (n : ℕ) → is_key (key e) n ≡ test n e)
+event_step : (h : List Event) (b : ℕ) (table : List ℕ) (key : Event → Option ℕ) (test : ℕ → Event → Bool)
+    → ((e : Event) (n : ℕ) → has_number (key e) n ≡ test n e)
     → b < length h → AreTurns h (λ n k. list_any (test n) k) b table
     → AreTurns h (λ n k. list_any (test n) k) (b + 1) (noted table (option_and_then key (slice_get h b)) b)
 event_step h b table key test is inside tied =
     let e = (event_at h b inside).0 in
     let at_b : slice_get h b ≡ Some e = (event_at h b inside).1 in
     turns_step b table (option_and_then key (slice_get h b)) (λ n. test n e) inside (λ n. any_next (test n) h b e at_b)
-    (λ n was. ap (λ (o : Option Event). is_key (option_and_then key o) n) at_b ∙ is e n) tied
+    (λ n was. ap (λ (o : Option Event). has_number (option_and_then key o) n) at_b ∙ is e n) tied
 
-pub removed_step : (h : List Event) (b : ℕ) (table : List ℕ) → b < length h → AreTurns h was_removed b table →
-    AreTurns h was_removed (b + 1) (noted table (option_and_then removed_of (slice_get h b)) b)
+pub removed_step : (h : List Event) (b : ℕ) (table : List ℕ) → b < length h → AreTurns h has_removed b table →
+    AreTurns h has_removed (b + 1) (noted table (option_and_then removed_of (slice_get h b)) b)
 removed_step h b table inside tied = event_step h b table removed_of is_remove_of removes inside tied
 
-pub taken_step : (h : List Event) (b : ℕ) (table : List ℕ) → b < length h → AreTurns h was_taken b table →
-    AreTurns h was_taken (b + 1) (noted table (option_and_then taken_of (slice_get h b)) b)
+pub taken_step : (h : List Event) (b : ℕ) (table : List ℕ) → b < length h → AreTurns h has_taken b table →
+    AreTurns h has_taken (b + 1) (noted table (option_and_then taken_of (slice_get h b)) b)
 taken_step h b table inside tied = event_step h b table taken_of is_take_of takes inside tied
 
-pub returned_step : (h : List Event) (b : ℕ) (table : List ℕ) → b < length h → AreTurns h was_returned b table →
-    AreTurns h was_returned (b + 1) (noted table (option_and_then returned_of (slice_get h b)) b)
+pub returned_step : (h : List Event) (b : ℕ) (table : List ℕ) → b < length h → AreTurns h has_returned b table →
+    AreTurns h has_returned (b + 1) (noted table (option_and_then returned_of (slice_get h b)) b)
 returned_step h b table inside tied = event_step h b table returned_of is_return_of returned inside tied

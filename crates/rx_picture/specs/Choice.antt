@@ -27,6 +27,6 @@ abbrev pub marked : List Bool → ℕ → Bool
 marked marks n = slice_index_or marks n false
 
 -- the marks say the test of each number below the bound
-pub record AreMarks (marks : List Bool) (bound : ℕ) (test : ℕ → Bool) : Type 0 where
+pub record AreMarksByTest (marks : List Bool) (bound : ℕ) (test : ℕ → Bool) : Type 0 where
   pub size : length marks ≡ bound
   pub each : (n : ℕ) → n < bound → marked marks n ≡ test n

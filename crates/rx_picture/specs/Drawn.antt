@@ -4,11 +4,11 @@ use Rattle.rx_picture.specs.Imports.{ℕ, Bool, false, nat_lt, List, length, fil
 use Rattle.rx_picture.specs.Choice.{count_below, is_chosen}
 use Rattle.rx_picture.specs.Levels.{AreLevels}
 use Rattle.rx_picture.specs.Told.{marbles, ArePoints}
-use Rattle.rx_picture.specs.Rows.{AreRows, is_drawn, leaks, is_left, lane_of}
+use Rattle.rx_picture.specs.Rows.{AreRowsShown, is_drawn, leaks, is_left_behind, lane_of}
 
 -- at most 200 lanes: what leaks comes first
 abbrev pub is_shown : List Event → ℕ → Bool
-is_shown h = is_chosen (is_left h) (at is_drawn h) 200 (length h)
+is_shown h = is_chosen (is_left_behind h) (at is_drawn h) 200 (length h)
 
 -- a row is shown where its lane is
 abbrev pub is_rowed_by : (ℕ → Bool) → List Event → ℕ → Bool
@@ -27,7 +27,7 @@ pub record AreColumns (test : ℕ → Bool) (bound : ℕ) (columns : List ℕ) :
   pub each : (n : ℕ) → n ≤ bound → slice_index_or columns n 0 ≡ count_below test n
 
 pub record IsDrawing (h : List Event) (drawing : Drawing) : Type 0 where
-  pub rows : AreRows h (is_rowed h) drawing.rows.items
+  pub rows : AreRowsShown h (is_rowed h) drawing.rows.items
   pub all : drawing.all ≡ count_below (at is_drawn h) (length h)
   pub leaks : drawing.leaks.items ≡ filter (leaks h) (places h)
   pub marbles : drawing.marbles.items ≡ marbles (is_shown h) (is_placed h) h

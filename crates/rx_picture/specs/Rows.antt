@@ -75,19 +75,19 @@ IsShape h n (Resource owned_after owned_until taken) = IsTrue (at makes_resource
 IsShape h n (Loan resource until) = (slice_get h n ≡ Some (Lease resource)) × IsLoan h n until
 
 -- the row is that of what its event made
-pub record IsRow (h : List Event) (row : Row) : Type 0 where
+pub record IsRowMade (h : List Event) (row : Row) : Type 0 where
   pub made : slice_get h row.number ≡ Some row.made
   pub shape : IsShape h row.number row.shape
 
 -- one row for each node, hub, resource and lease that is shown, by rising number
-pub record AreRows (h : List Event) (shown : ℕ → Bool) (rows : List Row) : Type 0 where
+pub record AreRowsShown (h : List Event) (shown : ℕ → Bool) (rows : List Row) : Type 0 where
   pub numbers : map (λ row. row.number) rows ≡ filter (λ n. at has_row h n && shown n) (places h)
-  pub each : AllByRecursion (IsRow h) rows
+  pub each : AllByRecursion (IsRowMade h) rows
 
 -- a resource that leaks: it was never handed out
 abbrev pub leaks : List Event → ℕ → Bool
 leaks h r = at makes_resource h r && not (is_taken h r)
 
 -- what is left behind the events: an open node, or a resource that leaks
-abbrev pub is_left : List Event → ℕ → Bool
-is_left h n = is_open h n || leaks h n
+abbrev pub is_left_behind : List Event → ℕ → Bool
+is_left_behind h n = is_open h n || leaks h n

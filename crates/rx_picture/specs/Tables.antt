@@ -5,37 +5,37 @@ use Rattle.std.proofs.Math.Bool.{◌||◌}
 use Rattle.rx_picture.specs.Imports.{ℕ, zero, suc, Bool, true, false, nat_lt, Option, Some, None, List, length, slice_get, take, IsTrue, list_any}
 use Rattle.rx_picture.specs.Imports.{option_and_then, option_map_or, Event, End, Close, inner_named, is_switch, is_remove_of, is_return_of, is_take_of}
 use Rattle.rx_picture.specs.Imports.{at, if_less, is_shut, is_open, shuts, Row}
-use Rattle.rx_picture.specs.Rows.{Spans, IsRow}
+use Rattle.rx_picture.specs.Rows.{Spans, IsRowMade}
 use Rattle.rx_picture.specs.declared.tables.Tables.{Tables}
 
 -- the option has this number
-abbrev pub is_key : Option ℕ → ℕ → Bool
-is_key None n = false
-is_key (Some m) n = m == n
+abbrev pub has_number : Option ℕ → ℕ → Bool
+has_number None n = false
+has_number (Some m) n = m == n
 
 -- of the prefixes up to the bound the test holds in just those longer than `at`, and `at` is a place below the bound or the size
-pub record IsTurn (h : List Event) (test : List Event → Bool) (bound size at : ℕ) : Type 0 where
+pub record TurnsAt (h : List Event) (test : List Event → Bool) (bound size at : ℕ) : Type 0 where
   pub turns : (k : ℕ) → k ≤ bound → test (take k h) ≡ nat_lt at k
   pub told : IsTrue (nat_lt at bound || at == size)
 
 -- the table says so of each number
 pub record AreTurns (h : List Event) (test : ℕ → List Event → Bool) (bound : ℕ) (table : List ℕ) : Type 0 where
   pub size : length table ≡ length h
-  pub each : (n : ℕ) → n < length table → IsTurn h (test n) bound (length h) (slice_index_or table n 0)
+  pub each : (n : ℕ) → n < length table → TurnsAt h (test n) bound (length h) (slice_index_or table n 0)
 
 -- the table with the place noted for the key, if it has none yet
 abbrev pub noted : List ℕ → Option ℕ → ℕ → List ℕ
 noted table None place = table
 noted table (Some n) place = if slice_index_or table n 0 == length table then slice_set table n place else table
 
-abbrev pub was_removed : ℕ → List Event → Bool
-was_removed r h = list_any (is_remove_of r) h
+abbrev pub has_removed : ℕ → List Event → Bool
+has_removed r h = list_any (is_remove_of r) h
 
-abbrev pub was_taken : ℕ → List Event → Bool
-was_taken r h = list_any (is_take_of r) h
+abbrev pub has_taken : ℕ → List Event → Bool
+has_taken r h = list_any (is_take_of r) h
 
-abbrev pub was_returned : ℕ → List Event → Bool
-was_returned l h = list_any (is_return_of l) h
+abbrev pub has_returned : ℕ → List Event → Bool
+has_returned l h = list_any (is_return_of l) h
 
 abbrev pub was_shut : ℕ → List Event → Bool
 was_shut n h = is_shut h n
@@ -78,7 +78,7 @@ shut_key h inner b = option_map_or (if_less b) (option_and_then stopped_of (slic
 
 -- of the nodes that are not shut before the place, the event there shuts just the one with this number
 abbrev pub IsShutBy : List Event → ℕ → Option ℕ → Type 0
-IsShutBy h b key = (n : ℕ) → is_shut (take b h) n ≡ false → is_key key n ≡ (nat_lt n b && option_map_or (shuts (take b h) n) (slice_get h b) false)
+IsShutBy h b key = (n : ℕ) → is_shut (take b h) n ≡ false → has_number key n ≡ (nat_lt n b && option_map_or (shuts (take b h) n) (slice_get h b) false)
 
 -- the table says of each number below the bound after which place it is open no more
 pub record AreLines (h : List Event) (bound : ℕ) (table : List ℕ) : Type 0 where
@@ -89,9 +89,9 @@ pub record AreLines (h : List Event) (bound : ℕ) (table : List ℕ) : Type 0 w
 
 -- the tables of a whole history
 pub record AreTables (h : List Event) (tables : Tables) : Type 0 where
-  pub removed : AreTurns h was_removed (length h) tables.removed.items
-  pub returned : AreTurns h was_returned (length h) tables.returned.items
-  pub taken : AreTurns h was_taken (length h) tables.taken.items
+  pub removed : AreTurns h has_removed (length h) tables.removed.items
+  pub returned : AreTurns h has_returned (length h) tables.returned.items
+  pub taken : AreTurns h has_taken (length h) tables.taken.items
   pub ends : AreLines h (length h) tables.ends.items
 
 -- after which place a resource of the node is owned: the later of the two, where there is such a node
@@ -106,4 +106,4 @@ owned_end ends node removed = if nat_lt node (length ends) then min (slice_index
 pub record IsShownAt (h : List Event) (shown : ℕ → Bool) (n : ℕ) (row : Row) : Type 0 where
   pub number : row.number ≡ n
   pub shown_here : shown n ≡ true
-  pub is : IsRow h row
+  pub is : IsRowMade h row

@@ -29,8 +29,8 @@ pub record AreEndsOf (past : List Event) (ends : List ℕ) : Type 0 where
   pub each : (n : ℕ) → n < length past → is_open past n ≡ not (nat_lt (slice_index_or ends n 0) (length past))
 
 -- what an item tells at the node, where the lane is shown of whom it goes to
-abbrev pub told_at : (ℕ → Bool) → List Event → ℤ → ℕ → List Mail
-told_at lane past value n = filter (λ m. lane m.to) (option_to_list (option_and_then (told (length past) value) (stop_at past n)))
+abbrev pub told_in_lane : (ℕ → Bool) → List Event → ℤ → ℕ → List Mail
+told_in_lane lane past value n = filter (λ m. lane m.to) (option_to_list (option_and_then (told (length past) value) (stop_at past n)))
 
 -- what the event at the place tells, where the lane is shown of whom it goes to
 abbrev pub mail_told : (ℕ → Bool) → List Event → ℕ → List Mail

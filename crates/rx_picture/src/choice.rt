@@ -1,7 +1,7 @@
 //! Which numbers are shown where only so many may be.
 
 ghost use Rattle.std.specs.Prelude.{◌≡◌, ◌+◌, ◌≤◌, IfOk, ◌&&◌, nat_lt, if◌then◌else◌, length};
-ghost use Rattle.rx_picture.specs.Choice.{bit, count_below, leads, follows, is_chosen, marked, AreMarks};
+ghost use Rattle.rx_picture.specs.Choice.{bit, count_below, leads, follows, is_chosen, marked, AreMarksByTest};
 
 use std::alloc::{AllocError, Global};
 
@@ -90,7 +90,7 @@ pub fn choose(
     among: &[bool],
     limit: usize,
 ) -> Result<Vec<bool>, AllocError>
-    ensures chosen { IfOk result (λ v. AreMarks v.items (length among.now)
+    ensures chosen { IfOk result (λ v. AreMarksByTest v.items (length among.now)
         (is_chosen (marked first.now) (marked among.now) limit (length among.now))) }
     ensures few { count_below (is_chosen (marked first.now) (marked among.now) limit (length among.now))
         (length among.now) ≤ limit }

@@ -2,7 +2,7 @@
 
 ghost use Rattle.std.specs.Prelude.{◌≡◌, IfOk, true, length, replicate};
 ghost use Rattle.rx_event.specs.Tree.{at};
-ghost use Rattle.rx_picture.specs.Choice.{AreMarks};
+ghost use Rattle.rx_picture.specs.Choice.{AreMarksByTest};
 ghost use Rattle.rx_picture.specs.Rows.{is_drawn};
 ghost use Rattle.rx_picture.specs.Drawn.{IsDrawing, is_shown, is_placed};
 ghost use Rattle.rx_picture.specs.Tables.{AreTables};
@@ -63,8 +63,8 @@ fn shown_marks(
     drawn: &[bool],
 ) -> Result<Vec<bool>, AllocError>
     requires tables { AreTables events.now tables.now }
-    requires drawn { AreMarks drawn.now (length events.now) (at is_drawn events.now) }
-    ensures { IfOk result (λ v. AreMarks v.items (length events.now) (is_shown events.now)) }
+    requires drawn { AreMarksByTest drawn.now (length events.now) (at is_drawn events.now) }
+    ensures { IfOk result (λ v. AreMarksByTest v.items (length events.now) (is_shown events.now)) }
 {
     let left = left_marks(alloc, events, tables)?;
     let chosen = choose(alloc, &left, drawn, MOST_LANES)?;
@@ -73,8 +73,8 @@ fn shown_marks(
 
 /// Marks the places that are shown.
 fn placed_marks(alloc: Global, events: &[Event], shown: &[bool]) -> Result<Vec<bool>, AllocError>
-    requires { AreMarks shown.now (length events.now) (is_shown events.now) }
-    ensures { IfOk result (λ v. AreMarks v.items (length events.now) (is_placed events.now)) }
+    requires { AreMarksByTest shown.now (length events.now) (is_shown events.now) }
+    ensures { IfOk result (λ v. AreMarksByTest v.items (length events.now) (is_placed events.now)) }
 {
     let every = all_marks(alloc, events.len())?;
     let chosen = choose(alloc, shown, &every, MOST_PLACES)?;

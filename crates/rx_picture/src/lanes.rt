@@ -1,7 +1,7 @@
 //! Which rows are shown: those that lie in a lane which is.
 
 ghost use Rattle.std.specs.Prelude.{◌≡◌, IfOk, length};
-ghost use Rattle.rx_picture.specs.Choice.{AreMarks, marked};
+ghost use Rattle.rx_picture.specs.Choice.{AreMarksByTest, marked};
 ghost use Rattle.rx_picture.specs.Drawn.{is_rowed_by};
 
 use crate::choice::is_marked;
@@ -21,7 +21,7 @@ fn is_lane_marked(events: &[Event], shown: &[bool], n: usize) -> bool
 
 /// Marks the rows that are shown, by the marks of the lanes that are.
 pub fn row_marks(alloc: Global, events: &[Event], shown: &[bool]) -> Result<Vec<bool>, AllocError>
-    ensures { IfOk result (λ v. AreMarks v.items (length events.now) (is_rowed_by (marked shown.now) events.now)) }
+    ensures { IfOk result (λ v. AreMarksByTest v.items (length events.now) (is_rowed_by (marked shown.now) events.now)) }
 {
     let mut marks = Vec::new(alloc);
     for n in 0..events.len() {

@@ -3,7 +3,7 @@
 ghost use Rattle.std.specs.Prelude.{◌≡◌, IfOk};
 ghost use Rattle.rx_picture.specs.Imports.{filter, length, makes_resource, at, places};
 ghost use Rattle.rx_picture.specs.Rows.{leaks};
-ghost use Rattle.rx_picture.specs.Tables.{AreTurns, was_taken};
+ghost use Rattle.rx_picture.specs.Tables.{AreTurns, has_taken};
 
 use crate::event_tests::at;
 use crate::firsts::value_at;
@@ -19,7 +19,7 @@ fn is_resource_at(events: &[Event], n: usize) -> bool
 
 /// Whether number `n` is a resource that was never handed out.
 pub fn is_leak(events: &[Event], taken: &[usize], n: usize) -> bool
-    requires { AreTurns events.now was_taken (length events.now) taken.now }
+    requires { AreTurns events.now has_taken (length events.now) taken.now }
     ensures { result ≡ leaks events.now n }
 {
     if value_at(taken, n as u64) < events.len() {
@@ -30,7 +30,7 @@ pub fn is_leak(events: &[Event], taken: &[usize], n: usize) -> bool
 
 /// The resources that were never handed out, by rising number.
 pub fn leaks_of(alloc: Global, events: &[Event], taken: &[usize]) -> Result<Vec<u64>, AllocError>
-    requires { AreTurns events.now was_taken (length events.now) taken.now }
+    requires { AreTurns events.now has_taken (length events.now) taken.now }
     ensures { IfOk result (λ v. v.items ≡ filter (leaks events.now) (places events.now)) }
 {
     (0..events.len() as u64)

@@ -4,7 +4,7 @@ ghost use Rattle.std.specs.Prelude.{◌≡◌, ◌<◌, ◌++◌, IfOk, OnOk};
 ghost use Rattle.rx_picture.specs.Imports.{filter, length, flat_map, option_to_list, is_root, at, Item, End, mail_of};
 ghost use Rattle.rx_picture.specs.Choice.{marked};
 ghost use Rattle.rx_picture.specs.Tables.{AreLines};
-ghost use Rattle.rx_picture.specs.Told.{AreEndsOf, mail_told, marbles, told_at};
+ghost use Rattle.rx_picture.specs.Told.{AreEndsOf, mail_told, marbles, told_in_lane};
 
 use crate::choice::is_marked;
 use crate::climb::{Emitted, climb, mail_at};
@@ -37,7 +37,7 @@ fn push_visits(
     visits: &[u64],
 ) -> Result<(), AllocError>
     ensures { OnOk result (marbles.new.items ≡ marbles.old.items
-        ++ flat_map (told_at (marked lanes.now) past.now item.value) visits.now) }
+        ++ flat_map (told_in_lane (marked lanes.now) past.now item.value) visits.now) }
 {
     for n in visits {
         push_mail(marbles, lanes, mail_at(past, *n, item))?;

@@ -2,9 +2,9 @@
 
 ghost use Rattle.std.specs.Prelude.{◌≡◌, ◌<◌, ◌&&◌, IfOk, MatchOption};
 ghost use Rattle.rx_picture.specs.Imports.{true, false, Some, length, slice_get, option_and_then, makes_node, node_of_accept, at, Lease};
-ghost use Rattle.rx_picture.specs.Rows.{AreRows, IsShape, ending_by, has_row};
+ghost use Rattle.rx_picture.specs.Rows.{AreRowsShown, IsShape, ending_by, has_row};
 ghost use Rattle.rx_picture.specs.Choice.{marked};
-ghost use Rattle.rx_picture.specs.Tables.{AreTurns, AreLines, AreTables, IsShownAt, owned_end, owned_start, was_returned};
+ghost use Rattle.rx_picture.specs.Tables.{AreTurns, AreLines, AreTables, IsShownAt, owned_end, owned_start, has_returned};
 
 use crate::choice::is_marked;
 use crate::firsts::value_at;
@@ -96,7 +96,7 @@ fn bar_of(events: &[Event], tables: &Tables, r: usize, node: u64) -> Shape
 /// What is drawn of lease `l` of the resource.
 fn loan_of(events: &[Event], returned: &[usize], l: usize, resource: u64) -> Shape
     requires within { l < length events.now }
-    requires returned { AreTurns events.now was_returned (length events.now) returned.now }
+    requires returned { AreTurns events.now has_returned (length events.now) returned.now }
     requires leased { slice_get events.now l ≡ Some (Lease resource) }
     ensures { IsShape events.now l result }
 {
@@ -153,7 +153,7 @@ pub fn rows_of(
     shown: &[bool],
 ) -> Result<Vec<Row>, AllocError>
     requires { AreTables events.now tables.now }
-    ensures { IfOk result (λ rows. AreRows events.now (marked shown.now) rows.items) }
+    ensures { IfOk result (λ rows. AreRowsShown events.now (marked shown.now) rows.items) }
 {
     let mut rows = Vec::new(alloc);
     for n in 0..events.len() {

@@ -2,9 +2,9 @@
 
 ghost use Rattle.std.specs.Prelude.{◌≡◌, ◌<◌, IfOk, length};
 ghost use Rattle.rx_event.specs.Tree.{at};
-ghost use Rattle.rx_picture.specs.Rows.{is_drawn, is_left};
-ghost use Rattle.rx_picture.specs.Choice.{AreMarks};
-ghost use Rattle.rx_picture.specs.Tables.{AreTables, AreTurns, AreLines, was_taken};
+ghost use Rattle.rx_picture.specs.Rows.{is_drawn, is_left_behind};
+ghost use Rattle.rx_picture.specs.Choice.{AreMarksByTest};
+ghost use Rattle.rx_picture.specs.Tables.{AreTables, AreTurns, AreLines, has_taken};
 
 use crate::event_tests::at;
 use crate::firsts::{filled, note, removed_at, returned_at, taken_at, value_at};
@@ -64,11 +64,11 @@ fn is_drawn_at(events: &[Event], n: usize) -> bool
 }
 
 /// Whether number `n` is left: an open node, or a resource that was never handed out.
-fn is_left(events: &[Event], taken: &[usize], ends: &[usize], n: usize) -> bool
-    requires taken { AreTurns events.now was_taken (length events.now) taken.now }
+fn is_left_behind(events: &[Event], taken: &[usize], ends: &[usize], n: usize) -> bool
+    requires taken { AreTurns events.now has_taken (length events.now) taken.now }
     requires ends { AreLines events.now (length events.now) ends.now }
     requires within { n < length events.now }
-    ensures { result ≡ is_left events.now n }
+    ensures { result ≡ is_left_behind events.now n }
 {
     if value_at(ends, n as u64) >= events.len() {
         return true;
@@ -79,11 +79,11 @@ fn is_left(events: &[Event], taken: &[usize], ends: &[usize], n: usize) -> bool
 /// Marks what is left.
 pub fn left_marks(alloc: Global, events: &[Event], tables: &Tables) -> Result<Vec<bool>, AllocError>
     requires { AreTables events.now tables.now }
-    ensures { IfOk result (λ v. AreMarks v.items (length events.now) (is_left events.now)) }
+    ensures { IfOk result (λ v. AreMarksByTest v.items (length events.now) (is_left_behind events.now)) }
 {
     let mut marks = Vec::new(alloc);
     for n in 0..events.len() {
-        let mark = is_left(events, &tables.taken, &tables.ends, n);
+        let mark = is_left_behind(events, &tables.taken, &tables.ends, n);
         marks.push(mark)?;
     }
     Ok(marks)
@@ -91,7 +91,7 @@ pub fn left_marks(alloc: Global, events: &[Event], tables: &Tables) -> Result<Ve
 
 /// Marks what is drawn: nodes, hubs and resources.
 pub fn drawn_marks(alloc: Global, events: &[Event]) -> Result<Vec<bool>, AllocError>
-    ensures { IfOk result (λ v. AreMarks v.items (length events.now) (at is_drawn events.now)) }
+    ensures { IfOk result (λ v. AreMarksByTest v.items (length events.now) (at is_drawn events.now)) }
 {
     let mut marks = Vec::new(alloc);
     for n in 0..events.len() {

@@ -1,5 +1,5 @@
 use Rattle.rx_picture.proofs.LeaksByTables.{left_open, left_shut}
-use Rattle.rx_picture.proofs.tables.is_left.Goals as goal
+use Rattle.rx_picture.proofs.tables.is_left_behind.Goals as goal
 use Rattle.std.proofs.Common.{rules}
 
 pub returns-then-value_at-events : goal.returns-then-value_at-events
