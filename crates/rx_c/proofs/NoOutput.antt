@@ -5,12 +5,12 @@ use Rattle.serde_json.specs.Data.{Data}
 use Rattle.rx_device.specs.Input.{IsJsonOf}
 use Rattle.rx_script.specs.declared.Form.{Form}
 use Rattle.rx_script.specs.Running.{GivesNoOutput, LacksOutput}
-use Rattle.rx_c.specs.Ran.{HasNoOutput, IsUnwritten}
+use Rattle.rx_c.specs.Ran.{HasNothingToWrite, IsUnwritten}
 
 one_value : (input : List ℕ) (d e : Data) → IsJsonOf input d → IsJsonOf input e → d ≡ e
 one_value input d e a b = same_Some _ _ (sym a.value ∙ b.value)
 
-pub no_output : (form : Form) (scenario : List ℕ) → IsUnwritten form scenario → HasNoOutput form scenario
+pub no_output : (form : Form) (scenario : List ℕ) → IsUnwritten form scenario → HasNothingToWrite form scenario
 no_output form scenario is =
     inr (λ value json. subst (λ (v : Data). GivesNoOutput v form) (one_value scenario is.value value is.json json) is.none)
 

@@ -6,12 +6,12 @@ use base.Fraction.{full_share}
 use denote.Param.Send.{IsSend, part_keyless}
 use denote.RattleType.{RattleType}
 use denote.RawPtr.{Ptr, block_ptr, null_ptr, lies_at}
-use Rattle.rx_c.specs.Ownership.{handle_owns}
+use Rattle.rx_c.specs.Ownership.{owns_unless_null}
 
 lies : (R : RattleType) → IsSend R → (p : Ptr) (x : R.Denot) → Keyless (lies_at R full_share p x)
 lies R s (block_ptr b o) x = part_keyless R s full_share x b o
 lies R s null_ptr x = tt
 
-pub handle_owns-Keyless : (R : RattleType) → IsSend R → (p : Ptr) (k : Option R.Denot) → Keyless (handle_owns R p k)
-handle_owns-Keyless R s p None = λ _. tt
-handle_owns-Keyless R s p (Some x) = (lies R s p x, the_frees.frees _ _ p)
+pub owns_unless_null-Keyless : (R : RattleType) → IsSend R → (p : Ptr) (k : Option R.Denot) → Keyless (owns_unless_null R p k)
+owns_unless_null-Keyless R s p None = λ _. tt
+owns_unless_null-Keyless R s p (Some x) = (lies R s p x, the_frees.frees _ _ p)

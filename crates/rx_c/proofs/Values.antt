@@ -31,7 +31,7 @@ use denote.Struct.Struct.{Shape, Struct, within}
 use denote.Struct.Owning.{shape}
 use Rattle.std.specs.declared.alloc.Allocator.{Ghosts}
 use Rattle.std.specs.declared.alloc.Global.{Global}
-use Rattle.rx_c.specs.Ownership.{heap_token, handle_owns}
+use Rattle.rx_c.specs.Ownership.{block_token, owns_unless_null}
 use Rattle.rx_c.specs.contracts.kept.Kept as kept
 use Rattle.rx_c.specs.contracts.handle.Handle as handle
 use Rattle.rx_typed.specs.contracts.typed.Typed as typed
@@ -114,44 +114,44 @@ Book = book.the_row
 
 module _ {M : Type 1} {𝓤 : Ura M} {𝓛 : Logic 𝓤} {K : Type 0} {Γ : List (Item 𝓤)} {G : Goal 𝓤 𝓛.H} where
   pub handle_out : K → (d : Handle.Denot) (vs : List Val)
-      → (vs ≡ alone (ptr_val d.at) ∷ [] → Seq K 𝓛 (‵ (handle_owns kept.the_row d.at d.kept) ∷ Γ) G)
+      → (vs ≡ alone (ptr_val d.at) ∷ [] → Seq K 𝓛 (‵ (owns_unless_null kept.the_row d.at d.kept) ∷ Γ) G)
       → Seq K 𝓛 (‵ (Handle.own_val d vs) ∷ Γ) G
   handle_out t d vs k =
-      pointer_out handle.the_type.name handle.the_type.args handle.the_type.types t d.at (handle_owns kept.the_row d.at d.kept) vs k
+      pointer_out handle.the_type.name handle.the_type.args handle.the_type.types t d.at (owns_unless_null kept.the_row d.at d.kept) vs k
 
   pub handle_in : K → (p : Ptr) (k : Option (kept.the_row).Denot)
       → Step K 𝓛 (‵ (Handle.own_val (record { at = p; kept = k }) (alone (ptr_val p) ∷ [])) ∷ Γ) G (‵
-      (handle_owns kept.the_row p k) ∷ Γ) G
-  handle_in t p k = pointer_in handle.the_type.name handle.the_type.args handle.the_type.types t p (handle_owns kept.the_row p k)
+      (owns_unless_null kept.the_row p k) ∷ Γ) G
+  handle_in t p k = pointer_in handle.the_type.name handle.the_type.args handle.the_type.types t p (owns_unless_null kept.the_row p k)
 
   pub book_out : K → (d : Book.Denot) (vs : List Val)
-      → (vs ≡ alone (ptr_val d.at) ∷ [] → Seq K 𝓛 (‵ (handle_owns typed.the_row d.at d.kept) ∷ Γ) G)
+      → (vs ≡ alone (ptr_val d.at) ∷ [] → Seq K 𝓛 (‵ (owns_unless_null typed.the_row d.at d.kept) ∷ Γ) G)
       → Seq K 𝓛 (‵ (Book.own_val d vs) ∷ Γ) G
-  book_out t d vs k = pointer_out book.the_type.name book.the_type.args book.the_type.types t d.at (handle_owns typed.the_row d.at d.kept) vs k
+  book_out t d vs k = pointer_out book.the_type.name book.the_type.args book.the_type.types t d.at (owns_unless_null typed.the_row d.at d.kept) vs k
 
   pub book_in : K → (p : Ptr) (k : Option (typed.the_row).Denot)
       → Step K 𝓛 (‵ (Book.own_val (record { at = p; kept = k }) (alone (ptr_val p) ∷ [])) ∷ Γ) G (‵
-      (handle_owns typed.the_row p k) ∷ Γ) G
-  book_in t p k = pointer_in book.the_type.name book.the_type.args book.the_type.types t p (handle_owns typed.the_row p k)
+      (owns_unless_null typed.the_row p k) ∷ Γ) G
+  book_in t p k = pointer_in book.the_type.name book.the_type.args book.the_type.types t p (owns_unless_null typed.the_row p k)
 
 module _ (R : RattleType) (a : Global) where
   pub tested : {M : Type 1} {𝓤 : Ura M} (𝓛 : Logic 𝓤) (p : Ptr) (x : R.Denot)
-      → ent 𝓤 (sem 𝓛 (box_owns heap_token R p x)) (guard 𝓤 (Testable p) (sem 𝓛 (box_owns heap_token R p x)))
+      → ent 𝓤 (sem 𝓛 (box_owns block_token R p x)) (guard 𝓤 (Testable p) (sem 𝓛 (box_owns block_token R p x)))
   tested {𝓤 = 𝓤} 𝓛 p x =
       fact_use 𝓤 (Testable p)
-      (via 𝓤 _ (snd∗ 𝓤 (sem 𝓛 (lies_at R full_share p x)) (sem 𝓛 (heap_token (bare (lone R.mir)) p)))
+      (via 𝓤 _ (snd∗ 𝓤 (sem 𝓛 (lies_at R full_share p x)) (sem 𝓛 (block_token (bare (lone R.mir)) p)))
       (dealloc_token-Testable 𝓛 a (bare (lone R.mir)) p))
-      (guard_i 𝓤 (Testable p) (sem 𝓛 (box_owns heap_token R p x)))
+      (guard_i 𝓤 (Testable p) (sem 𝓛 (box_owns block_token R p x)))
 
   module _ {M : Type 1} {𝓤 : Ura M} {𝓛 : Logic 𝓤} {K : Type 0} {Γ : List (Item 𝓤)} {G : Goal 𝓤 𝓛.H} where
     pub either : K → (p : Ptr) (k : Option R.Denot) → (p ≡ null_ptr → k ≡ None → Seq K 𝓛 Γ G)
         → ((b o : ℕ) (x : R.Denot) → p ≡ block_ptr b o → k ≡ Some x → Testable (block_ptr b o)
-        → Seq K 𝓛 (‵ (box_owns heap_token R (block_ptr b o) x) ∷ Γ) G)
-        → Seq K 𝓛 (‵ (handle_owns R p k) ∷ Γ) G
+        → Seq K 𝓛 (‵ (box_owns block_token R (block_ptr b o) x) ∷ Γ) G)
+        → Seq K 𝓛 (‵ (owns_unless_null R p k) ∷ Γ) G
     either t p None none one = fpick t (λ is. drop t $ none is refl)
     either t p (Some x) none one =
-        in_a_block t p (λ q. box_owns heap_token R q x)
-        (fst∗ 𝓤 (never 𝓤) (sem 𝓛 (heap_token (bare (lone R.mir)) null_ptr))) (λ b o e.
-        use1 𝓛 (given (Testable (block_ptr b o)) (‵ (box_owns heap_token R (block_ptr b o) x))) (tested 𝓛
+        in_a_block t p (λ q. box_owns block_token R q x)
+        (fst∗ 𝓤 (never 𝓤) (sem 𝓛 (block_token (bare (lone R.mir)) null_ptr))) (λ b o e.
+        use1 𝓛 (given (Testable (block_ptr b o)) (‵ (box_owns block_token R (block_ptr b o) x))) (tested 𝓛
         (block_ptr b o) x) $
         learn t (λ u. one b o x e refl u))

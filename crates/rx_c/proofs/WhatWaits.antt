@@ -4,10 +4,10 @@ use Rattle.std.proofs.lemmas.Option.{same_Some}
 use Rattle.rx_live.specs.Session.{Session}
 use Rattle.rx_c.specs.declared.kept.Unread.{Unread}
 use Rattle.rx_c.specs.declared.kept.Unread.TheVariants.{Nothing, Answer, Last}
-use Rattle.rx_c.specs.Stages.{stage_by, length_by, opened, Stage, Waits, answer_waits, last_waits}
+use Rattle.rx_c.specs.Stages.{stage_by, length_by, opened, HandleStage, Waits, answer_waits, last_waits}
 
 -- an answer of this length waits
-pub record HasUnread (stage : Stage) (count : ℕ) : Type 0 where
+pub record HasUnread (stage : HandleStage) (count : ℕ) : Type 0 where
   pub text : List ℕ
   pub waits : Waits text stage
   pub is : count ≡ length text

@@ -17,5 +17,5 @@ pub record TellsVerdict (dump text : List ℕ) (status : ℕ) : Type 0 where
   pub says : status ≡ if is_lawful verdict then 0 else 5
 
 -- the bytes are too many, or no JSON text, or one that is no dump
-abbrev pub IsNoDump : List ℕ → Type 0
-IsNoDump dump = (most_bytes < length dump) ⊎ ((value : Data) → IsJsonOf dump value → history_of value ≡ None)
+abbrev pub HasNoHistory : List ℕ → Type 0
+HasNoHistory dump = (most_bytes < length dump) ⊎ ((value : Data) → IsJsonOf dump value → history_of value ≡ None)

@@ -8,12 +8,12 @@ use Rattle.rx_script.specs.Stage.{Ware}
 use Rattle.rx_script.specs.Running.{IsOutputOf, GivesNoOutput}
 
 -- a fresh resource of this tag
-abbrev pub fresh : ℕ → Ware
-fresh tag = record { tag = tag; is_fresh = true }
+abbrev pub fresh_ware : ℕ → Ware
+fresh_ware tag = record { tag = tag; is_fresh = true }
 
 -- 256 of them, of the tags from 0 on
 abbrev pub stock : List Ware
-stock = map fresh (range_with_len 0 256)
+stock = map fresh_ware (range_with_len 0 256)
 
 -- the bytes are a scenario, and the text is what is written of it in this form
 pub record TellsRun (scenario : List ℕ) (form : Form) (text : List ℕ) (status : ℕ) : Type 0 where
@@ -29,5 +29,5 @@ pub record IsUnwritten (form : Form) (scenario : List ℕ) : Type 0 where
   pub none : GivesNoOutput value form
 
 -- the bytes are too many, or no JSON text, or one that is no scenario, or a scenario that has nothing to be written in this form
-abbrev pub HasNoOutput : Form → List ℕ → Type 0
-HasNoOutput form scenario = (most_bytes < length scenario) ⊎ ((value : Data) → IsJsonOf scenario value → GivesNoOutput value form)
+abbrev pub HasNothingToWrite : Form → List ℕ → Type 0
+HasNothingToWrite form scenario = (most_bytes < length scenario) ⊎ ((value : Data) → IsJsonOf scenario value → GivesNoOutput value form)

@@ -7,14 +7,14 @@ use Rattle.rx_c.specs.declared.kept.Unread.{Unread}
 use Rattle.rx_c.specs.declared.kept.Unread.TheVariants.{Nothing, Answer, Last}
 
 -- nothing; a book; a book and the answer that waits; the last answer of a book that was ended, which waits
-pub data Stage : Type 0 where
-  absent : Stage
-  opened : Session → Stage
-  waiting : Session → List ℕ → Stage
-  ended : List ℕ → Stage
+pub data HandleStage : Type 0 where
+  absent : HandleStage
+  opened : Session → HandleStage
+  waiting : Session → List ℕ → HandleStage
+  ended : List ℕ → HandleStage
 
 -- a book and its last answer, by whether that waits
-abbrev pub stage_by : Session → (text : List ℕ) → Unread → Stage
+abbrev pub stage_by : Session → (text : List ℕ) → Unread → HandleStage
 stage_by s text Nothing = opened s
 stage_by s text Answer = waiting s text
 stage_by s text Last = ended text
@@ -27,25 +27,25 @@ length_by text Last = Some (length text)
 abbrev pub unread_length : Kept → Option ℕ
 unread_length kept = length_by (answer kept.live) kept.unread
 
-abbrev pub stage_of : Kept → Stage
-stage_of kept = stage_by (session kept.live) (answer kept.live) kept.unread
+abbrev pub handle_stage : Kept → HandleStage
+handle_stage kept = stage_by (session kept.live) (answer kept.live) kept.unread
 
-abbrev pub stage : Option Kept → Stage
+abbrev pub stage : Option Kept → HandleStage
 stage None = absent
-stage (Some kept) = stage_of kept
+stage (Some kept) = handle_stage kept
 
 -- what is left of it, by whether its last answer was handed out
-abbrev pub left : Bool → Kept → Stage
-left is_over kept = cond is_over absent (stage_of kept)
+abbrev pub left : Bool → Kept → HandleStage
+left is_over kept = cond is_over absent (handle_stage kept)
 
 -- something is kept
-abbrev pub IsPresent : Stage → Type 0
+abbrev pub IsPresent : HandleStage → Type 0
 IsPresent absent = ⊥
 IsPresent (opened s) = Unit {0}
 IsPresent (waiting s text) = Unit {0}
 IsPresent (ended text) = Unit {0}
 
 -- this answer waits
-pub data Waits (text : List ℕ) : Stage → Type 0 where
+pub data Waits (text : List ℕ) : HandleStage → Type 0 where
   answer_waits : (s : Session) → Waits text (waiting s text)
   last_waits : Waits text (ended text)

@@ -2,8 +2,8 @@
 
 ghost use Rattle.std.specs.Prelude.{◌≡◌, [], IfOk, IsErrOf};
 ghost use Rattle.rx_device.specs.declared.fault.ScriptError.{ScriptError};
-ghost use Rattle.rx_c.specs.Answers.{Answers};
-ghost use Rattle.rx_c.specs.Audited.{TellsVerdict, IsNoDump};
+ghost use Rattle.rx_c.specs.Answers.{AnswersText};
+ghost use Rattle.rx_c.specs.Audited.{TellsVerdict, HasNoHistory};
 
 use crate::handing::hand_out;
 use rx_device::{ScriptError, Watched};
@@ -14,8 +14,8 @@ use std::alloc::Global;
 fn verdict_on(alloc: Global, dump: &[u8], text: &mut Vec<u8>) -> Result<u8, ScriptError>
     requires { text.old.items ≡ [] }
     ensures ok { IfOk result (TellsVerdict dump.now text.new.items) }
-    ensures syntax { IsErrOf result ScriptError.Syntax → IsNoDump dump.now }
-    ensures shape { IsErrOf result ScriptError.Shape → IsNoDump dump.now }
+    ensures syntax { IsErrOf result ScriptError.Syntax → HasNoHistory dump.now }
+    ensures shape { IsErrOf result ScriptError.Shape → HasNoHistory dump.now }
 {
     let mut left = dump;
     let mut input = Watched::new(&mut left);
@@ -31,7 +31,7 @@ fn verdict_on(alloc: Global, dump: &[u8], text: &mut Vec<u8>) -> Result<u8, Scri
 /// small, 3 where the bytes are no dump, 4 where memory was refused.
 #[unsafe(no_mangle)]
 pub extern "C" fn rx_audit(alloc: Global, dump: &[u8], buffer: &mut [u8], told: &mut usize) -> u8
-    ensures { Answers (TellsVerdict dump.now) (IsNoDump dump.now) buffer.old buffer.new told.new result }
+    ensures { AnswersText (TellsVerdict dump.now) (HasNoHistory dump.now) buffer.old buffer.new told.new result }
 {
     let mut text = Vec::new(alloc);
     let outcome = verdict_on(alloc, dump, &mut text);

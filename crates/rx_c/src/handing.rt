@@ -1,15 +1,15 @@
 //! How an outcome is handed out: its text and its status.
 
 ghost use Rattle.std.specs.Prelude.{◌≡◌, true, false};
-ghost use Rattle.rx_c.specs.Answers.{IsGiven, IsTooLong};
-ghost use Rattle.rx_c.specs.Handing.{IsHandedOut, fault_status};
+ghost use Rattle.rx_c.specs.Answers.{IsGiven, IsTextTooLong};
+ghost use Rattle.rx_c.specs.Handing.{IsHandedOut, fault_status_in_memory};
 
 use rx_device::ScriptError;
 
 /// Hands the text out if it fits: to the front of `buffer`. Its length is told in either case.
 pub fn fits(text: &[u8], buffer: &mut [u8], told: &mut usize) -> bool
     ensures given { result ≡ true → IsGiven text.now buffer.old buffer.new told.new }
-    ensures too_long { result ≡ false → IsTooLong text.now buffer.old buffer.new told.new }
+    ensures too_long { result ≡ false → IsTextTooLong text.now buffer.old buffer.new told.new }
 {
     *told = text.len();
     if text.len() > buffer.len() {
@@ -21,8 +21,8 @@ pub fn fits(text: &[u8], buffer: &mut [u8], told: &mut usize) -> bool
 
 // The status of a fault: as the program has it of faulty input and of memory that was refused. A text
 // that is read from memory and written to it meets no other fault, so that 1 is left to a small buffer.
-fn fault_status(error: &ScriptError) -> u8
-    ensures { result ≡ fault_status error.now }
+fn fault_status_in_memory(error: &ScriptError) -> u8
+    ensures { result ≡ fault_status_in_memory error.now }
 {
     match error {
         ScriptError::Syntax | ScriptError::Shape => 3,
@@ -44,7 +44,7 @@ pub fn hand_out(
     *told = 0;
     let status = match outcome {
         Ok(status) => status,
-        Err(error) => return fault_status(&error),
+        Err(error) => return fault_status_in_memory(&error),
     };
     if fits(text, buffer, told) { status } else { 1 }
 }

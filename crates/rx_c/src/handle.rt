@@ -2,7 +2,7 @@
 
 ghost use Rattle.std.specs.Prelude.{◌≡◌, Option, None, Some, MatchOption};
 ghost use Rattle.std.specs.Coded.{coded_option};
-ghost use Rattle.rx_c.specs.Ownership.{handle_owns};
+ghost use Rattle.rx_c.specs.Ownership.{owns_unless_null};
 ghost use Rattle.rx_c.specs.declared.kept.Kept.{Kept};
 ghost use Rattle.rx_c.specs.contracts.kept.Kept.{the_row};
 
@@ -24,7 +24,7 @@ pub struct Handle {
 }
 
 impl Model for Handle {
-    ghost also_owns = { λ h. handle_owns the_row h.at h.kept };
+    ghost also_owns = { λ h. owns_unless_null the_row h.at h.kept };
 }
 
 // It may go to another thread: `proofs/handle/Handle/TheSendSync/Send.antt` shows it.

@@ -2,8 +2,8 @@
 
 ghost use Rattle.std.specs.Prelude.{◌≡◌, IfOk};
 ghost use Rattle.rx_live.specs.Live.{session};
-ghost use Rattle.rx_c.specs.Calls.{IsSent, IsRead, IsEnded};
-ghost use Rattle.rx_c.specs.Stages.{stage_of, left, opened, unread_length};
+ghost use Rattle.rx_c.specs.Calls.{IsSent, IsAnswerRead, IsEnded};
+ghost use Rattle.rx_c.specs.Stages.{handle_stage, left, opened, unread_length};
 
 use crate::handing::fits;
 use crate::status::{ANSWER_WAITS, DONE, NOTHING_WAITS, OUT_OF_MEMORY, TOO_SMALL};
@@ -30,7 +30,7 @@ pub struct Kept {
 impl Kept {
     /// A book of which nothing waits.
     pub fn new(live: Live) -> Kept
-        ensures { stage_of result ≡ opened (session live) }
+        ensures { handle_stage result ≡ opened (session live) }
     {
         Kept {
             live,
@@ -51,7 +51,7 @@ impl Kept {
 
     /// Sends a line, unless an answer waits.
     pub fn send(&mut self, line: &[u8], buffer: &mut [u8], told: &mut usize) -> u8
-        ensures { IsSent (stage_of self.old) (stage_of self.new) line.now buffer.old buffer.new told.new result }
+        ensures { IsSent (handle_stage self.old) (handle_stage self.new) line.now buffer.old buffer.new told.new result }
     {
         *told = 0;
         if let Some(length) = self.length() {
@@ -72,7 +72,7 @@ impl Kept {
 
     /// Hands out the answer that waits. Says too whether it was the last one.
     pub fn read(&mut self, buffer: &mut [u8], told: &mut usize) -> (u8, bool)
-        ensures { IsRead (stage_of self.old) (left result.1 self.new) buffer.old buffer.new told.new result.0 }
+        ensures { IsAnswerRead (handle_stage self.old) (left result.1 self.new) buffer.old buffer.new told.new result.0 }
     {
         *told = 0;
         match self.unread {
@@ -96,7 +96,7 @@ impl Kept {
 
     /// Ends the book, unless an answer waits. Says too whether the last answer was handed out.
     pub fn end(&mut self, buffer: &mut [u8], told: &mut usize) -> (u8, bool)
-        ensures { IsEnded (stage_of self.old) (left result.1 self.new) buffer.old buffer.new told.new result.0 }
+        ensures { IsEnded (handle_stage self.old) (left result.1 self.new) buffer.old buffer.new told.new result.0 }
     {
         *told = 0;
         if let Some(length) = self.length() {
@@ -118,7 +118,7 @@ impl Kept {
 
 /// A book of which nothing waits, in a box. Err where memory is refused for that; the book is dropped then.
 pub fn boxed(alloc: Global, live: Live) -> Result<Box<Kept>, AllocError>
-    ensures { IfOk result (λ b. stage_of b.value ≡ opened (session live)) }
+    ensures { IfOk result (λ b. handle_stage b.value ≡ opened (session live)) }
 {
     let kept = Box::new(alloc, Kept::new(live))?;
     Ok(kept)

@@ -1,7 +1,7 @@
 //! A live book behind a handle.
 
 ghost use Rattle.std.specs.Prelude.{◌≡◌};
-ghost use Rattle.rx_c.specs.Calls.{IsMade, IsSent, IsRead, IsEnded};
+ghost use Rattle.rx_c.specs.Calls.{IsMade, IsSent, IsAnswerRead, IsEnded};
 ghost use Rattle.rx_c.specs.Stages.{stage, absent};
 
 use crate::handle::Handle;
@@ -72,7 +72,7 @@ pub extern "C" fn rx_live_read(
     buffer: &mut [u8],
     told: &mut usize,
 ) -> u8
-    ensures { IsRead (stage handle.old.kept) (stage handle.new.kept) buffer.old buffer.new told.new result }
+    ensures { IsAnswerRead (stage handle.old.kept) (stage handle.new.kept) buffer.old buffer.new told.new result }
 {
     *told = 0;
     let Some(mut kept) = handle.take(alloc) else {

@@ -4,8 +4,8 @@ ghost use Rattle.std.specs.Prelude.{◌≡◌, [], IfOk, IsErrOf, map};
 ghost use Rattle.rx_device.specs.declared.fault.ScriptError.{ScriptError};
 ghost use Rattle.rx_script.specs.declared.Form.{Form};
 ghost use Rattle.rx_script.specs.Stage.{ware_of};
-ghost use Rattle.rx_c.specs.Answers.{Answers};
-ghost use Rattle.rx_c.specs.Ran.{TellsRun, HasNoOutput, IsUnwritten, stock};
+ghost use Rattle.rx_c.specs.Answers.{AnswersText};
+ghost use Rattle.rx_c.specs.Ran.{TellsRun, HasNothingToWrite, IsUnwritten, stock};
 
 use crate::handing::hand_out;
 use rx_device::{ScriptError, Watched};
@@ -31,7 +31,7 @@ fn carry_out(
 ) -> Result<u8, ScriptError>
     requires { text.old.items ≡ [] }
     ensures ok { IfOk result (TellsRun scenario.now form text.new.items) }
-    ensures syntax { IsErrOf result ScriptError.Syntax → HasNoOutput form scenario.now }
+    ensures syntax { IsErrOf result ScriptError.Syntax → HasNothingToWrite form scenario.now }
     ensures shape { IsErrOf result ScriptError.Shape → IsUnwritten form scenario.now }
 {
     let Ok(stock) = fresh_stock(alloc) else {
@@ -46,7 +46,8 @@ fn carry_out(
 
 /// Runs a scenario and hands out what the form says.
 pub fn run_in(alloc: Global, scenario: &[u8], form: Form, buffer: &mut [u8], told: &mut usize) -> u8
-    ensures { Answers (TellsRun scenario.now form) (HasNoOutput form scenario.now) buffer.old buffer.new told.new result }
+    ensures { AnswersText (TellsRun scenario.now form)
+        (HasNothingToWrite form scenario.now) buffer.old buffer.new told.new result }
 {
     let mut text = Vec::new(alloc);
     let outcome = carry_out(alloc, scenario, form, &mut text);
@@ -60,7 +61,7 @@ pub fn run_in(alloc: Global, scenario: &[u8], form: Form, buffer: &mut [u8], tol
 /// scenario, 4 where memory was refused.
 #[unsafe(no_mangle)]
 pub extern "C" fn rx_run(alloc: Global, scenario: &[u8], buffer: &mut [u8], told: &mut usize) -> u8
-    ensures { Answers (TellsRun scenario.now Form.Report) (HasNoOutput Form.Report scenario.now)
+    ensures { AnswersText (TellsRun scenario.now Form.Report) (HasNothingToWrite Form.Report scenario.now)
         buffer.old buffer.new told.new result }
 {
     run_in(alloc, scenario, Form::Report, buffer, told)
@@ -76,7 +77,7 @@ pub extern "C" fn rx_run_dump(
     buffer: &mut [u8],
     told: &mut usize,
 ) -> u8
-    ensures { Answers (TellsRun scenario.now Form.Dump) (HasNoOutput Form.Dump scenario.now)
+    ensures { AnswersText (TellsRun scenario.now Form.Dump) (HasNothingToWrite Form.Dump scenario.now)
         buffer.old buffer.new told.new result }
 {
     run_in(alloc, scenario, Form::Dump, buffer, told)

@@ -3,8 +3,8 @@
 ghost use Rattle.std.specs.Prelude.{◌≡◌, [], IfOk, IsErrOf, string_bytes};
 ghost use Rattle.rx_device.specs.declared.fault.ScriptError.{ScriptError};
 ghost use Rattle.rx_script.specs.declared.Form.{Form};
-ghost use Rattle.rx_c.specs.Answers.{Answers};
-ghost use Rattle.rx_c.specs.Ran.{TellsRun, HasNoOutput};
+ghost use Rattle.rx_c.specs.Answers.{AnswersText};
+ghost use Rattle.rx_c.specs.Ran.{TellsRun, HasNothingToWrite};
 ghost use Rattle.rx_c.specs.Shown.{TellsPicture, HasNoDump, TellsFault};
 
 use crate::handing::hand_out;
@@ -26,7 +26,7 @@ pub extern "C" fn cellar_run_names(
     buffer: &mut [u8],
     told: &mut usize,
 ) -> u8
-    ensures { Answers (TellsRun scenario.now Form.NamedDump) (HasNoOutput Form.NamedDump scenario.now)
+    ensures { AnswersText (TellsRun scenario.now Form.NamedDump) (HasNothingToWrite Form.NamedDump scenario.now)
         buffer.old buffer.new told.new result }
 {
     run_in(alloc, scenario, Form::NamedDump, buffer, told)
@@ -62,7 +62,7 @@ pub extern "C" fn cellar_picture(
     buffer: &mut [u8],
     told: &mut usize,
 ) -> u8
-    ensures { Answers (TellsPicture input.now) (HasNoDump input.now) buffer.old buffer.new told.new result }
+    ensures { AnswersText (TellsPicture input.now) (HasNoDump input.now) buffer.old buffer.new told.new result }
 {
     let mut text = String::new(alloc);
     let outcome = draw(alloc, input, &mut text);
@@ -98,7 +98,7 @@ pub extern "C" fn cellar_explain(
     buffer: &mut [u8],
     told: &mut usize,
 ) -> u8
-    ensures { Answers (TellsFault input.now) ⊥ buffer.old buffer.new told.new result }
+    ensures { AnswersText (TellsFault input.now) ⊥ buffer.old buffer.new told.new result }
 {
     let mut text = String::new(alloc);
     let outcome = tell(alloc, input, &mut text);

@@ -14,7 +14,8 @@ use Rattle.rx_scenario.specs.Reading.{is_name_text, is_name_byte, action_in, act
 use Rattle.rx_scenario.specs.Reading.{remove_of, return_of, end_command_of, decline_of, dispose_of, disconnect_of, drain_of}
 use Rattle.rx_line.specs.Orders.{plain, task, order_in, does, says, query_in, is_timed, command_in, task_in, IsOrderOf}
 use Rattle.rx_line.specs.declared.free.FreeCommand.{FreeCommand}
-use Rattle.rx_line.specs.FreeCommands.{free_command_of, past_mark, word_in, Said, member_in, is_end, free_of_node, free_named, free_by, free_said, free_first, free_in}
+use Rattle.rx_line.specs.FreeCommands.{free_command_of, past_mark, quoted_word_in, Said, member_in, is_end, free_of_node, free_named, free_by, free_said}
+use Rattle.rx_line.specs.FreeCommands.{free_first, free_in}
 use Rattle.rx_line.proofs.WordsLexed.{same_rest}
 use Rattle.rx_line.proofs.ObjectsRead.{of_one, of_two, reads_one, reads_two}
 

@@ -8,7 +8,7 @@ use Rattle.std.specs.String.{string_eq}
 use Rattle.std.specs.HashMap.{HashMap, get, get_by_text, IsReordered}
 use Rattle.std.specs.Map.{lookup}
 use Rattle.rx_line.specs.declared.names.Names.{Names}
-use Rattle.rx_line.specs.Names.{IsPaired, AreSame}
+use Rattle.rx_line.specs.Names.{IsPaired, AreSameNames}
 use Rattle.std.proofs.Common.{rules}
 
 -- what is found stands at a key
@@ -31,8 +31,8 @@ module _ {X S : Type 0} (m n : HashMap (String Global) X S) (same : (q : String 
   pub reordered_text : (cs : List ℕ) → get_by_text n cs ≡ get_by_text m cs
   reordered_text cs = search (rules, Option, None, Some, found_at, String, Global, string_bytes, at_key)
 
-pub same_names : (old new : Names) → IsReordered string_eq old.by_name new.by_name → IsReordered nat_eq old.by_number new.by_number → AreSame old new
+pub same_names : (old new : Names) → IsReordered string_eq old.by_name new.by_name → IsReordered nat_eq old.by_number new.by_number → AreSameNames old new
 same_names old new by_name by_number = search (rules, reordered_text, option_map, string_bytes)
 
-pub still_paired : (old new : Names) → AreSame old new → IsPaired old → IsPaired new
+pub still_paired : (old new : Names) → AreSameNames old new → IsPaired old → IsPaired new
 still_paired old new same paired = search (rules, option_map)

@@ -8,7 +8,7 @@ use Rattle.json.specs.Token.{Token, begin_object, end_object, string, key}
 use Rattle.json.specs.Json.{value, members, items, if_last}
 use Rattle.serde_json.specs.Data as json
 use Rattle.serde_json.specs.Read.{read, of_json, max_depth}
-use Rattle.rx_line.specs.FreeCommands.{past_blanks, past_mark, word_in, Said, said_by, member_in, is_blank, is_end}
+use Rattle.rx_line.specs.FreeCommands.{past_blanks, past_mark, quoted_word_in, Said, said_by, member_in, is_blank, is_end}
 use Rattle.rx_line.proofs.WordsLexed.{same_rest, lex_blanks, lex_mark, lex_word}
 
 -- the end of an object -------------------------------------------------------------------------------
@@ -36,32 +36,32 @@ lex_end t is = end_by t (past_mark 125 t) refl is
 
 record Member (t : List ℕ) (said : Said) : Type 0 where
   after_key : List ℕ
-  key_is : word_in t ≡ Some (said.key, after_key)
+  key_is : quoted_word_in t ≡ Some (said.key, after_key)
   after_colon : List ℕ
   colon_is : past_mark 58 after_key ≡ Some after_colon
-  value_is : word_in after_colon ≡ Some (said.value, said.rest)
+  value_is : quoted_word_in after_colon ≡ Some (said.value, said.rest)
 
-member_ends : (t : List ℕ) (said : Said) (k a c : List ℕ) → word_in t ≡ Some (k, a) → past_mark 58 a ≡ Some c → (o : Option (List ℕ × List ℕ))
-    → word_in c ≡ o → option_map (said_by (k, a)) o ≡ Some said → Member t said
+member_ends : (t : List ℕ) (said : Said) (k a c : List ℕ) → quoted_word_in t ≡ Some (k, a) → past_mark 58 a ≡ Some c → (o : Option (List ℕ × List ℕ))
+    → quoted_word_in c ≡ o → option_map (said_by (k, a)) o ≡ Some said → Member t said
 member_ends t said k a c e f None g is = absurd (cc)
 member_ends t said k a c e f (Some v) g is =
     let made : Said = said_by (k, a) v in
     let same : made ≡ said = same_rest made said is in
     subst (Member t) same (record { after_key = a; key_is = e; after_colon = c; colon_is = f; value_is = g })
 
-member_goes : (t : List ℕ) (said : Said) (k a : List ℕ) → word_in t ≡ Some (k, a) → (o : Option (List ℕ)) → past_mark 58 a ≡ o
-    → option_map (said_by (k, a)) (option_and_then word_in o) ≡ Some said → Member t said
+member_goes : (t : List ℕ) (said : Said) (k a : List ℕ) → quoted_word_in t ≡ Some (k, a) → (o : Option (List ℕ)) → past_mark 58 a ≡ o
+    → option_map (said_by (k, a)) (option_and_then quoted_word_in o) ≡ Some said → Member t said
 member_goes t said k a e None f is = absurd (cc)
-member_goes t said k a e (Some c) f is = member_ends t said k a c e f (word_in c) refl is
+member_goes t said k a e (Some c) f is = member_ends t said k a c e f (quoted_word_in c) refl is
 
-member_begins : (t : List ℕ) (said : Said) (o : Option (List ℕ × List ℕ)) → word_in t ≡ o
-    → option_and_then (λ key. option_map (said_by key) (option_and_then word_in (past_mark 58 key.1))) o ≡ Some said → Member t said
+member_begins : (t : List ℕ) (said : Said) (o : Option (List ℕ × List ℕ)) → quoted_word_in t ≡ o
+    → option_and_then (λ key. option_map (said_by key) (option_and_then quoted_word_in (past_mark 58 key.1))) o ≡ Some said → Member t said
 member_begins t said None e is = absurd (cc)
 member_begins t said (Some p) e is = member_goes t said p.0 p.1 e (past_mark 58 p.1) refl is
 
 member_of : (t : List ℕ) (said : Said) → member_in t ≡ Some said → Member t said
 unfolding member_in
-member_of t said is = member_begins t said (word_in t) refl is
+member_of t said is = member_begins t said (quoted_word_in t) refl is
 
 pub lex_member : (t : List ℕ) (said : Said) → member_in t ≡ Some said
     → lex between t ≡ token (string said.key) ∷ colon ∷ token (string said.value) ∷ lex between said.rest

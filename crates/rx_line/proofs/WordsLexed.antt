@@ -11,7 +11,7 @@ use Rattle.json.specs.Text.{content, plain, after_backslash, prepend}
 use Rattle.json.specs.Lex.{Lexeme, token, class, Class, quote, backslash, operator, space, other, operator_lexeme, between, in_string, in_word, lex, lex_byte, string_token}
 use Rattle.json.specs.Token.{string}
 use Rattle.rx_scenario.specs.Reading.{is_name_byte}
-use Rattle.rx_line.specs.FreeCommands.{past_blanks, behind, past_mark, word_before, word_in}
+use Rattle.rx_line.specs.FreeCommands.{past_blanks, behind, past_mark, word_before, quoted_word_in}
 
 -- a blank is one of four bytes
 blank_is : (P : ℕ → Type 0) → P 32 → P 9 → P 10 → P 13 → (b : ℕ) → is_space b ≡ true → P b
@@ -163,11 +163,11 @@ word_begins t w r (Some q) e is =
     let both = word_ends q w r (behind 34 (drop (prefix_len is_name_byte q) q)) is in
     record { quoted = q; begins = e; is = both.0; ends = both.1 }
 
-word_of : (t w r : List ℕ) → word_in t ≡ Some (w, r) → Word t w r
-unfolding word_in
+word_of : (t w r : List ℕ) → quoted_word_in t ≡ Some (w, r) → Word t w r
+unfolding quoted_word_in
 word_of t w r is = word_begins t w r (past_mark 34 t) refl is
 
-pub lex_word : (t w r : List ℕ) → word_in t ≡ Some (w, r) → lex between t ≡ token (string w) ∷ lex between r
+pub lex_word : (t w r : List ℕ) → quoted_word_in t ≡ Some (w, r) → lex between t ≡ token (string w) ∷ lex between r
 unfolding past_mark
 lex_word t w r is =
     let word = word_of t w r is in

@@ -41,8 +41,8 @@ abbrev pub word_before : List ℕ → Option (List ℕ × List ℕ)
 word_before text =
     option_map (λ rest. (take (prefix_len is_name_byte text) text, rest)) (behind 34 (drop (prefix_len is_name_byte text) text))
 
-unfoldable pub word_in : List ℕ → Option (List ℕ × List ℕ)
-word_in text = option_and_then word_before (past_mark 34 text)
+unfoldable pub quoted_word_in : List ℕ → Option (List ℕ × List ℕ)
+quoted_word_in text = option_and_then word_before (past_mark 34 text)
 
 -- a member, and the text behind it
 pub record Said : Type 0 where
@@ -57,7 +57,7 @@ abbrev pub said_by : (key value : List ℕ × List ℕ) → Said
 said_by key value = record { key = key.0; value = value.0; rest = value.1 }
 
 unfoldable pub member_in : List ℕ → Option Said
-member_in text = option_and_then (λ key. option_map (said_by key) (option_and_then word_in (past_mark 58 key.1))) (word_in text)
+member_in text = option_and_then (λ key. option_map (said_by key) (option_and_then quoted_word_in (past_mark 58 key.1))) (quoted_word_in text)
 
 abbrev pub is_blank : List ℕ → Bool
 is_blank text = length (past_blanks text) == 0

@@ -5,7 +5,7 @@ ghost use Rattle.std.specs.List.{prefix_len};
 ghost use Rattle.json.specs.Word.{is_space};
 ghost use Rattle.rx_scenario.specs.Reading.{is_name_byte};
 ghost use Rattle.rx_line.specs.Orders.{plain, task, IsOrderOf};
-ghost use Rattle.rx_line.specs.FreeCommands.{past_blanks, behind, past_mark, word_in, said_of, member_in, is_end, free_command_of, free_of_node, free_named, free_by, free_said, free_in};
+ghost use Rattle.rx_line.specs.FreeCommands.{past_blanks, behind, past_mark, quoted_word_in, said_of, member_in, is_end, free_command_of, free_of_node, free_named, free_by, free_said, free_in};
 
 use rx_scenario::is_name;
 
@@ -82,9 +82,9 @@ fn past_mark(text: &[u8], mark: u8) -> Option<&[u8]>
 }
 
 // A word between quotes, of the bytes that names have, and what is behind it.
-#[tactic(auto, unfolding(crate::specs::FreeCommands::word_in))]
-fn word_in(text: &[u8]) -> Option<(&str, &[u8])>
-    ensures { option_map (λ p. (p.0.now, p.1.now)) result ≡ word_in text.now }
+#[tactic(auto, unfolding(crate::specs::FreeCommands::quoted_word_in))]
+fn quoted_word_in(text: &[u8]) -> Option<(&str, &[u8])>
+    ensures { option_map (λ p. (p.0.now, p.1.now)) result ≡ quoted_word_in text.now }
 {
     let quoted = past_mark(text, b'"')?;
     let len = name_len(quoted);
@@ -100,9 +100,9 @@ fn word_in(text: &[u8]) -> Option<(&str, &[u8])>
 fn member_in(text: &[u8]) -> Option<Said<'_>>
     ensures { option_map said_of result ≡ member_in text.now }
 {
-    let (key, after_key) = word_in(text)?;
+    let (key, after_key) = quoted_word_in(text)?;
     let after_colon = past_mark(after_key, b':')?;
-    let (value, rest) = word_in(after_colon)?;
+    let (value, rest) = quoted_word_in(after_colon)?;
     Some(Said { key, value, rest })
 }
 

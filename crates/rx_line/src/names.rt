@@ -3,7 +3,7 @@
 ghost use Rattle.std.specs.Prelude.{◌≡◌, ℕ, ◌+◌, ◌<◌, ◌≤◌, None, option_map, is_some, string_bytes, IfOk, IfSome, IfNone, OnOk};
 ghost use Rattle.std.specs.Bool.{nat_eq};
 ghost use Rattle.std.specs.List.{list_any};
-ghost use Rattle.rx_line.specs.Names.{spot_of, name_of, room_of, AreNone, IsPaired, AreSame, Binds, Forgets};
+ghost use Rattle.rx_line.specs.Names.{spot_of, name_of_number, room_for_names, AreNone, IsPaired, AreSameNames, Binds, Forgets};
 
 use std::alloc::{AllocError, Global};
 use std::collections::HashMap;
@@ -75,7 +75,7 @@ impl Names {
 
     /// The name of a number.
     pub fn name_of(&self, number: u64) -> Option<&str>
-        ensures { option_map (λ s. s.now) result ≡ name_of self.now number }
+        ensures { option_map (λ s. s.now) result ≡ name_of_number self.now number }
     {
         match self.by_number.get(&number) {
             Some(name) => Some(name.as_str()),
@@ -85,16 +85,16 @@ impl Names {
 
     /// The numbers that have names, in no order. Err where memory is refused.
     pub fn numbers(&self, alloc: Global) -> Result<Vec<u64>, AllocError>
-        ensures { IfOk result (λ numbers. (k : ℕ) → is_some (name_of self.now k) ≡ list_any (nat_eq k) numbers.items) }
+        ensures { IfOk result (λ numbers. (k : ℕ) → is_some (name_of_number self.now k) ≡ list_any (nat_eq k) numbers.items) }
     {
         self.by_number.keys().copied().collect(alloc)
     }
 
     /// Gets room for two more names. Err where memory is refused.
     pub fn make_room(&mut self) -> Result<(), AllocError>
-        ensures same { AreSame self.old self.new }
+        ensures same { AreSameNames self.old self.new }
         ensures paired { IsPaired self.old → IsPaired self.new }
-        ensures ok { OnOk result (2 ≤ room_of self.new) }
+        ensures ok { OnOk result (2 ≤ room_for_names self.new) }
     {
         self.by_name.reserve(2)?;
         self.by_number.reserve(2)
@@ -102,12 +102,12 @@ impl Names {
 
     /// Binds a name that is not bound to a number that has none, where there is room. It takes no memory.
     pub fn bind(&mut self, name: Twice, spot: Spot)
-        requires room { 0 < room_of self.old }
+        requires room { 0 < room_for_names self.old }
         requires free { spot_of self.old name ≡ None }
-        requires unnamed { name_of self.old spot.number ≡ None }
+        requires unnamed { name_of_number self.old spot.number ≡ None }
         ensures paired { IsPaired self.old → IsPaired self.new }
         ensures binds { Binds self.old name spot self.new }
-        ensures room { room_of self.old ≤ room_of self.new + 1 }
+        ensures room { room_for_names self.old ≤ room_for_names self.new + 1 }
     {
         let Twice { one, other } = name;
         let number = spot.number;
@@ -123,10 +123,10 @@ impl Names {
     pub fn forget(&mut self, number: u64) -> Option<String>
         requires { IsPaired self.old }
         ensures paired { IsPaired self.new }
-        ensures value { option_map string_bytes result ≡ name_of self.old number }
+        ensures value { option_map string_bytes result ≡ name_of_number self.old number }
         ensures some { IfSome result (λ name. Forgets self.old number (string_bytes name) self.new) }
-        ensures none { IfNone result (AreSame self.old self.new) }
-        ensures room { room_of self.old ≤ room_of self.new }
+        ensures none { IfNone result (AreSameNames self.old self.new) }
+        ensures room { room_for_names self.old ≤ room_for_names self.new }
     {
         let name = self.by_number.remove(&number)?;
         self.by_name.remove(name.as_str());

@@ -8,8 +8,8 @@ pub use Rattle.rx_event.proofs.Laws.Common.{option_and_then, slice_get, subst, s
 pub use Rattle.std.{proofs.Math.Bool.◌||◌, proofs.lemmas.Cmp.nat_eq_equiv, proofs.lemmas.List.take_more, specs.Bool.nat_eq, specs.HashMap.get}
 pub use Rattle.rx_book.specs.State.{State}
 pub use Rattle.rx_event.{proofs.Laws.Searches.list_any_push, proofs.Laws.Searches.list_any_same_at, specs.Kept.event_since, specs.declared.event.Event.Event}
-pub use Rattle.rx_line.specs.{Names.name_of, Pieces.joined, declared.names.Names.Names}
-pub use Rattle.rx_listing.specs.{Parts.IsKept, Parts.part_object, Parts.counted_of, Parts.is_nil, Parts.led_text, Parts.names_of, Whole.subscribes}
+pub use Rattle.rx_line.specs.{Names.name_of_number, Pieces.joined, declared.names.Names.Names}
+pub use Rattle.rx_listing.specs.{Parts.IsKept, Parts.part_object, Parts.counted_of, Parts.has_no_texts, Parts.led_text, Parts.names_of_part, Whole.subscribes}
 pub use Rattle.rx_listing.specs.Recalled.{connection_by, uses_by, ArePlaced, IsCountable, connected_in, connection_after, uses_in}
 pub use Rattle.rx_listing.specs.declared.{known.Known.Known, list.Part.Part, past.Past.Past, seen.Seen.Seen}
 pub use Rattle.rx_listing.specs.declared.list.Part.TheVariants.{Hubs, Leases, Nodes, Resources}

@@ -1,14 +1,16 @@
 -- Numbers that have names, and the objects of those.
 use Rattle.rx_listing.proofs.Common.{◌≡◌, ◌↔◌, ℕ, ◌+◌, ◌<◌, ◌≤◌, Bool, true, false, cond, List, [], ◌∷◌, ◌++◌, length, take, filter, count_by, filter_map, ap}
 use Rattle.rx_listing.proofs.Common.{get_or, Option, Some, None, HashMap, refl, sym, ◌∙◌, arith, is_some, IsTrue, nat_eq, get, list_any, cons_option, State}
-use Rattle.rx_listing.proofs.Common.{range_with_len, option_and_then, false≢true, nat_eq_equiv, take_more, take_all, sum_by-cons, list_any_same_at, name_of}
-use Rattle.rx_listing.proofs.Common.{joined, Known, Part, Nodes, Resources, Leases, Hubs, is_nil, led_text, names_of, part_object, ArePlaced, subscribes}
+use Rattle.rx_listing.proofs.Common.{range_with_len, option_and_then, false≢true, nat_eq_equiv, take_more, take_all, sum_by-cons, list_any_same_at}
+use Rattle.rx_listing.proofs.Common.{name_of_number}
+use Rattle.rx_listing.proofs.Common.{joined, Known, Part, Nodes, Resources, Leases, Hubs, has_no_texts, led_text, names_of_part, part_object, ArePlaced}
+use Rattle.rx_listing.proofs.Common.{subscribes}
 use Rattle.std.specs.HashMap.{values, IsUnique}
 use Rattle.std.proofs.lemmas.List.Elements.{filter_map-append}
 use Rattle.std.proofs.lemmas.Map.Made.{Contains-from_values_of, Contains-values_of}
 use Rattle.std.proofs.lemmas.Map.Views.{Contains-from_any, list_any-from_Contains, exact_unsigned_eq, hash_map_get_iff}
-use Rattle.rx_listing.specs.Listed.{open_name, if_open, IsPlaced}
-use Rattle.rx_listing.specs.Whole.{Counted, node_object, resource_object, lease_object, hub_object, hub_by}
+use Rattle.rx_listing.specs.Listed.{open_name, if_open, AreNamesBelow}
+use Rattle.rx_listing.specs.Whole.{ListedCounts, node_object, resource_object, lease_object, hub_object, hub_by}
 use Rattle.rx_listing.proofs.Keeping.{turned}
 use Rattle.rx_listing.proofs.Laws.Texts.{same_texts, more_nil, more_text}
 
@@ -35,11 +37,11 @@ module _ (f : ℕ → Option (List ℕ)) (ns : List ℕ) (i d : ℕ) (within : i
   pub object_same : f (get_or ns i d) ≡ None → filter_map f (take i ns) ≡ filter_map f (take (i + 1) ns)
   object_same none = same_texts (filter_map f (take i ns)) (filter_map f (take (i + 1) ns)) (more none)
 
-  pub object_nil : {object : List ℕ} → f (get_or ns i d) ≡ Some object → false ≡ is_nil (filter_map f (take (i + 1) ns))
+  pub object_nil : {object : List ℕ} → f (get_or ns i d) ≡ Some object → false ≡ has_no_texts (filter_map f (take (i + 1) ns))
   object_nil {object} there = more_nil (filter_map f (take i ns)) (filter_map f (take (i + 1) ns)) object (more there)
 
   pub object_text : {object : List ℕ} (first : Bool) (begun : List ℕ) {text new : List ℕ} → f (get_or ns i d) ≡ Some object →
-      first ≡ is_nil (filter_map f (take i ns)) → text ≡ begun ++ joined (filter_map f (take i ns)) → new ≡ text ++ led_text first object →
+      first ≡ has_no_texts (filter_map f (take i ns)) → text ≡ begun ++ joined (filter_map f (take i ns)) → new ≡ text ++ led_text first object →
       new ≡ begun ++ joined (filter_map f (take (i + 1) ns))
   object_text {object} first begun there is written next =
       more_text (filter_map f (take i ns)) (filter_map f (take (i + 1) ns)) object first begun (more there) is written next
@@ -63,22 +65,23 @@ no_one None is = refl
 no_one (Some x) is = absurd (false≢true (sym is))
 
 module _ (book : State) (known : Known) (n : ℕ) where
-  no_open_name : is_some (name_of known.nodes.now n) ≡ false → open_name book known.nodes.now n ≡ None
+  no_open_name : is_some (name_of_number known.nodes.now n) ≡ false → open_name book known.nodes.now n ≡ None
   unfolding open_name
-  no_open_name is = ap (option_and_then (if_open book known.nodes.now)) (no_one (name_of known.nodes.now n) is)
+  no_open_name is = ap (option_and_then (if_open book known.nodes.now)) (no_one (name_of_number known.nodes.now n) is)
 
-  pub no_subscriber : (hub : ℕ) → is_some (name_of known.nodes.now n) ≡ false → subscribes book known hub n ≡ false
+  pub no_subscriber : (hub : ℕ) → is_some (name_of_number known.nodes.now n) ≡ false → subscribes book known hub n ≡ false
   unfolding hub_by
   no_subscriber hub is = rw (no_open_name is) refl
 
-  pub no_object : (counted : Counted) (part : Part) → is_some (name_of (names_of known part) n) ≡ false → part_object book known counted part n ≡ None
+  pub no_object : (counted : ListedCounts) (part : Part) → is_some (name_of_number (names_of_part known part) n) ≡ false
+      → part_object book known counted part n ≡ None
   unfolding node_object resource_object lease_object hub_object
   no_object counted Nodes is = rw (no_open_name is) refl
-  no_object counted Resources is = rw (no_one (name_of known.resources.now n) is) refl
-  no_object counted Leases is = rw (no_one (name_of known.leases.now n) is) refl
-  no_object counted Hubs is = rw (no_one (name_of known.hubs.now n) is) refl
+  no_object counted Resources is = rw (no_one (name_of_number known.resources.now n) is) refl
+  no_object counted Leases is = rw (no_one (name_of_number known.leases.now n) is) refl
+  no_object counted Hubs is = rw (no_one (name_of_number known.hubs.now n) is) refl
 
-pub placed_part : (len : ℕ) (known : Known) (part : Part) → ArePlaced len known → IsPlaced len (names_of known part)
+pub placed_part : (len : ℕ) (known : Known) (part : Part) → ArePlaced len known → AreNamesBelow len (names_of_part known part)
 placed_part len known Nodes placed = placed.nodes
 placed_part len known Resources placed = placed.resources
 placed_part len known Leases placed = placed.leases

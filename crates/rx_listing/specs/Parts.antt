@@ -9,9 +9,9 @@ use Rattle.rx_listing.specs.declared.known.Known.{Known}
 use Rattle.rx_listing.specs.declared.list.Part.{Part}
 use Rattle.rx_listing.specs.declared.list.Sight.{Sight}
 use Rattle.rx_listing.specs.declared.list.Part.TheVariants.{Nodes, Resources, Leases, Hubs}
-use Rattle.rx_listing.specs.Listed.{IsPlaced}
+use Rattle.rx_listing.specs.Listed.{AreNamesBelow}
 use Rattle.rx_listing.specs.Recalled.{IsNamed}
-use Rattle.rx_listing.specs.Whole.{Counted, node_object, resource_object, lease_object, hub_object}
+use Rattle.rx_listing.specs.Whole.{ListedCounts, node_object, resource_object, lease_object, hub_object}
 
 -- one more number has a value, and this one alone
 abbrev pub IsPut : {X : Type 0} → (old : ℕ → Option X) → (number : ℕ) → (value : X) → (new : ℕ → Option X) → Type 0
@@ -23,15 +23,15 @@ IsKept numbers wanted kept = (n : ℕ) → kept n ≡ cond (list_any (nat_eq n) 
 
 -- all numbers that have names are among these
 abbrev pub HasNamed : List ℕ → Names → Type 0
-HasNamed numbers names = (len n : ℕ) → IsPlaced len names → IsNamed names n → list_any (nat_eq n) numbers ≡ true
+HasNamed numbers names = (len n : ℕ) → AreNamesBelow len names → IsNamed names n → list_any (nat_eq n) numbers ≡ true
 
 -- parts ----------------------------------------------------------------------------------------------
 
-abbrev pub names_of : Known → Part → Names
-names_of known Nodes = known.nodes.now
-names_of known Resources = known.resources.now
-names_of known Leases = known.leases.now
-names_of known Hubs = known.hubs.now
+abbrev pub names_of_part : Known → Part → Names
+names_of_part known Nodes = known.nodes.now
+names_of_part known Resources = known.resources.now
+names_of_part known Leases = known.leases.now
+names_of_part known Hubs = known.hubs.now
 
 -- what leads to a part
 abbrev pub lead_of : Part → List ℕ
@@ -41,7 +41,7 @@ lead_of Leases = codes "],\"leases\":["
 lead_of Hubs = codes "],\"hubs\":["
 
 -- what is counted, by the code's tables
-abbrev pub counted_of : Sight → Counted
+abbrev pub counted_of : Sight → ListedCounts
 counted_of sight =
     record {
       uses = λ r. unwrap_or (get nat_eq sight.seen.uses r) 0;
@@ -49,15 +49,15 @@ counted_of sight =
       subscribers = λ g. unwrap_or (get nat_eq sight.subscribers g) 0;
     }
 
-abbrev pub part_object : State → Known → Counted → Part → ℕ → Option (List ℕ)
+abbrev pub part_object : State → Known → ListedCounts → Part → ℕ → Option (List ℕ)
 part_object book known c Nodes = node_object book known
 part_object book known c Resources = resource_object book known c.uses
 part_object book known c Leases = lease_object book known
 part_object book known c Hubs = hub_object book known c
 
-abbrev pub is_nil : List (List ℕ) → Bool
-is_nil [] = true
-is_nil (object ∷ objects) = false
+abbrev pub has_no_texts : List (List ℕ) → Bool
+has_no_texts [] = true
+has_no_texts (object ∷ objects) = false
 
 -- an object behind those before it
 abbrev pub led_text : (is_first : Bool) → List ℕ → List ℕ

@@ -9,10 +9,10 @@ use Rattle.rx_event.specs.Kept.{event_since}
 use Rattle.rx_event.specs.Events.{node_of_accept, is_use_of}
 use Rattle.rx_book.specs.State.{State}
 use Rattle.rx_line.specs.declared.names.Names.{Names}
-use Rattle.rx_line.specs.Names.{name_of}
+use Rattle.rx_line.specs.Names.{name_of_number}
 use Rattle.rx_listing.specs.declared.known.Known.{Known}
 use Rattle.rx_listing.specs.declared.past.Past.{Past}
-use Rattle.rx_listing.specs.Listed.{IsPlaced}
+use Rattle.rx_listing.specs.Listed.{AreNamesBelow}
 
 -- what it has
 abbrev pub made_in : Past → ℕ → Option Event
@@ -67,14 +67,14 @@ connection_by book past (suc k) c =
 -- a past for what has names ------------------------------------------------------------------------
 
 abbrev pub IsNamed : Names → ℕ → Type 0
-IsNamed names n = is_some (name_of names n) ≡ true
+IsNamed names n = is_some (name_of_number names n) ≡ true
 
 -- each name stands for a number below this one
 pub record ArePlaced (len : ℕ) (known : Known) : Type 0 where
-  pub nodes : IsPlaced len known.nodes.now
-  pub hubs : IsPlaced len known.hubs.now
-  pub resources : IsPlaced len known.resources.now
-  pub leases : IsPlaced len known.leases.now
+  pub nodes : AreNamesBelow len known.nodes.now
+  pub hubs : AreNamesBelow len known.hubs.now
+  pub resources : AreNamesBelow len known.resources.now
+  pub leases : AreNamesBelow len known.leases.now
 
 -- the uses of a resource are fewer than a counter holds
 abbrev pub IsCountable : State → Past → ℕ → Type 0

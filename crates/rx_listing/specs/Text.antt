@@ -9,7 +9,7 @@ use Rattle.rx_event.specs.declared.event.Event.{Event}
 use Rattle.rx_event.specs.declared.event.Event.TheVariants.{Open, Connect}
 use Rattle.rx_scenario.specs.Scenario.{Name}
 use Rattle.rx_line.specs.declared.names.Names.{Names}
-use Rattle.rx_line.specs.Names.{name_of}
+use Rattle.rx_line.specs.Names.{name_of_number}
 
 -- a member whose value is a name; it is left out where there is none
 unfoldable pub member_of : (member : List ℕ) → Option Name → List ℕ
@@ -18,29 +18,29 @@ member_of member (Some name) = codes ",\"" ++ member ++ codes "\":\"" ++ name ++
 
 -- where a node stands, and what it is below
 unfoldable pub below_text : Names → (word : List ℕ) → (above : ℕ) → List ℕ
-below_text nodes word above = member_of (codes "place") (Some word) ++ member_of (codes "of") (name_of nodes above)
+below_text nodes word above = member_of (codes "place") (Some word) ++ member_of (codes "of") (name_of_number nodes above)
 
-abbrev pub place_text : Names → Place → List ℕ
-place_text nodes Root = member_of (codes "place") (Some (codes "root"))
-place_text nodes (Source n) = below_text nodes (codes "source") n
-place_text nodes (Inner n) = below_text nodes (codes "inner") n
-place_text nodes (Notifier n) = below_text nodes (codes "notifier") n
+abbrev pub place_member_text : Names → Place → List ℕ
+place_member_text nodes Root = member_of (codes "place") (Some (codes "root"))
+place_member_text nodes (Source n) = below_text nodes (codes "source") n
+place_member_text nodes (Inner n) = below_text nodes (codes "inner") n
+place_member_text nodes (Notifier n) = below_text nodes (codes "notifier") n
 
 -- a kind, and the hub where there is one
 unfoldable pub of_hub_text : Names → (word : List ℕ) → (hub : ℕ) → List ℕ
-of_hub_text hubs word hub = member_of (codes "kind") (Some word) ++ member_of (codes "hub") (name_of hubs hub)
+of_hub_text hubs word hub = member_of (codes "kind") (Some word) ++ member_of (codes "hub") (name_of_number hubs hub)
 
-abbrev pub kind_text : Names → Kind → List ℕ
-kind_text hubs Leaf = member_of (codes "kind") (Some (codes "leaf"))
-kind_text hubs Pass = member_of (codes "kind") (Some (codes "pass"))
-kind_text hubs Flat = member_of (codes "kind") (Some (codes "flat"))
-kind_text hubs Switch = member_of (codes "kind") (Some (codes "switch"))
-kind_text hubs Until = member_of (codes "kind") (Some (codes "until"))
-kind_text hubs (Sub g) = of_hub_text hubs (codes "sub") g
+abbrev pub kind_member_text : Names → Kind → List ℕ
+kind_member_text hubs Leaf = member_of (codes "kind") (Some (codes "leaf"))
+kind_member_text hubs Pass = member_of (codes "kind") (Some (codes "pass"))
+kind_member_text hubs Flat = member_of (codes "kind") (Some (codes "flat"))
+kind_member_text hubs Switch = member_of (codes "kind") (Some (codes "switch"))
+kind_member_text hubs Until = member_of (codes "kind") (Some (codes "until"))
+kind_member_text hubs (Sub g) = of_hub_text hubs (codes "sub") g
 
 -- what a node is, by the event that made it
 abbrev pub made_text : (nodes hubs : Names) → Option Event → List ℕ
-made_text nodes hubs (Some (Open place kind)) = kind_text hubs kind ++ place_text nodes place
+made_text nodes hubs (Some (Open place kind)) = kind_member_text hubs kind ++ place_member_text nodes place
 made_text nodes hubs (Some (Connect hub)) = of_hub_text hubs (codes "connection") hub
 made_text nodes hubs _ = []
 

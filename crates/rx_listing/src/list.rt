@@ -4,10 +4,10 @@ ghost use Rattle.std.specs.Prelude.{◌≡◌, ℕ, ◌++◌, length, option_map
 ghost use Rattle.std.specs.Bool.{nat_eq};
 ghost use Rattle.std.specs.HashMap.{get};
 ghost use Rattle.std.specs.List.{range_with_len};
-ghost use Rattle.rx_listing.specs.Listed.{IsPlaced};
+ghost use Rattle.rx_listing.specs.Listed.{AreNamesBelow};
 ghost use Rattle.rx_listing.specs.Recalled.{ArePlaced};
-ghost use Rattle.rx_listing.specs.Parts.{names_of, lead_of, led_text, counted_of, part_object};
-ghost use Rattle.rx_listing.specs.Whole.{hub_by, subscribes, holder_name, leased_name, IsCounted, IsList, part_text};
+ghost use Rattle.rx_listing.specs.Parts.{names_of_part, lead_of, led_text, counted_of, part_object};
+ghost use Rattle.rx_listing.specs.Whole.{hub_by, subscribes, holder_name, leased_name, AreCountsOfBook, IsList, part_text};
 ghost use Rattle.rx_listing.specs.Whole.{node_object, resource_object, lease_object, hub_object};
 
 use crate::counts::{Counts, count, count_of};
@@ -53,7 +53,7 @@ fn subscribers_of<R: Resource>(
     book: &Book<R>,
     known: &Known,
 ) -> Result<Counts, AllocError>
-    ensures { IfOk result (λ v. IsPlaced (length book.now.history) known.now.nodes.now → (g : ℕ) →
+    ensures { IfOk result (λ v. AreNamesBelow (length book.now.history) known.now.nodes.now → (g : ℕ) →
         unwrap_or (get nat_eq v g) 0 ≡ count_by (subscribes book.now known.now g) (range_with_len 0 (length book.now.history))) }
 {
     let mut subscribers = HashMap::new(alloc);
@@ -67,7 +67,8 @@ fn subscribers_of<R: Resource>(
 }
 
 fn sight_of<R: Resource>(alloc: Global, book: &Book<R>, known: &Known) -> Result<Sight, AllocError>
-    ensures { IfOk result (λ s. IsPlaced (length book.now.history) known.now.nodes.now → IsCounted book.now known.now (counted_of s)) }
+    ensures { IfOk result
+        (λ s. AreNamesBelow (length book.now.history) known.now.nodes.now → AreCountsOfBook book.now known.now (counted_of s)) }
 {
     let seen = seen_of(book, known)?;
     seen.promise();
@@ -186,8 +187,8 @@ fn object_at<R: Resource>(
 }
 
 // The names of what a part has.
-fn names_of<'a>(known: &Known<'a>, part: Part) -> &'a Names
-    ensures { result.now ≡ names_of known.now part }
+fn names_of_part<'a>(known: &Known<'a>, part: Part) -> &'a Names
+    ensures { result.now ≡ names_of_part known.now part }
 {
     match part {
         Part::Nodes => known.nodes,
@@ -219,7 +220,7 @@ fn push_part<R: Resource>(
     ensures { OnOk result (ArePlaced (length book.now.history) known.now → string_bytes text.new ≡ string_bytes text.old
         ++ part_text (part_object book.now known.now (counted_of sight.now) part) (length book.now.history)) }
 {
-    let numbers = rising(alloc, names_of(known, part))?;
+    let numbers = rising(alloc, names_of_part(known, part))?;
     let mut is_first = true;
     'numbers: for number in &numbers {
         if let Some(object) = object_at(alloc, book, known, sight, part, *number)? {

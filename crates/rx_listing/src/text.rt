@@ -1,8 +1,8 @@
 //! The members of an object.
 
 ghost use Rattle.std.specs.Prelude.{◌≡◌, ◌++◌, option_map, string_bytes, Some, OnOk};
-ghost use Rattle.rx_line.specs.Names.{name_of};
-ghost use Rattle.rx_listing.specs.Text.{member_of, below_text, place_text, of_hub_text, kind_text, made_text, mode_word};
+ghost use Rattle.rx_line.specs.Names.{name_of_number};
+ghost use Rattle.rx_listing.specs.Text.{member_of, below_text, place_member_text, of_hub_text, kind_member_text, made_text, mode_word};
 
 use rx_event::{Event, Kind, Place};
 use rx_line::Names;
@@ -30,7 +30,7 @@ fn push_below(text: &mut String, nodes: &Names, word: &str, above: u64) -> Resul
 }
 
 fn push_place(text: &mut String, nodes: &Names, place: Place) -> Result<(), AllocError>
-    ensures { OnOk result (string_bytes text.new ≡ string_bytes text.old ++ place_text nodes.now place) }
+    ensures { OnOk result (string_bytes text.new ≡ string_bytes text.old ++ place_member_text nodes.now place) }
 {
     match place {
         Place::Root => push_member(text, "place", Some("root")),
@@ -50,7 +50,7 @@ fn push_of_hub(text: &mut String, hubs: &Names, word: &str, hub: u64) -> Result<
 }
 
 fn push_kind(text: &mut String, hubs: &Names, kind: Kind) -> Result<(), AllocError>
-    ensures { OnOk result (string_bytes text.new ≡ string_bytes text.old ++ kind_text hubs.now kind) }
+    ensures { OnOk result (string_bytes text.new ≡ string_bytes text.old ++ kind_member_text hubs.now kind) }
 {
     match kind {
         Kind::Leaf => push_member(text, "kind", Some("leaf")),

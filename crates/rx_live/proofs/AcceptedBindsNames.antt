@@ -3,7 +3,8 @@ use Rattle.rx_live.proofs.Common.{◌≡◌, ℕ, ◌==◌, ◌<◌, ◌≤◌, 
 use Rattle.rx_live.proofs.Common.{ap, ◌∙◌, arith, ◌⊎◌, String, Global, string_bytes, IfOk, IfSome, is_some, ◌||◌, ◌&&◌, bytes_eq, AllocError}
 use Rattle.rx_live.proofs.Common.{option_map_or, ne_eqb, none-some, same_Some, Mail, Event, Refusal, Call, Holding, Leasing, GivingBack, IsRefusal}
 use Rattle.rx_live.proofs.Common.{is_out_past, Name, LeaseKey, State, IsPromised, Request, is_live, stands, Accepts, IsCauseOrWant, Spot, Names}
-use Rattle.rx_live.proofs.Common.{spot_of, name_of, IsPaired, AreSame, Binds, Forgets, Book, Outcome, Accepted, Refused, Session, IsSound, IsPlaced, lease_of}
+use Rattle.rx_live.proofs.Common.{spot_of, name_of_number, IsPaired, AreSameNames, Binds, Forgets, Book, Outcome, Accepted, Refused, Session, IsSound}
+use Rattle.rx_live.proofs.Common.{AreNamesPlaced, lease_by_name}
 use Rattle.rx_live.proofs.Common.{has_resource, lease_key_at, AreOpenSame, IsAlike, GivesBy, GivesNames, IsUnchanged, BindsResource, BindsLease, BindsHub}
 use Rattle.rx_live.proofs.Common.{keeps_resources, keeps_leases, kept_same, out_same, kept_held, kept_past, out_leased, out_returned}
 use Rattle.rx_resource.specs.declared.Life.TheVariants.{Live}
@@ -13,13 +14,13 @@ use Rattle.std.proofs.Common.{rules}
 
 -- names ----------------------------------------------------------------------------------------------
 
-pub same_names : (t : Names) → AreSame t t
+pub same_names : (t : Names) → AreSameNames t t
 same_names t = record { spots = λ n. refl; names = λ k. refl }
 
-pub same_on : (a b c : Names) → AreSame a b → AreSame b c → AreSame a c
+pub same_on : (a b c : Names) → AreSameNames a b → AreSameNames b c → AreSameNames a c
 same_on a b c p q = record { spots = λ n. q.spots n ∙ p.spots n; names = λ k. q.names k ∙ p.names k }
 
-pub bound_after : (old mid new : Names) (name : Name) (spot : Spot) → AreSame old mid → Binds mid name spot new → Binds old name spot new
+pub bound_after : (old mid new : Names) (name : Name) (spot : Spot) → AreSameNames old mid → Binds mid name spot new → Binds old name spot new
 bound_after old mid new name spot same binds = search (rules, cond, bytes_eq)
 
 pub none_of : {A : Type 0} (o : Option A) → is_some o ≡ false → o ≡ None
@@ -38,17 +39,17 @@ pub not_unnamed : (s : Session) (name n : Name) → has_resource s name ≡ fals
 not_unnamed s name n free is = search (rules, option_map_or, bytes_eq, or_false, is_some)
 
 -- a number that is not given yet has no name
-pub unnamed_resource : (s : Session) → IsSound s → name_of s.resources (length s.book.history) ≡ None
+pub unnamed_resource : (s : Session) → IsSound s → name_of_number s.resources (length s.book.history) ≡ None
 unnamed_resource s sound = search (rules, none_of, length, kept_past)
 
-pub unnamed_lease : (s : Session) → IsSound s → name_of s.leases (length s.book.history) ≡ None
+pub unnamed_lease : (s : Session) → IsSound s → name_of_number s.leases (length s.book.history) ≡ None
 unnamed_lease s sound = search (rules, none_of, length, is_out_past)
 
-pub placed_longer : (h k : List Event) (t : Names) → IsPlaced h t → length h ≤ length k → IsPlaced k t
+pub placed_longer : (h k : List Event) (t : Names) → AreNamesPlaced h t → length h ≤ length k → AreNamesPlaced k t
 placed_longer h k t placed longer n past = placed n (omega arith)
 
-pub placed_bound : (h : List Event) {old new : Names} {name : Name} {spot : Spot} → IsPlaced h old → Binds old name spot new → spot.number < length h →
-    IsPlaced h new
+pub placed_bound : (h : List Event) {old new : Names} {name : Name} {spot : Spot} → AreNamesPlaced h old → Binds old name spot new → spot.number < length h →
+    AreNamesPlaced h new
 placed_bound h {old} {name = name} {spot = spot} placed binds within n past = search (rules, ne_eqb, cond)
 
 -- open nodes
@@ -99,11 +100,11 @@ module _ (s : Session) (book : State) (name : Name) (spot : Spot) (mid t : Names
   abbrev after_binding : Call → Bool → Type 0
   after_binding call known = Accepts s.book (record { call = call; is_known = known; is_fresh = true }) book
 
-  pub held_bound : AreSame s.resources mid → Binds mid name spot t → spot.number ≡ length s.book.history →
+  pub held_bound : AreSameNames s.resources mid → Binds mid name spot t → spot.number ≡ length s.book.history →
       BindsResource s name (record s { book = book; resources = t })
   held_bound same binds number = search (rules, bound_after)
 
-  pub held_sound : (node tag : ℕ) (known : Bool) → AreSame s.resources mid → Binds mid name spot t → spot.number ≡ length s.book.history →
+  pub held_sound : (node tag : ℕ) (known : Bool) → AreSameNames s.resources mid → Binds mid name spot t → spot.number ≡ length s.book.history →
       has_resource s name ≡ false → after_binding (Holding node tag) known → IsSound (record s { book = book; resources = t })
   held_sound node tag known same after number free accepts =
       let asked : Request = record { call = Holding node tag; is_known = known; is_fresh = true } in
@@ -117,17 +118,17 @@ module _ (s : Session) (book : State) (name : Name) (spot : Spot) (mid t : Names
         lease_pairs = sound.lease_pairs;
         nodes = placed_longer s.book.history book.history s.nodes sound.nodes longer;
         hubs = placed_longer s.book.history book.history s.hubs sound.hubs longer;
-        resources = λ r. ap is_some (binds.names r) ∙ some_cond (spot.number == r) name (name_of s.resources r) ∙
+        resources = λ r. ap is_some (binds.names r) ∙ some_cond (spot.number == r) name (name_of_number s.resources r) ∙
             (λ i. cond (number i == r) true (sound.resources r i)) ∙ sym (kept_held sound.kept.lawful accepts.step r);
         leases = λ l. sound.leases l ∙ sym (out_same (Holding node tag) accepts.step refl l);
         unnamed = λ n is. binds.spots n ∙ ap (λ (b : Bool). cond b (Some spot) (spot_of s.resources n)) (not_unnamed s name n free is) ∙ sound.unnamed n is;
       }
 
-  pub leased_bound : AreSame s.leases mid → Binds mid name spot t → spot.number ≡ length s.book.history →
+  pub leased_bound : AreSameNames s.leases mid → Binds mid name spot t → spot.number ≡ length s.book.history →
       BindsLease s name (record s { book = book; leases = t })
   leased_bound same binds number = search (rules, bound_after)
 
-  pub leased_sound : (q : ℕ) (known : Bool) → AreSame s.leases mid → Binds mid name spot t → spot.number ≡ length s.book.history →
+  pub leased_sound : (q : ℕ) (known : Bool) → AreSameNames s.leases mid → Binds mid name spot t → spot.number ≡ length s.book.history →
       after_binding (Leasing q) known → IsSound (record s { book = book; leases = t })
   leased_sound q known same after number accepts =
       let asked : Request = record { call = Leasing q; is_known = known; is_fresh = true } in
@@ -142,23 +143,23 @@ module _ (s : Session) (book : State) (name : Name) (spot : Spot) (mid t : Names
         nodes = placed_longer s.book.history book.history s.nodes sound.nodes longer;
         hubs = placed_longer s.book.history book.history s.hubs sound.hubs longer;
         resources = λ r. sound.resources r ∙ sym (kept_same (Leasing q) accepts.step refl r);
-        leases = λ l. ap is_some (binds.names l) ∙ some_cond (spot.number == l) name (name_of s.leases l)
+        leases = λ l. ap is_some (binds.names l) ∙ some_cond (spot.number == l) name (name_of_number s.leases l)
             ∙ (λ i. cond (number i == l) true (sound.leases l i)) ∙ sym (out_leased sound.kept.lawful accepts.step l);
         unnamed = sound.unnamed;
       }
 
-  pub hub_bound : AreSame s.hubs mid → Binds mid name spot t → spot.number ≡ length s.book.history → BindsHub s name (record s { book = book; hubs = t })
+  pub hub_bound : AreSameNames s.hubs mid → Binds mid name spot t → spot.number ≡ length s.book.history → BindsHub s name (record s { book = book; hubs = t })
   hub_bound same binds number = search (rules, bound_after)
 
-  pub hub_sound : (asked : Request) → AreSame s.hubs mid → Binds mid name spot t → spot.number ≡ length s.book.history → Accepts s.book asked book →
+  pub hub_sound : (asked : Request) → AreSameNames s.hubs mid → Binds mid name spot t → spot.number ≡ length s.book.history → Accepts s.book asked book →
       keeps_resources asked.call ≡ true → keeps_leases asked.call ≡ true → length s.book.history < length book.history →
       IsSound (record s { book = book; hubs = t })
   hub_sound asked same after number accepts resources leases longer = search (rules, bound_after, placed_longer, placed_bound, kept_same, out_same)
 
 -- a lease that is given back -------------------------------------------------------------------------
 
-pub forgot : (old new : Names) (number : ℕ) (name : Name) (result : Option (String Global)) → name_of old number ≡ Some name →
-    option_map string_bytes result ≡ name_of old number → IfSome result (λ n. Forgets old number (string_bytes n) new) → Forgets old number name new
+pub forgot : (old new : Names) (number : ℕ) (name : Name) (result : Option (String Global)) → name_of_number old number ≡ Some name →
+    option_map string_bytes result ≡ name_of_number old number → IfSome result (λ n. Forgets old number (string_bytes n) new) → Forgets old number name new
 forgot old new number name x4 known value some = search (rules, none-some, same_Some, string_bytes)
 
 pub returned_sound : {s : Session} {book : State} {q : ℕ} (known : Bool) (name : Name) (t : Names) → IsSound s → IsPromised book → IsPaired t →
@@ -176,17 +177,17 @@ returned_sound {s} {book} {q} known name t sound kept paired forgets accepts =
       nodes = placed_longer s.book.history book.history s.nodes sound.nodes longer;
       hubs = placed_longer s.book.history book.history s.hubs sound.hubs longer;
       resources = λ r. sound.resources r ∙ sym (kept_same (GivingBack q) accepts.step refl r);
-      leases = λ l. ap is_some (forgets.names l) ∙ some_gone (q == l) (name_of s.leases l)
+      leases = λ l. ap is_some (forgets.names l) ∙ some_gone (q == l) (name_of_number s.leases l)
           ∙ ap (λ (b : Bool). cond (q == l) false b) (sound.leases l) ∙ sym (out_returned accepts.step l);
       unnamed = sound.unnamed;
     }
 
 -- the name of a lease that is out
 by_spot : (s : Session) (name : Name) (k : LeaseKey) (o : Option Spot) → IsSound s → spot_of s.leases name ≡ o → option_map lease_key_at o ≡ Some k →
-    name_of s.leases k.number ≡ Some name
+    name_of_number s.leases k.number ≡ Some name
 by_spot s name k x3 sound found is = search (rules, none-some, same_Some)
 
-pub lease_named : (s : Session) (name : Name) (k : LeaseKey) → IsSound s → lease_of s name ≡ Some k → name_of s.leases k.number ≡ Some name
+pub lease_named : (s : Session) (name : Name) (k : LeaseKey) → IsSound s → lease_by_name s name ≡ Some k → name_of_number s.leases k.number ≡ Some name
 lease_named s name k sound found = by_spot s name k (spot_of s.leases name) sound refl found
 
 -- a token that is new

@@ -2,9 +2,9 @@
 use Rattle.rx_live.proofs.Common.{◌≡◌, ℕ, Bool, true, false, List, [], ◌∷◌, ◌++◌, codes, Option, Some, None, refl, sym, ap, ◌∙◌, subst, append_assoc, Result}
 use Rattle.rx_live.proofs.Common.{Ok, Err, String, Global, string_bytes, IfOk, OnErr, AllocError, append-nil, none-some, Data, Items, no_items, item, Order}
 use Rattle.rx_live.proofs.Common.{as_array, IsJsonOf, NoMemory, order_in, IsOrderOf, refused_text, faulty_text, joined, Book, Session, IsSound, has_resource}
-use Rattle.rx_live.proofs.Common.{Act, Leads, no_act, as_it_was, WaitsFor, is_put_off, IsPutOff, Writes, AnsweredOne, AreAnswering}
+use Rattle.rx_live.proofs.Common.{NameAct, LeadsNames, no_act, as_it_was, WaitsFor, is_put_off, IsPutOff, WritesAnswer, AnsweredOne, AreAnswering}
 use Rattle.rx_live.specs.Lines.{AnswersAsked, AnswersOne, is_taken, AnswersEach, none_left, one_more, one_asked, many_asked, no_json, is_json, Sends}
-use Rattle.rx_live.specs.Listed.{is_nil}
+use Rattle.rx_live.specs.Listed.{has_no_names}
 use Rattle.rx_live.specs.Taken.{WritesEach, comma_if, AnsweredArray, AnsweredValue}
 use Rattle.rx_live.proofs.Laws.HeldStaysHeld.{leads_on, waits_held}
 use Rattle.rx_live.proofs.AcceptedBindsNames.{alike_same}
@@ -13,8 +13,8 @@ use Rattle.std.proofs.Common.{rules}
 
 -- an element ------------------------------------------------------------------------------------------
 
-pub element_taken : (old new : Session) (asked : Option Order) (begun text : List ℕ) → Writes (λ t. AnswersAsked old asked t new) begun text →
-    Writes (AnsweredOne old asked new) begun text
+pub element_taken : (old new : Session) (asked : Option Order) (begun text : List ℕ) → WritesAnswer (λ t. AnswersAsked old asked t new) begun text →
+    WritesAnswer (AnsweredOne old asked new) begun text
 element_taken old new asked begun text wrote =
     record { answer = wrote.answer; is = record { acts = wrote.is.acts; one = is_taken wrote.is }; written = wrote.written }
 
@@ -23,7 +23,7 @@ unfolding refused_text
 no_memory = refl
 
 pub element_put_off : (old new : Session) (asked : Option Order) (begun mid text : List ℕ) → WaitsFor asked old new → mid ≡ begun →
-    text ≡ mid ++ codes "{\"refused\":\"NoMemory\"}" → Writes (AnsweredOne old asked new) begun text
+    text ≡ mid ++ codes "{\"refused\":\"NoMemory\"}" → WritesAnswer (AnsweredOne old asked new) begun text
 element_put_off old new asked begun mid text waits same written = search (rules, is_put_off, no_memory)
 
 -- the elements ----------------------------------------------------------------------------------------
@@ -32,17 +32,17 @@ pub answering_begun : (s : Session) (ds : Items) (begun : List ℕ) → AreAnswe
 answering_begun s ds begun = record { texts = []; acts = []; later = λ new more done each. each; written = sym (append-nil begun); first = refl }
 
 -- one piece more
-joined_on : (begun : List ℕ) (texts : List (List ℕ)) (first : Bool) (t : List ℕ) → first ≡ is_nil texts →
+joined_on : (begun : List ℕ) (texts : List (List ℕ)) (first : Bool) (t : List ℕ) → first ≡ has_no_names texts →
     ((begun ++ joined texts) ++ comma_if first) ++ t ≡ begun ++ joined (texts ++ t ∷ [])
 joined_on begun x1 x2 t is = search (rules, append-nil, append_assoc, codes, joined_more)
 
-not_nil : (texts : List (List ℕ)) (t : List ℕ) → false ≡ is_nil (texts ++ t ∷ [])
+not_nil : (texts : List (List ℕ)) (t : List ℕ) → false ≡ has_no_names (texts ++ t ∷ [])
 not_nil [] t = refl
 not_nil (p ∷ ps) t = refl
 
 pub answering_on : {old now mid : Session} {all left : Items} (d : Data) (rest : Items) (begun before led text : List ℕ) (first : Bool) →
     AreAnswering old now all left begun before first → left ≡ item d rest → led ≡ before ++ comma_if first →
-    Writes (AnsweredOne now (order_in d) mid) led text → AreAnswering old mid all rest begun text false
+    WritesAnswer (AnsweredOne now (order_in d) mid) led text → AreAnswering old mid all rest begun text false
 answering_on {old} {now} {mid} {all} {left} d rest begun before led text first so_far next leads wrote =
     let t = wrote.answer in
     let texts = so_far.texts in
@@ -54,7 +54,7 @@ answering_on {old} {now} {mid} {all} {left} d rest begun before led text first s
           let all_of : AnswersEach now left (t ∷ more) (wrote.is.acts ++ done) new =
           subst (λ (ds : Items). AnswersEach now ds (t ∷ more) (wrote.is.acts ++ done) new) (sym next) (one_more mid wrote.is.one each) in
           subst (λ (ts : List (List ℕ)). AnswersEach old all ts ((acts ++ wrote.is.acts) ++ done) new) (sym (append_assoc texts (t ∷ []) more))
-          (subst (λ (bs : List Act). AnswersEach old all (texts ++ t ∷ more) bs new) (sym (append_assoc acts wrote.is.acts done)) (so_far.later new (t ∷
+          (subst (λ (bs : List NameAct). AnswersEach old all (texts ++ t ∷ more) bs new) (sym (append_assoc acts wrote.is.acts done)) (so_far.later new (t ∷
           more) (wrote.is.acts ++ done) all_of));
       written = wrote.written ∙ ap (λ (u : List ℕ). u ++ t) (leads ∙ ap (λ (u : List ℕ). u ++ comma_if first) so_far.written)
           ∙ joined_on begun texts first t so_far.first;
@@ -69,7 +69,7 @@ answering_ended {old} {now} {all} {left} begun text first so_far none =
       texts = so_far.texts;
       acts = so_far.acts;
       each = subst (λ (ts : List (List ℕ)). AnswersEach old all ts so_far.acts now) (append-nil so_far.texts)
-          (subst (λ (bs : List Act). AnswersEach old all (so_far.texts ++ []) bs now) (append-nil so_far.acts) (so_far.later now [] [] last));
+          (subst (λ (bs : List NameAct). AnswersEach old all (so_far.texts ++ []) bs now) (append-nil so_far.acts) (so_far.later now [] [] last));
       written = so_far.written;
     }
 
@@ -78,12 +78,12 @@ pub array_answered : (old new : Session) (ds : Items) (front mid text : List ℕ
 array_answered old new ds front mid text begins wrote ends = search (rules, codes)
 
 -- what they hand in and release
-one_leads : {old new : Session} {asked : Option Order} {text : List ℕ} {acts : List Act} → AnswersOne old asked text acts new →
-    Leads (has_resource old) acts (has_resource new)
+one_leads : {old new : Session} {asked : Option Order} {text : List ℕ} {acts : List NameAct} → AnswersOne old asked text acts new →
+    LeadsNames (has_resource old) acts (has_resource new)
 one_leads x0 = search (rules, no_act, waits_held)
 
-each_leads : {old new : Session} {ds : Items} {texts : List (List ℕ)} {acts : List Act} → AnswersEach old ds texts acts new →
-    Leads (has_resource old) acts (has_resource new)
+each_leads : {old new : Session} {ds : Items} {texts : List (List ℕ)} {acts : List NameAct} → AnswersEach old ds texts acts new →
+    LeadsNames (has_resource old) acts (has_resource new)
 each_leads none_left = no_act (λ n. refl)
 each_leads (one_more mid one rest) = leads_on (one_leads one) (each_leads rest)
 

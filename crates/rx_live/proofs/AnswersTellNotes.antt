@@ -2,11 +2,13 @@
 use Rattle.rx_live.proofs.Common.{◌≡◌, ℕ, ◌≤◌, Bool, List, [], ◌∷◌, ◌++◌, drop, length, Option, Some, None, refl, sym, ap, ◌∙◌, arith, subst, append_assoc}
 use Rattle.rx_live.proofs.Common.{is_some, option_to_list, append-nil, drop_at, drop-append-le, Mail, Event, Kept, notes, mail_of, moments, Call, outside_of}
 use Rattle.rx_live.proofs.Common.{IsStepOf, IsForcedOn, stays, more, notes-push, Data, Items, Task, plain, open_holding, Order, Command, using, open_node, hold}
-use Rattle.rx_live.proofs.Common.{lease, give_back, make_hub, connect, drain, Goes, checkpoint, State, Request, stands, hub_request, Accepts, Accepted, Session}
-use Rattle.rx_live.proofs.Common.{hub_of, Carries, IsAlike, Gives, BindsHub, to_tell, Takes, none_taken, one_taken, Renews, holder_causes, OpensHolder, Runs}
-use Rattle.rx_live.proofs.Common.{Does, IsCarried, GoesOn, no_line, one_line, IsFresh, IsAged, as_it_was, renewed, is_put_off, Act}
+use Rattle.rx_live.proofs.Common.{lease, give_back, make_hub, connect, drain, CarriesSoundly, checkpoint, State, Request, stands, hub_request, Accepts}
+use Rattle.rx_live.proofs.Common.{Accepted, Session}
+use Rattle.rx_live.proofs.Common.{hub_by_name, Carries, IsAlike, Gives, BindsHub, to_tell, Takes, none_taken, one_taken, Renews, holder_causes, OpensHolder}
+use Rattle.rx_live.proofs.Common.{RunsCommand}
+use Rattle.rx_live.proofs.Common.{DoesTask, IsCarried, SendsLines, no_line, one_line, IsNewSession, IsAged, as_it_was, renewed, is_put_off, NameAct}
 use Rattle.rx_live.specs.Lines.{IsAnswer, is_faulty, is_refused, is_carried, is_queried, is_listed, is_dumped, AnswersAsked, AnswersOne, is_taken, none_left}
-use Rattle.rx_live.specs.Lines.{AnswersEach, one_more, AnswersValue, one_asked, many_asked, IsAnswered, no_json, is_json}
+use Rattle.rx_live.specs.Lines.{AnswersEach, one_more, AnswersValue, one_asked, many_asked, AnswersLine, no_json, is_json}
 use Rattle.rx_live.specs.Sessions.{told_by, written_of, written_by, told_one, written_one, told_each, written_each, told_value, written_value, told_line}
 use Rattle.rx_live.specs.Sessions.{written_line, told_in, written_in}
 use Rattle.rx_live.proofs.Acts.{gave, gave_by, refused_alike}
@@ -72,7 +74,7 @@ owes_given : (old new : Session) (asked : Option Request) (taken : Bool) (bound 
 owes_given old new asked taken bound gives untold behind =
     let given = gave old new asked taken bound gives in owes_call old new given.call given.does (untold given.binds) behind
 
-owes_carried : (old new : Session) (asked : Option Request) → Goes old asked Accepted new → IsBehind old → Owes old new
+owes_carried : (old new : Session) (asked : Option Request) → CarriesSoundly old asked Accepted new → IsBehind old → Owes old new
 owes_carried old new asked goes = by_asked asked goes.carries where
   by_asked : (o : Option Request) → Carries old o Accepted new → IsBehind old → Owes old new
   by_asked None carries behind = let e = carries.0 in absurd (cc)
@@ -88,7 +90,7 @@ data DoesNoted (old new : Session) (t : Task) : Type 0 where
   goes_on : ((before after : List Mail) → written_of t before after ≡ drop (length before) after) → Owes old new → DoesNoted old new t
   begins : ((before after : List Mail) → written_of t before after ≡ after) → Renews old new → DoesNoted old new t
 
-noted_run : (old new : Session) (c : Command) → Runs old c Accepted new → IsBehind old → DoesNoted old new (plain c)
+noted_run : (old new : Session) (c : Command) → RunsCommand old c Accepted new → IsBehind old → DoesNoted old new (plain c)
 noted_run old new (using name site res) runs behind =
     goes_on (λ b a. refl) (owes_given old new _ _ _ runs.gives (λ binds. ap (λ (s : Session). s.untold) binds.rest) behind)
 noted_run old new (hold node res) runs behind =
@@ -100,7 +102,7 @@ noted_run old new (lease res name) runs behind =
 noted_run old new (give_back name) runs behind =
     goes_on (λ b a. refl) (owes_given old new _ _ _ runs.gives (λ binds. ap (λ (s : Session). s.untold) binds.rest) behind)
 noted_run old new (make_hub name mode) runs behind =
-    goes_on (λ b a. refl) (owes_given old new (Some (hub_request mode)) (is_some (hub_of old name)) (BindsHub old name) runs.gives
+    goes_on (λ b a. refl) (owes_given old new (Some (hub_request mode)) (is_some (hub_by_name old name)) (BindsHub old name) runs.gives
     (λ binds. ap (λ (s : Session). s.untold) binds.rest) behind)
 noted_run old new (connect hub name) runs behind =
     goes_on (λ b a. refl) (owes_given old new _ _ _ runs.gives (λ binds. ap (λ (s : Session). s.untold) binds.rest) behind)
@@ -108,7 +110,7 @@ noted_run old new drain runs behind = goes_on (λ b a. refl) (owes_same old new 
 noted_run old new checkpoint runs behind = begins (λ b a. refl) runs
 noted_run old new _ runs behind = goes_on (λ b a. refl) (owes_carried old new _ runs behind)
 
-noted_do : (old new : Session) (t : Task) → Does old t Accepted new → IsBehind old → DoesNoted old new t
+noted_do : (old new : Session) (t : Task) → DoesTask old t Accepted new → IsBehind old → DoesNoted old new t
 noted_do old new (plain c) does behind = noted_run old new c does behind
 noted_do old new (open_holding name site sort res) does behind =
     let given = gave_by holder_causes OpensHolder old new _ _ _ does.gives in
@@ -146,7 +148,7 @@ begun_silent : (old new : Session) → Renews old new → notes new.book.history
 begun_silent old new renews = search (rules, nil_last, option_to_list, drop)
 
 -- what was told and released after the task was carried out
-module _ (old new : Session) (t : Task) (text : List ℕ) (acts : List Act) (carried : IsCarried old t text acts new) where
+module _ (old new : Session) (t : Task) (text : List ℕ) (acts : List NameAct) (carried : IsCarried old t text acts new) where
   later : Owes carried.tells.mid carried.left
   later = owes_more carried.tells.mid carried.left (noted_takes carried.tells.releases.takes) (given_takes carried.tells.releases.takes)
       (ap (λ (s : Session). s.untold) carried.tells.releases.rest) carried.tells.sound.kept.given
@@ -181,7 +183,8 @@ module _ (old new : Session) (t : Task) (text : List ℕ) (acts : List Act) (car
 idle : (old new : Session) → to_tell new ≡ to_tell old → Balances old new [] []
 idle old new same = record { is = append-nil (to_tell old) ∙ sym same }
 
-answer_balances : (old new : Session) (asked : Option Order) (text : List ℕ) (acts : List Act) → IsBehind old → (answer : IsAnswer old asked text acts new) →
+answer_balances : (old new : Session) (asked : Option Order) (text : List ℕ) (acts : List NameAct) → IsBehind old
+    → (answer : IsAnswer old asked text acts new) →
     Balances old new (written_by old new asked text acts answer) (told_by old new asked text acts answer)
 answer_balances old new asked text acts behind (is_faulty told faulty is) = idle old old refl
 answer_balances old new asked text acts behind (is_refused t why order does by_open is) = idle old new (alike_tells old new (refused_alike old new t why does))
@@ -216,7 +219,7 @@ record BalancesOn (old new : Session) (written told : List Mail) : Type 0 where
 alike_behind : (old new : Session) → IsAlike old new → IsBehind old → IsBehind new
 alike_behind old new alike behind = subst (λ (b : State). b.given ≤ length (notes b.history)) (sym alike.book) behind
 
-one_balances : {old new : Session} {asked : Option Order} {text : List ℕ} {acts : List Act} → IsBehind old → (one : AnswersOne old asked text acts new) →
+one_balances : {old new : Session} {asked : Option Order} {text : List ℕ} {acts : List NameAct} → IsBehind old → (one : AnswersOne old asked text acts new) →
     BalancesOn old new (written_one one) (told_one one)
 one_balances {old} {new} {asked} {text} behind (is_taken one) = record { balances = balances_aged old new text behind one; behind = one.sound.kept.given }
 one_balances {old} {new} {asked} behind (is_put_off waits) = record {
@@ -230,7 +233,7 @@ both_balance a b c xs ys us vs p q = record {
       ∙ ap (λ (ms : List Mail). us ++ ms) q.is ∙ sym (append_assoc us vs (to_tell c));
 }
 
-each_balances : {old new : Session} {ds : Items} {texts : List (List ℕ)} {acts : List Act} → IsBehind old → (each : AnswersEach old ds texts acts new) →
+each_balances : {old new : Session} {ds : Items} {texts : List (List ℕ)} {acts : List NameAct} → IsBehind old → (each : AnswersEach old ds texts acts new) →
     BalancesOn old new (written_each each) (told_each each)
 each_balances {old} behind none_left = record { balances = idle old old refl; behind = behind }
 each_balances {old} {new} behind (one_more mid one rest) =
@@ -242,19 +245,20 @@ each_balances {old} {new} behind (one_more mid one rest) =
     }
 
 -- a line
-value_balances : {old new : Session} {d : Data} {text : List ℕ} {acts : List Act} → IsBehind old → (answers : AnswersValue old d text acts new) →
+value_balances : {old new : Session} {d : Data} {text : List ℕ} {acts : List NameAct} → IsBehind old → (answers : AnswersValue old d text acts new) →
     Balances old new (written_value answers) (told_value answers)
 value_balances {old} {new} {d} {text} behind (one_asked single one) = balances_aged old new text behind one
 value_balances behind (many_asked ds texts several each is) = (each_balances behind each).balances
 
-line_balances : {old new : Session} {line text : List ℕ} {acts : List Act} → IsBehind old → (answer : IsAnswered old line text acts new) →
+line_balances : {old new : Session} {line text : List ℕ} {acts : List NameAct} → IsBehind old → (answer : AnswersLine old line text acts new) →
     Balances old new (written_line answer) (told_line answer)
 line_balances {old} behind (no_json told none is) = idle old old refl
 line_balances behind (is_json d json answers) = value_balances behind answers
 
 -- many lines ------------------------------------------------------------------------------------------
 
-all_balance : {first last : Session} {acts : List Act} → IsBehind first → (goes : GoesOn first acts last) → Balances first last (written_in goes) (told_in goes)
+all_balance : {first last : Session} {acts : List NameAct} → IsBehind first → (goes : SendsLines first acts last)
+    → Balances first last (written_in goes) (told_in goes)
 all_balance {first} behind no_line = idle first first refl
 all_balance {first} {last} behind (one_line line text new sent rest) =
     both_balance first new last (written_line sent.answer) (written_in rest) (told_line sent.answer) (told_in rest)
@@ -264,7 +268,8 @@ no_notes : notes [] ≡ []
 unfolding notes moments
 no_notes = refl
 
-pub session_told : (first last : Session) (acts : List Act) → IsFresh first → (goes : GoesOn first acts last) → written_in goes ≡ told_in goes ++ to_tell last
+pub session_told : (first last : Session) (acts : List NameAct) → IsNewSession first → (goes : SendsLines first acts last)
+    → written_in goes ≡ told_in goes ++ to_tell last
 session_told first last acts fresh goes =
     let silent : notes first.book.history ≡ [] = ap notes fresh.history ∙ no_notes in
     let behind : IsBehind first = let g = fresh.given in omega (arith, g) in

@@ -1,7 +1,7 @@
 -- A session that was closed is sound.
 use Rattle.rx_live.proofs.Common.{◌≡◌, ℕ, Bool, true, false, List, [], map, sym, ap, ◌∙◌, inl, inr, ◌⊎◌, is_some, not, ◌&&◌, Event}
 use Rattle.rx_live.proofs.Common.{Contains, list_any, none-some, makes_resource, is_take_of, at, is_out, is_held, is_waiting, is_taken, IsPromised, is_kept}
-use Rattle.rx_live.proofs.Common.{IsPaired, Session, IsSound, IsClosed}
+use Rattle.rx_live.proofs.Common.{IsPaired, Session, IsSound, IsSessionClosed}
 use Rattle.std.proofs.lemmas.Bool.{false_from_ne_true}
 use Rattle.std.proofs.Common.{rules}
 
@@ -16,7 +16,8 @@ kept_where h r kept = kept_shape (at makes_resource h r) (is_held h r) (list_any
 none_in : {L : Type 0} (number : L → ℕ) (ls : List L) (r : ℕ) → ls ≡ [] → Contains (map number ls) r → ⊥
 none_in {L} number ls r none within = search (rules, map)
 
-pub closed_sound : (t : Session) → IsPromised t.book → IsClosed t → IsPaired t.nodes → IsPaired t.hubs → IsPaired t.resources → IsPaired t.leases → IsSound t
+pub closed_sound : (t : Session) → IsPromised t.book → IsSessionClosed t → IsPaired t.nodes → IsPaired t.hubs → IsPaired t.resources → IsPaired t.leases
+    → IsSound t
 closed_sound t kept closed nodes hubs resources leases = record {
   kept = kept;
   node_pairs = nodes;

@@ -28,29 +28,35 @@ pub use Rattle.rx_event.{proofs.Laws.Resources.held_not_taken, proofs.Laws.Resou
 pub use Rattle.rx_event.specs.{Causes.by_key, Causes.checkpoint_causes, Causes.most_places, Refusals.IsRefusal, Refusals.first_cause, declared.mail.Mail.Mail}
 pub use Rattle.rx_event.specs.declared.{event.Event.TheVariants.Accept, event.Kind.Kind, event.Place.Place, refusal.Refusal.Refusal}
 pub use Rattle.rx_event.specs.declared.refusal.Refusal.TheVariants.{Full, MailLeft, NoMemory, TooMany}
-pub use Rattle.rx_line.specs.{Names.name_of, Names.spot_of, Names.Binds, Names.IsPaired, Names.AreSame, Names.Forgets, Pieces.joined, Pieces.member_text}
+pub use Rattle.rx_line.specs.{Names.name_of_number, Names.spot_of, Names.Binds, Names.IsPaired, Names.AreSameNames, Names.Forgets, Pieces.joined}
+pub use Rattle.rx_line.specs.{Pieces.member_text}
 pub use Rattle.rx_line.specs.Orders.{Task, Order, open_holding, plain, IsUnread, dump, list, query, task, task_of, IsOrderOf, order_of}
 pub use Rattle.rx_line.specs.declared.{names.Names.Names, names.Spot.Spot, order.Unread.Unread, outcome.Cause.Cause, outcome.Outcome.Outcome}
 pub use Rattle.rx_line.specs.declared.outcome.Cause.TheVariants.{Book, NameTaken, NoName}
 pub use Rattle.rx_line.specs.declared.outcome.Outcome.TheVariants.{Accepted, Refused}
 unfoldable pub use Rattle.rx_line.specs.{Orders.order_in, Pieces.name_text, Pieces.faulty_text, Pieces.ok_text, Pieces.refused_text}
-pub use Rattle.rx_listing.{proofs.Laws.Texts.more_nil, proofs.Laws.Texts.more_text, proofs.Laws.Texts.same_texts, specs.Parts.is_nil, specs.Parts.led_text}
+pub use Rattle.rx_listing.{proofs.Laws.Texts.more_nil, proofs.Laws.Texts.more_text, proofs.Laws.Texts.same_texts, specs.Parts.has_no_texts}
+pub use Rattle.rx_listing.{specs.Parts.led_text}
 pub use Rattle.rx_live.specs.Given.{AreOpenSame, IsAlike, NamesOne, BindsHub, BindsLease, BindsResource, Gives, IsUnchanged, FreesLease, GivesBy, GivesNames}
 pub use Rattle.rx_live.specs.Given.{hold_asked, hold_tagged}
-pub use Rattle.rx_live.specs.Lines.{Does, as_it_was, IsFresh, renewed, IsClosed, Runs, Ends, FindsFull, GoesOn, IsAged, IsCarried, IsPutOff, TellsAll}
+pub use Rattle.rx_live.specs.Lines.{DoesTask, as_it_was, IsNewSession, renewed, IsSessionClosed, RunsCommand, EndsSession, FindsFull, SendsLines, IsAged}
+pub use Rattle.rx_live.specs.Lines.{IsCarried, IsPutOff, TellsAll}
 pub use Rattle.rx_live.specs.Lines.{WaitsFor, handed_by, is_put_off, no_line, one_line}
-pub use Rattle.rx_live.specs.Openings.{BindsMade, OpensHolder, holder_causes, front_text, is_node, is_open_taken, BindsConnection, BindsHolder, BindsNode}
+pub use Rattle.rx_live.specs.Openings.{BindsMade, OpensHolder, holder_causes, answer_front_text, is_node, is_open_taken, BindsConnection, BindsHolder}
+pub use Rattle.rx_live.specs.Openings.{BindsNode}
 pub use Rattle.rx_live.specs.Openings.{BindsUsing, holder_at, said_if, using_at, connected_by, is_holder_taken, is_using_taken, place_at, using_asked}
-pub use Rattle.rx_live.specs.Session.{session_of, Session, IsSound, has_resource, hub_of, IsPlaced, lease_of, node_of, resource_of, key_at, IsTied, if_open}
+pub use Rattle.rx_live.specs.Session.{session_of, Session, IsSound, has_resource, hub_by_name, AreNamesPlaced, lease_by_name, node_by_name, resource_by_name}
+pub use Rattle.rx_live.specs.Session.{node_key_at, IsTied, key_if_open}
 pub use Rattle.rx_live.specs.Session.{is_node_in, lease_key_at}
 pub use Rattle.rx_live.specs.Answers.{to_tell, WritesNotes, Takes, WritesNames, late_text, none_taken, one_taken, told_text, is_late}
-pub use Rattle.rx_live.specs.{Carried.Goes, Carried.Carries, Carried.outcome_of, ClosedAt.closed_texts, ClosedAt.closed_at, Room.HasRoom}
-pub use Rattle.rx_live.specs.{Closings.SaysClosed, Closings.closed_names, Dumps.entries, Dumps.query_text, Dumps.dump_text, Dumps.entry_at, Listed.all_names}
-pub use Rattle.rx_live.specs.Promise.{Act, no_act, Leads, released, releases, hands_in, with_held, IsKept}
+pub use Rattle.rx_live.specs.{Carried.CarriesSoundly, Carried.Carries, Carried.outcome_of, ClosedAt.closed_texts, ClosedAt.closed_at, Room.HasRoom}
+pub use Rattle.rx_live.specs.{Closings.SaysClosed, Closings.closed_names, Dumps.entries, Dumps.query_text, Dumps.dump_text, Dumps.name_entry_at}
+pub use Rattle.rx_live.specs.{Listed.all_names}
+pub use Rattle.rx_live.specs.Promise.{NameAct, no_act, LeadsNames, released, releases, hands_in, with_held, IsKept}
 pub use Rattle.rx_live.specs.Renewals.{Renews, AreOpen, IsFullByOpen, Renewing, may_renew, renewing_causes}
 pub use Rattle.rx_live.specs.Steps.{AreNamesWritten, AreNotesWritten, names_left}
-pub use Rattle.rx_live.specs.Taken.{Writes, connects_at, Answered, AnsweredOne, AreAnswering, IsFullByAge, Tries, is_full}
-unfoldable pub use Rattle.rx_live.specs.Session.{node_in}
+pub use Rattle.rx_live.specs.Taken.{WritesAnswer, connects_at, Answered, AnsweredOne, AreAnswering, IsFullByAge, Tries, is_full_cause}
+unfoldable pub use Rattle.rx_live.specs.Session.{open_node_in}
 pub use Rattle.rx_scenario.specs.Scenario.{Name, Command, abort, apply, checkpoint, connect, decline, disconnect, dispose, drain, end, fail, give_back, hold}
 pub use Rattle.rx_scenario.specs.Scenario.{lease, make_hub, next, open_node, remove, using, site_of}
 pub use Rattle.serde_json.specs.{Data.Data, Data.Items, Data.item, Data.no_items, Find.as_array}

@@ -1,9 +1,11 @@
 -- Names that are released one after another.
 use Rattle.rx_live.proofs.Common.{◌≡◌, ℕ, ◌≤◌, ◌==◌, zero, suc, Bool, true, false, cond, List, [], ◌∷◌, ◌++◌, codes, length, map, Option, Some, None, refl}
 use Rattle.rx_live.proofs.Common.{option_map, sym, ap, ◌∙◌, arith, subst, String, Global, string_bytes, IfSome, IfNone, is_some, not, ◌&&◌, ◌||◌, at}
-use Rattle.rx_live.proofs.Common.{bytes_eq, Contains, list_any, option_map_or, append-nil, map-append, All-contains, none-some, bytes_eq-Decides, Taking, Act}
+use Rattle.rx_live.proofs.Common.{bytes_eq, Contains, list_any, option_map_or, append-nil, map-append, All-contains, none-some, bytes_eq-Decides, Taking}
+use Rattle.rx_live.proofs.Common.{NameAct}
 use Rattle.rx_live.proofs.Common.{Event, makes_resource, is_take_of, is_waiting, is_held, is_taken, Name, State, IsPromised, is_kept, take_request, Accepts}
-use Rattle.rx_live.proofs.Common.{Spot, Names, spot_of, name_of, IsPaired, Forgets, name_text, joined, Session, IsSound, has_resource, released, Leads, Takes}
+use Rattle.rx_live.proofs.Common.{Spot, Names, spot_of, name_of_number, IsPaired, Forgets, name_text, joined, Session, IsSound, has_resource, released}
+use Rattle.rx_live.proofs.Common.{LeadsNames, Takes}
 use Rattle.rx_live.proofs.Common.{no_act, releases, none_taken, one_taken, WritesNames, AreNamesWritten, kept_taken, out_same}
 use Rattle.rx_live.specs.Steps.{TakesName, DropsName, WritesName, WritesNoName}
 use Rattle.rx_live.proofs.Laws.HeldStaysHeld.{leads_on}
@@ -30,7 +32,7 @@ Contains-map f (y ∷ xs) x (suc k, within, at) = let c = Contains-map f xs x (k
 pub contains_number : {L : Type 0} (number : L → ℕ) (ls : List L) (l : L) (r : ℕ) → Contains ls l → r ≡ number l → Contains (map number ls) r
 contains_number number ls l r within is = subst (λ (n : ℕ). Contains (map number ls) n) (sym is) (Contains-map number ls l within)
 
-pub waiting_named : (s : Session) (r : ℕ) → IsSound s → Contains (map (λ l. l.number) s.book.waiting) r → is_some (name_of s.resources r) ≡ true
+pub waiting_named : (s : Session) (r : ℕ) → IsSound s → Contains (map (λ l. l.number) s.book.waiting) r → is_some (name_of_number s.resources r) ≡ true
 waiting_named s r sound member = search (rules, waiting_kept, All-contains, map)
 
 pub never_none : (result : Option (String Global)) (named : Option Name) (P : Type 0) → option_map string_bytes result ≡ named → is_some named ≡ true →
@@ -43,11 +45,12 @@ none_left x0 P holds = search rules
 -- of the names t, what is told of resource q is gone, and was its name
 pub record IsForgotten (s : Session) (q : ℕ) (told : Option (String Global)) (t : Names) : Type 0 where
   pub paired : IsPaired t
-  pub value : option_map string_bytes told ≡ name_of s.resources q
+  pub value : option_map string_bytes told ≡ name_of_number s.resources q
   pub forgets : IfSome told (λ n. Forgets s.resources q (string_bytes n) t)
 
 pub taken_sound : {s : Session} {book : State} {q : ℕ} {t : Names} {told : Option (String Global)} → IsSound s → IsPromised book →
-    Accepts s.book (take_request q) book → is_some (name_of s.resources q) ≡ true → IsForgotten s q told t → IsSound (record s { book = book; resources = t })
+    Accepts s.book (take_request q) book → is_some (name_of_number s.resources q) ≡ true → IsForgotten s q told t
+    → IsSound (record s { book = book; resources = t })
 taken_sound {told = None} sound kept accepts named gone = let e : false ≡ true = ap is_some gone.value ∙ named in absurd (cc)
 taken_sound {s} {book} {q} {t} {told = Some n} sound kept accepts named gone =
     let forgets : Forgets s.resources q (string_bytes n) t = gone.forgets in
@@ -61,7 +64,8 @@ taken_sound {s} {book} {q} {t} {told = Some n} sound kept accepts named gone =
       lease_pairs = sound.lease_pairs;
       nodes = placed_longer s.book.history book.history s.nodes sound.nodes longer;
       hubs = placed_longer s.book.history book.history s.hubs sound.hubs longer;
-      resources = λ r. ap is_some (forgets.names r) ∙ some_gone (q == r) (name_of s.resources r) ∙ ap (λ (b : Bool). cond (q == r) false b) (sound.resources r)
+      resources = λ r. ap is_some (forgets.names r) ∙ some_gone (q == r) (name_of_number s.resources r)
+          ∙ ap (λ (b : Bool). cond (q == r) false b) (sound.resources r)
           ∙ sym (kept_taken accepts.step r);
       leases = λ l. sound.leases l ∙ sym (out_same (Taking q) accepts.step refl l);
       unnamed = λ m is. free_after m (bytes_eq name m) refl (sound.unnamed m is);
@@ -90,7 +94,7 @@ pub dropped_unnamed : (s : Session) (name : Name) (rest : Option Name) → IsSou
     DropsName s name (record s { unnamed = rest })
 dropped_unnamed s name rest sound is none = search (rules, or_true, is_some, option_map_or, bytes_eq, bytes_eq-Decides, none_taken, cond, apart_sym, or_none)
 
-known_spot : (s : Session) (number : ℕ) (name : Name) → IsSound s → name_of s.resources number ≡ Some name → is_some (spot_of s.resources name) ≡ true
+known_spot : (s : Session) (number : ℕ) (name : Name) → IsSound s → name_of_number s.resources number ≡ Some name → is_some (spot_of s.resources name) ≡ true
 known_spot s number name sound known = by_spot (spot_of s.resources name) (sound.resource_pairs.numbered number name known) where
   by_spot : (o : Option Spot) → option_map (λ (p : Spot). p.number) o ≡ Some number → is_some o ≡ true
   by_spot None is = absurd (none-some number is)
@@ -145,7 +149,7 @@ names_rest : (a b c : Session) → b ≡ record a { book = b.book; resources = b
     c ≡ record a { book = c.book; resources = c.resources; unnamed = c.unnamed }
 names_rest a b c p q = search rules
 
-pub drop_leads : (a b : Session) (name : Name) → DropsName a name b → Leads (has_resource a) (released name ∷ []) (has_resource b)
+pub drop_leads : (a b : Session) (name : Name) → DropsName a name b → LeadsNames (has_resource a) (released name ∷ []) (has_resource b)
 drop_leads a b name drops = releases name drops.was (no_act drops.held)
 
 pub names_begun : (old now : Session) (begun text : List ℕ) → WritesName old begun (codes ",\"release\":[") now text → AreNamesWritten old begun now text
@@ -159,7 +163,7 @@ names_more old mid now begun before text so_far one =
       first = so_far.first;
       more = so_far.more ++ one.name ∷ [];
       releases = record {
-        leads = subst (λ (acts : List Act). Leads (has_resource old) acts (has_resource now)) (sym (map-append released all (one.name ∷ [])))
+        leads = subst (λ (acts : List NameAct). LeadsNames (has_resource old) acts (has_resource now)) (sym (map-append released all (one.name ∷ [])))
             (leads_on so_far.releases.leads (drop_leads mid now one.name one.drops));
         takes = takes_on so_far.releases.takes one.drops.takes;
         rest = names_rest old mid now so_far.releases.rest one.drops.rest;
@@ -174,7 +178,7 @@ names_ended old mid now begun before text so_far none =
     record {
       names = all;
       releases = record {
-        leads = subst (λ (acts : List Act). Leads (has_resource old) acts (has_resource now)) (append-nil (map released all))
+        leads = subst (λ (acts : List NameAct). LeadsNames (has_resource old) acts (has_resource now)) (append-nil (map released all))
             (leads_on so_far.releases.leads (no_act none.held));
         takes = takes_on so_far.releases.takes none.takes;
         rest = names_rest old mid now so_far.releases.rest none.rest;

@@ -1,9 +1,11 @@
 -- How a command that takes no memory is answered.
-use Rattle.rx_live.proofs.Common.{◌≡◌, ℕ, ◌++◌, Bool, true, false, List, [], refl, sym, ap, ◌∙◌, append-nil, length, is_some, ok_text, Session, plain, front_text, said_if, connected_by, connection_made}
+use Rattle.rx_live.proofs.Common.{◌≡◌, ℕ, ◌++◌, Bool, true, false, List, [], refl, sym, ap, ◌∙◌, append-nil, length, is_some, ok_text, Session, plain}
+use Rattle.rx_live.proofs.Common.{answer_front_text, said_if, connected_by, connection_made}
 use Rattle.rx_line.specs.declared.free.FreeCommand.{FreeCommand}
 use Rattle.rx_line.specs.declared.free.FreeCommand.TheVariants.{Remove, Return, End, Decline, Dispose, Disconnect, Drain}
 use Rattle.rx_line.specs.FreeCommands.{free_command_of}
-use Rattle.rx_live.proofs.Common.{Session, IsSound, Data, Items, Order, task, order_in, IsOrderOf, as_array, Task, Writes, Answered, as_it_was, none-some, Some, None, subst}
+use Rattle.rx_live.proofs.Common.{Session, IsSound, Data, Items, Order, task, order_in, IsOrderOf, as_array, Task, WritesAnswer, Answered, as_it_was, none-some}
+use Rattle.rx_live.proofs.Common.{Some, None, subst}
 use Rattle.serde_json.specs.Data.{array}
 use Rattle.rx_line.specs.Orders.{says, query_in, is_timed, command_in, task_in, holding_in, is_opening}
 use Rattle.rx_scenario.specs.Reading.{action_in}
@@ -23,7 +25,7 @@ said_free b (Dispose node) = said_none b
 said_free b (Disconnect hub) = said_none b
 said_free b Drain = said_none b
 
-pub free_front : (old done : Session) (c : FreeCommand) → ok_text (length old.book.history) ≡ front_text old (plain (free_command_of c)) done
+pub free_front : (old done : Session) (c : FreeCommand) → ok_text (length old.book.history) ≡ answer_front_text old (plain (free_command_of c)) done
 free_front old done c =
     sym (append-nil (ok_text (length old.book.history)))
     ∙ ap (λ (t : List ℕ). ok_text (length old.book.history) ++ t) (sym (said_free (is_some (connection_made old.book.history done.book.history)) c))
@@ -57,7 +59,7 @@ sent_one old new line k text order out sound =
     }
 
 pub free_sent : (old new : Session) (line : List ℕ) (k : Task) (begun text : List ℕ) → begun ≡ [] → IsOrderOf line (task k) →
-    Writes (λ t. CarriesOut old k t new) begun text → IsSound new → Sends old line text new
+    WritesAnswer (λ t. CarriesOut old k t new) begun text → IsSound new → Sends old line text new
 free_sent old new line k begun text none order wrote sound =
     let is : text ≡ wrote.answer = wrote.written ∙ ap (λ (b : List ℕ). b ++ wrote.answer) none in
     sent_one old new line k text order (subst (λ (t : List ℕ). CarriesOut old k t new) (sym is) wrote.is) sound

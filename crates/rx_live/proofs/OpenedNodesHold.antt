@@ -2,7 +2,8 @@
 use Rattle.rx_live.proofs.Common.{◌≡◌, ℕ, ◌+◌, ◌==◌, ◌<◌, Bool, true, false, cond, length, length-append, Option, Some, option_map, refl, sym, ap}
 use Rattle.rx_live.proofs.Common.{◌∙◌, arith, subst, is_some, Accept, Kept, IsLawful, Call, Place, Kind, Refusal, At, Name, Opened}
 use Rattle.rx_live.proofs.Common.{State, is_kept, IsPromised, open_request, IsOpened, connection_made, step_longer, kept_same}
-use Rattle.rx_live.proofs.Common.{out_same, kept_held, Names, spot_of, name_of, IsPaired, AreSame, Binds, Session, IsSound, IsPlaced, has_resource, NamesOne}
+use Rattle.rx_live.proofs.Common.{out_same, kept_held, Names, spot_of, name_of_number, IsPaired, AreSameNames, Binds, Session, IsSound, AreNamesPlaced}
+use Rattle.rx_live.proofs.Common.{has_resource, NamesOne}
 use Rattle.rx_live.proofs.Common.{AreOpenSame, hold_tagged, holder_at, holder_causes, OpensHolder, BindsMade, BindsHolder}
 use Rattle.rx_ground.specs.OpeningHolding.{opening_holding_causes}
 use Rattle.rx_book.specs.OpensHolding.{stands_holding}
@@ -50,12 +51,12 @@ module _ {old new : State} {asked : Holder} (o : OpensHolder old asked new) wher
 -- the names -------------------------------------------------------------------------------------------
 
 -- as some of closed nodes are forgotten, and as room is made
-module _ {s : Session} {mid t : Names} (sound : IsSound s) (same : AreOpenSame s.untold s.book s.nodes mid) (room : AreSame mid t)
+module _ {s : Session} {mid t : Names} (sound : IsSound s) (same : AreOpenSame s.untold s.book s.nodes mid) (room : AreSameNames mid t)
     {book : State} {asked : Holder} (o : OpensHolder s.book asked book)
     {name res : Name} {with_node new more resources : Names} (node : NamesOne t name (length s.book.history) with_node)
     {opened : Opened} (is_opened : IsOpened s.book book opened) (connection : Option Name)
     (made : BindsMade with_node connection (option_map (λ k. k.number) opened.connected) new)
-    (grown : AreSame s.resources more) (held : NamesOne more res (length o.middle.history) resources) where
+    (grown : AreSameNames s.resources more) (held : NamesOne more res (length o.middle.history) resources) where
   pub holder_bound : BindsHolder s name connection res (record s { book = book; nodes = new; resources = resources })
   holder_bound = record {
     opened = opened_bound sound same room node is_opened connection made;
@@ -71,10 +72,10 @@ module _ {s : Session} {mid t : Names} (sound : IsSound s) (same : AreOpenSame s
   holder_sound kept pairs paired free =
       let binds : Binds s.resources res held.spot resources = bound_after s.resources more resources res held.spot grown held.binds in
       let more_events : length s.book.history < length book.history = longer o in
-      let one : IsPlaced book.history with_node =
+      let one : AreNamesPlaced book.history with_node =
       placed_bound book.history (placed_longer s.book.history book.history t (placed sound same room) (omega arith)) node.binds
       (let n : node.spot.number ≡ length s.book.history = node.is in omega arith) in
-      let two : IsPlaced book.history new = made_placed book.history with_node new connection (connection_made s.book.history book.history)
+      let two : AreNamesPlaced book.history new = made_placed book.history with_node new connection (connection_made s.book.history book.history)
       (subst (λ (m : Option ℕ). BindsMade with_node connection m new) is_opened.connection made) one (made_within s.book.history book.history) in
       record {
         kept = kept;
@@ -84,7 +85,7 @@ module _ {s : Session} {mid t : Names} (sound : IsSound s) (same : AreOpenSame s
         lease_pairs = sound.lease_pairs;
         nodes = two;
         hubs = placed_longer s.book.history book.history s.hubs sound.hubs (omega arith);
-        resources = λ r. ap is_some (binds.names r) ∙ some_cond (held.spot.number == r) res (name_of s.resources r)
+        resources = λ r. ap is_some (binds.names r) ∙ some_cond (held.spot.number == r) res (name_of_number s.resources r)
             ∙ (λ i. cond (held.is i == r) true (sound.resources r i)) ∙ sym (kept_after o r);
         leases = λ l. sound.leases l ∙ sym (out_same (opening o) o.opens.step refl l) ∙ sym (out_same (holding o) o.holds.step refl l);
         unnamed = λ n is. binds.spots n ∙ ap (λ (b : Bool). cond b (Some held.spot) (spot_of s.resources n)) (not_unnamed s res n free is)

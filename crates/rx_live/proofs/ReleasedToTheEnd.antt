@@ -1,10 +1,11 @@
 -- From the first line to the end without memory, each name that was handed in is released once.
 use Rattle.rx_live.proofs.Common.{◌≡◌, ◌⊎◌, inl, inr, ℕ, zero, suc, ◌<◌, ◌≤◌, ◌==◌, Bool, true, false, cond, List, [], ◌∷◌, ◌++◌, length, map, Option, Some, None}
 use Rattle.rx_live.proofs.Common.{refl, sym, ap, ◌∙◌, subst, arith, is_some, ◌||◌, at, makes_resource, Contains, All-contains, bytes_eq, option_map_or, Event, State, is_kept}
-use Rattle.rx_live.proofs.Common.{is_held, is_waiting, Name, Spot, spot_of, Session, IsSound, has_resource, released, Leads, no_act, Takes, none_taken, one_taken, take_request}
+use Rattle.rx_live.proofs.Common.{is_held, is_waiting, Name, Spot, spot_of, Session, IsSound, has_resource, released, LeadsNames, no_act, Takes, none_taken}
+use Rattle.rx_live.proofs.Common.{one_taken, take_request}
 use Rattle.rx_live.proofs.Common.{IsTrue, kept_taken, at_within}
 use Rattle.rx_tree.specs.declared.node.ResKey.{ResKey}
-use Rattle.rx_live.specs.Promise.{Act}
+use Rattle.rx_live.specs.Promise.{NameAct}
 use Rattle.rx_live.specs.Shut.{ReleasesEach, none_waits, one_dropped, AreNamesKeptToTheEnd}
 use Rattle.rx_live.proofs.Laws.HeldStaysHeld.{leads_on, leads_same, fresh_held}
 use Rattle.rx_live.proofs.Soundness.{accepted_longer}
@@ -84,7 +85,7 @@ module _ (shut new : Session) (none_held : shut.book.held ≡ []) (sound : IsSou
 
 -- all that waits is released
 record Released (shut new : Session) (names : List Name) : Type 0 where
-  leads : Leads (has_resource shut) (map released names) (has_resource new)
+  leads : LeadsNames (has_resource shut) (map released names) (has_resource new)
   takes : Takes shut.book new.book
   waiting : new.book.waiting ≡ []
   unnamed : new.unnamed ≡ None
@@ -106,10 +107,10 @@ all_released {shut} (one_dropped name mid drops rest) =
 pub kept_to_the_end : AreNamesKeptToTheEnd
 kept_to_the_end first last shut new acts names fresh goes shuts each =
     let r = all_released each in
-    let all : List Act = acts ++ map released names in
-    let ended : Leads (has_resource last) (map released names) (has_resource new) =
+    let all : List NameAct = acts ++ map released names in
+    let ended : LeadsNames (has_resource last) (map released names) (has_resource new) =
     leads_same (has_resource last) (has_resource shut) (has_resource new) (map released names) shuts.held r.leads in
-    let begun : Leads (λ n. false) all (has_resource new) =
+    let begun : LeadsNames (λ n. false) all (has_resource new) =
     leads_same (λ n. false) (has_resource first) (has_resource new) all (fresh_held first fresh) (leads_on (goes_leads goes) ended) in
-    subst (λ (held : Name → Bool). Leads (λ n. false) all held)
+    subst (λ (held : Name → Bool). LeadsNames (λ n. false) all held)
     (λ i n. nothing_held shut new shuts.none_held shuts.sound r.sound (took r.takes) r.waiting r.unnamed n i) begun

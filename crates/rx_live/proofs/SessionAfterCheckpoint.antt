@@ -4,8 +4,8 @@ use Rattle.rx_live.proofs.Common.{◌∙◌, arith, subst, inl, inr, ◌⊎◌, 
 use Rattle.rx_live.proofs.Common.{and_parts, and_right, not-false, ltb-false, lt-ltb, le-ltb, cases_lt, drop_all, length-drop, Mail, Event, Refusal, Full}
 use Rattle.rx_live.proofs.Common.{MailLeft, Kept, base_of, is_held, is_waiting, is_taken, IsLawful, State}
 use Rattle.rx_live.proofs.Common.{first_cause, IsRefusal, made_untold, held_resource, held_not_taken, checkpoint_causes, most_places, IsPromised, is_kept}
-use Rattle.rx_live.proofs.Common.{Names, Cause, Book, Outcome, Refused, AllocError, name_of, IsPaired, Session, IsSound, AreOpenSame, Task}
-use Rattle.rx_live.proofs.Common.{IsAlike, to_tell, AreOpen, Renews, renewing_causes, Renewing, IsFullByOpen, may_renew, Does, FindsFull, is_full}
+use Rattle.rx_live.proofs.Common.{Names, Cause, Book, Outcome, Refused, AllocError, name_of_number, IsPaired, Session, IsSound, AreOpenSame, Task}
+use Rattle.rx_live.proofs.Common.{IsAlike, to_tell, AreOpen, Renews, renewing_causes, Renewing, IsFullByOpen, may_renew, DoesTask, FindsFull, is_full_cause}
 use Rattle.rx_register.proofs.Laws.NoCause.{no_cause}
 use Rattle.rx_book.specs.Checkpoints.{Checkpoints}
 use Rattle.std.proofs.Common.{rules}
@@ -38,7 +38,8 @@ renewed_sound s book nodes sound kept made paired same = record {
   leases = λ l. sound.leases l ∙ made.agree.out l;
   unnamed = sound.unnamed;
 } where
-  by_old : (n : ℕ) → length book.history ≤ n → (name_of nodes n ≡ name_of s.nodes n) ⊎ (name_of nodes n ≡ None) → name_of nodes n ≡ None
+  by_old : (n : ℕ) → length book.history ≤ n → (name_of_number nodes n ≡ name_of_number s.nodes n) ⊎ (name_of_number nodes n ≡ None)
+      → name_of_number nodes n ≡ None
   by_old n past (inl was) = was ∙ sound.nodes n (omega (arith, made.agree.same_length))
   by_old n past (inr none) = none
 
@@ -90,7 +91,7 @@ refused_same old new x2 r = search rules
 
 -- by age ----------------------------------------------------------------------------------------------
 
-by_open : (s : Session) (why : Cause) → IsPromised s.book → (is_full why && may_renew s) ≡ false → IsFullByOpen s why
+by_open : (s : Session) (why : Cause) → IsPromised s.book → (is_full_cause why && may_renew s) ≡ false → IsFullByOpen s why
 by_open s (Book Full) kept none =
     by_case (and_cases (not (nat_lt most_places (length s.book.history))) (nat_lt s.book.base.at_length (length s.book.history)) none)
   where
@@ -101,14 +102,15 @@ by_open s (Book Full) kept none =
 by_open s _ kept none = tt
 
 -- after a refusal, which changed nothing
-full_why : (why : Cause) → is_full why ≡ true → why ≡ Book Full
+full_why : (why : Cause) → is_full_cause why ≡ true → why ≡ Book Full
 full_why x0 e = search rules
 
-pub full_by_age : (old new : Session) (t : Task) (why : Cause) → Does old t (Refused why) new → IsAlike old new →
-    (is_full why && may_renew new) ≡ true → FindsFull old t new
+pub full_by_age : (old new : Session) (t : Task) (why : Cause) → DoesTask old t (Refused why) new → IsAlike old new →
+    (is_full_cause why && may_renew new) ≡ true → FindsFull old t new
 full_by_age old new t why does alike both = search (rules, full_why, and_parts)
 
-pub full_by_open : (old new : Session) (why : Cause) → IsPromised old.book → IsAlike old new → (is_full why && may_renew new) ≡ false → IsFullByOpen old why
+pub full_by_open : (old new : Session) (why : Cause) → IsPromised old.book → IsAlike old new → (is_full_cause why && may_renew new) ≡ false
+    → IsFullByOpen old why
 full_by_open old new why kept alike none = search (rules, by_open)
 
 -- behind a checkpoint a history is young

@@ -1,7 +1,7 @@
 -- A session stays sound as its book goes on.
 use Rattle.rx_live.proofs.Common.{◌≡◌, ℕ, ◌≤◌, true, false, Some, Result, length, refl, sym, ap, ◌∙◌, arith, List, [], IfErr, OnOk, OnErr, is_some, Refusal}
 use Rattle.rx_live.proofs.Common.{none-some, Event, is_out, is_out_past, IsPaired, State, is_kept, IsPromised, Request, Accepts, IsCauseOrWant, step_longer}
-use Rattle.rx_live.proofs.Common.{Outcome, Session, IsSound, IsFresh, outcome_of, Goes, keeps_resources, keeps_leases, kept_same, out_same}
+use Rattle.rx_live.proofs.Common.{Outcome, Session, IsSound, IsNewSession, outcome_of, CarriesSoundly, keeps_resources, keeps_leases, kept_same, out_same}
 use Rattle.std.proofs.Common.{rules}
 
 pub accepted_longer : (old new : State) (asked : Request) → Accepts old asked new → length old.history ≤ length new.history
@@ -23,7 +23,7 @@ pub record Called {A : Type 0} (old : State) (asked : Request) (answer : Result 
 
 -- what such a call is answered
 pub goes_on : {A : Type 0} {s : Session} {asked : Request} {book : State} {answer : Result A Refusal} {outcome : Outcome} → IsSound s →
-    Called s.book asked answer book → outcome ≡ outcome_of answer → Goes s (Some asked) outcome (record s { book = book })
+    Called s.book asked answer book → outcome ≡ outcome_of answer → CarriesSoundly s (Some asked) outcome (record s { book = book })
 goes_on sound called is = search (rules, sound_on)
 
 -- before the first line
@@ -31,7 +31,7 @@ kept_none : (r : ℕ) → is_kept [] r ≡ false
 unfolding is_kept
 kept_none r = refl
 
-pub sound_start : {s : Session} → IsPromised s.book → IsFresh s → IsPaired s.nodes → IsPaired s.hubs → IsPaired s.resources → IsPaired s.leases → IsSound s
+pub sound_start : {s : Session} → IsPromised s.book → IsNewSession s → IsPaired s.nodes → IsPaired s.hubs → IsPaired s.resources → IsPaired s.leases → IsSound s
 sound_start kept fresh node_pairs hub_pairs resource_pairs lease_pairs = record {
   kept = kept;
   node_pairs = node_pairs;

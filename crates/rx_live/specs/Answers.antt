@@ -9,10 +9,10 @@ use Rattle.rx_book.specs.State.{State}
 use Rattle.rx_book.specs.Requests.{take_request}
 use Rattle.rx_book.specs.Answers.{Accepts}
 use Rattle.rx_line.specs.declared.names.Names.{Names}
-use Rattle.rx_line.specs.Names.{name_of}
+use Rattle.rx_line.specs.Names.{name_of_number}
 use Rattle.rx_line.specs.Pieces.{note_text, name_text, member_text}
 use Rattle.rx_live.specs.Session.{Session, has_resource}
-use Rattle.rx_live.specs.Promise.{released, Leads}
+use Rattle.rx_live.specs.Promise.{released, LeadsNames}
 
 -- a note, and the name of the node that it goes to
 pub record Told : Type 0 where
@@ -29,11 +29,11 @@ abbrev pub to_tell : Session → List Mail
 to_tell s = option_to_list s.untold ++ drop s.book.given (notes s.book.history)
 
 -- the names of nodes, as the notes' addressees
-abbrev pub name_or_none : Names → ℕ → Name
-name_or_none names n = option_map_or (λ name. name) (name_of names n) []
+abbrev pub addressee_name : Names → ℕ → Name
+addressee_name names n = option_map_or (λ name. name) (name_of_number names n) []
 
 abbrev pub told_of : Names → Mail → Told
-told_of names m = record { to = name_or_none names m.to; note = m.note }
+told_of names m = record { to = addressee_name names m.to; note = m.note }
 
 -- nothing but what was told has changed
 abbrev pub IsTelling : Session → Session → Type 0
@@ -47,14 +47,14 @@ pub record TellsNotes (old : Session) (told : List Told) (new : Session) : Type 
   pub rest : IsTelling old new
 
 -- all was told, but for a note that found no memory and those behind it
-abbrev pub IsTold : Session → Type 0
-IsTold s = s.untold ≡ None → to_tell s ≡ []
+abbrev pub IsAllTold : Session → Type 0
+IsAllTold s = s.untold ≡ None → to_tell s ≡ []
 
 -- behind what was written stands the member for the notes that were told
 pub record WritesNotes (old : Session) (begun : List ℕ) (new : Session) (text : List ℕ) : Type 0 where
   pub told : List Told
   pub tells : TellsNotes old told new
-  pub all : IsTold new
+  pub all : IsAllTold new
   pub written : text ≡ begun ++ member_text (codes "notes") (map told_text told)
 
 -- names ----------------------------------------------------------------------------------------------
@@ -66,7 +66,7 @@ pub data Takes : State → State → Type 0 where
 
 -- these names were released, each of which was held, and what else is held still is
 pub record ReleasesNames (old : Session) (names : List Name) (new : Session) : Type 0 where
-  pub leads : Leads (has_resource old) (map released names) (has_resource new)
+  pub leads : LeadsNames (has_resource old) (map released names) (has_resource new)
   pub takes : Takes old.book new.book
   pub rest : new ≡ record old { book = new.book; resources = new.resources; unnamed = new.unnamed }
 

@@ -23,6 +23,6 @@ Carries old (Some asked) (Refused NameTaken) new = ⊥
 Carries old (Some asked) (Refused (Book why)) new = IsCauseOrWant old.book asked why × (new ≡ old)
 
 -- and it leaves the session sound
-pub record Goes (old : Session) (asked : Option Request) (outcome : Outcome) (new : Session) : Type 0 where
+pub record CarriesSoundly (old : Session) (asked : Option Request) (outcome : Outcome) (new : Session) : Type 0 where
   pub carries : Carries old asked outcome new
   pub sound : IsSound new

@@ -4,17 +4,17 @@ use Rattle.std.specs.Option.{option_map_or}
 use Rattle.rx_scenario.specs.Scenario.{Name, end, abort, fail, dispose, drain, checkpoint}
 use Rattle.rx_slots.specs.declared.Key.{Key}
 use Rattle.rx_line.specs.declared.names.Names.{Names}
-use Rattle.rx_line.specs.Names.{name_of}
+use Rattle.rx_line.specs.Names.{name_of_number}
 use Rattle.rx_line.specs.Orders.{Task, plain}
 use Rattle.rx_line.specs.Pieces.{name_text, member_text}
-use Rattle.rx_live.specs.Session.{Session, node_of}
+use Rattle.rx_live.specs.Session.{Session, node_by_name}
 
 -- the node that a task ends or closes by its name
 abbrev pub asked_node : Session → Task → Option ℕ
-asked_node s (plain (end node terminal)) = option_map (λ k. k.number) (node_of s node)
-asked_node s (plain (abort node code)) = option_map (λ k. k.number) (node_of s node)
-asked_node s (plain (fail node code)) = option_map (λ k. k.number) (node_of s node)
-asked_node s (plain (dispose node)) = option_map (λ k. k.number) (node_of s node)
+asked_node s (plain (end node terminal)) = option_map (λ k. k.number) (node_by_name s node)
+asked_node s (plain (abort node code)) = option_map (λ k. k.number) (node_by_name s node)
+asked_node s (plain (fail node code)) = option_map (λ k. k.number) (node_by_name s node)
+asked_node s (plain (dispose node)) = option_map (λ k. k.number) (node_by_name s node)
 asked_node s _ = None
 
 -- a task that is no call of the book closes nothing
@@ -25,7 +25,7 @@ is_call _ = true
 
 -- the name of a node, unless it is the one that was asked for
 abbrev pub name_beside : Names → (asked : Option ℕ) → Key → Option Name
-name_beside nodes asked k = if option_map_or (λ n. n == k.number) asked false then None else name_of nodes k.number
+name_beside nodes asked k = if option_map_or (λ n. n == k.number) asked false then None else name_of_number nodes k.number
 
 -- the named nodes that the last call closed, in the order in which the book closed them
 abbrev pub names_closed : Session → (asked : Option ℕ) → List Name

@@ -12,27 +12,27 @@ use Rattle.rx_book.specs.Requests.{Request, stands}
 use Rattle.rx_book.specs.Answers.{Accepts}
 use Rattle.rx_line.specs.declared.names.Spot.{Spot}
 use Rattle.rx_line.specs.declared.names.Names.{Names}
-use Rattle.rx_line.specs.Names.{spot_of, name_of, AreSame, Binds, Forgets}
+use Rattle.rx_line.specs.Names.{spot_of, name_of_number, AreSameNames, Binds, Forgets}
 use Rattle.rx_line.specs.declared.outcome.Cause.TheVariants.{NoName, NameTaken, Book}
 use Rattle.rx_line.specs.declared.outcome.Outcome.{Outcome}
 use Rattle.rx_line.specs.declared.outcome.Outcome.TheVariants.{Accepted, Refused}
-use Rattle.rx_live.specs.Session.{Session, node_in, IsSound}
+use Rattle.rx_live.specs.Session.{Session, open_node_in, IsSound}
 
 -- the same nodes have names; what names of closed nodes are kept is not told, but for that none is forgotten while something is still to
 -- be told
 pub record AreOpenSame (untold : Option Mail) (book : State) (old new : Names) : Type 0 where
-  pub kept : is_some untold ≡ true → AreSame old new
-  pub nodes : (name : Name) → node_in book new name ≡ node_in book old name
+  pub kept : is_some untold ≡ true → AreSameNames old new
+  pub nodes : (name : Name) → open_node_in book new name ≡ open_node_in book old name
   pub spots : (name : Name) → (spot_of new name ≡ spot_of old name) ⊎ (spot_of new name ≡ None)
-  pub names : (n : ℕ) → (name_of new n ≡ name_of old n) ⊎ (name_of new n ≡ None)
+  pub names : (n : ℕ) → (name_of_number new n ≡ name_of_number old n) ⊎ (name_of_number new n ≡ None)
 
 -- the same is bound
 pub record IsAlike (old new : Session) : Type 0 where
   pub book : new.book ≡ old.book
   pub nodes : AreOpenSame old.untold old.book old.nodes new.nodes
-  pub hubs : AreSame old.hubs new.hubs
-  pub resources : AreSame old.resources new.resources
-  pub leases : AreSame old.leases new.leases
+  pub hubs : AreSameNames old.hubs new.hubs
+  pub resources : AreSameNames old.resources new.resources
+  pub leases : AreSameNames old.leases new.leases
   pub untold : new.untold ≡ old.untold
   pub unnamed : new.unnamed ≡ old.unnamed
 
@@ -90,6 +90,6 @@ pub record BindsHub (old : Session) (name : Name) (new : Session) : Type 0 where
 -- what is forgotten: the lease that is given back
 pub record FreesLease (old : Session) (name : Name) (new : Session) : Type 0 where
   pub number : ℕ
-  pub known : name_of old.leases number ≡ Some name
+  pub known : name_of_number old.leases number ≡ Some name
   pub forgets : Forgets old.leases number name new.leases
   pub rest : new ≡ record old { book = new.book; leases = new.leases }

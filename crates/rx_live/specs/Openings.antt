@@ -25,38 +25,38 @@ use Rattle.rx_line.specs.declared.names.Names.{Names}
 use Rattle.rx_line.specs.declared.outcome.Outcome.{Outcome}
 use Rattle.rx_line.specs.Orders.{Task, plain, open_holding}
 use Rattle.rx_line.specs.Pieces.{ok_text}
-use Rattle.rx_live.specs.Session.{Session, is_node_in, node_of, hub_of, has_resource}
+use Rattle.rx_live.specs.Session.{Session, is_node_in, node_by_name, hub_by_name, has_resource}
 use Rattle.rx_live.specs.Given.{IsAlike, NamesOne, GivesBy, hold_tagged}
 
 -- the place that a site stands for
 abbrev pub place_at : Session → Site → Option At
 place_at s root = Some AtRoot
-place_at s (source name) = option_map AtSource (node_of s name)
-place_at s (inner name) = option_map AtInner (node_of s name)
-place_at s (notifier name) = option_map AtNotifier (node_of s name)
+place_at s (source name) = option_map AtSource (node_by_name s name)
+place_at s (inner name) = option_map AtInner (node_by_name s name)
+place_at s (notifier name) = option_map AtNotifier (node_by_name s name)
 
 -- the kind that a sort stands for
-abbrev pub kind_of : Session → Sort → Option Kind
-kind_of s leaf = Some Leaf
-kind_of s pass = Some Pass
-kind_of s flat = Some Flat
-kind_of s switch = Some Switch
-kind_of s until = Some Until
-kind_of s (sub hub connection) = option_map Sub (hub_of s hub)
+abbrev pub kind_of_sort : Session → Sort → Option Kind
+kind_of_sort s leaf = Some Leaf
+kind_of_sort s pass = Some Pass
+kind_of_sort s flat = Some Flat
+kind_of_sort s switch = Some Switch
+kind_of_sort s until = Some Until
+kind_of_sort s (sub hub connection) = option_map Sub (hub_by_name s hub)
 
 -- the name for the connection that a subscriber's opening may make
-abbrev pub connection_of : Sort → Option Name
-connection_of leaf = None
-connection_of pass = None
-connection_of flat = None
-connection_of switch = None
-connection_of until = None
-connection_of (sub hub connection) = connection
+abbrev pub connection_asked : Sort → Option Name
+connection_asked leaf = None
+connection_asked pass = None
+connection_asked flat = None
+connection_asked switch = None
+connection_asked until = None
+connection_asked (sub hub connection) = connection
 
 -- what is asked ---------------------------------------------------------------------------------------
 
 abbrev pub open_asked : Session → Site → Sort → Option Request
-open_asked s site sort = option_and_then (λ at. option_map (open_request s.book at) (kind_of s sort)) (place_at s site)
+open_asked s site sort = option_and_then (λ at. option_map (open_request s.book at) (kind_of_sort s sort)) (place_at s site)
 
 -- what the book holds in the place of a resource is fresh, and its tag is the place of its acceptance
 abbrev pub using_at : State → At → Request
@@ -75,7 +75,7 @@ abbrev pub holder_at : At → Kind → Holder
 holder_at at kind = record { place = at; kind = kind }
 
 abbrev pub holder_asked : Session → Site → Sort → Option Holder
-holder_asked s site sort = option_and_then (λ at. option_map (holder_at at) (kind_of s sort)) (place_at s site)
+holder_asked s site sort = option_and_then (λ at. option_map (holder_at at) (kind_of_sort s sort)) (place_at s site)
 
 -- what stands against it: what does against the opening, and `Full` where there may not be the events of both
 abbrev pub opening_with_causes : State → Place → Kind → Refusal → Bool
@@ -176,6 +176,6 @@ said_if true text = text
 said_if false text = []
 
 -- the front of the answer to a task that was carried out: its place, and whether its opening made a connection
-abbrev pub front_text : (old : Session) → Task → (new : Session) → List ℕ
-front_text old t new =
+abbrev pub answer_front_text : (old : Session) → Task → (new : Session) → List ℕ
+answer_front_text old t new =
     ok_text (length old.book.history) ++ said_if (is_some (connection_made old.book.history new.book.history)) (connected_by t)

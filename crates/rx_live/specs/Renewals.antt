@@ -14,13 +14,13 @@ use Rattle.rx_line.specs.declared.outcome.Cause.TheVariants.{NoName, NameTaken, 
 use Rattle.rx_line.specs.declared.outcome.Outcome.{Outcome}
 use Rattle.rx_line.specs.declared.outcome.Outcome.TheVariants.{Accepted, Refused}
 use Rattle.rx_line.specs.Names.{spot_of}
-use Rattle.rx_live.specs.Session.{Session, node_in}
+use Rattle.rx_live.specs.Session.{Session, open_node_in}
 use Rattle.rx_live.specs.Given.{AreOpenSame}
 use Rattle.rx_live.specs.Answers.{to_tell}
 
 -- each name that is bound to a node is that of an open one
 abbrev pub AreOpen : State → Names → Type 0
-AreOpen book nodes = (name : Name) → is_some (node_in book nodes name) ≡ is_some (spot_of nodes name)
+AreOpen book nodes = (name : Name) → is_some (open_node_in book nodes name) ≡ is_some (spot_of nodes name)
 
 -- all was told before; what is open, held and out keeps its names, and no closed node has one
 pub record Renews (old new : Session) : Type 0 where

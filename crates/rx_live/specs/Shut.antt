@@ -3,9 +3,9 @@ use Rattle.std.specs.Prelude.{◌≡◌, ℕ, Bool, None, List, [], ◌∷◌, �
 use Rattle.rx_scenario.specs.Scenario.{Name}
 use Rattle.rx_book.specs.Courses.{LetsGo}
 use Rattle.rx_live.specs.Session.{Session, has_resource, IsSound}
-use Rattle.rx_live.specs.Promise.{Act, released, IsKept}
+use Rattle.rx_live.specs.Promise.{NameAct, released, IsKept}
 use Rattle.rx_live.specs.Steps.{DropsName, MayWriteNote}
-use Rattle.rx_live.specs.Lines.{IsFresh, GoesOn}
+use Rattle.rx_live.specs.Lines.{IsNewSession, SendsLines}
 
 -- all is closed and no lease is out; what was held waits, and each name that was held still is
 pub record Shuts (old new : Session) : Type 0 where
@@ -30,5 +30,5 @@ pub data ReleasesEach : Session → List Name → Session → Type 0 where
 -- from the first line to the end, each name that was handed in is released once, and no other
 abbrev pub AreNamesKeptToTheEnd : Type 0
 AreNamesKeptToTheEnd =
-    (first last shut new : Session) (acts : List Act) (names : List Name) → IsFresh first → GoesOn first acts last → Shuts last shut
+    (first last shut new : Session) (acts : List NameAct) (names : List Name) → IsNewSession first → SendsLines first acts last → Shuts last shut
     → ReleasesEach shut names new → IsKept (acts ++ map released names)

@@ -5,11 +5,11 @@ use Rattle.rx_event.specs.declared.mail.Mail.{Mail}
 use Rattle.rx_scenario.specs.Scenario.{Name}
 use Rattle.rx_book.specs.Requests.{take_request}
 use Rattle.rx_book.specs.Answers.{Accepts}
-use Rattle.rx_line.specs.Names.{spot_of, name_of, Forgets}
+use Rattle.rx_line.specs.Names.{spot_of, name_of_number, Forgets}
 use Rattle.rx_line.specs.Pieces.{name_text, joined}
 use Rattle.rx_live.specs.Session.{Session, has_resource}
 use Rattle.rx_live.specs.Promise.{with_held}
-use Rattle.rx_live.specs.Answers.{Told, told_of, told_text, to_tell, IsTelling, IsTold, TellsNotes, Takes, ReleasesNames, IsReleased}
+use Rattle.rx_live.specs.Answers.{Told, told_of, told_text, to_tell, IsTelling, IsAllTold, TellsNotes, Takes, ReleasesNames, IsReleased}
 
 -- the next note
 pub record TellsOne (old : Session) (mail : Mail) (new : Session) : Type 0 where
@@ -23,7 +23,7 @@ pub record WritesNote (old : Session) (begun lead : List ℕ) (new : Session) (t
 
 pub record WritesNoNote (old : Session) (begun : List ℕ) (new : Session) (text : List ℕ) : Type 0 where
   pub left : to_tell new ≡ to_tell old
-  pub all : IsTold new
+  pub all : IsAllTold new
   pub rest : IsTelling old new
   pub written : text ≡ begun
 
@@ -35,7 +35,7 @@ MayWriteNote false old begun lead new text = WritesNoNote old begun new text
 -- a resource is taken, and its name forgotten
 pub record TakesName (old : Session) (name : Name) (new : Session) : Type 0 where
   pub number : ℕ
-  pub known : name_of old.resources number ≡ Some name
+  pub known : name_of_number old.resources number ≡ Some name
   pub accepts : Accepts old.book (take_request number) new.book
   pub fewer : length new.book.waiting < length old.book.waiting
   pub forgets : Forgets old.resources number name new.resources

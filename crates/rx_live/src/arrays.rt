@@ -6,7 +6,7 @@ ghost use Rattle.rx_device.specs.Part.{part_data, items_data};
 ghost use Rattle.rx_line.specs.Orders.{order_in};
 ghost use Rattle.rx_live.specs.Session.{session_of, IsSound};
 ghost use Rattle.rx_live.specs.Lines.{AnswersAsked, WaitsFor, IsPutOff, Sends};
-ghost use Rattle.rx_live.specs.Taken.{Writes, AnsweredOne, WritesEach, AnsweredArray, AnsweredValue, comma_if};
+ghost use Rattle.rx_live.specs.Taken.{WritesAnswer, AnsweredOne, WritesEach, AnsweredArray, AnsweredValue, comma_if};
 ghost use Rattle.rx_live.specs.Room.{HasRoom};
 
 use crate::engine::Engine;
@@ -51,7 +51,7 @@ fn push_one(engine: &mut Engine, value: Part<'_, '_>, text: &mut String, rest: u
     requires sound { IsSound (session_of engine.old) }
     requires room { HasRoom (rest + 22) text.old }
     requires small { rest + 22 < 2 ^ 32 }
-    ensures ok { Writes (AnsweredOne (session_of engine.old) (order_in (part_data value.entry)) (session_of engine.new))
+    ensures ok { WritesAnswer (AnsweredOne (session_of engine.old) (order_in (part_data value.entry)) (session_of engine.new))
         (string_bytes text.old) (string_bytes text.new) }
     ensures sound { IsSound (session_of engine.new) }
     ensures room { HasRoom rest text.new }

@@ -7,8 +7,8 @@ ghost use Rattle.rx_line.specs.declared.outcome.Cause.TheVariants.{Book};
 ghost use Rattle.rx_line.specs.declared.outcome.Outcome.TheVariants.{Refused};
 ghost use Rattle.rx_live.specs.Session.{session_of, IsSound};
 ghost use Rattle.rx_live.specs.Carried.{outcome_of};
-ghost use Rattle.rx_live.specs.KeyedCalls.{is_asked, keyed_call};
-ghost use Rattle.rx_live.specs.Lines.{Runs};
+ghost use Rattle.rx_live.specs.KeyedCalls.{keeps_names, call_by_keys};
+ghost use Rattle.rx_live.specs.Lines.{RunsCommand};
 
 use crate::engine::Engine;
 use rx_book::{Call, Refusal};
@@ -31,8 +31,8 @@ pub fn answered<T: Drop>(answer: Result<T, Refusal>) -> Result<Outcome, AllocErr
 
 /// The call that a command makes, with keys in place of names; None where a name is not bound, and of a command
 /// that makes none, hands a resource in, or gives or frees a name.
-fn keyed_call(engine: &Engine, command: &Command) -> Option<Call>
-    ensures { result ≡ keyed_call (session_of engine.now) (command_of command.now) }
+fn call_by_keys(engine: &Engine, command: &Command) -> Option<Call>
+    ensures { result ≡ call_by_keys (session_of engine.now) (command_of command.now) }
 {
     match command {
         Command::Apply { res, word } => Some(Call::Apply(engine.resource(res.as_str())?, *word)),
@@ -45,7 +45,7 @@ fn keyed_call(engine: &Engine, command: &Command) -> Option<Call>
         Command::Decline { node } => engine.node(node.as_str()).map(Call::Decline),
         Command::Fail { node, code } => Some(Call::Fail(engine.node(node.as_str())?, *code)),
         Command::Dispose { node } => engine.node(node.as_str()).map(Call::Dispose),
-        Command::Disconnect { hub } => engine.hub_of(hub.as_str()).map(Call::Disconnect),
+        Command::Disconnect { hub } => engine.hub_by_name(hub.as_str()).map(Call::Disconnect),
         _ => None,
     }
 }
@@ -53,13 +53,13 @@ fn keyed_call(engine: &Engine, command: &Command) -> Option<Call>
 /// Makes the call of a command.
 pub fn ask(engine: &mut Engine, command: &Command) -> Result<Outcome, AllocError>
     requires sound { IsSound (session_of engine.old) }
-    requires asked { is_asked (command_of command.now) ≡ true }
-    ensures ok { IfOk result (λ o. Runs (session_of engine.old) (command_of command.now) o (session_of engine.new)) }
+    requires asked { keeps_names (command_of command.now) ≡ true }
+    ensures ok { IfOk result (λ o. RunsCommand (session_of engine.old) (command_of command.now) o (session_of engine.new)) }
     ensures err { OnErr result (session_of engine.new ≡ session_of engine.old) }
     ensures sound { IsSound (session_of engine.new) }
     ensures want { IfOk result (λ o. o ≢ Refused (Book Refusal.NoMemory)) }
 {
-    let Some(call) = keyed_call(engine, command) else {
+    let Some(call) = call_by_keys(engine, command) else {
         return Ok(Outcome::Refused(Cause::NoName));
     };
     let answer = engine.book.ask(call);

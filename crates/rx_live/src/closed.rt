@@ -5,8 +5,8 @@ ghost use Rattle.std.specs.String.{string_capacity};
 ghost use Rattle.rx_scenario.specs.Scenario.{command_of};
 ghost use Rattle.rx_line.specs.Orders.{plain, task_of};
 ghost use Rattle.rx_line.specs.Pieces.{name_text, member_text, joined};
-ghost use Rattle.rx_listing.specs.Parts.{is_nil, led_text};
-ghost use Rattle.rx_live.specs.Session.{session_of, node_of};
+ghost use Rattle.rx_listing.specs.Parts.{has_no_texts, led_text};
+ghost use Rattle.rx_live.specs.Session.{session_of, node_by_name};
 ghost use Rattle.rx_live.specs.Closings.{asked_node, is_call, names_closed, WritesClosed};
 ghost use Rattle.rx_live.specs.ClosedAt.{closed_at, closed_texts};
 ghost use Rattle.rx_live.specs.Room.{HasRoom, KeepsRoom};
@@ -27,7 +27,7 @@ pub struct Closing {
 
 /// The number of the node of this name.
 pub fn number_of(engine: &Engine, node: &str) -> Option<u64>
-    ensures { result ≡ option_map (λ k. k.number) (node_of (session_of engine.now) node.now) }
+    ensures { result ≡ option_map (λ k. k.number) (node_by_name (session_of engine.now) node.now) }
 {
     let key = engine.node(node)?;
     Some(key.number)
@@ -109,7 +109,8 @@ fn push_led(text: &mut String, is_first: bool, name: &str) -> Result<(), AllocEr
 
 // Writes the names of what was closed. Answers whether there are none.
 fn push_names(engine: &Engine, asked: Option<u64>, text: &mut String) -> Result<bool, AllocError>
-    ensures first { IfOk result (λ b. b ≡ is_nil (closed_texts (session_of engine.now) asked (length engine.now.book.closed))) }
+    ensures first { IfOk result
+        (λ b. b ≡ has_no_texts (closed_texts (session_of engine.now) asked (length engine.now.book.closed))) }
     ensures text { OnOk result (string_bytes text.new ≡ string_bytes text.old
         ++ joined (closed_texts (session_of engine.now) asked (length engine.now.book.closed))) }
 {
@@ -138,7 +139,7 @@ fn closed_text(engine: &Engine, asked: Option<u64>) -> Result<String, AllocError
 
 // Whether there are none. It takes no memory.
 fn names_none(engine: &Engine, asked: Option<u64>) -> bool
-    ensures { result ≡ is_nil (closed_texts (session_of engine.now) asked (length engine.now.book.closed)) }
+    ensures { result ≡ has_no_texts (closed_texts (session_of engine.now) asked (length engine.now.book.closed)) }
 {
     let mut is_none = true;
     'places: for place in 0..engine.book.closed_count() {

@@ -5,8 +5,8 @@ ghost use Rattle.std.specs.Fmt.{decimal};
 ghost use Rattle.rx_line.specs.Pieces.{name_text, joined};
 ghost use Rattle.rx_listing.specs.Parts.{led_text};
 ghost use Rattle.rx_live.specs.Session.{session_of};
-ghost use Rattle.rx_live.specs.Dumps.{open_name, name_made, name_at, entry_text, entry_at, entries};
-ghost use Rattle.rx_live.specs.Dumps.{whole_text, since_text, dump_text};
+ghost use Rattle.rx_live.specs.Dumps.{name_of_open, name_made, name_at, name_entry_text, name_entry_at, entries};
+ghost use Rattle.rx_live.specs.Dumps.{named_dump_text, since_text, dump_text};
 
 use crate::engine::Engine;
 use crate::telling::push_quoted;
@@ -31,9 +31,9 @@ fn events_of(engine: &Engine) -> Result<Vec<Event>, AllocError>
 }
 
 // The name of an open node.
-#[tactic(auto, unfolding(crate::specs::Dumps::open_name))]
-fn open_name(engine: &Engine, number: u64) -> Option<&str>
-    ensures { option_map (λ s. s.now) result ≡ open_name (session_of engine.now) number }
+#[tactic(auto, unfolding(crate::specs::Dumps::name_of_open))]
+fn name_of_open(engine: &Engine, number: u64) -> Option<&str>
+    ensures { option_map (λ s. s.now) result ≡ name_of_open (session_of engine.now) number }
 {
     let name = engine.nodes.name_of(number)?;
     if engine.node(name).is_some() {
@@ -48,8 +48,8 @@ fn name_made(engine: &Engine, number: u64, event: Event) -> Option<&str>
     ensures { option_map (λ s. s.now) result ≡ name_made (session_of engine.now) number event }
 {
     match event {
-        Event::Open { place: _, kind: _ } => open_name(engine, number),
-        Event::Connect(_) => open_name(engine, number),
+        Event::Open { place: _, kind: _ } => name_of_open(engine, number),
+        Event::Connect(_) => name_of_open(engine, number),
         Event::Hub(_) => engine.hubs.name_of(number),
         Event::Accept(_, _) => engine.resources.name_of(number),
         Event::Lease(_) => engine.leases.name_of(number),
@@ -73,9 +73,9 @@ fn number_text(alloc: Global, number: u64) -> Result<String, AllocError>
     format!(in alloc; "\"{number}\"")
 }
 
-#[tactic(auto, unfolding(crate::specs::Dumps::entry_text))]
-fn entry_text(alloc: Global, number: u64, name: &str) -> Result<String, AllocError>
-    ensures { IfOk result (λ s. string_bytes s ≡ entry_text number name.now) }
+#[tactic(auto, unfolding(crate::specs::Dumps::name_entry_text))]
+fn name_entry_text(alloc: Global, number: u64, name: &str) -> Result<String, AllocError>
+    ensures { IfOk result (λ s. string_bytes s ≡ name_entry_text number name.now) }
 {
     let mut text = number_text(alloc, number)?;
     push_quoted(&mut text, ":", name, 0)?;
@@ -83,13 +83,13 @@ fn entry_text(alloc: Global, number: u64, name: &str) -> Result<String, AllocErr
 }
 
 // A number that has a name, with that.
-fn entry_at(engine: &Engine, number: u64) -> Result<Option<String>, AllocError>
-    ensures { IfOk result (λ o. option_map string_bytes o ≡ entry_at (session_of engine.now) number) }
+fn name_entry_at(engine: &Engine, number: u64) -> Result<Option<String>, AllocError>
+    ensures { IfOk result (λ o. option_map string_bytes o ≡ name_entry_at (session_of engine.now) number) }
 {
     let Some(name) = name_at(engine, number) else {
         return Ok(None);
     };
-    let entry = entry_text(engine.alloc, number, name)?;
+    let entry = name_entry_text(engine.alloc, number, name)?;
     Ok(Some(entry))
 }
 
@@ -110,7 +110,7 @@ fn push_entries(engine: &Engine, text: &mut String) -> Result<(), AllocError>
 {
     let mut is_first = true;
     'places: for place in 0..engine.book.len() {
-        if let Some(entry) = entry_at(engine, place)? {
+        if let Some(entry) = name_entry_at(engine, place)? {
             push_entry(text, is_first, entry.as_str())?;
             is_first = false;
         }
@@ -119,9 +119,9 @@ fn push_entries(engine: &Engine, text: &mut String) -> Result<(), AllocError>
 }
 
 // The answer that has the whole history.
-fn whole_text(engine: &Engine) -> Result<String, AllocError>
+fn named_dump_text(engine: &Engine) -> Result<String, AllocError>
     requires { engine.now.book.base.at_length ≡ 0 }
-    ensures { IfOk result (λ s. string_bytes s ≡ whole_text (session_of engine.now)) }
+    ensures { IfOk result (λ s. string_bytes s ≡ named_dump_text (session_of engine.now)) }
 {
     let events = events_of(engine)?;
     let mut dump = String::new(engine.alloc);
@@ -151,7 +151,7 @@ pub fn dump_text(engine: &Engine) -> Result<String, AllocError>
 {
     let since = since(&engine.book);
     if since == 0 {
-        return whole_text(engine);
+        return named_dump_text(engine);
     }
     since_text(engine, since)
 }

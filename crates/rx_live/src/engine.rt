@@ -2,8 +2,8 @@
 
 ghost use Rattle.std.specs.Prelude.{◌≡◌, ◌+◌, ◌≤◌, length};
 ghost use Rattle.rx_book.specs.State.{IsPromised};
-ghost use Rattle.rx_live.specs.Lines.{IsFresh};
-ghost use Rattle.rx_live.specs.Session.{session_of, node_of, resource_of, lease_of, hub_of, has_resource, IsSound};
+ghost use Rattle.rx_live.specs.Lines.{IsNewSession};
+ghost use Rattle.rx_live.specs.Session.{session_of, node_by_name, resource_by_name, lease_by_name, hub_by_name, has_resource, IsSound};
 
 use rx_book::{Book, Key, LeaseKey, Mail, ResKey};
 use rx_line::Names;
@@ -33,7 +33,7 @@ impl Engine {
     pub fn new(alloc: Global, max_events: u64) -> Self
         requires { max_events ≤ 4294967295 }
         ensures sound { IsSound (session_of result) }
-        ensures fresh { IsFresh (session_of result) }
+        ensures fresh { IsNewSession (session_of result) }
         ensures limit { result.book.limit ≡ max_events }
     {
         let book = Book::new(alloc, max_events);
@@ -60,9 +60,9 @@ impl Engine {
     }
 
     /// The open node that has the name.
-    #[tactic(auto, unfolding(crate::specs::Session::node_in))]
+    #[tactic(auto, unfolding(crate::specs::Session::open_node_in))]
     pub fn node(&self, name: &str) -> Option<Key>
-        ensures { result ≡ node_of (session_of self.now) name.now }
+        ensures { result ≡ node_by_name (session_of self.now) name.now }
     {
         let spot = self.nodes.get(name)?;
         let key = Key {
@@ -78,7 +78,7 @@ impl Engine {
 
     /// The held resource that has the name, or one that waits, whose key is nobody's.
     pub fn resource(&self, name: &str) -> Option<ResKey>
-        ensures { result ≡ resource_of (session_of self.now) name.now }
+        ensures { result ≡ resource_by_name (session_of self.now) name.now }
     {
         let spot = self.resources.get(name)?;
         Some(ResKey {
@@ -101,8 +101,8 @@ impl Engine {
     }
 
     /// The lease that has the name.
-    pub fn lease_of(&self, name: &str) -> Option<LeaseKey>
-        ensures { result ≡ lease_of (session_of self.now) name.now }
+    pub fn lease_by_name(&self, name: &str) -> Option<LeaseKey>
+        ensures { result ≡ lease_by_name (session_of self.now) name.now }
     {
         let spot = self.leases.get(name)?;
         Some(LeaseKey {
@@ -112,8 +112,8 @@ impl Engine {
     }
 
     /// The number of the hub that has the name.
-    pub fn hub_of(&self, name: &str) -> Option<u64>
-        ensures { result ≡ hub_of (session_of self.now) name.now }
+    pub fn hub_by_name(&self, name: &str) -> Option<u64>
+        ensures { result ≡ hub_by_name (session_of self.now) name.now }
     {
         let spot = self.hubs.get(name)?;
         Some(spot.number)

@@ -4,14 +4,14 @@ ghost use Rattle.std.specs.Prelude.{◌≡◌, ◌≤◌, true, false, option_ma
 ghost use Rattle.std.specs.String.{string_capacity};
 ghost use Rattle.rx_line.specs.FreeCommands.{free_command_of};
 ghost use Rattle.rx_line.specs.Orders.{plain};
-ghost use Rattle.rx_live.specs.Session.{session_of, lease_of, IsSound};
+ghost use Rattle.rx_live.specs.Session.{session_of, lease_by_name, IsSound};
 ghost use Rattle.rx_live.specs.Closings.{asked_node, is_call};
 ghost use Rattle.rx_live.specs.Carried.{outcome_of};
 ghost use Rattle.rx_live.specs.Given.{GivesNames, FreesLease};
 ghost use Rattle.rx_book.specs.Requests.{give_back_request};
-ghost use Rattle.rx_live.specs.KeyedCalls.{is_asked, keyed_call};
-ghost use Rattle.rx_live.specs.Lines.{Runs, CarriesOut};
-ghost use Rattle.rx_live.specs.Taken.{Writes};
+ghost use Rattle.rx_live.specs.KeyedCalls.{keeps_names, call_by_keys};
+ghost use Rattle.rx_live.specs.Lines.{RunsCommand, CarriesOut};
+ghost use Rattle.rx_live.specs.Taken.{WritesAnswer};
 ghost use Rattle.rx_live.specs.Room.{HasRoom};
 
 use crate::closed::{Closing, number_of, push_closed};
@@ -22,15 +22,15 @@ use rx_line::{Cause, FreeCommand, Outcome, put_ok, put_refused};
 
 // The call that a command makes, with keys in place of names; None where a name is not bound, and of one that makes none or
 // frees a name.
-fn keyed_call(engine: &Engine, command: FreeCommand<'_>) -> Option<Call>
-    ensures { result ≡ keyed_call (session_of engine.now) (free_command_of command.entry) }
+fn call_by_keys(engine: &Engine, command: FreeCommand<'_>) -> Option<Call>
+    ensures { result ≡ call_by_keys (session_of engine.now) (free_command_of command.entry) }
 {
     match command {
         FreeCommand::Remove(res) => engine.resource(res).map(Call::Remove),
         FreeCommand::End(node) => Some(Call::End(engine.node(node)?, Terminal::Completed)),
         FreeCommand::Decline(node) => engine.node(node).map(Call::Decline),
         FreeCommand::Dispose(node) => engine.node(node).map(Call::Dispose),
-        FreeCommand::Disconnect(hub) => engine.hub_of(hub).map(Call::Disconnect),
+        FreeCommand::Disconnect(hub) => engine.hub_by_name(hub).map(Call::Disconnect),
         FreeCommand::Return(_) => None,
         FreeCommand::Drain => None,
     }
@@ -49,11 +49,11 @@ fn outcome_of(answer: Result<Answer, Refusal>) -> Outcome
 // Makes the call of a command.
 fn ask(engine: &mut Engine, command: FreeCommand<'_>) -> Outcome
     requires sound { IsSound (session_of engine.old) }
-    requires asked { is_asked (free_command_of command) ≡ true }
-    ensures runs { Runs (session_of engine.old) (free_command_of command.entry) result (session_of engine.new) }
+    requires asked { keeps_names (free_command_of command) ≡ true }
+    ensures runs { RunsCommand (session_of engine.old) (free_command_of command.entry) result (session_of engine.new) }
     ensures sound { IsSound (session_of engine.new) }
 {
-    let Some(call) = keyed_call(engine, command) else {
+    let Some(call) = call_by_keys(engine, command) else {
         return Outcome::Refused(Cause::NoName);
     };
     let answer = engine.book.ask(call);
@@ -65,10 +65,10 @@ fn ask(engine: &mut Engine, command: FreeCommand<'_>) -> Outcome
 fn give_back(engine: &mut Engine, lease: &str) -> Outcome
     requires { IsSound (session_of engine.old) }
     ensures gives { GivesNames (session_of engine.old)
-        (option_map (give_back_request engine.old.book) (lease_of (session_of engine.old) lease.now))
+        (option_map (give_back_request engine.old.book) (lease_by_name (session_of engine.old) lease.now))
         false (FreesLease (session_of engine.old) lease.now) result (session_of engine.new) }
 {
-    let Some(key) = engine.lease_of(lease) else {
+    let Some(key) = engine.lease_by_name(lease) else {
         return Outcome::Refused(Cause::NoName);
     };
     match engine.book.give_back(key) {
@@ -84,7 +84,7 @@ fn give_back(engine: &mut Engine, lease: &str) -> Outcome
 // Carries a command out.
 fn run(engine: &mut Engine, command: FreeCommand<'_>) -> Outcome
     requires { IsSound (session_of engine.old) }
-    ensures runs { Runs (session_of engine.old) (free_command_of command.entry) result (session_of engine.new) }
+    ensures runs { RunsCommand (session_of engine.old) (free_command_of command.entry) result (session_of engine.new) }
     ensures sound { IsSound (session_of engine.new) }
 {
     match command {
@@ -115,7 +115,8 @@ fn closing_of(engine: &Engine, command: FreeCommand<'_>) -> Closing
 pub fn carry_out_free(engine: &mut Engine, command: FreeCommand<'_>, text: &mut String)
     requires sound { IsSound (session_of engine.old) }
     requires room { HasRoom 55 text.old }
-    ensures ok { Writes (λ t. CarriesOut (session_of engine.old) (plain (free_command_of command.entry)) t (session_of engine.new))
+    ensures ok { WritesAnswer
+        (λ t. CarriesOut (session_of engine.old) (plain (free_command_of command.entry)) t (session_of engine.new))
         (string_bytes text.old) (string_bytes text.new) }
     ensures sound { IsSound (session_of engine.new) }
     ensures capacity { string_capacity text.old ≤ string_capacity text.new }

@@ -7,11 +7,13 @@ ghost use Rattle.rx_line.specs.declared.outcome.Cause.{Cause as CauseOf};
 ghost use Rattle.rx_line.specs.declared.outcome.Outcome.TheVariants.{Refused};
 ghost use Rattle.rx_live.specs.Session.{session_of, IsSound};
 ghost use Rattle.rx_live.specs.Given.{IsUnchanged};
-ghost use Rattle.rx_live.specs.Openings.{connection_of, holder_at, holder_asked, is_holder_taken, GivesHolder, BindsHolder};
+ghost use Rattle.rx_live.specs.Openings.{connection_asked, holder_at, holder_asked, is_holder_taken, GivesHolder, BindsHolder};
 
 use crate::calls::answered;
 use crate::engine::Engine;
-use crate::opening::{are_taken, bind_made, connection_name, kind_of, place_at, spot_of, twice};
+use crate::opening::{
+    are_taken, bind_made, connection_name, kind_of_sort, place_at, spot_of, twice,
+};
 use rx_book::{At, OpenedHolding};
 use rx_event::Kind;
 use rx_line::{Cause, Outcome, Spot, Twice};
@@ -81,15 +83,16 @@ pub fn open_holding(
     requires { IsSound (session_of engine.old) }
     ensures ok { IfOk result (λ o. GivesHolder (session_of engine.old)
         (holder_asked (session_of engine.old) (site_of site.now) (sort_of sort))
-        (is_holder_taken (session_of engine.old) (string_bytes name) (connection_of (sort_of sort)) (string_bytes res))
-        (BindsHolder (session_of engine.old) (string_bytes name) (connection_of (sort_of sort)) (string_bytes res)) o (session_of engine.new)) }
+        (is_holder_taken (session_of engine.old) (string_bytes name) (connection_asked (sort_of sort)) (string_bytes res))
+        (BindsHolder (session_of engine.old) (string_bytes name) (connection_asked (sort_of sort)) (string_bytes res)) o
+        (session_of engine.new)) }
     ensures err { OnErr result (IsUnchanged (session_of engine.old) (session_of engine.new)) }
     ensures want { IfOk result (λ o. o ≢ Refused (CauseOf.Book NoMemory)) }
 {
     let Some(place) = place_at(engine, site) else {
         return Ok(Outcome::Refused(Cause::NoName));
     };
-    let Some(kind) = kind_of(engine, &sort) else {
+    let Some(kind) = kind_of_sort(engine, &sort) else {
         return Ok(Outcome::Refused(Cause::NoName));
     };
     open_holding_at(engine, name, connection_name(sort), place, kind, res)

@@ -5,7 +5,7 @@ ghost use Rattle.rx_book.specs.Requests.{lease_request, give_back_request, hub_r
 ghost use Rattle.rx_event.specs.declared.refusal.Refusal.{Refusal};
 ghost use Rattle.rx_line.specs.declared.outcome.Cause.TheVariants.{Book};
 ghost use Rattle.rx_line.specs.declared.outcome.Outcome.TheVariants.{Refused};
-ghost use Rattle.rx_live.specs.Session.{session_of, node_of, resource_of, lease_of, hub_of, has_resource, IsSound};
+ghost use Rattle.rx_live.specs.Session.{session_of, node_by_name, resource_by_name, lease_by_name, hub_by_name, has_resource, IsSound};
 ghost use Rattle.rx_live.specs.Given.{GivesNames, IsUnchanged, BindsResource, BindsLease, BindsHub, FreesLease, hold_asked};
 
 use crate::calls::answered;
@@ -20,7 +20,7 @@ use std::alloc::AllocError;
 pub fn hold(engine: &mut Engine, node: &str, res: String) -> Result<Outcome, AllocError>
     requires { IsSound (session_of engine.old) }
     ensures ok { IfOk result (λ o. GivesNames (session_of engine.old)
-        (option_map (hold_asked engine.old.book) (node_of (session_of engine.old) node.now))
+        (option_map (hold_asked engine.old.book) (node_by_name (session_of engine.old) node.now))
         (has_resource (session_of engine.old) (string_bytes res))
         (BindsResource (session_of engine.old) (string_bytes res)) o (session_of engine.new)) }
     ensures err { OnErr result (IsUnchanged (session_of engine.old) (session_of engine.new)) }
@@ -53,8 +53,8 @@ pub fn hold(engine: &mut Engine, node: &str, res: String) -> Result<Outcome, All
 pub fn lease(engine: &mut Engine, res: &str, name: String) -> Result<Outcome, AllocError>
     requires { IsSound (session_of engine.old) }
     ensures ok { IfOk result (λ o. GivesNames (session_of engine.old)
-        (option_map (lease_request engine.old.book) (resource_of (session_of engine.old) res.now))
-        (is_some (lease_of (session_of engine.old) (string_bytes name)))
+        (option_map (lease_request engine.old.book) (resource_by_name (session_of engine.old) res.now))
+        (is_some (lease_by_name (session_of engine.old) (string_bytes name)))
         (BindsLease (session_of engine.old) (string_bytes name)) o (session_of engine.new)) }
     ensures err { OnErr result (IsUnchanged (session_of engine.old) (session_of engine.new)) }
     ensures want { IfOk result (λ o. o ≢ Refused (Book Refusal.NoMemory)) }
@@ -62,7 +62,7 @@ pub fn lease(engine: &mut Engine, res: &str, name: String) -> Result<Outcome, Al
     let Some(key) = engine.resource(res) else {
         return Ok(Outcome::Refused(Cause::NoName));
     };
-    if engine.lease_of(name.as_str()).is_some() {
+    if engine.lease_by_name(name.as_str()).is_some() {
         return Ok(Outcome::Refused(Cause::NameTaken));
     }
     let name = Twice::new(name)?;
@@ -85,12 +85,12 @@ pub fn lease(engine: &mut Engine, res: &str, name: String) -> Result<Outcome, Al
 pub fn give_back(engine: &mut Engine, lease: &str) -> Result<Outcome, AllocError>
     requires { IsSound (session_of engine.old) }
     ensures ok { IfOk result (λ o. GivesNames (session_of engine.old)
-        (option_map (give_back_request engine.old.book) (lease_of (session_of engine.old) lease.now))
+        (option_map (give_back_request engine.old.book) (lease_by_name (session_of engine.old) lease.now))
         false (FreesLease (session_of engine.old) lease.now) o (session_of engine.new)) }
     ensures err { OnErr result (IsUnchanged (session_of engine.old) (session_of engine.new)) }
     ensures want { IfOk result (λ o. o ≢ Refused (Book Refusal.NoMemory)) }
 {
-    let Some(key) = engine.lease_of(lease) else {
+    let Some(key) = engine.lease_by_name(lease) else {
         return Ok(Outcome::Refused(Cause::NoName));
     };
     match engine.book.give_back(key) {
@@ -107,12 +107,12 @@ pub fn give_back(engine: &mut Engine, lease: &str) -> Result<Outcome, AllocError
 pub fn hub(engine: &mut Engine, name: String, mode: Mode) -> Result<Outcome, AllocError>
     requires { IsSound (session_of engine.old) }
     ensures ok { IfOk result (λ o. GivesNames (session_of engine.old) (Some (hub_request mode))
-        (is_some (hub_of (session_of engine.old) (string_bytes name)))
+        (is_some (hub_by_name (session_of engine.old) (string_bytes name)))
         (BindsHub (session_of engine.old) (string_bytes name)) o (session_of engine.new)) }
     ensures err { OnErr result (IsUnchanged (session_of engine.old) (session_of engine.new)) }
     ensures want { IfOk result (λ o. o ≢ Refused (Book Refusal.NoMemory)) }
 {
-    if engine.hub_of(name.as_str()).is_some() {
+    if engine.hub_by_name(name.as_str()).is_some() {
         return Ok(Outcome::Refused(Cause::NameTaken));
     }
     let name = Twice::new(name)?;

@@ -4,7 +4,7 @@ ghost use Rattle.std.specs.Prelude.{◌≡◌, ◌≤◌, None, Some, [], string
 ghost use Rattle.rx_line.specs.FreeCommands.{free_in};
 ghost use Rattle.rx_live.specs.Session.{session_of, IsSound};
 ghost use Rattle.rx_live.specs.Live.{session, answer};
-ghost use Rattle.rx_live.specs.Lines.{IsPutOff, Sends, Ends, IsFresh};
+ghost use Rattle.rx_live.specs.Lines.{IsPutOff, Sends, EndsSession, IsNewSession};
 ghost use Rattle.rx_live.specs.Answers.{is_late};
 ghost use Rattle.rx_live.specs.Steps.{DropsName};
 ghost use Rattle.rx_live.specs.Shut.{Shuts, TellsSome};
@@ -33,7 +33,7 @@ impl Live {
     /// Where memory is refused.
     pub fn new(alloc: Global, max_events: u64) -> Result<Self, AllocError>
         requires { max_events ≤ 4294967295 }
-        ensures fresh { IfOk result (λ live. IsFresh (session live)) }
+        ensures fresh { IfOk result (λ live. IsNewSession (session live)) }
         ensures limit { IfOk result (λ live. (session live).book.limit ≡ max_events) }
     {
         Ok(Live {
@@ -116,7 +116,7 @@ impl Live {
     ///
     /// Where memory is refused, and then nothing has changed.
     pub fn end(&mut self) -> Result<(), AllocError>
-        ensures ok { OnOk result (Ends (session self.old) (answer self.new) (session self.new)) }
+        ensures ok { OnOk result (EndsSession (session self.old) (answer self.new) (session self.new)) }
         ensures err { OnErr result (session self.new ≡ session self.old) }
     {
         self.engine.book.promise();

@@ -5,13 +5,13 @@ ghost use Rattle.std.specs.Str.{bytes_eq};
 ghost use Rattle.std.specs.Option.{option_map_or};
 ghost use Rattle.rx_scenario.specs.Scenario.{site_of, sort_of};
 ghost use Rattle.rx_book.specs.Requests.{open_request, connect_request};
-ghost use Rattle.rx_line.specs.Names.{spot_of, name_of, room_of, IsPaired};
+ghost use Rattle.rx_line.specs.Names.{spot_of, name_of_number, room_for_names, IsPaired};
 ghost use Rattle.rx_event.specs.declared.refusal.Refusal.TheVariants.{NoMemory};
 ghost use Rattle.rx_line.specs.declared.outcome.Cause.{Cause as CauseOf};
 ghost use Rattle.rx_line.specs.declared.outcome.Outcome.TheVariants.{Refused};
-ghost use Rattle.rx_live.specs.Session.{session_of, is_node_in, hub_of, IsSound};
+ghost use Rattle.rx_live.specs.Session.{session_of, is_node_in, hub_by_name, IsSound};
 ghost use Rattle.rx_live.specs.Given.{AreOpenSame, GivesNames, IsUnchanged};
-ghost use Rattle.rx_live.specs.Openings.{place_at, kind_of, connection_of, open_asked, using_asked, is_node, is_open_taken, is_using_taken};
+ghost use Rattle.rx_live.specs.Openings.{place_at, kind_of_sort, connection_asked, open_asked, using_asked, is_node, is_open_taken, is_using_taken};
 ghost use Rattle.rx_live.specs.Openings.{BindsMade, BindsNode, BindsUsing, BindsConnection};
 
 use crate::calls::answered;
@@ -36,8 +36,8 @@ pub fn place_at(engine: &Engine, site: &Site) -> Option<At>
 }
 
 /// The kind that a sort stands for; None where the name of a subscriber's hub is not bound.
-pub fn kind_of(engine: &Engine, sort: &Sort) -> Option<Kind>
-    ensures { result ≡ kind_of (session_of engine.now) (sort_of sort.now) }
+pub fn kind_of_sort(engine: &Engine, sort: &Sort) -> Option<Kind>
+    ensures { result ≡ kind_of_sort (session_of engine.now) (sort_of sort.now) }
 {
     match sort {
         Sort::Leaf => Some(Kind::Leaf),
@@ -45,13 +45,13 @@ pub fn kind_of(engine: &Engine, sort: &Sort) -> Option<Kind>
         Sort::Flat => Some(Kind::Flat),
         Sort::Switch => Some(Kind::Switch),
         Sort::Until => Some(Kind::Until),
-        Sort::Sub { hub, connection: _ } => Some(Kind::Sub(engine.hub_of(hub.as_str())?)),
+        Sort::Sub { hub, connection: _ } => Some(Kind::Sub(engine.hub_by_name(hub.as_str())?)),
     }
 }
 
 /// The name for the connection that a subscriber's opening may make.
 pub fn connection_name(sort: Sort) -> Option<String>
-    ensures { option_map string_bytes result ≡ connection_of (sort_of sort) }
+    ensures { option_map string_bytes result ≡ connection_asked (sort_of sort) }
 {
     match sort {
         Sort::Sub { hub: _, connection } => connection,
@@ -166,9 +166,9 @@ pub fn spot_of(key: Key) -> Spot
 
 /// Binds a name to a node that was made, where there are both.
 pub fn bind_made(nodes: &mut Names, name: Option<Twice>, made: Option<Key>)
-    requires room { 0 < room_of nodes.old }
+    requires room { 0 < room_for_names nodes.old }
     requires free { IfSome name (λ n. spot_of nodes.old n ≡ None) }
-    requires unnamed { IfSome made (λ k. name_of nodes.old k.number ≡ None) }
+    requires unnamed { IfSome made (λ k. name_of_number nodes.old k.number ≡ None) }
     ensures binds { BindsMade nodes.old name (option_map (λ k. k.number) made) nodes.new }
     ensures paired { IsPaired nodes.old → IsPaired nodes.new }
 {
@@ -230,15 +230,15 @@ pub fn open(
     requires { IsSound (session_of engine.old) }
     ensures ok { IfOk result (λ o. GivesNames (session_of engine.old)
         (open_asked (session_of engine.old) (site_of site.now) (sort_of sort))
-        (is_open_taken (session_of engine.old) (string_bytes name) (connection_of (sort_of sort)))
-        (BindsNode (session_of engine.old) (string_bytes name) (connection_of (sort_of sort))) o (session_of engine.new)) }
+        (is_open_taken (session_of engine.old) (string_bytes name) (connection_asked (sort_of sort)))
+        (BindsNode (session_of engine.old) (string_bytes name) (connection_asked (sort_of sort))) o (session_of engine.new)) }
     ensures err { OnErr result (IsUnchanged (session_of engine.old) (session_of engine.new)) }
     ensures want { IfOk result (λ o. o ≢ Refused (CauseOf.Book NoMemory)) }
 {
     let Some(place) = place_at(engine, site) else {
         return Ok(Outcome::Refused(Cause::NoName));
     };
-    let Some(kind) = kind_of(engine, &sort) else {
+    let Some(kind) = kind_of_sort(engine, &sort) else {
         return Ok(Outcome::Refused(Cause::NoName));
     };
     open_at(engine, name, connection_name(sort), place, kind)
@@ -297,13 +297,13 @@ pub fn using(
 pub fn connect(engine: &mut Engine, hub: &str, name: Option<String>) -> Result<Outcome, AllocError>
     requires { IsSound (session_of engine.old) }
     ensures ok { IfOk result (λ o. GivesNames (session_of engine.old)
-        (option_map connect_request (hub_of (session_of engine.old) hub.now))
+        (option_map connect_request (hub_by_name (session_of engine.old) hub.now))
         (option_map_or (is_node (session_of engine.old)) (option_map string_bytes name) false)
         (BindsConnection (session_of engine.old) (option_map string_bytes name)) o (session_of engine.new)) }
     ensures err { OnErr result (IsUnchanged (session_of engine.old) (session_of engine.new)) }
     ensures want { IfOk result (λ o. o ≢ Refused (CauseOf.Book NoMemory)) }
 {
-    let Some(number) = engine.hub_of(hub) else {
+    let Some(number) = engine.hub_by_name(hub) else {
         return Ok(Outcome::Refused(Cause::NoName));
     };
     if is_other_taken(&engine.book, &mut engine.nodes, &engine.untold, &name) {

@@ -6,8 +6,8 @@ ghost use Rattle.rx_line.specs.declared.outcome.Outcome.TheVariants.{Refused};
 ghost use Rattle.std.specs.Bool.{nat_eq};
 ghost use Rattle.std.specs.List.{list_any};
 ghost use Rattle.rx_scenario.specs.Scenario.{Name};
-ghost use Rattle.rx_line.specs.Names.{spot_of, name_of, IsPaired};
-ghost use Rattle.rx_live.specs.Session.{session_of, node_in, IsSound};
+ghost use Rattle.rx_line.specs.Names.{spot_of, name_of_number, IsPaired};
+ghost use Rattle.rx_live.specs.Session.{session_of, open_node_in, IsSound};
 ghost use Rattle.rx_live.specs.Given.{AreOpenSame};
 ghost use Rattle.rx_live.specs.Renewals.{AreOpen, Renewing};
 
@@ -21,7 +21,7 @@ use std::alloc::AllocError;
 
 // Where what has this number lies, if it has a name.
 fn spot_at(nodes: &Names, number: u64) -> Option<Spot>
-    ensures { result ≡ option_and_then (spot_of nodes.now) (name_of nodes.now number) }
+    ensures { result ≡ option_and_then (spot_of nodes.now) (name_of_number nodes.now number) }
 {
     let name = nodes.name_of(number)?;
     nodes.get(name)
@@ -32,7 +32,8 @@ fn forget_closed(book: &Book<Token>, nodes: &mut Names, number: u64)
     requires { IsPaired nodes.old }
     ensures same { AreOpenSame None book.now nodes.old nodes.new }
     ensures paired { IsPaired nodes.new }
-    ensures left { (name : Name) → name_of nodes.new number ≡ Some name → is_some (node_in book.now nodes.new name) ≡ true }
+    ensures left { (name : Name) → name_of_number nodes.new number ≡ Some name
+        → is_some (open_node_in book.now nodes.new name) ≡ true }
 {
     let Some(spot) = spot_at(nodes, number) else {
         return;
@@ -50,7 +51,7 @@ fn forget_closed(book: &Book<Token>, nodes: &mut Names, number: u64)
 // Forgets the names of all closed nodes, of which these are the numbers, and those of others.
 fn forget_all_closed(book: &Book<Token>, nodes: &mut Names, numbers: Vec<u64>)
     requires paired { IsPaired nodes.old }
-    requires numbers { (k : ℕ) → is_some (name_of nodes.old k) ≡ list_any (nat_eq k) numbers.items }
+    requires numbers { (k : ℕ) → is_some (name_of_number nodes.old k) ≡ list_any (nat_eq k) numbers.items }
     ensures same { AreOpenSame None book.now nodes.old nodes.new }
     ensures paired { IsPaired nodes.new }
     ensures open_alone { AreOpen book.now nodes.new }

@@ -5,7 +5,7 @@ ghost use Rattle.rx_scenario.specs.Scenario.{command_of};
 ghost use Rattle.rx_line.specs.Orders.{task_of};
 ghost use Rattle.rx_live.specs.Session.{session_of, IsSound};
 ghost use Rattle.rx_live.specs.Given.{IsUnchanged};
-ghost use Rattle.rx_live.specs.Lines.{Runs, Does};
+ghost use Rattle.rx_live.specs.Lines.{RunsCommand, DoesTask};
 
 use crate::calls::ask;
 use crate::engine::Engine;
@@ -18,7 +18,7 @@ use std::alloc::AllocError;
 // Carries a command out.
 fn run(engine: &mut Engine, command: Command) -> Result<Outcome, AllocError>
     requires { IsSound (session_of engine.old) }
-    ensures ok { IfOk result (λ o. Runs (session_of engine.old) (command_of command) o (session_of engine.new)) }
+    ensures ok { IfOk result (λ o. RunsCommand (session_of engine.old) (command_of command) o (session_of engine.new)) }
     ensures err { OnErr result (IsUnchanged (session_of engine.old) (session_of engine.new)) }
     ensures sound { IsSound (session_of engine.new) }
 {
@@ -39,7 +39,7 @@ fn run(engine: &mut Engine, command: Command) -> Result<Outcome, AllocError>
 /// Carries a task out. Err where memory is refused, and then nothing has changed.
 pub fn act(engine: &mut Engine, task: Task) -> Result<Outcome, AllocError>
     requires { IsSound (session_of engine.old) }
-    ensures ok { IfOk result (λ o. Does (session_of engine.old) (task_of task) o (session_of engine.new)) }
+    ensures ok { IfOk result (λ o. DoesTask (session_of engine.old) (task_of task) o (session_of engine.new)) }
     ensures err { OnErr result (IsUnchanged (session_of engine.old) (session_of engine.new)) }
     ensures sound { IsSound (session_of engine.new) }
 {

@@ -8,8 +8,8 @@ ghost use Rattle.rx_live.specs.Session.{session_of, IsSound};
 ghost use Rattle.rx_live.specs.Given.{IsUnchanged, IsAlike};
 ghost use Rattle.rx_live.specs.Answers.{late_text};
 ghost use Rattle.rx_live.specs.Renewals.{Renews, may_renew};
-ghost use Rattle.rx_live.specs.Lines.{TellsAll, CarriesOut, FindsFull, WaitsFor, AnswersAsked, Ends};
-ghost use Rattle.rx_live.specs.Taken.{is_full, IsFullByAge, Answered, Writes, Tries};
+ghost use Rattle.rx_live.specs.Lines.{TellsAll, CarriesOut, FindsFull, WaitsFor, AnswersAsked, EndsSession};
+ghost use Rattle.rx_live.specs.Taken.{is_full_cause, IsFullByAge, Answered, WritesAnswer, Tries};
 ghost use Rattle.rx_live.specs.Room.{HasRoom};
 
 use crate::closed::{closing_of, push_closed};
@@ -80,16 +80,16 @@ fn may_renew(engine: &Engine) -> bool
     len <= MOST_PLACES && is_since(&engine.book, len)
 }
 
-fn is_full(why: Cause) -> bool
-    ensures { result ≡ is_full why }
+fn is_full_cause(why: Cause) -> bool
+    ensures { result ≡ is_full_cause why }
 {
     matches!(why, Cause::Book(Refusal::Full))
 }
 
 fn is_full_by_age(engine: &Engine, why: Cause) -> bool
-    ensures { result ≡ (is_full why && may_renew (session_of engine.now)) }
+    ensures { result ≡ (is_full_cause why && may_renew (session_of engine.now)) }
 {
-    is_full(why) && may_renew(engine)
+    is_full_cause(why) && may_renew(engine)
 }
 
 // Writes an answer; one that finds no room is not written.
@@ -210,7 +210,7 @@ pub fn send(
 ) -> Result<(), AllocError>
     requires sound { IsSound (session_of engine.old) }
     requires room { HasRoom rest text.old }
-    ensures ok { OnOk result (Writes
+    ensures ok { OnOk result (WritesAnswer
         (λ t. AnswersAsked (session_of engine.old) (order_in (part_data value.entry)) t (session_of engine.new)) (string_bytes text.old) (string_bytes text.new)) }
     ensures err { OnErr result (WaitsFor (order_in (part_data value.entry)) (session_of engine.old) (session_of engine.new)) }
     ensures blank { OnErr result (string_bytes text.new ≡ string_bytes text.old) }
@@ -233,7 +233,7 @@ pub fn send(
 /// changed.
 pub fn end(engine: &mut Engine) -> Result<String, AllocError>
     requires { IsSound (session_of engine.old) }
-    ensures ok { IfOk result (λ s. Ends (session_of engine.old) (string_bytes s) (session_of engine.new)) }
+    ensures ok { IfOk result (λ s. EndsSession (session_of engine.old) (string_bytes s) (session_of engine.new)) }
     ensures err { OnErr result (session_of engine.new ≡ session_of engine.old) }
     ensures sound { IsSound (session_of engine.new) }
 {

@@ -1,6 +1,6 @@
 //! Laws of sessions, which no call needs and a caller may cite.
 
-ghost use Rattle.rx_live.specs.Sessions.{AreNamesKept, AreNotesTold};
+ghost use Rattle.rx_live.specs.Sessions.{AreNamesKept, AreNotesToldInOrder};
 ghost use Rattle.rx_live.specs.Shut.{AreNamesKeptToTheEnd};
 
 /// Of any list of lines: each name that a `using` or a `hold` was answered `ok` for stands in exactly one
@@ -18,5 +18,5 @@ pub fn names_are_released_to_the_end()
 /// Of any list of lines: the answers tell the notes of the events that the lines wrote, each once and in order.
 /// What was put off for want of memory are the last of them, which later answers tell.
 pub fn notes_are_told_in_order()
-    ensures { AreNotesTold }
+    ensures { AreNotesToldInOrder }
 {}

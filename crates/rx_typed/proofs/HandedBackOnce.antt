@@ -13,18 +13,19 @@ use Rattle.rx_book.specs.Courses.{LetsGo, none_let_go, next_let_go, lets_go, Emi
 use Rattle.rx_book.proofs.Laws.LastsThroughSteps.{keeps_resources, kept_same, kept_taken, kept_held, kept_used, kept_past}
 use Rattle.rx_book.proofs.Laws.NotesGoOn.{goes_forced, same_event}
 use Rattle.rx_typed.specs.Codes.{key_of, refusal_status, status_given_back, res_told}
-use Rattle.rx_typed.specs.Calls.{IsTaken, none_waits, IsMailTaken, tells as tells_mail, has_no_mail, IsCheckpoint, IsUsing, IsHold}
-use Rattle.rx_typed.specs.Courses.{Act, handed_in, handed_back, told, Leads, no_act, comes, goes, tells, with_entry, tag_in, taken_in, given_back, note_told}
+use Rattle.rx_typed.specs.Calls.{IsTaken, none_waits, IsMailTaken, tells as tells_mail, has_no_mail, IsCheckpointAnswered, IsUsing, IsHold}
+use Rattle.rx_typed.specs.Courses.{Act, handed_in, handed_back, told, LeadsResources, no_act, comes, goes, tells, with_entry, tag_in, taken_in, given_back}
+use Rattle.rx_typed.specs.Courses.{note_told}
 use Rattle.rx_typed.specs.Courses.{Course, no_call, calls, drains, checkpoints, AreHandedBackOnce, IsCall, next, next_all, end, abort, fail, decline, dispose}
 use Rattle.rx_typed.specs.Courses.{open_node, using, hold, hub, connect, disconnect, apply, remove, lease, give_back, take_one, take_mail, close, asks}
 use Rattle.std.proofs.Common.{rules}
 
 -- tables ------------------------------------------------------------------------------------------
 
-leads_same : (a b c : ℕ → Option ℕ) (acts : List Act) → ((n : ℕ) → b n ≡ a n) → Leads b acts c → Leads a acts c
-leads_same a b c acts same leads = subst (λ (held : ℕ → Option ℕ). Leads held acts c) (λ i n. same n i) leads
+leads_same : (a b c : ℕ → Option ℕ) (acts : List Act) → ((n : ℕ) → b n ≡ a n) → LeadsResources b acts c → LeadsResources a acts c
+leads_same a b c acts same leads = subst (λ (held : ℕ → Option ℕ). LeadsResources held acts c) (λ i n. same n i) leads
 
-leads_on : {a b c : ℕ → Option ℕ} {xs ys : List Act} → Leads a xs b → Leads b ys c → Leads a (xs ++ ys) c
+leads_on : {a b c : ℕ → Option ℕ} {xs ys : List Act} → LeadsResources a xs b → LeadsResources b ys c → LeadsResources a (xs ++ ys) c
 leads_on {a} {b} {c} {xs} {ys} (no_act same) q = leads_same a b c ys same q
 leads_on (comes x free rest) q = comes x free (leads_on rest q)
 leads_on (goes x was rest) q = goes x was (leads_on rest q)
@@ -51,15 +52,15 @@ same_table : (s t : State) → ((r : ℕ) → is_kept t.history r ≡ is_kept s.
     (r : ℕ) → tag_in t r ≡ tag_in s r
 same_table s t kept tags r = search (rules, Bool, cond, None)
 
-kept_call : (s t : State) (asked : Request) → Accepts s asked t → keeps_resources asked.call ≡ true → Leads (tag_in s) [] (tag_in t)
+kept_call : (s t : State) (asked : Request) → Accepts s asked t → keeps_resources asked.call ≡ true → LeadsResources (tag_in s) [] (tag_in t)
 kept_call s t asked accepts keeps =
     no_act (same_table s t (kept_same asked.call accepts.step keeps) (λ r kept. same_tag s t asked accepts r (kept_within s.history r kept)))
 
-unchanged : (s t : State) → t ≡ s → Leads (tag_in s) [] (tag_in t)
+unchanged : (s t : State) → t ≡ s → LeadsResources (tag_in s) [] (tag_in t)
 unchanged s t same = no_act (λ r. ap (λ (u : State). tag_in u r) same)
 
 answered : {A E : Type 0} {gives : A → Type 0} {refuses : E → Type 0} (s t : State) (asked : Request) (answer : Result A E) →
-    Answers gives refuses s asked t answer → keeps_resources asked.call ≡ true → Leads (tag_in s) [] (tag_in t)
+    Answers gives refuses s asked t answer → keeps_resources asked.call ≡ true → LeadsResources (tag_in s) [] (tag_in t)
 answered s t asked x3 says keeps = search (rules, kept_call, unchanged)
 
 -- many calls in one -------------------------------------------------------------------------------
@@ -67,12 +68,12 @@ answered s t asked x3 says keeps = search (rules, kept_call, unchanged)
 lets_go_keeps : (call : Call) → lets_go call ≡ true → keeps_resources call ≡ true
 lets_go_keeps x0 lets = search rules
 
-let_go : {s t : State} → LetsGo s t → Leads (tag_in s) [] (tag_in t)
+let_go : {s t : State} → LetsGo s t → LeadsResources (tag_in s) [] (tag_in t)
 let_go {s} none_let_go = unchanged s s refl
 let_go {s} {t} (next_let_go {t = m} {asked = asked} before kept lets accepts) =
     leads_on (let_go before) (kept_call m t asked accepts (lets_go_keeps asked.call lets))
 
-emits : {leaf : Key} {s t : State} {values : List ℤ} → Emits leaf s values t → Leads (tag_in s) [] (tag_in t)
+emits : {leaf : Key} {s t : State} {values : List ℤ} → Emits leaf s values t → LeadsResources (tag_in s) [] (tag_in t)
 emits {leaf} {s} none_emitted = unchanged s s refl
 emits {leaf} {s} {t} (next_emitted {t = m} value before kept accepts) = leads_on (emits before) (kept_call m t (next_request m leaf value) accepts refl)
 
@@ -93,7 +94,7 @@ new_tag s t call law base step r node tag new within stands =
 
 -- one more is kept, under a new number
 one_comes : (s t : State) (x : RxTaken) → length s.history ≤ x.number → ((r : ℕ) → is_kept t.history r ≡ cond (x.number == r) true (is_kept s.history r)) →
-    ((r : ℕ) → r < length s.history → tag_by t r ≡ tag_by s r) → tag_by t x.number ≡ Some x.tag → Leads (tag_in s) (handed_in x ∷ []) (tag_in t)
+    ((r : ℕ) → r < length s.history → tag_by t r ≡ tag_by s r) → tag_by t x.number ≡ Some x.tag → LeadsResources (tag_in s) (handed_in x ∷ []) (tag_in t)
 one_comes s t x past kept tags named =
     comes x (ap (λ (b : Bool). cond b (tag_by s x.number) None) (kept_past s.history x.number past)) (no_act by_number)
   where
@@ -110,7 +111,7 @@ one_comes s t x past kept tags named =
 
 module _ (g : Ghosts Token) (names : (tag : ℕ) → g.tag_of (fresh tag) ≡ tag) where
   comes_by_hold : (s t : State) (node : Key) (tag number : ℕ) → IsLawful s.base s.history → Accepts s (hold_request g s node (fresh tag)) t →
-      number ≡ length s.history → Leads (tag_in s) (handed_in (record { number = number; tag = tag }) ∷ []) (tag_in t)
+      number ≡ length s.history → LeadsResources (tag_in s) (handed_in (record { number = number; tag = tag }) ∷ []) (tag_in t)
   comes_by_hold s t node tag number law accepts here =
       let h : List Event = s.history in
       let e : Event = Accept node.number (g.tag_of (fresh tag)) in
@@ -119,12 +120,12 @@ module _ (g : Ghosts Token) (names : (tag : ℕ) → g.tag_of (fresh tag) ≡ ta
       new_tag s t (hold_request g s node (fresh tag)).call law accepts.base accepts.step (length h) node.number (g.tag_of (fresh tag)) (omega arith)
       (omega arith)
       (slice_get_last h e) ∙ ap (λ (n : ℕ). Some n) (names tag) in
-      subst (λ (n : ℕ). Leads (tag_in s) (handed_in (record { number = n; tag = tag }) ∷ []) (tag_in t)) (sym here)
+      subst (λ (n : ℕ). LeadsResources (tag_in s) (handed_in (record { number = n; tag = tag }) ∷ []) (tag_in t)) (sym here)
       (one_comes s t (record { number = length h; tag = tag }) (omega arith) (kept_held law accepts.step)
       (λ r within. same_tag s t (hold_request g s node (fresh tag)) accepts r within) named)
 
   comes_by_using : (s t : State) (place : At) (tag number : ℕ) → IsLawful s.base s.history → Accepts s (using_request g s place (fresh tag)) t →
-      number ≡ length s.history + 1 → Leads (tag_in s) (handed_in (record { number = number; tag = tag }) ∷ []) (tag_in t)
+      number ≡ length s.history + 1 → LeadsResources (tag_in s) (handed_in (record { number = number; tag = tag }) ∷ []) (tag_in t)
   comes_by_using s t place tag number law accepts here =
       let h : List Event = s.history in
       let o : Event = Open (place_of place) Pass in
@@ -138,25 +139,25 @@ module _ (g : Ghosts Token) (names : (tag : ℕ) → g.tag_of (fresh tag) ≡ ta
       new_tag s t (using_request g s place (fresh tag)).call law accepts.base accepts.step (length h + 1) (length h) (g.tag_of (fresh tag)) (omega arith)
       (omega arith) there
       ∙ ap (λ (n : ℕ). Some n) (names tag) in
-      subst (λ (n : ℕ). Leads (tag_in s) (handed_in (record { number = n; tag = tag }) ∷ []) (tag_in t)) (sym here)
+      subst (λ (n : ℕ). LeadsResources (tag_in s) (handed_in (record { number = n; tag = tag }) ∷ []) (tag_in t)) (sym here)
       (one_comes s t (record { number = length h + 1; tag = tag }) (omega arith) (kept_used law accepts.step)
       (λ r within. same_tag s t (using_request g s place (fresh tag)) accepts r within) named)
 
   by_using : (s t : State) (place : At) (tag : ℕ) (used : RxUsing) (status : ℕ) → IsPromised s → IsUsing g place tag used s t status →
-      Leads (tag_in s) (taken_in status used.res.number tag) (tag_in t)
+      LeadsResources (tag_in s) (taken_in status used.res.number tag) (tag_in t)
   by_using s t place tag used status kept says = search (rules, Result, OpenedUsing, Refused, Token, AnswersOpenedUsing, Ok, ℕ, comes_by_using, RxUsing, Err, Bool, cond, no_refusal_is_done, unchanged)
 
   by_hold : (s t : State) (node : RxNode) (tag : ℕ) (held : RxRes) (status : ℕ) → IsPromised s → IsHold g node tag held s t status →
-      Leads (tag_in s) (taken_in status held.number tag) (tag_in t)
+      LeadsResources (tag_in s) (taken_in status held.number tag) (tag_in t)
   by_hold s t node tag held status kept says = by_answer says.answer says.says says.tells says.means where
     by_answer : (answer : Result ResKey (Refused Token)) → AnswersResKey s (hold_request g s (key_of node) (fresh tag)) (fresh tag) t answer →
-        held ≡ res_told answer → status ≡ status_given_back answer → Leads (tag_in s) (taken_in status held.number tag) (tag_in t)
+        held ≡ res_told answer → status ≡ status_given_back answer → LeadsResources (tag_in s) (taken_in status held.number tag) (tag_in t)
     by_answer (Ok k) a shown done =
-        subst (λ (n : ℕ). Leads (tag_in s) (taken_in n held.number tag) (tag_in t)) (sym done)
+        subst (λ (n : ℕ). LeadsResources (tag_in s) (taken_in n held.number tag) (tag_in t)) (sym done)
         (comes_by_hold s t (key_of node) tag held.number kept.lawful a.accepted (ap (λ (r : RxRes). r.number) shown ∙ a.ok.number))
     by_answer (Err e) a shown done =
-        subst (λ (n : ℕ). Leads (tag_in s) (taken_in n held.number tag) (tag_in t)) (sym done)
-        (subst (λ (b : Bool). Leads (tag_in s) (cond b (handed_in (record { number = held.number; tag = tag }) ∷ []) []) (tag_in t))
+        subst (λ (n : ℕ). LeadsResources (tag_in s) (taken_in n held.number tag) (tag_in t)) (sym done)
+        (subst (λ (b : Bool). LeadsResources (tag_in s) (cond b (handed_in (record { number = held.number; tag = tag }) ∷ []) []) (tag_in t))
         (sym (no_refusal_is_done e.why)) (unchanged s t a.kept))
 
 -- going back --------------------------------------------------------------------------------------
@@ -168,7 +169,7 @@ waits_kept h r waits = search (rules, list_any, Bool, not)
 
 module _ (g : Ghosts Token) where
   handed : (s t : State) (number : ℕ) (token : Token) → IsPromised s → AnswersHanded g s t (Some (number, token)) →
-      Leads (tag_in s) (handed_back (record { number = number; tag = g.tag_of token }) ∷ []) (tag_in t)
+      LeadsResources (tag_in s) (handed_back (record { number = number; tag = g.tag_of token }) ∷ []) (tag_in t)
   handed s t number token kept says =
       let listed : Contains s.waiting (label_of g number token) = says.cases in
       let label : IsLabelOf s.base s.history (label_of g number token) =
@@ -192,32 +193,33 @@ module _ (g : Ghosts Token) where
       by_number : (r : ℕ) → tag_in t r ≡ with_entry None number (tag_in s) r
       by_number r = ap (λ (b : Bool). cond b (tag_by t r) None) (kept_taken says.accepted.step r) ∙ by_test r (number == r) refl
 
-  by_take : (s t : State) (taken : RxTaken) (status : ℕ) → IsPromised s → IsTaken g taken s t status → Leads (tag_in s) (given_back status taken) (tag_in t)
+  by_take : (s t : State) (taken : RxTaken) (status : ℕ) → IsPromised s → IsTaken g taken s t status
+      → LeadsResources (tag_in s) (given_back status taken) (tag_in t)
   by_take s t taken status kept (takes {number = number} {token = token} says is done) =
-      subst (λ (n : ℕ). Leads (tag_in s) (given_back n taken) (tag_in t)) (sym done)
-      (subst (λ (x : RxTaken). Leads (tag_in s) (handed_back x ∷ []) (tag_in t)) (sym is) (handed s t number token kept says))
+      subst (λ (n : ℕ). LeadsResources (tag_in s) (given_back n taken) (tag_in t)) (sym done)
+      (subst (λ (x : RxTaken). LeadsResources (tag_in s) (handed_back x ∷ []) (tag_in t)) (sym is) (handed s t number token kept says))
   by_take s t taken status kept (none_waits says is done) =
-      subst (λ (n : ℕ). Leads (tag_in s) (given_back n taken) (tag_in t)) (sym done) (unchanged s t says.kept)
+      subst (λ (n : ℕ). LeadsResources (tag_in s) (given_back n taken) (tag_in t)) (sym done) (unchanged s t says.kept)
 
-  all_taken : {s t : State} {takens : List RxTaken} → AreTaken g s takens t → Leads (tag_in s) (map handed_back takens) (tag_in t)
+  all_taken : {s t : State} {takens : List RxTaken} → AreTaken g s takens t → LeadsResources (tag_in s) (map handed_back takens) (tag_in t)
   all_taken {s} none_taken = unchanged s s refl
   all_taken {s} {t} (one_taken {before = before} {t = m} taken rest kept says) =
-      subst (λ (acts : List Act). Leads (tag_in s) acts (tag_in t)) (sym (map-append handed_back before (taken ∷ [])))
+      subst (λ (acts : List Act). LeadsResources (tag_in s) acts (tag_in t)) (sym (map-append handed_back before (taken ∷ [])))
       (leads_on (all_taken rest) (by_take m t taken 0 kept says))
 
 -- notes -------------------------------------------------------------------------------------------
 
-by_mail : (s t : State) (mail : RxMail) (status : ℕ) → IsMailTaken mail s t status → Leads (tag_in s) (note_told status mail) (tag_in t)
+by_mail : (s t : State) (mail : RxMail) (status : ℕ) → IsMailTaken mail s t status → LeadsResources (tag_in s) (note_told status mail) (tag_in t)
 by_mail s t mail status (tells_mail found is shown done) =
-    subst (λ (n : ℕ). Leads (tag_in s) (note_told n mail) (tag_in t)) (sym done)
+    subst (λ (n : ℕ). LeadsResources (tag_in s) (note_told n mail) (tag_in t)) (sym done)
     (tells mail (no_act (λ r. ap (λ (u : State). tag_in u r) is)))
 by_mail s t mail status (has_no_mail none is shown done) =
-    subst (λ (n : ℕ). Leads (tag_in s) (note_told n mail) (tag_in t)) (sym done) (unchanged s t is)
+    subst (λ (n : ℕ). LeadsResources (tag_in s) (note_told n mail) (tag_in t)) (sym done) (unchanged s t is)
 
-all_mails : {s t : State} {mails : List RxMail} → AreMailsTaken s mails t → Leads (tag_in s) (map told mails) (tag_in t)
+all_mails : {s t : State} {mails : List RxMail} → AreMailsTaken s mails t → LeadsResources (tag_in s) (map told mails) (tag_in t)
 all_mails {s} no_mail_taken = unchanged s s refl
 all_mails {s} {t} (mail_taken {mails = mails} {t = m} mail rest says) =
-    subst (λ (acts : List Act). Leads (tag_in s) acts (tag_in t)) (sym (map-append told mails (mail ∷ [])))
+    subst (λ (acts : List Act). LeadsResources (tag_in s) acts (tag_in t)) (sym (map-append told mails (mail ∷ [])))
     (leads_on (all_mails rest) (by_mail m t mail 0 says))
 
 -- checkpoints -------------------------------------------------------------------------------------
@@ -232,9 +234,9 @@ unfolding is_waiting is_taken is_kept
 kept_is base h law r =
     search (rules, kept_shape, list_any, held_resource, held_not_taken)
 
-by_checkpoint : (s t : State) (place status : ℕ) → IsPromised s → IsPromised t → IsCheckpoint place s t status → Leads (tag_in s) [] (tag_in t)
+by_checkpoint : (s t : State) (place status : ℕ) → IsPromised s → IsPromised t → IsCheckpointAnswered place s t status → LeadsResources (tag_in s) [] (tag_in t)
 by_checkpoint s t place status kept after says = by_answer says.answer says.says where
-  by_answer : (answer : Result ℕ Refusal) → AnswersCheckpoint s t answer → Leads (tag_in s) [] (tag_in t)
+  by_answer : (answer : Result ℕ Refusal) → AnswersCheckpoint s t answer → LeadsResources (tag_in s) [] (tag_in t)
   by_answer (Err why) a = unchanged s t a.kept
   by_answer (Ok n) a =
       let agree = a.made.agree in
@@ -250,7 +252,7 @@ taken_unkept h r taken = search (rules, list_any, Bool, not)
 -- courses -----------------------------------------------------------------------------------------
 
 module _ (g : Ghosts Token) (names : (tag : ℕ) → g.tag_of (fresh tag) ≡ tag) where
-  by_call : {s t : State} {acts : List Act} → IsPromised s → IsCall g s acts t → Leads (tag_in s) acts (tag_in t)
+  by_call : {s t : State} {acts : List Act} → IsPromised s → IsCall g s acts t → LeadsResources (tag_in s) acts (tag_in t)
   by_call {s} {t} kept (next leaf value says) = answered s t _ says.answer says.says refl
   by_call {s} {t} kept (next_all leaf values says) = emits says.says.emits
   by_call {s} {t} kept (end leaf terminal says) = answered s t _ says.answer says.says refl
@@ -279,12 +281,12 @@ module _ (g : Ghosts Token) (names : (tag : ℕ) → g.tag_of (fresh tag) ≡ ta
   promised kept (drains before call after) = after
   promised kept (checkpoints before made after) = after
 
-  by_course : {s t : State} {acts : List Act} → IsPromised s → Course g s acts t → Leads (tag_in s) acts (tag_in t)
+  by_course : {s t : State} {acts : List Act} → IsPromised s → Course g s acts t → LeadsResources (tag_in s) acts (tag_in t)
   by_course {s} kept no_call = unchanged s s refl
   by_course kept (calls before call after) = leads_on (by_course kept before) (by_call (promised kept before) call)
   by_course kept (drains before call after) = leads_on (by_course kept before) (leads_on (all_mails call.told.taken) (all_taken g call.taken.taken))
   by_course {s} {t = u} kept (checkpoints {acts = acts} {t = t} {place = place} {status = status} before made after) =
-      subst (λ (all : List Act). Leads (tag_in s) all (tag_in u)) (append-nil acts)
+      subst (λ (all : List Act). LeadsResources (tag_in s) all (tag_in u)) (append-nil acts)
       (leads_on (by_course kept before) (by_checkpoint t u place status (promised kept before) after made))
 
   -- where each was taken none is kept

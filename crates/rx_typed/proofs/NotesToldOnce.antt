@@ -10,8 +10,8 @@ use Rattle.rx_event.proofs.Laws.MakingRemovesNothing.{made_untold}
 use Rattle.rx_register.proofs.Laws.NoCause.{no_cause}
 use Rattle.rx_book.specs.Requests.{Request, next_request, take_request}
 use Rattle.rx_book.specs.Courses.{LetsGo, none_let_go, next_let_go, Emits, none_emitted, next_emitted}
-use Rattle.rx_typed.specs.Codes.{mail_of}
-use Rattle.rx_typed.specs.Calls.{IsTaken, none_waits, IsMailTaken, tells as tells_mail, has_no_mail, new_book, IsCheckpoint}
+use Rattle.rx_typed.specs.Codes.{mail_numbered}
+use Rattle.rx_typed.specs.Calls.{IsTaken, none_waits, IsMailTaken, tells as tells_mail, has_no_mail, new_book, IsCheckpointAnswered}
 use Rattle.rx_typed.specs.Courses.{Act, handed_in, handed_back, told, given_back, taken_in, note_told, notes_told, notes_between, notes_made}
 use Rattle.rx_typed.specs.Courses.{Course, no_call, calls, drains, checkpoints, AreNotesToldOnce, IsCall, next, next_all, end, abort, fail, decline, dispose}
 use Rattle.rx_typed.specs.Courses.{open_node, using, hold, hub, connect, disconnect, apply, remove, lease, give_back, take_one, take_mail, close, asks}
@@ -26,7 +26,7 @@ notes_told-append (handed_back x ∷ xs) ys = notes_told-append xs ys
 record Does (s t : State) (acts : List Act) : Type 0 where
   rest : List Mail
   is : notes t.history ≡ notes s.history ++ rest
-  same : notes_left s ++ map mail_of rest ≡ notes_told acts ++ notes_left t
+  same : notes_left s ++ map mail_numbered rest ≡ notes_told acts ++ notes_left t
 
 -- no more notes were handed out than there are
 abbrev IsBehind : State → Type 0
@@ -43,10 +43,10 @@ does_both : {s m t : State} {xs ys : List Act} → Does s m xs → Does m t ys �
 does_both {s} {m} {t} {xs} {ys} p q = record {
   rest = p.rest ++ q.rest;
   is = q.is ∙ ap (λ (ms : List Mail). ms ++ q.rest) p.is ∙ append_assoc (notes s.history) p.rest q.rest;
-  same = ap (λ (ms : List RxMail). notes_left s ++ ms) (map-append mail_of p.rest q.rest)
-      ∙ sym (append_assoc (notes_left s) (map mail_of p.rest) (map mail_of q.rest))
-      ∙ ap (λ (ms : List RxMail). ms ++ map mail_of q.rest) p.same
-      ∙ append_assoc (notes_told xs) (notes_left m) (map mail_of q.rest)
+  same = ap (λ (ms : List RxMail). notes_left s ++ ms) (map-append mail_numbered p.rest q.rest)
+      ∙ sym (append_assoc (notes_left s) (map mail_numbered p.rest) (map mail_numbered q.rest))
+      ∙ ap (λ (ms : List RxMail). ms ++ map mail_numbered q.rest) p.same
+      ∙ append_assoc (notes_told xs) (notes_left m) (map mail_numbered q.rest)
       ∙ ap (λ (ms : List RxMail). notes_told xs ++ ms) q.same
       ∙ sym (append_assoc (notes_told xs) (notes_told ys) (notes_left t))
       ∙ ap (λ (ms : List RxMail). ms ++ notes_left t) (sym (notes_told-append xs ys));
@@ -60,9 +60,9 @@ by_accepted s t asked accepts behind =
     record {
       rest = g.rest;
       is = g.is;
-      same = sym (map-append mail_of (drop s.given (notes s.history)) g.rest)
-          ∙ ap (λ (ms : List Mail). map mail_of ms) (sym (drop-append-le s.given (notes s.history) g.rest behind))
-          ∙ sym (λ i. map mail_of (drop (accepts.given i) (g.is i)));
+      same = sym (map-append mail_numbered (drop s.given (notes s.history)) g.rest)
+          ∙ ap (λ (ms : List Mail). map mail_numbered ms) (sym (drop-append-le s.given (notes s.history) g.rest behind))
+          ∙ sym (λ i. map mail_numbered (drop (accepts.given i) (g.is i)));
     }
 
 answered : {A E : Type 0} {gives : A → Type 0} {refuses : E → Type 0} (s t : State) (asked : Request) (answer : Result A E) →
@@ -119,8 +119,8 @@ by_mail s t mail status (tells_mail {m = m} found is shown done) =
       rest = [];
       is = ap (λ (u : State). notes u.history) is ∙ sym (append-nil (notes s.history));
       same = append-nil (notes_left s)
-          ∙ ap (λ (ms : List Mail). map mail_of ms) (drop_one (notes s.history) s.given m found)
-          ∙ ap (λ (n : ℕ). map mail_of (m ∷ drop n (notes s.history))) (more_given s.given)
+          ∙ ap (λ (ms : List Mail). map mail_numbered ms) (drop_one (notes s.history) s.given m found)
+          ∙ ap (λ (n : ℕ). map mail_numbered (m ∷ drop n (notes s.history))) (more_given s.given)
           ∙ sym (λ i. shown i ∷ notes_left (is i));
     })
 by_mail s t mail status (has_no_mail none is shown done) =
@@ -133,7 +133,7 @@ all_mails {s} {t} (mail_taken {mails = mails} {t = m} mail rest says) =
 
 -- checkpoints -------------------------------------------------------------------------------------
 
-by_checkpoint : (s t : State) (place status : ℕ) → IsPromised t → IsCheckpoint place s t status → notes_left t ≡ notes_left s
+by_checkpoint : (s t : State) (place status : ℕ) → IsPromised t → IsCheckpointAnswered place s t status → notes_left t ≡ notes_left s
 by_checkpoint s t place status after says = by_answer says.answer says.says where
   by_answer : (answer : Result ℕ Refusal) → AnswersCheckpoint s t answer → notes_left t ≡ notes_left s
   by_answer (Err why) a = ap notes_left a.kept
@@ -142,7 +142,7 @@ by_checkpoint s t place status after says = by_answer says.answer says.says wher
       ltb-false s.given (length (notes s.history)) (no_cause (checkpoint_causes s.history s.given) a.made.no_cause MailLeft) in
       let silent : notes t.history ≡ [] = ap notes a.made.history ∙ made_untold (shown t.base) after.lawful.started.making in
       let none : length (notes t.history) ≤ t.given = let e = ap (length {A = Mail}) silent in omega (arith, e) in
-      ap (λ (ms : List Mail). map mail_of ms) (drop_all t.given (notes t.history) none ∙ sym (drop_all s.given (notes s.history) all))
+      ap (λ (ms : List Mail). map mail_numbered ms) (drop_all t.given (notes t.history) none ∙ sym (drop_all s.given (notes s.history) all))
 
 -- courses -----------------------------------------------------------------------------------------
 
@@ -177,10 +177,10 @@ module _ (g : Ghosts Token) where
   promised kept (drains before call after) = after
   promised kept (checkpoints before made after) = after
 
-  between_is : {t u : State} {more : List Act} → (does : Does t u more) → notes_between t u ≡ map mail_of does.rest
+  between_is : {t u : State} {more : List Act} → (does : Does t u more) → notes_between t u ≡ map mail_numbered does.rest
   between_is {t} {u} does =
-      ap (λ (ms : List Mail). map mail_of (drop (length (notes t.history)) ms)) does.is
-      ∙ ap (λ (ms : List Mail). map mail_of ms) (drop_at (notes t.history) does.rest (length (notes t.history)) refl)
+      ap (λ (ms : List Mail). map mail_numbered (drop (length (notes t.history)) ms)) does.is
+      ∙ ap (λ (ms : List Mail). map mail_numbered ms) (drop_at (notes t.history) does.rest (length (notes t.history)) refl)
 
   -- behind what was told before, a call tells its own
   one_on : (s t u : State) (acts more : List Act) (made : List RxMail) → notes_left s ++ made ≡ notes_told acts ++ notes_left t → Does t u more →
@@ -188,7 +188,7 @@ module _ (g : Ghosts Token) where
   one_on s t u acts more made before does =
       sym (append_assoc (notes_left s) made (notes_between t u))
       ∙ (λ i. before i ++ between_is does i)
-      ∙ append_assoc (notes_told acts) (notes_left t) (map mail_of does.rest)
+      ∙ append_assoc (notes_told acts) (notes_left t) (map mail_numbered does.rest)
       ∙ ap (λ (ms : List RxMail). notes_told acts ++ ms) does.same
       ∙ sym (append_assoc (notes_told acts) (notes_told more) (notes_left u))
       ∙ ap (λ (ms : List RxMail). ms ++ notes_left u) (sym (notes_told-append acts more))
@@ -209,5 +209,5 @@ module _ (g : Ghosts Token) where
 
   pub notes_told_once : AreNotesToldOnce g
   notes_told_once max_events acts t kept course =
-      let nothing : notes_left (new_book max_events) ≡ [] = ap (λ (ms : List Mail). map mail_of (drop 0 ms)) no_notes in
+      let nothing : notes_left (new_book max_events) ≡ [] = ap (λ (ms : List Mail). map mail_numbered (drop 0 ms)) no_notes in
       ap (λ (ms : List RxMail). ms ++ notes_made course) (sym nothing) ∙ by_course kept course

@@ -38,7 +38,7 @@ use Rattle.rx_typed.specs.declared.shapes.RxLease.{RxLease}
 use Rattle.rx_typed.specs.declared.shapes.RxOpened.{RxOpened}
 use Rattle.rx_typed.specs.declared.shapes.RxUsing.{RxUsing}
 use Rattle.rx_typed.specs.declared.shapes.RxCounts.{RxCounts}
-use Rattle.rx_typed.specs.Codes.{key_of, res_key_of, lease_key_of, mail_of, no_mail, no_taken, status_told, status_given_back}
+use Rattle.rx_typed.specs.Codes.{key_of, res_key_of, lease_key_of, mail_numbered, no_mail, no_taken, status_told, status_given_back}
 use Rattle.rx_typed.specs.Codes.{place_told, word_told, opened_told, refused_told, used_told, res_told, node_told, lease_told}
 use Rattle.rx_typed.specs.Tokens.{fresh}
 
@@ -59,9 +59,9 @@ pub data IsMade (max_events : ℕ) (old new : Option State) (status : ℕ) : Typ
 
 -- a call on the book that the handle keeps, whose promise stands behind it too; where the handle keeps none nothing was done, and
 -- nothing is told
-pub data IsCalled (Says : State → State → ℕ → Type 0) (IsBlank : Type 0) (old new : Option State) (status : ℕ) : Type 0 where
-  calls : {s t : State} → old ≡ Some s → new ≡ Some t → IsPromised t → Says s t status → IsCalled Says IsBlank old new status
-  has_none : old ≡ None → new ≡ None → IsBlank → status ≡ 1 → IsCalled Says IsBlank old new status
+pub data IsBookCalled (Says : State → State → ℕ → Type 0) (IsBlank : Type 0) (old new : Option State) (status : ℕ) : Type 0 where
+  calls : {s t : State} → old ≡ Some s → new ≡ Some t → IsPromised t → Says s t status → IsBookCalled Says IsBlank old new status
+  has_none : old ≡ None → new ≡ None → IsBlank → status ≡ 1 → IsBookCalled Says IsBlank old new status
 
 -- what the book answers, by `rx_book`, is what is told, and its status
 pub record IsAnswered {A E B : Type 0} (Answers : Result A E → Type 0) (shown : Result A E → B) (status_of : Result A E → ℕ) (told : B) (status : ℕ)
@@ -78,7 +78,7 @@ pub data IsDecoded {C : Type 0} (code : Option C) (Says : C → ℕ → Type 0) 
 
 -- the next note, or that none is left
 pub data IsMailTaken (mail : RxMail) (s t : State) (status : ℕ) : Type 0 where
-  tells : {m : Mail} → slice_get (notes s.history) s.given ≡ Some m → t ≡ record s { given = s.given + 1 } → mail ≡ mail_of m → status ≡ 0
+  tells : {m : Mail} → slice_get (notes s.history) s.given ≡ Some m → t ≡ record s { given = s.given + 1 } → mail ≡ mail_numbered m → status ≡ 0
       → IsMailTaken mail s t status
   has_no_mail : slice_get (notes s.history) s.given ≡ None → t ≡ s → mail ≡ no_mail → status ≡ 2 → IsMailTaken mail s t status
 
@@ -90,12 +90,12 @@ pub data IsTaken (g : Ghosts Token) (taken : RxTaken) (s t : State) (status : �
 
 -- calls that answer a place -----------------------------------------------------------------------
 
-abbrev pub IsPlaced : (Result ℕ Refusal → Type 0) → (place status : ℕ) → Type 0
-IsPlaced Answers place status = IsAnswered Answers place_told status_told place status
+abbrev pub IsPlaceAnswered : (Result ℕ Refusal → Type 0) → (place status : ℕ) → Type 0
+IsPlaceAnswered Answers place status = IsAnswered Answers place_told status_told place status
 
 -- the leaf emits the value
 abbrev pub IsNext : RxNode → ℤ → (place : ℕ) → State → State → (status : ℕ) → Type 0
-IsNext leaf value place s t status = IsPlaced (AnswersPlaceOrWant s (next_request s (key_of leaf) value) t) place status
+IsNext leaf value place s t status = IsPlaceAnswered (AnswersPlaceOrWant s (next_request s (key_of leaf) value) t) place status
 
 -- the leaf emits the values, up to the first that is refused, whose status is answered
 pub record IsNextAll (leaf : RxNode) (values : List ℤ) (count : ℕ) (s t : State) (status : ℕ) : Type 0 where
@@ -106,39 +106,39 @@ pub record IsNextAll (leaf : RxNode) (values : List ℤ) (count : ℕ) (s t : St
 
 -- the leaf ends
 abbrev pub IsEnd : RxNode → Terminal → (place : ℕ) → State → State → (status : ℕ) → Type 0
-IsEnd leaf terminal place s t status = IsPlaced (AnswersPlace s (end_request s (key_of leaf) terminal) t) place status
+IsEnd leaf terminal place s t status = IsPlaceAnswered (AnswersPlace s (end_request s (key_of leaf) terminal) t) place status
 
 -- the root is unsubscribed
 abbrev pub IsDispose : RxNode → (place : ℕ) → State → State → (status : ℕ) → Type 0
-IsDispose root place s t status = IsPlaced (AnswersPlace s (dispose_request s (key_of root)) t) place status
+IsDispose root place s t status = IsPlaceAnswered (AnswersPlace s (dispose_request s (key_of root)) t) place status
 
 -- a node that is no leaf ends with an error
 abbrev pub IsAbort : RxNode → (error : ℕ) → (place : ℕ) → State → State → (status : ℕ) → Type 0
-IsAbort node error place s t status = IsPlaced (AnswersPlace s (abort_request s (key_of node) error) t) place status
+IsAbort node error place s t status = IsPlaceAnswered (AnswersPlace s (abort_request s (key_of node) error) t) place status
 
 -- a FlatMap or a Switch ends with an error
 abbrev pub IsFail : RxNode → (error : ℕ) → (place : ℕ) → State → State → (status : ℕ) → Type 0
-IsFail merging error place s t status = IsPlaced (AnswersPlace s (fail_request s (key_of merging) error) t) place status
+IsFail merging error place s t status = IsPlaceAnswered (AnswersPlace s (fail_request s (key_of merging) error) t) place status
 
 -- an item that was projected is declined
 abbrev pub IsDecline : RxNode → (place : ℕ) → State → State → (status : ℕ) → Type 0
-IsDecline merging place s t status = IsPlaced (AnswersPlace s (decline_request s (key_of merging)) t) place status
+IsDecline merging place s t status = IsPlaceAnswered (AnswersPlace s (decline_request s (key_of merging)) t) place status
 
 -- a resource is taken away from its node
 abbrev pub IsRemove : RxRes → (place : ℕ) → State → State → (status : ℕ) → Type 0
-IsRemove res place s t status = IsPlaced (AnswersPlace s (remove_request s (res_key_of res)) t) place status
+IsRemove res place s t status = IsPlaceAnswered (AnswersPlace s (remove_request s (res_key_of res)) t) place status
 
 -- a lease is given back
 abbrev pub IsGiveBack : RxLease → (place : ℕ) → State → State → (status : ℕ) → Type 0
-IsGiveBack lease place s t status = IsPlaced (AnswersPlace s (give_back_request s (lease_key_of lease)) t) place status
+IsGiveBack lease place s t status = IsPlaceAnswered (AnswersPlace s (give_back_request s (lease_key_of lease)) t) place status
 
 -- a hub is disconnected by hand
 abbrev pub IsDisconnect : (hub : ℕ) → (place : ℕ) → State → State → (status : ℕ) → Type 0
-IsDisconnect hub place s t status = IsPlaced (AnswersPlace s (disconnect_request hub) t) place status
+IsDisconnect hub place s t status = IsPlaceAnswered (AnswersPlace s (disconnect_request hub) t) place status
 
 -- a hub is made, whose number is the place
 abbrev pub IsHub : Mode → (place : ℕ) → State → State → (status : ℕ) → Type 0
-IsHub mode place s t status = IsPlaced (AnswersPlaceOrWant s (hub_request mode) t) place status
+IsHub mode place s t status = IsPlaceAnswered (AnswersPlaceOrWant s (hub_request mode) t) place status
 
 -- a resource is used on a word, which is told
 abbrev pub IsApply : RxRes → (word answer : ℕ) → State → State → (status : ℕ) → Type 0
@@ -146,8 +146,8 @@ IsApply res word answer s t status =
     IsAnswered (AnswersWord s (apply_request s (res_key_of res)) t) (word_told word) status_told answer status
 
 -- what the history leaves stands in its place
-abbrev pub IsCheckpoint : (place : ℕ) → State → State → (status : ℕ) → Type 0
-IsCheckpoint place s t status = IsPlaced (AnswersCheckpoint s t) place status
+abbrev pub IsCheckpointAnswered : (place : ℕ) → State → State → (status : ℕ) → Type 0
+IsCheckpointAnswered place s t status = IsPlaceAnswered (AnswersCheckpoint s t) place status
 
 -- openings ----------------------------------------------------------------------------------------
 
@@ -193,11 +193,11 @@ abbrev pub IsUntaken : State → Type 0
 IsUntaken s = taken_count s.base s.history ≢ accepted_count s.base s.history
 
 -- the book is gone, and each resource was taken; or one was not, and the book stays
-pub data IsFinished (old new : Option State) (status : ℕ) : Type 0 where
-  finishes : {s : State} → old ≡ Some s → new ≡ None → IsTakenWhole s → status ≡ 0 → IsFinished old new status
+pub data IsBookFinished (old new : Option State) (status : ℕ) : Type 0 where
+  finishes : {s : State} → old ≡ Some s → new ≡ None → IsTakenWhole s → status ≡ 0 → IsBookFinished old new status
   is_untaken : {s : State} → old ≡ Some s → new ≡ old → IsUntaken s → status ≡ 6
-      → IsFinished old new status
-  is_absent : old ≡ None → new ≡ None → status ≡ 1 → IsFinished old new status
+      → IsBookFinished old new status
+  is_absent : old ≡ None → new ≡ None → status ≡ 1 → IsBookFinished old new status
 
 -- questions ---------------------------------------------------------------------------------------
 
@@ -208,7 +208,7 @@ pub record IsAsked (node : RxNode) (is_open : ℕ) (s t : State) (status : ℕ) 
   pub done : status ≡ 0
 
 -- what there is
-pub record IsCounted (counts : RxCounts) (s t : State) (status : ℕ) : Type 0 where
+pub record AreCountsTold (counts : RxCounts) (s t : State) (status : ℕ) : Type 0 where
   pub nodes : counts.nodes ≡ open_count s.history
   pub held : counts.held ≡ held_count s.history
   pub waiting : counts.waiting ≡ waiting_count s.history
@@ -219,8 +219,8 @@ pub record IsCounted (counts : RxCounts) (s t : State) (status : ℕ) : Type 0 w
   pub kept : t ≡ s
   pub done : status ≡ 0
 
-abbrev pub no_counts : RxCounts
-no_counts = record { nodes = 0; held = 0; waiting = 0; leases = 0; accepted = 0; taken = 0; events = 0 }
+abbrev pub zero_counts : RxCounts
+zero_counts = record { nodes = 0; held = 0; waiting = 0; leases = 0; accepted = 0; taken = 0; events = 0 }
 
 -- whether the key is a held resource's
 pub record IsAskedHeld (res : RxRes) (is_held : ℕ) (s t : State) (status : ℕ) : Type 0 where
@@ -229,10 +229,10 @@ pub record IsAskedHeld (res : RxRes) (is_held : ℕ) (s t : State) (status : ℕ
   pub done : status ≡ 0
 
 -- how many items an open FlatMap or Switch owes an inner, or that the key is of none
-abbrev pub owed_in : State → RxNode → Option ℕ
-owed_in s merging =
+abbrev pub owed_by_node : State → RxNode → Option ℕ
+owed_by_node s merging =
     if has_key s.keys (key_of merging) && at is_merging s.history merging.number then Some (owed s.base s.history merging.number) else None
 
 pub data IsOwed (merging : RxNode) (count : ℕ) (s t : State) (status : ℕ) : Type 0 where
-  owes : owed_in s merging ≡ Some count → t ≡ s → status ≡ 0 → IsOwed merging count s t status
-  is_none : owed_in s merging ≡ None → count ≡ 0 → t ≡ s → status ≡ 2 → IsOwed merging count s t status
+  owes : owed_by_node s merging ≡ Some count → t ≡ s → status ≡ 0 → IsOwed merging count s t status
+  is_none : owed_by_node s merging ≡ None → count ≡ 0 → t ≡ s → status ≡ 2 → IsOwed merging count s t status

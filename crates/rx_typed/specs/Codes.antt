@@ -55,17 +55,17 @@ refusal_status MailLeft = 32
 abbrev pub key_of : RxNode → Key
 key_of n = record { slot = n.slot; number = n.number }
 
-abbrev pub node_of : Key → RxNode
-node_of k = record { slot = k.slot; number = k.number }
+abbrev pub node_numbered : Key → RxNode
+node_numbered k = record { slot = k.slot; number = k.number }
 
-abbrev pub res_of : ResKey → RxRes
-res_of k = record { slot = k.slot; number = k.number }
+abbrev pub resource_numbered : ResKey → RxRes
+resource_numbered k = record { slot = k.slot; number = k.number }
 
 abbrev pub res_key_of : RxRes → ResKey
 res_key_of r = record { slot = r.slot; number = r.number }
 
-abbrev pub lease_of : LeaseKey → RxLease
-lease_of k = record { slot = k.slot; number = k.number }
+abbrev pub lease_numbered : LeaseKey → RxLease
+lease_numbered k = record { slot = k.slot; number = k.number }
 
 abbrev pub lease_key_of : RxLease → LeaseKey
 lease_key_of l = record { slot = l.slot; number = l.number }
@@ -84,8 +84,8 @@ no_res = record { slot = 0; number = 0 }
 
 -- codes -------------------------------------------------------------------------------------------
 
-abbrev pub kind_of : ℕ → ℕ → Option Kind
-kind_of code hub = if code == 0 then Some Leaf else if code == 1 then Some Pass else if code == 2 then Some Flat else if code == 3 then Some Switch
+abbrev pub kind_by_code : ℕ → ℕ → Option Kind
+kind_by_code code hub = if code == 0 then Some Leaf else if code == 1 then Some Pass else if code == 2 then Some Flat else if code == 3 then Some Switch
     else if code == 4 then Some Until else if code == 5 then Some (Sub hub) else None
 
 abbrev pub place_at : ℕ → RxNode → Option At
@@ -93,23 +93,23 @@ place_at code above = if code == 0 then Some Root else if code == 1 then Some (S
     else if code == 3 then Some (Notifier (key_of above)) else None
 
 -- what is asked of an opening
-abbrev pub asked_of : ℕ → RxNode → ℕ → ℕ → Option (At × Kind)
-asked_of place above kind hub = option_and_then (λ at. option_map (λ k. (at, k)) (kind_of kind hub)) (place_at place above)
+abbrev pub opening_asked : ℕ → RxNode → ℕ → ℕ → Option (At × Kind)
+opening_asked place above kind hub = option_and_then (λ at. option_map (λ k. (at, k)) (kind_by_code kind hub)) (place_at place above)
 
-abbrev pub terminal_of : ℕ → ℕ → Option Terminal
-terminal_of code error = if code == 0 then Some Completed else if code == 1 then Some (Error error) else None
+abbrev pub terminal_by_code : ℕ → ℕ → Option Terminal
+terminal_by_code code error = if code == 0 then Some Completed else if code == 1 then Some (Error error) else None
 
-abbrev pub mode_of : ℕ → Option Mode
-mode_of code = if code == 0 then Some Auto else if code == 1 then Some Manual else None
+abbrev pub mode_by_code : ℕ → Option Mode
+mode_by_code code = if code == 0 then Some Auto else if code == 1 then Some Manual else None
 
 -- what is told ------------------------------------------------------------------------------------
 
 abbrev pub connected_of : RxNode → Option Key → RxOpened
 connected_of node None = record { node = node; connection = no_node; is_connected = 0 }
-connected_of node (Some k) = record { node = node; connection = node_of k; is_connected = 1 }
+connected_of node (Some k) = record { node = node; connection = node_numbered k; is_connected = 1 }
 
-abbrev pub opened_of : Opened → RxOpened
-opened_of o = connected_of (node_of o.key) o.connected
+abbrev pub opened_numbered : Opened → RxOpened
+opened_numbered o = connected_of (node_numbered o.key) o.connected
 
 abbrev pub no_used : RxUsing
 no_used = record { node = no_node; res = no_res }
@@ -123,8 +123,8 @@ note_of place to (Project value) = record { place = place; to = to; value = valu
 note_of place to (End Completed) = record { place = place; to = to; value = pos 0; kind = 2 }
 note_of place to (End (Error code)) = record { place = place; to = to; value = pos code; kind = 3 }
 
-abbrev pub mail_of : Mail → RxMail
-mail_of m = note_of m.place m.to m.note
+abbrev pub mail_numbered : Mail → RxMail
+mail_numbered m = note_of m.place m.to m.note
 
 abbrev pub no_mail : RxMail
 no_mail = record { place = 0; to = 0; value = pos 0; kind = 0 }
@@ -141,11 +141,11 @@ word_told word (Ok its) = word
 word_told word (Err why) = 0
 
 abbrev pub opened_told : Result Opened Refusal → RxOpened
-opened_told (Ok o) = opened_of o
+opened_told (Ok o) = opened_numbered o
 opened_told (Err why) = no_opened
 
 abbrev pub used_told : {T : Type 0} → Result OpenedUsing (Refused T) → RxUsing
-used_told (Ok o) = record { node = node_of o.key; res = res_of o.res }
+used_told (Ok o) = record { node = node_numbered o.key; res = resource_numbered o.res }
 used_told (Err refused) = no_used
 
 abbrev pub status_told : {A : Type 0} → Result A Refusal → ℕ
@@ -161,13 +161,13 @@ refused_told None = 0
 refused_told (Some why) = refusal_status why
 
 abbrev pub node_told : Result Key Refusal → RxNode
-node_told (Ok k) = node_of k
+node_told (Ok k) = node_numbered k
 node_told (Err why) = no_node
 
 abbrev pub lease_told : Result LeaseKey Refusal → RxLease
-lease_told (Ok k) = lease_of k
+lease_told (Ok k) = lease_numbered k
 lease_told (Err why) = no_lease
 
 abbrev pub res_told : {T : Type 0} → Result ResKey (Refused T) → RxRes
-res_told (Ok k) = res_of k
+res_told (Ok k) = resource_numbered k
 res_told (Err refused) = no_res

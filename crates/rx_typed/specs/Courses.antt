@@ -9,8 +9,8 @@ use Rattle.rx_event.specs.Notes.{notes}
 use Rattle.rx_book.specs.State.{State, IsPromised, accepted_tag, is_kept}
 use Rattle.rx_book.specs.declared.answer.At.{At}
 use Rattle.rx_resource.specs.declared.token.Token.{Token}
-use Rattle.rx_typed.specs.Codes.{mail_of}
-use Rattle.rx_typed.specs.Calls.{IsClosed, IsCheckpoint, IsTakenWhole}
+use Rattle.rx_typed.specs.Codes.{mail_numbered}
+use Rattle.rx_typed.specs.Calls.{IsClosed, IsCheckpointAnswered, IsTakenWhole}
 use Rattle.rx_typed.specs.Drained.{IsDrainedCall}
 use Rattle.rx_typed.specs.declared.shapes.RxMail.{RxMail}
 use Rattle.rx_typed.specs.declared.shapes.RxTaken.{RxTaken}
@@ -81,7 +81,7 @@ pub data Course (g : Ghosts Token) (s : State) : List Act → State → Type 0 w
   calls : {acts more : List Act} {t u : State} → Course g s acts t → IsCall g t more u → IsPromised u → Course g s (acts ++ more) u
   drains : {acts : List Act} {t u : State} {mails mails' : List RxMail} {takens takens' : List RxTaken} {drained : RxDrained} → Course g s acts t
       → IsDrainedCall g mails mails' takens takens' drained t u → IsPromised u → Course g s (acts ++ all_drained mails' takens' drained) u
-  checkpoints : {acts : List Act} {t u : State} {place status : ℕ} → Course g s acts t → IsCheckpoint place t u status → IsPromised u
+  checkpoints : {acts : List Act} {t u : State} {place status : ℕ} → Course g s acts t → IsCheckpointAnswered place t u status → IsPromised u
       → Course g s acts u
 
 -- resources ---------------------------------------------------------------------------------------
@@ -92,13 +92,13 @@ with_entry entry number held n = if number == n then entry else held n
 
 -- what is held by number before and after such acts: a resource is handed in under a number that is not held, and handed back while
 -- it is, with the tag that it came with
-pub data Leads : (ℕ → Option ℕ) → List Act → (ℕ → Option ℕ) → Type 0 where
-  no_act : {held last : ℕ → Option ℕ} → ((n : ℕ) → last n ≡ held n) → Leads held [] last
+pub data LeadsResources : (ℕ → Option ℕ) → List Act → (ℕ → Option ℕ) → Type 0 where
+  no_act : {held last : ℕ → Option ℕ} → ((n : ℕ) → last n ≡ held n) → LeadsResources held [] last
   comes : {held last : ℕ → Option ℕ} {acts : List Act} (x : RxTaken) → held x.number ≡ None
-      → Leads (with_entry (Some x.tag) x.number held) acts last → Leads held (handed_in x ∷ acts) last
+      → LeadsResources (with_entry (Some x.tag) x.number held) acts last → LeadsResources held (handed_in x ∷ acts) last
   goes : {held last : ℕ → Option ℕ} {acts : List Act} (x : RxTaken) → held x.number ≡ Some x.tag
-      → Leads (with_entry None x.number held) acts last → Leads held (handed_back x ∷ acts) last
-  tells : {held last : ℕ → Option ℕ} {acts : List Act} (mail : RxMail) → Leads held acts last → Leads held (told mail ∷ acts) last
+      → LeadsResources (with_entry None x.number held) acts last → LeadsResources held (handed_back x ∷ acts) last
+  tells : {held last : ℕ → Option ℕ} {acts : List Act} (mail : RxMail) → LeadsResources held acts last → LeadsResources held (told mail ∷ acts) last
 
 -- the tag of a resource's acceptance, where it was not taken yet
 abbrev pub tag_in : State → ℕ → Option ℕ
@@ -107,7 +107,7 @@ tag_in s r = if is_kept s.history r then option_and_then accepted_tag (accepted_
 -- of any calls from a new book until each resource was taken: each that was handed in is handed back once, with its tag, and no other
 abbrev pub AreHandedBackOnce : (g : Ghosts Token) → Type 0
 AreHandedBackOnce g = (max_events : ℕ) (acts : List Act) (t : State) → IsPromised (new_book max_events)
-    → Course g (new_book max_events) acts t → IsTakenWhole t → Leads (λ n. None) acts (λ n. None)
+    → Course g (new_book max_events) acts t → IsTakenWhole t → LeadsResources (λ n. None) acts (λ n. None)
 
 -- notes -------------------------------------------------------------------------------------------
 
@@ -120,7 +120,7 @@ notes_told (handed_back x ∷ acts) = notes_told acts
 
 -- those that a call added to the book's
 abbrev pub notes_between : (s t : State) → List RxMail
-notes_between s t = map mail_of (drop (length (notes s.history)) (notes t.history))
+notes_between s t = map mail_numbered (drop (length (notes s.history)) (notes t.history))
 
 -- the notes of all events, in order
 abbrev pub notes_made : {g : Ghosts Token} {s t : State} {acts : List Act} → Course g s acts t → List RxMail
@@ -131,7 +131,7 @@ notes_made (checkpoints before made kept) = notes_made before
 
 -- those that are still to be told
 abbrev pub notes_left : State → List RxMail
-notes_left s = map mail_of (drop s.given (notes s.history))
+notes_left s = map mail_numbered (drop s.given (notes s.history))
 
 -- of any calls from a new book: the notes that were told, and those that are left, are the notes of all events, each once and in order
 abbrev pub AreNotesToldOnce : (g : Ghosts Token) → Type 0

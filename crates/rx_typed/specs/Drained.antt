@@ -25,8 +25,8 @@ abbrev pub HasNoMail : State → Type 0
 HasNoMail s = slice_get (notes s.history) s.given ≡ None
 
 -- no resource waits
-abbrev pub HasNone : State → Type 0
-HasNone s = s.waiting ≡ []
+abbrev pub HasNoneWaiting : State → Type 0
+HasNoneWaiting s = s.waiting ≡ []
 
 -- they stand at the front of the array, the rest of it is as before, and where they do not fill it none is left
 pub record IsDrained {X : Type 0} (Takes : List X → State → Type 0) (HasNone : State → Type 0) (array array' : List X) (count : ℕ) (t : State) : Type 0 where
@@ -40,7 +40,7 @@ pub record IsDrained {X : Type 0} (Takes : List X → State → Type 0) (HasNone
 pub record IsDrainedCall (g : Ghosts Token) (mails mails' : List RxMail) (takens takens' : List RxTaken) (drained : RxDrained) (s t : State) : Type 0 where
   pub mid : State
   pub told : IsDrained (AreMailsTaken s) HasNoMail mails mails' drained.mails mid
-  pub taken : IsDrained (AreTaken g mid) HasNone takens takens' drained.resources t
+  pub taken : IsDrained (AreTaken g mid) HasNoneWaiting takens takens' drained.resources t
 
 abbrev pub no_drained : RxDrained
 no_drained = record { mails = 0; resources = 0 }

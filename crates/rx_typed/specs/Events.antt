@@ -56,6 +56,6 @@ event_of (Close node) = record no_event { what = 11; of = node }
 event_of (Take res) = record no_event { what = 12; of = res }
 
 -- the event at a place, or that there is none since the last checkpoint
-pub data IsEventTold (place : ℕ) (event : RxEvent) (s t : State) (status : ℕ) : Type 0 where
-  tells_event : {e : Event} → event_since s.base s.history place ≡ Some e → event ≡ event_of e → t ≡ s → status ≡ 0 → IsEventTold place event s t status
-  has_no_event : event_since s.base s.history place ≡ None → event ≡ no_event → t ≡ s → status ≡ 2 → IsEventTold place event s t status
+pub data IsEventSince (place : ℕ) (event : RxEvent) (s t : State) (status : ℕ) : Type 0 where
+  tells_event : {e : Event} → event_since s.base s.history place ≡ Some e → event ≡ event_of e → t ≡ s → status ≡ 0 → IsEventSince place event s t status
+  has_no_event : event_since s.base s.history place ≡ None → event ≡ no_event → t ≡ s → status ≡ 2 → IsEventSince place event s t status

@@ -15,7 +15,7 @@ abbrev pub drained_of : RxTold → RxDrained
 drained_of told = record { mails = told.mails; resources = told.resources }
 
 -- what waits, and the place is as before
-pub record IsTold (g : Ghosts Token) (told told' : RxTold) (s t : State) : Type 0 where
+pub record IsWaitingTold (g : Ghosts Token) (told told' : RxTold) (s t : State) : Type 0 where
   pub drains : IsDrainedCall g told.mail told'.mail told.resource told'.resource (drained_of told') s t
   pub place : told'.place ≡ told.place
 

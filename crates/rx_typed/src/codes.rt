@@ -1,14 +1,14 @@
 //! What a number of a call stands for.
 
 ghost use Rattle.std.specs.Prelude.{◌≡◌};
-ghost use Rattle.rx_typed.specs.Codes.{asked_of, kind_of, place_at, terminal_of, mode_of};
+ghost use Rattle.rx_typed.specs.Codes.{opening_asked, kind_by_code, place_at, terminal_by_code, mode_by_code};
 
 use crate::shapes::{RxNode, key_of};
 use rx_book::{At, Kind, Mode, Terminal};
 
 /// The kind of this code: 0 leaf, 1 pass, 2 flat, 3 switch, 4 until, 5 a subscriber of the hub.
 pub fn kind_of(code: u8, hub: u64) -> Option<Kind>
-    ensures { result ≡ kind_of code hub }
+    ensures { result ≡ kind_by_code code hub }
 {
     match code {
         0 => Some(Kind::Leaf),
@@ -36,7 +36,7 @@ pub fn place_at(code: u8, above: RxNode) -> Option<At>
 
 /// How a leaf ends: 0 completed, 1 with the error of this code.
 pub fn terminal_of(code: u8, error: u32) -> Option<Terminal>
-    ensures { result ≡ terminal_of code error }
+    ensures { result ≡ terminal_by_code code error }
 {
     match code {
         0 => Some(Terminal::Completed),
@@ -47,7 +47,7 @@ pub fn terminal_of(code: u8, error: u32) -> Option<Terminal>
 
 /// How a hub is connected: 0 by its subscribers, 1 by hand.
 pub fn mode_of(code: u8) -> Option<Mode>
-    ensures { result ≡ mode_of code }
+    ensures { result ≡ mode_by_code code }
 {
     match code {
         0 => Some(Mode::Auto),
@@ -58,7 +58,7 @@ pub fn mode_of(code: u8) -> Option<Mode>
 
 /// A place and a kind, by their codes.
 pub fn asked(place: u8, above: RxNode, kind: u8, hub: u64) -> Option<(At, Kind)>
-    ensures { result ≡ asked_of place above kind hub }
+    ensures { result ≡ opening_asked place above kind hub }
 {
     let at = place_at(place, above)?;
     let kind = kind_of(kind, hub)?;

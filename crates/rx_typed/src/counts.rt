@@ -1,6 +1,6 @@
 //! Questions.
 
-ghost use Rattle.rx_typed.specs.Calls.{IsAsked, IsAskedHeld, IsOwed, IsCounted};
+ghost use Rattle.rx_typed.specs.Calls.{IsAsked, IsAskedHeld, IsOwed, AreCountsTold};
 
 use crate::Typed;
 use crate::shapes::{RxCounts, RxNode, RxRes, key_of, res_key_of};
@@ -49,7 +49,7 @@ impl Typed {
 
     /// What there is.
     pub fn count(&mut self, counts: &mut RxCounts) -> u8
-        ensures { IsCounted counts.new self.old.book self.new.book result }
+        ensures { AreCountsTold counts.new self.old.book self.new.book result }
     {
         *counts = RxCounts {
             nodes: self.book.open_count(),

@@ -1,8 +1,8 @@
 //! All that is told and all that is to be released, in one call.
 
-ghost use Rattle.rx_typed.specs.Drained.{IsDrained, AreMailsTaken, AreTaken, IsDrainedCall, HasNoMail, HasNone};
+ghost use Rattle.rx_typed.specs.Drained.{IsDrained, AreMailsTaken, AreTaken, IsDrainedCall, HasNoMail, HasNoneWaiting};
 
-use crate::shapes::{RxDrained, RxMail, RxTaken, mail_of};
+use crate::shapes::{RxDrained, RxMail, RxTaken, mail_numbered};
 use rx_book::{Book, Resource};
 use rx_resource::Token;
 
@@ -14,7 +14,7 @@ fn drain_mails(book: &mut Book<Token>, mails: &mut [RxMail]) -> usize
     while count < mails.len() {
         match book.take_mail() {
             Some(mail) => {
-                mails[count] = mail_of(mail);
+                mails[count] = mail_numbered(mail);
                 count += 1;
             }
             None => return count,
@@ -25,7 +25,7 @@ fn drain_mails(book: &mut Book<Token>, mails: &mut [RxMail]) -> usize
 
 // Takes resources to the front of the array, until it is full or none waits.
 fn drain_resources(book: &mut Book<Token>, resources: &mut [RxTaken]) -> usize
-    ensures { IsDrained (AreTaken ⟦<Token as Resource>⟧ book.old) HasNone resources.old resources.new result book.new }
+    ensures { IsDrained (AreTaken ⟦<Token as Resource>⟧ book.old) HasNoneWaiting resources.old resources.new result book.new }
 {
     let mut count = 0;
     while count < resources.len() {

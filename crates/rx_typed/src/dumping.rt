@@ -2,7 +2,7 @@
 
 ghost use Rattle.std.specs.Prelude.{◌≡◌, ◌≢◌, true, false, string_bytes, IfOk, MatchOption};
 ghost use Rattle.rx_dump.specs.Dump.{dump};
-ghost use Rattle.rx_typed.specs.Events.{IsEventTold, event_of, no_event, place_code, kind_code, opened_event, ended_event};
+ghost use Rattle.rx_typed.specs.Events.{IsEventSince, event_of, no_event, place_code, kind_code, opened_event, ended_event};
 
 use crate::Typed;
 use crate::shapes::RxEvent;
@@ -126,7 +126,7 @@ pub fn event_of(event: Event) -> RxEvent
 impl Typed {
     /// The event at a place, if it is one since the last checkpoint.
     pub fn event(&mut self, place: u64, event: &mut RxEvent) -> u8
-        ensures { IsEventTold place event.new self.old.book self.new.book result }
+        ensures { IsEventSince place event.new self.old.book self.new.book result }
     {
         match self.book.event(place) {
             Some(there) => {

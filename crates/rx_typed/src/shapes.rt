@@ -1,8 +1,8 @@
 //! What crosses to another language, and what it stands for.
 
 ghost use Rattle.std.specs.Prelude.{◌≡◌};
-ghost use Rattle.rx_typed.specs.Codes.{key_of, node_of, res_of, res_key_of, lease_of, lease_key_of, no_node, no_res, no_lease, no_taken};
-ghost use Rattle.rx_typed.specs.Codes.{mail_of, no_mail, opened_of, no_used, no_opened};
+ghost use Rattle.rx_typed.specs.Codes.{key_of, node_numbered, resource_numbered, res_key_of, lease_numbered, lease_key_of, no_node, no_res, no_lease, no_taken};
+ghost use Rattle.rx_typed.specs.Codes.{mail_numbered, no_mail, opened_numbered, no_used, no_opened};
 
 use rx_book::{Key, LeaseKey, Mail, Note, Opened, ResKey, Terminal};
 
@@ -195,7 +195,7 @@ pub fn key_of(node: RxNode) -> Key
 
 /// The key for the caller.
 pub fn node_of(key: Key) -> RxNode
-    ensures { result ≡ node_of key }
+    ensures { result ≡ node_numbered key }
 {
     RxNode {
         slot: key.slot,
@@ -204,8 +204,8 @@ pub fn node_of(key: Key) -> RxNode
 }
 
 /// The resource's key for the caller.
-pub fn res_of(res: ResKey) -> RxRes
-    ensures { result ≡ res_of res }
+pub fn resource_numbered(res: ResKey) -> RxRes
+    ensures { result ≡ resource_numbered res }
 {
     RxRes {
         slot: res.slot,
@@ -224,8 +224,8 @@ pub fn res_key_of(res: RxRes) -> ResKey
 }
 
 /// The lease's key for the caller.
-pub fn lease_of(lease: LeaseKey) -> RxLease
-    ensures { result ≡ lease_of lease }
+pub fn lease_numbered(lease: LeaseKey) -> RxLease
+    ensures { result ≡ lease_numbered lease }
 {
     RxLease {
         slot: lease.slot,
@@ -244,8 +244,8 @@ pub fn lease_key_of(lease: RxLease) -> LeaseKey
 }
 
 /// What was opened, for the caller.
-pub fn opened_of(opened: Opened) -> RxOpened
-    ensures { result ≡ opened_of opened }
+pub fn opened_numbered(opened: Opened) -> RxOpened
+    ensures { result ≡ opened_numbered opened }
 {
     match opened.connected {
         Some(connection) => RxOpened {
@@ -262,8 +262,8 @@ pub fn opened_of(opened: Opened) -> RxOpened
 }
 
 /// The note for the caller.
-pub fn mail_of(mail: Mail) -> RxMail
-    ensures { result ≡ mail_of mail }
+pub fn mail_numbered(mail: Mail) -> RxMail
+    ensures { result ≡ mail_numbered mail }
 {
     let (kind, value) = match mail.note {
         Note::Next(value) => (0, value),

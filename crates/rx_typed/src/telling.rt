@@ -2,7 +2,7 @@
 
 ghost use Rattle.std.specs.Prelude.{◌≡◌};
 ghost use Rattle.rx_book.specs.State.{IsPromised};
-ghost use Rattle.rx_typed.specs.Told.{IsTold, IsThenTold, no_told};
+ghost use Rattle.rx_typed.specs.Told.{IsWaitingTold, IsThenTold, no_told};
 ghost use Rattle.rx_typed.specs.Calls.{IsNext, IsEnd, IsDispose, IsAbort, IsFail, IsDecline, IsDisconnect, IsRemove, IsGiveBack};
 ghost use Rattle.rx_typed.specs.Calls.{IsOpen, IsUsing};
 
@@ -26,7 +26,7 @@ impl RxTold {
 impl Typed {
     /// Drains into the arrays. The book's promise before that is told with it.
     pub fn tell(&mut self, told: &mut RxTold)
-        ensures told { IsTold ⟦<Token as Resource>⟧ told.old told.new self.old.book self.new.book }
+        ensures told { IsWaitingTold ⟦<Token as Resource>⟧ told.old told.new self.old.book self.new.book }
         ensures promised { IsPromised self.old.book }
     {
         self.promise();

@@ -3,13 +3,13 @@
 ghost use Rattle.std.specs.Prelude.{◌≡◌, ◌≤◌, false, IsTrue};
 ghost use Rattle.rx_book.specs.State.{IsPromised};
 ghost use Rattle.rx_typed.specs.Calls.{new_book, IsNextAll, IsClosed, IsTakenWhole, IsUntaken};
-ghost use Rattle.rx_typed.specs.Calls.{IsNext, IsEnd, IsDispose, IsAbort, IsFail, IsDecline, IsMailTaken, IsTaken, IsCheckpoint};
+ghost use Rattle.rx_typed.specs.Calls.{IsNext, IsEnd, IsDispose, IsAbort, IsFail, IsDecline, IsMailTaken, IsTaken, IsCheckpointAnswered};
 ghost use Rattle.rx_typed.specs.Calls.{IsOpen, IsUsing, IsHold, IsHub, IsConnect, IsDisconnect, IsApply, IsRemove, IsLease, IsGiveBack};
 
 use crate::shapes::{
-    RxLease, RxMail, RxNode, RxOpened, RxRes, RxTaken, RxUsing, key_of, lease_key_of, lease_of,
-    mail_of, no_lease, no_mail, no_node, no_opened, no_res, no_taken, no_used, node_of, opened_of,
-    res_key_of, res_of,
+    RxLease, RxMail, RxNode, RxOpened, RxRes, RxTaken, RxUsing, key_of, lease_key_of,
+    lease_numbered, mail_numbered, no_lease, no_mail, no_node, no_opened, no_res, no_taken,
+    no_used, node_of, opened_numbered, res_key_of, resource_numbered,
 };
 use crate::status::{DONE, NOTHING_WAITS, status_of};
 use crate::told::place_told;
@@ -80,7 +80,7 @@ impl Typed {
     {
         match self.book.open(at, kind) {
             Ok(made) => {
-                *opened = opened_of(made);
+                *opened = opened_numbered(made);
                 DONE
             }
             Err(why) => {
@@ -98,7 +98,7 @@ impl Typed {
             Ok(made) => {
                 *used = RxUsing {
                     node: node_of(made.key),
-                    res: res_of(made.res),
+                    res: resource_numbered(made.res),
                 };
                 DONE
             }
@@ -115,7 +115,7 @@ impl Typed {
     {
         match self.book.take_mail() {
             Some(next) => {
-                *mail = mail_of(next);
+                *mail = mail_numbered(next);
                 DONE
             }
             None => {
@@ -151,7 +151,7 @@ impl Typed {
     {
         match self.book.hold(key_of(node), Token::new(tag)) {
             Ok(res) => {
-                *held = res_of(res);
+                *held = resource_numbered(res);
                 DONE
             }
             Err(refused) => {
@@ -241,7 +241,7 @@ impl Typed {
     {
         match self.book.lease(res_key_of(res)) {
             Ok(key) => {
-                *lease = lease_of(key);
+                *lease = lease_numbered(key);
                 DONE
             }
             Err(why) => {
@@ -277,7 +277,7 @@ impl Typed {
 
     /// What the history leaves stands in its place.
     pub fn checkpoint(&mut self, place: &mut u64) -> u8
-        ensures { IsCheckpoint place.new self.old.book self.new.book result }
+        ensures { IsCheckpointAnswered place.new self.old.book self.new.book result }
     {
         place_told(self.book.checkpoint(), place)
     }

@@ -1,7 +1,7 @@
 //! Questions.
 
 ghost use Rattle.std.specs.Prelude.{◌≡◌};
-ghost use Rattle.rx_typed.specs.Calls.{IsCalled, IsAsked, IsAskedHeld, IsOwed, IsCounted, no_counts, book_of};
+ghost use Rattle.rx_typed.specs.Calls.{IsBookCalled, IsAsked, IsAskedHeld, IsOwed, AreCountsTold, zero_counts, book_of};
 
 use super::{BookHandle, on_book};
 use rx_typed::{RxCounts, RxNode, RxRes};
@@ -15,7 +15,7 @@ pub extern "C" fn rx_book_is_open(
     node: RxNode,
     is_open: &mut u8,
 ) -> u8
-    ensures { IsCalled (IsAsked node is_open.new) (is_open.new ≡ 0)
+    ensures { IsBookCalled (IsAsked node is_open.new) (is_open.new ≡ 0)
         (book_of handle.old.kept) (book_of handle.new.kept) result }
 {
     on_book!(alloc, handle: ask(node, is_open) else *is_open = 0)
@@ -29,7 +29,7 @@ pub extern "C" fn rx_book_is_held(
     res: RxRes,
     is_held: &mut u8,
 ) -> u8
-    ensures { IsCalled (IsAskedHeld res is_held.new) (is_held.new ≡ 0)
+    ensures { IsBookCalled (IsAskedHeld res is_held.new) (is_held.new ≡ 0)
         (book_of handle.old.kept) (book_of handle.new.kept) result }
 {
     on_book!(alloc, handle: ask_held(res, is_held) else *is_held = 0)
@@ -44,7 +44,7 @@ pub extern "C" fn rx_book_owed(
     merging: RxNode,
     count: &mut u64,
 ) -> u8
-    ensures { IsCalled (IsOwed merging count.new) (count.new ≡ 0)
+    ensures { IsBookCalled (IsOwed merging count.new) (count.new ≡ 0)
         (book_of handle.old.kept) (book_of handle.new.kept) result }
 {
     on_book!(alloc, handle: owed(merging, count) else *count = 0)
@@ -57,7 +57,7 @@ pub extern "C" fn rx_book_counts(
     handle: &mut BookHandle,
     counts: &mut RxCounts,
 ) -> u8
-    ensures { IsCalled (IsCounted counts.new) (counts.new ≡ no_counts)
+    ensures { IsBookCalled (AreCountsTold counts.new) (counts.new ≡ zero_counts)
         (book_of handle.old.kept) (book_of handle.new.kept) result }
 {
     on_book!(alloc, handle: count(counts) else *counts = RxCounts {

@@ -2,7 +2,7 @@
 
 ghost use Rattle.std.specs.Prelude.{◌≡◌};
 ghost use Rattle.rx_typed.specs.Drained.{IsDrainedCall, no_drained};
-ghost use Rattle.rx_typed.specs.Calls.{IsCalled, IsMailTaken, IsTaken, book_of};
+ghost use Rattle.rx_typed.specs.Calls.{IsBookCalled, IsMailTaken, IsTaken, book_of};
 ghost use Rattle.rx_typed.specs.Codes.{no_mail, no_taken};
 
 use super::{BookHandle, on_book};
@@ -13,7 +13,7 @@ use std::alloc::Global;
 /// The next note.
 #[unsafe(no_mangle)]
 pub extern "C" fn rx_book_take_mail(alloc: Global, handle: &mut BookHandle, mail: &mut RxMail) -> u8
-    ensures { IsCalled (IsMailTaken mail.new) (mail.new ≡ no_mail)
+    ensures { IsBookCalled (IsMailTaken mail.new) (mail.new ≡ no_mail)
         (book_of handle.old.kept) (book_of handle.new.kept) result }
 {
     on_book!(alloc, handle: take_mail(mail) else *mail = no_mail())
@@ -22,7 +22,7 @@ pub extern "C" fn rx_book_take_mail(alloc: Global, handle: &mut BookHandle, mail
 /// A resource that waits, which the caller is to release now.
 #[unsafe(no_mangle)]
 pub extern "C" fn rx_book_take(alloc: Global, handle: &mut BookHandle, taken: &mut RxTaken) -> u8
-    ensures { IsCalled (IsTaken ⟦<Token as Resource>⟧ taken.new) (taken.new ≡ no_taken)
+    ensures { IsBookCalled (IsTaken ⟦<Token as Resource>⟧ taken.new) (taken.new ≡ no_taken)
         (book_of handle.old.kept) (book_of handle.new.kept) result }
 {
     on_book!(alloc, handle: take(taken) else *taken = no_taken())
@@ -38,7 +38,7 @@ pub extern "C" fn rx_book_drain(
     resources: &mut [RxTaken],
     drained: &mut RxDrained,
 ) -> u8
-    ensures { IsCalled (λ s t status. IsDrainedCall ⟦<Token as Resource>⟧
+    ensures { IsBookCalled (λ s t status. IsDrainedCall ⟦<Token as Resource>⟧
         mails.old mails.new resources.old resources.new drained.new s t × (status ≡ 0))
         ((drained.new ≡ no_drained) × (mails.new ≡ mails.old) × (resources.new ≡ resources.old))
         (book_of handle.old.kept) (book_of handle.new.kept) result }

@@ -1,10 +1,10 @@
 //! The history so far: an event of it, or all of it as a dump.
 
 ghost use Rattle.std.specs.Prelude.{◌≡◌};
-ghost use Rattle.rx_typed.specs.Calls.{IsCalled, book_of};
-ghost use Rattle.rx_typed.specs.Events.{IsEventTold, no_event};
-ghost use Rattle.rx_c.specs.Answers.{IsSilent};
-ghost use Rattle.rx_c.specs.Dumped.{IsDumped, IsHandedOver};
+ghost use Rattle.rx_typed.specs.Calls.{IsBookCalled, book_of};
+ghost use Rattle.rx_typed.specs.Events.{IsEventSince, no_event};
+ghost use Rattle.rx_c.specs.Answers.{TellsNoText};
+ghost use Rattle.rx_c.specs.Dumped.{IsDumped, IsDumpHandedOver};
 
 use super::{BookHandle, on_book};
 use crate::handing::fits;
@@ -19,7 +19,7 @@ pub extern "C" fn rx_book_event(
     place: u64,
     event: &mut RxEvent,
 ) -> u8
-    ensures { IsCalled (IsEventTold place event.new) (event.new ≡ no_event)
+    ensures { IsBookCalled (IsEventSince place event.new) (event.new ≡ no_event)
         (book_of handle.old.kept) (book_of handle.new.kept) result }
 {
     on_book!(alloc, handle: event(place, event) else *event = no_event())
@@ -27,7 +27,7 @@ pub extern "C" fn rx_book_event(
 
 // Writes the dump to the front of the buffer.
 fn dump_to(kept: &Typed, alloc: Global, buffer: &mut [u8], told: &mut usize) -> u8
-    ensures { IsHandedOver kept.now.book buffer.old buffer.new told.new result }
+    ensures { IsDumpHandedOver kept.now.book buffer.old buffer.new told.new result }
 {
     *told = 0;
     match kept.dump(alloc) {
@@ -55,7 +55,7 @@ pub extern "C" fn rx_book_dump(
     buffer: &mut [u8],
     told: &mut usize,
 ) -> u8
-    ensures { IsCalled (IsDumped buffer.old buffer.new told.new) (IsSilent buffer.old buffer.new told.new)
+    ensures { IsBookCalled (IsDumped buffer.old buffer.new told.new) (TellsNoText buffer.old buffer.new told.new)
         (book_of handle.old.kept) (book_of handle.new.kept) result }
 {
     let Some(kept) = handle.take(alloc) else {

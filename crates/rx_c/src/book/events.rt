@@ -1,9 +1,9 @@
 //! Items, ends and unsubscriptions.
 
 ghost use Rattle.std.specs.Prelude.{◌≡◌};
-ghost use Rattle.rx_typed.specs.Calls.{IsCalled, IsDecoded, IsNext, IsNextAll, IsEnd};
+ghost use Rattle.rx_typed.specs.Calls.{IsBookCalled, IsDecoded, IsNext, IsNextAll, IsEnd};
 ghost use Rattle.rx_typed.specs.Calls.{IsAbort, IsFail, IsDecline, IsDispose, book_of};
-ghost use Rattle.rx_typed.specs.Codes.{terminal_of};
+ghost use Rattle.rx_typed.specs.Codes.{terminal_by_code};
 
 use super::{BookHandle, on_book};
 use rx_typed::{RxNode, terminal_of};
@@ -18,7 +18,7 @@ pub extern "C" fn rx_book_next(
     value: i64,
     place: &mut u64,
 ) -> u8
-    ensures { IsCalled (IsNext leaf value place.new) (place.new ≡ 0)
+    ensures { IsBookCalled (IsNext leaf value place.new) (place.new ≡ 0)
         (book_of handle.old.kept) (book_of handle.new.kept) result }
 {
     on_book!(alloc, handle: next(leaf, value, place) else *place = 0)
@@ -34,7 +34,7 @@ pub extern "C" fn rx_book_next_all(
     values: &[i64],
     count: &mut usize,
 ) -> u8
-    ensures { IsCalled (IsNextAll leaf values.now count.new) (count.new ≡ 0)
+    ensures { IsBookCalled (IsNextAll leaf values.now count.new) (count.new ≡ 0)
         (book_of handle.old.kept) (book_of handle.new.kept) result }
 {
     on_book!(alloc, handle: next_all(leaf, values, count) else *count = 0)
@@ -49,7 +49,7 @@ pub extern "C" fn rx_book_abort(
     error: u32,
     place: &mut u64,
 ) -> u8
-    ensures { IsCalled (IsAbort node error place.new) (place.new ≡ 0)
+    ensures { IsBookCalled (IsAbort node error place.new) (place.new ≡ 0)
         (book_of handle.old.kept) (book_of handle.new.kept) result }
 {
     on_book!(alloc, handle: abort(node, error, place) else *place = 0)
@@ -64,7 +64,7 @@ pub extern "C" fn rx_book_fail(
     error: u32,
     place: &mut u64,
 ) -> u8
-    ensures { IsCalled (IsFail merging error place.new) (place.new ≡ 0)
+    ensures { IsBookCalled (IsFail merging error place.new) (place.new ≡ 0)
         (book_of handle.old.kept) (book_of handle.new.kept) result }
 {
     on_book!(alloc, handle: fail(merging, error, place) else *place = 0)
@@ -78,7 +78,7 @@ pub extern "C" fn rx_book_decline(
     merging: RxNode,
     place: &mut u64,
 ) -> u8
-    ensures { IsCalled (IsDecline merging place.new) (place.new ≡ 0)
+    ensures { IsBookCalled (IsDecline merging place.new) (place.new ≡ 0)
         (book_of handle.old.kept) (book_of handle.new.kept) result }
 {
     on_book!(alloc, handle: decline(merging, place) else *place = 0)
@@ -92,7 +92,7 @@ pub extern "C" fn rx_book_dispose(
     root: RxNode,
     place: &mut u64,
 ) -> u8
-    ensures { IsCalled (IsDispose root place.new) (place.new ≡ 0)
+    ensures { IsBookCalled (IsDispose root place.new) (place.new ≡ 0)
         (book_of handle.old.kept) (book_of handle.new.kept) result }
 {
     on_book!(alloc, handle: dispose(root, place) else *place = 0)
@@ -108,8 +108,8 @@ pub extern "C" fn rx_book_end(
     error: u32,
     place: &mut u64,
 ) -> u8
-    ensures { IsDecoded (terminal_of how error)
-        (λ terminal. IsCalled (IsEnd leaf terminal place.new) (place.new ≡ 0) (book_of handle.old.kept)
+    ensures { IsDecoded (terminal_by_code how error)
+        (λ terminal. IsBookCalled (IsEnd leaf terminal place.new) (place.new ≡ 0) (book_of handle.old.kept)
         (book_of handle.new.kept))
         ((book_of handle.new.kept ≡ book_of handle.old.kept) × (place.new ≡ 0)) result }
 {

@@ -3,7 +3,7 @@
 ghost use Rattle.std.specs.Prelude.{◌≡◌, Option, None, Some, MatchOption};
 ghost use Rattle.std.specs.Coded.{coded_option};
 ghost use Rattle.rx_book.specs.State.{IsPromised};
-ghost use Rattle.rx_c.specs.Ownership.{handle_owns};
+ghost use Rattle.rx_c.specs.Ownership.{owns_unless_null};
 ghost use Rattle.rx_typed.specs.declared.typed.Typed.{Typed};
 ghost use Rattle.rx_typed.specs.contracts.typed.Typed.{the_row};
 
@@ -25,7 +25,7 @@ pub struct BookHandle {
 }
 
 impl Model for BookHandle {
-    ghost also_owns = { λ h. handle_owns the_row h.at h.kept };
+    ghost also_owns = { λ h. owns_unless_null the_row h.at h.kept };
 }
 
 // It may go to another thread: `proofs/book/handle/BookHandle/TheSendSync/Send.antt` shows it.

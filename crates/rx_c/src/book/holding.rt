@@ -1,7 +1,7 @@
 //! Resources and leases.
 
 ghost use Rattle.std.specs.Prelude.{◌≡◌};
-ghost use Rattle.rx_typed.specs.Calls.{IsCalled, IsHold, IsApply, IsRemove, IsLease, IsGiveBack, book_of};
+ghost use Rattle.rx_typed.specs.Calls.{IsBookCalled, IsHold, IsApply, IsRemove, IsLease, IsGiveBack, book_of};
 ghost use Rattle.rx_typed.specs.Codes.{no_res, no_lease};
 
 use super::{BookHandle, on_book};
@@ -18,7 +18,7 @@ pub extern "C" fn rx_book_hold(
     tag: u64,
     held: &mut RxRes,
 ) -> u8
-    ensures { IsCalled (IsHold ⟦<Token as Resource>⟧ node tag held.new) (held.new ≡ no_res)
+    ensures { IsBookCalled (IsHold ⟦<Token as Resource>⟧ node tag held.new) (held.new ≡ no_res)
         (book_of handle.old.kept) (book_of handle.new.kept) result }
 {
     on_book!(alloc, handle: hold(node, tag, held) else *held = no_res())
@@ -33,7 +33,7 @@ pub extern "C" fn rx_book_apply(
     word: u64,
     answer: &mut u64,
 ) -> u8
-    ensures { IsCalled (IsApply res word answer.new) (answer.new ≡ 0)
+    ensures { IsBookCalled (IsApply res word answer.new) (answer.new ≡ 0)
         (book_of handle.old.kept) (book_of handle.new.kept) result }
 {
     on_book!(alloc, handle: apply(res, word, answer) else *answer = 0)
@@ -47,7 +47,7 @@ pub extern "C" fn rx_book_remove(
     res: RxRes,
     place: &mut u64,
 ) -> u8
-    ensures { IsCalled (IsRemove res place.new) (place.new ≡ 0)
+    ensures { IsBookCalled (IsRemove res place.new) (place.new ≡ 0)
         (book_of handle.old.kept) (book_of handle.new.kept) result }
 {
     on_book!(alloc, handle: remove(res, place) else *place = 0)
@@ -61,7 +61,7 @@ pub extern "C" fn rx_book_lease(
     res: RxRes,
     lease: &mut RxLease,
 ) -> u8
-    ensures { IsCalled (IsLease res lease.new) (lease.new ≡ no_lease)
+    ensures { IsBookCalled (IsLease res lease.new) (lease.new ≡ no_lease)
         (book_of handle.old.kept) (book_of handle.new.kept) result }
 {
     on_book!(alloc, handle: lease(res, lease) else *lease = no_lease())
@@ -75,7 +75,7 @@ pub extern "C" fn rx_book_give_back(
     lease: RxLease,
     place: &mut u64,
 ) -> u8
-    ensures { IsCalled (IsGiveBack lease place.new) (place.new ≡ 0)
+    ensures { IsBookCalled (IsGiveBack lease place.new) (place.new ≡ 0)
         (book_of handle.old.kept) (book_of handle.new.kept) result }
 {
     on_book!(alloc, handle: give_back(lease, place) else *place = 0)

@@ -1,8 +1,8 @@
 //! Hubs.
 
 ghost use Rattle.std.specs.Prelude.{◌≡◌};
-ghost use Rattle.rx_typed.specs.Calls.{IsCalled, IsDecoded, IsHub, IsConnect, IsDisconnect, book_of};
-ghost use Rattle.rx_typed.specs.Codes.{mode_of, no_node};
+ghost use Rattle.rx_typed.specs.Calls.{IsBookCalled, IsDecoded, IsHub, IsConnect, IsDisconnect, book_of};
+ghost use Rattle.rx_typed.specs.Codes.{mode_by_code, no_node};
 
 use super::{BookHandle, on_book};
 use rx_typed::{RxNode, mode_of, no_node};
@@ -16,7 +16,7 @@ pub extern "C" fn rx_book_connect(
     hub: u64,
     connection: &mut RxNode,
 ) -> u8
-    ensures { IsCalled (IsConnect hub connection.new) (connection.new ≡ no_node)
+    ensures { IsBookCalled (IsConnect hub connection.new) (connection.new ≡ no_node)
         (book_of handle.old.kept) (book_of handle.new.kept) result }
 {
     on_book!(alloc, handle: connect(hub, connection) else *connection = no_node())
@@ -30,7 +30,7 @@ pub extern "C" fn rx_book_disconnect(
     hub: u64,
     place: &mut u64,
 ) -> u8
-    ensures { IsCalled (IsDisconnect hub place.new) (place.new ≡ 0)
+    ensures { IsBookCalled (IsDisconnect hub place.new) (place.new ≡ 0)
         (book_of handle.old.kept) (book_of handle.new.kept) result }
 {
     on_book!(alloc, handle: disconnect(hub, place) else *place = 0)
@@ -39,8 +39,8 @@ pub extern "C" fn rx_book_disconnect(
 /// Makes a hub: its subscribers connect it where `mode` is 0, a caller does where it is 1. Its number is told.
 #[unsafe(no_mangle)]
 pub extern "C" fn rx_book_hub(alloc: Global, handle: &mut BookHandle, mode: u8, hub: &mut u64) -> u8
-    ensures { IsDecoded (mode_of mode)
-        (λ m. IsCalled (IsHub m hub.new) (hub.new ≡ 0) (book_of handle.old.kept) (book_of handle.new.kept))
+    ensures { IsDecoded (mode_by_code mode)
+        (λ m. IsBookCalled (IsHub m hub.new) (hub.new ≡ 0) (book_of handle.old.kept) (book_of handle.new.kept))
         ((book_of handle.new.kept ≡ book_of handle.old.kept) × (hub.new ≡ 0)) result }
 {
     on_book!(alloc, handle: mode = mode_of(mode); hub(mode, hub) else *hub = 0)

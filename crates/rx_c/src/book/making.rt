@@ -1,7 +1,7 @@
 //! A book from its beginning to its end.
 
 ghost use Rattle.std.specs.Prelude.{◌≡◌, None};
-ghost use Rattle.rx_typed.specs.Calls.{IsMade, IsFinished, IsCalled, IsCheckpoint, IsClosed, book_of};
+ghost use Rattle.rx_typed.specs.Calls.{IsMade, IsBookFinished, IsBookCalled, IsCheckpointAnswered, IsClosed, book_of};
 
 use super::{BookHandle, on_book};
 use rx_typed::{DONE, HELD, NO_MEMORY, NOTHING_KEPT, Typed, UNTAKEN};
@@ -28,7 +28,7 @@ pub extern "C" fn rx_book_new(alloc: Global, handle: &mut BookHandle, max_events
 /// Puts what the history leaves in the place of its events.
 #[unsafe(no_mangle)]
 pub extern "C" fn rx_book_checkpoint(alloc: Global, handle: &mut BookHandle, place: &mut u64) -> u8
-    ensures { IsCalled (IsCheckpoint place.new) (place.new ≡ 0)
+    ensures { IsBookCalled (IsCheckpointAnswered place.new) (place.new ≡ 0)
         (book_of handle.old.kept) (book_of handle.new.kept) result }
 {
     on_book!(alloc, handle: checkpoint(place) else *place = 0)
@@ -38,7 +38,7 @@ pub extern "C" fn rx_book_checkpoint(alloc: Global, handle: &mut BookHandle, pla
 /// fail but where the handle keeps nothing.
 #[unsafe(no_mangle)]
 pub extern "C" fn rx_book_close(alloc: Global, handle: &mut BookHandle) -> u8
-    ensures { IsCalled IsClosed Unit (book_of handle.old.kept) (book_of handle.new.kept) result }
+    ensures { IsBookCalled IsClosed Unit (book_of handle.old.kept) (book_of handle.new.kept) result }
 {
     on_book!(alloc, handle: close() else ())
 }
@@ -47,7 +47,7 @@ pub extern "C" fn rx_book_close(alloc: Global, handle: &mut BookHandle) -> u8
 /// and the status is 6.
 #[unsafe(no_mangle)]
 pub extern "C" fn rx_book_finish(alloc: Global, handle: &mut BookHandle) -> u8
-    ensures { IsFinished (book_of handle.old.kept) (book_of handle.new.kept) result }
+    ensures { IsBookFinished (book_of handle.old.kept) (book_of handle.new.kept) result }
 {
     let Some(kept) = handle.take(alloc) else {
         return NOTHING_KEPT;

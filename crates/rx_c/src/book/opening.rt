@@ -1,8 +1,8 @@
 //! The calls that open nodes.
 
 ghost use Rattle.std.specs.Prelude.{◌≡◌};
-ghost use Rattle.rx_typed.specs.Calls.{IsCalled, IsDecoded, IsOpen, IsUsing, book_of};
-ghost use Rattle.rx_typed.specs.Codes.{asked_of, place_at, no_opened, no_used};
+ghost use Rattle.rx_typed.specs.Calls.{IsBookCalled, IsDecoded, IsOpen, IsUsing, book_of};
+ghost use Rattle.rx_typed.specs.Codes.{opening_asked, place_at, no_opened, no_used};
 
 use super::{BookHandle, on_book};
 use rx_book::Resource;
@@ -21,8 +21,8 @@ pub extern "C" fn rx_book_open(
     hub: u64,
     opened: &mut RxOpened,
 ) -> u8
-    ensures { IsDecoded (asked_of place above kind hub)
-        (λ asked. IsCalled (IsOpen asked.0 asked.1 opened.new) (opened.new ≡ no_opened)
+    ensures { IsDecoded (opening_asked place above kind hub)
+        (λ asked. IsBookCalled (IsOpen asked.0 asked.1 opened.new) (opened.new ≡ no_opened)
         (book_of handle.old.kept) (book_of handle.new.kept))
         ((book_of handle.new.kept ≡ book_of handle.old.kept) × (opened.new ≡ no_opened)) result }
 {
@@ -41,7 +41,7 @@ pub extern "C" fn rx_book_using(
     used: &mut RxUsing,
 ) -> u8
     ensures { IsDecoded (place_at place above)
-        (λ at. IsCalled (IsUsing ⟦<Token as Resource>⟧ at tag used.new) (used.new ≡ no_used)
+        (λ at. IsBookCalled (IsUsing ⟦<Token as Resource>⟧ at tag used.new) (used.new ≡ no_used)
         (book_of handle.old.kept) (book_of handle.new.kept))
         ((book_of handle.new.kept ≡ book_of handle.old.kept) × (used.new ≡ no_used)) result }
 {

@@ -2,10 +2,10 @@
 
 ghost use Rattle.std.specs.Prelude.{◌≡◌};
 ghost use Rattle.rx_typed.specs.Told.{IsThenTold, IsThenPlaced, no_told};
-ghost use Rattle.rx_typed.specs.Calls.{IsCalled, IsNext, IsEnd, IsDispose, IsAbort};
+ghost use Rattle.rx_typed.specs.Calls.{IsBookCalled, IsNext, IsEnd, IsDispose, IsAbort};
 ghost use Rattle.rx_typed.specs.Calls.{IsFail, IsDecline, IsDisconnect, IsRemove, IsGiveBack};
 ghost use Rattle.rx_typed.specs.Calls.{IsOpen, IsUsing, IsDecoded, book_of};
-ghost use Rattle.rx_typed.specs.Codes.{asked_of, place_at, terminal_of, no_opened, no_used};
+ghost use Rattle.rx_typed.specs.Codes.{opening_asked, place_at, terminal_by_code, no_opened, no_used};
 
 use super::{BookHandle, on_book};
 use rx_book::Resource;
@@ -24,7 +24,7 @@ pub extern "C" fn rx_book_next_told(
     value: i64,
     told: &mut RxTold,
 ) -> u8
-    ensures { IsCalled (IsThenTold ⟦<Token as Resource>⟧ (IsNext leaf value told.new.place) told.old told.new)
+    ensures { IsBookCalled (IsThenTold ⟦<Token as Resource>⟧ (IsNext leaf value told.new.place) told.old told.new)
         (told.new ≡ no_told told.old) (book_of handle.old.kept) (book_of handle.new.kept) result }
 {
     on_book!(alloc, handle: next_told(leaf, value, told) else told.clear())
@@ -40,8 +40,8 @@ pub extern "C" fn rx_book_end_told(
     error: u32,
     told: &mut RxTold,
 ) -> u8
-    ensures { IsDecoded (terminal_of how error)
-        (λ terminal. IsCalled (IsThenTold ⟦<Token as Resource>⟧ (IsEnd leaf terminal told.new.place)
+    ensures { IsDecoded (terminal_by_code how error)
+        (λ terminal. IsBookCalled (IsThenTold ⟦<Token as Resource>⟧ (IsEnd leaf terminal told.new.place)
         told.old told.new) (told.new ≡ no_told told.old) (book_of handle.old.kept) (book_of handle.new.kept))
         ((book_of handle.new.kept ≡ book_of handle.old.kept) × (told.new ≡ no_told told.old)) result }
 {
@@ -57,7 +57,7 @@ pub extern "C" fn rx_book_dispose_told(
     root: RxNode,
     told: &mut RxTold,
 ) -> u8
-    ensures { IsCalled (IsThenTold ⟦<Token as Resource>⟧ (IsDispose root told.new.place) told.old told.new)
+    ensures { IsBookCalled (IsThenTold ⟦<Token as Resource>⟧ (IsDispose root told.new.place) told.old told.new)
         (told.new ≡ no_told told.old) (book_of handle.old.kept) (book_of handle.new.kept) result }
 {
     on_book!(alloc, handle: dispose_told(root, told) else told.clear())
@@ -72,7 +72,7 @@ pub extern "C" fn rx_book_abort_told(
     error: u32,
     told: &mut RxTold,
 ) -> u8
-    ensures { IsCalled (IsThenTold ⟦<Token as Resource>⟧ (IsAbort node error told.new.place)
+    ensures { IsBookCalled (IsThenTold ⟦<Token as Resource>⟧ (IsAbort node error told.new.place)
         told.old told.new) (told.new ≡ no_told told.old) (book_of handle.old.kept) (book_of handle.new.kept) result }
 {
     on_book!(alloc, handle: abort_told(node, error, told) else told.clear())
@@ -87,7 +87,7 @@ pub extern "C" fn rx_book_fail_told(
     error: u32,
     told: &mut RxTold,
 ) -> u8
-    ensures { IsCalled (IsThenTold ⟦<Token as Resource>⟧ (IsFail merging error told.new.place)
+    ensures { IsBookCalled (IsThenTold ⟦<Token as Resource>⟧ (IsFail merging error told.new.place)
         told.old told.new) (told.new ≡ no_told told.old) (book_of handle.old.kept) (book_of handle.new.kept) result }
 {
     on_book!(alloc, handle: fail_told(merging, error, told) else told.clear())
@@ -101,7 +101,7 @@ pub extern "C" fn rx_book_decline_told(
     merging: RxNode,
     told: &mut RxTold,
 ) -> u8
-    ensures { IsCalled (IsThenTold ⟦<Token as Resource>⟧ (IsDecline merging told.new.place) told.old told.new)
+    ensures { IsBookCalled (IsThenTold ⟦<Token as Resource>⟧ (IsDecline merging told.new.place) told.old told.new)
         (told.new ≡ no_told told.old) (book_of handle.old.kept) (book_of handle.new.kept) result }
 {
     on_book!(alloc, handle: decline_told(merging, told) else told.clear())
@@ -115,7 +115,7 @@ pub extern "C" fn rx_book_disconnect_told(
     hub: u64,
     told: &mut RxTold,
 ) -> u8
-    ensures { IsCalled (IsThenTold ⟦<Token as Resource>⟧ (IsDisconnect hub told.new.place) told.old told.new)
+    ensures { IsBookCalled (IsThenTold ⟦<Token as Resource>⟧ (IsDisconnect hub told.new.place) told.old told.new)
         (told.new ≡ no_told told.old) (book_of handle.old.kept) (book_of handle.new.kept) result }
 {
     on_book!(alloc, handle: disconnect_told(hub, told) else told.clear())
@@ -129,7 +129,7 @@ pub extern "C" fn rx_book_remove_told(
     res: RxRes,
     told: &mut RxTold,
 ) -> u8
-    ensures { IsCalled (IsThenTold ⟦<Token as Resource>⟧ (IsRemove res told.new.place) told.old told.new)
+    ensures { IsBookCalled (IsThenTold ⟦<Token as Resource>⟧ (IsRemove res told.new.place) told.old told.new)
         (told.new ≡ no_told told.old) (book_of handle.old.kept) (book_of handle.new.kept) result }
 {
     on_book!(alloc, handle: remove_told(res, told) else told.clear())
@@ -143,7 +143,7 @@ pub extern "C" fn rx_book_give_back_told(
     lease: RxLease,
     told: &mut RxTold,
 ) -> u8
-    ensures { IsCalled (IsThenTold ⟦<Token as Resource>⟧ (IsGiveBack lease told.new.place) told.old told.new)
+    ensures { IsBookCalled (IsThenTold ⟦<Token as Resource>⟧ (IsGiveBack lease told.new.place) told.old told.new)
         (told.new ≡ no_told told.old) (book_of handle.old.kept) (book_of handle.new.kept) result }
 {
     on_book!(alloc, handle: give_back_told(lease, told) else told.clear())
@@ -161,8 +161,8 @@ pub extern "C" fn rx_book_open_told(
     opened: &mut RxOpened,
     told: &mut RxTold,
 ) -> u8
-    ensures { IsDecoded (asked_of place above kind hub)
-        (λ asked. IsCalled (IsThenPlaced ⟦<Token as Resource>⟧ (IsOpen asked.0 asked.1 opened.new)
+    ensures { IsDecoded (opening_asked place above kind hub)
+        (λ asked. IsBookCalled (IsThenPlaced ⟦<Token as Resource>⟧ (IsOpen asked.0 asked.1 opened.new)
         opened.new.node.number told.old told.new)
         ((opened.new ≡ no_opened) × (told.new ≡ no_told told.old)) (book_of handle.old.kept) (book_of handle.new.kept))
         ((book_of handle.new.kept ≡ book_of handle.old.kept) × (opened.new ≡ no_opened) ×
@@ -184,7 +184,7 @@ pub extern "C" fn rx_book_using_told(
     told: &mut RxTold,
 ) -> u8
     ensures { IsDecoded (place_at place above)
-        (λ at. IsCalled (IsThenPlaced ⟦<Token as Resource>⟧
+        (λ at. IsBookCalled (IsThenPlaced ⟦<Token as Resource>⟧
         (IsUsing ⟦<Token as Resource>⟧ at tag used.new) used.new.node.number told.old told.new)
         ((used.new ≡ no_used) × (told.new ≡ no_told told.old)) (book_of handle.old.kept) (book_of handle.new.kept))
         ((book_of handle.new.kept ≡ book_of handle.old.kept) × (used.new ≡ no_used) ×

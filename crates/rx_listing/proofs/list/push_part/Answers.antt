@@ -1,5 +1,6 @@
-use Rattle.rx_listing.proofs.Common.{◌≡◌, ℕ, ◌++◌, ◌<◌, List, Option, Some, option_map, length, string_bytes, slice_index_or, sym, ap, ◌∙◌, is_some, name_of}
-use Rattle.rx_listing.proofs.Common.{joined, counted_of, is_nil, led_text, names_of, part_object}
+use Rattle.rx_listing.proofs.Common.{◌≡◌, ℕ, ◌++◌, ◌<◌, List, Option, Some, option_map, length, string_bytes, slice_index_or, sym, ap, ◌∙◌, is_some}
+use Rattle.rx_listing.proofs.Common.{name_of_number}
+use Rattle.rx_listing.proofs.Common.{joined, counted_of, has_no_texts, led_text, names_of_part, part_object}
 use Rattle.rx_listing.proofs.Objects.{object_same, object_nil, object_text, objects_all, no_object, placed_part}
 use Rattle.rx_listing.proofs.list.push_part.Goals.{in-Some+in_ok-push_object, in_default}
 use Rattle.rx_listing.proofs.list.push_part.Goals as goal
@@ -24,7 +25,7 @@ numbers-preserved g c =
       | in_default w ↦
           let same = object_same object ns i 0 within (sym c.in_ok-object.ensures ∙ ap (option_map string_bytes) w.in_default.is) in
           record {
-            first = w.is_first-is ∙ c.numbers.invariant.first ∙ ap is_nil same;
+            first = w.is_first-is ∙ c.numbers.invariant.first ∙ ap has_no_texts same;
             written = ap string_bytes w.text-is ∙ c.numbers.invariant.written ∙ ap (λ (objects : List (List ℕ)). begun ++ joined objects) same;
           }
     ]
@@ -37,9 +38,10 @@ returns g c = λ placed.
     let counted = counted_of c.args.sight.now in
     let len = length book.history in
     let object : ℕ → Option (List ℕ) = part_object book known counted part in
-    let names = names_of known part in
+    let names = names_of_part known part in
     c.numbers.invariant.written
     ∙ ap (λ (objects : List (List ℕ)). string_bytes c.args.text.now ++ joined objects)
-    (objects_all object (λ n. is_some (name_of names n)) c.deref-number-items.result.now c.numbers.number-index len c.numbers-test.false
-    (c.deref-number-items.ensures.value ∙ rw (sym c.names_of.ensures) (c.in_ok-numbers.ensures len (rw c.names_of.ensures (placed_part len known part placed))))
+    (objects_all object (λ n. is_some (name_of_number names n)) c.deref-number-items.result.now c.numbers.number-index len c.numbers-test.false
+    (c.deref-number-items.ensures.value
+    ∙ rw (sym c.names_of_part.ensures) (c.in_ok-numbers.ensures len (rw c.names_of_part.ensures (placed_part len known part placed))))
     (λ n. no_object book known n counted part))

@@ -1,4 +1,4 @@
-use Rattle.rx_listing.proofs.Common.{◌<◌, ℕ, Option, Some, ap, ◌∙◌, length, is_some, unwrap_or, nat_eq, get, list_any, name_of, made_by, holder_by}
+use Rattle.rx_listing.proofs.Common.{◌<◌, ℕ, Option, Some, ap, ◌∙◌, length, is_some, unwrap_or, nat_eq, get, list_any, name_of_number, made_by, holder_by}
 use Rattle.rx_listing.proofs.Knowing.{within_of}
 use Rattle.rx_listing.proofs.Recalling.{kept_at}
 use Rattle.rx_listing.proofs.Rises.{listed}
@@ -22,12 +22,12 @@ returns g c = λ placed.
           let within : r < len = within_of known.resources.now len placed.resources r named in
           kept_at (holder_by c.args.book.now known.past.now) (get nat_eq c.in_ok-holders.holders) c.as_slice-2.result.now r c.in_ok-holders.ensures
           (ap (list_any (nat_eq r)) (c.as_slice-2.ensures.value ∙ c.in_ok-resources.ensures len placed.resources)
-          ∙ listed (λ m. is_some (name_of known.resources.now m)) len r within named);
+          ∙ listed (λ m. is_some (name_of_number known.resources.now m)) len r within named);
       uses = λ r named countable.
           let within : r < len = within_of known.resources.now len placed.resources r named in
           ap (λ o. unwrap_or o 0) (kept_at uses (get nat_eq c.in_ok-uses.uses) c.as_slice-3.result.now r c.in_ok-uses.ensures
           (ap (list_any (nat_eq r)) (c.as_slice-3.ensures.value ∙ c.in_ok-resources.ensures len placed.resources)
-          ∙ listed (λ m. is_some (name_of known.resources.now m)) len r within named))
+          ∙ listed (λ m. is_some (name_of_number known.resources.now m)) len r within named))
           ∙ c.in_ok-seen.ensures.uses r countable;
       connections = λ n. c.in_ok-seen.ensures.connections n;
     }

@@ -1,5 +1,5 @@
 use Rattle.rx_live.proofs.Common.{◌≡◌, ℕ, ◌+◌, ◌<◌, ◌≤◌, List, ◌∷◌, drop, length, slice_index_or, subst, string_bytes, sym, ap, ◌∙◌, arith, Data, Items, item}
-use Rattle.rx_live.proofs.Common.{no_items, Value, value_view, items_view, data_of, items_data, order_in, session_of, Writes, AnsweredOne}
+use Rattle.rx_live.proofs.Common.{no_items, Value, value_view, items_view, data_of, items_data, order_in, session_of, WritesAnswer, AnsweredOne}
 use Rattle.std.proofs.lemmas.List.{at_drop_more, at_drop_all}
 use Rattle.rx_live.proofs.AnswersOfArrays.{answering_begun, answering_on, answering_ended}
 use Rattle.rx_live.proofs.arrays.push_each.Goals as goal
@@ -30,8 +30,8 @@ values-preserved c =
     let next : items_data (items_view (drop i c.args.values.now.items)) ≡ item d rest =
     subst (λ ys. items_data (items_view (drop i ys)) ≡ item d (items_data (items_view (drop (i + 1) ys)))) c.deref-value-items.ensures.value
     (left_more c.deref-value-items.result.now i x x c.values-test.true c.value-item.is) in
-    let wrote : Writes (AnsweredOne now (order_in d) mid) led text =
-    subst (λ (e : Data). Writes (AnsweredOne now (order_in e) mid) led text) c.new.ensures c.push_one.ensures.ok in
+    let wrote : WritesAnswer (AnsweredOne now (order_in d) mid) led text =
+    subst (λ (e : Data). WritesAnswer (AnsweredOne now (order_in e) mid) led text) c.new.ensures c.push_one.ensures.ok in
     record {
       answering = answering_on d rest (string_bytes c.args.text.now) (string_bytes c.values.text) led text c.values.is_first c.values.invariant.answering next
           c.push_comma.ensures.text wrote;

@@ -1,4 +1,4 @@
-use Rattle.rx_live.proofs.Common.{◌≡◌, ℕ, List, Option, Some, option_map, length, sym, ap, ◌∙◌, name_text, is_nil, session_of, closed_at}
+use Rattle.rx_live.proofs.Common.{◌≡◌, ℕ, List, Option, Some, option_map, length, sym, ap, ◌∙◌, name_text, has_no_texts, session_of, closed_at}
 use Rattle.rx_live.proofs.EntriesWritten.{entry_same, entry_nil}
 use Rattle.rx_live.proofs.closed.names_none.Goals.{in-Some, in_default}
 use Rattle.rx_live.proofs.closed.names_none.Goals as goal
@@ -15,7 +15,7 @@ places-preserved c =
           record { none = w.is_none-is ∙ entry_nil entry k there }
       | in_default w ↦
           let same = entry_same entry k (ap (option_map name_text) (sym c.closed_at.ensures ∙ ap (option_map (λ s. s.now)) w.in_default.is)) in
-          record { none = w.is_none-is ∙ c.places.invariant.none ∙ ap is_nil same }
+          record { none = w.is_none-is ∙ c.places.invariant.none ∙ ap has_no_texts same }
     ]
 
 pub returns : goal.returns

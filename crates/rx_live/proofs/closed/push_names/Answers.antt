@@ -1,4 +1,4 @@
-use Rattle.rx_live.proofs.Common.{◌≡◌, ℕ, ◌++◌, List, Option, Some, option_map, length, string_bytes, sym, ap, ◌∙◌, name_text, joined, is_nil}
+use Rattle.rx_live.proofs.Common.{◌≡◌, ℕ, ◌++◌, List, Option, Some, option_map, length, string_bytes, sym, ap, ◌∙◌, name_text, joined, has_no_texts}
 use Rattle.rx_live.proofs.Common.{session_of, closed_at}
 use Rattle.rx_live.proofs.EntriesWritten.{entry_same, entry_nil, entry_written}
 use Rattle.rx_live.proofs.closed.push_names.Goals.{in-Some+in_ok-push_led, in_default}
@@ -23,7 +23,7 @@ places-preserved c =
       | in_default w ↦
           let same = entry_same entry k (ap (option_map name_text) (sym c.closed_at.ensures ∙ ap (option_map (λ s. s.now)) w.in_default.is)) in
           record {
-            first = w.is_first-is ∙ c.places.invariant.first ∙ ap is_nil same;
+            first = w.is_first-is ∙ c.places.invariant.first ∙ ap has_no_texts same;
             written = ap string_bytes w.text-is ∙ c.places.invariant.written ∙ ap (λ (texts : List (List ℕ)). begun ++ joined texts) same;
           }
     ]

@@ -1,5 +1,5 @@
 use Rattle.rx_live.proofs.Common.{◌++◌, ◌+◌, ℕ, List, take, option_map, string_bytes, arith, ap, ◌∙◌, option_to_list, Name, session_of}
-use Rattle.rx_live.specs.Listed.{is_nil, open_text}
+use Rattle.rx_live.specs.Listed.{has_no_names, open_text}
 use Rattle.rx_live.proofs.Listings.{names_at, names_more, names_all, first_step, text_step}
 use Rattle.rx_live.proofs.closing.push_all.Goals as goal
 
@@ -22,7 +22,7 @@ pub returns-clause-first : goal.returns-clause-first
 returns-clause-first c =
     let s = session_of c.args.engine.now in
     let before : List Name = option_to_list (option_map string_bytes c.args.engine.now.unnamed) in
-    c.numbers.invariant.first ∙ ap is_nil (names_all s before c.deref-number-items.result.now c.numbers.number-index c.requires (omega arith)
+    c.numbers.invariant.first ∙ ap has_no_names (names_all s before c.deref-number-items.result.now c.numbers.number-index c.requires (omega arith)
     (λ len placed. c.deref-number-items.ensures.value ∙ c.in_ok-numbers.ensures len placed))
 
 pub returns-clause-text : goal.returns-clause-text

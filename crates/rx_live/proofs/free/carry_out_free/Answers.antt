@@ -1,5 +1,6 @@
 use Rattle.rx_live.proofs.Common.{if◌then◌else◌, Name, ◌≡◌, ◌&&◌, ℕ, ◌++◌, Bool, List, [], subst, string_bytes, refl, ap, ◌∙◌, append_assoc, Task, plain, Outcome}
-use Rattle.rx_live.proofs.Common.{Accepted, Refused, ok_text, refused_text, session_of, closed_names, SaysClosed, Does, TellsAll, may_renew, false, is_full}
+use Rattle.rx_live.proofs.Common.{Accepted, Refused, ok_text, refused_text, session_of, closed_names, SaysClosed, DoesTask, TellsAll, may_renew, false}
+use Rattle.rx_live.proofs.Common.{is_full_cause}
 use Rattle.rx_line.specs.FreeCommands.{free_command_of}
 use Rattle.rx_live.specs.Closings.{names_closed}
 use Rattle.rx_live.proofs.Acts.{refused_alike}
@@ -14,7 +15,7 @@ returns-in-Accepted-clause-ok c =
     let old = session_of c.args.engine.now in
     let done = session_of c.run.new.engine in
     let k : Task = plain (free_command_of c.args.command) in
-    let runs : Does old k Accepted done = subst (λ (o : Outcome). Does old k o done) c.in-Accepted.is c.run.ensures.runs in
+    let runs : DoesTask old k Accepted done = subst (λ (o : Outcome). DoesTask old k o done) c.in-Accepted.is c.run.ensures.runs in
     let begun : List ℕ = string_bytes c.args.text.now in
     let front : List ℕ = ok_text c.len-place.result in
     let wrote = c.push_closed.ensures.said in
@@ -33,7 +34,7 @@ returns-in-Refused-clause-ok c =
     let new = session_of c.run.new.engine in
     let why = c.in-Refused.why in
     let k : Task = plain (free_command_of c.args.command) in
-    let runs : Does old k (Refused why) new = subst (λ (o : Outcome). Does old k o new) c.in-Refused.is c.run.ensures.runs in
-    let alive : (is_full why && may_renew new) ≡ false = ap (λ (b : Bool). b && may_renew new) (never_full old new c.args.command why runs) in
+    let runs : DoesTask old k (Refused why) new = subst (λ (o : Outcome). DoesTask old k o new) c.in-Refused.is c.run.ensures.runs in
+    let alive : (is_full_cause why && may_renew new) ≡ false = ap (λ (b : Bool). b && may_renew new) (never_full old new c.args.command why runs) in
     refused_out old new k why (string_bytes c.args.text.now) (refused_text why) (string_bytes c.put_refused.new.text) runs
     (full_by_open old new why c.requires.sound.kept (refused_alike old new k why runs) alive) refl c.put_refused.ensures.bytes

@@ -1,6 +1,7 @@
 use Rattle.rx_live.proofs.Common.{◌≡◌, ℕ, ◌++◌, [], ◌∷◌, Bool, false, Option, Some, None, length, refl, sym, ap, ◌∙◌, subst, option_map, string_bytes, ◌||◌}
 use Rattle.rx_live.proofs.Common.{IfSome, bytes_eq, option_map_or, Accept, Refusal, Holding, first_cause, IsRefusal, Name, Key, has_key, Request, Accepts}
-use Rattle.rx_live.proofs.Common.{open_request, Spot, spot_of, name_of, Binds, session_of, has_resource, NamesOne, holder_at, holder_causes, is_open_taken}
+use Rattle.rx_live.proofs.Common.{open_request, Spot, spot_of, name_of_number, Binds, session_of, has_resource, NamesOne, holder_at, holder_causes}
+use Rattle.rx_live.proofs.Common.{is_open_taken}
 use Rattle.rx_live.proofs.Common.{is_holder_taken, OpensHolder, BindsMade, BindsHolder}
 use Rattle.rx_live.proofs.Soundness.{accepted_longer}
 use Rattle.rx_live.proofs.AcceptedBindsNames.{none_of, or_false, is_new, tag_of_new, accepted_by, refused_by}
@@ -134,5 +135,5 @@ bind-requires-in-Ok-clause-unnamed c =
     let s = session_of c.args.engine.now in
     let more = c.make_room-2.new.self in
     let middle = c.in-Ok.ensures.ok.middle in
-    ap (name_of more) c.in-Ok.ensures.ok.res.number ∙ unnamed_past s more (length middle.history) c.requires c.make_room-2.ensures.same
+    ap (name_of_number more) c.in-Ok.ensures.ok.res.number ∙ unnamed_past s more (length middle.history) c.requires c.make_room-2.ensures.same
     (accepted_longer s.book middle (open_request s.book c.args.place c.args.kind) c.in-Ok.ensures.ok.opens)

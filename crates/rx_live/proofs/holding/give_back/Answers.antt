@@ -1,4 +1,4 @@
-use Rattle.rx_live.proofs.Common.{◌≡◌, false, Some, sym, ap, ◌∙◌, refl, option_map, give_back_request, name_of, session_of, lease_of, FreesLease}
+use Rattle.rx_live.proofs.Common.{◌≡◌, false, Some, sym, ap, ◌∙◌, refl, option_map, give_back_request, name_of_number, session_of, lease_by_name, FreesLease}
 use Rattle.rx_book.specs.State.{has_lease_key}
 use Rattle.rx_live.proofs.AcceptedBindsNames.{given_accepted, lease_named, forgot, returned_sound}
 use Rattle.rx_live.proofs.holding.give_back.Goals as goal
@@ -10,10 +10,10 @@ returns-in-Ok-clause-ok c =
     let key = c.in-Some.key in
     let book = c.give_back.new.self in
     let new = c.forget-name.new.self in
-    let found : lease_of s name ≡ Some key = sym c.lease_of.ensures ∙ c.in-Some.is in
-    let known : name_of s.leases key.number ≡ Some name = lease_named s name key c.requires found in
+    let found : lease_by_name s name ≡ Some key = sym c.lease_by_name.ensures ∙ c.in-Some.is in
+    let known : name_of_number s.leases key.number ≡ Some name = lease_named s name key c.requires found in
     let forgets = forgot s.leases new key.number name c.forget-name.result known c.forget-name.ensures.value c.forget-name.ensures.some in
-    given_accepted (option_map (give_back_request s.book) (lease_of s name)) false (FreesLease s name)
+    given_accepted (option_map (give_back_request s.book) (lease_by_name s name)) false (FreesLease s name)
     (ap (option_map (give_back_request s.book)) found) refl c.in-Ok.ensures.accepted
     (record { number = key.number; known = known; forgets = forgets; rest = refl })
     (returned_sound (has_lease_key s.book.lease_keys key) name new c.requires c.promise.ensures c.forget-name.ensures.paired forgets c.in-Ok.ensures.accepted)

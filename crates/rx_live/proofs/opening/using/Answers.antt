@@ -1,5 +1,6 @@
 use Rattle.rx_live.proofs.Common.{arith, ◌≡◌, ℕ, ◌+◌, Bool, false, Some, length, sym, ap, ◌∙◌, subst, option_map, string_bytes, ◌||◌, OpeningUsing, Name, At}
-use Rattle.rx_live.proofs.Common.{site_of, State, Request, place_of, is_known_place, Accepts, IsCauseOrWant, Spot, name_of, Binds, session_of, has_resource}
+use Rattle.rx_live.proofs.Common.{site_of, State, Request, place_of, is_known_place, Accepts, IsCauseOrWant, Spot, name_of_number, Binds, session_of}
+use Rattle.rx_live.proofs.Common.{has_resource}
 use Rattle.rx_live.proofs.Common.{NamesOne, place_at, using_asked, using_at, is_node, is_using_taken, BindsUsing}
 use Rattle.rx_live.proofs.AcceptedBindsNames.{is_new, tag_of_new, given_accepted, given_refused}
 use Rattle.rx_live.proofs.OpenedNodesGetNames.{unchanged_room, unchanged_rooms, unnamed_past, on_err, with_book, used_bound, used_sound}
@@ -25,7 +26,7 @@ returns-in_err-make_room-2-clause-err c =
 pub bind-requires-in-Ok-clause-unnamed : goal.bind-requires-in-Ok-clause-unnamed
 bind-requires-in-Ok-clause-unnamed c =
     let s = session_of c.args.engine.now in
-    ap (name_of c.make_room-2.new.self) c.in-Ok.ensures.ok.res.number
+    ap (name_of_number c.make_room-2.new.self) c.in-Ok.ensures.ok.res.number
     ∙ unnamed_past s c.make_room-2.new.self (length s.book.history + 1) c.requires c.make_room-2.ensures.same (omega arith)
 
 pub returns-in-Err-clause-err : goal.returns-in-Err-clause-err

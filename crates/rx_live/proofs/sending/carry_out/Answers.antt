@@ -1,5 +1,5 @@
 use Rattle.rx_live.proofs.Common.{if◌then◌else◌, Name, ◌≡◌, ℕ, ◌++◌, List, [], subst, string_bytes, refl, sym, ap, ◌∙◌, append_assoc, Task, task_of, Outcome}
-use Rattle.rx_live.proofs.Common.{Accepted, Refused, ok_text, session_of, said_if, front_text, closed_names, SaysClosed, Does, TellsAll, connects_at}
+use Rattle.rx_live.proofs.Common.{Accepted, Refused, ok_text, session_of, said_if, answer_front_text, closed_names, SaysClosed, DoesTask, TellsAll, connects_at}
 use Rattle.rx_live.specs.Closings.{names_closed}
 use Rattle.rx_live.proofs.Acts.{refused_alike}
 use Rattle.rx_live.proofs.OpenedNodesGetNames.{on_err}
@@ -16,14 +16,14 @@ pub returns-in-Accepted-clause-ok : goal.returns-in-Accepted-clause-ok
 returns-in-Accepted-clause-ok c =
     let old = session_of c.args.engine.now in
     let done = session_of c.act.new.engine in
-    let runs : Does old (task_of c.args.task) Accepted done =
-    subst (λ (o : Outcome). Does old (task_of c.args.task) o done) c.in-Accepted.is c.in_ok-act.ensures.ok in
+    let runs : DoesTask old (task_of c.args.task) Accepted done =
+    subst (λ (o : Outcome). DoesTask old (task_of c.args.task) o done) c.in-Accepted.is c.in_ok-act.ensures.ok in
     let asked : Task = task_of c.args.task in
     let begun : List ℕ = string_bytes c.args.text.now in
     let placed : List ℕ = c.as_str-front.result.now in
     let said : List ℕ = c.as_str-said.result.now in
     let led : List ℕ = said_if (connects_at done.book c.place_behind-behind.result) said in
-    let front : placed ++ led ≡ front_text old asked done =
+    let front : placed ++ led ≡ answer_front_text old asked done =
     front_said old done asked placed said (placed ++ led) c.place_behind-behind.result c.requires.sound runs
     (c.as_str-front.ensures.value ∙ c.in_ok-placed.ensures ∙ ap ok_text c.len.ensures) (c.as_str-said.ensures.value ∙ c.in_ok-connected.ensures)
     c.place_behind-behind.ensures refl in
@@ -44,8 +44,8 @@ returns-clause-ok c =
     let old = session_of c.args.engine.now in
     let new = session_of c.act.new.engine in
     let why = c.in-Refused.why in
-    let runs : Does old (task_of c.args.task) (Refused why) new =
-    subst (λ (o : Outcome). Does old (task_of c.args.task) o new) c.in-Refused.is c.in_ok-act.ensures.ok in
+    let runs : DoesTask old (task_of c.args.task) (Refused why) new =
+    subst (λ (o : Outcome). DoesTask old (task_of c.args.task) o new) c.in-Refused.is c.in_ok-act.ensures.ok in
     refused_out old new (task_of c.args.task) why (string_bytes c.args.text.now) (string_bytes c.in_ok-told-in-Refused.told) (string_bytes
     c.push_answer.new.text) runs (full_by_open old new why c.requires.sound.kept (refused_alike old new (task_of c.args.task) why runs)
     (sym c.is_full_by_age.ensures ∙ c.if-is_full_by_age.false)) c.in_ok-told-in-Refused.ensures

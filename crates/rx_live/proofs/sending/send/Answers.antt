@@ -1,4 +1,4 @@
-use Rattle.rx_live.proofs.Common.{ℕ, List, subst, string_bytes, part_data, order_in, session_of, as_it_was, renewed, Answered, Writes}
+use Rattle.rx_live.proofs.Common.{ℕ, List, subst, string_bytes, part_data, order_in, session_of, as_it_was, renewed, Answered, WritesAnswer}
 use Rattle.rx_live.proofs.OpenedNodesGetNames.{on_err}
 use Rattle.rx_live.proofs.SessionAfterCheckpoint.{young}
 use Rattle.rx_live.proofs.AnswerToEachLine.{sent_first, sent_again, answered_so, found_so}
@@ -31,6 +31,7 @@ returns-then-is_done-clause-ok c =
     let asked = order_in (part_data c.args.value) in
     let full = found_so _ _ _ _ c.if-is_answered.false c.in_ok-is_answered.ensures.ok in
     let text : List ℕ = string_bytes c.answer-2.new.text in
-    let wrote : Writes (Answered aged asked new) (string_bytes c.answer.new.text) text = answered_so _ _ _ _ c.if-is_done.true c.in_ok-is_done.ensures.ok in
+    let wrote : WritesAnswer (Answered aged asked new) (string_bytes c.answer.new.text) text =
+    answered_so _ _ _ _ c.if-is_done.true c.in_ok-is_done.ensures.ok in
     sent_again aged new asked (string_bytes c.args.text.now) text full.0 c.in_ok-make_room.ensures.ok
-    (subst (λ (begun : List ℕ). Writes (Answered aged asked new) begun text) full.1 wrote) c.answer-2.ensures.sound
+    (subst (λ (begun : List ℕ). WritesAnswer (Answered aged asked new) begun text) full.1 wrote) c.answer-2.ensures.sound

@@ -8,8 +8,8 @@ pub loop-count-preserved : goal.loop-count-preserved
 loop-count-preserved c =
     let xs = c.loop-count.mails in
     let i = c.loop-count.count in
-    let x = c.mail_of.result in
-    let said = tells (sym c.in-Some.ensures.value) c.in-Some.ensures.given c.mail_of.ensures refl in
+    let x = c.mail_numbered.result in
+    let said = tells (sym c.in-Some.ensures.value) c.in-Some.ensures.given c.mail_numbered.ensures refl in
     let len = length-set xs i x in
     record {
       taken = rw (take-set_at xs i (i + 1) x refl c.loop-count-test.true) (mail_taken x c.loop-count.invariant.taken said);

@@ -1,6 +1,6 @@
 use Rattle.std.proofs.Common.{◌∙◌, refl, sym, ap}
 use Rattle.rx_live.specs.Live.{session, answer}
-use Rattle.rx_c.specs.Answers.{IsGiven, IsTooLong}
+use Rattle.rx_c.specs.Answers.{IsGiven, IsTextTooLong}
 use Rattle.rx_c.specs.Calls.{ends, ends_on, has_mail, is_starved}
 use Rattle.rx_c.specs.Stages.{opened}
 use Rattle.rx_c.proofs.WhatWaits.{has_unread, none_unread, still_none}
@@ -23,7 +23,7 @@ returns-then-fits c =
 pub returns-else-fits : goal.returns-else-fits
 returns-else-fits c =
     let live = c.args.self.now.live in
-    let long : IsTooLong (answer c.end.new.self) c.args.buffer.now c.fits.new.buffer c.fits.new.told =
+    let long : IsTextTooLong (answer c.end.new.self) c.args.buffer.now c.fits.new.buffer c.fits.new.told =
     rw (← c.answer.ensures, ← c.as_bytes.ensures.value) (c.fits.ensures.too_long c.if-fits.false)
     in ends_on (none_unread (session live) (answer live) c.args.self.now.unread (sym c.in_default.ensures))
     c.in-Ok.ensures.ok refl refl long

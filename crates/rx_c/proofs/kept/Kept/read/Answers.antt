@@ -1,8 +1,8 @@
 use Rattle.std.proofs.Common.{refl, ap}
 use Rattle.rx_live.specs.Live.{session, answer}
-use Rattle.rx_c.specs.Answers.{IsGiven, IsTooLong}
+use Rattle.rx_c.specs.Answers.{IsGiven, IsTextTooLong}
 use Rattle.rx_c.specs.Calls.{reads, reads_last, is_long, is_idle}
-use Rattle.rx_c.specs.Stages.{stage_of, stage_by, answer_waits, last_waits, Waits}
+use Rattle.rx_c.specs.Stages.{handle_stage, stage_by, answer_waits, last_waits, Waits}
 use Rattle.rx_c.proofs.kept.Kept.read.Goals as goal
 
 pub returns-in-Nothing : goal.returns-in-Nothing
@@ -12,9 +12,9 @@ returns-in-Nothing c =
 pub returns-then-not-fits : goal.returns-then-not-fits
 returns-then-not-fits c =
     let text = answer c.args.self.now.live in
-    let long : IsTooLong text c.args.buffer.now c.fits.new.buffer c.fits.new.told =
+    let long : IsTextTooLong text c.args.buffer.now c.fits.new.buffer c.fits.new.told =
     rw (← c.answer.ensures, ← c.as_bytes.ensures.value) (c.fits.ensures.too_long c.if-not-fits.true)
-    in let waits : Waits text (stage_of c.args.self.now) = rw c.in-Answer.is (answer_waits _)
+    in let waits : Waits text (handle_stage c.args.self.now) = rw c.in-Answer.is (answer_waits _)
     in is_long waits refl refl long
 
 pub returns-else-not-fits : goal.returns-else-not-fits
@@ -34,7 +34,7 @@ returns-then-fits c =
 pub returns-else-fits : goal.returns-else-fits
 returns-else-fits c =
     let text = answer c.args.self.now.live in
-    let long : IsTooLong text c.args.buffer.now c.fits-in-Last.new.buffer c.fits-in-Last.new.told =
+    let long : IsTextTooLong text c.args.buffer.now c.fits-in-Last.new.buffer c.fits-in-Last.new.told =
     rw (← c.answer-in-Last.ensures, ← c.as_bytes-in-Last.ensures.value) (c.fits-in-Last.ensures.too_long c.if-fits.false)
-    in let waits : Waits text (stage_of c.args.self.now) = rw c.in-Last.is last_waits
+    in let waits : Waits text (handle_stage c.args.self.now) = rw c.in-Last.is last_waits
     in is_long waits refl refl long

@@ -1,6 +1,6 @@
 use Rattle.std.proofs.Common.{refl, sym}
 use Rattle.rx_live.specs.Live.{session, answer}
-use Rattle.rx_c.specs.Answers.{IsGiven, IsTooLong}
+use Rattle.rx_c.specs.Answers.{IsGiven, IsTextTooLong}
 use Rattle.rx_c.specs.Calls.{sends, sends_on, has_mail, is_starved}
 use Rattle.rx_c.proofs.WhatWaits.{has_unread, none_unread, still_none}
 use Rattle.rx_c.proofs.kept.Kept.send.Goals as goal
@@ -25,7 +25,7 @@ pub returns-else-fits : goal.returns-else-fits
 returns-else-fits c =
     let live = c.args.self.now.live in
     let text = answer c.send.new.self in
-    let long : IsTooLong text c.args.buffer.now c.fits.new.buffer c.fits.new.told =
+    let long : IsTextTooLong text c.args.buffer.now c.fits.new.buffer c.fits.new.told =
     rw (← c.answer.ensures, ← c.as_bytes.ensures.value) (c.fits.ensures.too_long c.if-fits.false)
     in sends_on (none_unread (session live) (answer live) c.args.self.now.unread (sym c.in_default.ensures))
     c.in-Ok.ensures.ok refl refl long

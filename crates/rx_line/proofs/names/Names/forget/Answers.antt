@@ -1,6 +1,6 @@
 use Rattle.std.proofs.Common.{◌≡◌, ℕ, List, Some, option_map, string_bytes, ap, sym, subst}
 use Rattle.rx_line.specs.declared.names.Names.{Names}
-use Rattle.rx_line.specs.Names.{name_of, Forgets}
+use Rattle.rx_line.specs.Names.{name_of_number, Forgets}
 use Rattle.rx_line.proofs.BoundAfterChange.{forgotten_names, forgotten_paired}
 use Rattle.rx_line.proofs.names.Names.forget.Goals as goal
 
@@ -13,5 +13,6 @@ returns-clause-some c =
 pub returns-clause-paired : goal.returns-clause-paired
 returns-clause-paired c =
     let new : Names = record { by_name = c.remove-2.new.self; by_number = c.remove.new.self } in
-    let known : name_of c.args.self.now c.args.number ≡ Some (string_bytes c.in_ok-name.name) = ap (option_map string_bytes) (sym c.in_ok-name.ensures.value) in
+    let known : name_of_number c.args.self.now c.args.number ≡ Some (string_bytes c.in_ok-name.name) =
+    ap (option_map string_bytes) (sym c.in_ok-name.ensures.value) in
     forgotten_paired c.args.self.now new c.args.number (string_bytes c.in_ok-name.name) known (returns-clause-some c) c.requires

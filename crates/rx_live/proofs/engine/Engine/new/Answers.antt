@@ -1,4 +1,4 @@
-use Rattle.rx_live.proofs.Common.{refl, ap, State, Session, IsFresh, None}
+use Rattle.rx_live.proofs.Common.{refl, ap, State, Session, IsNewSession, None}
 use Rattle.rx_live.proofs.Soundness.{sound_start}
 use Rattle.rx_live.proofs.engine.Engine.new.Goals as goal
 
@@ -14,7 +14,7 @@ returns c =
       untold = None;
       unnamed = None;
     } in
-    let fresh : IsFresh s = record {
+    let fresh : IsNewSession s = record {
       history = ap (λ (b : State). b.history) c.new-book.ensures;
       given = ap (λ (b : State). b.given) c.new-book.ensures;
       nodes = c.new.ensures.none;

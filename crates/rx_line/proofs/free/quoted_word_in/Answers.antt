@@ -3,7 +3,7 @@ use Rattle.std.specs.Prelude.{IsUtf8}
 use Rattle.std.specs.List.{prefix_len}
 use Rattle.rx_scenario.specs.Reading.{is_name_byte}
 use Rattle.rx_line.proofs.WordsLexed.{word_utf8}
-use Rattle.rx_line.proofs.free.word_in.Goals as goal
+use Rattle.rx_line.proofs.free.quoted_word_in.Goals as goal
 
 pub unreachable-requires : goal.unreachable-requires
 unreachable-requires c =
