@@ -24,7 +24,7 @@ IsOn given left None = GivesAccepted given left
 IsOn given left (Some told) = GivesFaulty given left ⊎ GivesTooMuch given left
 
 -- a sentence on the input is a line of the output
-pub record TellsOf (given left written written' : Option (List ℕ)) : Type 0 where
+pub record TellsOfInput (given left written written' : Option (List ℕ)) : Type 0 where
   pub told : List ℕ
   pub refused : GivesFaulty given left ⊎ GivesTooMuch given left
   pub line : Appends written written' (told ++ codes "\n")
@@ -32,15 +32,15 @@ pub record TellsOf (given left written written' : Option (List ℕ)) : Type 0 wh
 -- whether there was something to say, by what the reader gave; nothing is written of an input that is accepted
 abbrev pub Says : (said : Bool) (given left written written' : Option (List ℕ)) → Type 0
 Says false given left written written' = GivesAccepted given left
-Says true given left written written' = TellsOf given left written written'
+Says true given left written written' = TellsOfInput given left written written'
 
 -- the exit status: 0 where there was nothing to say, 3 where there was, 4 where memory was refused, and 1 with any
 -- other fault
-abbrev pub fault_status : ScriptError → ℕ
-fault_status Memory = 4
-fault_status _ = 1
+abbrev pub explaining_fault_status : ScriptError → ℕ
+explaining_fault_status Memory = 4
+explaining_fault_status _ = 1
 
-abbrev pub status_of : Result Bool ScriptError → ℕ
-status_of (Ok false) = 0
-status_of (Ok true) = 3
-status_of (Err e) = fault_status e
+abbrev pub explaining_status : Result Bool ScriptError → ℕ
+explaining_status (Ok false) = 0
+explaining_status (Ok true) = 3
+explaining_status (Err e) = explaining_fault_status e

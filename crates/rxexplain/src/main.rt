@@ -7,7 +7,7 @@
 ghost use Rattle.std.specs.Prelude.{◌≡◌, ◌≢◌, false, IfOk, IfErr, IsErrOf};
 ghost use Rattle.rx_device.specs.declared.fault.ScriptError.{ScriptError};
 ghost use Rattle.rx_device.specs.Device.{device_of, HasReadFault, HasWriteFault, IsUnasked};
-ghost use Rattle.rxexplain.specs.Explained.{IsOn, Says, status_of};
+ghost use Rattle.rxexplain.specs.Explained.{IsOn, Says, explaining_status};
 
 use rx_device::{ScriptError, Watched, read_all, write_text};
 use rx_explain::{explain, too_long};
@@ -69,8 +69,8 @@ fn serve<R: Read, W: Write>(
 }
 
 // The exit status of what was done.
-fn status_of(outcome: &Result<bool, ScriptError>) -> u8
-    ensures { result ≡ status_of outcome.now }
+fn explaining_status(outcome: &Result<bool, ScriptError>) -> u8
+    ensures { result ≡ explaining_status outcome.now }
 {
     match outcome {
         Ok(said) => { if *said { 3 } else { 0 } }
@@ -90,5 +90,5 @@ fn main(rt: HostRuntime) -> ExitCode {
     if let Err(error) = &outcome {
         let _ = eprintln!(rt; "rxbook: {error}");
     }
-    ExitCode::from(status_of(&outcome))
+    ExitCode::from(explaining_status(&outcome))
 }

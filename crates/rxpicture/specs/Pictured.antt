@@ -15,7 +15,7 @@ pub record Draws (given left : Option (List ℕ)) (Writes : List ℕ → Type 0)
   pub written : Writes text
 
 -- the reader gave JSON that has no dump
-pub record GivesNoHistory (given left : Option (List ℕ)) : Type 0 where
+pub record GivesNothingToDraw (given left : Option (List ℕ)) : Type 0 where
   pub value : Data
   pub gave : GivesJson given left value
   pub no_dump : history_of (dump_in value) ≡ None

@@ -3,13 +3,13 @@ use Rattle.std.specs.Prelude.{ℕ, Result, Ok, Err}
 use Rattle.rx_device.specs.declared.fault.ScriptError.{ScriptError}
 use Rattle.rx_device.specs.declared.fault.ScriptError.TheVariants.{Read, Write, Syntax, Shape, Memory}
 
-abbrev pub fault_status : ScriptError → ℕ
-fault_status Read = 1
-fault_status Write = 1
-fault_status Syntax = 3
-fault_status Shape = 3
-fault_status Memory = 4
+abbrev pub drawing_fault_status : ScriptError → ℕ
+drawing_fault_status Read = 1
+drawing_fault_status Write = 1
+drawing_fault_status Syntax = 3
+drawing_fault_status Shape = 3
+drawing_fault_status Memory = 4
 
-abbrev pub status_of : Result (Unit {0}) ScriptError → ℕ
-status_of (Ok x) = 0
-status_of (Err e) = fault_status e
+abbrev pub drawing_status : Result (Unit {0}) ScriptError → ℕ
+drawing_status (Ok x) = 0
+drawing_status (Err e) = drawing_fault_status e

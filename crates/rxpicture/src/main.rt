@@ -15,8 +15,8 @@ ghost use Rattle.rx_device.specs.Input.{GivesTooMuch, GivesNoJson};
 ghost use Rattle.rx_dump.specs.History.{history_of};
 ghost use Rattle.rx_names.specs.Names.{dump_in};
 ghost use Rattle.rx_svg.specs.Pictured.{IsPictureOn};
-ghost use Rattle.rxpicture.specs.Pictured.{Draws, GivesNoHistory};
-ghost use Rattle.rxpicture.specs.Status.{status_of};
+ghost use Rattle.rxpicture.specs.Pictured.{Draws, GivesNothingToDraw};
+ghost use Rattle.rxpicture.specs.Status.{drawing_status};
 
 use rx_device::{ScriptError, ShapeError, Watched, read_value, write_text};
 use rx_svg::picture_of;
@@ -59,7 +59,7 @@ fn draw<R: Read, W: Write>(
         → GivesTooMuch (R.remaining (device_of reader.old)) (R.remaining (device_of reader.new))
         ⊎ GivesNoJson (R.remaining (device_of reader.old)) (R.remaining (device_of reader.new)) }
     ensures shape { IsErrOf result ScriptError.Shape
-        → GivesNoHistory (R.remaining (device_of reader.old)) (R.remaining (device_of reader.new)) }
+        → GivesNothingToDraw (R.remaining (device_of reader.old)) (R.remaining (device_of reader.new)) }
 {
     let value = read_value(alloc, reader)?;
     let text = picture_on(alloc, &value)?;
@@ -70,8 +70,8 @@ fn draw<R: Read, W: Write>(
 }
 
 // The exit status of what was done, as `rxbook` has it.
-fn status_of(outcome: &Result<(), ScriptError>) -> u8
-    ensures { result ≡ status_of outcome.now }
+fn drawing_status(outcome: &Result<(), ScriptError>) -> u8
+    ensures { result ≡ drawing_status outcome.now }
 {
     match outcome {
         Ok(()) => 0,
@@ -92,5 +92,5 @@ fn main(rt: HostRuntime) -> ExitCode {
     if let Err(error) = &outcome {
         let _ = eprintln!(rt; "rxbook: {error}");
     }
-    ExitCode::from(status_of(&outcome))
+    ExitCode::from(drawing_status(&outcome))
 }
