@@ -18,7 +18,7 @@ use Rattle.rx_cellar.specs.Asking.{asks_item}
 use Rattle.rx_cellar.specs.Makings.{IsPerformed}
 use Rattle.rx_cellar.specs.Cellars.{Tidies, IsTidy, IsTidyIf, is_due, Performs, IsTried, at_once, once_more, behind_one, behind_none}
 use Rattle.rx_cellar.specs.Cellars.{told, HandsOut, hands_out, IsMadeIf, is_done, is_refused}
-use Rattle.rx_cellar.specs.Attempts.{IsTidyFor, IsMadeOnce, IsMadeOnceIf, once_done, once_refused, IsMadeBehind, made_behind, made_not}
+use Rattle.rx_cellar.specs.Attempts.{IsTidyFor, IsMadeOnce, IsMadeOnceIf, once_done, once_refused, IsMadeAgain, again_done, again_not}
 
 -- tidied -----------------------------------------------------------------------------------------------------
 
@@ -67,12 +67,12 @@ plain_refused g o asked by s e answer why a is made_so err =
     (once_refused why (performs g asked by s e answer (Err why) made_so err) refl refl)
 
 pub behind : (g : Ghosts Token) (o : Option Asked) (by : ℕ) (s u t : Cellar) (made : Result ℕ Refusal) (at : ℕ) (a b : Answer) (status : ℕ) → made ≡ Ok at →
-    Tidies s u made → IsMadeOnceIf g o by u t a b status → IsMadeBehind g o by s t a b status
-behind g o by s u t made at a b status is tidies once = made_behind at u (subst (λ (r : Result ℕ Refusal). Tidies s u r) is tidies) once
+    Tidies s u made → IsMadeOnceIf g o by u t a b status → IsMadeAgain g o by s t a b status
+behind g o by s u t made at a b status is tidies once = again_done at u (subst (λ (r : Result ℕ Refusal). Tidies s u r) is tidies) once
 
 pub not_behind : (g : Ghosts Token) (o : Option Asked) (by : ℕ) (s t : Cellar) (made : Result ℕ Refusal) (why : Refusal) (a : Answer) → made ≡ Err why →
-    Tidies s t made → IsMadeBehind g o by s t a a (refusal_status why)
-not_behind g o by s t made why a is tidies = made_not why (subst (λ (r : Result ℕ Refusal). Tidies s t r) is tidies) refl refl
+    Tidies s t made → IsMadeAgain g o by s t a a (refusal_status why)
+not_behind g o by s t made why a is tidies = again_not why (subst (λ (r : Result ℕ Refusal). Tidies s t r) is tidies) refl refl
 
 -- made -------------------------------------------------------------------------------------------------------
 
@@ -130,19 +130,19 @@ made_first g (Some asked) by s u t a b status tidy (once_refused why tried same 
 
 -- behind a checkpoint, where it was
 again : (g : Ghosts Token) (asked : Asked) (by : ℕ) (s u v t : Cellar) (a b : Answer) (status : ℕ) → IsTidy s u → Performs g asked by u v (Err Full) →
-    IsMadeBehind g (Some asked) by v t a b status → IsMadeIf g (Some asked) by s t a b status
-again g asked by s u v t a b status tidy first (made_behind at w tidies (once_done made x tried hands is)) =
+    IsMadeAgain g (Some asked) by v t a b status → IsMadeIf g (Some asked) by s t a b status
+again g asked by s u v t a b status tidy first (again_done at w tidies (once_done made x tried hands is)) =
     done_so g asked by s u x t made a b status tidy (once_more v first (behind_one at w tidies tried)) hands is
-again g asked by s u v t a b status tidy first (made_behind at w tidies (once_refused why tried same is)) =
+again g asked by s u v t a b status tidy first (again_done at w tidies (once_refused why tried same is)) =
     refused_so g asked by s u t why a b status tidy (once_more v first (behind_one at w tidies tried)) same is
-again g asked by s u v t a b status tidy first (made_not why tidies same is) =
+again g asked by s u v t a b status tidy first (again_not why tidies same is) =
     refused_so g asked by s u t why a b status tidy (once_more v first (behind_none tidies)) same is
 
 pub made_again : (g : Ghosts Token) (o : Option Asked) (by : ℕ) (s u v t : Cellar) (a b d : Answer) (before status : ℕ) → IsTidyFor o s u →
-    IsMadeOnceIf g o by u v a b before → before ≡ 16 → IsMadeBehind g o by v t b d status → IsMadeIf g o by s t a d status
+    IsMadeOnceIf g o by u v a b before → before ≡ 16 → IsMadeAgain g o by v t b d status → IsMadeIf g o by s t a d status
 made_again g None by s u v t a b d before status tidy first full more = absurd (let e = first.0 in cc)
 made_again g (Some asked) by s u v t a b d before status tidy (once_done made x tried hands is) full more = absurd (cc)
 made_again g (Some asked) by s u v t a b d before status tidy (once_refused why tried same is) full more =
     again g asked by s u v t a d status tidy
     (subst (λ (x : Refusal). Performs g asked by u v (Err x)) (full_is why (sym is ∙ full)) tried)
-    (subst (λ (x : Answer). IsMadeBehind g (Some asked) by v t x d status) same more)
+    (subst (λ (x : Answer). IsMadeAgain g (Some asked) by v t x d status) same more)

@@ -32,9 +32,9 @@ abbrev pub IsTriedOnce : Ghosts Token → Command → Cellar → Cellar → Answ
 IsTriedOnce g c s t a b status = IsMadeOnceIf g (asked_of c) c.by s t a b status
 
 -- behind a checkpoint; or that was refused, and so is the command, for its cause
-pub data IsMadeBehind (g : Ghosts Token) (o : Option Asked) (by : ℕ) (s t : Cellar) (a b : Answer) (status : ℕ) : Type 0 where
-  made_behind : (at : ℕ) (u : Cellar) → Tidies s u (Ok at) → IsMadeOnceIf g o by u t a b status → IsMadeBehind g o by s t a b status
-  made_not : (why : Refusal) → Tidies s t (Err why) → b ≡ a → status ≡ refusal_status why → IsMadeBehind g o by s t a b status
+pub data IsMadeAgain (g : Ghosts Token) (o : Option Asked) (by : ℕ) (s t : Cellar) (a b : Answer) (status : ℕ) : Type 0 where
+  again_done : (at : ℕ) (u : Cellar) → Tidies s u (Ok at) → IsMadeOnceIf g o by u t a b status → IsMadeAgain g o by s t a b status
+  again_not : (why : Refusal) → Tidies s t (Err why) → b ≡ a → status ≡ refusal_status why → IsMadeAgain g o by s t a b status
 
 abbrev pub IsTriedBehind : Ghosts Token → Command → Cellar → Cellar → Answer → Answer → ℕ → Type 0
-IsTriedBehind g c s t a b status = IsMadeBehind g (asked_of c) c.by s t a b status
+IsTriedBehind g c s t a b status = IsMadeAgain g (asked_of c) c.by s t a b status

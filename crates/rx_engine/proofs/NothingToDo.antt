@@ -15,7 +15,7 @@ use Rattle.rx_engine.specs.declared.parts.Parts.{Parts}
 use Rattle.rx_engine.specs.Deliveries.{many_at, none_left, Delivers, none_delivered, settled}
 use Rattle.rx_engine.specs.Rooms.{IsReady}
 use Rattle.rx_engine.specs.Settlements.{closed_of}
-use Rattle.rx_engine.specs.Gatherings.{Ends, Spreads, IsLoaded}
+use Rattle.rx_engine.specs.Gatherings.{EndsClosed, Spreads, IsLoaded}
 
 pub none_of_length : {X : Type 0} (xs : List X) → length xs ≡ 0 → xs ≡ []
 none_of_length [] none = refl
@@ -31,9 +31,9 @@ nothing_waits b kept none = by_list b.waiting kept.waiting.each where
       let one = ap (λ (x : Bool). cond {A = ℕ} x 1 0) waits in
       absurd (omega (arith, counted, one, none))
 
-pub nothing_ends : (by : ℕ) (b : BookState) (p : Parts) → length b.closed ≡ 0 → Ends by (closed_of b) p p
+pub nothing_ends : (by : ℕ) (b : BookState) (p : Parts) → length b.closed ≡ 0 → EndsClosed by (closed_of b) p p
 nothing_ends by b p none =
-    subst (λ (ks : List Key). Ends by (map (λ (k : Key). k.number) ks) p p) (sym (none_of_length b.closed none)) (record {
+    subst (λ (ks : List Key). EndsClosed by (map (λ (k : Key). k.number) ks) p p) (sym (none_of_length b.closed none)) (record {
       homes = refl;
       leaves = none_left (record { lanes = λ name. refl; fresh_is = refl; next_turn = refl; due = refl });
       many = λ name. refl;

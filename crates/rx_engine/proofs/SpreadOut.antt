@@ -22,7 +22,7 @@ use Rattle.rx_engine.specs.Rooms.{role_count, named, IsReady}
 use Rattle.rx_roles.specs.declared.roles.Role.{Role}
 use Rattle.rx_engine.specs.Settlements.{Settles, Releases, all_given, effects_told}
 use Rattle.rx_engine.specs.Gatherings.{Gathers, Spreads, IsLoaded}
-use Rattle.rx_engine.specs.Handings.{ClaimsOnly, IsClaimed, GivesIf, SpreadsAndHands, IsHandedOver}
+use Rattle.rx_engine.specs.Handings.{ClaimsOnly, IsClaimed, GivesIf, SpreadsAndHands, AnswersHandOut}
 use Rattle.rx_engine.specs.Servings.{is_one}
 use Rattle.rx_engine.proofs.NamedLanes.{delivered_many}
 use Rattle.rx_engine.proofs.LanesServed.{kept_many, taken_many, claimed_many, turns_many, served_many}
@@ -216,7 +216,7 @@ spread_only {by} {p} {q} none_closed is spreads ready = record {
 
 -- where one look tells whether something was closed
 pub handed_over : {by : ℕ} {p q : Parts} (none_closed is : Bool) (given : Option Effect) → none_closed ≡ is → SpreadsAndHands is by p q given →
-    IsHandedOver none_closed by p q (Ok given)
+    AnswersHandOut none_closed by p q (Ok given)
 handed_over {by} {p} {q} none_closed is given same hands = record {
   given = given;
   answers = refl;

@@ -29,7 +29,7 @@ pub record Gathers (g : Ghosts Token) (by value : ℕ) (mid : BookState) (p : Pa
   pub limit : t.limit ≡ mid.limit
 
 -- the nodes of these numbers left their lanes and their hubs, and their roles ended, one node after another
-pub record Ends (by : ℕ) (closed : List ℕ) (p q : Parts) : Type 0 where
+pub record EndsClosed (by : ℕ) (closed : List ℕ) (p q : Parts) : Type 0 where
   pub homes : q.homes.list ≡ without_all p.homes.list closed
   pub leaves : Leaves p.lanes (taken_out p.homes.list closed) q.lanes
   pub many : (name : LaneName) → many_at q.lanes name + names_of name p.homes.list ≡ many_at p.lanes name + names_of

@@ -45,7 +45,7 @@ pub record SpreadsAndHands (none_closed : Bool) (by : ℕ) (p q : Parts) (given 
   pub only : q ≡ record between { lanes = q.lanes }
 
 -- and the command's answer is what was handed out
-pub record IsHandedOver (none_closed : Bool) (by : ℕ) (p q : Parts) (answer : Result (Option Effect) Refusal) : Type 0 where
+pub record AnswersHandOut (none_closed : Bool) (by : ℕ) (p q : Parts) (answer : Result (Option Effect) Refusal) : Type 0 where
   pub given : Option Effect
   pub answers : answer ≡ Ok given
   pub hands : SpreadsAndHands none_closed by p q given

@@ -8,9 +8,9 @@ ghost use Rattle.rx_engine.specs.Rooms.{IsReady};
 ghost use Rattle.rx_pool.specs.Moves.{MayLeaveAll};
 ghost use Rattle.rx_shares.specs.Places.{places_left};
 ghost use Rattle.rx_engine.specs.Settlements.{mail_left, closed_of, Settles, KeepsKeys};
-ghost use Rattle.rx_engine.specs.Gatherings.{Gathers, Ends, Spreads, IsLoaded};
+ghost use Rattle.rx_engine.specs.Gatherings.{Gathers, EndsClosed, Spreads, IsLoaded};
 ghost use Rattle.rx_engine.specs.Closings.{Closes};
-ghost use Rattle.rx_engine.specs.Handings.{IsClaimed, GivesIf, SpreadsAndHands, IsHandedOver};
+ghost use Rattle.rx_engine.specs.Handings.{IsClaimed, GivesIf, SpreadsAndHands, AnswersHandOut};
 ghost use Rattle.rx_engine.specs.Servings.{is_one};
 
 use crate::delivering::deliver;
@@ -28,7 +28,7 @@ fn close_some(book: &Book<Token>, parts: &mut Parts, wishes: &mut Wishes, by: u6
     requires hubs { MayLeaveAll (places_left parts.old.shares.list (closed_of book.now)) parts.old.shares.hubs }
     requires named { (name : LaneName) → names_of name parts.old.homes.list ≤ many_at parts.old.lanes name }
     requires room { length parts.old.hears.list + length parts.old.merges.list ≤ parts.old.effects.room }
-    ensures ends { Ends by (closed_of book.now) parts.old parts.new }
+    ensures ends { EndsClosed by (closed_of book.now) parts.old parts.new }
     ensures closes { Closes book.now wishes.old.roles.list wishes.new }
 {
     wishes.close(book);
@@ -49,7 +49,7 @@ fn close_nodes(book: &Book<Token>, parts: &mut Parts, wishes: &mut Wishes, by: u
     requires hubs { MayLeaveAll (places_left parts.old.shares.list (closed_of book.now)) parts.old.shares.hubs }
     requires named { (name : LaneName) → names_of name parts.old.homes.list ≤ many_at parts.old.lanes name }
     requires room { length parts.old.hears.list + length parts.old.merges.list ≤ parts.old.effects.room }
-    ensures ends { Ends by (closed_of book.now) parts.old parts.new }
+    ensures ends { EndsClosed by (closed_of book.now) parts.old parts.new }
     ensures closes { Closes book.now wishes.old.roles.list wishes.new }
 {
     if book.closed_count() > 0 {
@@ -191,7 +191,7 @@ pub(crate) fn spread_and_hand(
     by: u64,
 ) -> Result<Option<Effect>, Refusal>
     requires { IsLoaded parts.old }
-    ensures hands { IsHandedOver (length book.now.closed == 0) by parts.old parts.new result }
+    ensures hands { AnswersHandOut (length book.now.closed == 0) by parts.old parts.new result }
     ensures ready { IsReady 0 parts.new }
 {
     if book.closed_count() != 0 {

@@ -3,7 +3,7 @@ use Rattle.std.proofs.Common.{◌≡◌, ◌≢◌, ℕ, ◌-◌, ◌<◌, ◌==
 use Rattle.std.proofs.Common.{true≢false, sym, ◌∙◌, ap, subst, arith, length-set, get_or-set_same, get_or-set_other}
 use Rattle.rx_slots.specs.Lists.{is_in}
 use Rattle.rx_lanes.specs.declared.queues.Ends.{Ends}
-use Rattle.rx_lanes.specs.Chains.{no_cell, next_at, ends_at, Leads, EndsIn, first_in, AreChained, last_or, joined_next, joined_ends, read_all, AreCells}
+use Rattle.rx_lanes.specs.Chains.{no_cell, next_at, ends_at, LeadsThrough, EndsIn, first_cell_in, AreChained, last_cell_or, joined_next, joined_ends, read_all, AreCells}
 use Rattle.rx_lanes.proofs.NumbersOnLists.{eq_self, eq_not, read_same}
 use Rattle.rx_lanes.proofs.CellsChained.{by_place, is_list, leads_below, ends_on, ends_last, with_list, IsFirstOf, led, elsewhere, unlike, on_none}
 use Rattle.rx_lanes.proofs.CellsChained.{taken_off, IsLoose, put_first, put_last}
@@ -37,11 +37,11 @@ module _ {E : Type 0} {cells : List E} {next : List ℕ} {ends : List Ends} {fre
   -- the cell that is used next, and the other free ones
   pub record HasFree : Type 0 where
     pub rest : List ℕ
-    pub is_first : IsFirstOf next (first_in free ends) are.lists None free rest
+    pub is_first : IsFirstOf next (first_cell_in free ends) are.lists None free rest
 
   pub has_free : 0 < spare → HasFree
   has_free some = of (are.lists None) refl (are.chained.leads None) where
-    of : (xs : List ℕ) → are.lists None ≡ xs → Leads next free xs → HasFree
+    of : (xs : List ℕ) → are.lists None ≡ xs → LeadsThrough next free xs → HasFree
     of [] is l = let none = are.spare_is ∙ ap length is in absurd (omega (arith, none, some))
     of (x ∷ xs) is l = record { rest = xs; is_first = record { chained = are.chained; is = is ∙ ap (λ z. z ∷ xs) (sym l.0) } }
 
@@ -57,14 +57,14 @@ module _ {E : Type 0} {cells : List E} {next : List ℕ} {ends : List Ends} {fre
 
     last : Last
     last = of (are.lists (Some queue)) refl (are.chained.leads (Some queue)) (are.last queue) where
-      of : (xs : List ℕ) → are.lists (Some queue) ≡ xs → Leads next (ends_at ends queue).first xs → EndsIn (ends_at ends queue).last xs → Last
+      of : (xs : List ℕ) → are.lists (Some queue) ≡ xs → LeadsThrough next (ends_at ends queue).first xs → EndsIn (ends_at ends queue).last xs → Last
       of [] is l e = no_last is (ap (λ n. n == no_cell) l ∙ eq_self no_cell)
       of (x ∷ xs) is l e =
           let below = l.1 in let few = are.few in
           its_last x xs is (ap (λ n. n == no_cell) l.0 ∙ eq_not x no_cell (λ s. absurd (omega (arith, s, below, few))))
           (ap (is_in (ends_at ends queue).last) is ∙ ends_on (ends_at ends queue).last x xs e)
 
-    pub last_within : last_or free (ends_at ends queue) < length next
+    pub last_within : last_cell_or free (ends_at ends queue) < length next
     last_within = elim last [
       | no_last is t ↦ subst (λ b. cond b free (ends_at ends queue).last < length next) (sym t) free_within
       | its_last x xs is t on ↦ subst (λ b. cond b free (ends_at ends queue).last < length next) (sym t)
@@ -78,25 +78,25 @@ module _ {E : Type 0} {cells : List E} {next : List ℕ} {ends : List Ends} {fre
       abbrev joined : Option ℕ → List ℕ
       joined = with_list (Some queue) (are.lists (Some queue) ++ free ∷ []) (with_list None has.rest are.lists)
 
-      loose : IsLoose next (first_in (next_at next free) ends) (with_list None has.rest are.lists) free
+      loose : IsLoose next (first_cell_in (next_at next free) ends) (with_list None has.rest are.lists) free
       loose = record {
-        chained = taken_off has.is_first (first_in (next_at next free) ends) of;
+        chained = taken_off has.is_first (first_cell_in (next_at next free) ends) of;
         none = on_none has.is_first;
         within = free_within;
       } where
-        of : (e : Option ℕ) → first_in (next_at next free) ends e ≡ cond (is_list None e) (next_at next free) (first_in free ends e)
+        of : (e : Option ℕ) → first_cell_in (next_at next free) ends e ≡ cond (is_list None e) (next_at next free) (first_cell_in free ends e)
         of None = refl
         of (Some q) = refl
 
-      stays : (e : Option ℕ) → Some queue ≢ e → first_in (next_at next free) ended e ≡ first_in (next_at next free) ends e
+      stays : (e : Option ℕ) → Some queue ≢ e → first_cell_in (next_at next free) ended e ≡ first_cell_in (next_at next free) ends e
       stays None apart = refl
       stays (Some q) apart = ap (λ (e : Ends). e.first) (get_or-set_other ends queue q _ _ (λ s. apart (ap Some (sym s))))
 
-      chained : AreChained (joined_next next free (ends_at ends queue)) (first_in (next_at next free) ended) joined
+      chained : AreChained (joined_next next free (ends_at ends queue)) (first_cell_in (next_at next free) ended) joined
       chained =
           let e = ends_at ends queue in
           let n = joined_next next free e in
-          let f = first_in (next_at next free) ended in
+          let f = first_cell_in (next_at next free) ended in
           let many = wrote_many next free e.last (e.first == no_cell) in
           let own = wrote_own next free e.last (e.first == no_cell) free_within in
           let begins : (ends_at ended queue).first ≡
@@ -104,7 +104,7 @@ module _ {E : Type 0} {cells : List E} {next : List ℕ} {ends : List Ends} {fre
           elim last [
             | no_last is t ↦ subst (λ xs. AreChained n f (with_list (Some queue) (xs ++ free ∷ []) (with_list None has.rest are.lists))) (sym is)
                 (subst (λ xs. AreChained n f (with_list (Some queue) (free ∷ xs) (with_list None has.rest are.lists))) is
-                (put_first loose (Some queue) n f many stays (own ∙ sym (subst (Leads next e.first) is (are.chained.leads (Some queue))))
+                (put_first loose (Some queue) n f many stays (own ∙ sym (subst (LeadsThrough next e.first) is (are.chained.leads (Some queue))))
                 (λ m apart. wrote_other next free e.last (e.first == no_cell) m apart (λ f. absurd (true≢false (sym t ∙ f))))
                 (begins ∙ ap (λ b. cond b free e.first) t)))
             | its_last x xs is t on ↦ put_last loose (Some queue) n f many stays e.last x xs is (are.last queue)

@@ -3,7 +3,7 @@ use Rattle.std.proofs.Common.{◌≡◌, ◌≢◌, ℕ, ◌+◌, ◌<◌, ◌==
 use Rattle.std.proofs.Common.{sym, ◌∙◌, ap, subst, arith, length-set, get_or-set_same, get_or-set_other}
 use Rattle.std.proofs.lemmas.List.{get_or_read}
 use Rattle.rx_lanes.specs.declared.queues.Ends.{Ends}
-use Rattle.rx_lanes.specs.Chains.{first_of, rest_of, no_cell, next_at, ends_at, Leads, EndsIn, first_in, AreChained, read_all, AreCells}
+use Rattle.rx_lanes.specs.Chains.{first_of, rest_of, no_cell, next_at, ends_at, LeadsThrough, EndsIn, first_cell_in, AreChained, read_all, AreCells}
 use Rattle.rx_lanes.proofs.CellsChained.{by_place, is_list, leads_few, ends_rest, with_list, IsFirstOf, led, on_none, taken_off, IsLoose, put_first}
 use Rattle.rx_lanes.proofs.QueuesShown.{at_set, queue_of, shows, shows_none}
 
@@ -12,7 +12,7 @@ module _ {E : Type 0} {cells : List E} {next : List ℕ} {ends : List Ends} {fre
   -- a queue begins with this cell
   pub record HasFirst : Type 0 where
     pub rest : List ℕ
-    pub is_first : IsFirstOf next (first_in free ends) are.lists (Some queue) cell rest
+    pub is_first : IsFirstOf next (first_cell_in free ends) are.lists (Some queue) cell rest
 
   module _ (has : HasFirst) where
     pub cell_within : cell < length next
@@ -25,23 +25,23 @@ module _ {E : Type 0} {cells : List E} {next : List ℕ} {ends : List Ends} {fre
       abbrev left : Option ℕ → List ℕ
       left = with_list None (cell ∷ are.lists None) (with_list (Some queue) has.rest are.lists)
 
-      loose : IsLoose next (first_in free (set ends queue e)) (with_list (Some queue) has.rest are.lists) cell
+      loose : IsLoose next (first_cell_in free (set ends queue e)) (with_list (Some queue) has.rest are.lists) cell
       loose = record {
-        chained = taken_off has.is_first (first_in free (set ends queue e)) of;
+        chained = taken_off has.is_first (first_cell_in free (set ends queue e)) of;
         none = on_none has.is_first;
         within = cell_within;
       } where
-        of : (f : Option ℕ) → first_in free (set ends queue e) f ≡ cond (is_list (Some queue) f) (next_at next cell) (first_in free ends f)
+        of : (f : Option ℕ) → first_cell_in free (set ends queue e) f ≡ cond (is_list (Some queue) f) (next_at next cell) (first_cell_in free ends f)
         of None = refl
         of (Some q) = ap (λ (e : Ends). e.first) (at_set ends queue e q within)
             ∙ by_place (λ b. (cond b e (ends_at ends q)).first ≡ cond b (next_at next cell) (ends_at ends q).first) queue q (λ same. first_is)
             (λ apart. refl)
 
-      chained : AreChained (set next cell free) (first_in cell (set ends queue e)) left
-      chained = put_first loose None (set next cell free) (first_in cell (set ends queue e)) (length-set next cell free) of
+      chained : AreChained (set next cell free) (first_cell_in cell (set ends queue e)) left
+      chained = put_first loose None (set next cell free) (first_cell_in cell (set ends queue e)) (length-set next cell free) of
           (get_or-set_same next cell free no_cell cell_within) (λ m apart. get_or-set_other next cell m free no_cell apart) refl
         where
-          of : (f : Option ℕ) → None ≢ f → first_in cell (set ends queue e) f ≡ first_in free (set ends queue e) f
+          of : (f : Option ℕ) → None ≢ f → first_cell_in cell (set ends queue e) f ≡ first_cell_in free (set ends queue e) f
           of None apart = absurd (apart refl)
           of (Some q) apart = refl
 
@@ -86,7 +86,7 @@ module _ {E : Type 0} {cells : List E} {next : List ℕ} {ends : List Ends} {fre
 
   pub has_first : e.first ≢ no_cell → HasFirst are queue e.first
   has_first some = of (are.lists (Some queue)) refl (are.chained.leads (Some queue)) where
-    of : (xs : List ℕ) → are.lists (Some queue) ≡ xs → Leads next (ends_at ends queue).first xs → HasFirst are queue e.first
+    of : (xs : List ℕ) → are.lists (Some queue) ≡ xs → LeadsThrough next (ends_at ends queue).first xs → HasFirst are queue e.first
     of [] on l = absurd (some (ap (λ (e : Ends). e.first) found ∙ l))
     of (x ∷ xs) on l = record {
       rest = xs;

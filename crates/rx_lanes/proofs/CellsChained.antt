@@ -3,7 +3,7 @@ use Rattle.std.proofs.Common.{◌≡◌, ◌≢◌, ℕ, zero, suc, ◌<◌, ◌
 use Rattle.std.proofs.Common.{sym, ◌∙◌, ap, subst, arith, inl, inr, ◌⊎◌, true≢false}
 use Rattle.std.proofs.lemmas.Bool.{cases_eq}
 use Rattle.rx_slots.specs.Lists.{is_in, AreApart}
-use Rattle.rx_lanes.specs.Chains.{no_cell, next_at, Leads, walk, EndsIn, AreChained}
+use Rattle.rx_lanes.specs.Chains.{no_cell, next_at, LeadsThrough, walk_cells, EndsIn, AreChained}
 use Rattle.rx_lanes.proofs.NumbersOnLists.{eq_self, eq_not, few_apart, is_in-last, AreApart-last}
 
 -- a test of two numbers, by cases
@@ -44,39 +44,39 @@ unlike m c xs i none same = true≢false (sym i ∙ ap (λ z. is_in z xs) same �
 
 -- links that stay where they are read lead over the same cells
 pub leads_same : (next next' : List ℕ) (first : ℕ) (xs : List ℕ) → length next ≤ length next' →
-    ((m : ℕ) → m < length next → is_in m xs ≡ true → next_at next' m ≡ next_at next m) → Leads next first xs → Leads next' first xs
+    ((m : ℕ) → m < length next → is_in m xs ≡ true → next_at next' m ≡ next_at next m) → LeadsThrough next first xs → LeadsThrough next' first xs
 leads_same next next' first [] longer same l = l
 leads_same next next' first (x ∷ xs) longer same l =
     let within = l.1 in (
       l.0,
       omega (arith, within, longer),
-      subst (λ n. Leads next' n xs) (sym (same x within (on_own x xs)))
+      subst (λ n. LeadsThrough next' n xs) (sym (same x within (on_own x xs)))
           (leads_same next next' (next_at next x) xs longer (λ m below i. same m below (on_more m x xs i)) l.2),
     )
 
-pub leads_below : (next : List ℕ) (first : ℕ) (xs : List ℕ) → Leads next first xs → (m : ℕ) → is_in m xs ≡ true → m < length next
+pub leads_below : (next : List ℕ) (first : ℕ) (xs : List ℕ) → LeadsThrough next first xs → (m : ℕ) → is_in m xs ≡ true → m < length next
 leads_below next first [] l m i = absurd (true≢false (sym i))
 leads_below next first (x ∷ xs) l m i = of (cases_eq m x) (leads_below next (next_at next x) xs l.2 m) where
   of : ((m ≡ x) ⊎ (m ≢ x)) → (is_in m xs ≡ true → m < length next) → m < length next
   of (inl same) further = subst (λ z. z < length next) (sym same) l.1
   of (inr apart) further = further (sym (on_rest m x xs apart) ∙ i)
 
-pub leads_few : (next : List ℕ) (first : ℕ) (xs : List ℕ) → AreApart xs → Leads next first xs → length xs ≤ length next
+pub leads_few : (next : List ℕ) (first : ℕ) (xs : List ℕ) → AreApart xs → LeadsThrough next first xs → length xs ≤ length next
 leads_few next first xs apart l = few_apart (length next) xs apart (leads_below next first xs l)
 
-pub walk_none : (steps : ℕ) (next : List ℕ) → walk steps next no_cell ≡ []
+pub walk_none : (steps : ℕ) (next : List ℕ) → walk_cells steps next no_cell ≡ []
 walk_none zero next = refl
-walk_none (suc steps) next = ap (λ b. cond b [] (no_cell ∷ walk steps next (next_at next no_cell))) (eq_self no_cell)
+walk_none (suc steps) next = ap (λ b. cond b [] (no_cell ∷ walk_cells steps next (next_at next no_cell))) (eq_self no_cell)
 
 -- a walk finds the cells that are led over
-pub walk_is : (steps : ℕ) (next : List ℕ) (first : ℕ) (xs : List ℕ) → length next ≤ 536870912 → length xs ≤ steps → Leads next first xs →
-    walk steps next first ≡ xs
-walk_is steps next first [] few fits l = ap (walk steps next) l ∙ walk_none steps next
+pub walk_is : (steps : ℕ) (next : List ℕ) (first : ℕ) (xs : List ℕ) → length next ≤ 536870912 → length xs ≤ steps → LeadsThrough next first xs →
+    walk_cells steps next first ≡ xs
+walk_is steps next first [] few fits l = ap (walk_cells steps next) l ∙ walk_none steps next
 walk_is zero next first (x ∷ xs) few fits l = absurd (omega (arith, fits))
 walk_is (suc steps) next first (x ∷ xs) few fits l =
     let within = l.1 in
-    ap (walk (suc steps) next) l.0
-    ∙ ap (λ b. cond b [] (x ∷ walk steps next (next_at next x))) (eq_not x no_cell (λ e. absurd (omega (arith, e, within, few))))
+    ap (walk_cells (suc steps) next) l.0
+    ∙ ap (λ b. cond b [] (x ∷ walk_cells steps next (next_at next x))) (eq_not x no_cell (λ e. absurd (omega (arith, e, within, few))))
     ∙ ap (λ (ys : List ℕ). x ∷ ys) (walk_is steps next (next_at next x) xs few (omega (arith, fits)) l.2)
 
 pub ends_on : (l x : ℕ) (xs : List ℕ) → EndsIn l (x ∷ xs) → is_in l (x ∷ xs) ≡ true
@@ -104,8 +104,8 @@ pub record IsFirstOf (next : List ℕ) (first : Option ℕ → ℕ) (lists : Opt
 
 module _ {next : List ℕ} {first : Option ℕ → ℕ} {lists : Option ℕ → List ℕ} {from : Option ℕ} {cell : ℕ} {cs : List ℕ}
     (f : IsFirstOf next first lists from cell cs) where
-  pub led : (first from ≡ cell) × (cell < length next) × Leads next (next_at next cell) cs
-  led = subst (Leads next (first from)) f.is (f.chained.leads from)
+  pub led : (first from ≡ cell) × (cell < length next) × LeadsThrough next (next_at next cell) cs
+  led = subst (LeadsThrough next (first from)) f.is (f.chained.leads from)
 
   rest_apart : (is_in cell cs ≡ false) × AreApart cs
   rest_apart = subst AreApart f.is (f.chained.apart from)
@@ -129,8 +129,8 @@ module _ {next : List ℕ} {first : Option ℕ → ℕ} {lists : Option ℕ → 
   pub taken_off : (first' : Option ℕ → ℕ) → ((e : Option ℕ) → first' e ≡ cond (is_list from e) (next_at next cell) (first e)) →
       AreChained next first' (with_list from cs lists)
   taken_off first' is = record {
-    leads = λ e. subst (λ n. Leads next n (with_list from cs lists e)) (sym (is e))
-        (by_list (λ b. Leads next (cond b (next_at next cell) (first e)) (cond b cs (lists e))) from e (λ same. led.2) (λ apart. f.chained.leads e));
+    leads = λ e. subst (λ n. LeadsThrough next n (with_list from cs lists e)) (sym (is e))
+        (by_list (λ b. LeadsThrough next (cond b (next_at next cell) (first e)) (cond b cs (lists e))) from e (λ same. led.2) (λ apart. f.chained.leads e));
     apart = λ e. by_list (λ b. AreApart (cond b cs (lists e))) from e (λ same. rest_apart.1) (λ apart. f.chained.apart e);
     once = λ e g m i j. f.chained.once e g m (was_on e m i) (was_on g m j);
   }
@@ -154,11 +154,11 @@ module _ {next : List ℕ} {first : Option ℕ → ℕ} {lists : Option ℕ → 
 
   put_on : (next' : List ℕ) (first' : Option ℕ → ℕ) → length next ≤ length next' →
       ((e : Option ℕ) (m : ℕ) → to ≢ e → is_in m (lists e) ≡ true → next_at next' m ≡ next_at next m) →
-      ((e : Option ℕ) → to ≢ e → first' e ≡ first e) → Leads next' (first' to) ys → AreChained next' first' (with_list to ys lists)
+      ((e : Option ℕ) → to ≢ e → first' e ≡ first e) → LeadsThrough next' (first' to) ys → AreChained next' first' (with_list to ys lists)
   put_on next' first' longer same stays leads = record {
-    leads = λ e. by_list (λ b. Leads next' (first' e) (cond b ys (lists e))) to e
-        (λ it. subst (λ z. Leads next' (first' z) ys) it leads)
-        (λ other. subst (λ n. Leads next' n (lists e)) (sym (stays e other))
+    leads = λ e. by_list (λ b. LeadsThrough next' (first' e) (cond b ys (lists e))) to e
+        (λ it. subst (λ z. LeadsThrough next' (first' z) ys) it leads)
+        (λ other. subst (λ n. LeadsThrough next' n (lists e)) (sym (stays e other))
         (leads_same next next' (first e) (lists e) longer (λ m below. same e m other) (c.chained.leads e)));
     apart = λ e. by_list (λ b. AreApart (cond b ys (lists e))) to e (λ it. apart) (λ other. c.chained.apart e);
     once = λ e g m i j. of e g m (came e m i) (came g m j);
@@ -183,14 +183,14 @@ module _ {next : List ℕ} {first : Option ℕ → ℕ} {lists : Option ℕ → 
       (λ e m other. kept e m) stays (
         now,
         omega (arith, within, as_many),
-        subst (λ n. Leads next' n (lists to)) (sym leads_on)
+        subst (λ n. LeadsThrough next' n (lists to)) (sym leads_on)
             (leads_same next next' (first to) (lists to) (omega (arith, as_many)) (λ m below. kept to m) (c.chained.leads to)),
       )
 
   -- the last of a list leads to it
   leads_last : (l f x : ℕ) (xs : List ℕ) → EndsIn l (x ∷ xs) → AreApart (x ∷ xs) → is_in cell (x ∷ xs) ≡ false → next_at next' l ≡ cell →
       next_at next' cell ≡ no_cell →
-      ((m : ℕ) → m ≢ cell → m ≢ l → next_at next' m ≡ next_at next m) → Leads next f (x ∷ xs) → Leads next' f ((x ∷ xs) ++ cell ∷ [])
+      ((m : ℕ) → m ≢ cell → m ≢ l → next_at next' m ≡ next_at next m) → LeadsThrough next f (x ∷ xs) → LeadsThrough next' f ((x ∷ xs) ++ cell ∷ [])
   leads_last l f x [] ends apart none leads_on leads_off same leads =
       let below = leads.1 in
       let within = c.within in
@@ -201,7 +201,7 @@ module _ {next : List ℕ} {first : Option ℕ → ℕ} {lists : Option ℕ → 
       let not_last : x ≢ l = λ e. unlike l x (y ∷ xs) (ends_on l y xs ends) apart.0 (sym e) in (
         leads.0,
         omega (arith, below, as_many),
-        subst (λ n. Leads next' n ((y ∷ xs) ++ cell ∷ [])) (sym (same x not_cell not_last))
+        subst (λ n. LeadsThrough next' n ((y ∷ xs) ++ cell ∷ [])) (sym (same x not_cell not_last))
             (leads_last l (next_at next x) y xs ends apart.1 (sym (on_rest cell x (y ∷ xs) (λ e. not_cell (sym e))) ∙ none) leads_on leads_off same
             leads.2),
       )
@@ -215,7 +215,7 @@ module _ {next : List ℕ} {first : Option ℕ → ℕ} {lists : Option ℕ → 
       (λ m other. is_in-last m cell (lists to) other) next' first' (omega (arith, as_many))
       (λ e m other i. same m (unlike m cell (lists e) i (c.none e))
       (λ it. other (c.chained.once to e m (subst (λ z. is_in z (lists to) ≡ true) (sym it) on) i))) stays
-      (subst (λ n. Leads next' n (lists to ++ cell ∷ [])) (sym begins) (subst (λ ys. Leads next' (first to) (ys ++ cell ∷ [])) (sym is)
+      (subst (λ n. LeadsThrough next' n (lists to ++ cell ∷ [])) (sym begins) (subst (λ ys. LeadsThrough next' (first to) (ys ++ cell ∷ [])) (sym is)
       (leads_last l (first to) x xs (subst (EndsIn l) is ends) (subst AreApart is (c.chained.apart to)) (ap (is_in cell) (sym is) ∙ c.none to)
       leads_on leads_off same
-      (subst (Leads next (first to)) is (c.chained.leads to)))))
+      (subst (LeadsThrough next (first to)) is (c.chained.leads to)))))

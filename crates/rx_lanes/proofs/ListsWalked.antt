@@ -2,7 +2,7 @@
 use Rattle.std.proofs.Common.{◌≡◌, ◌≢◌, ℕ, suc, ◌+◌, ◌^◌, ◌<◌, ◌≤◌, Some, List, [], ◌∷◌, length, refl, sym, ◌∙◌, ap, subst, arith}
 use Rattle.rx_lanes.specs.declared.queues.Ends.{Ends}
 use Rattle.rx_lanes.specs.Reports.{at_most_all}
-use Rattle.rx_lanes.specs.Chains.{no_cell, next_at, ends_at, Leads, walk, AreCells, read_all}
+use Rattle.rx_lanes.specs.Chains.{no_cell, next_at, ends_at, LeadsThrough, walk_cells, AreCells, read_all}
 use Rattle.rx_lanes.proofs.CellsChained.{walk_is, leads_few}
 use Rattle.rx_lanes.proofs.QueuesShown.{queue_of, shows}
 
@@ -15,13 +15,13 @@ capped-three a r f b = ap (λ n. at_most_all (n + b)) (capped (a + r) f) ∙ cap
 -- what is counted and the cells from here on come to this sum
 pub record WalksTo (next : List ℕ) (cell many sum : ℕ) : Type 0 where
   pub rest : List ℕ
-  pub leads : Leads next cell rest
+  pub leads : LeadsThrough next cell rest
   pub fits : length rest ≤ length next
   pub small : many < 2 ^ 64
   pub sum_is : at_most_all (many + length rest) ≡ at_most_all sum
 
 abbrev pub to_go : List ℕ → ℕ → ℕ
-to_go next cell = length (walk (length next) next cell)
+to_go next cell = length (walk_cells (length next) next cell)
 
 pub walk_starts : {E : Type 0} (blank : E) {cells : List E} {next : List ℕ} {ends : List Ends} {free spare : ℕ}
     (are : AreCells cells next ends free spare) (queue so_far : ℕ) → so_far < 2 ^ 64 →
@@ -41,18 +41,18 @@ walk_starts {E} blank {cells} {next} {ends} are queue so_far small = record {
 record Step (next : List ℕ) (cell many sum : ℕ) : Type 0 where
   cs : List ℕ
   within : cell < length next
-  leads : Leads next cell (cell ∷ cs)
+  leads : LeadsThrough next cell (cell ∷ cs)
   fits : length cs < length next
   sum_is : at_most_all (many + suc (length cs)) ≡ at_most_all sum
 
 step_of : {next : List ℕ} {cell many sum : ℕ} → WalksTo next cell many sum → cell ≢ no_cell → Step next cell many sum
 step_of {next} {cell} {many} {sum} w some = of w.rest w.leads w.fits w.sum_is where
-  of : (rest : List ℕ) → Leads next cell rest → length rest ≤ length next → at_most_all (many + length rest) ≡ at_most_all sum → Step next cell many sum
+  of : (rest : List ℕ) → LeadsThrough next cell rest → length rest ≤ length next → at_most_all (many + length rest) ≡ at_most_all sum → Step next cell many sum
   of [] l f s = absurd (some l)
   of (x ∷ xs) l f s = record {
     cs = xs;
     within = subst (λ z. z < length next) (sym l.0) l.1;
-    leads = subst (λ z. Leads next cell (z ∷ xs)) (sym l.0) l;
+    leads = subst (λ z. LeadsThrough next cell (z ∷ xs)) (sym l.0) l;
     fits = f;
     sum_is = s;
   }
@@ -84,6 +84,6 @@ walk_shorter {next} {cell} few w some =
 
 pub walk_ends : {next : List ℕ} {cell many sum : ℕ} → length next ≤ 536870912 → WalksTo next cell many sum → cell ≡ no_cell → many ≡ at_most_all sum
 walk_ends {next} {cell} {many} {sum} few w none = of w.rest w.leads w.sum_is where
-  of : (rest : List ℕ) → Leads next cell rest → at_most_all (many + length rest) ≡ at_most_all sum → many ≡ at_most_all sum
+  of : (rest : List ℕ) → LeadsThrough next cell rest → at_most_all (many + length rest) ≡ at_most_all sum → many ≡ at_most_all sum
   of [] l s = let small = w.small in omega (arith, small, s)
   of (x ∷ xs) l s = let below = l.1 in let is = sym l.0 ∙ none in absurd (omega (arith, below, few, is))

@@ -4,7 +4,7 @@ use Rattle.std.proofs.Common.{is_some, true≢false, sym, ◌∙◌, ap, subst, 
 use Rattle.std.proofs.lemmas.List.{map_push, length-map}
 use Rattle.std.proofs.Math.Bool.{not}
 use Rattle.rx_lanes.specs.declared.queues.Ends.{Ends}
-use Rattle.rx_lanes.specs.Chains.{first_of, no_cell, ends_at, Leads, first_in, read_all, queue_in, AreCells}
+use Rattle.rx_lanes.specs.Chains.{first_of, no_cell, ends_at, LeadsThrough, first_cell_in, read_all, queue_in, AreCells}
 use Rattle.rx_lanes.proofs.NumbersOnLists.{eq_self, eq_not}
 use Rattle.rx_lanes.proofs.CellsChained.{by_place, leads_few, walk_none, walk_is}
 
@@ -41,7 +41,7 @@ module _ {E : Type 0} where
         spare_is = refl;
       }
     where
-      none : (e : Option ℕ) → first_in no_cell ends e ≡ no_cell
+      none : (e : Option ℕ) → first_cell_in no_cell ends e ≡ no_cell
       none None = refl
       none (Some q) = ap (λ es. (ends_at es q).first) no_ends
 
@@ -61,7 +61,7 @@ module _ {E : Type 0} where
 
     pub shows_some : not ((ends_at ends q).first == no_cell) ≡ is_some (first_of (queue_of blank cells next ends q))
     shows_some = of (are.lists (Some q)) (are.chained.leads (Some q)) ∙ sym (ap (λ es. is_some (first_of es)) shows) where
-      of : (xs : List ℕ) → Leads next (ends_at ends q).first xs → not ((ends_at ends q).first == no_cell) ≡ is_some (first_of (read_all blank cells xs))
+      of : (xs : List ℕ) → LeadsThrough next (ends_at ends q).first xs → not ((ends_at ends q).first == no_cell) ≡ is_some (first_of (read_all blank cells xs))
       of [] l = ap (λ n. not (n == no_cell)) l ∙ ap not (eq_self no_cell)
       of (x ∷ xs) l =
           let below = l.1 in let few = are.few in
@@ -69,7 +69,7 @@ module _ {E : Type 0} where
 
     pub shows_none : (ends_at ends q).first ≡ no_cell → queue_of blank cells next ends q ≡ []
     shows_none none = shows ∙ of (are.lists (Some q)) (are.chained.leads (Some q)) where
-      of : (xs : List ℕ) → Leads next (ends_at ends q).first xs → read_all blank cells xs ≡ []
+      of : (xs : List ℕ) → LeadsThrough next (ends_at ends q).first xs → read_all blank cells xs ≡ []
       of [] l = refl
       of (x ∷ xs) l = let below = l.1 in let few = are.few in let is = sym l.0 ∙ none in absurd (omega (arith, below, few, is))
 

@@ -7,7 +7,7 @@ use Rattle.rx_roles.specs.declared.roles.Role.{Role}
 use Rattle.rx_roles.specs.Roles.{Table, without_all}
 use Rattle.rx_roles.specs.Effects.{names_of}
 use Rattle.rx_engine.specs.Settlements.{closed_of, KeepsKeys, Releases}
-use Rattle.rx_engine.specs.Gatherings.{Ends}
+use Rattle.rx_engine.specs.Gatherings.{EndsClosed}
 use Rattle.rx_engine.specs.Closings.{Closes}
 use Rattle.rx_engine.proofs.NamedLanes.{Told, told_all, all_named, all_length, all_at}
 use Rattle.rx_engine.proofs.HomesLeft.{left_ready}
@@ -38,7 +38,7 @@ all_told c =
 pub returns-clause-gathers : goal.returns-clause-gathers
 returns-clause-gathers c =
     let p = record c.args.parts.now { hears = c.tell.new.hears; effects = c.tell.new.effects } in
-    let ends = subst (λ (b : BookState). Ends c.args.by (closed_of b) p c.close_nodes.new.parts) c.tell.ensures.book c.close_nodes.ensures.ends in
+    let ends = subst (λ (b : BookState). EndsClosed c.args.by (closed_of b) p c.close_nodes.new.parts) c.tell.ensures.book c.close_nodes.ensures.ends in
     let freed = c.set_free.ensures in
     record {
       homes = ends.homes;

@@ -1,7 +1,7 @@
 use Rattle.std.proofs.Common.{ℕ, subst, sym}
 use Rattle.rx_resource.specs.contracts.token.TokenResource.TheImpl.{ghosts}
 use Rattle.rx_cellar.specs.Asking.{asked_of}
-use Rattle.rx_cellar.specs.Attempts.{IsMadeBehind}
+use Rattle.rx_cellar.specs.Attempts.{IsMadeAgain}
 use Rattle.rx_cellar.proofs.Tries.{behind, not_behind}
 use Rattle.rx_cellar.proofs.cellar.Cellar.make_again.Goals as goal
 
@@ -12,7 +12,7 @@ returns-in-Ok c =
 
 pub returns-in-Err : goal.returns-in-Err
 returns-in-Err c =
-    subst (λ (n : ℕ). IsMadeBehind ghosts (asked_of c.args.command.now) c.args.command.now.by c.args.self.now c.checkpoint.new.self c.args.answer.now
+    subst (λ (n : ℕ). IsMadeAgain ghosts (asked_of c.args.command.now) c.args.command.now.by c.args.self.now c.checkpoint.new.self c.args.answer.now
     c.args.answer.now n) (sym c.status_of.ensures)
     (not_behind ghosts (asked_of c.args.command.now) c.args.command.now.by c.args.self.now c.checkpoint.new.self c.checkpoint.result c.in-Err.why
     c.args.answer.now c.in-Err.is c.checkpoint.ensures)
