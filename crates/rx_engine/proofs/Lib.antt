@@ -5,6 +5,7 @@ pub mod NamedLanes
 pub mod LanesServed
 pub mod HomesLeft
 pub mod HubsLeft
+pub mod NodesEnded
 pub mod LanesJoined
 pub mod LanesGiven
 pub mod RoomGotten

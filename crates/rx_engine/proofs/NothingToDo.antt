@@ -31,21 +31,24 @@ nothing_waits b kept none = by_list b.waiting kept.waiting.each where
       let one = ap (λ (x : Bool). cond {A = ℕ} x 1 0) waits in
       absurd (omega (arith, counted, one, none))
 
+pub none_end : (by : ℕ) (p : Parts) → EndsClosed by [] p p
+none_end by p = record {
+  homes = refl;
+  leaves = none_left (record { lanes = λ name. refl; fresh_is = refl; next_turn = refl; due = refl });
+  many = λ name. refl;
+  spare = refl;
+  shares = refl;
+  hubs = refl;
+  hears = refl;
+  merges = refl;
+  effects = sym (append-nil p.effects.list);
+  room = omega arith;
+  holds = refl;
+}
+
 pub nothing_ends : (by : ℕ) (b : BookState) (p : Parts) → length b.closed ≡ 0 → EndsClosed by (closed_of b) p p
 nothing_ends by b p none =
-    subst (λ (ks : List Key). EndsClosed by (map (λ (k : Key). k.number) ks) p p) (sym (none_of_length b.closed none)) (record {
-      homes = refl;
-      leaves = none_left (record { lanes = λ name. refl; fresh_is = refl; next_turn = refl; due = refl });
-      many = λ name. refl;
-      spare = refl;
-      shares = refl;
-      hubs = refl;
-      hears = refl;
-      merges = refl;
-      effects = sym (append-nil p.effects.list);
-      room = omega arith;
-      holds = refl;
-    })
+    subst (λ (ks : List Key). EndsClosed by (map (λ (k : Key). k.number) ks) p p) (sym (none_of_length b.closed none)) (none_end by p)
 
 pub nothing_spreads : (by : ℕ) (p : Parts) (lanes : LanesState Effect) → p.effects.list ≡ [] → lanes ≡ settled by p.lanes →
     Spreads by p (record p { lanes = lanes; copies = 0 })

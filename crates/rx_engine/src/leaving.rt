@@ -1,22 +1,23 @@
-//! What a call closed leaves its lane.
+//! What a call closed leaves its hub and its lane, and its roles end.
 
-ghost use Rattle.std.specs.Prelude.{◌≡◌, ◌+◌, ◌≤◌, Some, None};
+ghost use Rattle.std.specs.Prelude.{◌≡◌, ◌+◌, ◌≤◌, length, Some, None};
 ghost use Rattle.rx_lanes.specs.declared.names.LaneName.{LaneName};
 ghost use Rattle.rx_lanes.specs.Lane.{Lane, kept, parted};
 ghost use Rattle.rx_lanes.specs.State.{lane, Turns};
 ghost use Rattle.rx_roles.specs.declared.roles.Role.{Role};
-ghost use Rattle.rx_roles.specs.Roles.{role_of, without, without_all};
+ghost use Rattle.rx_roles.specs.Roles.{role_of, without};
 ghost use Rattle.rx_roles.specs.Effects.{names_of};
-ghost use Rattle.rx_pool.specs.Moves.{left_all, MayLeaveAll};
+ghost use Rattle.rx_pool.specs.Moves.{MayLeaveAll};
 ghost use Rattle.rx_shares.specs.Places.{places_left};
-ghost use Rattle.rx_engine.specs.Deliveries.{many_at, Leaves};
-ghost use Rattle.rx_engine.specs.Settlements.{closed_of, taken_out};
+ghost use Rattle.rx_engine.specs.Deliveries.{many_at};
+ghost use Rattle.rx_engine.specs.Settlements.{closed_of};
+ghost use Rattle.rx_engine.specs.Gatherings.{EndsClosed};
 
+use crate::parts::Parts;
 use rx_book::Book;
 use rx_lanes::Lanes;
 use rx_resource::Token;
-use rx_roles::{Effect, Roles};
-use rx_shares::Shares;
+use rx_roles::{Effect, Roles, end_one};
 
 // One node leaves its lane, where it has one.
 fn leave_one(homes: &mut Roles, lanes: &mut Lanes<Effect>, number: u64)
@@ -32,33 +33,26 @@ fn leave_one(homes: &mut Roles, lanes: &mut Lanes<Effect>, number: u64)
     }
 }
 
-/// All nodes that the last call closed leave their lanes.
-pub(crate) fn leave_homes(book: &Book<Token>, homes: &mut Roles, lanes: &mut Lanes<Effect>)
-    requires named { (name : LaneName) → names_of name homes.old.list ≤ many_at lanes.old name }
-    ensures homes { homes.new.list ≡ without_all homes.old.list (closed_of book.now) }
-    ensures leaves { Leaves lanes.old (taken_out homes.old.list (closed_of book.now)) lanes.new }
-    ensures many { (name : LaneName) → many_at lanes.new name + names_of name homes.old.list ≡
-        many_at lanes.old name + names_of name homes.new.list }
-    ensures spare { lanes.new.spare ≡ lanes.old.spare }
+/// All nodes that the last call closed leave their hubs and their lanes, and their roles end.
+#[inline(always)]
+pub(crate) fn end_nodes(book: &Book<Token>, parts: &mut Parts, by: u64)
+    requires hubs { MayLeaveAll (places_left parts.old.shares.list (closed_of book.now)) parts.old.shares.hubs }
+    requires named { (name : LaneName) → names_of name parts.old.homes.list ≤ many_at parts.old.lanes name }
+    requires room { length parts.old.hears.list + length parts.old.merges.list ≤ parts.old.effects.room }
+    ensures { EndsClosed by (closed_of book.now) parts.old parts.new }
 {
     let _count = book.closed_count();
     let mut at = 0;
     while let Some(key) = book.nth_closed(at) {
-        leave_one(homes, lanes, key.number);
-        at += 1;
-    }
-}
-
-/// All nodes that the last call closed leave the hubs that they name.
-pub(crate) fn leave_hubs(book: &Book<Token>, shares: &mut Shares)
-    requires { MayLeaveAll (places_left shares.old.list (closed_of book.now)) shares.old.hubs }
-    ensures list { shares.new.list ≡ without_all shares.old.list (closed_of book.now) }
-    ensures hubs { shares.new.hubs ≡ left_all (places_left shares.old.list (closed_of book.now)) shares.old.hubs }
-{
-    let _count = book.closed_count();
-    let mut at = 0;
-    while let Some(key) = book.nth_closed(at) {
-        shares.leave(key.number);
+        parts.shares.leave(key.number);
+        leave_one(&mut parts.homes, &mut parts.lanes, key.number);
+        end_one(
+            &mut parts.hears,
+            &mut parts.merges,
+            &mut parts.effects,
+            by,
+            key.number,
+        );
         at += 1;
     }
 }

@@ -14,9 +14,9 @@ ghost use Rattle.rx_engine.specs.Handings.{IsClaimed, GivesIf, SpreadsAndHands, 
 ghost use Rattle.rx_engine.specs.Servings.{is_one};
 
 use crate::delivering::deliver;
-use crate::leaving::{leave_homes, leave_hubs};
+use crate::leaving::end_nodes;
 use crate::parts::Parts;
-use crate::telling::{end_closed, set_free, tell};
+use crate::telling::{set_free, tell};
 use crate::wishes::Wishes;
 use rx_book::{Book, Refusal, Resource};
 use rx_resource::Token;
@@ -32,15 +32,7 @@ fn close_some(book: &Book<Token>, parts: &mut Parts, wishes: &mut Wishes, by: u6
     ensures closes { Closes book.now wishes.old.roles.list wishes.new }
 {
     wishes.close(book);
-    leave_hubs(book, &mut parts.shares);
-    leave_homes(book, &mut parts.homes, &mut parts.lanes);
-    end_closed(
-        book,
-        &mut parts.hears,
-        &mut parts.merges,
-        &mut parts.effects,
-        by,
-    );
+    end_nodes(book, parts, by);
 }
 
 // The same, where one look tells that nothing was closed.

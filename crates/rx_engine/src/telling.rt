@@ -1,13 +1,12 @@
-//! What a call of the book told, ended and set free becomes effects.
+//! What a call of the book told and set free becomes effects.
 
 ghost use Rattle.std.specs.Prelude.{◌≡◌, ◌+◌, ◌≤◌, ◌++◌, [], length};
-ghost use Rattle.rx_roles.specs.Roles.{without_all};
-ghost use Rattle.rx_roles.specs.Effects.{all_told, after_all, items_in, all_last};
-ghost use Rattle.rx_engine.specs.Settlements.{mail_left, all_given, closed_of, Releases, KeepsKeys};
+ghost use Rattle.rx_roles.specs.Effects.{all_told, after_all, items_in};
+ghost use Rattle.rx_engine.specs.Settlements.{mail_left, all_given, Releases, KeepsKeys};
 
 use rx_book::{Book, Resource};
 use rx_resource::Token;
-use rx_roles::{Effects, Roles, What, end_one, put_for, tell_one};
+use rx_roles::{Effects, Roles, What, put_for, tell_one};
 
 /// Tells all notes that are still to be handed out.
 #[inline(always)]
@@ -30,30 +29,6 @@ pub(crate) fn tell(
     book.promise();
     while let Some(mail) = book.take_mail() {
         tell_one(hears, merges, effects, by, value, mail);
-    }
-}
-
-/// Ends the roles of the nodes that the last call closed.
-pub(crate) fn end_closed(
-    book: &Book<Token>,
-    hears: &mut Roles,
-    merges: &mut Roles,
-    effects: &mut Effects,
-    by: u64,
-)
-    requires room { length hears.old.list + length merges.old.list ≤ effects.old.room }
-    ensures hears { hears.new.list ≡ without_all hears.old.list (closed_of book.now) }
-    ensures merges { merges.new.list ≡ without_all merges.old.list (closed_of book.now) }
-    ensures effects { effects.new.list ≡
-        effects.old.list ++ all_last by hears.old.list merges.old.list (closed_of book.now) }
-    ensures room { effects.old.room + (length hears.new.list + length merges.new.list) ≤
-        effects.new.room + (length hears.old.list + length merges.old.list) }
-{
-    let _count = book.closed_count();
-    let mut at = 0;
-    while let Some(key) = book.nth_closed(at) {
-        end_one(hears, merges, effects, by, key.number);
-        at += 1;
     }
 }
 
