@@ -164,7 +164,15 @@ impl Effects {
         ensures { only_item self.now.list ≡ Some result }
     {
         let _one = self.list.len();
-        self.list[0]
+        // By its fields: a copy of the whole would go over the stack.
+        let only = self.list[0];
+        Effect {
+            lane: only.lane,
+            user: only.user,
+            value: only.value,
+            by: only.by,
+            what: only.what,
+        }
     }
 
     /// Takes all away. It takes no memory.
