@@ -17,7 +17,7 @@ use Rattle.rx_event.specs.Lawful.{IsLawful}
 use Rattle.rx_rules.specs.Behind.{refusal_of}
 use Rattle.rx_device.specs.Input.{IsJsonOf, most_bytes}
 use Rattle.rx_dump.specs.History.{history_of}
-use Rattle.rx_names.specs.Names.{dump_in, names_in, name_of}
+use Rattle.rx_names.specs.Names.{dump_in, names_in, name_in_object}
 use Rattle.rx_names.specs.NamedVerdict.{label_text}
 
 -- the number of what the event is about, and of an opening that of the node that its place names
@@ -80,7 +80,7 @@ beginnings label e _ = codes "it may not follow the events before it" ∷ []
 
 -- a number, with its name behind it if it has one
 abbrev pub labels : (names : Data) → ℕ → List ℕ
-labels names = label_text (name_of names)
+labels names = label_text (name_in_object names)
 
 -- a sentence that words the refusal of the event may begin so
 abbrev pub IsBeginning : (names : Data) → Event → Refusal → List ℕ → Type 0
