@@ -7,7 +7,10 @@ import { isFunction } from './util.mjs';
 
 /** An operator by what it opens at a place. */
 export class Operator {
-  constructor(opens) { this.opens = opens; }
+  constructor(opens, is_share = false) {
+    this.opens = opens;
+    this.is_share = is_share;
+  }
 
   /** As another library calls it. */
   call(subscriber, source) {
@@ -18,8 +21,8 @@ export class Operator {
   }
 }
 
-export const operator = (opens) => {
-  const made = new Operator(opens);
+export const operator = (opens, is_share) => {
+  const made = new Operator(opens, is_share);
   return (source) => {
     if (isOurs(source)) return source.lift(made);
     if (!source || !isFunction(source.lift)) throw new TypeError('Unable to lift unknown Observable type');

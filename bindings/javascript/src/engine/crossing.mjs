@@ -77,6 +77,8 @@ export class Crossing {
   #begins() {
     if (this.#postponed !== null && this.#depth === 0) this.#resume();
   }
+  /** Whether something was put off. */
+  get is_behind() { return this.#postponed !== null; }
   /** Does what was put off, before somebody looks whether a place is open. */
   begins() { this.#begins(); }
 
@@ -123,10 +125,35 @@ export class Crossing {
     thing.alone = place === ROOT && (kind === LEAF || kind === SHARED) ? BARE : NOT_ALONE;
     thing.slot = a[0], thing.top = a[1], thing.lo = a[2], thing.hi = a[3];
     if (tag !== null) this.#held(thing, tag);
-    if (share !== null) {
-      share.hub = a[10], share.hubHigh = a[11];
-      share.connection = a[8] ? this.#named(share.make()) : null;
-    }
+    if (share !== null) this.#joined(share);
+    if (a[14] !== 0 || a[16] !== 0) this.#act(undefined);
+    return DONE;
+  }
+  #joined(share) {
+    const a = this.#a;
+    share.hub = a[10], share.hubHigh = a[11];
+    share.connection = a[8] !== 0 ? this.#named(share.make()) : null;
+  }
+
+  /** The same of a subscriber of a share that is a root, where nothing was put off. */
+  openShare(thing, share) {
+    const user = this.#things.take(thing);
+    if (this.#c.length === 0) this.#look();
+    const c = this.#c;
+    c[0] = OPEN | ROOT << 8 | SHARED << 16;
+    c[1] = share.level, c[2] = share.hub, c[3] = share.hubHigh;
+    c[4] = c[5] = c[6] = c[7] = -1; // nowhere
+    c[8] = user, c[10] = share.word;
+    let status = -1;
+    try { status = this.#glue.open(); } catch (error) { throw this.#failed(error); } finally { if (status !== DONE) this.#things.free(user); }
+    this.#made++;
+    if (this.#a.length === 0) this.#look();
+    if (status !== DONE) return this.#refused(status);
+    const a = this.#a;
+    thing.owed = 1;
+    thing.alone = BARE;
+    thing.slot = a[0], thing.top = a[1], thing.lo = a[2], thing.hi = a[3];
+    this.#joined(share);
     if (a[14] !== 0 || a[16] !== 0) this.#act(undefined);
     return DONE;
   }

@@ -1,8 +1,8 @@
 // One subscription for many: a share of the engine, or a subject that a program chose.
-import { DONE, HUB_ORDER, NO_HUB, ROOT, SHARED, SOURCE } from '../engine/codes.mjs';
+import { DONE, HUB_ORDER, NO_HUB, ROOT, SOURCE } from '../engine/codes.mjs';
 import { Tag, Thing } from '../engine/thing.mjs';
 import { TERMINAL } from '../core/leaf.mjs';
-import { Place, linked, openAt, openNode, openUsing } from '../core/place.mjs';
+import { Place, linked, openAt, openShare, openUsing } from '../core/place.mjs';
 import { operate, operator } from '../core/operator.mjs';
 import { SafeSubscriber } from '../core/subscriber.mjs';
 import { ReplaySubject } from '../core/replay-subject.mjs';
@@ -24,7 +24,7 @@ class Share {
 /** How many shares stand one below another in an observable, as far as can be seen. */
 export function levelOf(it) {
   let level = 0;
-  for (let i = 0; it && i < 64; i++, it = it.source) if (it._isShare) level++;
+  for (let i = 0; it && i < 64; i++, it = it.source) if (it.operator?.is_share) level++;
   return level;
 }
 
@@ -33,11 +33,11 @@ function shared() {
   return (source) => {
     const share = new Share(levelOf(source));
     let other = null, many = 0; // by a subject, and how many subscribers that has
-    const made = operator((at, it) => {
+    return operator((at, it) => {
       const place = at._place === ROOT && at._way === TERMINAL ? at : linked(at);
       if (place === null || place._hears.closed) return;
       if (many === 0) {
-        if (openNode(place, SHARED, null, null, share) !== null) {
+        if (openShare(place, share)) {
           const { connection } = share;
           share.connection = null;
           if (connection !== null) openAt(it, new Place(SOURCE, connection));
@@ -50,9 +50,7 @@ function shared() {
       if (below === null) return;
       many++;
       openAt(other, below);
-    })(source);
-    made._isShare = true;
-    return made;
+    }, true)(source);
   };
 }
 
