@@ -28,6 +28,9 @@ export class Subscription {
   unsubscribe() {
     if (this.closed) return;
     realm.engine.room(); // where there is none nothing has been changed
+    this._ends();
+  }
+  _ends() {
     this.closed = true;
     const errors = this._finalized(null);
     if (errors !== null) throw new UnsubscriptionError(errors);

@@ -62,6 +62,6 @@ export class AsyncAction extends Subscription {
     if (at >= 0) actions.splice(at, 1);
     if (id != null) this.id = this.recycleAsyncId(scheduler, id, null);
     this.delay = null;
-    super.unsubscribe();
+    this._ends(); // without a second look for room, which might find less
   }
 }
