@@ -42,8 +42,18 @@ export async function inChromium(page, { seconds = 180, also = () => null } = {}
   await ended;
   server.close();
   server.closeAllConnections();
-  rmSync(profile, { recursive: true, force: true, maxRetries: 5 });
+  await removed(profile);
   return said;
+}
+
+// The browser's other processes may write there for a while.
+async function removed(folder) {
+  for (let left = 40; ; left--) {
+    try { return rmSync(folder, { recursive: true, force: true }); } catch (error) {
+      if (left === 0) throw error;
+      await new Promise((resolve) => { setTimeout(resolve, 250); });
+    }
+  }
 }
 
 if (process.argv[1] === fileURLToPath(import.meta.url)) {
