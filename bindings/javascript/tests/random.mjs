@@ -17,7 +17,7 @@ const words = process.argv.slice(2), show = words.includes('--show') ? words.spl
 const is_chains = words.includes('--chains') && words.splice(words.indexOf('--chains'), 1).length === 1;
 const is_deep = words.includes('--deep') && words.splice(words.indexOf('--deep'), 1).length === 1;
 const [many = 10000, first = 1] = words.map(Number);
-const over = ([rx, ops], it, puts_off = false) => new Run(rx, ops, it, puts_off).all();
+const over = ([rx, ops], it, puts_off = false, mends = false) => new Run(rx, ops, it, puts_off, mends).all();
 
 /** Runs it over the package; what is wrong with its resources, if anything. */
 function kept(it) {
@@ -52,7 +52,7 @@ for (let seed = first; seed < first + many; seed++) {
   total.differ++;
   if (it.within) total['of those with an act from within']++;
   if (!isHeardSame(a, b)) total.heard++;
-  const name = nameOf(a, b, (puts_off) => [over(peer, it, puts_off), over(ours, it, puts_off)]) ?? 'NO NAME';
+  const name = nameOf(a, b, (puts_off, mends) => [over(peer, it, puts_off, mends), over(ours, it, puts_off, mends)]) ?? 'NO NAME';
   ours[0].close();
   by.set(name, [...by.get(name) ?? [], seed]);
   if (!OF_RXJS.includes(name)) total.ours++;

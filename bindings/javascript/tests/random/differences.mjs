@@ -81,7 +81,10 @@ function endedBeforeRelease(lines) {
   return at < 0 ? null : lines.slice(0, at).filter((it) => stepOf(it) === stepOf(lines[at]) && /^(error|completed)/.test(parts(it).what)).map((it) => parts(it).who);
 }
 
-// `runs` makes both runs again, where what is done from within is put off until the command has returned.
+/** Whether RxJS does the same where the notifier for a reset of a share tells in place of its error. */
+const isKeptByError = (lines, runs) => runs !== undefined && compared(runs(false, true)[0].lines) === compared(lines);
+
+// `runs` makes both runs again: where what is done from within is put off until the command has returned, or notifiers for a reset do not fail.
 export const NAMES = {
   'RxJS leaves a resource open': ({ lines: a, left: open }, { lines: b, left }) => {
     const more = beyond(wanted(b), wanted(a));
@@ -89,7 +92,8 @@ export const NAMES = {
   },
   // what the package does first and RxJS does not is that it releases, where nobody hears, or releases and makes it anew, or makes it as one comes
   // before whom nobody heard
-  'RxJS keeps a source for nobody': ({ lines: a }, { lines: b }) => {
+  'RxJS keeps a source for nobody': ({ lines: a }, { lines: b }, runs) => {
+    if (isKeptByError(b, runs)) return true;
     const step = firstUnlike(a, b), [until, others] = [upTo(wanted(a), step), upTo(wanted(b), step)], more = beyond(others, until);
     return ofOwnResources(beyond(until, others)) && ((areReleases(more) && hearing(upTo(b, step)).size === 0) || areAnew(more, until) || areMadeBehindNobody(more, b));
   },

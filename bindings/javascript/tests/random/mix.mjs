@@ -164,7 +164,7 @@ const LISTS = {
 
 const SHARING = {
   share: ['', ({ rx }) => rx.share()],
-  'share with words': ['bbbo', ({ rx }, e, c, z, o) => rx.share({ resetOnError: e, resetOnComplete: c, resetOnRefCountZero: z || (() => o) })],
+  'share with words': ['bbbo', ({ rx, mends }, e, c, z, o) => rx.share({ resetOnError: e, resetOnComplete: c, resetOnRefCountZero: z || (() => (mends ? o.pipe(rx.catchError(() => rx.of(0))) : o)) })],
   shareReplay: ['nb', ({ rx }, n, refCount) => rx.shareReplay({ bufferSize: n + 1, refCount })],
   connect: ['f', ({ rx }, f) => rx.connect((it) => rx.merge(it, it.pipe(rx.map(f((one) => one + 1)))))],
   multicast: ['', ({ rx }) => rx.pipe(rx.multicast(() => new rx.Subject()), rx.refCount())],

@@ -13,15 +13,15 @@ function shown(it) {
 }
 
 export class Run {
-  /** With `puts_off` what is done from within is done as soon as the command has returned. */
-  constructor(rx, ops, it, puts_off = false) {
-    Object.assign(this, { rx, ops, it, puts_off, put_off: null, lines: [], step: 0, resources: 0, open: new Map(), twice: 0, subscriptions: {}, connectables: [], frame: 0 });
+  /** With `puts_off` what is done from within is done as soon as the command has returned; with `mends` a notifier for a reset tells in place of its error. */
+  constructor(rx, ops, it, puts_off = false, mends = false) {
+    Object.assign(this, { rx, ops, it, puts_off, mends, put_off: null, lines: [], step: 0, resources: 0, open: new Map(), twice: 0, subscriptions: {}, connectables: [], frame: 0 });
     this.counted = { item: 0, call: 0, release: 0 };
     this.hots = Array.from({ length: HOTS }, (_, i) => this.hot(i));
     this.clock = new rx.VirtualTimeScheduler(undefined, Infinity);
     this.handlers = new Map();
     this.at = {
-      rx, ops, clock: this.clock, say: (...of) => this.say(...of), resource: (l) => this.resource(l), emitter: (n) => this.emitter(n),
+      rx, ops, mends, clock: this.clock, say: (...of) => this.say(...of), resource: (l) => this.resource(l), emitter: (n) => this.emitter(n),
       connects: (it) => (this.connectables.push(it), it),
     };
   }
