@@ -8,7 +8,7 @@ from __future__ import annotations
 import re
 import sys
 
-WORD = re.compile(r'"(?:[^"\\]|\\.)*"|[()]|[^\s()"]+')
+WORD = re.compile(r'\(;.*?;\)|;;[^\n]*|"(?:[^"\\]|\\.)*"|[()]|[^\s()"]+', re.DOTALL)
 SAME_LOW_HALF = {'i64.add': 'i32.add', 'i64.sub': 'i32.sub', 'i64.mul': 'i32.mul'}
 
 
@@ -16,6 +16,8 @@ def parsed(text: str) -> list:
     """The expressions of a text as lists within lists."""
     open_lists: list[list] = [[]]
     for word in WORD.findall(text):
+        if word.startswith(('(;', ';;')):
+            continue  # a comment
         if word == '(':
             open_lists.append([])
         elif word == ')':
