@@ -20,8 +20,8 @@ export const only_ours = {
     process.exit(0);`), is: ['final'] },
   'an engine that is trapped is dead, and says so': { of: () => {
     const said = [], trap = () => { throw new WebAssembly.RuntimeError('unreachable'); };
-    const module = { memory: new WebAssembly.Memory({ initial: 1 }), place: () => 1024n, cellar_abi: () => 0x10000, cellar_new: () => 0, cellar_make: trap,
-      cellar_take: () => 0, cellar_give_up: () => 0, cellar_totals: () => 0 };
+    const module = { memory: new WebAssembly.Memory({ initial: 1 }), place: () => 1024n, cellar_abi: () => 0x10001, cellar_new: () => 0, cellar_make: trap,
+      cellar_make_behind: trap, cellar_take: () => 0, cellar_give_up: () => 0, cellar_totals: () => 0 };
     const engine = new Crossing(module, new WebAssembly.Module(glue()), {}), thing = new Thing(null, null);
     engine.totals();
     for (const act of [() => engine.open(0, 0, 0, thing, thing), () => engine.next(thing, 1), () => engine.totals(), () => engine.room()]) {
@@ -32,8 +32,9 @@ export const only_ours = {
   'what an engine held that has died is released once, in a turn of its own': { of: async () => {
     const said = [];
     let commands = 0;
-    const module = { memory: new WebAssembly.Memory({ initial: 1 }), place: () => 1024n, cellar_abi: () => 0x10000, cellar_new: () => 0, cellar_take: () => 0, cellar_give_up: () => 0,
-      cellar_totals: () => 0, cellar_make: () => { if (++commands === 4) throw new WebAssembly.RuntimeError('unreachable'); return 0; } };
+    const make = () => { if (++commands === 4) throw new WebAssembly.RuntimeError('unreachable'); return 0; };
+    const module = { memory: new WebAssembly.Memory({ initial: 1 }), place: () => 1024n, cellar_abi: () => 0x10001, cellar_new: () => 0, cellar_take: () => 0, cellar_give_up: () => 0,
+      cellar_totals: () => 0, cellar_make: make, cellar_make_behind: make };
     const engine = new Crossing(module, new WebAssembly.Module(glue()), { report: (error) => said.push(`reported ${error.message}`) }), thing = new Thing(null, null);
     engine.open(0, 0, 0, thing, thing);
     engine.hold(thing, new Tag(() => { engine.room(); said.push('first released'); throw new Error('no'); }));
@@ -56,8 +57,8 @@ export const only_ours = {
     worker.on('exit', () => console.log('released', released[0]));`), is: ['there 2 here 1', 'released 1'] },
   'for want of stack it is alive': { of: () => {
     let made = 0;
-    const module = { memory: new WebAssembly.Memory({ initial: 1 }), place: () => 1024n, cellar_abi: () => 0x10000, cellar_new: () => 0, cellar_make: () => { made++; return 17; },
-      cellar_take: () => 0, cellar_give_up: () => 0, cellar_totals: () => 0 };
+    const module = { memory: new WebAssembly.Memory({ initial: 1 }), place: () => 1024n, cellar_abi: () => 0x10001, cellar_new: () => 0, cellar_make: () => { made++; return 17; },
+      cellar_make_behind: () => 17, cellar_take: () => 0, cellar_give_up: () => 0, cellar_totals: () => 0 };
     const engine = new Crossing(module, new WebAssembly.Module(glue()), {}), thing = new Thing(null, null);
     const deep = () => { engine.next(thing, 1); deep(); };
     let why = null;

@@ -29,7 +29,8 @@ export class Crossing {
     this.#base = Number(wasm.place(1024n));
     this.#places = Object.fromEntries(Object.entries(LAYOUT).map(([name, at]) => [name, BigInt(this.#base + at)]));
     new Uint8Array(wasm.memory.buffer, this.#base, 1024).fill(0);
-    if (wasm.cellar_abi() >>> 16 !== 1) throw new Error('cellarcliff: the module has another interface');
+    const abi = wasm.cellar_abi(); // the lower half counts what was added: here `cellar_make_behind`
+    if (abi >>> 16 !== 1 || (abi & 0xffff) < 1) throw new Error('cellarcliff: the module has another interface');
     const status = wasm.cellar_new(this.#places.engine, 0);
     if (status) throw new Error(`cellarcliff: no engine was made (${status})`);
     const globals = ['engine', 'command', 'answer', 'effect', 'count'].map((it) => [it, new WebAssembly.Global({ value: 'i64' }, this.#places[it])]);

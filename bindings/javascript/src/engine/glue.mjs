@@ -20,14 +20,15 @@ const ELSE = [0x05], MORE = [0x4a], LESS_ONE = [0x41, 1, 0x6b], SHIFT = [0x86], 
 const type = (from, to) => [0x60, ...list(from.map((it) => [it])), ...list(to.map((it) => [it]))];
 const get = (n) => [0x20, ...unsigned(n)], call = (n) => [0x10, ...unsigned(n)];
 const constant = (n) => [0x41, ...signed(n)], long = (n) => [0x42, ...signed(n)];
-const set = (n) => [0x21, ...unsigned(n)], isNone = [0x45], isSameLong = [0x51], isAtMostLong = [0x58], BOTH = [0x71];
+const set = (n) => [0x21, ...unsigned(n)], isNone = [0x45], isSameNumber = [0x46], isSameLong = [0x51], isAtMostLong = [0x58], BOTH = [0x71];
 const global = (n) => [0x23, ...unsigned(n)], setGlobal = (n) => [0x24, ...unsigned(n)];
 const load64 = (at) => [0x29, 3, ...unsigned(at)];
 const load32 = (at) => [0x28, 2, ...unsigned(at)], store32 = (at) => [0x36, 2, ...unsigned(at)];
 const code = (locals, ...body) => sized([...list(locals), ...body.flat(), ...END]);
 
 // Numbers of functions and of globals, and of a command's fields.
-const MAKE = 0, TAKE = 1, GIVE_UP = 2, ROOM = 3, TAKES = 4, TAKES_ON = 9, ALL = 13;
+const MAKE = 0, TAKE = 1, GIVE_UP = 2, MAKE_BEHIND = 3, ROOM = 4, TAKES = 5, TAKES_ON = 10, MAKE_NEXT = 14, ALL = 15;
+const STILL_UNTAKEN = 6; // what is answered where the lane that is left has something
 const CLOSED_AT = 56, DUE_AT = 64, LANES_AT = 144, SHOWN = 8; // bytes within an answer, and how many of a list stand in it
 const BASE = 0, ENGINE = 1, COMMAND = 2, ANSWER = 3, EFFECT = 4, COUNT = 5, ENTERED = 6;
 /** Bytes behind the base at which the engine's handle, a command, an answer, an effect, a count and the lane that is left stand. */
@@ -36,8 +37,10 @@ const field = (at, value) => [...global(BASE), ...value, ...store32(LAYOUT.comma
 const entering = (...it) => [...global(ENTERED), ...IF, ...TRAP, ...END, ...constant(1), ...setGlobal(ENTERED), ...it.flat(), ...constant(0), ...setGlobal(ENTERED)];
 const lane = [...get(1), ...LONG, ...long(32), ...SHIFT, ...get(0), ...LONG, ...OR]; // of its two halves
 const left = (at) => [...global(BASE), ...load32(LAYOUT.left + at)];
-// The lane that was told all is left with the next command, so that an item costs one call. If something were in it, that is a trap.
-const leaving = [...left(8), ...IF, ...left(0), ...left(4), ...call(TAKES), ...IF, ...TRAP, ...END, ...global(BASE), ...constant(0), ...store32(LAYOUT.left + 8), ...END];
+// The lane that was told all is left with the next command, or before anything else is taken or given up. If something were in it, that is a trap.
+const forgetLeft = [...global(BASE), ...constant(0), ...store32(LAYOUT.left + 8)];
+const leftLane = [...left(4), ...LONG, ...long(32), ...SHIFT, ...left(0), ...LONG, ...OR];
+const leaving = [...left(8), ...IF, ...left(0), ...left(4), ...call(TAKES), ...IF, ...TRAP, ...END, ...forgetLeft, ...END];
 const roomy = (n) => [...constant(n), ...call(n === 2 ? ALL : ROOM)];
 
 /** A function with a frame of so many bytes, which does what is `next` with a number that is not too large. */
@@ -61,21 +64,21 @@ function large(frame, next) {
 }
 
 // A command with the first effect of its lane, if it was done, the lane is one, and all that it closed stands in the answer; else the count is 0.
-const makesAndTakes = (status) => entering(leaving, global(ENGINE), global(COMMAND), global(ANSWER), call(MAKE), set(status), firstTaken(status));
+const makesAndTakes = (status) => entering(call(MAKE_NEXT), set(status), firstTaken(status));
 const inAnswer = (at) => [...global(BASE), ...load64(LAYOUT.answer + at)];
 const firstTaken = (status) => [...global(BASE), ...constant(0), ...store32(LAYOUT.count), ...get(status), ...isNone, ...inAnswer(DUE_AT), ...long(1), ...isSameLong, ...BOTH,
   ...inAnswer(CLOSED_AT), ...long(SHOWN), ...isAtMostLong, ...BOTH, ...IF,
   ...global(ENGINE), ...inAnswer(LANES_AT), ...long(0), ...global(EFFECT), ...global(COUNT), ...call(TAKE), ...DROP, ...END];
 const nodeFields = [16, 20, 24, 28].map((at, i) => field(at, get(i + 1))).flat(); // the four parts of its key
-const makes = entering(leaving, global(ENGINE), global(COMMAND), global(ANSWER), call(MAKE));
-const EXPORTS = { room: ROOM, make: 5, open: 6, next: 7, take: 8, takeOn: TAKES_ON, giveUp: 10, end: 11, dispose: 12, all: ALL };
+const makes = entering(call(MAKE_NEXT));
+const EXPORTS = { room: ROOM, make: 6, open: 7, next: 8, take: 9, takeOn: TAKES_ON, giveUp: 11, end: 12, dispose: 13, all: ALL };
 const header = () => [0, 0x61, 0x73, 0x6d, 1, 0, 0, 0,
   ...section(1, [type([I64, I64, I64], [I32]), type([I64, I64, I64, I64, I64], [I32]), type([I64, I64, I64, I64, I64, I64], [I32]),
-    type([I32], []), type([], [I32]), type([I32, I32, I32, I32, I32, I32], [I32]), type([I32, I32], [I32]), type([I32, I32, I32, I32, I32], [I32])]),
+    type([I32], []), type([], [I32]), type([I32, I32, I32, I32, I32, I32], [I32]), type([I32, I32], [I32]), type([I32, I32, I32, I32, I32], [I32]), type([I64, I64, I64, I64], [I32])]),
   ...section(2, [
-    ...['cellar_make', 'cellar_take', 'cellar_give_up'].map((it, i) => [...text('e'), ...text(it), FUNCTION, i]), [...text('e'), ...text('memory'), MEMORY, 0, 0],
+    ...['cellar_make', 'cellar_take', 'cellar_give_up', 'cellar_make_behind'].map((it, i) => [...text('e'), ...text(it), FUNCTION, i < 3 ? i : 8]), [...text('e'), ...text('memory'), MEMORY, 0, 0],
     ...['base', 'engine', 'command', 'answer', 'effect', 'count'].map((it) => [...text('e'), ...text(it), GLOBAL, it === 'base' ? I32 : I64, 0])]),
-  ...section(3, [[3], [6], [4], [4], [5], [6], [6], [6], [5], [7], [3]]),
+  ...section(3, [[3], [6], [4], [4], [5], [6], [6], [6], [5], [7], [4], [3]]),
   ...section(6, [[I32, 1, ...constant(0), ...END]]),
   ...section(7, [...Object.entries(EXPORTS).map(([name, n]) => [...text(name), FUNCTION, n]), [...text('entered'), GLOBAL, ENTERED]]),
 ];
@@ -92,6 +95,9 @@ const small = () => [
     // what ends something, where the depth has been looked at: as an item, and the first effect of it
     code([[1, I32]], field(0, get(0)), nodeFields, field(32, constant(0)), field(40, get(5)), makesAndTakes(6), get(6)),
     code([[1, I32]], roomy(2), field(0, get(0)), nodeFields, makesAndTakes(5), get(5)), // a disposal, where there is room for all that it leads to
+    // a command, and with it the lane is left that was told all
+    code([[1, I32]], left(8), IF, forgetLeft, global(ENGINE), leftLane, global(COMMAND), global(ANSWER), call(MAKE_BEHIND), set(0), get(0), constant(STILL_UNTAKEN), isSameNumber, IF, TRAP, END,
+      ELSE, global(ENGINE), global(COMMAND), global(ANSWER), call(MAKE), set(0), END, get(0)),
 ];
 /** The bytes of the module. */
 export function glue() {
