@@ -111,7 +111,7 @@ pub fn add(agenda: &mut Agenda, step: Step) -> Result<(), AllocError>
     }
 }
 
-// The same as `add_all`, with no room made first.
+// Adds these steps one after another, as `add_all` does, with no room made first.
 fn add_each(agenda: &mut Agenda, steps: Vec<Step>) -> Result<(), AllocError>
     requires { agenda.old.timeline.clock ≤ 1000000000000000 }
     ensures ok { OnOk result (agenda_of agenda.new ≡ with_steps (map step_of steps.items) (agenda_of agenda.old)) }

@@ -247,7 +247,7 @@ pub fn audit(alloc: Global, events: &[Event]) -> Result<Verdict, NoVerdict>
     }
 }
 
-// The same of a list that is not too long, where each event may follow those before it.
+// What refuses the event behind a list that is not too long, where each event of the list may follow those before it.
 #[tactic(auto, using(crate::proofs::TestsToVerdict::not_lawful))]
 fn refused_after(
     alloc: Global,

@@ -112,7 +112,7 @@ impl Cellar {
         }
     }
 
-    // The same where one is to be made. Else the command is read but once, where it is made.
+    // Makes a checkpoint before a command, where one is due. Else the command is read but once, where it is made.
     #[inline(always)]
     fn tidy(&mut self, command: &Command)
         ensures { IsTidyFor (asked_of command.now) self.old self.new }

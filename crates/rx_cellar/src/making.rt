@@ -11,7 +11,7 @@ ghost use Rattle.rx_cellar.specs.Makings.{IsSubscribed, IsConnected, WithHubs, I
 
 use crate::asked::{Asked, OwnKind, kind_of};
 use rx_book::{At, Key, LeaseKey, Refusal, ResKey, Resource, Terminal};
-use rx_engine::{Connected, Engine, LaneOf, Subscribed, Used, User};
+use rx_engine::{Connected, Engine, Subscribed, Used, User};
 use rx_pool::Share;
 use rx_resource::Token;
 use rx_typed::{RxNode, no_node, node_of};

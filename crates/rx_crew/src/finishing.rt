@@ -121,8 +121,8 @@ fn compare<R: Resource>(
     }
 }
 
-/// The same of a book as it is out of its desk: where all agrees and nothing of it is left, no lease
-/// either, all that was accepted was taken.
+/// Compares a book, as it is out of its desk, with the sums and receipts of the threads: where all agrees and nothing
+/// of it is left, no lease either, all that was accepted was taken.
 fn judge<R: Resource>(book: &Book<R>, sums: Sums, receipts: &[Receipt]) -> Result<Totals, Mismatch>
     ensures verdict { IsVerdictOnThreads book.now.base book.now.history sums receipts.now result }
     ensures all_taken { IfOk result (λ _. AllTaken book.now.history sums) }

@@ -85,7 +85,7 @@ impl<T: Drop> Group<T> {
         ensures ok { IfOk result (λ ticket. ticket ≡ self.old.given) }
         ensures added { OnOk result (self.new ≡ with_added self.old value) }
 
-        // The same as look-ups.
+        // What look-ups say of it.
         ensures fresh { OnOk result (value_under self.old self.old.given ≡ None) }
         ensures updates { OnOk result (Updates self.old self.new self.old.given (Some value)) }
 
@@ -130,7 +130,7 @@ impl<T: Drop> Group<T> {
         ensures value { result ≡ value_under self.old ticket }
         ensures rest { self.new ≡ without self.old ticket }
 
-        // The same as look-ups.
+        // What look-ups say of it.
         ensures updates { Updates self.old self.new ticket None }
     {
         let place = place_of(self.members.as_slice(), ticket)?;

@@ -25,7 +25,7 @@ fn put_one(lanes: &mut Lanes<Effect>, by: u64, effect: Effect)
     }
 }
 
-// The same, and lets its role go where it is the last.
+// Puts an effect into its lane, and lets its role go where it is the last.
 fn deliver_one(lanes: &mut Lanes<Effect>, by: u64, effect: Effect)
     requires named { 0 < many_at lanes.old effect.lane }
     requires spare { 0 < lanes.old.spare }

@@ -1,6 +1,6 @@
 //! A node that was opened, or a resource that was accepted, gets its roles and their lanes.
 
-ghost use Rattle.std.specs.Prelude.{◌≡◌, ◌+◌, ◌≤◌, ◌<◌, ◌++◌, ◌^◌, Some, IsSome};
+ghost use Rattle.std.specs.Prelude.{◌≡◌, ◌+◌, ◌≤◌, ◌<◌, ◌^◌, Some, IsSome};
 ghost use Rattle.rx_event.specs.declared.event.Event.{Event};
 ghost use Rattle.rx_event.specs.declared.event.Place.{Place};
 ghost use Rattle.rx_event.specs.declared.event.Kind.{Kind};

@@ -1,6 +1,6 @@
 //! The hubs of the pool are made.
 
-ghost use Rattle.std.specs.Prelude.{◌≡◌, ◌<◌, ◌++◌, ◌∷◌, [], length, slice_get, Some};
+ghost use Rattle.std.specs.Prelude.{◌≡◌, ◌<◌, length, slice_get, Some};
 ghost use Rattle.rx_pool.specs.declared.search.PooledHub.{PooledHub};
 ghost use Rattle.rx_engine.specs.Hubs.{AddsHub, IsHubMade, mode_at, AreHubsMade};
 

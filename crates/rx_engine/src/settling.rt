@@ -35,7 +35,7 @@ fn close_some(book: &Book<Token>, parts: &mut Parts, wishes: &mut Wishes, by: u6
     end_nodes(book, parts, by);
 }
 
-// The same, where one look tells that nothing was closed.
+// Ends the roles of what the call closed. One look tells where that was nothing.
 #[inline(always)]
 fn close_nodes(book: &Book<Token>, parts: &mut Parts, wishes: &mut Wishes, by: u64)
     requires hubs { MayLeaveAll (places_left parts.old.shares.list (closed_of book.now)) parts.old.shares.hubs }
@@ -91,7 +91,7 @@ fn spread_some(parts: &mut Parts, by: u64)
     let _many = parts.lanes.settle(by);
 }
 
-// The same, where one look tells that there is no effect.
+// All effects go into their lanes. One look tells where there is none.
 #[inline(always)]
 fn spread(parts: &mut Parts, by: u64)
     requires { IsLoaded parts.old }
@@ -161,7 +161,7 @@ fn hand_one(parts: &mut Parts, by: u64) -> Option<Effect>
     }
 }
 
-// The same with what is on its way, which is put into its lanes first.
+// What is on its way goes into its lanes, and the caller gets an effect where that is all that is due.
 #[cold]
 #[inline(never)]
 fn spread_then_hand(parts: &mut Parts, by: u64) -> Option<Effect>

@@ -1,6 +1,6 @@
 //! A share is subscribed to, connected and disconnected.
 
-ghost use Rattle.std.specs.Prelude.{◌≡◌, ◌+◌, ◌≤◌, ◌<◌, ◌^◌, Some, IsSome, IsTrue, option_map, false};
+ghost use Rattle.std.specs.Prelude.{◌≡◌, ◌+◌, ◌≤◌, ◌<◌, Some, IsTrue, option_map, false};
 ghost use Rattle.rx_event.specs.declared.event.Event.{Event};
 ghost use Rattle.rx_event.specs.declared.event.Kind.{Kind};
 ghost use Rattle.rx_event.specs.Events.{is_root};
@@ -82,7 +82,7 @@ impl Parts {
         self.name_hub(number, place, word);
     }
 
-    // The same, where there is one.
+    // A connection gets its home, and names its hub, where one was made beside a subscriber.
     fn enter_second(&mut self, connection: Option<Key>, place: usize, word: u64)
         requires { (k : Key) → connection ≡ Some k → MayConnect self.old k.number place word }
         ensures connects { ConnectsIf self.old (option_map (λ k. k.number) connection) place word self.new }

@@ -54,7 +54,7 @@ fn set_some_free(book: &mut Book<Token>, holds: &mut Roles, effects: &mut Effect
     }
 }
 
-/// The same, where one look tells that none waits.
+/// Takes each resource that waits, and puts its Release. One look tells where none waits.
 #[inline(always)]
 pub(crate) fn set_free(book: &mut Book<Token>, holds: &mut Roles, effects: &mut Effects, by: u64)
     requires room { length holds.old.list ≤ effects.old.room }

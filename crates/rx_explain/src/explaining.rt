@@ -68,7 +68,7 @@ fn no_json(alloc: Global, input: &[u8], error: &Error) -> Result<String, AllocEr
     format!(in alloc; "line {line}, column {column}: not a JSON text; look here and just before")
 }
 
-// The same of a reading that failed, if it was not for memory.
+// What to say about an input that could not be read, if that was not for memory.
 fn no_value(alloc: Global, input: &[u8], error: &Error) -> Result<String, AllocError>
     ensures { OnOk result (¬ IsMemory error.now) }
 {

@@ -51,7 +51,7 @@ pub fn on_number(past: Past<'_>, why: Refusal, front: &str, words: &str, rest: &
     format!(in past.names.alloc; "{front}{shown}{words}{rest}")
 }
 
-/// The same of its hub.
+/// A sentence about the hub of the next event: words, the hub, words, which tell the refusal, and the rest.
 pub fn on_hub(past: Past<'_>, why: Refusal, front: &str, words: &str, rest: &str) -> Sentence
     requires { IsBeginning (view past.names.object.now) past.next why
         (front.now ++ labels (view past.names.object.now) (hub_number past.next) ++ words.now) }
@@ -80,7 +80,7 @@ pub fn of_number(past: Past<'_>, why: Refusal, front: &str) -> Sentence
     format!(in past.names.alloc; "{front}{shown}")
 }
 
-/// The same of its hub.
+/// A sentence that ends with the hub of the next event.
 pub fn of_hub(past: Past<'_>, why: Refusal, front: &str) -> Sentence
     requires { IsBeginning (view past.names.object.now) past.next why
         (front.now ++ labels (view past.names.object.now) (hub_number past.next) ++ codes "\n") }

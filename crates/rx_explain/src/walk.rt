@@ -34,7 +34,7 @@ pub fn tell(sentence: Result<String, AllocError>) -> Walk {
     })
 }
 
-/// The same end, with a text before the sentence.
+/// The end of a walk inside a part, with a text before its sentence.
 pub fn inside(alloc: Global, front: &str, walk: Walk) -> Walk {
     match walk {
         Err(Stop::Told(told)) => tell(format!(in alloc; "{front}{told}")),
@@ -42,7 +42,7 @@ pub fn inside(alloc: Global, front: &str, walk: Walk) -> Walk {
     }
 }
 
-/// The same end, with a place in a list before the sentence.
+/// The end of a walk inside a list, with the place there before its sentence.
 pub fn numbered(alloc: Global, place: usize, walk: Walk) -> Walk {
     match walk {
         Err(Stop::Told(told)) => tell(format!(in alloc; "[{place}]{told}")),

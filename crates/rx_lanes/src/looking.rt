@@ -1,6 +1,6 @@
 //! What of all lanes is read for a report, and to find a lane by its place.
 
-ghost use Rattle.std.specs.Prelude.{◌≡◌, ◌+◌, ◌<◌, ◌^◌, ◌*◌, length, Some, IsSome};
+ghost use Rattle.std.specs.Prelude.{◌≡◌, ◌+◌, ◌<◌, ◌*◌, length, Some, IsSome};
 ghost use Rattle.rx_lanes.specs.Reports.{name_of, waiting, length_of, at_most_all};
 ghost use Rattle.rx_lanes.specs.State.{opened_at, Opened};
 ghost use Rattle.rx_lanes.specs.Rows.{at_place};

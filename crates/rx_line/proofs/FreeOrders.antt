@@ -1,20 +1,18 @@
 -- What lines ask for that are commands which take no memory.
-use Rattle.std.proofs.Common.{◌≡◌, ℕ, ◌<◌, ◌≤◌, List, [], ◌∷◌, Bool, true, false, Option, Some, None, option_map, option_and_then, refl, sym, ap, ◌∙◌, subst, rules, arith, length}
-use Rattle.std.specs.Prelude.{◌&&◌, ◌||◌, ◌==◌, codes, IsUtf8, IfSome, not, nat_le, nat_lt, if◌then◌else◌}
+use Rattle.std.proofs.Common.{◌≡◌, ℕ, List, Bool, true, false, Option, Some, None, option_map, option_and_then, refl, sym, subst}
+use Rattle.std.specs.Prelude.{◌&&◌, codes, IsUtf8, IfSome, if◌then◌else◌}
 use Rattle.std.specs.Str.{bytes_eq}
-use Rattle.std.specs.List.{list_all}
-use Rattle.std.proofs.lemmas.Bool.{false≢true, and_parts, eqb-false, leb-true, lt-ltb}
+use Rattle.std.proofs.lemmas.Bool.{and_parts}
 use Rattle.std.proofs.lemmas.Slice.Eq.{bytes_eq-Decides}
 use Rattle.serde_json.specs.Data.{Data}
 use Rattle.serde_json.specs.Read.{read}
 use Rattle.rx_note.specs.declared.note.Terminal.TheVariants.{Completed}
-use Rattle.rx_device.specs.Input.{IsJsonOf}
 use Rattle.rx_scenario.specs.Scenario.{Command, remove, give_back, end, decline, dispose, disconnect, drain}
-use Rattle.rx_scenario.specs.Reading.{is_name_text, is_name_byte, action_in, action_by, command_by, is_one_of, has_only, has_only_steps, name_in, terminal_in}
+use Rattle.rx_scenario.specs.Reading.{is_name_text, action_in, action_by, command_by, is_one_of, has_only, has_only_steps, name_in, terminal_in}
 use Rattle.rx_scenario.specs.Reading.{remove_of, return_of, end_command_of, decline_of, dispose_of, disconnect_of, drain_of}
-use Rattle.rx_line.specs.Orders.{plain, task, order_in, does, says, query_in, is_timed, command_in, task_in, IsOrderOf}
+use Rattle.rx_line.specs.Orders.{plain, task, order_in, does, says, is_timed, command_in, task_in, IsOrderOf}
 use Rattle.rx_line.specs.declared.free.FreeCommand.{FreeCommand}
-use Rattle.rx_line.specs.FreeCommands.{free_command_of, past_mark, quoted_word_in, Said, member_in, is_end, free_of_node, free_named, free_by, free_said}
+use Rattle.rx_line.specs.FreeCommands.{free_command_of, past_mark, Said, member_in, is_end, free_of_node, free_named, free_by, free_said}
 use Rattle.rx_line.specs.FreeCommands.{free_first, free_in}
 use Rattle.rx_line.proofs.WordsLexed.{same_rest}
 use Rattle.rx_line.proofs.ObjectsRead.{of_one, of_two, reads_one, reads_two}

@@ -1,10 +1,10 @@
 -- What the JSON reader makes of an object of words.
-use Rattle.std.proofs.Common.{◌≡◌, ℕ, zero, suc, ◌+◌, List, [], ◌∷◌, Bool, true, false, Option, Some, None, option_map, option_and_then, refl, sym, ap, ◌∙◌, subst, rules, arith, length}
+use Rattle.std.proofs.Common.{◌≡◌, ℕ, suc, List, [], ◌∷◌, true, false, Option, Some, None, option_map, option_and_then, refl, sym, ap, ◌∙◌, subst, arith, length}
 use Rattle.std.specs.Prelude.{◌==◌}
 use Rattle.std.specs.Option.{option_map_or}
 use Rattle.std.proofs.lemmas.Bool.{eqb-true}
-use Rattle.json.specs.Lex.{Lexeme, token, colon, comma, operator, between, lex, tokens, fresh, punctuate}
-use Rattle.json.specs.Token.{Token, begin_object, end_object, string, key}
+use Rattle.json.specs.Lex.{Lexeme, token, colon, comma, between, lex, fresh, punctuate}
+use Rattle.json.specs.Token.{begin_object, end_object, string, key}
 use Rattle.json.specs.Json.{value, members, items, if_last}
 use Rattle.serde_json.specs.Data as json
 use Rattle.serde_json.specs.Read.{read, of_json, max_depth}

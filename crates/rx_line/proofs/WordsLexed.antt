@@ -1,6 +1,6 @@
 -- What the JSON reader makes of blanks, marks and words.
-use Rattle.std.proofs.Common.{◌≡◌, ℕ, zero, suc, ◌+◌, ◌<◌, ◌≤◌, List, [], ◌∷◌, Bool, true, false, Option, Some, None, option_map, option_and_then, refl, sym, ap, ◌∙◌, subst, rules, arith, inl, inr, ◌⊎◌}
-use Rattle.std.specs.Prelude.{◌&&◌, ◌||◌, ◌==◌, take, drop, nat_le, nat_lt, cond}
+use Rattle.std.proofs.Common.{◌≡◌, ℕ, suc, ◌+◌, ◌<◌, ◌≤◌, List, [], ◌∷◌, Bool, true, false, Option, Some, None, option_map, option_and_then, refl, sym, ap, ◌∙◌, subst, arith, inl, inr, ◌⊎◌}
+use Rattle.std.specs.Prelude.{◌||◌, ◌==◌, take, drop, nat_le, nat_lt, cond}
 use Rattle.std.specs.List.{prefix_len}
 use Rattle.std.proofs.lemmas.Bool.{or_cases, eqb-true, false_from_ne_true, false≢true, lt-leb, le-leb, ltb-true, ltb-false}
 use Rattle.std.specs.Str.{IsAscii, IsUtf8}
@@ -8,7 +8,7 @@ use Rattle.std.proofs.lemmas.Str.{IsUtf8-from_ascii}
 use Rattle.std.proofs.lemmas.Str.Ascii.{IsAscii-nil, IsAscii-cons}
 use Rattle.json.specs.Word.{is_operator, is_space}
 use Rattle.json.specs.Text.{content, plain, after_backslash, prepend}
-use Rattle.json.specs.Lex.{Lexeme, token, class, Class, quote, backslash, operator, space, other, operator_lexeme, between, in_string, in_word, lex, lex_byte, string_token}
+use Rattle.json.specs.Lex.{token, class, Class, quote, backslash, operator, space, other, operator_lexeme, between, in_string, lex, lex_byte, string_token}
 use Rattle.json.specs.Token.{string}
 use Rattle.rx_scenario.specs.Reading.{is_name_byte}
 use Rattle.rx_line.specs.FreeCommands.{past_blanks, behind, past_mark, word_before, quoted_word_in}

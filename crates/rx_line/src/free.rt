@@ -73,7 +73,7 @@ fn behind(text: &[u8], mark: u8) -> Option<&[u8]>
     Some(&text[1..])
 }
 
-// The same behind blanks.
+// What is behind this byte, where the text begins with it behind blanks.
 #[tactic(auto, unfolding(crate::specs::FreeCommands::past_mark))]
 fn past_mark(text: &[u8], mark: u8) -> Option<&[u8]>
     ensures { option_map (λ s. s.now) result ≡ past_mark mark text.now }

@@ -55,7 +55,7 @@ impl<'a> Nearest<'a> {
         }
     }
 
-    /// The same with one more known word.
+    /// Takes one more known word into account.
     pub fn or(self, known: &'static str) -> Nearest<'a> {
         let apart = stretch(self.word.as_bytes(), known.as_bytes());
         if apart >= self.apart || apart >= known.len() {
@@ -68,7 +68,7 @@ impl<'a> Nearest<'a> {
         }
     }
 
-    /// The same with the words of a list.
+    /// Takes the words of a list into account.
     pub fn or_of(self, list: &'static str) -> Nearest<'a> {
         let mut nearest = self;
         for known in list.split(", ") {

@@ -1,7 +1,6 @@
 //! The members of an object.
 
 ghost use Rattle.std.specs.Prelude.{◌≡◌, ◌++◌, option_map, string_bytes, Some, OnOk};
-ghost use Rattle.rx_line.specs.Names.{name_of_number};
 ghost use Rattle.rx_listing.specs.Text.{member_of, below_text, place_member_text, of_hub_text, kind_member_text, made_text, mode_word};
 
 use rx_event::{Event, Kind, Place};

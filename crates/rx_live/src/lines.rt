@@ -2,7 +2,7 @@
 
 ghost use Rattle.std.specs.Prelude.{◌≡◌, ◌≤◌, None, Some, [], string_bytes, IsUtf8, IfOk, IfSome, IfNone, OnOk, OnErr};
 ghost use Rattle.rx_line.specs.FreeCommands.{free_in};
-ghost use Rattle.rx_live.specs.Session.{session_of, IsSound};
+ghost use Rattle.rx_live.specs.Session.{IsSound};
 ghost use Rattle.rx_live.specs.Live.{session, answer};
 ghost use Rattle.rx_live.specs.Lines.{IsPutOff, Sends, EndsSession, IsNewSession};
 ghost use Rattle.rx_live.specs.Answers.{is_late};

@@ -89,7 +89,7 @@ fn is_taken(book: &Book<Token>, nodes: &mut Names, untold: &Option<Mail>, name: 
     false
 }
 
-// The same of a name that may be left out.
+// Whether another node has a name that may be left out.
 fn is_other_taken(
     book: &Book<Token>,
     nodes: &mut Names,

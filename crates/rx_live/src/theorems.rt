@@ -9,8 +9,8 @@ pub fn names_are_released_once()
     ensures { AreNamesKept }
 {}
 
-/// The same where the session ends by [`Live::shut`](crate::Live::shut) and the releases behind it, for which no memory is
-/// needed.
+/// Of a session that ends by [`Live::shut`](crate::Live::shut) and the releases behind it, for which no memory is needed: each
+/// name that was answered `ok` stands in exactly one `release` up to the end.
 pub fn names_are_released_to_the_end()
     ensures { AreNamesKeptToTheEnd }
 {}

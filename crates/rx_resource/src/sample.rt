@@ -37,7 +37,7 @@ impl Sample {
         }
     }
 
-    /// The same, but that its release answers the fault of this code, any `u32`.
+    /// A live resource with this tag that was never applied. Its release answers the fault of this code, any `u32`.
     pub fn faulty(tag: u64, code: u32) -> Sample
         ensures { result ≡ record { tag = tag; life = Life.Live; uses = 0; sum = 0; fault = Some code } }
     {

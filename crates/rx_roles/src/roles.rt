@@ -102,7 +102,7 @@ fn place_of(rows: &Vec<Row>, number: u64) -> Option<usize>
     None
 }
 
-// The same, where one look tells of the newest row, and of all that are newer.
+// The index of the row of this number. One look tells of the newest row, and of numbers that are newer.
 #[inline(always)]
 fn find(rows: &Vec<Row>, number: u64) -> Option<usize>
     requires { IsRising rows.now.items }
@@ -155,7 +155,7 @@ fn cut_above(rows: &mut Vec<Row>, number: u64)
     rows.truncate(many);
 }
 
-// The same, where one look tells that all numbers are below.
+// Drops the empty rows at the end that are not below this number. One look tells where all are below.
 #[inline(always)]
 fn drop_above(rows: &mut Vec<Row>, number: u64)
     requires rising { IsRising rows.old.items }
@@ -300,7 +300,7 @@ impl Roles {
         self.live += 1;
     }
 
-    /// The same, where there is one to add.
+    /// Adds a role last, where there is one to add.
     #[inline(always)]
     pub fn put_if(&mut self, is: bool, role: Role)
         requires room { 0 < self.old.room }

@@ -1,6 +1,6 @@
 -- Notes that are handed out while a run goes on.
-use Rattle.rx_script.proofs.Common.{◌≡◌, ◌+◌, ◌++◌, ◌∷◌, [], ℕ, List, take, refl, sym, ap, subst, ◌∙◌, append_assoc, Some, slice_get, Event, notes, Mail}
-use Rattle.rx_script.proofs.Common.{State, IsPromised, Tallies, AreCountsOf, AreNotesOf, Engine, stage_of, IsHistoryOf, IsSound}
+use Rattle.rx_script.proofs.Common.{◌≡◌, ◌+◌, ◌++◌, ◌∷◌, [], List, take, sym, ap, subst, ◌∙◌, append_assoc, Some, slice_get, Event, notes, Mail}
+use Rattle.rx_script.proofs.Common.{State, IsPromised, Tallies, AreNotesOf, Engine, stage_of, IsHistoryOf, IsSound}
 use Rattle.rx_script.specs.Engine.{StaysAt}
 use Rattle.rx_script.proofs.TakenUp.{take_next, counts_kept}
 

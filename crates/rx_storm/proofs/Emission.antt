@@ -1,5 +1,5 @@
 -- What a thread emits, number by number.
-use Rattle.rx_storm.proofs.Common.{◌≡◌, ℕ, zero, suc, ◌+◌, ◌-◌, ◌≤◌, ◌<◌, List, [], ◌∷◌, ◌++◌, map, length, take, refl, sym, ap, ◌∙◌, arith, ◌≢◌, ℤ, pos, Ok, rules}
+use Rattle.rx_storm.proofs.Common.{◌≡◌, ℕ, zero, suc, ◌+◌, ◌-◌, ◌≤◌, ◌<◌, List, [], ◌∷◌, ◌++◌, map, length, take, refl, sym, ap, ◌∙◌, arith, ◌≢◌, pos, Ok, rules}
 use Rattle.rx_storm.proofs.Common.{cond, Result, Err, OnOk, OnErr, IfErr, map-append, append_assoc, append-nil, sum_by-cons, take-length, sum_by, Completed, Event}
 use Rattle.rx_storm.proofs.Common.{End, Refusal, is_item, Shares, Receipt, Pull, Stop, event_of, items_in, AreOfPulls, IsFed, count_up}
 use Rattle.rx_storm.proofs.Common.{items_at, events_of, HasBegun, HasEmitted, HasEmittedSome}

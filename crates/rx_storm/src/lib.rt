@@ -215,7 +215,7 @@ pub fn storm<R: Resource, G: Gate, T: Threads + Wait + Sync, W: Write>(
     )
 }
 
-/// The same as [`storm`], with 16 items of a source under one lock.
+/// Runs a storm as [`storm`] does, with 16 items of a source under one lock.
 ///
 /// Refused are `Memory` where memory was refused to the storm or to one of its calls, and else `Thread`
 /// where a thread could not be started: nothing is written then. With `Write` a front of the text may

@@ -227,7 +227,7 @@ pub fn run_threads<
     run_feeding(rt, alloc, desk, first, stock, workers, items, false, gate)
 }
 
-/// The same, with an item under one lock, or 16.
+/// Runs the threads of a storm, with an item under one lock, or 16.
 pub fn run_feeding<
     R: Resource,
     I: Ledger + Send + Sync,

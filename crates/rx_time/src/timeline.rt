@@ -234,8 +234,8 @@ impl<T> Timeline<T> {
         earlier_place(first, other)
     }
 
-    // The same, where that is due at or before this time. No work is due before it, or before this
-    // time.
+    // The due time and the ticket of what comes next, where that is due at or before this time. No work is due
+    // before it, or before this time.
     fn place_due(&self, until: u64) -> Option<(u64, u32)>
         ensures next { PointsAt self.now.work (next_due until self.now.work) result }
         ensures ahead { IfSome result (λ place. self.now.clock ≤ place.0) }
@@ -294,7 +294,7 @@ fn take_from<T>(
     take_from_either(in_order, others, number)
 }
 
-// The same, of two lists.
+// Takes out the work of a number, which stands on one of two lists.
 #[inline(always)]
 fn take_from_either<T>(
     in_order: &mut Run<T>,

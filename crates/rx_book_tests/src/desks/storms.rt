@@ -77,7 +77,7 @@ fn a_storm_in_batches_tells_its_figures(rt: HostRuntime) {
     same(&rt, output.as_slice(), FIGURES.as_bytes());
 }
 
-// The same resources, which are counted.
+// The four resources of a storm, the last of them faulty, with each use and release counted.
 fn four_tracked(alloc: Global, tracker: &Tracker) -> Result<Vec<Tracked>, AllocError> {
     let mut stock = Vec::new(alloc);
     for tag in 0..4 {

@@ -94,7 +94,7 @@ fn schedule_all(
     Ok(refusals)
 }
 
-// The same of a trampoline.
+// How often a trampoline refuses an item while the memory is given back block by block.
 fn push_in_the_end(
     rt: &impl Abort,
     trampoline: &mut Trampoline<u64>,

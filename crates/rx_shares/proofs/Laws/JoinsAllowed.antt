@@ -1,6 +1,6 @@
 -- A node may join the hub that was chosen for its share, and so may the connection that comes with it.
-use Rattle.rx_event.proofs.Laws.Common.{◌≡◌, ℕ, suc, zero, ◌+◌, ◌<◌, ◌≤◌, Bool, true, false, List, [], ◌∷◌, length, Option, Some, None}
-use Rattle.rx_event.proofs.Laws.Common.{refl, sym, ap, ◌∙◌, arith, ◌&&◌, ◌==◌, nat_lt, slice_get, option_map_or, false≢true, eq-eqb, lt-ltb, makes_node}
+use Rattle.rx_event.proofs.Laws.Common.{◌≡◌, ℕ, suc, zero, ◌+◌, ◌<◌, ◌≤◌, true, false, List, [], ◌∷◌, length, Option, Some}
+use Rattle.rx_event.proofs.Laws.Common.{refl, ap, ◌∙◌, arith, slice_get, option_map_or, false≢true, eq-eqb, lt-ltb, makes_node}
 use Rattle.rx_event.proofs.Laws.Common.{IsSettled, MayFollow, forced, allowed, slice_get_within}
 use Rattle.std.proofs.Common.{◌^◌, slice_set, Ok}
 use Rattle.rx_event.specs.declared.event.Event.{Event}
@@ -13,7 +13,7 @@ use Rattle.rx_event.specs.Sames.{same_mode}
 use Rattle.rx_event.specs.Tree.{open_nodes}
 use Rattle.rx_pool.specs.declared.search.PooledHub.{PooledHub}
 use Rattle.rx_pool.specs.declared.search.Share.{Share}
-use Rattle.rx_pool.specs.Pool.{changed, joined, serves, is_own}
+use Rattle.rx_pool.specs.Pool.{changed, joined, serves}
 use Rattle.rx_pool.specs.Choice.{choice, passes}
 use Rattle.rx_pool.specs.Counts.{IsPoolOf}
 use Rattle.rx_pool.specs.Ties.{IsPlain, MayJoin}

@@ -1,8 +1,8 @@
 -- Behind a step whose new nodes joined their hubs, all that have gone may leave theirs, and then list and hubs are those of the history.
-use Rattle.rx_event.proofs.Laws.Common.{◌≡◌, ◌≢◌, ℕ, suc, zero, ◌+◌, ◌<◌, ◌≤◌, Bool, true, false, cond, List, [], ◌∷◌, ◌++◌, length, Option, Some, None}
-use Rattle.rx_event.proofs.Laws.Common.{refl, sym, ap, subst, ◌∙◌, arith, ◌⊎◌, inl, inr, ◌&&◌, ◌||◌, ◌==◌, not, nat_lt, slice_get, option_map_or, if◌then◌else◌}
-use Rattle.rx_event.proofs.Laws.Common.{cases_lt, cases_order, or_cases, slice_get_within, and_parts, both_ways, false≢true, none-some, same_Some, eq-eqb, eqb-true, ne_eqb, le-ltb, or_false}
-use Rattle.rx_event.proofs.Laws.Common.{and_from, length-append, slice_get_past, IsLawful, open_subscribers, open_connections, and_false, and_true, append-nil, at, is_open, makes_node, hub_subscribed, is_connect_of, is_subscriber_of}
+use Rattle.rx_event.proofs.Laws.Common.{◌≡◌, ◌≢◌, ℕ, suc, ◌+◌, ◌<◌, ◌≤◌, Bool, true, false, List, [], ◌∷◌, ◌++◌, length, Option, Some, None}
+use Rattle.rx_event.proofs.Laws.Common.{refl, sym, ap, subst, ◌∙◌, arith, ◌⊎◌, inl, inr, ◌&&◌, ◌||◌, ◌==◌, slice_get, option_map_or, if◌then◌else◌}
+use Rattle.rx_event.proofs.Laws.Common.{cases_lt, cases_order, or_cases, slice_get_within, both_ways, false≢true, none-some, same_Some, eq-eqb, eqb-true, ne_eqb, or_false}
+use Rattle.rx_event.proofs.Laws.Common.{and_from, length-append, slice_get_past, IsLawful, open_subscribers, open_connections, and_false, and_true, append-nil, at, is_open, hub_subscribed, is_connect_of, is_subscriber_of}
 use Rattle.std.proofs.Common.{option_map, is_some, slice_index_or, slice_set, length-set}
 use Rattle.std.proofs.lemmas.List.Elements.{All-tail}
 use Rattle.std.specs.List.{All, AllPairs, filter_map, cons_option}
@@ -28,7 +28,7 @@ use Rattle.rx_pool.specs.Ties.{IsPlain}
 use Rattle.rx_pool.proofs.Laws.MovesOfStep.{moves_follow}
 use Rattle.rx_pool.proofs.Laws.CountsAfterStep.{stays_the_pool, free_serves_nobody}
 use Rattle.rx_steps.proofs.Laws.JustThose.{just_among}
-use Rattle.rx_steps.proofs.Laws.NodesAfterStep.{StepMakes, is_new, is_new_none, same_sort, older}
+use Rattle.rx_steps.proofs.Laws.NodesAfterStep.{StepMakes, is_new_none, same_sort, older}
 use Rattle.rx_steps.proofs.Laws.NodesMade.{IsMaking, made_by, made_with, step_makes, own_event, second_event}
 use Rattle.rx_steps.proofs.Laws.FirstSubscriberConnects.{second_just}
 use Rattle.rx_steps.proofs.Laws.NotesOfStep.{of_sort}

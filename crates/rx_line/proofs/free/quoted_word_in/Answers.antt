@@ -1,7 +1,5 @@
-use Rattle.std.proofs.Common.{List, ℕ, take, sym, ap, subst, ◌≡◌, ◌∙◌}
+use Rattle.std.proofs.Common.{List, ℕ, take, sym, subst}
 use Rattle.std.specs.Prelude.{IsUtf8}
-use Rattle.std.specs.List.{prefix_len}
-use Rattle.rx_scenario.specs.Reading.{is_name_byte}
 use Rattle.rx_line.proofs.WordsLexed.{word_utf8}
 use Rattle.rx_line.proofs.free.quoted_word_in.Goals as goal
 

@@ -1,4 +1,4 @@
-use Rattle.std.proofs.Common.{◌≡◌, ℕ, suc, ap, length, arith}
+use Rattle.std.proofs.Common.{◌≡◌, suc, ap, length, arith}
 use Rattle.rx_live.specs.Live.{session}
 use Rattle.rx_live.specs.Answers.{to_tell}
 use Rattle.rxlive.proofs.serve.write_notes.Goals as goal
