@@ -2,18 +2,18 @@
 //!
 //! What is tried at a desk is a [`trials::Trial`]; a test is a table of them, with the lines that each has to tell.
 
-mod closed;
-mod days;
+mod closed_keys;
 mod desk_calls;
 mod endless;
 mod feeds;
+mod finishing;
 mod leases;
-mod meetings;
 mod parts;
-mod rows;
+mod pull_refused_memory;
+mod releases_outside_the_lock;
 mod seats;
 mod storms;
 mod ticks;
 mod trials;
-mod want;
+mod worked_examples;
 mod workers;

@@ -1,9 +1,9 @@
 //! That what a book took is given back: with one block of memory left, books are made and ended, and checkpoints made, so
 //! often that what each of them kept would use the block up.
 
+use super::calls_without_memory::leave_one_block;
 use super::probe::Probe;
 use super::same::same;
-use super::unasked::leave_one_block;
 use rx_book::{At, Key};
 use rx_event::Kind;
 use rx_resource::Sample;

@@ -9,32 +9,32 @@
 #![tactic(auto)]
 
 #[cfg(test)]
-mod asking;
-#[cfg(test)]
 mod boxed;
 #[cfg(test)]
 mod caller;
 #[cfg(test)]
+mod calls_with_memory;
+#[cfg(test)]
+mod calls_without_memory;
+#[cfg(test)]
 mod desks;
 #[cfg(test)]
-mod fates;
+mod dropped_book;
+#[cfg(test)]
+mod exact_memory;
 #[cfg(test)]
 mod given_back;
 #[cfg(test)]
-mod just;
-#[cfg(test)]
 mod load;
+#[cfg(test)]
+mod memory_refused;
+#[cfg(test)]
+mod no_memory_left;
+#[cfg(test)]
+mod old_keys;
 #[cfg(test)]
 mod parts;
 #[cfg(test)]
 mod probe;
 #[cfg(test)]
 mod same;
-#[cfg(test)]
-mod slots;
-#[cfg(test)]
-mod spare;
-#[cfg(test)]
-mod unasked;
-#[cfg(test)]
-mod want;

@@ -6,8 +6,8 @@ ghost use Rattle.std.specs.List.{All};
 ghost use Rattle.rx_resource.specs.declared.Life.{Life};
 ghost use Rattle.rx_ledger.specs.Shares.{OpensFromBlank};
 
-use super::meetings::Pair;
 use super::parts::{Open, blanks};
+use super::releases_outside_the_lock::Pair;
 use crate::same::same;
 use rx_book::{At, Book};
 use rx_crew::{Desk, Gate};

@@ -2,15 +2,15 @@
 
 ghost use Rattle.rx_ledger.specs.Shares.{OpensFromBlank};
 
-use super::closed::eight_knock;
-use super::days::work;
+use super::closed_keys::eight_refused;
 use super::desk_calls::{Call, NO_SLOTS, make_all};
 use super::endless::{LIMIT, storm};
+use super::finishing::work;
 use super::leases::passed_on;
-use super::meetings::{both_release, wakes};
 use super::parts::{blanks, number_of, tell};
+use super::pull_refused_memory::feed_in_the_end;
+use super::releases_outside_the_lock::{both_release, wakes};
 use super::seats::{SEEN, give_a_past, split_all};
-use super::want::feed_in_the_end;
 use super::workers::work_thrice;
 use rx_book::Book;
 use rx_crew::{Desk, Finished, finish};
@@ -92,7 +92,7 @@ fn tried<
         Trial::Meeting => both_release(rt, alloc, desk, seat, told),
         Trial::Bell => wakes(rt, alloc, desk, seat, told),
         Trial::Lease => passed_on(rt, alloc, desk, seat, told),
-        Trial::Closed => eight_knock(rt, alloc, desk, seat, told),
+        Trial::Closed => eight_refused(rt, alloc, desk, seat, told),
         Trial::Endless => storm(rt, alloc, desk, seat, told),
         Trial::Past => Some(make_all(rt, alloc, desk, seat, &mut NO_SLOTS, &SEEN, told)),
         Trial::Split => Some(split_all(seat, told)),

@@ -1,8 +1,8 @@
 //! Calls that ask for no memory, where each list is full and one block of memory is left.
 
-use super::asking::{Asking, Outcome, ask};
+use super::calls_with_memory::{Asking, Outcome, ask};
+use super::no_memory_left::{CLOSINGS, Closing, is_done, new_closings};
 use super::probe::Probe;
-use super::spare::{CLOSINGS, Closing, is_done, new_closings};
 use rx_book::{At, Key};
 use rx_event::Kind;
 use rx_resource::Sample;

@@ -1,7 +1,7 @@
 //! Just the memory that a call needs where much is open, held or told already: one of its lists is full, and
 //! grows to twice its size.
 
-use super::asking::{Asking, Outcome, ask};
+use super::calls_with_memory::{Asking, Outcome, ask};
 use super::probe::Probe;
 use rx_book::{At, Key};
 use rx_event::Kind;

@@ -1,5 +1,5 @@
 use Rattle.rx_book_tests.proofs.TicksEnd.{ticks_end}
-use Rattle.rx_book_tests.proofs.desks.want.fill_up.Goals as goal
+use Rattle.rx_book_tests.proofs.desks.pull_refused_memory.fill_up.Goals as goal
 
 pub feed-requires-after_bounds : goal.feed-requires-after_bounds
 feed-requires-after_bounds g c κs within =

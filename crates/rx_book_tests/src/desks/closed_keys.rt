@@ -26,7 +26,7 @@ fn is_back(answer: Result<ResKey, Refused<Sample>>) -> bool {
 }
 
 // Whether each of three calls with the key of a closed root that is a leaf is refused so.
-fn knock<I: Ledger, A: Ledger, K: Ledger>(
+fn is_refused<I: Ledger, A: Ledger, K: Ledger>(
     rt: &impl Wait,
     desk: &Desk<Sample, I, A, K>,
     seat: &mut Seat<I, A, K>,
@@ -38,8 +38,8 @@ fn knock<I: Ledger, A: Ledger, K: Ledger>(
     is_gone && is_left && is_back(floor.hold(seat, closed, Sample::new(7)))
 }
 
-// How many of a hundred rounds of it are refused so.
-fn knocks<I: Ledger, A: Ledger, K: Ledger>(
+// How many of a hundred rounds of these calls are refused so.
+fn refused_rounds<I: Ledger, A: Ledger, K: Ledger>(
     rt: &impl Wait,
     desk: &Desk<Sample, I, A, K>,
     seat: Seat<I, A, K>,
@@ -48,7 +48,7 @@ fn knocks<I: Ledger, A: Ledger, K: Ledger>(
     let mut seat = seat;
     let mut rounds: u32 = 0;
     for _ in 0..100u32 {
-        rounds = rounds.saturating_add(u32::from(knock(rt, desk, &mut seat, closed)));
+        rounds = rounds.saturating_add(u32::from(is_refused(rt, desk, &mut seat, closed)));
         thread::yield_now();
     }
     rounds
@@ -60,8 +60,8 @@ const CLOSES: [Call; 2] = [
     Call::At(0, Deed::Dispose),
 ];
 
-// Eight threads knock at a desk whose one root was closed.
-pub(super) fn eight_knock<
+// Eight threads call at a desk whose one root was closed.
+pub(super) fn eight_refused<
     I: Ledger + Send + Sync,
     A: Ledger + Send + Sync,
     K: Ledger + Send + Sync,
@@ -80,12 +80,12 @@ pub(super) fn eight_knock<
     for _ in 0..8u32 {
         seats.push(first.split()?).ok()?;
     }
-    let rounds = thread::map_vec(rt, seats, &|seat| knocks(rt, desk, seat, closed)).ok()?;
+    let rounds = thread::map_vec(rt, seats, &|seat| refused_rounds(rt, desk, seat, closed)).ok()?;
     tell(told, rounds.as_slice());
     Some(first)
 }
 
-const KNOCKED: [(Trial, &str); 1] = [(
+const REFUSED: [(Trial, &str); 1] = [(
     Trial::Closed,
     "\
 (0, None)
@@ -99,5 +99,5 @@ Closed { released: 0, faults: 0 }
 
 #[test]
 fn eight_threads_with_a_closed_key_are_refused_and_change_nothing(rt: HostRuntime) {
-    assert_all(&rt, rt.alloc(), &KNOCKED);
+    assert_all(&rt, rt.alloc(), &REFUSED);
 }

@@ -1,7 +1,7 @@
 //! Memory refused to each call that asks for some, until it is there: then the call answers as a twin's call does, to
 //! which no memory was refused. That a refusal changes nothing is proved.
 
-use super::asking::{Asking, Outcome, ask};
+use super::calls_with_memory::{Asking, Outcome, ask};
 use super::probe::Probe;
 use rx_book::{At, Key, ResKey};
 use rx_event::{Kind, Mode, Refusal};
