@@ -1,6 +1,5 @@
 -- What `Segments` shows of its pieces, and keeps true of them. No public clause cites this module.
 use Rattle.std.specs.Prelude.{◌≡◌, ℕ, ◌+◌, ◌-◌, ◌*◌, ◌<◌, ◌≤◌, List, [], ◌++◌, All, Vec, vec_items, vec_len, vec_capacity, flat_map}
-use Rattle.rx_segments.specs.declared.pieces.Pieces.{Pieces}
 use Rattle.rx_segments.specs.Segments.{Segments}
 
 -- a piece that is full, and one that is empty with room for as much
@@ -19,26 +18,16 @@ module _ {T Z : Type 0} where
   abbrev pub room_in : Vec T Z → Vec (Vec T Z) Z → ℕ
   room_in last spare = (vec_capacity last - vec_len last) + 4096 * vec_len spare
 
+  -- what callers see
+  abbrev pub shown : Vec (Vec T Z) Z → Vec T Z → Vec (Vec T Z) Z → Segments T
+  shown full last spare = record { items = items_in full last; room = room_in last spare }
+
   -- only the first piece may be smaller than a piece, and only while no other is there; each empty one has its place
   -- among the full ones; and how many items all pieces take is a number
-  pub record AreKeptIn (full : Vec (Vec T Z) Z) (last : Vec T Z) (spare : Vec (Vec T Z) Z) : Type 0 where
+  pub record AreKept (full : Vec (Vec T Z) Z) (last : Vec T Z) (spare : Vec (Vec T Z) Z) : Type 0 where
     pub full_ones : All IsFullPiece full.items
     pub empty_ones : All IsEmptyPiece spare.items
     pub most : vec_capacity last ≤ 4096
     pub whole : 0 < vec_len spare → vec_capacity last ≡ 4096
     pub places : vec_len full + vec_len spare ≤ vec_capacity full
     pub counted : 4096 * (vec_len full + vec_len spare) ≤ 1099511627776
-
-module _ {T : Type 0} where
-  abbrev pub items_of : Pieces T → List T
-  items_of p = items_in p.full p.last
-
-  abbrev pub room_of : Pieces T → ℕ
-  room_of p = room_in p.last p.spare
-
-  abbrev pub AreKept : Pieces T → Type 0
-  AreKept p = AreKeptIn p.full p.last p.spare
-
-  -- what callers see
-  abbrev pub shown : Pieces T → Segments T
-  shown p = record { items = items_of p; room = room_of p }

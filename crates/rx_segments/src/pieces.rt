@@ -1,7 +1,7 @@
-//! The pieces that a list is kept in.
+//! More pieces for a list.
 
-ghost use Rattle.std.specs.Prelude.{◌≡◌, ◌+◌, ◌-◌, ◌*◌, ◌<◌, ◌≤◌, [], ◌∷◌, ◌++◌, All, max, min, length, vec_len, vec_capacity, slice_get, option_copied, OnOk};
-ghost use Rattle.rx_segments.specs.Kept.{IsEmptyPiece, AreKept, items_of, room_of};
+ghost use Rattle.std.specs.Prelude.{◌≡◌, ◌+◌, ◌<◌, ◌≤◌, All, min, length, vec_len, vec_capacity, OnOk};
+ghost use Rattle.rx_segments.specs.Kept.{IsEmptyPiece, AreKept, items_in, room_in};
 
 use std::alloc::{AllocError, Global};
 use std::mem;
@@ -15,149 +15,89 @@ const FEWEST: usize = 8;
 // The most items, 2^40, so that their count is a number.
 const MOST: usize = 1_099_511_627_776;
 
-/// The pieces of a list, in three parts.
-#[derive(Drop)]
-pub(crate) struct Pieces<T> {
-    // Those that are full, in their order.
-    pub(crate) full: Vec<Vec<T>>,
-    // The one that comes after them. It is the first one where none is full, and may be smaller then.
-    pub(crate) last: Vec<T>,
-    // Empty ones.
-    pub(crate) spare: Vec<Vec<T>>,
+/// Begins the next piece.
+#[cold]
+#[inline(never)]
+pub(crate) fn begin<T>(full: &mut Vec<Vec<T>>, last: &mut Vec<T>, spare: &mut Vec<Vec<T>>)
+    requires kept { AreKept full.old last.old spare.old }
+    requires full { vec_len last.old ≡ 4096 }
+    requires spare { 0 < vec_len spare.old }
+    ensures kept { AreKept full.new last.new spare.new }
+    ensures items { items_in full.new last.new ≡ items_in full.old last.old }
+    ensures room { room_in last.new spare.new ≡ room_in last.old spare.old }
+    ensures place { vec_len last.new < vec_capacity last.new }
+{
+    let piece = spare.pop().unwrap();
+    let before = mem::replace(last, piece);
+    full.push_reserved(before);
 }
 
-impl<T> Pieces<T> {
-    // How many items there are.
-    #[inline(always)]
-    pub(crate) fn len(&self) -> usize
-        requires kept { AreKept self.now }
-        ensures { result ≡ length (items_of self.now) }
-    {
-        PIECE * self.full.len() + self.last.len()
+/// Gets room for `n` more, where there is not as much.
+#[cold]
+#[inline(never)]
+pub(crate) fn widen<T>(
+    full: &mut Vec<Vec<T>>,
+    last: &mut Vec<T>,
+    spare: &mut Vec<Vec<T>>,
+    n: usize,
+) -> Result<(), AllocError>
+    requires kept { AreKept full.old last.old spare.old }
+    requires short { room_in last.old spare.old < n }
+    ensures kept { AreKept full.new last.new spare.new }
+    ensures items { items_in full.new last.new ≡ items_in full.old last.old }
+    ensures more { room_in last.old spare.old ≤ room_in last.new spare.new }
+    ensures ok { OnOk result (n ≤ room_in last.new spare.new) }
+{
+    let count = PIECE * full.len() + last.len();
+    if n > MOST.saturating_sub(count) {
+        return Err(AllocError);
     }
+    widen_last(last, n)?;
+    add_pieces(full, last, spare, n)
+}
 
-    // For how many more there is room.
-    #[inline(always)]
-    pub(crate) fn room(&self) -> usize
-        requires kept { AreKept self.now }
-        ensures { result ≡ room_of self.now }
-    {
-        self.last.capacity() - self.last.len() + PIECE * self.spare.len()
+// Lets the last piece have room for so many more, or for as many as a piece takes.
+fn widen_last<T>(last: &mut Vec<T>, n: usize) -> Result<(), AllocError>
+    requires most { vec_capacity last.old ≤ 4096 }
+    requires within { n ≤ 1099511627776 }
+    ensures items { last.new.items ≡ last.old.items }
+    ensures len { vec_len last.new ≡ vec_len last.old }
+    ensures more { vec_capacity last.old ≤ vec_capacity last.new }
+    ensures most { vec_capacity last.new ≤ 4096 }
+    ensures ok { OnOk result (min 4096 (vec_len last.new + n) ≤ vec_capacity last.new) }
+{
+    let wanted = (last.len() + n).min(PIECE);
+    let had = last.capacity();
+    if wanted <= had {
+        return Ok(());
     }
+    let capacity = wanted.max(2 * had).max(FEWEST).min(PIECE);
+    last.reserve_exact(capacity - last.len())
+}
 
-    // The item at an index, if there is one.
-    pub(crate) fn get(&self, index: usize) -> Option<&T>
-        requires kept { AreKept self.now }
-        ensures { option_copied result ≡ slice_get (items_of self.now) index }
-    {
-        let piece = index / PIECE;
-        if piece < self.full.len() {
-            self.full[piece].get(index % PIECE)
-        } else {
-            self.last.get(index - PIECE * self.full.len())
-        }
+// Adds empty pieces for so many more, where the last one is not enough.
+fn add_pieces<T>(
+    full: &mut Vec<Vec<T>>,
+    last: &Vec<T>,
+    spare: &mut Vec<Vec<T>>,
+    n: usize,
+) -> Result<(), AllocError>
+    requires kept { AreKept full.old last.now spare.old }
+    requires some { 0 < n }
+    requires within { length (items_in full.old last.now) + n ≤ 1099511627776 }
+    requires wide { min 4096 (vec_len last.now + n) ≤ vec_capacity last.now }
+    ensures kept { AreKept full.new last.now spare.new }
+    ensures items { full.new.items ≡ full.old.items }
+    ensures more { vec_len spare.old ≤ vec_len spare.new }
+    ensures ok { OnOk result (n ≤ room_in last.now spare.new) }
+{
+    let count = (last.len() + n - 1) / PIECE;
+    if count <= spare.len() {
+        return Ok(());
     }
-
-    // Adds an item.
-    #[inline(always)]
-    pub(crate) fn push_reserved(&mut self, item: T)
-        requires kept { AreKept self.old }
-        requires room { 0 < room_of self.old }
-        ensures kept { AreKept self.new }
-        ensures items { items_of self.new ≡ items_of self.old ++ item ∷ [] }
-        ensures room { room_of self.new + 1 ≡ room_of self.old }
-    {
-        self.make_place();
-        self.last.push_reserved(item);
-    }
-
-    // Lets there be room in the last piece.
-    #[inline(always)]
-    fn make_place(&mut self)
-        requires kept { AreKept self.old }
-        requires room { 0 < room_of self.old }
-        ensures kept { AreKept self.new }
-        ensures items { items_of self.new ≡ items_of self.old }
-        ensures room { room_of self.new ≡ room_of self.old }
-        ensures place { vec_len self.new.last < vec_capacity self.new.last }
-    {
-        if self.last.len() == PIECE {
-            self.begin();
-        }
-    }
-
-    // Begins the next piece.
-    #[cold]
-    #[inline(never)]
-    fn begin(&mut self)
-        requires kept { AreKept self.old }
-        requires full { vec_len self.old.last ≡ 4096 }
-        requires spare { 0 < vec_len self.old.spare }
-        ensures kept { AreKept self.new }
-        ensures items { items_of self.new ≡ items_of self.old }
-        ensures room { room_of self.new ≡ room_of self.old }
-        ensures place { vec_len self.new.last < vec_capacity self.new.last }
-    {
-        let piece = self.spare.pop().unwrap();
-        let last = mem::replace(&mut self.last, piece);
-        self.full.push_reserved(last);
-    }
-
-    // Gets room for `n` more, where there is not as much.
-    #[cold]
-    #[inline(never)]
-    pub(crate) fn reserve(&mut self, n: usize) -> Result<(), AllocError>
-        requires kept { AreKept self.old }
-        requires short { room_of self.old < n }
-        ensures kept { AreKept self.new }
-        ensures items { items_of self.new ≡ items_of self.old }
-        ensures more { room_of self.old ≤ room_of self.new }
-        ensures ok { OnOk result (n ≤ room_of self.new) }
-    {
-        if n > MOST.saturating_sub(self.len()) {
-            return Err(AllocError);
-        }
-        self.widen(n)?;
-        self.add_pieces(n)
-    }
-
-    // Lets the last piece have room for so many more, or for as many as a piece takes.
-    fn widen(&mut self, n: usize) -> Result<(), AllocError>
-        requires kept { AreKept self.old }
-        requires within { n ≤ 1099511627776 }
-        ensures kept { AreKept self.new }
-        ensures items { items_of self.new ≡ items_of self.old }
-        ensures more { room_of self.old ≤ room_of self.new }
-        ensures ok { OnOk result (min 4096 (vec_len self.new.last + n) ≤ vec_capacity self.new.last) }
-    {
-        let wanted = (self.last.len() + n).min(PIECE);
-        let had = self.last.capacity();
-        if wanted <= had {
-            return Ok(());
-        }
-        let capacity = wanted.max(2 * had).max(FEWEST).min(PIECE);
-        self.last.reserve_exact(capacity - self.last.len())
-    }
-
-    // Adds empty pieces for so many more, where the last one is not enough.
-    fn add_pieces(&mut self, n: usize) -> Result<(), AllocError>
-        requires kept { AreKept self.old }
-        requires some { 0 < n }
-        requires within { length (items_of self.old) + n ≤ 1099511627776 }
-        requires wide { min 4096 (vec_len self.old.last + n) ≤ vec_capacity self.old.last }
-        ensures kept { AreKept self.new }
-        ensures items { items_of self.new ≡ items_of self.old }
-        ensures more { room_of self.old ≤ room_of self.new }
-        ensures ok { OnOk result (n ≤ room_of self.new) }
-    {
-        let count = (self.last.len() + n - 1) / PIECE;
-        if count <= self.spare.len() {
-            return Ok(());
-        }
-        self.full.reserve(count)?;
-        let alloc = *self.full.allocator();
-        fill(alloc, &mut self.spare, count)
-    }
+    full.reserve(count)?;
+    let alloc = *full.allocator();
+    fill(alloc, spare, count)
 }
 
 // Adds empty pieces until there are so many.

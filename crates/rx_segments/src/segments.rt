@@ -1,15 +1,20 @@
-//! The list as callers see it.
+//! The list, in its pieces.
 
 ghost use Rattle.std.specs.Prelude.{◌≡◌, ◌+◌, ◌<◌, ◌≤◌, ◌==◌, [], ◌∷◌, ◌++◌, length, slice_get, option_copied, OnOk, OnErr, IsOk};
 
-use crate::pieces::Pieces;
+use crate::pieces::{PIECE, begin, widen};
 use std::alloc::{AllocError, Global};
 use std::marker::Model;
 
 /// A list that grows at its end and never moves what it has.
 #[derive(Drop)]
 pub struct Segments<T> {
-    pieces: Pieces<T>,
+    // The pieces that are full, in their order.
+    full: Vec<Vec<T>>,
+    // The one that comes after them. It is the first one where none is full, and may be smaller then.
+    last: Vec<T>,
+    // Empty ones.
+    spare: Vec<Vec<T>>,
 }
 
 impl<T> Model for Segments<T> {
@@ -21,9 +26,9 @@ impl<T> Model for Segments<T> {
 
     ghost use Rattle.rx_segments.specs.Kept.{AreKept, shown};
 
-    ghost view = { λ s. shown s.pieces };
+    ghost view = { λ s. shown s.full s.last s.spare };
 
-    ghost invariant = { λ s. AreKept s.pieces };
+    ghost invariant = { λ s. AreKept s.full s.last s.spare };
 }
 
 impl<T> Segments<T> {
@@ -33,11 +38,9 @@ impl<T> Segments<T> {
         ensures room { result.room ≡ 0 }
     {
         Segments {
-            pieces: Pieces {
-                full: Vec::new(alloc),
-                last: Vec::new(alloc),
-                spare: Vec::new(alloc),
-            },
+            full: Vec::new(alloc),
+            last: Vec::new(alloc),
+            spare: Vec::new(alloc),
         }
     }
 
@@ -46,14 +49,14 @@ impl<T> Segments<T> {
     pub fn len(&self) -> usize
         ensures { result ≡ length self.now.items }
     {
-        self.pieces.len()
+        PIECE * self.full.len() + self.last.len()
     }
 
     /// Whether there is no item.
     pub fn is_empty(&self) -> bool
         ensures { result ≡ (length self.now.items == 0) }
     {
-        self.pieces.len() == 0
+        self.len() == 0
     }
 
     /// How many items more need no memory.
@@ -61,14 +64,19 @@ impl<T> Segments<T> {
     pub fn room(&self) -> usize
         ensures { result ≡ self.now.room }
     {
-        self.pieces.room()
+        self.last.capacity() - self.last.len() + PIECE * self.spare.len()
     }
 
     /// The item at an index, from 0 on; None past the last one.
     pub fn get(&self, index: usize) -> Option<&T>
         ensures { option_copied result ≡ slice_get self.now.items index }
     {
-        self.pieces.get(index)
+        let piece = index / PIECE;
+        if piece < self.full.len() {
+            self.full[piece].get(index % PIECE)
+        } else {
+            self.last.get(index - PIECE * self.full.len())
+        }
     }
 
     /// Gets room for `n` more items.
@@ -82,10 +90,10 @@ impl<T> Segments<T> {
         ensures kept { self.new ≡ record self.old { room = self.new.room } }
         ensures room { self.old.room ≤ self.new.room }
     {
-        if n <= self.pieces.room() {
+        if n <= self.room() {
             return Ok(());
         }
-        self.pieces.reserve(n)
+        widen(&mut self.full, &mut self.last, &mut self.spare, n)
     }
 
     /// Adds an item last. It takes no memory, since there is room.
@@ -95,7 +103,10 @@ impl<T> Segments<T> {
         ensures items { self.new.items ≡ self.old.items ++ item ∷ [] }
         ensures room { self.new.room + 1 ≡ self.old.room }
     {
-        self.pieces.push_reserved(item);
+        if self.last.len() == PIECE {
+            begin(&mut self.full, &mut self.last, &mut self.spare);
+        }
+        self.last.push_reserved(item);
     }
 }
 
@@ -107,7 +118,7 @@ impl<T: Drop> Segments<T> {
         ensures room { OnOk result (n ≤ self.new.room) }
         ensures kept { OnErr result (self.new ≡ self.old) }
     {
-        let alloc = *self.pieces.full.allocator();
+        let alloc = *self.full.allocator();
         let mut fresh = Segments::new(alloc);
         fresh.reserve(n)?;
         *self = fresh;
