@@ -1,10 +1,7 @@
 -- Words tell the marks that they were made of.
-use Rattle.rx_event.proofs.Laws.Common.{◌≡◌, Bool, Option, Terminal}
-use Rattle.rx_event.specs.MarksInWords.{two_of, first_in, second_in, end_word, code_in, terminal_at}
+use Rattle.rx_event.proofs.Laws.Common.{◌≡◌, Bool}
+use Rattle.rx_event.specs.MarksInWords.{two_of, first_in, second_in}
 use Rattle.std.proofs.Common.{rules}
-
-pub terminal_back : (t : Option Terminal) → terminal_at (end_word t) (code_in t) ≡ t
-terminal_back x0 = search rules
 
 pub first_back : (a b : Bool) → first_in (two_of a b) ≡ a
 first_back x0 x1 = search rules

@@ -1,7 +1,6 @@
 -- What an event says that is stored as words and numbers.
 use Rattle.rx_event.specs.Imports.{ℕ, Event, Kind, Place}
-use Rattle.rx_note.specs.declared.Terminal.{Terminal}
-use Rattle.rx_event.specs.declared.stored.EndWord.{EndWord}
+use Rattle.rx_note.specs.declared.Terminal.TheVariants.{Completed, Error}
 use Rattle.rx_event.specs.declared.stored.KindWord.{KindWord}
 use Rattle.rx_event.specs.declared.stored.PlaceWord.{PlaceWord}
 use Rattle.rx_event.specs.declared.stored.StoredEvent.{StoredEvent}
@@ -21,10 +20,6 @@ kind_at KindWord.Switch g = Kind.Switch
 kind_at KindWord.Until g = Kind.Until
 kind_at KindWord.Sub g = Kind.Sub g
 
-abbrev pub end_at : EndWord → ℕ → Terminal
-end_at EndWord.Completed code = Terminal.Completed
-end_at EndWord.Error code = Terminal.Error code
-
 -- the number that goes with the word
 abbrev pub above_in : Place → ℕ
 above_in Place.Root = 0
@@ -35,10 +30,6 @@ above_in (Place.Notifier n) = n
 abbrev pub hub_in : Kind → ℕ
 hub_in (Kind.Sub g) = g
 hub_in _ = 0
-
-abbrev pub code_in : Terminal → ℕ
-code_in Terminal.Completed = 0
-code_in (Terminal.Error code) = code
 
 -- the event that is stored
 abbrev pub event_of : StoredEvent → Event
@@ -52,6 +43,7 @@ event_of (StoredEvent.Lease res) = Event.Lease res
 event_of (StoredEvent.Return lease) = Event.Return lease
 event_of (StoredEvent.Item node value) = Event.Item node value
 event_of (StoredEvent.Decline node) = Event.Decline node
-event_of (StoredEvent.End how code node) = Event.End node (end_at how code)
+event_of (StoredEvent.Complete node) = Event.End node Completed
+event_of (StoredEvent.Fail code node) = Event.End node (Error code)
 event_of (StoredEvent.Close node) = Event.Close node
 event_of (StoredEvent.Take res) = Event.Take res

@@ -84,7 +84,7 @@ pub struct BaseCounts {
 /// What is kept.
 #[derive(Drop)]
 pub struct Base {
-    at: u64,
+    pub(crate) at: u64,
     items: u64,
     accepted: u64,
     taken: u64,

@@ -75,7 +75,7 @@ impl History {
         ensures within { length self.now.events + self.now.room ≤ self.now.base.at_length + self.now.limit }
     {
         let count = self.events.len();
-        self.base.at() + count as u64
+        self.base.at + count as u64
     }
 
     /// The event at a place, if it is one since the base.
@@ -83,10 +83,10 @@ impl History {
     pub fn get(&self, place: u64) -> Option<Event>
         ensures { result ≡ event_since self.now.base self.now.events place }
     {
-        if place < self.base.at() {
+        if place < self.base.at {
             return None;
         }
-        nth(&self.events, place - self.base.at())
+        nth(&self.events, place - self.base.at)
     }
 
     /// What the history begins with.
@@ -129,6 +129,7 @@ impl History {
             (self.old.base.at_length + self.old.limit < length self.old.events + n) }
         ensures refused_no_memory { IfErr result (λ why. (why ≡ Refusal.Full) ⊎ ((why ≡ Refusal.NoMemory) × (self.old.room < n))) }
         ensures more { self.old.room ≤ self.new.room }
+        ensures within { length self.new.events + self.new.room ≤ self.new.base.at_length + self.new.limit }
         ensures kept { OnErr result (self.new ≡ self.old) }
     {
         if n <= self.room {
@@ -151,6 +152,7 @@ impl History {
             (self.old.base.at_length + self.old.limit < length self.old.events + n) }
         ensures refused { IfErr result (λ why. (why ≡ Refusal.Full) ⊎ (why ≡ Refusal.NoMemory)) }
         ensures more { self.old.room ≤ self.new.room }
+        ensures within { length self.new.events + self.new.room ≤ self.new.base.at_length + self.new.limit }
         ensures kept { OnErr result (self.new ≡ self.old) }
     {
         let left = self.limit - self.events.len() as u64;

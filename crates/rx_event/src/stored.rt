@@ -1,7 +1,7 @@
 //! An event as a history stores it: its words apart from its numbers, so that it takes 24 bytes.
 
 ghost use Rattle.std.specs.Prelude.{◌≡◌};
-ghost use Rattle.rx_event.specs.Words.{place_at, kind_at, end_at, above_in, hub_in, code_in, event_of};
+ghost use Rattle.rx_event.specs.Words.{place_at, kind_at, above_in, hub_in, event_of};
 
 use crate::event::{Event, Kind, Mode, Place};
 use rx_note::Terminal;
@@ -26,13 +26,6 @@ pub(crate) enum KindWord {
     Sub,
 }
 
-/// How a node ends, without the code of an error.
-#[derive(Clone, Copy)]
-pub(crate) enum EndWord {
-    Completed,
-    Error,
-}
-
 /// An event in 24 bytes. A number that its word has no use for is 0.
 #[derive(Clone, Copy)]
 pub(crate) enum StoredEvent {
@@ -51,8 +44,8 @@ pub(crate) enum StoredEvent {
     Return(u64),
     Item(u64, i64),
     Decline(u64),
-    End {
-        how: EndWord,
+    Complete(u64),
+    Fail {
         code: u32,
         node: u64,
     },
@@ -116,28 +109,6 @@ impl KindWord {
     }
 }
 
-impl EndWord {
-    #[inline(always)]
-    fn of(terminal: Terminal) -> Self
-        ensures { end_at result (code_in terminal) ≡ terminal }
-    {
-        match terminal {
-            Terminal::Completed => EndWord::Completed,
-            Terminal::Error(_) => EndWord::Error,
-        }
-    }
-
-    #[inline(always)]
-    fn at(self, code: u32) -> Terminal
-        ensures { result ≡ end_at self code }
-    {
-        match self {
-            EndWord::Completed => Terminal::Completed,
-            EndWord::Error => Terminal::Error(code),
-        }
-    }
-}
-
 // The number of the node above, 0 for a root.
 #[inline(always)]
 fn above_in(place: Place) -> u64
@@ -157,17 +128,6 @@ fn hub_in(kind: Kind) -> u64
     match kind {
         Kind::Sub(hub) => hub,
         _ => 0,
-    }
-}
-
-// The code of an error, 0 for a completion.
-#[inline(always)]
-fn code_in(terminal: Terminal) -> u32
-    ensures { result ≡ code_in terminal }
-{
-    match terminal {
-        Terminal::Completed => 0,
-        Terminal::Error(code) => code,
     }
 }
 
@@ -193,11 +153,8 @@ impl StoredEvent {
             Event::Return(lease) => StoredEvent::Return(lease),
             Event::Item(node, value) => StoredEvent::Item(node, value),
             Event::Decline(node) => StoredEvent::Decline(node),
-            Event::End(node, terminal) => StoredEvent::End {
-                how: EndWord::of(terminal),
-                code: code_in(terminal),
-                node,
-            },
+            Event::End(node, Terminal::Completed) => StoredEvent::Complete(node),
+            Event::End(node, Terminal::Error(code)) => StoredEvent::Fail { code, node },
             Event::Close(node) => StoredEvent::Close(node),
             Event::Take(res) => StoredEvent::Take(res),
         }
@@ -227,7 +184,8 @@ impl StoredEvent {
             StoredEvent::Return(lease) => Event::Return(lease),
             StoredEvent::Item(node, value) => Event::Item(node, value),
             StoredEvent::Decline(node) => Event::Decline(node),
-            StoredEvent::End { how, code, node } => Event::End(node, how.at(code)),
+            StoredEvent::Complete(node) => Event::End(node, Terminal::Completed),
+            StoredEvent::Fail { code, node } => Event::End(node, Terminal::Error(code)),
             StoredEvent::Close(node) => Event::Close(node),
             StoredEvent::Take(res) => Event::Take(res),
         }
