@@ -57,7 +57,6 @@ pub record IsWritten (a b : Inside) (e : Event) : Type 0 where
   pub events : b.history.events ≡ a.history.events ++ e ∷ []
   pub limit : b.history.limit ≡ a.history.limit
   pub own_limit : b.limit ≡ a.limit
-  pub within : length b.history.events ≤ b.history.base.at_length + b.history.limit
   pub items : b.item_total ≡ a.item_total + cond (is_item e) 1 0
   pub accepted : b.accepted_total ≡ a.accepted_total + cond (makes_resource e) 1 0
   pub taken : b.taken_total ≡ a.taken_total + cond (is_take e) 1 0
@@ -78,7 +77,7 @@ written a b e r w = record {
   begun = rw (w.base, w.events) (let l = r.begun in omega (arith, length-append h (e ∷ [])));
   placed = rw w.base r.placed;
   closing = rw (w.base, w.limit) r.closing;
-  within = w.within;
+  within = rw (w.base, w.events, w.limit) (let l = r.within in let one = w.room in omega (arith, length-append h (e ∷ [])));
   spare = let one = w.room in let same = w.spare in let l = w.set_aside in omega arith;
   item_total = rw (w.base, w.events) (w.items ∙ ap (λ (n : ℕ). n + cond (is_item e) 1 0) r.item_total ∙ sym (item_count-push a.history.base h e));
   accepted_total = rw (w.base, w.events) (w.accepted ∙ ap (λ (n : ℕ). n + cond (makes_resource e) 1 0) r.accepted_total ∙
@@ -192,12 +191,12 @@ debt_nothing : debt nothing_kept (shown nothing_kept) ≡ 0
 debt_nothing = ap (debt nothing_kept) shown_nothing ∙ debt_empty nothing_kept
 
 pub tied_empty : {a : Inside} → a.history.limit ≤ 4294967295 → a.limit ≡ a.history.limit → a.history.base ≡ nothing_kept → a.history.events ≡ [] →
-    a.item_total ≡ 0 → a.accepted_total ≡ 0 → a.taken_total ≡ 0 → a.spare ≡ 0 → a.told ≡ 0 → IsTied a
+    a.history.room ≡ 0 → a.item_total ≡ 0 → a.accepted_total ≡ 0 → a.taken_total ≡ 0 → a.spare ≡ 0 → a.told ≡ 0 → IsTied a
 unfolding shown
-tied_empty {a} few own base events i r t spare told = record {
+tied_empty {a} few own base events room i r t spare told = record {
   lawful = rw (base, events) IsLawful_nothing;
   limited = few;
-  within = rw events (omega arith);
+  within = rw (events, room) (omega arith);
   limit = own;
   spare = omega (arith, spare);
   begun = rw base (omega arith);
@@ -264,7 +263,7 @@ rebased a b room r w = record {
   begun = rw (over, events) (let a = as_long in let s = shown_long in omega arith);
   placed = rw over (let p = w.may.placed in let a = as_long in omega arith);
   closing = rw (over, w.limit) (let c = w.may.closing in let l = w.may.within in let d = same_debts in omega arith);
-  within = rw (over, events) (let a = as_long in let s = shown_long in omega arith);
+  within = rw (over, events) (let a = as_long in let s = shown_long in let n = w.room in let m = w.may.within in let l = w.limit in omega arith);
   limit = w.own_limit ∙ r.limit ∙ sym w.limit;
   spare = let none = w.spare in omega arith;
   item_total = rw (over, events) (w.items ∙ r.item_total ∙ same.item_total);

@@ -26,7 +26,7 @@ pub record IsTied (a : Inside) : Type 0 where
   pub begun : a.history.base.at_length ≤ length a.history.events
   pub placed : a.history.base.at_length ≤ 9223372036854775807
   pub closing : debt a.history.base (shown a.history.base) ≤ a.history.limit
-  pub within : length a.history.events ≤ a.history.base.at_length + a.history.limit
+  pub within : length a.history.events + a.history.room ≤ a.history.base.at_length + a.history.limit
   pub limit : a.limit ≡ a.history.limit
   pub item_total : a.item_total ≡ item_count a.history.base a.history.events
   pub accepted_total : a.accepted_total ≡ accepted_count a.history.base a.history.events

@@ -72,7 +72,7 @@ impl Register {
     pub fn promise(&self)
         ensures { IsPromised self.now }
     {
-        let _count = self.history.len();
+        let _told = &self.told;
     }
 
     /// Gets room for so many events in all beyond those that are there, so that writing as many takes

@@ -1,27 +1,13 @@
 //! What an event does to what others made.
 
 ghost use Rattle.std.specs.Prelude.{◌≡◌};
-ghost use Rattle.rx_event.specs.Events.{is_item, is_take, is_return, is_end, ended_of, completed_of, failed_of, used_of, removed_of, leased_of};
+ghost use Rattle.rx_event.specs.Events.{is_return, is_end, ended_of, completed_of, failed_of, used_of, removed_of, leased_of};
 ghost use Rattle.rx_event.specs.Events.{returned_of, taken_of, paid_of};
 
 use super::{Event, Place};
 use rx_note::Terminal;
 
 impl Event {
-    /// Whether a leaf emits an item.
-    pub fn is_item(self) -> bool
-        ensures { result ≡ is_item self }
-    {
-        matches!(self, Event::Item(_, _))
-    }
-
-    /// Whether a resource is handed out for its release.
-    pub fn is_take(self) -> bool
-        ensures { result ≡ is_take self }
-    {
-        matches!(self, Event::Take(_))
-    }
-
     /// Whether a lease is given back.
     pub fn is_return(self) -> bool
         ensures { result ≡ is_return self }

@@ -13,7 +13,6 @@ impl Register {
         ensures { result ≡ true → length self.now.history + self.now.room + events ≤ self.now.base.at_length +
             self.now.limit }
     {
-        let _count = self.history.len();
         events <= self.spare
     }
 

@@ -1,18 +1,11 @@
 //! Writing an event down.
 
-ghost use Rattle.std.specs.Prelude.{◌≡◌, ◌+◌, ◌<◌, [], ◌∷◌, ◌++◌, cond};
+ghost use Rattle.std.specs.Prelude.{◌≡◌, ◌+◌, ◌<◌, [], ◌∷◌, ◌++◌};
 ghost use Rattle.rx_event.specs.Notes.{mail_of};
 ghost use Rattle.rx_event.specs.Lawful.{MayFollow};
 
 use super::Register;
 use rx_event::Event;
-
-#[inline(always)]
-fn one_if(test: bool) -> u64
-    ensures { result ≡ cond test 1 0 }
-{
-    if test { 1 } else { 0 }
-}
 
 impl Register {
     /// Writes an event that may come next, whose notes were told. It takes no memory.
@@ -29,11 +22,13 @@ impl Register {
         ensures given { self.new.given ≡ self.old.given }
         ensures mail_room { self.new.mail_room ≡ self.old.mail_room }
     {
-        self.item_total += one_if(event.is_item());
-        self.accepted_total += one_if(event.makes_resource());
-        self.taken_total += one_if(event.is_take());
         self.history.push_reserved(event);
-        let _count = self.history.len();
         self.told = self.mail.len();
+        match event {
+            Event::Item(_, _) => self.item_total += 1,
+            Event::Accept(_, _) => self.accepted_total += 1,
+            Event::Take(_) => self.taken_total += 1,
+            _ => {}
+        }
     }
 }
