@@ -1,5 +1,5 @@
 -- A history may begin with the base of a lawful settled one.
-use Rattle.rx_event.proofs.Laws.Common.{◌≡◌, ℕ, ◌+◌, ◌<◌, ◌≤◌, Bool, true, false, List, ◌++◌, length, take, drop, cond, Option, Some, None, refl, sym, ap, ◌∙◌}
+use Rattle.rx_event.proofs.Laws.Common.{◌≡◌, ℕ, ◌<◌, ◌≤◌, Bool, true, false, List, ◌++◌, length, take, drop, cond, Some, None, refl, sym, ap, ◌∙◌}
 use Rattle.rx_event.proofs.Laws.Common.{arith, inl, inr, ◌⊎◌, ◌==◌, slice_get, ◌||◌, list_any, option_map_or, cases_Bool, both_ways, false≢true, eqb-true}
 use Rattle.rx_event.proofs.Laws.Common.{length-take-le, slice_get_within, same_Some, none-some, Place, Root, Source, Inner, Notifier, Kind, Leaf, Sub, Event}
 use Rattle.rx_event.proofs.Laws.Common.{Open, Connect, Accept, Lease, Kept, resource_kept, shown, makes_node, makes_hub, makes_resource}

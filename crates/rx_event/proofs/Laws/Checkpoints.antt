@@ -1,5 +1,5 @@
 -- Checkpoints: a stored history and its base agree, and go on by the same events.
-use Rattle.rx_event.proofs.Laws.Common.{◌≡◌, ℕ, ◌+◌, length, Bool, true, false, List, [], ◌∷◌, ◌++◌, map, cond, Option, refl, sym, ap, subst, ◌∙◌}
+use Rattle.rx_event.proofs.Laws.Common.{◌≡◌, ℕ, length, Bool, true, false, List, [], ◌∷◌, ◌++◌, map, cond, Option, refl, sym, ap, subst, ◌∙◌}
 use Rattle.rx_event.proofs.Laws.Common.{slice_get, filter, append_assoc, append-nil, drop, AllByRecursion, range_with_len, filter_map, option_map_or}
 use Rattle.rx_event.proofs.Laws.Common.{false≢true, Event, Item, End, Close, makes_hub, is_root, is_out, at, places, Moment}
 use Rattle.rx_event.proofs.Laws.Common.{moments_after, mail_of, IsSettled, MayFollow, IsLawful, Kept, shown, base_of, Agree, AreRead, debt}

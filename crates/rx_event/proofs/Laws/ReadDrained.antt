@@ -1,6 +1,6 @@
 -- Taking all that waits, in whatever order, leaves two histories the same that were the same but for their numbers.
-use Rattle.rx_event.proofs.Laws.Common.{◌≡◌, ℕ, ◌+◌, ◌<◌, Bool, true, false, List, [], ◌∷◌, ◌++◌, length, Option, Some, cond, map, slice_get, refl, sym, ap}
-use Rattle.rx_event.proofs.Laws.Common.{◌∙◌, inl, inr, ◌⊎◌, arith, append-nil, ◌-◌, not, ◌&&◌, count_by, option_map_or, false≢true, both_ways}
+use Rattle.rx_event.proofs.Laws.Common.{◌≡◌, ℕ, ◌<◌, Bool, true, false, List, [], ◌∷◌, ◌++◌, length, Option, Some, cond, map, slice_get, refl, sym, ap}
+use Rattle.rx_event.proofs.Laws.Common.{◌∙◌, inl, inr, ◌⊎◌, arith, append-nil, not, ◌&&◌, count_by, option_map_or, false≢true, both_ways}
 use Rattle.rx_event.proofs.Laws.Common.{false_from_ne_true, sum_by_push, slice_get_within, none-some, Terminal, Kept, shown, Mode, Event, Hub, Accept, Lease}
 use Rattle.rx_event.proofs.Laws.Common.{Take, makes_node, makes_resource, makes_lease, at, places, is_open, is_owned, is_out, leases_of, is_held, is_taken}
 use Rattle.rx_event.proofs.Laws.Common.{is_waiting, uses, waiting_resources, SourceEnded, MayFollow, IsLawful, event_by, is_named, and_true, length-map}
