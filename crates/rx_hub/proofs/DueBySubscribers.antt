@@ -2,7 +2,7 @@
 use Rattle.rx_hub.proofs.Common.{◌≡◌, ℕ, ◌<◌, ◌≤◌, ◌==◌, ◌||◌, cond, Bool, true, false, List, [], ◌∷◌, length, slice_get, Option, Some, None, sym, option_map}
 use Rattle.rx_hub.proofs.Common.{is_some, refl, ap, ◌∙◌, arith, true≢false, IfSome, list_any, option_map_or, option_and_then, not, nat_tests}
 use Rattle.rx_hub.proofs.Common.{same_Some, none-some, Key, first_of, is_key, HubDue, LastEnd, Published}
-use Rattle.rx_hub.proofs.Common.{Hub, Rule, IsCalm, IsChain, IsAt, IsDueIn, IsQuiet, IsSteady}
+use Rattle.rx_hub.proofs.Common.{Hub, Rule, IsCalm, IsChain, IsLinked, IsAt, IsDueIn, IsQuiet, IsSteady}
 use Rattle.rx_hub.proofs.Common.{NoneWaits, connects, acts, is_cut, cut_of, left_of, is_auto, ◌++◌, option_or, connect_of}
 use Rattle.rx_hub.proofs.Common.{due_of, Hubs, IsPromised, AreAbove, Rises, published_of, last_from, subscribed}
 use Rattle.rx_hub.proofs.Common.{unsubscribed, without_key, Lists, list_at, is_in, take_out, head_of, connect_by, cut_by, due_by, given_by}
@@ -152,6 +152,10 @@ off_chain x0 none i = search (rules, none-some)
 pub quiet_chains : (hubs : List Hub) (waiting due : Lists) → IsCalm connect_of hubs waiting → IsCalm due_of hubs due →
     head_of (list_at waiting 0) ≡ None → head_of (list_at due 0) ≡ None → IsQuiet hubs
 quiet_chains hubs waiting due no_wait no_act none_waits none_due = search (rules, off_chain)
+
+pub quiet_unnoted : {store : Hubs} {waiting due : Lists} {noted : Bool} → IsLinked store waiting due noted → noted ≡ false → IsQuiet store.hubs
+quiet_unnoted {store} {waiting} {due} linked unnoted =
+    let bare = linked.empty unnoted in quiet_chains store.hubs waiting due linked.waits linked.acts bare.0 bare.1
 
 pub chain_left : (old new : Lists) → length new.lists ≡ length old.lists → new.members ≡ old.members → IsChain old → IsChain new
 chain_left old new count members chain = search rules

@@ -1,7 +1,9 @@
 -- How far an item's way was walked.
 use Rattle.rx_hub.proofs.Common.{◌≡◌, ℕ, zero, suc, ◌+◌, ◌≤◌, Bool, true, false, Option, Some, None, is_some, IfSome, IsSome, List, [], ◌∷◌, length, refl, ap}
 use Rattle.rx_hub.proofs.Common.{◌∙◌, arith, true≢false, not, option_and_then, option_map_or, option_or, most_visits, Key, Slots, find, Node, Stop, way}
-use Rattle.rx_hub.proofs.Common.{above_of, stop_of, onward_of, way_within, end_of}
+use Rattle.rx_hub.proofs.Common.{above_of, stop_of, onward_of, way_within, end_of, stop_made, if_merging, option_map, hub_connected, Event, Open, Connect}
+use Rattle.rx_hub.proofs.Common.{Root, Source, Notifier, Connection, Projection}
+use Rattle.rx_hub.specs.Way.{hub_of}
 use Rattle.std.proofs.Common.{rules}
 
 -- so many nodes were visited from the first on, and of the way what begins at this node is left
@@ -123,3 +125,22 @@ climbing_stop {nodes} {first} {read} {stop} {visits} w x some = search (rules, a
 pub climbing_limit : {nodes : Slots Node} {first : Key} {read : Node} {stop : Option Stop} {visits : ℕ} → IsClimbing nodes first read stop visits →
     most_visits + 1 ≤ visits → (visits ≡ length (way nodes first)) × (stop ≡ end_of nodes (way nodes first))
 climbing_limit {nodes} {first} {read} {stop} {visits} w many = let ends = at_limit nodes first w.at visits w.on many in (ends.0, w.stops ∙ ends.1)
+
+-- the hub of the connection at which it stops
+connects_here : (nodes : Slots Node) (at : Key) (above : Option Key) (made : Event) (connection : Key) →
+    stop_made nodes at above made ≡ Some (Connection connection) → connection ≡ at
+connects_here nodes at above (Connect g) connection is = cc
+connects_here nodes at above (Open Root kind) connection is = absurd (cc)
+connects_here nodes at above (Open (Source f) kind) connection is = by_key (option_and_then (if_merging nodes) above) is where
+  by_key : (o : Option Key) → option_map (λ k. Projection k) o ≡ Some (Connection connection) → connection ≡ at
+  by_key None e = absurd (cc)
+  by_key (Some k) e = absurd (cc)
+connects_here nodes at None (Open (Notifier u) kind) connection is = absurd (cc)
+connects_here nodes at (Some up) (Open (Notifier u) kind) connection is = absurd (cc)
+connects_here nodes at above _ connection is = absurd (cc)
+
+pub connection_here : {nodes : Slots Node} {first : Key} {read : Node} {stop : Option Stop} {visits : ℕ} → IsClimbing nodes first read stop visits →
+    (connection : Key) → stop ≡ Some (Connection connection) → hub_connected read.made ≡ hub_of nodes stop
+connection_here {nodes} {read} w connection is =
+    let stops : stop_made nodes w.at (above_of nodes w.at) read.made ≡ Some (Connection connection) = search (rules, w.stops, w.found, is) in
+    rw (is, connects_here nodes w.at (above_of nodes w.at) read.made connection stops, w.found) refl

@@ -35,17 +35,6 @@ fn stop_at<R: Resource>(tree: &Tree<R>, key: Key, read: &Record) -> Option<Stop>
     None
 }
 
-/// The hub of the connection at which an item stops; None where it stops elsewhere.
-#[inline(always)]
-fn hub_behind<R: Resource>(tree: &Tree<R>, stop: Option<Stop>) -> Option<u64>
-    ensures { result ≡ hub_of tree.now.nodes stop }
-{
-    match stop? {
-        Stop::Connection(connection) => tree.get(connection)?.connects(),
-        _ => None,
-    }
-}
-
 /// Where an item of this node goes inside the tree: up to a root, to a FlatMap or Switch that projects
 /// it, to a TakeUntil that it fires, or to a connection. A way is cut off one visit after the
 /// 1,048,576 that an item may make.
@@ -75,9 +64,9 @@ pub fn climb<R: Resource>(tree: &Tree<R>, node: Key) -> Reached
         stop = stop_at(tree, at, read);
         visits += 1;
     }
-    Reached {
-        stop,
-        hub: hub_behind(tree, stop),
-        visits,
-    }
+    let hub = match stop {
+        Some(Stop::Connection(_)) => read.connects(),
+        _ => None,
+    };
+    Reached { stop, hub, visits }
 }

@@ -19,7 +19,7 @@ impl Hubs {
         requires closing { AreClosing self.old.hubs closed.now }
         ensures { self.new ≡ record self.old { hubs = map (after_closing closed.now ended) self.old.hubs } }
     {
-        if self.len() == 0 {
+        if self.store.len() == 0 {
             return;
         }
         for one in closed {

@@ -5,6 +5,7 @@ ghost use Rattle.std.specs.Option.{option_and_then};
 ghost use Rattle.rx_hub.specs.Chains.{IsCalm, IsChain, IsAt};
 ghost use Rattle.rx_hub.specs.Due.{is_auto, is_cut};
 ghost use Rattle.rx_hub.specs.Rules.{connect_by, due_by, given_by};
+ghost use Rattle.rx_slots.specs.Lists.{head_of, list_at};
 
 use crate::hub::{HubDue, LastEnd, Published};
 use crate::store::Store;
@@ -103,6 +104,7 @@ pub(crate) fn next_at(store: &Store, chain: &mut Rings, rule: Rule) -> Option<Hu
     ensures some { IfSome result (IsAt (given_by rule) store.now.hubs) }
     ensures none { IfNone result ((i : _) (hub : _) → slice_get store.now.hubs i ≡ Some hub →
         given_by rule hub ≡ None) }
+    ensures empty { IfNone result (head_of (list_at chain.new 0) ≡ None) }
 {
     while let Some(index) = chain.first(0) {
         let due = due_at(store, rule, index);

@@ -84,16 +84,6 @@ fn note_at(store: &Store, chain: &mut Rings, rule: Rule, index: usize)
     }
 }
 
-// Whether something stands on one of the chains.
-fn is_noted(waiting: &Rings, due: &Rings) -> bool
-    ensures { result ≡ false → AreEmpty waiting.now due.now }
-{
-    if waiting.first(0).is_some() {
-        return true;
-    }
-    due.first(0).is_some()
-}
-
 // Puts an index on each chain where its rule gives something there. Whether something stands on one of them then.
 #[cold]
 #[inline(never)]
@@ -108,7 +98,7 @@ fn note(store: &Store, waiting: &mut Rings, due: &mut Rings, index: usize) -> bo
 {
     note_at(store, waiting, Rule::Connect, index);
     note_at(store, due, Rule::Other, index);
-    is_noted(waiting, due)
+    waiting.first(0).is_some() || due.first(0).is_some()
 }
 
 // The same where a subscriber came or left: the chains stay as they are where nothing is due by that.
@@ -366,10 +356,7 @@ impl Hubs {
     pub fn is_calm(&self) -> bool
         ensures { result ≡ true → IsQuiet self.now.hubs }
     {
-        if self.noted {
-            return false;
-        }
-        true
+        !self.noted
     }
 
     /// What a hub has to do next: connect, before anything else, where a hub with RefCount has a
@@ -386,14 +373,16 @@ impl Hubs {
         ensures none { IfNone result (IsQuiet self.old.hubs) }
         ensures kept { self.new ≡ self.old }
     {
+        if !self.noted {
+            return None;
+        }
         self.store.promise();
         let connect = next_at(&self.store, &mut self.waiting, Rule::Connect);
         if connect.is_some() {
-            self.noted = true;
             return connect;
         }
         let other = next_at(&self.store, &mut self.due, Rule::Other);
-        self.noted = is_noted(&self.waiting, &self.due);
+        self.noted = other.is_some();
         other
     }
 }

@@ -1,7 +1,7 @@
 //! What the operators have to do.
 
 ghost use Rattle.std.specs.Prelude.{◌≡◌, IfSome, IfNone};
-ghost use Rattle.rx_hub.specs.Operators.{IsChained, IsDueAt, IsQuiet, terminal_of, from_due};
+ghost use Rattle.rx_hub.specs.Operators.{IsChained, IsDueAt, IsQuiet, from_due};
 
 use rx_event::Terminal;
 use rx_resource::Resource;
@@ -14,14 +14,6 @@ pub struct Due {
     pub node: Key,
     /// How it has to end.
     pub terminal: Terminal,
-}
-
-/// How the key's node has to end by its marks; None where it has not, and where the key finds none.
-#[inline(always)]
-fn terminal_of<R: Resource>(tree: &Tree<R>, key: Key) -> Option<Terminal>
-    ensures { result ≡ terminal_of tree.now.nodes key }
-{
-    tree.get(key)?.terminal_due()
 }
 
 /// What an operator has to do next, by the marks of the records: which mirroring node ends, TakeUntil,
@@ -39,7 +31,9 @@ pub fn next_due<R: Resource>(tree: &mut Tree<R>) -> Option<Due>
     ensures chained { IsChained tree.new.nodes tree.new.chain }
 {
     while let Some(node) = tree.pending() {
-        if let Some(terminal) = terminal_of(tree, node) {
+        if let Some(record) = tree.get(node)
+            && let Some(terminal) = record.terminal_due()
+        {
             return Some(Due { node, terminal });
         }
         tree.unchain();
