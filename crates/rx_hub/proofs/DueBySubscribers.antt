@@ -140,12 +140,7 @@ found_if due hubs index x3 e = search (rules, found_at)
 pub none_of : {X : Type 0} (o : Option X) (b : Bool) → b ≡ is_some o → b ≡ false → o ≡ None
 none_of x0 b e f = search (rules, true≢false)
 
--- where there is no hub nothing is due at any
-pub quiet_none : (hubs : List Hub) → length hubs ≡ 0 → IsQuiet hubs
-quiet_none [] none = search (rules, none-some)
-quiet_none (x ∷ hubs) none = absurd (omega arith)
-
--- nor where nothing stands on the chains
+-- where nothing stands on the chains nothing is due at any hub
 off_chain : (indices : List ℕ) → head_of indices ≡ None → (i : ℕ) → is_in i indices ≡ false
 off_chain x0 none i = search (rules, none-some)
 

@@ -226,7 +226,6 @@ impl Hubs {
         ensures some { IfSome result (λ i. StandsAt self.now.hubs i hub) }
         ensures none { IfNone result (find_hub self.now.hubs hub ≡ None) }
     {
-        self.store.promise();
         self.store.index_of(hub)
     }
 
@@ -235,7 +234,6 @@ impl Hubs {
     pub fn get(&self, hub: u64) -> Option<Published>
         ensures { result ≡ option_map published_of (find_hub self.now.hubs hub) }
     {
-        self.store.promise();
         self.store.published(self.store.index_of(hub)?)
     }
 
@@ -260,7 +258,6 @@ impl Hubs {
     pub fn first_subscriber(&self, hub: u64) -> Option<Key>
         ensures { result ≡ option_and_then (λ (h : Hub). first_of h.subscribers) (find_hub self.now.hubs hub) }
     {
-        self.store.promise();
         self.store.first(self.store.index_of(hub)?)
     }
 
@@ -305,7 +302,6 @@ impl Hubs {
         requires subscribes { IfSome (find_hub self.old.hubs hub) (λ h. IsTrue (is_on key h.subscribers)) }
         ensures { self.new ≡ record self.old { hubs = at_hub hub (unsubscribed key) self.old.hubs } }
     {
-        self.store.promise();
         let Some(index) = self.store.index_of(hub) else {
             unreachable!()
         };
@@ -327,7 +323,6 @@ impl Hubs {
         requires unconnected { IfSome (find_hub self.old.hubs hub) (λ h. h.connection ≡ None) }
         ensures { self.new ≡ record self.old { hubs = at_hub hub (connected key) self.old.hubs } }
     {
-        self.store.promise();
         let Some(index) = self.store.index_of(hub) else {
             unreachable!()
         };
@@ -343,7 +338,6 @@ impl Hubs {
         requires there { IsSome (find_hub self.old.hubs hub) }
         ensures { self.new ≡ record self.old { hubs = at_hub hub (disconnected ended) self.old.hubs } }
     {
-        self.store.promise();
         let Some(index) = self.store.index_of(hub) else {
             unreachable!()
         };

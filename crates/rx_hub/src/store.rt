@@ -148,6 +148,7 @@ impl Store {
             option_map (λ (hub : Hub). hub.number) (slice_get self.now.hubs i) ≡ Some number) }
         ensures none { IfNone result ((i : _) (hub : Hub) → slice_get self.now.hubs i ≡ Some hub →
             hub.number ≢ number) }
+        ensures promised { IsPromised self.now }
     {
         let mut low = 0;
         let mut high = self.records.len();

@@ -10,5 +10,5 @@ pub note-self-inside-requires-clause-index : goal.note-self-inside-requires-clau
 note-self-inside-requires-clause-index c = search (rules, index_below)
 
 pub invariant_of-self : goal.invariant_of-self
-invariant_of-self c = let s = c.self.inside in linked_changed _ (disconnected _) c.promise.ensures c.in-Some.ensures.some c.disconnect.ensures
+invariant_of-self c = let s = c.self.inside in linked_changed _ (disconnected _) c.in-Some.ensures.promised c.in-Some.ensures.some c.disconnect.ensures
     c.note-self-inside.ensures.waits c.note-self-inside.ensures.acts c.note-self-inside.ensures.empty c.self.invariant

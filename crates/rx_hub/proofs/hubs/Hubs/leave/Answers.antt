@@ -20,11 +20,11 @@ note_unless-self-inside-requires-clause-unmet c = λ quiet off. let s = c.self.i
 
 pub note_unless-self-inside-requires-clause-undue : goal.note_unless-self-inside-requires-clause-undue
 note_unless-self-inside-requires-clause-undue c = λ quiet off. let s = c.self.inside in let index = c.in-Some.index in let behind : (hub : Hub) → slice_get
-    s.store.hubs index ≡ Some hub → due_of hub ≡ None → due_of (unsubscribed _ hub) ≡ None = λ hub got none. due_left _ hub (c.promise.ensures.rises
+    s.store.hubs index ≡ Some hub → due_of hub ≡ None → due_of (unsubscribed _ hub) ≡ None = λ hub got none. due_left _ hub (c.in-Some.ensures.promised.rises
     index hub got) (others_there _ index (unsubscribed _ hub) _ _ (at_changed s.store _ index (unsubscribed _) hub got (c.unsubscribe.ensures hub
     got)) c.first.ensures c.is_some-is_quiet.ensures quiet) none in still_none due_of s.store _ s.due index _ (unsubscribed _)
     c.in-Some.ensures.some c.unsubscribe.ensures behind c.self.invariant.acts off
 
 pub invariant_of-self : goal.invariant_of-self
-invariant_of-self c = linked_changed _ (unsubscribed _) c.promise.ensures c.in-Some.ensures.some c.unsubscribe.ensures c.note_unless-self-inside.ensures.waits
+invariant_of-self c = linked_changed _ (unsubscribed _) c.in-Some.ensures.promised c.in-Some.ensures.some c.unsubscribe.ensures c.note_unless-self-inside.ensures.waits
     c.note_unless-self-inside.ensures.acts c.note_unless-self-inside.ensures.empty c.self.invariant

@@ -1,5 +1,5 @@
 use Rattle.rx_hub.proofs.Common.{ℕ, ◌<◌, ◌-◌, ◌/◌, ◌+◌, Some, length, sym, ap, ◌∙◌, arith, Published, no_hub}
-use Rattle.rx_hub.proofs.StoreShowsHubs.{get_same, number_at, not_between, all_before, all_behind}
+use Rattle.rx_hub.proofs.StoreShowsHubs.{get_same, number_at, not_between, all_before, all_behind, promised}
 use Rattle.rx_hub.proofs.store.Store.index_of.Goals as goal
 use Rattle.std.proofs.Common.{rules}
 
@@ -22,3 +22,10 @@ loop-low-preserved c = search (rules, get_same, all_behind)
 pub returns-clause-none : goal.returns-clause-none
 returns-clause-none c = let s = c.self.inside in rw (← c.self.view_is) (not_between s.records.items s.subscribers s.numbers.items c.self.invariant
     (record { before = c.loop-low.invariant.before; behind = c.loop-low.invariant.behind }) c.loop-low-test.false)
+
+pub returns-then-found-number-clause-promised : goal.returns-then-found-number-clause-promised
+returns-then-found-number-clause-promised c = let s = c.self.inside in rw (← c.self.view_is) (promised s.records.items s.subscribers s.numbers.items
+    c.self.invariant _)
+
+pub returns-clause-promised : goal.returns-clause-promised
+returns-clause-promised c = let s = c.self.inside in rw (← c.self.view_is) (promised s.records.items s.subscribers s.numbers.items c.self.invariant _)

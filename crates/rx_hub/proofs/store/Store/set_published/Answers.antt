@@ -1,4 +1,4 @@
-use Rattle.rx_hub.proofs.Common.{◌≡◌, ◌-◌, Some, option_map, slice_get, sym, subst, Hub, Hubs, length-set}
+use Rattle.rx_hub.proofs.Common.{◌≡◌, Some, option_map, slice_get, sym, subst, Hub, Hubs, length-set}
 use Rattle.rx_hub.proofs.StoreShowsHubs.{named, hubs_written, kept_written}
 use Rattle.rx_hub.proofs.store.Store.set_published.Goals as goal
 use Rattle.std.proofs.Common.{rules}
