@@ -6,4 +6,6 @@ pub returns-in_err-index_of : goal.returns-in_err-index_of
 returns-in_err-index_of c = search (rules, find_none)
 
 pub returns : goal.returns
-returns c = rw (← c.self.view_is) (first_found c.self.inside.store c.in_ok-index_of.ensures.promised _ c.args.hub c.first.result c.in_ok-index_of.ensures.some c.first.ensures)
+returns c =
+    let there = c.in_ok-index_of.ensures in
+    rw (← c.self.view_is) (first_found c.self.inside.store there.promised _ c.args.hub c.first.result there.some c.first.ensures)

@@ -26,5 +26,7 @@ note_unless-self-inside-requires-clause-undue c = λ quiet off. let s = c.self.i
     c.in-Some.ensures.some c.unsubscribe.ensures behind c.self.invariant.acts off
 
 pub invariant_of-self : goal.invariant_of-self
-invariant_of-self c = linked_changed _ (unsubscribed _) c.in-Some.ensures.promised c.in-Some.ensures.some c.unsubscribe.ensures c.note_unless-self-inside.ensures.waits
-    c.note_unless-self-inside.ensures.acts c.note_unless-self-inside.ensures.empty c.self.invariant
+invariant_of-self c =
+    let there = c.in-Some.ensures in
+    let noted = c.note_unless-self-inside.ensures in
+    linked_changed _ (unsubscribed _) there.promised there.some c.unsubscribe.ensures noted.waits noted.acts noted.empty c.self.invariant

@@ -4,8 +4,8 @@ use Rattle.rx_register.proofs.register.Register.new.Goals as goal
 
 pub invariant_of-result : goal.invariant_of-result
 invariant_of-result c =
-    tied_empty (let l = c.new.ensures.limit in let r = c.requires in omega arith) (sym c.new.ensures.limit) c.new.ensures.base c.new.ensures.events c.new.ensures.room
-    refl refl refl refl refl
+    let is = c.new.ensures in
+    tied_empty (let l = is.limit in let r = c.requires in omega arith) (sym is.limit) is.base is.events is.room refl refl refl refl refl
 
 pub returns-clause-given : goal.returns-clause-given
 returns-clause-given c = rw c.new.ensures.events (let n = no_notes in omega arith)

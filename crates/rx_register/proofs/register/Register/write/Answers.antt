@@ -92,8 +92,8 @@ pub invariant_of-self-in_default : goal.invariant_of-self-in_default
 invariant_of-self-in_default c =
     let e = c.args.event in
     let other = c.in_default in
-    tied (goal.at.invariant_of-self-in_default c).After-len-self-inside _ _ _ (none_more _ _ (no_item e other.not-Item)) (none_more _ _ (no_accept e other.not-Accept))
-    (none_more _ _ (no_take e other.not-Take))
+    tied (goal.at.invariant_of-self-in_default c).After-len-self-inside _ _ _ (none_more _ _ (no_item e other.not-Item))
+    (none_more _ _ (no_accept e other.not-Accept)) (none_more _ _ (no_take e other.not-Take))
 
 pub returns-in-Item-clause-given : goal.returns-in-Item-clause-given
 returns-in-Item-clause-given c = given (goal.at.returns-in-Item-clause-given c).After-len-self-inside
