@@ -436,6 +436,7 @@ impl<T> Slots<T> {
         requires there { IsSome (entry_at self.old slot) }
         ensures* writes_back { sem 𝓛 (lends_at T.row self.entry slot result) }
         ensures value { value_at self.old slot ≡ Some result.now }
+        ensures below { slot < 2 ^ 29 }
     {
         match &mut self.cells[slot] {
             Some(entry) => &mut entry.value,

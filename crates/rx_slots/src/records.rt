@@ -160,18 +160,11 @@ impl<T> Records<T> {
     #[inline(always)]
     pub fn at(&self, slot: usize) -> &T
         requires there { IsSome (entry_at self.now slot) }
-        ensures { value_at self.now slot ≡ Some result.now }
+        ensures value { value_at self.now slot ≡ Some result.now }
+        ensures below { slot < 2 ^ 29 }
+        ensures some { 0 < self.now.count }
     {
         self.cells.value(slot)
-    }
-
-    /// The value of a key that finds one.
-    #[inline(always)]
-    pub fn found(&self, key: Key) -> &T
-        requires found { IsSome (find self.now key) }
-        ensures { find self.now key ≡ Some result.now }
-    {
-        self.at(key.slot as usize)
     }
 
     /// The number at a slot that has a value.
@@ -189,6 +182,7 @@ impl<T> Records<T> {
         requires there { IsSome (entry_at self.old slot) }
         ensures* writes_back { sem 𝓛 (lends_record T.row self.entry slot result) }
         ensures value { value_at self.old slot ≡ Some result.now }
+        ensures below { slot < 2 ^ 29 }
     {
         self.cells.value_mut(slot)
     }

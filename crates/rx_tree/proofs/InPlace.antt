@@ -1,6 +1,7 @@
 -- What is read in place, at a slot that has a record, is what callers see there.
 use Rattle.rx_tree.proofs.Common.{◌≡◌, ℕ, Option, Some, None, option_map, is_some, IsSome, IfSome, refl, sym, ap, ◌∙◌, true≢false, Entry, Key, Slots, key_at}
 use Rattle.rx_tree.proofs.Common.{entry_of, entry_at, value_at, number_at, find, some_same, Record, Node, on_entry, project, IsSound, found_entry}
+use Rattle.rx_tree.proofs.Common.{Store, Children, Held, Sibling, alone, link_at, option_map_or}
 use Rattle.rx_tree.proofs.StoreLemmas.{entry_at-project}
 use Rattle.std.proofs.Common.{rules}
 
@@ -17,6 +18,15 @@ module _ {X Y : Type 0} (f : X → Y) (s : Slots X) (i : ℕ) where
     of None = refl
     of (Some e) = refl
 
+  pub key_at-project : key_at (project f s) i ≡ key_at s i
+  key_at-project = ap key_of (entry_at-project f s i) ∙ of (entry_at s i) where
+    key_of : {Z : Type 0} → Option (Entry Z) → Option Key
+    key_of o = option_map (λ e. record { slot = i; number = e.number }) o
+
+    of : (o : Option (Entry X)) → key_of (option_map (on_entry f) o) ≡ key_of o
+    of None = refl
+    of (Some e) = refl
+
   pub there_project : IsSome (entry_at (project f s) i) → IsSome (entry_at s i)
   there_project there = of (entry_at s i) (ap is_some (sym (entry_at-project f s i)) ∙ there) where
     of : (o : Option (Entry X)) → IsSome (option_map (on_entry f) o) → IsSome o
@@ -27,6 +37,17 @@ module _ {X Y : Type 0} (f : X → Y) (s : Slots X) (i : ℕ) where
 pub key_of_number : {X : Type 0} (s : Slots X) (slot number : ℕ) → number_at s slot ≡ Some number →
     key_at s slot ≡ Some (record { slot = slot; number = number })
 key_of_number {X} s slot number at = search (rules, true≢false)
+
+-- a link that is read at a slot is that of its place
+module _ {T : Type 0} (s : Store T) (slot : ℕ) {before : Record} (l : Record) (at : value_at s.nodes slot ≡ Some before) (seen : l ≡ before) where
+  pub children_read : l.children ≡ link_at s (Children slot)
+  children_read = ap (λ x. x.children) seen ∙ sym (ap (λ o. option_map_or (λ x. x.children) o (alone (Children slot))) at)
+
+  pub held_read : l.held ≡ link_at s (Held slot)
+  held_read = ap (λ x. x.held) seen ∙ sym (ap (λ o. option_map_or (λ x. x.held) o (alone (Held slot))) at)
+
+  pub sibling_read : l.sibling ≡ link_at s (Sibling slot)
+  sibling_read = ap (λ x. x.sibling) seen ∙ sym (ap (λ o. option_map_or (λ x. x.sibling) o (alone (Sibling slot))) at)
 
 -- the node above one that a key finds is open
 pub above_found : (nodes : Slots Node) → IsSound nodes → (key : Key) (o : Option Record) → option_map (λ l. l.node) o ≡ find nodes key →

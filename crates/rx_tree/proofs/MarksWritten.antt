@@ -26,7 +26,7 @@ module _ {T : Type 0} (s : Store T) (key : Key) («open» : IsSome (find (nodes_
   slot_there = found_there s.nodes key found_in
 
   module _ (l : Record) (at : value_at s.nodes key.slot ≡ Some l) where
-    record_found : find s.nodes key ≡ Some l
+    pub record_found : find s.nodes key ≡ Some l
     record_found = find-value_at s.nodes key found_in ∙ at
 
     pub node_found : find (nodes_of s) key ≡ Some l.node
@@ -70,11 +70,12 @@ module _ {T : Type 0} (s : Store T) (key : Key) («open» : IsSome (find (nodes_
                   omega (arith, part, more, was, now));
             }
 
-        pub remarked : (after : Record) → after ≡ marked → (node : Node) → find (nodes_of s) key ≡ Some node →
-            IsRemarked s (record s { nodes = with_value_at s.nodes key.slot after; owed = owed }) key node (f node)
-        remarked after wrote node found =
+        pub remarked : (marks : Marks) → marks ≡ f l.node → (node : Node) → find (nodes_of s) key ≡ Some node →
+            IsRemarked s (record s { nodes = with_value_at s.nodes key.slot (record l { node = with_marks marks l.node }); owed = owed }) key node (f node)
+        remarked marks wrote node found =
+            let after : Record = record l { node = with_marks marks l.node } in
             let same : l.node ≡ node = some_same l.node node (sym node_found ∙ found) in
             let nodes : with_value_at s.nodes key.slot after ≡ with_value s.nodes key marked =
-            ap (with_value_at s.nodes key.slot) wrote ∙ with_value_at-found s.nodes key marked found_in in
+            ap (λ m. with_value_at s.nodes key.slot (record l { node = with_marks m l.node })) wrote ∙ with_value_at-found s.nodes key marked found_in in
             subst (λ (x : Node). IsRemarked s (record s { nodes = with_value_at s.nodes key.slot after; owed = owed }) key x (f x)) same
             (subst (λ (n : Slots Record). IsRemarked s (record s { nodes = n; owed = owed }) key l.node (f l.node)) (sym nodes) written)

@@ -1,5 +1,5 @@
 -- The places of a tree's rings. No public clause cites this module.
-use Rattle.std.specs.Prelude.{ℕ, ◌==◌, ◌/◌, ◌%◌, Bool, true, false, ◌&&◌, cond}
+use Rattle.std.specs.Prelude.{ℕ, ◌+◌, ◌*◌, ◌==◌, ◌/◌, ◌%◌, Bool, true, false, ◌&&◌, cond}
 use Rattle.rx_tree.specs.declared.links.Place.{Place}
 use Rattle.rx_tree.specs.declared.links.Place.TheVariants.{Roots, Due, Waiting, Children, Held, Sibling, Noted, Stored}
 use Rattle.rx_slots.specs.Rings.{Places}
@@ -32,6 +32,10 @@ place_at tag s =
 -- the place of a link's word, which has its tag in the three low bits
 abbrev pub place_in : ℕ → Place
 place_in word = place_at (word % 8) (word / 8)
+
+-- the word of a place
+abbrev pub word_of : Place → ℕ
+word_of p = slot_of p * 8 + tag_of p
 
 abbrev pub is_place : Place → Place → Bool
 is_place p q = (tag_of p == tag_of q) && (slot_of p == slot_of q)

@@ -25,13 +25,18 @@ use std::marker::Model;
 /// It takes 88 bytes, so that a node takes little memory.
 #[derive(Drop)]
 pub struct Record {
-    made: Made,
-    marks: Marks,
-    sibling: Link,
-    noted: Link,
-    children: Link,
-    held: Link,
-    held_count: Counts,
+    pub(crate) made: Made,
+    pub(crate) marks: Marks,
+    /// Among its siblings.
+    pub(crate) sibling: Link,
+    /// Among the nodes that may be due.
+    pub(crate) noted: Link,
+    /// To its first and last child.
+    pub(crate) children: Link,
+    /// To the first and last resource that it owns and that has no lease out.
+    pub(crate) held: Link,
+    /// How many resources it owns.
+    pub(crate) held_count: Counts,
 }
 
 impl Model for Record {
@@ -69,10 +74,10 @@ impl Record {
         Record {
             made: Made::of(node.made, node.above),
             marks: node.marks,
-            sibling: Link::coming(Place::Sibling(slot)),
-            noted: Link::coming(Place::Noted(slot)),
-            children: Link::coming(Place::Children(slot)),
-            held: Link::coming(Place::Held(slot)),
+            sibling: Link::alone(Place::Sibling(slot)),
+            noted: Link::alone(Place::Noted(slot)),
+            children: Link::alone(Place::Children(slot)),
+            held: Link::alone(Place::Held(slot)),
             held_count: Counts::zero(),
         }
     }
@@ -98,7 +103,7 @@ impl Record {
     {
         Closed {
             number: key.number,
-            made: self.made.again(),
+            made: self.made,
             marks: self.marks,
             home: key.slot as u32,
         }
@@ -118,15 +123,6 @@ impl Record {
         ensures { result ≡ self.now.node.above }
     {
         self.made.above()
-    }
-
-    // The slot of that node.
-    #[inline(always)]
-    #[tactic(auto, using(crate::proofs::WordsOfNodes::slot_above))]
-    pub(crate) fn above_slot(&self) -> usize
-        ensures { IfSome self.now.node.above (λ key. result ≡ key.slot) }
-    {
-        self.made.slot as usize
     }
 
     /// What it remembers of what happened below it.
@@ -206,20 +202,6 @@ impl Record {
             self.made(),
             Event::Open {
                 place: At::Source(_),
-                ..
-            }
-        )
-    }
-
-    /// Whether it stands at an Inner place.
-    #[inline(always)]
-    pub fn is_inner(&self) -> bool
-        ensures { result ≡ is_some (inner_named self.now.node.made) }
-    {
-        matches!(
-            self.made(),
-            Event::Open {
-                place: At::Inner(_),
                 ..
             }
         )
@@ -352,234 +334,5 @@ impl Record {
         ensures { result ≡ terminal_due self.now.node.made self.now.node.marks }
     {
         self.marks.terminal_due(self.made.event())
-    }
-
-    // Writes its marks.
-    #[inline(always)]
-    pub(crate) fn set_marks(&mut self, marks: Marks)
-        ensures { self.new ≡ record self.old { node = with_marks marks self.old.node } }
-    {
-        self.marks = marks;
-    }
-
-    // A node below it ended.
-    #[inline(always)]
-    pub(crate) fn end_child(&mut self, is_source: bool, terminal: Terminal)
-        requires { 0 < self.old.node.marks.open_children }
-        ensures { self.new ≡ record self.old {
-          node =
-              with_marks (after_child is_source (is_merging self.old.node.made) terminal self.old.node.marks) self.old.node;
-        } }
-    {
-        let merging = self.is_merging();
-        self.marks.end_child(is_source, merging, terminal);
-    }
-
-    // A source was opened below it.
-    #[inline(always)]
-    pub(crate) fn open_source(&mut self)
-        requires { self.old.node.marks.open_children + 1 < 2 ^ 64 }
-        ensures { self.new ≡ record self.old { node = with_marks (after_source self.old.node.marks) self.old.node } }
-    {
-        self.marks.open_source();
-    }
-
-    // A notifier was opened below it.
-    #[inline(always)]
-    pub(crate) fn open_notifier(&mut self)
-        requires { self.old.node.marks.open_children + 1 < 2 ^ 64 }
-        ensures { self.new ≡ record self.old { node = with_marks (after_notifier self.old.node.marks) self.old.node } }
-    {
-        self.marks.open_notifier();
-    }
-
-    // An inner was opened below it: in the place of another, or beside the others.
-    #[inline(always)]
-    pub(crate) fn open_inner(&mut self, replaces: bool)
-        requires owes { 0 < self.old.node.marks.owed }
-        requires room { self.old.node.marks.open_children + 1 < 2 ^ 64 }
-        ensures { self.new ≡ record self.old { node = with_marks (after_inner replaces self.old.node.marks) self.old.node } }
-    {
-        self.marks.open_inner(replaces);
-    }
-
-    // An item was projected to it.
-    #[inline(always)]
-    pub(crate) fn project(&mut self)
-        requires { self.old.node.marks.owed + 1 < 2 ^ 64 }
-        ensures { self.new ≡ record self.old { node = with_marks (after_projection self.old.node.marks) self.old.node } }
-    {
-        self.marks.project();
-    }
-
-    // An item reached its notifier's place.
-    #[inline(always)]
-    pub(crate) fn fire(&mut self)
-        ensures { self.new ≡ record self.old { node = with_marks (after_firing self.old.node.marks) self.old.node } }
-    {
-        self.marks.fire();
-    }
-
-    // One of its projected items was declined.
-    #[inline(always)]
-    pub(crate) fn decline(&mut self)
-        requires { 0 < self.old.node.marks.owed }
-        ensures { self.new ≡ record self.old { node = with_marks (after_decline self.old.node.marks) self.old.node } }
-    {
-        self.marks.decline();
-    }
-
-    // How many resources it owns.
-    #[inline(always)]
-    pub(crate) fn held_count(&self) -> Counts
-        ensures { result ≡ self.now.held_count }
-    {
-        self.held_count
-    }
-
-    // Writes how many resources it owns.
-    #[inline(always)]
-    pub(crate) fn set_held_count(&mut self, count: Counts)
-        ensures { self.new ≡ record self.old { held_count = count } }
-    {
-        self.held_count.free = count.free;
-        self.held_count.lent = count.lent;
-    }
-
-    // Its link among its siblings.
-    #[inline(always)]
-    pub(crate) fn sibling(&self) -> Link
-        ensures { result ≡ self.now.sibling }
-    {
-        self.sibling.again()
-    }
-
-    // Writes that link.
-    #[inline(always)]
-    pub(crate) fn set_sibling(&mut self, link: Link)
-        ensures { self.new ≡ record self.old { sibling = link } }
-    {
-        self.sibling.set(link);
-    }
-
-    // Writes where it leads next.
-    #[inline(always)]
-    pub(crate) fn set_sibling_next(&mut self, to: Step)
-        ensures { self.new ≡ record self.old { sibling = record self.old.sibling { next = to } } }
-    {
-        self.sibling.next = to;
-    }
-
-    // Writes where it leads back.
-    #[inline(always)]
-    pub(crate) fn set_sibling_previous(&mut self, to: Step)
-        ensures { self.new ≡ record self.old { sibling = record self.old.sibling { previous = to } } }
-    {
-        self.sibling.previous = to;
-    }
-
-    // Whether it stands among the nodes that may be due, at this slot: else its link leads to itself.
-    #[inline(always)]
-    pub(crate) fn is_noted(&self, slot: usize) -> bool
-        requires fits { slot < 2 ^ 29 }
-        ensures { result ≡ not (is_place self.now.noted.next (Noted slot)) }
-    {
-        !self.noted.next.is_noted(slot)
-    }
-
-    // Its link among the nodes that may be due.
-    #[inline(always)]
-    pub(crate) fn noted(&self) -> Link
-        ensures { result ≡ self.now.noted }
-    {
-        self.noted.again()
-    }
-
-    // Writes that link.
-    #[inline(always)]
-    pub(crate) fn set_noted(&mut self, link: Link)
-        ensures { self.new ≡ record self.old { noted = link } }
-    {
-        self.noted.set(link);
-    }
-
-    // Writes where it leads next.
-    #[inline(always)]
-    pub(crate) fn set_noted_next(&mut self, to: Step)
-        ensures { self.new ≡ record self.old { noted = record self.old.noted { next = to } } }
-    {
-        self.noted.next = to;
-    }
-
-    // Writes where it leads back.
-    #[inline(always)]
-    pub(crate) fn set_noted_previous(&mut self, to: Step)
-        ensures { self.new ≡ record self.old { noted = record self.old.noted { previous = to } } }
-    {
-        self.noted.previous = to;
-    }
-
-    // Its link to its first and last child.
-    #[inline(always)]
-    pub(crate) fn children(&self) -> Link
-        ensures { result ≡ self.now.children }
-    {
-        self.children.again()
-    }
-
-    // Writes that link.
-    #[inline(always)]
-    pub(crate) fn set_children(&mut self, link: Link)
-        ensures { self.new ≡ record self.old { children = link } }
-    {
-        self.children.set(link);
-    }
-
-    // Writes where it leads next.
-    #[inline(always)]
-    pub(crate) fn set_children_next(&mut self, to: Step)
-        ensures { self.new ≡ record self.old { children = record self.old.children { next = to } } }
-    {
-        self.children.next = to;
-    }
-
-    // Writes where it leads back.
-    #[inline(always)]
-    pub(crate) fn set_children_previous(&mut self, to: Step)
-        ensures { self.new ≡ record self.old { children = record self.old.children { previous = to } } }
-    {
-        self.children.previous = to;
-    }
-
-    // Its link to the first and last resource that it owns and that has no lease out.
-    #[inline(always)]
-    pub(crate) fn held(&self) -> Link
-        ensures { result ≡ self.now.held }
-    {
-        self.held.again()
-    }
-
-    // Writes that link.
-    #[inline(always)]
-    pub(crate) fn set_held(&mut self, link: Link)
-        ensures { self.new ≡ record self.old { held = link } }
-    {
-        self.held.set(link);
-    }
-
-    // Writes where it leads next.
-    #[inline(always)]
-    pub(crate) fn set_held_next(&mut self, to: Step)
-        ensures { self.new ≡ record self.old { held = record self.old.held { next = to } } }
-    {
-        self.held.next = to;
-    }
-
-    // Writes where it leads back.
-    #[inline(always)]
-    pub(crate) fn set_held_previous(&mut self, to: Step)
-        ensures { self.new ≡ record self.old { held = record self.old.held { previous = to } } }
-    {
-        self.held.previous = to;
     }
 }

@@ -28,44 +28,29 @@ pub(crate) enum Place {
     Stored(usize),
 }
 
-impl Place {
-    // What kind of place it is.
-    #[inline(always)]
-    fn kind(self) -> u32
-        ensures value { result ≡ tag_of self }
-        ensures few { result < 8 }
-    {
-        match self {
-            Place::Roots => 0,
-            Place::Due => 1,
-            Place::Waiting => 2,
-            Place::Children(_) => 3,
-            Place::Held(_) => 4,
-            Place::Sibling(_) => 5,
-            Place::Noted(_) => 6,
-            Place::Stored(_) => 7,
-        }
-    }
+// The kinds of places, as a link's word keeps them.
+const ROOTS: u32 = 0;
 
-    // Its slot, 0 where it has none.
-    #[inline(always)]
-    fn slot(self) -> usize
-        ensures { result ≡ slot_of self }
-    {
-        match self {
-            Place::Roots | Place::Due | Place::Waiting => 0,
-            Place::Children(slot)
-            | Place::Held(slot)
-            | Place::Sibling(slot)
-            | Place::Noted(slot)
-            | Place::Stored(slot) => slot,
-        }
-    }
-}
+const DUE: u32 = 1;
+
+const WAITING: u32 = 2;
+
+const CHILDREN: u32 = 3;
+
+const HELD: u32 = 4;
+
+const SIBLING: u32 = 5;
+
+const NOTED: u32 = 6;
+
+const STORED: u32 = 7;
+
+// How many slots there are at most.
+const SLOTS: usize = 536_870_912;
 
 /// A place as a link keeps it, in a word of 32 bits: its kind in the three low ones, and above them its slot, which
 /// is below 2^29. It is seen as the place.
-#[derive(Drop)]
+#[derive(Clone, Copy)]
 pub(crate) struct Step {
     word: u32,
 }
@@ -75,31 +60,35 @@ impl Model for Step {
 
     ghost Value = { Shown };
 
-    ghost use Rattle.rx_tree.specs.Places.{place_in};
+    ghost use Rattle.std.specs.Prelude.{◌≡◌};
+    ghost use Rattle.rx_tree.specs.Places.{place_in, word_of};
 
     ghost view = { λ s. place_in s.word };
+
+    ghost invariant = { λ s. word_of (place_in s.word) ≡ s.word };
+
+    ghost inverse = { λ p. record { word = word_of p } };
+
+    ghost inverse_ok = { λ s kept i. record { word = kept i } };
 }
 
 impl Step {
     // To a place, where its slot fits.
     #[inline(always)]
-    fn of(place: Place) -> Self
+    pub(crate) fn to(place: Place) -> Self
         ensures { slot_of place < 2 ^ 29 → result ≡ place }
     {
-        let kind = place.kind();
-        let slot = (place.slot() % 536_870_912) as u32;
-        Step {
-            word: slot * 8 + kind,
-        }
-    }
-
-    // To a place whose slot fits.
-    #[inline(always)]
-    pub(crate) fn to(place: Place) -> Self
-        requires fits { slot_of place < 2 ^ 29 }
-        ensures { result ≡ place }
-    {
-        Step::of(place)
+        let word = match place {
+            Place::Roots => ROOTS,
+            Place::Due => DUE,
+            Place::Waiting => WAITING,
+            Place::Children(slot) => (slot % SLOTS) as u32 * 8 + CHILDREN,
+            Place::Held(slot) => (slot % SLOTS) as u32 * 8 + HELD,
+            Place::Sibling(slot) => (slot % SLOTS) as u32 * 8 + SIBLING,
+            Place::Noted(slot) => (slot % SLOTS) as u32 * 8 + NOTED,
+            Place::Stored(slot) => (slot % SLOTS) as u32 * 8 + STORED,
+        };
+        Step { word }
     }
 
     // Where it leads.
@@ -109,13 +98,13 @@ impl Step {
     {
         let slot = (self.word / 8) as usize;
         match self.word % 8 {
-            0 => Place::Roots,
-            1 => Place::Due,
-            2 => Place::Waiting,
-            3 => Place::Children(slot),
-            4 => Place::Held(slot),
-            5 => Place::Sibling(slot),
-            6 => Place::Noted(slot),
+            ROOTS => Place::Roots,
+            DUE => Place::Due,
+            WAITING => Place::Waiting,
+            CHILDREN => Place::Children(slot),
+            HELD => Place::Held(slot),
+            SIBLING => Place::Sibling(slot),
+            NOTED => Place::Noted(slot),
             _ => Place::Stored(slot),
         }
     }
@@ -137,20 +126,20 @@ impl Step {
         let slot = (self.word / 8) as usize;
         match other {
             Place::Roots | Place::Children(_) | Place::Sibling(_) => match self.word % 8 {
-                0 => Place::Roots,
-                3 => Place::Children(slot),
-                5 => Place::Sibling(slot),
+                ROOTS => Place::Roots,
+                CHILDREN => Place::Children(slot),
+                SIBLING => Place::Sibling(slot),
                 _ => self.place_apart(),
             },
             Place::Due | Place::Noted(_) => match self.word % 8 {
-                1 => Place::Due,
-                6 => Place::Noted(slot),
+                DUE => Place::Due,
+                NOTED => Place::Noted(slot),
                 _ => self.place_apart(),
             },
             Place::Waiting | Place::Held(_) | Place::Stored(_) => match self.word % 8 {
-                2 => Place::Waiting,
-                4 => Place::Held(slot),
-                7 => Place::Stored(slot),
+                WAITING => Place::Waiting,
+                HELD => Place::Held(slot),
+                STORED => Place::Stored(slot),
                 _ => self.place_apart(),
             },
         }
@@ -162,59 +151,27 @@ impl Step {
         requires fits { slot < 2 ^ 29 }
         ensures { result ≡ is_place self.now (Noted slot) }
     {
-        self.word as usize == slot * 8 + 6
-    }
-
-    // The same once more.
-    #[inline(always)]
-    pub(crate) fn again(&self) -> Self
-        ensures { result ≡ self.now }
-    {
-        Step { word: self.word }
+        self.word as usize == slot * 8 + NOTED as usize
     }
 }
 
 /// What comes after a place on its ring, and what before.
-#[derive(Drop)]
+#[derive(Clone, Copy)]
 pub(crate) struct Link {
     pub(crate) next: Step,
     pub(crate) previous: Step,
 }
 
 impl Link {
-    // The link of a place that is a ring of its own.
+    // The link of a place that is a ring of its own, where its slot fits.
     #[inline(always)]
     pub(crate) fn alone(place: Place) -> Self
-        requires fits { slot_of place < 2 ^ 29 }
-        ensures { result ≡ record { next = place; previous = place } }
+        ensures { slot_of place < 2 ^ 29 → result ≡ record { next = place; previous = place } }
     {
         let step = Step::to(place);
         Link {
-            next: step.again(),
+            next: step,
             previous: step,
-        }
-    }
-
-    // The same of a place that is to come, where its slot will fit.
-    #[inline(always)]
-    pub(crate) fn coming(place: Place) -> Self
-        ensures { slot_of place < 2 ^ 29 → result ≡ record { next = place; previous = place } }
-    {
-        let step = Step::of(place);
-        Link {
-            next: step.again(),
-            previous: step,
-        }
-    }
-
-    // The same once more.
-    #[inline(always)]
-    pub(crate) fn again(&self) -> Self
-        ensures { result ≡ self.now }
-    {
-        Link {
-            next: self.next.again(),
-            previous: self.previous.again(),
         }
     }
 

@@ -80,7 +80,7 @@ impl KindWord {
 
 /// What made a node, and what it stands below, in 24 bytes: the numbers of the node above and of the hub, and the slot
 /// where the node above stands, each 0 where there is none, and the words that say what they are.
-#[derive(Drop)]
+#[derive(Clone, Copy)]
 pub(crate) struct Made {
     pub(crate) above: u64,
     pub(crate) hub: u64,
@@ -120,20 +120,6 @@ impl Made {
             slot,
             place: PlaceWord::of(made),
             kind: KindWord::of(made),
-        }
-    }
-
-    // The same once more, for where its node is closed.
-    #[inline(always)]
-    pub(crate) fn again(&self) -> Self
-        ensures { result ≡ self.now }
-    {
-        Made {
-            above: self.above,
-            hub: self.hub,
-            slot: self.slot,
-            place: self.place,
-            kind: self.kind,
         }
     }
 

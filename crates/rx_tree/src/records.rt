@@ -36,14 +36,6 @@ impl<R: Drop> Store<R> {
         Some(self.nodes.get(key)?.node())
     }
 
-    // The key of the node at a slot.
-    #[inline(always)]
-    pub(crate) fn node_at(&self, slot: usize) -> Option<Key>
-        ensures { result ≡ key_at (nodes_of self.now) slot }
-    {
-        self.nodes.key_at(slot)
-    }
-
     // The key of the node at a slot that has one.
     #[inline(always)]
     pub(crate) fn node_key(&self, slot: usize) -> Key
@@ -74,8 +66,7 @@ impl<R: Drop> Store<R> {
         requires there { IsTrue (is_there self.now (Noted slot)) }
         ensures { result ≡ not (is_place (next_of self.now (Noted slot)) (Noted slot)) }
     {
-        self.fits(Place::Noted(slot));
-        self.nodes.at(slot).is_noted(slot)
+        !self.nodes.at(slot).noted.next.is_noted(slot)
     }
 
     // The slot of a node above fits a record. It does nothing.
@@ -129,8 +120,8 @@ impl<R: Drop> Store<R> {
         ensures { (node : Node) → find (nodes_of self.old) key ≡ Some node → IsRemarked self.old self.new key node marks }
     {
         let record = self.nodes.at_mut(key.slot as usize);
-        let before = record.owed();
-        record.set_marks(marks);
+        let before = record.marks.owed();
+        record.marks = marks;
         self.owed = self.owed + marks.owed() - before;
     }
 
@@ -143,9 +134,9 @@ impl<R: Drop> Store<R> {
         ensures { (node : Node) → find (nodes_of self.old) key ≡ Some node →
             IsRemarked self.old self.new key node (after_child is_source (is_merging node.made) terminal node.marks) }
     {
-        self.nodes
-            .at_mut(key.slot as usize)
-            .end_child(is_source, terminal);
+        let record = self.nodes.at_mut(key.slot as usize);
+        let merging = record.is_merging();
+        record.marks.end_child(is_source, merging, terminal);
     }
 
     // A source was opened below it.
@@ -157,7 +148,7 @@ impl<R: Drop> Store<R> {
         ensures { (node : Node) → find (nodes_of self.old) key ≡ Some node →
             IsRemarked self.old self.new key node (after_source node.marks) }
     {
-        self.nodes.at_mut(key.slot as usize).open_source();
+        self.nodes.at_mut(key.slot as usize).marks.open_source();
     }
 
     // A notifier was opened below it.
@@ -169,7 +160,7 @@ impl<R: Drop> Store<R> {
         ensures { (node : Node) → find (nodes_of self.old) key ≡ Some node →
             IsRemarked self.old self.new key node (after_notifier node.marks) }
     {
-        self.nodes.at_mut(key.slot as usize).open_notifier();
+        self.nodes.at_mut(key.slot as usize).marks.open_notifier();
     }
 
     // An inner was opened below it.
@@ -182,7 +173,10 @@ impl<R: Drop> Store<R> {
         ensures { (node : Node) → find (nodes_of self.old) key ≡ Some node →
             IsRemarked self.old self.new key node (after_inner replaces node.marks) }
     {
-        self.nodes.at_mut(key.slot as usize).open_inner(replaces);
+        self.nodes
+            .at_mut(key.slot as usize)
+            .marks
+            .open_inner(replaces);
         self.owed -= 1;
     }
 
@@ -195,7 +189,7 @@ impl<R: Drop> Store<R> {
         ensures { (node : Node) → find (nodes_of self.old) key ≡ Some node →
             IsRemarked self.old self.new key node (after_projection node.marks) }
     {
-        self.nodes.at_mut(key.slot as usize).project();
+        self.nodes.at_mut(key.slot as usize).marks.project();
         self.owed += 1;
     }
 
@@ -207,7 +201,7 @@ impl<R: Drop> Store<R> {
         ensures { (node : Node) → find (nodes_of self.old) key ≡ Some node →
             IsRemarked self.old self.new key node (after_firing node.marks) }
     {
-        self.nodes.at_mut(key.slot as usize).fire();
+        self.nodes.at_mut(key.slot as usize).marks.fire();
     }
 
     // One of its projected items was declined.
@@ -219,7 +213,7 @@ impl<R: Drop> Store<R> {
         ensures { (node : Node) → find (nodes_of self.old) key ≡ Some node →
             IsRemarked self.old self.new key node (after_decline node.marks) }
     {
-        self.nodes.at_mut(key.slot as usize).decline();
+        self.nodes.at_mut(key.slot as usize).marks.decline();
         self.owed -= 1;
     }
 
@@ -267,9 +261,9 @@ impl<R: Drop> Store<R> {
     {
         // No more resources are held and wait than there are slots, so their count fits.
         let _slots = self.resources.slot_count();
-        let leaf = self.nodes.found(key);
-        let count = leaf.held_count();
-        let owed = leaf.owed();
+        let leaf = self.nodes.at(key.slot as usize);
+        let count = leaf.held_count;
+        let owed = leaf.marks.owed();
         self.nodes.remove(key);
         self.waiting_count.free += count.free;
         self.waiting_count.lent += count.lent;
@@ -282,7 +276,7 @@ impl<R: Drop> Store<R> {
         requires there { IsTrue (is_there self.now (Held slot)) }
         ensures { result ≡ held_count_at self.now slot }
     {
-        self.nodes.at(slot).held_count()
+        self.nodes.at(slot).held_count
     }
 
     // Writes how many resources a slot's node owns.
@@ -296,7 +290,9 @@ impl<R: Drop> Store<R> {
         ensures nodes { nodes_of self.new ≡ nodes_of self.old }
         ensures resources { self.new.resources ≡ self.old.resources }
     {
-        self.nodes.at_mut(slot).set_held_count(count);
+        let record = self.nodes.at_mut(slot);
+        record.held_count.free = count.free;
+        record.held_count.lent = count.lent;
     }
 
     // Adds a resource that its node owns and that has no lease out, and that stands on no ring yet.
@@ -317,7 +313,7 @@ impl<R: Drop> Store<R> {
         ensures room { OnErr result (self.old.resources.room ≤ self.new.resources.room) }
     {
         let home = stowed.node.slot as usize;
-        let link = Link::coming(Place::Stored(self.resources.next_slot()));
+        let link = Link::alone(Place::Stored(self.resources.next_slot()));
         match self.resources.insert(number, Stored { stowed, link }) {
             Ok(key) => {
                 // No more are held than there are slots, so their count fits.

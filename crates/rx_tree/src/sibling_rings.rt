@@ -3,9 +3,9 @@
 //! On them stand the roots' end, a node's end of its children, and nodes. Any other place is asked for last and apart,
 //! so that what opens or closes a node stays small.
 
-ghost use Rattle.std.specs.Prelude.{◌≡◌, IsTrue};
+ghost use Rattle.std.specs.Prelude.{◌≡◌, ◌<◌, ◌^◌, IsTrue};
 ghost use Rattle.rx_slots.specs.Rings.{set_step, Joins, PassesBy};
-ghost use Rattle.rx_tree.specs.Places.{places};
+ghost use Rattle.rx_tree.specs.Places.{places, slot_of};
 ghost use Rattle.rx_tree.specs.Store.{next_of, previous_of, is_there, Relinks};
 ghost use Rattle.rx_tree.specs.declared.links.Place.TheVariants.{Sibling};
 
@@ -30,8 +30,8 @@ impl<R: Drop> Store<R> {
         ensures { result ≡ previous_of self.now end }
     {
         match end {
-            Place::Roots => self.roots.previous.again(),
-            Place::Children(slot) => self.children(slot).previous,
+            Place::Roots => self.roots.previous,
+            Place::Children(slot) => self.nodes.at(slot).children.previous,
             _ => self.previous_apart(end),
         }
     }
@@ -58,8 +58,8 @@ impl<R: Drop> Store<R> {
     {
         match place {
             Place::Roots => self.roots.next = to,
-            Place::Children(slot) => self.nodes.at_mut(slot).set_children_next(to),
-            Place::Sibling(slot) => self.nodes.at_mut(slot).set_sibling_next(to),
+            Place::Children(slot) => self.nodes.at_mut(slot).children.next = to,
+            Place::Sibling(slot) => self.nodes.at_mut(slot).sibling.next = to,
             _ => self.set_next_apart(place, to),
         }
     }
@@ -72,6 +72,7 @@ impl<R: Drop> Store<R> {
         ensures next { (q : _) → next_of self.new q ≡ next_of self.old q }
         ensures previous { (q : _) → previous_of self.new q ≡ set_step places place to (previous_of self.old) q }
         ensures rest { Relinks self.old self.new }
+        ensures fits { slot_of place < 2 ^ 29 }
     {
         self.set_previous(place, to);
     }
@@ -83,11 +84,12 @@ impl<R: Drop> Store<R> {
         ensures next { (q : _) → next_of self.new q ≡ next_of self.old q }
         ensures previous { (q : _) → previous_of self.new q ≡ set_step places place to (previous_of self.old) q }
         ensures rest { Relinks self.old self.new }
+        ensures fits { slot_of place < 2 ^ 29 }
     {
         match place {
             Place::Roots => self.roots.previous = to,
-            Place::Children(slot) => self.nodes.at_mut(slot).set_children_previous(to),
-            Place::Sibling(slot) => self.nodes.at_mut(slot).set_sibling_previous(to),
+            Place::Children(slot) => self.nodes.at_mut(slot).children.previous = to,
+            Place::Sibling(slot) => self.nodes.at_mut(slot).sibling.previous = to,
             _ => self.set_previous_apart(place, to),
         }
     }
@@ -104,8 +106,6 @@ impl<R: Drop> Store<R> {
     {
         let last = self.last_sibling(end);
         let place = Place::Sibling(slot);
-        self.fits(end);
-        self.fits(place);
         self.set_next_sibling(last.place_beside(place), Step::to(place));
         self.set_sibling(
             slot,
@@ -127,9 +127,9 @@ impl<R: Drop> Store<R> {
             (next_of self.new) (previous_of self.new) (Sibling slot) }
         ensures rest { Relinks self.old self.new }
     {
-        let link = self.sibling(slot);
+        let Link { next, previous } = self.nodes.at(slot).sibling;
         let place = Place::Sibling(slot);
-        self.set_next_sibling(link.previous.place_beside(place), link.next.again());
-        self.set_previous_sibling(link.next.place_beside(place), link.previous);
+        self.set_next_sibling(previous.place_beside(place), next);
+        self.set_previous_sibling(next.place_beside(place), previous);
     }
 }

@@ -65,51 +65,26 @@ impl<R: Drop> Store<R> {
     // The calls on links are inlined, so that no kind is asked for where the caller writes it. Where a place's kind is
     // known, its own call keeps what closes or opens a node so small that it is inlined as well.
 
-    // What comes first and last of the children of a slot's node.
-    #[inline(always)]
-    pub(crate) fn children(&self, slot: usize) -> Link
-        requires there { IsTrue (is_there self.now (Children slot)) }
-        ensures { result ≡ link_at self.now (Children slot) }
-    {
-        self.nodes.at(slot).children()
-    }
-
-    // What comes first and last of the resources that are held at a slot's node.
-    #[inline(always)]
-    pub(crate) fn held(&self, slot: usize) -> Link
-        requires there { IsTrue (is_there self.now (Held slot)) }
-        ensures { result ≡ link_at self.now (Held slot) }
-    {
-        self.nodes.at(slot).held()
-    }
-
-    // Writes what comes first and last of them.
+    // Writes what comes first and last of the resources that are held at a slot's node.
     #[inline(always)]
     fn set_held(&mut self, slot: usize, link: Link)
         requires there { IsTrue (is_there self.old (Held slot)) }
         ensures linked { (q : _) → link_at self.new q ≡ set_link_at (Held slot) link self.old q }
         ensures rest { Relinks self.old self.new }
+        ensures fits { slot < 2 ^ 29 }
     {
-        self.nodes.at_mut(slot).set_held(link);
+        self.nodes.at_mut(slot).held.set(link);
     }
 
-    // What comes after a slot's node among its siblings, and before it.
-    #[inline(always)]
-    pub(crate) fn sibling(&self, slot: usize) -> Link
-        requires there { IsTrue (is_there self.now (Sibling slot)) }
-        ensures { result ≡ link_at self.now (Sibling slot) }
-    {
-        self.nodes.at(slot).sibling()
-    }
-
-    // Writes what comes after it there, and before it.
+    // Writes what comes after a slot's node among its siblings, and before it.
     #[inline(always)]
     pub(crate) fn set_sibling(&mut self, slot: usize, link: Link)
         requires there { IsTrue (is_there self.old (Sibling slot)) }
         ensures linked { (q : _) → link_at self.new q ≡ set_link_at (Sibling slot) link self.old q }
         ensures rest { Relinks self.old self.new }
+        ensures fits { slot < 2 ^ 29 }
     {
-        self.nodes.at_mut(slot).set_sibling(link);
+        self.nodes.at_mut(slot).sibling.set(link);
     }
 
     // What comes after a place and before it.
@@ -119,26 +94,15 @@ impl<R: Drop> Store<R> {
         ensures { result ≡ link_at self.now place }
     {
         match place {
-            Place::Roots => self.roots.again(),
-            Place::Due => self.due.again(),
-            Place::Waiting => self.waiting.again(),
-            Place::Children(slot) => self.children(slot),
-            Place::Held(slot) => self.held(slot),
-            Place::Sibling(slot) => self.sibling(slot),
-            Place::Noted(slot) => self.nodes.at(slot).noted(),
-            Place::Stored(slot) => self.resources.at(slot).link.again(),
+            Place::Roots => self.roots,
+            Place::Due => self.due,
+            Place::Waiting => self.waiting,
+            Place::Children(slot) => self.nodes.at(slot).children,
+            Place::Held(slot) => self.nodes.at(slot).held,
+            Place::Sibling(slot) => self.nodes.at(slot).sibling,
+            Place::Noted(slot) => self.nodes.at(slot).noted,
+            Place::Stored(slot) => self.resources.at(slot).link,
         }
-    }
-
-    // The slot of a place where something stands fits a link. It does nothing.
-    #[inline(always)]
-    pub(crate) fn fits(&self, place: Place)
-        requires there { IsTrue (is_there self.now place) }
-        ensures { slot_of place < 2 ^ 29 }
-    {
-        let _place = place;
-        let _nodes = self.nodes.capacity();
-        let _resources = self.resources.capacity();
     }
 
     // Writes what comes after a place and before it.
@@ -147,15 +111,16 @@ impl<R: Drop> Store<R> {
         requires there { IsTrue (is_there self.old place) }
         ensures linked { (q : _) → link_at self.new q ≡ set_link_at place link self.old q }
         ensures rest { Relinks self.old self.new }
+        ensures fits { slot_of place < 2 ^ 29 }
     {
         match place {
             Place::Roots => self.roots.set(link),
             Place::Due => self.due.set(link),
             Place::Waiting => self.waiting.set(link),
-            Place::Children(slot) => self.nodes.at_mut(slot).set_children(link),
+            Place::Children(slot) => self.nodes.at_mut(slot).children.set(link),
             Place::Held(slot) => self.set_held(slot, link),
             Place::Sibling(slot) => self.set_sibling(slot, link),
-            Place::Noted(slot) => self.nodes.at_mut(slot).set_noted(link),
+            Place::Noted(slot) => self.nodes.at_mut(slot).noted.set(link),
             Place::Stored(slot) => self.resources.at_mut(slot).link.set(link),
         }
     }
@@ -172,10 +137,10 @@ impl<R: Drop> Store<R> {
             Place::Roots => self.roots.next = to,
             Place::Due => self.due.next = to,
             Place::Waiting => self.waiting.next = to,
-            Place::Children(slot) => self.nodes.at_mut(slot).set_children_next(to),
-            Place::Held(slot) => self.nodes.at_mut(slot).set_held_next(to),
-            Place::Sibling(slot) => self.nodes.at_mut(slot).set_sibling_next(to),
-            Place::Noted(slot) => self.nodes.at_mut(slot).set_noted_next(to),
+            Place::Children(slot) => self.nodes.at_mut(slot).children.next = to,
+            Place::Held(slot) => self.nodes.at_mut(slot).held.next = to,
+            Place::Sibling(slot) => self.nodes.at_mut(slot).sibling.next = to,
+            Place::Noted(slot) => self.nodes.at_mut(slot).noted.next = to,
             Place::Stored(slot) => self.resources.at_mut(slot).link.next = to,
         }
     }
@@ -187,15 +152,16 @@ impl<R: Drop> Store<R> {
         ensures next { (q : _) → next_of self.new q ≡ next_of self.old q }
         ensures previous { (q : _) → previous_of self.new q ≡ set_step places place to (previous_of self.old) q }
         ensures rest { Relinks self.old self.new }
+        ensures fits { slot_of place < 2 ^ 29 }
     {
         match place {
             Place::Roots => self.roots.previous = to,
             Place::Due => self.due.previous = to,
             Place::Waiting => self.waiting.previous = to,
-            Place::Children(slot) => self.nodes.at_mut(slot).set_children_previous(to),
-            Place::Held(slot) => self.nodes.at_mut(slot).set_held_previous(to),
-            Place::Sibling(slot) => self.nodes.at_mut(slot).set_sibling_previous(to),
-            Place::Noted(slot) => self.nodes.at_mut(slot).set_noted_previous(to),
+            Place::Children(slot) => self.nodes.at_mut(slot).children.previous = to,
+            Place::Held(slot) => self.nodes.at_mut(slot).held.previous = to,
+            Place::Sibling(slot) => self.nodes.at_mut(slot).sibling.previous = to,
+            Place::Noted(slot) => self.nodes.at_mut(slot).noted.previous = to,
             Place::Stored(slot) => self.resources.at_mut(slot).link.previous = to,
         }
     }
@@ -211,8 +177,6 @@ impl<R: Drop> Store<R> {
         ensures rest { Relinks self.old self.new }
     {
         let last = self.link(end).previous;
-        self.fits(end);
-        self.fits(place);
         self.set_next(last.place_beside(place), Step::to(place));
         self.set_link(
             place,
@@ -235,7 +199,7 @@ impl<R: Drop> Store<R> {
         ensures rest { Relinks self.old self.new }
     {
         let link = self.link(place);
-        self.set_next(link.previous.place_beside(place), link.next.again());
+        self.set_next(link.previous.place_beside(place), link.next);
         self.set_previous(link.next.place_beside(place), link.previous);
     }
 
@@ -249,7 +213,6 @@ impl<R: Drop> Store<R> {
             (next_of self.new) (previous_of self.new) place }
         ensures rest { Relinks self.old self.new }
     {
-        self.fits(place);
         self.pass_by(place);
         self.set_link(place, Link::alone(place));
     }
@@ -266,10 +229,9 @@ impl<R: Drop> Store<R> {
         ensures rest { Relinks self.old self.new }
     {
         let from = Place::Held(slot);
-        let link = self.held(slot);
-        let last = self.waiting.previous.again();
-        self.fits(from);
-        self.set_next(last.place_beside(Place::Waiting), link.next.again());
+        let link = self.nodes.at(slot).held;
+        let last = self.waiting.previous;
+        self.set_next(last.place_beside(Place::Waiting), link.next);
         self.set_previous(link.next.place_beside(from), last);
         self.set_next(link.previous.place_beside(from), Step::to(Place::Waiting));
         self.set_previous(Place::Waiting, link.previous);

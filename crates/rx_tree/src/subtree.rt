@@ -34,7 +34,7 @@ impl<R: Drop> Store<R> {
         ensures later { IfSome result (λ child. key.number < child.number) }
         ensures none { result ≡ None → next_of self.now (Children key.slot) ≡ Children key.slot }
     {
-        match self.children(key.slot as usize).next.place() {
+        match self.nodes.at(key.slot as usize).children.next.place() {
             Place::Sibling(slot) => Some(self.node_key(slot)),
             _ => None,
         }
@@ -65,7 +65,7 @@ impl<R: Drop> Store<R> {
         ensures waits { LetsWait self.old self.new slot }
         ensures rest { Relinks self.old self.new }
     {
-        if let Place::Stored(_) = self.held(slot).next.place() {
+        if let Place::Stored(_) = self.nodes.at(slot).held.next.place() {
             self.merge_held(slot);
         }
     }
@@ -141,10 +141,7 @@ impl<R: Drop> Store<R> {
     {
         let key = self.leaf_below(from);
         // It is copied while it stands in its place.
-        let leaf = self.nodes.found(key);
-        // It is one of those that the list has room for.
-        let _count = self.nodes.len();
-        self.fits(Place::Sibling(key.slot as usize));
+        let leaf = self.nodes.at(key.slot as usize);
         let above = leaf.parent();
         closed.push_reserved(leaf.closed(key));
         self.take_leaf(key);

@@ -204,7 +204,7 @@ impl<R: Resource> Tree<R> {
         ensures value { IfSome node.now.node.above (λ up. find self.now.nodes up ≡ Some result.now.node) }
         ensures above { IfSome result.now.node.above (λ up. IsSome (find self.now.nodes up)) }
     {
-        self.store.nodes.at(node.above_slot())
+        self.store.nodes.at(node.made.slot as usize)
     }
 
     /// Whether a key finds a node.
@@ -220,7 +220,7 @@ impl<R: Resource> Tree<R> {
     pub fn made(&self, key: Key) -> Option<Event>
         ensures { result ≡ option_map (λ node. node.made) (find self.now.nodes key) }
     {
-        Some(self.store.node(key)?.made)
+        Some(self.store.nodes.get(key)?.made())
     }
 
     /// The node's marks; None where the key finds none.
@@ -228,7 +228,7 @@ impl<R: Resource> Tree<R> {
     pub fn marks(&self, key: Key) -> Option<Marks>
         ensures { result ≡ option_map (λ node. node.marks) (find self.now.nodes key) }
     {
-        Some(self.store.node(key)?.marks)
+        Some(self.store.nodes.get(key)?.marks)
     }
 
     /// The key of the node that this one stands below; None for a root, for a connection, and where
@@ -238,7 +238,7 @@ impl<R: Resource> Tree<R> {
         ensures number { option_map (λ parent. parent.number) result ≡ parent_number self.now.nodes key }
         ensures found { IfSome result (λ parent. IsSome (find self.now.nodes parent)) }
     {
-        self.store.node(key)?.above
+        self.store.nodes.get(key)?.parent()
     }
 
     /// The key of the oldest node directly below this one; None where there is none.
@@ -248,8 +248,8 @@ impl<R: Resource> Tree<R> {
         ensures none { IfNone result (HasNone (IsChild self.now.nodes key) 0) }
     {
         let _node = self.store.node(key)?;
-        match self.store.children(key.slot as usize).next.place() {
-            Place::Sibling(slot) => self.store.node_at(slot),
+        match self.store.nodes.at(key.slot as usize).children.next.place() {
+            Place::Sibling(slot) => self.store.nodes.key_at(slot),
             _ => None,
         }
     }
@@ -265,8 +265,8 @@ impl<R: Resource> Tree<R> {
         ensures alone { parent_number self.now.nodes key ≡ None → result ≡ None }
     {
         let _parent = self.store.node(key)?.above?;
-        match self.store.sibling(key.slot as usize).next.place() {
-            Place::Sibling(slot) => self.store.node_at(slot),
+        match self.store.nodes.at(key.slot as usize).sibling.next.place() {
+            Place::Sibling(slot) => self.store.nodes.key_at(slot),
             _ => None,
         }
     }
@@ -278,7 +278,7 @@ impl<R: Resource> Tree<R> {
         ensures none { IfNone result (HasNone (IsRoot self.now.nodes) 0) }
     {
         match self.store.roots.next.place() {
-            Place::Sibling(slot) => self.store.node_at(slot),
+            Place::Sibling(slot) => self.store.nodes.key_at(slot),
             _ => None,
         }
     }
@@ -458,7 +458,7 @@ impl<R: Resource> Tree<R> {
         ensures { result ≡ first_of self.now.chain }
     {
         match self.store.due.next.place() {
-            Place::Noted(slot) => self.store.node_at(slot),
+            Place::Noted(slot) => self.store.nodes.key_at(slot),
             _ => None,
         }
     }

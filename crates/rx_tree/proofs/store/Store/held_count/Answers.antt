@@ -1,9 +1,9 @@
-use Rattle.rx_tree.proofs.Common.{sym, ap, ◌∙◌, option_map_or, no_counts}
 use Rattle.rx_tree.proofs.InPlace.{there_project}
 use Rattle.rx_tree.proofs.store.Store.held_count.Goals as goal
+use Rattle.std.proofs.Common.{rules}
 
 pub at-requires : goal.at-requires
 at-requires g c = record { there = there_project (λ l. l.node) c.args.self.now.nodes c.args.slot c.requires.there }
 
 pub returns : goal.returns
-returns g c = c.held_count.ensures ∙ sym (ap (λ o. option_map_or (λ l. l.held_count) o no_counts) c.at.ensures)
+returns g c = search rules

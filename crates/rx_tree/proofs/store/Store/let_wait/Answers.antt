@@ -1,4 +1,5 @@
-use Rattle.rx_tree.proofs.Common.{refl, Waiting, Held, nodes_of, resources_of, next_of, previous_of}
+use Rattle.rx_tree.proofs.Common.{refl, ap, ◌∙◌, Waiting, Held, nodes_of, resources_of, next_of, previous_of}
+use Rattle.rx_tree.proofs.InPlace.{there_project, held_read}
 use Rattle.rx_tree.proofs.There.{next_stands, previous_stands}
 use Rattle.rx_tree.proofs.LeafSteps.{waits_merged, waits_already}
 use Rattle.rx_tree.proofs.store.Store.let_wait.Goals as goal
@@ -18,7 +19,16 @@ merge_held-requires-clause-from_last g c = let s = c.args.self.now in previous_s
     c.requires.tied (Held _) c.requires.there
 
 pub returns-in-Stored-clause-waits : goal.returns-in-Stored-clause-waits
-returns-in-Stored-clause-waits g c = search (rules, waits_merged)
+returns-in-Stored-clause-waits g c = search (rules, waits_merged, held_read)
 
 pub returns-in_default : goal.returns-in_default
-returns-in_default g c = search (rules, waits_already)
+returns-in_default g c =
+    let s = c.args.self.now in
+    record {
+      waits = waits_already s s c.requires.tied c.args.slot (λ j e. c.in_default.not-Stored j (c.place.ensures ∙
+          ap (λ l. l.next) (held_read s c.args.slot _ c.at.ensures.value c.behind-self.view_is) ∙ e)) refl refl;
+      rest = search rules;
+    }
+
+pub at-requires : goal.at-requires
+at-requires g c = record { there = there_project (λ l. l.node) c.args.self.now.nodes c.args.slot c.requires.there }

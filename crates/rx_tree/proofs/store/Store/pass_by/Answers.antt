@@ -5,7 +5,7 @@ use Rattle.rx_tree.proofs.store.Store.pass_by.Goals as goal
 pub returns-clause-passes : goal.returns-clause-passes
 returns-clause-passes g c =
     let before = c.place_beside.ensures ∙ ap (λ k. k.previous) c.link-link.ensures in
-    let next = c.again.ensures ∙ ap (λ k. k.next) c.link-link.ensures in
+    let next = ap (λ k. k.next) c.link-link.ensures in
     let after = c.place_beside-2.ensures ∙ ap (λ k. k.next) c.link-link.ensures in
     record {
       to = λ q. c.set_previous.ensures.next q ∙ c.set_next.ensures.next q ∙

@@ -1,18 +1,25 @@
-use Rattle.rx_tree.proofs.Common.{refl, with_value_at, Children, Held, Sibling, Noted, alone}
+use Rattle.rx_tree.proofs.Common.{◌≡◌, ℕ, Some, refl, sym, ap, ◌∙◌, value_at, with_value_at, Children, Held, Sibling, Noted, Counts, Record, Store, alone}
+use Rattle.rx_tree.proofs.Common.{KeepsLinks}
 use Rattle.rx_tree.proofs.InPlace.{there_project}
 use Rattle.rx_tree.proofs.StoreLemmas.{part-kept, project-written, nodes_keep_links}
 use Rattle.rx_tree.proofs.store.Store.set_held_count.Goals as goal
 
-pub at_mut-requires : goal.at_mut-requires
-at_mut-requires g c = record { there = there_project (λ l. l.node) c.args.self.now.nodes c.args.slot c.requires.there }
+pub at_mut-record-requires : goal.at_mut-record-requires
+at_mut-record-requires g c = record { there = there_project (λ l. l.node) c.args.self.now.nodes c.args.slot c.requires.there }
+
+links_kept : {T : Type 0} (s : Store T) (slot : ℕ) (count : Counts) (l : Record) → value_at s.nodes slot ≡ Some l →
+    KeepsLinks s (record s { nodes = with_value_at s.nodes slot (record l { held_count = count }) })
+links_kept s slot count l at =
+    let new : Record = record l { held_count = count } in
+    nodes_keep_links s (with_value_at s.nodes slot new) (λ j. part-kept (λ x. x.children) (alone (Children j)) s.nodes slot new j at refl)
+    (λ j. part-kept (λ x. x.held) (alone (Held j)) s.nodes slot new j at refl)
+    (λ j. part-kept (λ x. x.sibling) (alone (Sibling j)) s.nodes slot new j at refl)
+    (λ j. part-kept (λ x. x.noted) (alone (Noted j)) s.nodes slot new j at refl)
 
 pub returns-clause-links : goal.returns-clause-links
-returns-clause-links g c = let at = c.at_mut.ensures.value in let a = c.args.self.now in let l = record c.at_mut.result.now {
-  held_count = c.args.count;
-} in rw c.set_held_count.ensures (nodes_keep_links a (with_value_at a.nodes _ l) (λ j. part-kept (λ l. l.children) (alone (Children
-    j)) a.nodes _ l j at refl) (λ j. part-kept (λ l. l.held) (alone (Held j)) a.nodes _ l j at refl) (λ j. part-kept (λ l. l.sibling) (alone (Sibling
-    j)) a.nodes _ l j at refl) (λ j. part-kept (λ l. l.noted) (alone (Noted j)) a.nodes _ l j at refl))
+returns-clause-links g c =
+    links_kept c.args.self.now c.args.slot c.args.count _ (c.at_mut-record.ensures.value ∙ ap (λ l. Some l) (sym c.record.view_is))
 
 pub returns-clause-nodes : goal.returns-clause-nodes
-returns-clause-nodes g c = rw c.set_held_count.ensures (project-written (λ l. l.node) c.args.self.now.nodes c.args.slot c.at_mut.result.now
-    (record c.at_mut.result.now { held_count = c.args.count }) c.at_mut.ensures.value refl)
+returns-clause-nodes g c = project-written (λ l. l.node) c.args.self.now.nodes c.args.slot _ _
+    (c.at_mut-record.ensures.value ∙ ap (λ l. Some l) (sym c.record.view_is)) refl

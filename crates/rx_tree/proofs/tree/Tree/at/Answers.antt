@@ -7,8 +7,8 @@ at-requires g c = record { there = there_project (λ l. l.node) c.self.inside.st
 
 pub returns-clause-value : goal.returns-clause-value
 returns-clause-value g c = rw (← c.self.view_is)
-    (value_at-project (λ l. l.node) c.self.inside.store.nodes c.args.slot ∙ ap (option_map (λ l. l.node)) c.at.ensures)
+    (value_at-project (λ l. l.node) c.self.inside.store.nodes c.args.slot ∙ ap (option_map (λ l. l.node)) c.at.ensures.value)
 
 pub returns-clause-above : goal.returns-clause-above
 returns-clause-above g c = rw (← c.self.view_is) (above_at (nodes_of c.self.inside.store) c.self.invariant.tied.sound c.args.slot c.at.result.now.node
-    (value_at-project (λ l. l.node) c.self.inside.store.nodes c.args.slot ∙ ap (option_map (λ l. l.node)) c.at.ensures))
+    (value_at-project (λ l. l.node) c.self.inside.store.nodes c.args.slot ∙ ap (option_map (λ l. l.node)) c.at.ensures.value))
