@@ -33,9 +33,9 @@ place_at tag s =
 abbrev pub place_in : ℕ → Place
 place_in word = place_at (word % 8) (word / 8)
 
--- the word of a place
-abbrev pub word_of : Place → ℕ
-word_of p = slot_of p * 8 + tag_of p
+-- the word in which a link keeps a place
+abbrev pub ring_word : Place → ℕ
+ring_word p = slot_of p * 8 + tag_of p
 
 abbrev pub is_place : Place → Place → Bool
 is_place p q = (tag_of p == tag_of q) && (slot_of p == slot_of q)

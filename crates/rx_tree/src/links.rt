@@ -61,13 +61,13 @@ impl Model for Step {
     ghost Value = { Shown };
 
     ghost use Rattle.std.specs.Prelude.{◌≡◌};
-    ghost use Rattle.rx_tree.specs.Places.{place_in, word_of};
+    ghost use Rattle.rx_tree.specs.Places.{place_in, ring_word};
 
     ghost view = { λ s. place_in s.word };
 
-    ghost invariant = { λ s. word_of (place_in s.word) ≡ s.word };
+    ghost invariant = { λ s. ring_word (place_in s.word) ≡ s.word };
 
-    ghost inverse = { λ p. record { word = word_of p } };
+    ghost inverse = { λ p. record { word = ring_word p } };
 
     ghost inverse_ok = { λ s kept i. record { word = kept i } };
 }
