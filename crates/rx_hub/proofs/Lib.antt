@@ -1,7 +1,6 @@
 pub mod Common
 pub mod Laws
 mod WayWalkedSoFar
-mod FirstDueOnChain
 mod StoreShowsHubs
 mod HubsByNumber
 mod HubsForgetEnds

@@ -1,7 +1,6 @@
 -- What the operators have to do, by the marks of the records.
 use Rattle.std.specs.Prelude.{◌≡◌, false, is_some, if◌then◌else◌, Option, Some, None, List, [], ◌∷◌}
 use Rattle.std.specs.Option.{option_and_then}
-use Rattle.rx_note.specs.declared.note.Terminal.{Terminal}
 use Rattle.rx_event.specs.declared.event.Event.{Event}
 use Rattle.rx_event.specs.Marks.{due_at, terminal_due}
 use Rattle.rx_slots.specs.declared.Key.{Key}
@@ -9,10 +8,6 @@ use Rattle.rx_slots.specs.Slots.{Slots, find}
 use Rattle.rx_tree.specs.declared.node.Node.{Node}
 use Rattle.rx_tree.specs.Tree.{is_on}
 use Rattle.rx_hub.specs.declared.operators.Due.{Due}
-
--- how the key's node has to end by its marks
-abbrev pub terminal_of : Slots Node → Key → Option Terminal
-terminal_of nodes key = option_and_then (λ node. terminal_due node.made node.marks) (find nodes key)
 
 -- this node has to end so, by the marks of its record
 pub record IsDueAt (nodes : Slots Node) (due : Due) : Type 0 where
