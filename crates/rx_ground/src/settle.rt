@@ -29,24 +29,8 @@ impl<R: Resource> Ground<R> {
         self.tree.is_calm()
     }
 
-    /// What is forced next; None where nothing is. Where nothing was changed so that it may force anything,
-    /// nothing is looked at.
-    #[inline(always)]
-    fn next_forced(&mut self) -> Option<HubDue>
-        requires between { IsBetween R.Resource self.old }
-        ensures between { IsBetween R.Resource self.new }
-        ensures next { MatchOption result (IsSettled self.new.register.base self.new.register.history)
-            (IsNext self.new) }
-        ensures kept { WithChain self.old self.new }
-    {
-        if self.is_calm() {
-            return None;
-        }
-        self.find_forced()
-    }
-
-    /// The same, looked for. What is due at a hub comes first, since nothing else is forced while one waits
-    /// for its connection.
+    /// What is forced next; None where nothing is. What is due at a hub comes first, since nothing else is
+    /// forced while one waits for its connection.
     #[cold]
     #[inline(never)]
     fn find_forced(&mut self) -> Option<HubDue>
@@ -107,11 +91,12 @@ impl<R: Resource> Ground<R> {
         requires room { HasRoomToConnect self.old.register.history self.old.tree.nodes.room (list_room self.old) }
         ensures { Settles R.Resource self.old self.new }
     {
-        while let Some(due) = self.next_forced() {
-            self.promise();
+        while let Some(due) = self.find_forced() {
+            self.register.promise();
             self.write_due(due);
-            self.promise();
+            if self.is_calm() {
+                return;
+            }
         }
-        self.promise();
     }
 }
