@@ -58,6 +58,10 @@ module _ {T : Type 0} (g : Ghosts T) where
               r.sound r.cut.cuts p x.0 r.alive (sym r.named) x.1,
         )
 
+    pub above_there : (above : Option Key) → IsReadyToEnd key t made above old mid → IfSome above (λ up. IsSome (find mid.tree.nodes up))
+    above_there None r = tt
+    above_there (Some p) r = let x = above_stays p r in ap is_some x.2
+
     -- and has an open child
     pub above_counted : (above : Option Key) → IsReadyToEnd key t made above old mid →
         IfSome above (λ up. IfSome (find mid.tree.nodes up) (λ node. 0 < node.marks.open_children))

@@ -47,17 +47,6 @@ fn tell_end(register: &mut Register, node: u64, terminal: Terminal, is_root: boo
     }
 }
 
-/// Writes the end of a node, of which a root is told.
-#[inline(always)]
-fn write_told(register: &mut Register, node: u64, terminal: Terminal, is_root: bool)
-    requires ready { IsReady register.old (Event.End node terminal) }
-    requires root { is_root ≡ at is_root_in register.old.history node }
-    ensures { Writes register.old (Event.End node terminal ∷ []) register.new }
-{
-    tell_end(register, node, terminal, is_root);
-    register.write(Event::End(node, terminal));
-}
-
 /// Marks the node above as one whose child ended, which stood at its source's place or not.
 #[inline(always)]
 fn mark_end<R: Resource>(
@@ -66,16 +55,15 @@ fn mark_end<R: Resource>(
     is_source: bool,
     terminal: Terminal,
 )
-    requires found { IfSome above (λ key. IfSome (find tree.old.nodes key) (λ node. 0 < node.marks.open_children)) }
+    requires there { IfSome above (λ key. IsSome (find tree.old.nodes key)) }
+    requires child { IfSome above (λ key. IfSome (find tree.old.nodes key) (λ node. 0 < node.marks.open_children)) }
     ensures marked { IfSome above (λ key. IfSome (find tree.old.nodes key) (λ node. Remarks tree.old tree.new key (after_child is_source (is_merging node.made) terminal))) }
     ensures none { IfNone above (tree.new ≡ tree.old) }
     ensures rest { tree.new.nodes ≡ record tree.old.nodes { entries = tree.new.nodes.entries } }
     ensures resources { tree.new.resources ≡ tree.old.resources }
 {
     if let Some(key) = above {
-        if tree.contains(key) {
-            tree.mark_end(key, is_source, terminal);
-        }
+        tree.mark_end(key, is_source, terminal);
     }
 }
 
@@ -210,7 +198,8 @@ impl<R: Resource> Ground<R> {
         let is_root = record.is_root();
         let place = self.register.len();
         self.cut(node, Some(LastEnd { place, terminal }));
-        write_told(&mut self.register, node.number, terminal, is_root);
+        tell_end(&mut self.register, node.number, terminal, is_root);
+        self.register.write(Event::End(node.number, terminal));
         self.tree.promise();
         mark_end(&mut self.tree, above, is_source, terminal);
     }
