@@ -51,13 +51,13 @@ pub use Rattle.rx_event.specs.declared.event.Kind.TheVariants.{Sub, Switch, Flat
 pub use Rattle.rx_event.specs.declared.event.Place.TheVariants.{Source, Notifier, Root, Inner}
 pub use Rattle.rx_event.specs.declared.refusal.Refusal.TheVariants.{TooMany, Full, Gone, MailLeft, WrongKind}
 pub use Rattle.rx_ground.specs.Ties.{IsTied, AreTied, AreLeased, AreRecords, Remarks, HasKey, IsStored, Cuts, IsStanding, KeepsNodes, AreJoined, KeepsOlder}
-pub use Rattle.rx_ground.specs.Ties.{IsNewNode, record_of, AreStored, IsNext, IsReady, IsRoomier, IsUndue, KeepsHeld, KeepsLeases, Moves, SetsAside, is_there}
+pub use Rattle.rx_ground.specs.Ties.{IsNewNode, AreStored, IsNext, IsReady, IsRoomier, IsUndue, KeepsHeld, KeepsLeases, Moves, SetsAside, is_there}
 pub use Rattle.rx_ground.specs.Ties.{left_inside, opened_marks, HasRoom, HasRoomBeside, HasRoomToConnect, IsLeaseOf, IsListed, WithChain, key_due}
 pub use Rattle.rx_event.specs.Gone.{goes, has_gone}
 pub use Rattle.rx_ground.specs.{Checkpoints.IsCheckpoint, Gone.Closes, Gone.Gathers, Gone.GoesFirst, Gone.numbers_of, Memory.TakesNoMemory}
 pub use Rattle.rx_ground.specs.Settling.{Settles}
 pub use Rattle.rx_ground.specs.Inners.{ClearsHubs, HasNoInner, IsInner, MakesWay, ReplacesNone, Exchanges, LeavesHubs, ListsReplaced, ListsWay}
-pub use Rattle.rx_ground.specs.{Leases.lease_key, Leases.is_out_at, Leases.lease_as_kept, Reached.MakesOnly, Reached.IsReach, declared.base.Record.Record}
+pub use Rattle.rx_ground.specs.{Leases.lease_key, Leases.is_out_at, Leases.lease_as_kept, Reached.MakesOnly, Reached.IsReach}
 pub use Rattle.rx_ground.specs.{LeasesInOrder.AreRising, LeasesInOrder.IsInOrder, LeasesInOrder.number_in, declared.leases.LeaseKey.LeaseKey}
 pub use Rattle.rx_ground.specs.Passing.{ArePassed, owed_at, sum_at, told_at, IsMeasured, IsPassing, nodes_at, IsArrived, IsMarkedAt, IsThere, mail_at}
 pub use Rattle.rx_ground.specs.{Shown.Ground, Shown.closed_keys, Shown.closed_key, Shown.list_room, declared.route.Reach.Reach, declared.route.Way.Way}

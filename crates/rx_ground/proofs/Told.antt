@@ -3,7 +3,7 @@ use Rattle.rx_ground.proofs.Common.{◌≡◌, ℕ, ◌+◌, Bool, true, false, 
 use Rattle.rx_ground.proofs.Common.{arith, zero-add, nat_lt, not, ◌||◌, list_any, option_map_or, lt-ltb, sum_by-cons, none-some, same_Some, Kept, at, Ghosts}
 use Rattle.rx_ground.proofs.Common.{Marks, Place, Event, named_by, is_open, has_open_child, marks_of, open_children, is_wrong_place, Key, is_taken_place}
 use Rattle.rx_ground.proofs.Common.{is_unowed_place, Slots, find, Node, Stowed, ResKey, Tree, store_key, is_owned, is_owned_at, is_held_at, some_of, LeaseKey}
-use Rattle.rx_ground.proofs.Common.{is_out_at, Record, IsTied, AreLeased, record_of, IsTold, has_place, is_used, is_unowed}
+use Rattle.rx_ground.proofs.Common.{is_out_at, IsTied, AreLeased, IfSome, IfNone, IsTold, has_place, is_used, is_unowed}
 use Rattle.std.specs.List.{count_by}
 use Rattle.rx_event.specs.Resources.{is_owned as is_owned_in, is_out, is_held as is_held_in}
 use Rattle.rx_ground.proofs.TreeAgreesOnResource.{owned_agrees, held_agrees}
@@ -15,6 +15,7 @@ use Rattle.rx_event.specs.declared.refusal.Refusal.TheVariants.{PlaceTaken, Noth
 use Rattle.rx_ground.proofs.Common.{None, Ground, Gone, WrongKind, first_cause, false≢true}
 use Rattle.rx_event.specs.Causes.{is_gone, by_key}
 use Rattle.rx_ground.specs.FirstCause.{first_at_place, IsFreePlace}
+use Rattle.rx_tree.specs.Record.{LinkedNode}
 use Rattle.std.proofs.Common.{rules}
 
 module _ (base : Kept) {T : Type 0} (g : Ghosts T) (h : List Event) (tree : Tree T) (tied : IsTied base g h tree) where
@@ -34,8 +35,20 @@ module _ (base : Kept) {T : Type 0} (g : Ghosts T) (h : List Event) (tree : Tree
       sym (ap (λ (o : Option (Stowed T)). option_map_or (is_owned tree.nodes) o false) f.found)
 
   -- what a record tells
-  pub told : (key : Key) (r : Record) → Some r ≡ option_map record_of (find tree.nodes key) → IsTold base h tree.nodes key r
-  told key r says = search (rules, find, option_map, none-some, same_Some, is_some)
+  pub told : (key : Key) (node : Node) → Some node ≡ find tree.nodes key → IsTold base h tree.nodes key node
+  told key node found = let is = tied.records.each key node (sym found) in
+      record { there = ap is_some (sym found); alive = is.alive; made = is.made; marks = is.marks }
+
+  -- and what is told where one was looked for
+  pub told_some : (key : Key) (o : Option LinkedNode) → option_map (λ r. r.node) o ≡ find tree.nodes key →
+      IfSome o (λ r. IsTold base h tree.nodes key r.node)
+  told_some key None is = tt
+  told_some key (Some r) is = told key r.node is
+
+pub told_none : (nodes : Slots Node) (key : Key) (o : Option LinkedNode) → option_map (λ r. r.node) o ≡ find nodes key →
+    IfNone o (is_some (find nodes key) ≡ false)
+told_none nodes key None is = ap is_some (sym is)
+told_none nodes key (Some r) is = tt
 
 -- a lease that is out under its key is out in the history
 pub out_in_history : {T : Type 0} (h : List Event) (resources : Slots (Stowed T)) (leases : Slots ResKey) → AreLeased h resources leases →
@@ -94,7 +107,7 @@ any_counted {X = X} p (x ∷ xs) = by_test (any_counted p xs) (p x) refl where
       ap (nat_lt 0) (sym (sum_by-cons (λ y. cond {A = ℕ} (p y) 1 0) x xs ∙ ap (λ b. cond {A = ℕ} b 1 0 + count_by p xs) e ∙ zero-add (count_by p xs)))
 
 -- an open child is counted by the mark
-pub child_marked : (base : Kept) → (h : List Event) (nodes : Slots Node) (key : Key) (r : Record) → IsTold base h nodes key r →
-    has_open_child h key.number ≡ nat_lt 0 r.marks.open_children
+pub child_marked : (base : Kept) → (h : List Event) (nodes : Slots Node) (key : Key) (node : Node) → IsTold base h nodes key node →
+    has_open_child h key.number ≡ nat_lt 0 node.marks.open_children
 unfolding open_children
-child_marked base h nodes key r is = search (rules, any_counted, nat_lt)
+child_marked base h nodes key node is = search (rules, any_counted, nat_lt)

@@ -40,7 +40,6 @@ use Rattle.rx_hub.specs.Hubs.{Hub, Hubs}
 use Rattle.rx_hub.specs.Records.{AreHubsOf}
 use Rattle.rx_register.specs.State.{State as Register}
 use Rattle.rx_register.specs.Paid.{IsPaid}
-use Rattle.rx_ground.specs.declared.base.Record.{Record}
 use Rattle.rx_ground.specs.declared.base.Wanted.{Wanted}
 use Rattle.rx_ground.specs.Shown.{Ground, label_of, label_in, waiting_in}
 
@@ -251,7 +250,3 @@ pub record IsReady (s : Register) (e : Event) : Type 0 where
   pub room : 0 < s.room
   pub notes : length (mail_of s.history e) ≤ s.mail_room
   pub pending : s.pending ≡ []
-
--- what an open node's record says
-abbrev pub record_of : Node → Record
-record_of node = record { made = node.made; marks = node.marks }

@@ -19,15 +19,14 @@ use Rattle.rx_tree.specs.declared.node.Node.{Node}
 use Rattle.rx_hub.specs.declared.hub.Published.{Published}
 use Rattle.rx_hub.specs.Hubs.{Hub as HubAt, StandsAt, find_hub}
 use Rattle.rx_event.specs.Causes.{has_connection, connects_up_to, is_without_hub, forces_connect}
-use Rattle.rx_ground.specs.declared.base.Record.{Record}
 use Rattle.rx_ground.specs.declared.hubs.Found.{Found}
 
--- the key is an open node's, and the record says which event made it and how the history marks it
-pub record IsTold (base : Kept) (h : List Event) (nodes : Slots Node) (key : Key) (r : Record) : Type 0 where
+-- the key is an open node's, and its record says which event made it and how the history marks it
+pub record IsTold (base : Kept) (h : List Event) (nodes : Slots Node) (key : Key) (node : Node) : Type 0 where
   pub there : is_some (find nodes key) ≡ true
   pub alive : is_open h key.number ≡ true
-  pub made : slice_get h key.number ≡ Some r.made
-  pub marks : r.marks ≡ marks_of base h key.number
+  pub made : slice_get h key.number ≡ Some node.made
+  pub marks : node.marks ≡ marks_of base h key.number
 
 -- a node that this event made has such a place
 abbrev pub has_place : Event → Place → Bool

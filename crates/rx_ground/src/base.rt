@@ -8,10 +8,9 @@ ghost use Rattle.rx_tree.specs.Tree.{AreApart, IsPromised as IsTreePromised, par
 ghost use Rattle.rx_hub.specs.Hubs.{IsPromised as IsHubsPromised};
 ghost use Rattle.rx_slots.specs.Slots.{find};
 ghost use Rattle.rx_ground.specs.Shown.{closed_key};
-ghost use Rattle.rx_ground.specs.Ties.{IsRoomier, HasRoom, record_of};
+ghost use Rattle.rx_ground.specs.Ties.{IsRoomier, HasRoom};
 
 use crate::leases::Leases;
-use rx_event::{Event, Marks};
 use rx_hub::{Hubs, Route};
 use rx_register::Register;
 use rx_resource::Resource;
@@ -68,15 +67,6 @@ pub struct Wanted {
     pub hubs: usize,
     /// Leases to give out.
     pub leases: usize,
-}
-
-/// What a node's record says of it.
-#[derive(Clone, Copy)]
-pub struct Record {
-    /// The event that made the node.
-    pub made: Event,
-    /// What its operator's rule has to know of what happened below it.
-    pub marks: Marks,
 }
 
 // The key of the node above, by the record as it stands.
@@ -281,17 +271,5 @@ impl<R: Resource> Ground<R> {
         ensures { result ≡ length self.now.register.history }
     {
         self.register.len()
-    }
-
-    /// What the record of an open node says; None where the key finds none.
-    #[inline(always)]
-    pub fn record(&self, key: Key) -> Option<Record>
-        ensures { result ≡ option_map record_of (find self.now.tree.nodes key) }
-    {
-        let node = self.tree.get(key)?;
-        Some(Record {
-            made: node.made(),
-            marks: node.marks(),
-        })
     }
 }

@@ -1,6 +1,6 @@
 //! What stands first against a call.
 
-ghost use Rattle.std.specs.Prelude.{◌≡◌, ◌&&◌, true, false, Some, None, is_some, option_map};
+ghost use Rattle.std.specs.Prelude.{◌≡◌, ◌&&◌, true, false, Some, None, is_some, option_map, option_copied};
 ghost use Rattle.std.specs.Prelude.{if◌then◌else◌, IfSome, IfNone};
 ghost use Rattle.rx_event.specs.Events.{named_by, is_merging};
 ghost use Rattle.rx_event.specs.Tree.{at};
@@ -22,60 +22,60 @@ ghost use Rattle.rx_ground.specs.Told.{IsTold, IsFound, has_place as has_place_i
 ghost use Rattle.rx_ground.specs.Told.{is_used as is_used_in, is_unowed as is_unowed_in};
 ghost use Rattle.rx_ground.specs.OpeningHolding.{first_holding, opening_holding_cost};
 
-use crate::base::{Ground, Record, Wanted};
+use crate::base::{Ground, Wanted};
 use crate::hubs::Found;
 use crate::leases::LeaseKey;
-use rx_event::{Event, Kind, Marks, Place, Refusal};
+use rx_event::{Kind, Place, Refusal};
 use rx_note::Terminal;
 use rx_resource::Resource;
-use rx_tree::{Key, ResKey};
+use rx_tree::{Key, Record, ResKey};
 
-/// Whether a node that this event made has such a place below it.
+/// Whether the node of this record has such a place below it.
 #[inline(always)]
-fn has_place(made: Event, place: Place) -> bool
-    ensures { result ≡ has_place_in made place }
+fn has_place(node: &Record, place: Place) -> bool
+    ensures { result ≡ has_place_in node.now.node.made place }
 {
     match place {
         Place::Root => true,
-        Place::Source(_) => made.has_source(),
-        Place::Inner(_) => made.is_merging(),
-        Place::Notifier(_) => made.is_until(),
+        Place::Source(_) => node.has_source(),
+        Place::Inner(_) => node.is_merging(),
+        Place::Notifier(_) => node.is_until(),
     }
 }
 
-/// Whether a node with these marks had its source or its notifier opened, which the place is.
+/// Whether its source or its notifier was opened, which the place is.
 #[inline(always)]
-fn is_used(marks: Marks, place: Place) -> bool
-    ensures { result ≡ is_used_in marks place }
+fn is_used(node: &Record, place: Place) -> bool
+    ensures { result ≡ is_used_in node.now.node.marks place }
 {
     match place {
         Place::Root | Place::Inner(_) => false,
-        Place::Source(_) => marks.source_opened(),
-        Place::Notifier(_) => marks.notifier_opened(),
+        Place::Source(_) => node.source_opened(),
+        Place::Notifier(_) => node.notifier_opened(),
     }
 }
 
-/// Whether a node with these marks owes no inner, where the place is one's.
+/// Whether it owes no inner, where the place is one's.
 #[inline(always)]
-fn is_unowed(marks: Marks, place: Place) -> bool
-    ensures { result ≡ is_unowed_in marks place }
+fn is_unowed(node: &Record, place: Place) -> bool
+    ensures { result ≡ is_unowed_in node.now.node.marks place }
 {
     match place {
         Place::Root | Place::Source(_) | Place::Notifier(_) => false,
-        Place::Inner(_) => marks.owed() == 0,
+        Place::Inner(_) => node.owed() == 0,
     }
 }
 
 impl<R: Resource> Ground<R> {
-    /// What is known of an open node; None where the key finds none.
-    #[tactic(auto, using(crate::proofs::Told::told))]
+    /// The record of an open node, to be read in place; None where the key finds none.
     #[inline(always)]
-    pub(crate) fn told(&self, node: Key) -> Option<Record>
+    pub(crate) fn told(&self, node: Key) -> Option<&Record>
         requires { IsStanding R.Resource self.now }
-        ensures some { IfSome result (IsTold self.now.register.base self.now.register.history self.now.tree.nodes node) }
-        ensures none { IfNone result (is_some (find self.now.tree.nodes node) ≡ false) }
+        ensures some { IfSome (option_copied result)
+            (λ r. IsTold self.now.register.base self.now.register.history self.now.tree.nodes node r.node) }
+        ensures none { IfNone (option_copied result) (is_some (find self.now.tree.nodes node) ≡ false) }
     {
-        self.record(node)
+        self.tree.get(node)
     }
 
     /// What stands first against a place, of what the record of the node above tells.
@@ -93,13 +93,13 @@ impl<R: Resource> Ground<R> {
         let Some(record) = self.told(key) else {
             return Some(Refusal::Gone);
         };
-        if !has_place(record.made, place) {
+        if !has_place(record, place) {
             return Some(Refusal::WrongKind);
         }
-        if is_used(record.marks, place) {
+        if is_used(record, place) {
             return Some(Refusal::PlaceTaken);
         }
-        if is_unowed(record.marks, place) {
+        if is_unowed(record, place) {
             return Some(Refusal::NothingOwed);
         }
         None
@@ -325,15 +325,16 @@ impl<R: Resource> Ground<R> {
     }
 
     /// What stands first against the end of the leaf.
+    #[tactic(auto, using(crate::proofs::Told::told))]
     #[inline(always)]
     pub fn ending_cause(&self, leaf: Key, _terminal: Terminal) -> Option<Refusal>
         requires standing { IsStanding R.Resource self.now }
         ensures { result ≡ first_at self.now leaf (Ending leaf.number _terminal) }
     {
-        let Some(record) = self.told(leaf) else {
+        let Some(record) = self.tree.get(leaf) else {
             return Some(Refusal::Gone);
         };
-        if !record.made.is_leaf() {
+        if !record.is_leaf() {
             return Some(Refusal::WrongKind);
         }
         None
@@ -349,10 +350,10 @@ impl<R: Resource> Ground<R> {
         let Some(record) = self.told(node) else {
             return Some(Refusal::Gone);
         };
-        if !record.made.may_abort() {
+        if !record.made().may_abort() {
             return Some(Refusal::WrongKind);
         }
-        if record.marks.open_children() > 0 {
+        if record.open_children() > 0 {
             return Some(Refusal::HasChild);
         }
         None
@@ -368,10 +369,10 @@ impl<R: Resource> Ground<R> {
         let Some(record) = self.told(merging) else {
             return Some(Refusal::Gone);
         };
-        if !record.made.is_merging() {
+        if !record.is_merging() {
             return Some(Refusal::WrongKind);
         }
-        if record.marks.owed() == 0 {
+        if record.owed() == 0 {
             return Some(Refusal::NothingOwed);
         }
         None
@@ -403,8 +404,8 @@ impl<R: Resource> Ground<R> {
             then Some (owed self.now.register.base self.now.register.history merging.number) else None) }
     {
         let record = self.told(merging)?;
-        if record.made.is_merging() {
-            Some(record.marks.owed())
+        if record.is_merging() {
+            Some(record.owed())
         } else {
             None
         }
@@ -419,7 +420,7 @@ impl<R: Resource> Ground<R> {
         let Some(record) = self.told(root) else {
             return Some(Refusal::Gone);
         };
-        if !record.made.is_root() {
+        if !record.is_root() {
             return Some(Refusal::NotRoot);
         }
         None

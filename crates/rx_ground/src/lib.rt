@@ -72,7 +72,7 @@ mod route;
 mod settle;
 mod write;
 
-pub use base::{Ground, Record, Wanted};
+pub use base::{Ground, Wanted};
 pub use hubs::Found;
 pub use leases::LeaseKey;
 pub use route::{Reach, Way};

@@ -32,7 +32,7 @@ impl<R: Resource> Ground<R> {
         ensures { result ≡ at (connects_up_to_in hub) self.now.register.history node.number }
     {
         match self.told(node) {
-            Some(record) => connects_up_to(hub, record.made),
+            Some(record) => connects_up_to(hub, record.made()),
             None => false,
         }
     }

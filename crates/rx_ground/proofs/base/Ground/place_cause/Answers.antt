@@ -12,4 +12,4 @@ returns-then-is_used-clause-some g c =
     let wrong : is_wrong_place h c.args.place ≡ false = search (rules, wrong_at) in
     taken_first b _ c.args.place (search rules)
     (ap (λ (o : Option ℕ). option_map_or (λ n. not (is_open h n)) o false) named ∙ ap not is.alive) wrong
-    (taken_at b.register.base h c.args.place c.in-Some.key.number c.in-Some-told.record.marks named is.marks ∙ sym c.is_used.ensures ∙ c.if-is_used.true)
+    (taken_at b.register.base h c.args.place c.in-Some.key.number c.in-Some-told.record.now.node.marks named is.marks ∙ sym c.is_used.ensures ∙ c.if-is_used.true)
