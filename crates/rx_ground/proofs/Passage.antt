@@ -6,7 +6,7 @@ use Rattle.rx_ground.proofs.Common.{Marks, Event, Item, told, is_projection, mai
 use Rattle.rx_ground.proofs.Common.{IsSound, AreApart, Rewrites, with_marks, cases_key, some_of, owed_rewritten, Stop, Delivery, Projection, Firing, Connection}
 use Rattle.rx_ground.proofs.Common.{numbered, Hub, stop_made, stop_of-found, above_found, find_hub, Route, IsOrdered, IsUnderWay, Arrives, stops_left, IsWalk}
 use Rattle.rx_ground.proofs.Common.{subscribers_of, onward_over, visited_over, arrival, arrival_at, stops_over, all_stops_told, AreRecords, IsOrdered-walk}
-use Rattle.rx_ground.proofs.Common.{Remarks, ArePassed, IsPassing, IsThere, IsMarkedAt, owed_at, told_at, mail_at, sum_at}
+use Rattle.rx_ground.proofs.Common.{MakesOnly, Remarks, ArePassed, IsPassing, IsThere, IsMarkedAt, owed_at, told_at, mail_at, sum_at}
 use Rattle.rx_event.specs.Climb.{Stop as NumberedStop, Delivery as DeliveryTo, Projection as ProjectionTo, Firing as FiringOf, stops}
 use Rattle.rx_event.specs.Marks.{after_projection, after_firing}
 use Rattle.rx_register.specs.State.{State as Register}
@@ -346,3 +346,8 @@ module _ {T : Type 0} (first : Register) (start : Tree T) (hubs : List Hub) (lea
         resources = further.resources;
         owed = let b = further.owed in let c = is.owed_is in omega arith;
       }
+
+-- the stop of an item that makes just one
+pub only_stop : (nodes : Slots Node) (hubs : List Hub) (leaf : Key) {only : Option Stop} {stop : Stop} → only ≡ Some stop →
+    MakesOnly nodes hubs leaf only → stops_over nodes hubs leaf ≡ stop ∷ []
+only_stop nodes hubs leaf is makes = subst (λ (o : Option Stop). MakesOnly nodes hubs leaf o) is makes

@@ -1,9 +1,9 @@
 -- Where an item goes by a tree and hubs is where it goes by their history, and what it wants there.
-use Rattle.rx_ground.proofs.Common.{◌≡◌, ℕ, ℤ, Bool, cond, count_by, ◌+◌, true, false, nat_lt, List, [], ◌∷◌, length, Option, Some, None, IsSome, IfSome, sym}
-use Rattle.rx_ground.proofs.Common.{is_some, option_map, refl, ap, ◌∙◌, arith, not, filter_map, option_map_or, sum_by-cons, same_Some, none-some, Kept, Event}
+use Rattle.rx_ground.proofs.Common.{◌≡◌, ℕ, ℤ, Bool, cond, count_by, ◌+◌, true, false, nat_lt, List, [], ◌∷◌, length, Option, Some, None, IsSome, sym}
+use Rattle.rx_ground.proofs.Common.{is_some, refl, ap, ◌∙◌, arith, not, filter_map, option_map_or, sum_by-cons, Kept, Event}
 use Rattle.rx_ground.proofs.Common.{Ghosts, is_leaf, at, is_open, is_projection, told, Emitting, Full, Gone, WrongKind, TooMany, first_cause, is_over, Key}
 use Rattle.rx_ground.proofs.Common.{most_visits, Slots, find, Node, Tree, IsSound, Stop, Delivery, Projection, Firing, Connection, numbered, Hub, Hubs, Reach}
-use Rattle.rx_ground.proofs.Common.{IsWalk, stops_over, all_stops_told, found_hub, Way, AreRecords, AreTied, IsReach, IsMeasured, owed_at, told_at, sum_at}
+use Rattle.rx_ground.proofs.Common.{IsWalk, climb_over, stops_over, all_stops_told, visits_told, found_hub, AreRecords, AreTied, IsReach, IsMeasured, owed_at, told_at, sum_at}
 use Rattle.rx_event.specs.declared.refusal.Refusal.{Refusal}
 use Rattle.rx_event.specs.Causes.{causes, by_key}
 use Rattle.rx_event.specs.Climb.{Stop as NumberedStop, stops, visits}
@@ -46,12 +46,12 @@ reach_told {base} h nodes hubs key walk there reach is = record {
     same : stops h key.number ≡ filter_map numbered (stops_over nodes hubs key)
     same = all_stops_told base h nodes hubs key walk there
 
--- so of what is measured, if anything is
-pub all_reach_told : {base : Kept} → (h : List Event) (nodes : Slots Node) (hubs : List Hub) (key : Key) → IsWalk base h nodes hubs →
-    IsSome (find nodes key) → (measured : Option Way) → IfSome measured (λ way. IsMeasured (stops_over nodes hubs key) way.reach) →
-    IfSome measured (λ way. IsReach h nodes key way.reach)
-all_reach_told h nodes hubs key walk there None is = tt
-all_reach_told h nodes hubs key walk there (Some way) is = reach_told h nodes hubs key walk there way.reach is
+-- and so are the visits
+pub narrow_told : (base : Kept) (h : List Event) (nodes : Slots Node) (hubs : List Hub) (key : Key) (narrow : Bool) → IsWalk base h nodes hubs →
+    IsSome (find nodes key) → narrow ≡ not (nat_lt most_visits (length (climb_over nodes hubs key))) →
+    narrow ≡ not (nat_lt most_visits (visits h key.number))
+narrow_told base h nodes hubs key narrow walk there is =
+    is ∙ ap (λ (n : ℕ). not (nat_lt most_visits n)) (sym (visits_told base h nodes hubs key walk there))
 
 -- refusals ----------------------------------------------------------------------------------------
 
@@ -73,31 +73,24 @@ first_cause-emitting base x1 h limit n value = search rules
 test_is : (wide b : Bool) → b ≡ not wide → wide ≡ not b
 test_is x0 b e = search (rules, not)
 
-node_made : (made : Event) (o : Option Node) → Some made ≡ option_map (λ node. node.made) o → (x : Node) × (o ≡ Some x) × (x.made ≡ made)
-node_made made x1 at_none = search (rules, none-some, same_Some)
-
--- at a key that finds a record
-abbrev pub IsMadeBy : Slots Node → Key → Event → Type 0
-IsMadeBy nodes key made = Some made ≡ option_map (λ node. node.made) (find nodes key)
-
+-- at a key that finds this record
 module _ (base : Kept) (h : List Event) (limit : ℕ) (nodes : Slots Node) (chain : List Key) (records : AreRecords base h nodes chain) (key : Key) (value : ℤ)
-    (made : Event) (at_made : IsMadeBy nodes key made) where
-  row : (b : Bool) → b ≡ is_leaf made → cause_of base h limit nodes key value ≡ cond (not b) (Some WrongKind) (by_limits base h limit key.number)
+    (node : Node) (found : Some node ≡ find nodes key) where
+  row : (b : Bool) → b ≡ is_leaf node.made → cause_of base h limit nodes key value ≡ cond (not b) (Some WrongKind) (by_limits base h limit key.number)
   row b is =
-      let node = node_made made (find nodes key) at_made in
-      let record_at = records.each key node.0 node.1 in
-      let known : is_some (find nodes key) ≡ true = ap is_some node.1 in
-      let made_is = record_at.made ∙ ap (λ e. Some e) node.2 in
-      let kind : at is_leaf h key.number ≡ is_leaf made = ap (λ (o : Option Event). option_map_or is_leaf o false) made_is in
+      let record_at = records.each key node (sym found) in
+      let known : is_some (find nodes key) ≡ true = ap is_some (sym found) in
+      let kind : at is_leaf h key.number ≡ is_leaf node.made = ap (λ (o : Option Event). option_map_or is_leaf o false) record_at.made in
       first_cause-emitting base (is_some (find nodes key)) h limit key.number value ∙ rw (known, record_at.alive, kind, ← is) refl
 
-  pub cause_of-no_leaf : false ≡ is_leaf made → cause_of base h limit nodes key value ≡ Some WrongKind
+  pub cause_of-no_leaf : false ≡ is_leaf node.made → cause_of base h limit nodes key value ≡ Some WrongKind
   cause_of-no_leaf other = row false other
 
-  pub cause_of-visits : true ≡ is_leaf made → false ≡ not (nat_lt most_visits (visits h key.number)) → cause_of base h limit nodes key value ≡ Some TooMany
+  pub cause_of-visits : true ≡ is_leaf node.made → false ≡ not (nat_lt most_visits (visits h key.number)) →
+      cause_of base h limit nodes key value ≡ Some TooMany
   cause_of-visits leaf wide = let many = test_is _ false wide in row true leaf ∙ rw many refl
 
   -- the room decides last
-  pub cause_of-room : (reach : Reach) (full : Bool) → true ≡ is_leaf made → true ≡ not (nat_lt most_visits (visits h key.number)) →
+  pub cause_of-room : (reach : Reach) (full : Bool) → true ≡ is_leaf node.made → true ≡ not (nat_lt most_visits (visits h key.number)) →
       IsReach h nodes key reach → full ≡ is_over base h limit reach.events → cause_of base h limit nodes key value ≡ cond full (Some Full) None
   cause_of-room reach full leaf narrow reached room = let few = test_is _ true narrow in row true leaf ∙ rw (few, ← reached.events, ← room) refl

@@ -48,25 +48,25 @@ pub struct Way {
     pub only: Option<Stop>,
 }
 
-/// How many answers an item is owed that stops there.
+/// What an item wants that stops there, its own event not counted.
 #[inline(always)]
-fn owed_at(stop: Stop) -> u64
-    ensures { result ≡ owed_at stop }
+fn reach_at(stop: Stop) -> Reach
+    ensures events { result.events ≡ owed_at stop }
+    ensures notes { result.notes ≡ told_at stop }
 {
     match stop {
-        Stop::Projection(_) => 1,
-        Stop::Delivery(_) | Stop::Firing(_) | Stop::Connection(_) => 0,
-    }
-}
-
-/// How many notes an item tells that stops there.
-#[inline(always)]
-fn told_at(stop: Stop) -> u64
-    ensures { result ≡ told_at stop }
-{
-    match stop {
-        Stop::Projection(_) | Stop::Delivery(_) => 1,
-        Stop::Firing(_) | Stop::Connection(_) => 0,
+        Stop::Delivery(_) => Reach {
+            events: 0,
+            notes: 1,
+        },
+        Stop::Projection(_) => Reach {
+            events: 1,
+            notes: 1,
+        },
+        Stop::Firing(_) | Stop::Connection(_) => Reach {
+            events: 0,
+            notes: 0,
+        },
     }
 }
 
@@ -113,8 +113,9 @@ fn measure_over<R: Resource>(tree: &Tree<R>, hubs: &Hubs, route: &mut Route, nod
     let mut is_first = true;
     let mut only = None;
     while let Some(stop) = route.next(tree, hubs) {
-        events += owed_at(stop);
-        notes += told_at(stop);
+        let more = reach_at(stop);
+        events += more.events;
+        notes += more.notes;
         only = if_first(is_first, stop);
         is_first = false;
     }
@@ -142,12 +143,11 @@ fn measure<R: Resource>(tree: &Tree<R>, hubs: &Hubs, route: &mut Route, node: Ke
     }
     match arrived(reached) {
         Some(stop) => {
-            let owed = owed_at(stop);
-            let told = told_at(stop);
+            let more = reach_at(stop);
             Some(Way {
                 reach: Reach {
-                    events: 1 + owed,
-                    notes: told,
+                    events: 1 + more.events,
+                    notes: more.notes,
                 },
                 only: Some(stop),
             })
@@ -162,19 +162,6 @@ fn measure<R: Resource>(tree: &Tree<R>, hubs: &Hubs, route: &mut Route, node: Ke
     }
 }
 
-/// The note of an item that stops there.
-#[inline(always)]
-fn mail_at(place: u64, value: i64, stop: Stop) -> Option<Mail>
-    ensures { result ≡ mail_at place value stop }
-{
-    let (to, note) = match stop {
-        Stop::Delivery(root) => (root.number, Note::Next(value)),
-        Stop::Projection(merging) => (merging.number, Note::Project(value)),
-        Stop::Firing(_) | Stop::Connection(_) => return None,
-    };
-    Some(Mail { place, to, note })
-}
-
 /// Tells of an item at one of its stops: a root is told it, and a FlatMap or a Switch to project it.
 #[inline(always)]
 fn tell_at(register: &mut Register, stop: Stop, value: i64)
@@ -184,29 +171,13 @@ fn tell_at(register: &mut Register, stop: Stop, value: i64)
         register.old.pending ++ option_to_list (mail_at (length register.old.history) value stop) }
     ensures mail_room { register.old.mail_room ≡ register.new.mail_room + told_at stop }
 {
-    if let Some(mail) = mail_at(register.len(), value, stop) {
-        register.tell(mail);
-    }
-}
-
-/// Marks a FlatMap or a Switch as one to which an item was projected. By that it has not to end.
-#[inline(always)]
-fn mark_projection<R: Resource>(tree: &mut Tree<R>, merging: Key)
-    requires open { IsSome (find tree.old.nodes merging) }
-    requires countable { owed_in tree.old.nodes < 9223372036854775808 }
-    requires quiet { is_on merging tree.old.chain ≡ false → IsUndue tree.old.nodes merging }
-    ensures { Remarks tree.old tree.new merging after_projection }
-{
-    tree.mark_projection(merging);
-}
-
-/// Marks a TakeUntil as one that an item fired.
-#[inline(always)]
-fn mark_firing<R: Resource>(tree: &mut Tree<R>, until: Key)
-    requires open { IsSome (find tree.old.nodes until) }
-    ensures { Remarks tree.old tree.new until after_firing }
-{
-    tree.mark_firing(until);
+    let (to, note) = match stop {
+        Stop::Delivery(root) => (root.number, Note::Next(value)),
+        Stop::Projection(merging) => (merging.number, Note::Project(value)),
+        Stop::Firing(_) | Stop::Connection(_) => return,
+    };
+    let place = register.len();
+    register.tell(Mail { place, to, note });
 }
 
 /// Marks the node at which an item stops.
@@ -218,8 +189,8 @@ fn mark_at<R: Resource>(tree: &mut Tree<R>, stop: Stop)
     ensures { IsMarkedAt stop tree.old tree.new }
 {
     match stop {
-        Stop::Projection(merging) => mark_projection(tree, merging),
-        Stop::Firing(until) => mark_firing(tree, until),
+        Stop::Projection(merging) => tree.mark_projection(merging),
+        Stop::Firing(until) => tree.mark_firing(until),
         // Two tests for two stops: a table of all four costs each item more.
         _ => {}
     }
@@ -253,30 +224,6 @@ fn pass_on<R: Resource>(
     }
 }
 
-/// Takes an item its way that makes this stop and no other.
-#[inline(always)]
-fn pass_one<R: Resource>(
-    register: &mut Register,
-    tree: &mut Tree<R>,
-    _hubs: &Hubs,
-    only: Stop,
-    _leaf: Key,
-    value: i64,
-)
-    requires lawful { IsLawful register.old.base register.old.history }
-    requires walk { IsWalk register.old.base register.old.history tree.old.nodes _hubs.now.hubs }
-    requires records { AreRecords register.old.base register.old.history tree.old.nodes tree.old.chain }
-    requires open { IsSome (find tree.old.nodes _leaf) }
-    requires notes { length (mail_of register.old.history (Event.Item _leaf.number value)) ≤ register.old.mail_room }
-    requires pending { register.old.pending ≡ [] }
-    requires only { stops_over tree.old.nodes _hubs.now.hubs _leaf ≡ only ∷ [] }
-    requires countable { owed_in tree.old.nodes ≤ 4503608216256510 }
-    ensures { IsPassing register.old tree.old _leaf.number value register.new tree.new [] }
-{
-    tell_at(register, only, value);
-    mark_at(tree, only);
-}
-
 /// Takes an item its way, where it is known whether that has just one stop: then without a walk.
 #[inline(always)]
 pub(crate) fn pass<R: Resource>(
@@ -301,28 +248,15 @@ pub(crate) fn pass<R: Resource>(
     ensures room { route.new.room ≡ route.old.room }
 {
     match only {
-        Some(stop) => pass_one(register, tree, hubs, stop, leaf, value),
+        Some(one) => {
+            tell_at(register, one, value);
+            mark_at(tree, one);
+        }
         None => pass_on(register, tree, hubs, route, leaf, value),
     }
 }
 
 impl<R: Resource> Ground<R> {
-    /// What an item of this node wants, and its stop where it makes just one; None where it would make more visits
-    /// than it may.
-    #[inline(always)]
-    fn measured(&mut self, node: Key) -> Option<Way>
-        requires standing { IsStanding R.Resource self.old }
-        requires open { IsSome (find self.old.tree.nodes node) }
-        ensures kept { self.new ≡ self.old }
-        ensures reach { IfSome result (λ way. IsReach self.old.register.history self.old.tree.nodes node way.reach) }
-        ensures only { IfSome result (λ way. MakesOnly self.old.tree.nodes self.old.hubs.hubs node way.only) }
-        ensures visits { is_some result ≡ not (nat_lt most_visits (visits self.old.register.history node.number)) }
-    {
-        self.register.promise();
-        self.tree.promise();
-        measure(&self.tree, &self.hubs, &mut self.route, node)
-    }
-
     /// What an item of this leaf wants, or what stands first against it: `TooMany` counts the visits of its
     /// whole way over all hubs, and `Full` the item's event, and one more for each time that a FlatMap or a
     /// Switch projects it. With it comes its stop, where it makes just one. Nothing changes.
@@ -335,13 +269,15 @@ impl<R: Resource> Ground<R> {
         ensures none { OnOk result (first_at self.old leaf (Emitting leaf.number value) ≡ None) }
         ensures first { IfErr result (λ why. first_at self.old leaf (Emitting leaf.number value) ≡ Some why) }
     {
-        let Some(made) = self.tree.made(leaf) else {
+        let Some(record) = self.tree.get(leaf) else {
             return Err(Refusal::Gone);
         };
-        if !made.is_leaf() {
+        if !record.is_leaf() {
             return Err(Refusal::WrongKind);
         }
-        let Some(way) = self.measured(leaf) else {
+        self.register.promise();
+        self.tree.promise();
+        let Some(way) = measure(&self.tree, &self.hubs, &mut self.route, leaf) else {
             return Err(Refusal::TooMany);
         };
         if self.is_over(way.reach.events) {

@@ -1,4 +1,10 @@
+use Rattle.rx_ground.proofs.MarksMakeNothingDue.{projection_undue, remarks_undue}
+use Rattle.rx_ground.proofs.TiedWhileSettling.{found_marked}
 use Rattle.rx_ground.proofs.route.mark_at.Goals as goal
+use Rattle.std.proofs.Common.{rules}
 
-pub mark_projection-requires-clause-quiet : goal.mark_projection-requires-clause-quiet
-mark_projection-requires-clause-quiet g c κs within = c.requires.quiet c.in-Projection.merging
+pub returns-in-Projection : goal.returns-in-Projection
+returns-in-Projection g c = search (rules, remarks_undue, projection_undue)
+
+pub returns-in-Firing : goal.returns-in-Firing
+returns-in-Firing g c = search (rules, found_marked)
