@@ -1,11 +1,11 @@
 -- A call is let in: nothing stands against it, and its cost is room that was gotten.
-use Rattle.rx_book.proofs.Common.{◌≡◌, ◌≤◌, cond, List, [], Bool, Option, Some, None, IfSome, sym, ap, subst, ◌∙◌, arith, ℤ}
-use Rattle.rx_book.proofs.Common.{Ghosts, Refusal, Full, Kind, Event, Emitting, first_cause, Slots, Node, causes, added_by, is_over, Wanted}
+use Rattle.rx_book.proofs.Common.{◌≡◌, ◌+◌, ◌≤◌, cond, length, List, [], Bool, true, Option, Some, None, IfSome, refl, sym, ap, subst, ◌∙◌, arith}
+use Rattle.rx_book.proofs.Common.{ℤ, Ghosts, Refusal, Full, Kind, Event, Emitting, first_cause, debt, causes, added_by, is_over, Wanted}
 use Rattle.rx_book.proofs.Common.{nodes_opened, HasRoomFor, notes_added, Reach, cost_of, IsReach, Ground, IsStanding, IsRoomier, HasRoomBeside, State, stands}
-use Rattle.rx_book.proofs.Common.{Request, IsRefusalOf, state_of, IsLetIn, IsAdmitted, IsWithin, Admits}
+use Rattle.rx_book.proofs.Common.{Request, IsRefusalOf, state_of, IsLetIn, IsAdmitted, IsWithin, Admits, HasRoomToTell}
 use Rattle.rx_slots.specs.declared.Key.{Key}
 use Rattle.rx_register.specs.Claims.{IsReady as IsReadyFor}
-use Rattle.rx_register.specs.State.{IsPromised}
+use Rattle.rx_register.specs.State.{State as Register, IsPromised}
 use Rattle.rx_ground.specs.Told.{IsFound}
 use Rattle.rx_ground.specs.declared.hubs.Found.{Found}
 use Rattle.rx_book.proofs.CallWithoutCause.{let_in, within_full, state_roomier}
@@ -82,7 +82,23 @@ module _ {T : Type 0} {g : Ghosts T} {old new : Ground T} {cause : Option Refusa
         room = subst (λ (x : Wanted). HasRoomBeside new x) is_now has;
       }
 
--- the cost of an item, by what it reaches
-pub item_cost : (h : List Event) (nodes : Slots Node) (leaf : Key) (value : ℤ) (reach : Reach) → IsReach h nodes leaf reach →
-    record { events = reach.events; notes = reach.notes; nodes = 0; resources = 0; hubs = 0; leases = 0 } ≡ cost_of h (Emitting leaf.number value)
-item_cost h nodes leaf value reach is = λ i. record { events = is.events i; notes = sym (is.notes value) i; nodes = 0; resources = 0; hubs = 0; leases = 0 }
+-- the limit holds for what an item reaches
+pub item_within : {T : Type 0} (g : Ghosts T) (b : Ground T) (leaf : Key) (known : Bool) (value : ℤ) {reach : Reach} →
+    IsReach b.register.history b.tree.nodes leaf reach →
+    first_cause (stands (state_of g b) (record { call = Emitting leaf.number value; is_known = known; is_fresh = true })) ≡ None →
+    length b.register.history + debt b.register.base b.register.history + reach.events ≤ b.register.base.at_length + b.register.limit
+item_within g b leaf known value is none =
+    let within = within_full b.register.base (Emitting leaf.number value) known true b.register.history b.register.limit refl none in
+    let events = is.events in omega arith
+
+-- and the room that it wants is that of its call
+pub item_room : {T : Type 0} {old mid new : Ground T} (leaf : Key) (value : ℤ) {reach : Reach} → IsReach old.register.history old.tree.nodes leaf reach →
+    IsRoomier old mid → HasRoomToTell mid reach.events reach.notes → new ≡ record mid { closed = [] } →
+    HasRoomFor new.register (Emitting leaf.number value)
+item_room {T} {old} {mid} leaf value {reach} is roomier has begun =
+    let call = Emitting leaf.number value in
+    let history : mid.register.history ≡ old.register.history = ap (λ (r : Register). r.history) roomier.register in
+    let added : added_by mid.register.history call ≡ reach.events = ap (λ (h : List Event). added_by h call) history ∙ sym is.events in
+    let noted : notes_added mid.register.history call ≡ reach.notes = ap (λ (h : List Event). notes_added h call) history ∙ is.notes value in
+    subst (λ (b : Ground T). HasRoomFor b.register call) (sym begun)
+    (record { events = let e = has.events in omega arith; notes = let n = has.notes in omega arith })

@@ -49,7 +49,7 @@ pub use Rattle.rx_event.specs.{Refusals.first_cause, Refusals.IsRefusal, Refusal
 pub use Rattle.rx_event.specs.declared.event.Event.TheVariants.{Accept, Close, Open, Take, Lease, Connect, Item, Return}
 pub use Rattle.rx_event.specs.declared.event.Kind.TheVariants.{Pass, Sub, Flat, Leaf, Switch, Until}
 pub use Rattle.rx_event.specs.declared.{mail.Mail.Mail, refusal.Refusal.Refusal}
-pub use Rattle.rx_ground.specs.Ties.{IsStanding, IsTied, AreLeased, IsReady, is_there, AreTied, HasRoomToConnect, HasRoomBeside, IsRoomier, KeepsHeld}
+pub use Rattle.rx_ground.specs.Ties.{IsStanding, IsTied, AreLeased, IsReady, is_there, AreTied, HasRoomToConnect, HasRoomBeside, HasRoomToTell, IsRoomier, KeepsHeld}
 pub use Rattle.rx_ground.specs.Ties.{KeepsOlder, IsListed, IsNewNode, IsStored, KeepsLeases, KeepsNodes}
 pub use Rattle.rx_ground.proofs.Laws.GoneStaysGone.{gathers_quiet, IsFurther, gathers_on, gone_forced, gathers_nothing, gathers_then}
 pub use Rattle.rx_ground.proofs.Laws.GoneStaysGone.{adds_forced, closes_none, closes_on, gone_on}

@@ -1,6 +1,6 @@
 //! Letting a call in: nothing stands against it, and there is room for it.
 
-ghost use Rattle.std.specs.Prelude.{◌≡◌, Bool, None, is_some, IsTrue, IfSome, IfErr, OnOk, OnErr};
+ghost use Rattle.std.specs.Prelude.{◌≡◌, Bool, None, is_some, length, IsTrue, IfSome, IfOk, IfErr, OnOk, OnErr};
 ghost use Rattle.rx_event.specs.declared.refusal.Refusal.{Refusal};
 ghost use Rattle.rx_event.specs.Refusals.{first_cause};
 ghost use Rattle.rx_ground.specs.Ties.{IsRoomier, IsStanding, HasRoomBeside};
@@ -30,17 +30,18 @@ fn get_room<R: Resource>(ground: &mut Ground<R>, cost: Option<Wanted>) -> Result
 }
 
 /// Lets a call in: gets room for it, where nothing stands against it, and begins the list of what it closes.
-/// Refused for what stands first, else for want of memory; then some of the room may have been gotten, and
-/// nothing else changed.
+/// Answers the place of its event. Refused for what stands first, else for want of memory; then some of the room
+/// may have been gotten, and nothing else changed.
 #[inline(always)]
 pub(crate) fn admit<R: Resource>(
     ground: &mut Ground<R>,
     cause: Option<Refusal>,
     cost: Option<Wanted>,
-) -> Result<(), Refusal>
+) -> Result<u64, Refusal>
     requires standing { IsStanding R.Resource ground.old }
     requires within { cause ≡ None → IfSome cost (IsWithin ground.old) }
     ensures ok { OnOk result (Admits R.Resource ground.old cause cost ground.new) }
+    ensures place { IfOk result (λ place. place ≡ length ground.new.register.history) }
     ensures err { (stand : Refusal → Bool) → first_cause stand ≡ cause →
         IfErr result (IsRefusalOf (is_some cost) stand) }
     ensures same { OnErr result (state_of R.Resource ground.new ≡ state_of R.Resource ground.old) }
@@ -50,7 +51,5 @@ pub(crate) fn admit<R: Resource>(
         return Err(why);
     }
     get_room(ground, cost)?;
-    ground.promise();
-    ground.begin();
-    Ok(())
+    Ok(ground.begin())
 }

@@ -193,8 +193,7 @@ impl<R: Resource> Book<R> {
             (request_of self.old call) self.new result }
     {
         let cause = cause_free(&self.ground, call);
-        admit(&mut self.ground, cause, None)?;
-        let place = self.ground.len();
+        let place = admit(&mut self.ground, cause, None)?;
         write_free(&mut self.ground, call);
         self.ground.settle();
         Ok(place)

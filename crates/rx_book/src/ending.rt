@@ -10,10 +10,8 @@ ghost use Rattle.rx_book.specs.Answers.{AnswersPlace, AnswersPlaceOrWant, IsCaus
 ghost use Rattle.rx_book.specs.Courses.{EmitsAll};
 
 use crate::Book;
-use crate::admit::admit;
 use crate::call::Call;
 use rx_event::{Refusal, Terminal};
-use rx_ground::Wanted;
 use rx_resource::Resource;
 use rx_tree::Key;
 
@@ -46,8 +44,9 @@ impl<R: Resource> Book<R> {
         ensures { AnswersPlaceOrWant self.old (next_request self.old leaf value) self.new result }
     {
         let way = self.ground.route(leaf, value)?;
-        admit(&mut self.ground, None, Some(Wanted::of_item(way.reach)))?;
-        let place = self.ground.len();
+        self.ground
+            .make_room_to_tell(way.reach.events, way.reach.notes)?;
+        let place = self.ground.begin();
         self.ground.write_item(leaf, value, way);
         self.ground.settle();
         Ok(place)

@@ -52,7 +52,7 @@ pub use Rattle.rx_event.specs.declared.event.Place.TheVariants.{Source, Notifier
 pub use Rattle.rx_event.specs.declared.refusal.Refusal.TheVariants.{TooMany, Full, Gone, MailLeft, WrongKind}
 pub use Rattle.rx_ground.specs.Ties.{IsTied, AreTied, AreLeased, AreRecords, Remarks, HasKey, IsStored, Cuts, IsStanding, KeepsNodes, AreJoined, KeepsOlder}
 pub use Rattle.rx_ground.specs.Ties.{IsNewNode, AreStored, IsNext, IsReady, IsRoomier, IsUndue, KeepsHeld, KeepsLeases, Moves, SetsAside, is_there}
-pub use Rattle.rx_ground.specs.Ties.{left_inside, opened_marks, HasRoom, HasRoomBeside, HasRoomToConnect, IsLeaseOf, IsListed, WithChain, key_due}
+pub use Rattle.rx_ground.specs.Ties.{left_inside, opened_marks, HasRoom, HasRoomBeside, HasRoomToTell, HasRoomToConnect, IsLeaseOf, IsListed, WithChain, key_due}
 pub use Rattle.rx_event.specs.Gone.{goes, has_gone}
 pub use Rattle.rx_ground.specs.{Checkpoints.IsCheckpoint, Gone.Closes, Gone.Gathers, Gone.GoesFirst, Gone.numbers_of, Memory.TakesNoMemory}
 pub use Rattle.rx_ground.specs.Settling.{Settles}

@@ -40,5 +40,4 @@ mod KeptRecords
 mod StandsAfterCheckpoint
 mod CheckpointMakesBase
 pub mod Laws
-mod NotesBeside
 mod OwnedIsHeld

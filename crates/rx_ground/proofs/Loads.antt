@@ -38,6 +38,12 @@ debt_counted {base} {h} law o w a t k l p = search (rules, accepted_count-parts,
 pub debt_bounded : (s : State) → IsPromised s → IsPaid s → debt s.base s.history ≤ 4294967295
 debt_bounded s promised paid = search rules
 
--- and each open node takes a part of it
+-- each open node takes a part of it
 pub open_count_in_debt : (base : Kept) → (h : List Event) → open_count h ≤ debt base h
 open_count_in_debt base h = let counts = debt-counts base h in omega arith
+
+-- and so they are few
+pub open_bounded : (s : State) → IsPromised s → IsPaid s → open_count s.history ≤ 4294967295
+open_bounded s promised paid =
+    let most = debt_bounded s promised paid in
+    let part = open_count_in_debt s.base s.history in omega arith

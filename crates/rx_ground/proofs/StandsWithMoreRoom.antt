@@ -2,7 +2,7 @@
 use Rattle.rx_ground.proofs.Common.{◌≡◌, ℕ, ◌+◌, ◌≤◌, List, [], get_or, slice_get, Option, None, sym, ap, subst, ◌∙◌, arith, is_some, Result}
 use Rattle.rx_ground.proofs.Common.{OnOk, OnErr, both_ways, false≢true, none-some, Kept, Ghosts, Event, debt, open_count, Connect, IsSettled, Entry}
 use Rattle.rx_ground.proofs.Common.{MayWait, none_waits, connecting, Key, Slots, find, with_number, Node, ResKey, Stowed, store_key, Tree, is_on, Ground}
-use Rattle.rx_ground.proofs.Common.{Hubs, HasKey, AreRecords, IsStored, IsTied, AreTied, AreLeased, IsStanding, IsRoomier, SetsAside, HasRoom, HasRoomBeside}
+use Rattle.rx_ground.proofs.Common.{Hubs, HasKey, AreRecords, IsStored, IsTied, AreTied, AreLeased, IsStanding, IsRoomier, SetsAside, HasRoom, HasRoomBeside, HasRoomToTell}
 use Rattle.rx_event.proofs.Laws.Openness.{is_open_past}
 use Rattle.rx_register.specs.State.{State as Register}
 use Rattle.rx_register.proofs.Laws.Empty.{settled_empty, paid_empty}
@@ -147,14 +147,47 @@ module _ {T : Type 0} where
   pub roomier_after_aside : (old mid new : Ground T) → SetsAside old mid → IsRoomier mid new → IsRoomier old new
   roomier_after_aside old mid new aside more = search rules
 
-  -- room beside what closing everything needs, of which that for the events was set aside before
-  pub has_beside : (old new : Ground T) (wanted : Wanted) {alive : ℕ} → alive ≡ open_count old.register.history → IsRoomier old new →
-      old.register.room ≤ new.register.room → debt old.register.base old.register.history + wanted.events ≤ old.register.room → HasRoom new (record {
-        events = 0;
-        notes = alive + wanted.notes;
-        nodes = wanted.nodes;
-        resources = wanted.resources;
-        hubs = wanted.hubs;
-        leases = wanted.leases;
-      }) → HasRoomBeside new wanted
-  has_beside old new wanted nodes more room events has = search rules
+  -- and then room for more notes
+  pub roomier_mail : (old : Ground T) (register : Register) → register ≡ record old.register { mail_room = register.mail_room } →
+      old.register.mail_room ≤ register.mail_room → IsRoomier old (record old { register = register })
+  roomier_mail old register kept more = search rules
+
+  pub standing_mail : (g : Ghosts T) (old : Ground T) (register : Register) → register ≡ record old.register { mail_room = register.mail_room } →
+      old.register.mail_room ≤ register.mail_room → IsStanding g old → IsStanding g (record old { register = register })
+  standing_mail g old register kept more s =
+      let paid = s.paid.events in
+      let room = ap (λ (r : Register). r.room) kept in
+      standing_roomier g old (record old { register = register }) (roomier_mail old register kept more) (omega arith) s
+
+  -- and then more room of any kind
+  pub roomier_on : (old mid new : Ground T) → IsRoomier old mid → IsRoomier mid new → IsRoomier old new
+  roomier_on old mid new first then = record {
+    register = then.register ∙ ap (λ (r : Register). record r { room = new.register.room; mail_room = new.register.mail_room }) first.register;
+    mail_room = let a = first.mail_room in let b = then.mail_room in omega arith;
+    nodes = then.nodes ∙ ap (λ (s : Slots Node). record s { room = new.tree.nodes.room }) first.nodes;
+    resources = then.resources ∙ ap (λ (s : Slots (Stowed T)). record s { room = new.tree.resources.room }) first.resources;
+    chain = then.chain ∙ first.chain;
+    hubs = then.hubs ∙ ap (λ (hs : Hubs). record hs { room = new.hubs.room; slots = new.hubs.slots }) first.hubs;
+    leases = then.leases ∙ ap (λ (s : Slots ResKey). record s { room = new.leases.room }) first.leases;
+    closed = then.closed ∙ first.closed;
+  }
+
+  -- room beside what closing everything needs, of which that for the events and the notes was gotten before
+  pub has_beside : (old new : Ground T) (wanted : Wanted) → IsRoomier old new → old.register.room ≤ new.register.room →
+      HasRoomToTell old wanted.events wanted.notes → HasRoom new (record wanted { events = 0; notes = 0 }) → HasRoomBeside new wanted
+  has_beside old new wanted more room tells has =
+      let events = tells.events in
+      let notes = tells.notes in
+      let mail = more.mail_room in
+      let owing = ap (λ (r : Register). debt r.base r.history) more.register in
+      let alive = ap (λ (r : Register). open_count r.history) more.register in
+      record {
+        events = omega arith;
+        notes = omega arith;
+        nodes = has.nodes;
+        space = has.space;
+        resources = has.resources;
+        hubs = has.hubs;
+        slots = has.slots;
+        leases = has.leases;
+      }

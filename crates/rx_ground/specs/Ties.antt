@@ -161,6 +161,11 @@ module _ {T : Type 0} where
     pub slots : 0 < length b.hubs.hubs → b.tree.nodes.count + b.tree.nodes.room ≤ b.hubs.slots
     pub leases : wanted.leases ≤ b.leases.room
 
+  -- there is room for so many events and notes beside what closing everything needs
+  pub record HasRoomToTell (b : Ground T) (written told : ℕ) : Type 0 where
+    pub events : debt b.register.base b.register.history + written ≤ b.register.room
+    pub notes : open_count b.register.history + told ≤ b.register.mail_room
+
   -- there is room for what a call wants beside what closing everything needs
   pub record HasRoomBeside (b : Ground T) (wanted : Wanted) : Type 0 where
     pub events : debt b.register.base b.register.history + wanted.events ≤ b.register.room

@@ -240,12 +240,16 @@ impl<R: Resource> Ground<R> {
     }
 
     /// Begins the list of what is closed anew. A caller does so before it writes an event from outside, so that
-    /// the list then has what that event closed, and what it forced.
+    /// the list then has what that event closed, and what it forced; answers the place of that event.
     #[inline(always)]
-    pub fn begin(&mut self)
-        ensures { self.new ≡ record self.old { closed = [] } }
+    pub fn begin(&mut self) -> u64
+        ensures begun { self.new ≡ record self.old { closed = [] } }
+        ensures place { result ≡ length self.new.register.history }
+        ensures promised { IsRegisterPromised self.new.register }
     {
         self.closed.clear();
+        self.register.promise();
+        self.register.len()
     }
 
     /// How many nodes were closed since the list was last begun.

@@ -9,7 +9,6 @@ ghost use Rattle.rx_ground.specs.OpeningHolding.{opening_holding_cost};
 ghost use Rattle.rx_event.specs.Causes.{forces_connect};
 
 use crate::base::Wanted;
-use crate::route::Reach;
 use rx_event::{Kind, Place};
 
 /// How many events the end of a node at this place has to be given, when it is opened: 0 for an inner,
@@ -84,21 +83,6 @@ impl Wanted {
             resources: 0,
             hubs: 0,
             leases: 1,
-        }
-    }
-
-    /// Of an item, by what it reaches.
-    #[inline(always)]
-    pub fn of_item(reach: Reach) -> Self
-        ensures { result ≡ record { events = reach.events; notes = reach.notes; nodes = 0; resources = 0; hubs = 0; leases = 0 } }
-    {
-        Wanted {
-            events: reach.events,
-            notes: reach.notes,
-            nodes: 0,
-            resources: 0,
-            hubs: 0,
-            leases: 0,
         }
     }
 

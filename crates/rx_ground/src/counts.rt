@@ -11,7 +11,7 @@ ghost use Rattle.rx_tree.specs.Tree.{IsFirst, IsRoot, HasNone};
 ghost use Rattle.rx_tree.specs.Resources.{is_held_at, is_owned_at};
 ghost use Rattle.rx_ground.specs.Leases.{IsOut, is_out_at, lease_key};
 ghost use Rattle.rx_register.specs.State.{IsLoadOf};
-ghost use Rattle.rx_ground.specs.Ties.{IsStanding, IsRoomier, HasRoomBeside, SetsAside};
+ghost use Rattle.rx_ground.specs.Ties.{IsStanding, IsRoomier, HasRoomBeside, HasRoomToTell, SetsAside};
 ghost use Rattle.rx_ground.specs.Memory.{HasNoRoom};
 
 use crate::base::{Ground, Wanted};
@@ -22,19 +22,6 @@ use rx_register::{Load, Register};
 use rx_resource::Resource;
 use rx_tree::{Key, ResKey, Tree};
 use std::alloc::{AllocError, Global};
-
-// How many notes a call wants room for with those of closing everything; none where it tells none, since room for
-// those was gotten before.
-#[inline(always)]
-fn notes_beside(kept: u64, notes: u64) -> u64
-    requires { kept + notes < 2 ^ 64 }
-    ensures { 0 < notes → result ≡ kept + notes }
-{
-    if notes == 0 {
-        return 0;
-    }
-    kept + notes
-}
 
 impl<R: Resource> Ground<R> {
     /// With no events, and of at most `limit` since the base, which is at most 4,294,967,295. It takes no
@@ -218,32 +205,54 @@ impl<R: Resource> Ground<R> {
         ensures kept { IsRoomier self.old self.new }
         ensures standing { IsStanding R.Resource self.new }
     {
-        match self.set_aside(wanted.events) {
+        match self.make_room_to_tell(wanted.events, wanted.notes) {
             Ok(()) => self.make_rest(wanted),
+            Err(why) => Err(why),
+        }
+    }
+
+    /// Gets room for so many events and notes alone, beside what is kept for closing everything. Where no note is
+    /// told, none is asked for.
+    #[inline(always)]
+    pub fn make_room_to_tell(&mut self, events: u64, notes: u64) -> Result<(), Refusal>
+        requires standing { IsStanding R.Resource self.old }
+        requires within { length self.old.register.history + debt self.old.register.base self.old.register.history + events ≤
+            self.old.register.base.at_length + self.old.register.limit }
+        requires notes { notes ≤ 4294967295 }
+        ensures ok { OnOk result (HasRoomToTell self.new events notes) }
+        ensures err { IfErr result (λ why. why ≡ Refusal.NoMemory) }
+        ensures kept { IsRoomier self.old self.new }
+        ensures standing { IsStanding R.Resource self.new }
+    {
+        let Ok(()) = self.set_aside(events) else {
+            return Err(Refusal::NoMemory);
+        };
+        if notes == 0 {
+            return Ok(());
+        }
+        self.register.promise();
+        let open = self.open_count();
+        match self.register.reserve_mail((open + notes) as usize) {
+            Ok(()) => Ok(()),
             Err(_) => Err(Refusal::NoMemory),
         }
     }
 
-    // The same where room for the events is set aside.
+    // Room for the rest of what a call wants.
     #[inline(always)]
     fn make_rest(&mut self, wanted: Wanted) -> Result<(), Refusal>
         requires standing { IsStanding R.Resource self.old }
-        requires events { debt self.old.register.base self.old.register.history + wanted.events ≤ self.old.register.room }
-        requires notes { wanted.notes ≤ 4294967295 }
+        requires tells { HasRoomToTell self.old wanted.events wanted.notes }
         ensures ok { OnOk result (HasRoomBeside self.new wanted) }
         ensures err { IfErr result (λ why. why ≡ Refusal.NoMemory) }
         ensures kept { IsRoomier self.old self.new }
         ensures standing { IsStanding R.Resource self.new }
     {
         self.promise();
-        let open = self.open_count();
         let rest = Wanted {
             events: 0,
-            notes: notes_beside(open, wanted.notes),
-            nodes: wanted.nodes,
-            resources: wanted.resources,
-            hubs: wanted.hubs,
-            leases: wanted.leases,
+            notes: 0,
+            ..wanted
         };
         match self.reserve(rest) {
             Ok(()) => Ok(()),

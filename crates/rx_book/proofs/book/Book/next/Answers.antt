@@ -1,29 +1,36 @@
-use Rattle.rx_book.proofs.Common.{true, None, Some, [], refl, sym, ap, subst, ◌∙◌, inl, w64, Ok, to_z-of_z, Emitting, MakesOnly}
-use Rattle.rx_book.proofs.Common.{IsStanding, State, next_request, stands, state_of, IsLetIn, Admits}
+use Rattle.rx_book.proofs.Common.{None, true, [], refl, sym, ap, subst, ◌∙◌, inl, inr, w64, arith, Ok, to_z-of_z, Emitting, MakesOnly}
+use Rattle.rx_book.proofs.Common.{IsStanding, IsRoomier, Ground, State, next_request, state_of, IsLetIn, Admits}
 use Rattle.rx_ground.proofs.Laws.OneStop.{MakesOnly-roomier}
+use Rattle.rx_register.specs.State.{IsPromised}
 use Rattle.rx_book.specs.Answers.{AnswersPlaceOrWant}
-use Rattle.rx_book.proofs.Admitted.{admitted_as, state_admitted, within_limit, item_cost}
+use Rattle.rx_book.proofs.Admitted.{admits, admitted_let_in, state_admitted, item_within, item_room}
 use Rattle.rx_book.proofs.CausesByKey.{first_of_node}
 use Rattle.rx_book.proofs.AnswersOkOrErr.{answers_ok, passed_refusal}
-use Rattle.rx_book.proofs.CallWithoutCause.{one_ready, pays, connects_none, accepts}
+use Rattle.rx_book.proofs.CallWithoutCause.{one_ready, pays, connects_none, accepts, state_roomier}
 use Rattle.rx_book.proofs.ListOfClosed.{answers_begun, begun_at}
 use Rattle.rx_book.proofs.book.Book.next.Given as given
 use Rattle.rx_book.proofs.book.Book.next.Goals as goal
-use Rattle.rx_book.proofs.book.Book.next.Goals.{In_ok-admit}
+use Rattle.rx_book.proofs.book.Book.next.Goals.{After-begin-place}
 use Rattle.std.proofs.Common.{rules}
 
-admitted : (g : given.Over) (c : In_ok-admit g) → Admits g.R.Resource c.self.inside.ground None (Some c.of_item.result) c.admit.new.ground
-admitted g c = search (rules, Admits)
+admitted : (g : given.Over) (c : After-begin-place g) → Admits g.R.Resource c.self.inside.ground None None c.begin-place.new.self
+admitted g c =
+    let mid = c.make_room_to_tell.new.self in
+    let e = c.make_room_to_tell.ensures in
+    let roomier = subst (λ (b : Ground g.row.R.Denot). IsRoomier b mid) c.in_ok-way.ensures.kept e.kept in
+    let begun = c.begin-place.ensures.begun in
+    let promised = subst (λ (b : Ground g.row.R.Denot). IsPromised b.register) begun c.begin-place.ensures.promised in
+    admits None refl roomier e.standing promised tt begun
 
-called : (g : given.Over) (c : In_ok-admit g) → (let b = c.admit.new.ground in
+called : (g : given.Over) (c : After-begin-place g) → (let b = c.begin-place.new.self in
     IsLetIn g.R.Resource b (next_request (state_of g.R.Resource b) c.args.leaf c.args.value))
 called g c =
-    let b = c.self.inside.ground in
     let told = rw (to_z-of_z w64 c.args.value c.ranges.value) at (sym c.in_ok-way.ensures.none) in
-    let none = first_of_node b true c.args.leaf (λ n. Emitting n c.args.value) told in
-    let is = c.in_ok-way.ensures.ok in
-    let cost = c.of_item.ensures ∙ item_cost b.register.history b.tree.nodes c.args.leaf c.args.value c.in_ok-way.way.reach is in
-    (admitted_as (λ s. next_request s c.args.leaf c.args.value) (λ s. refl) tt none (admitted g c) cost).let_in
+    let none = first_of_node c.self.inside.ground true c.args.leaf (λ n. Emitting n c.args.value) told in
+    let mid = c.make_room_to_tell.new.self in
+    let roomier = subst (λ (b : Ground g.row.R.Denot). IsRoomier b mid) c.in_ok-way.ensures.kept c.make_room_to_tell.ensures.kept in
+    admitted_let_in (λ s. next_request s c.args.leaf c.args.value) (λ s. refl) tt none (admitted g c)
+    (item_room c.args.leaf c.args.value c.in_ok-way.ensures.ok roomier c.in_ok-make_room_to_tell.ensures.ok c.begin-place.ensures.begun)
 
 pub returns-in_err-way : goal.returns-in_err-way
 returns-in_err-way g c =
@@ -32,27 +39,31 @@ returns-in_err-way g c =
     let why = inl (first_of_node c.self.inside.ground true c.args.leaf (λ n. Emitting n c.args.value) told) in
     rw (← c.self.view_is) (passed_refusal c.from_residual.result a.field-0.0 c.from_residual.ensures.1 why (ap (state_of g.R.Resource) a.ensures.kept))
 
-pub admit-requires-clause-standing : goal.admit-requires-clause-standing
-admit-requires-clause-standing g c κs within = subst (IsStanding g.R.Resource) (sym c.in_ok-way.ensures.kept) c.self.invariant
+pub make_room_to_tell-requires-clause-standing : goal.make_room_to_tell-requires-clause-standing
+make_room_to_tell-requires-clause-standing g c κs within = subst (IsStanding g.R.Resource) (sym c.in_ok-way.ensures.kept) c.self.invariant
 
-pub admit-requires-clause-within : goal.admit-requires-clause-within
-admit-requires-clause-within g c κs within none = search (rules, to_z-of_z, w64, first_of_node, item_cost, within_limit)
-
-pub returns-in_err-admit : goal.returns-in_err-admit
-returns-in_err-admit g c =
-    let s = state_of g.R.Resource c.self.inside.ground in
-    let a = c.in_err-admit in
-    let passed = c.from_residual-in_err-admit in
+pub make_room_to_tell-requires-clause-within : goal.make_room_to_tell-requires-clause-within
+make_room_to_tell-requires-clause-within g c κs within =
     let told = rw (to_z-of_z w64 c.args.value c.ranges.value) at (sym c.in_ok-way.ensures.none) in
     let none = first_of_node c.self.inside.ground true c.args.leaf (λ n. Emitting n c.args.value) told in
-    let why = a.ensures.err (stands s (next_request s c.args.leaf c.args.value)) none in
-    let same = a.ensures.same ∙ ap (state_of g.R.Resource) c.in_ok-way.ensures.kept in
-    rw (← c.self.view_is) (passed_refusal passed.result a.field-0.0 passed.ensures.1 why same)
+    rw c.in_ok-way.ensures.kept (item_within g.R.Resource c.self.inside.ground c.args.leaf _ c.args.value c.in_ok-way.ensures.ok none)
+
+pub make_room_to_tell-requires-clause-notes : goal.make_room_to_tell-requires-clause-notes
+make_room_to_tell-requires-clause-notes g c κs within = let few = c.in_ok-way.ensures.ok.few in omega arith
+
+pub returns-in_err-make_room_to_tell : goal.returns-in_err-make_room_to_tell
+returns-in_err-make_room_to_tell g c =
+    let a = c.in_err-make_room_to_tell in
+    let passed = c.from_residual-in_err-make_room_to_tell in
+    let told = rw (to_z-of_z w64 c.args.value c.ranges.value) at (sym c.in_ok-way.ensures.none) in
+    let none = first_of_node c.self.inside.ground true c.args.leaf (λ n. Emitting n c.args.value) told in
+    let same = state_roomier g.R.Resource _ _ a.ensures.kept ∙ ap (state_of g.R.Resource) c.in_ok-way.ensures.kept in
+    rw (← c.self.view_is) (passed_refusal passed.result a.field-0.0 passed.ensures.1 (inr (none, a.ensures.err)) same)
 
 pub write_item-requires-clause-ready : goal.write_item-requires-clause-ready
 write_item-requires-clause-ready g c κs within =
-    let l = called g (goal.at.write_item-requires-clause-ready g c).In_ok-admit in
-    rw (to_z-of_z w64 c.args.value c.ranges.value) (one_ready g.R.Resource c.admit.new.ground _ l _ refl)
+    let l = called g (goal.at.write_item-requires-clause-ready g c).After-begin-place in
+    rw (to_z-of_z w64 c.args.value c.ranges.value) (one_ready g.R.Resource c.begin-place.new.self _ l _ refl)
 
 pub write_item-requires-clause-open : goal.write_item-requires-clause-open
 write_item-requires-clause-open g c κs within = search (rules, called)
@@ -62,32 +73,32 @@ write_item-requires-clause-only g c κs within =
     let b = c.self.inside.ground in
     let key = c.args.leaf in
     let before : MakesOnly b.tree.nodes b.hubs.hubs key c.in_ok-way.way.only = c.in_ok-way.ensures.only in
-    let a = admitted g (goal.at.write_item-requires-clause-only g c).In_ok-admit in
-    MakesOnly-roomier (record b { closed = [] }) c.admit.new.ground key c.in_ok-way.way.only a.roomier before
+    let a = admitted g (goal.at.write_item-requires-clause-only g c).After-begin-place in
+    MakesOnly-roomier (record b { closed = [] }) c.begin-place.new.self key c.in_ok-way.way.only a.roomier before
 
 pub settle-requires-clause-paid : goal.settle-requires-clause-paid
 settle-requires-clause-paid g c κs within =
     let w = rw (to_z-of_z w64 c.args.value c.ranges.value) at c.write_item.ensures.wrote.written in
-    let l = called g (goal.at.settle-requires-clause-paid g c).In_ok-admit in
-    pays g.R.Resource c.admit.new.ground _ l c.write_item.new.self.register w
+    let l = called g (goal.at.settle-requires-clause-paid g c).After-begin-place in
+    pays g.R.Resource c.begin-place.new.self _ l c.write_item.new.self.register w
 
 pub settle-requires-clause-room : goal.settle-requires-clause-room
 settle-requires-clause-room g c κs within =
     let w = rw (to_z-of_z w64 c.args.value c.ranges.value) at c.write_item.ensures.wrote.written in
-    let l = called g (goal.at.settle-requires-clause-room g c).In_ok-admit in
-    connects_none g.R.Resource c.admit.new.ground _ l c.write_item.new.self.register w refl
+    let l = called g (goal.at.settle-requires-clause-room g c).After-begin-place in
+    connects_none g.R.Resource c.begin-place.new.self _ l c.write_item.new.self.register w refl
 
 pub returns : goal.returns
 returns g c =
     let R = g.R.Resource in
-    let b = c.admit.new.ground in
+    let b = c.begin-place.new.self in
     let mid = c.write_item.new.self in
     let new = c.settle.new.self in
     let u = c.write_item.ensures in
     let s = c.settle.ensures in
-    let l = called g (goal.at.returns g c).In_ok-admit in
+    let l = called g (goal.at.returns g c).After-begin-place in
     let w = rw (to_z-of_z w64 c.args.value c.ranges.value) at u.wrote in
     let done = accepts R b _ l mid w s in
     answers_begun (λ place. place)
-    (subst (λ (x : State). AnswersPlaceOrWant x (next_request x c.args.leaf c.args.value) (state_of R new) (Ok c.len-place.result))
-    (begun_at (state_admitted (admitted g (goal.at.returns g c).In_ok-admit)) c.self.view_is) (answers_ok c.len-place.ensures done))
+    (subst (λ (x : State). AnswersPlaceOrWant x (next_request x c.args.leaf c.args.value) (state_of R new) (Ok c.begin-place.result))
+    (begun_at (state_admitted (admitted g (goal.at.returns g c).After-begin-place)) c.self.view_is) (answers_ok c.begin-place.ensures.place done))

@@ -21,18 +21,18 @@ called : (g : given.Over) (c : In_ok-handed g) → IsLetIn g.R.Resource (record 
 called g c = search (rules, listed_waits, let_in_free, standing_begun)
 
 pub settle-requires-clause-between : goal.settle-requires-clause-between
-settle-requires-clause-between g c κs within = rw c.begin.ensures (between_begun c.in_ok-handed.ensures.wrote.between)
+settle-requires-clause-between g c κs within = rw c.begin.ensures.begun (between_begun c.in_ok-handed.ensures.wrote.between)
 
 pub settle-requires-clause-paid : goal.settle-requires-clause-paid
 settle-requires-clause-paid g c κs within =
     let l = called g (goal.at.settle-requires-clause-paid g c).In_ok-handed in
-    subst (λ (x : Ground g.row.R.Denot). IsPaid x.register) (sym c.begin.ensures)
+    subst (λ (x : Ground g.row.R.Denot). IsPaid x.register) (sym c.begin.ensures.begun)
     (pays g.R.Resource (record c.self.inside.ground { closed = [] }) _ l c.write_take.new.self.register c.in_ok-handed.ensures.wrote.written)
 
 pub settle-requires-clause-room : goal.settle-requires-clause-room
 settle-requires-clause-room g c κs within =
     let l = called g (goal.at.settle-requires-clause-room g c).In_ok-handed in
-    subst (λ (x : Ground g.row.R.Denot). HasRoomToConnect x.register.history x.tree.nodes.room (list_room x)) (sym c.begin.ensures)
+    subst (λ (x : Ground g.row.R.Denot). HasRoomToConnect x.register.history x.tree.nodes.room (list_room x)) (sym c.begin.ensures.begun)
     (connects_none g.R.Resource (record c.self.inside.ground { closed = [] }) _ l c.write_take.new.self.register c.in_ok-handed.ensures.wrote.written refl)
 
 pub returns : goal.returns
@@ -53,7 +53,7 @@ returns g c =
     let w = t.wrote.written in
     let settled =
     subst (λ (k : Kept). IsSettled k mid.register.history) (sym w.base) (subst (IsSettled b.register.base) (sym w.history) rests) in
-    let settles = subst (λ (x : Ground g.row.R.Denot). Settles R x new) c.begin.ensures s in
+    let settles = subst (λ (x : Ground g.row.R.Denot). Settles R x new) c.begin.ensures.begun s in
     let grown = unforced mid.register.base settles.forced settled ∙ w.history in
     let quiet = gathers_quiet {list = []} (Take r) ready.next refl w refl in
     rw (← c.self.view_is) (record {
