@@ -1,9 +1,9 @@
 -- What a closing moves out of the tree has gone, and nothing else went.
 use Rattle.rx_ground.proofs.Common.{◌≡◌, ◌≢◌, ℕ, ◌-◌, true, false, cond, List, [], ◌∷◌, ◌++◌, length, take, drop, Some, None, is_some, IsSome, IsTrue, sym}
-use Rattle.rx_ground.proofs.Common.{ap, subst, ◌∙◌, inl, inr, ◌⊎◌, not, ◌&&◌, AllPairs, Contains, and_parts, and_from, both_ways, cases_Bool, not-true, Kept}
-use Rattle.rx_ground.proofs.Common.{false_from_ne_true, not_from_false, none-some, map-append, take-append-drop, length-drop, take-length, AllPairs-cons, at}
+use Rattle.rx_ground.proofs.Common.{ap, subst, ◌∙◌, inl, inr, ◌⊎◌, not, ◌&&◌, Contains, and_parts, and_from, both_ways, cases_Bool, not-true, Kept}
+use Rattle.rx_ground.proofs.Common.{false_from_ne_true, not_from_false, none-some, map-append, take-append-drop, length-drop, take-length, at}
 use Rattle.rx_ground.proofs.Common.{Ghosts, Event, makes_node, is_open, is_within, MayFollow, IsLawful, at-append, is_open_within, open_node, is_open_new}
-use Rattle.rx_ground.proofs.Common.{Key, Slots, find, Node, Closed, is_below, IsInside, IsSubtree, Tree, AreApart, IsSound, some_of, has_gone, goes, Gathers}
+use Rattle.rx_ground.proofs.Common.{Key, Slots, find, Node, Closed, is_below, IsInside, IsSubtree, Tree, IsSound, some_of, has_gone, goes, Gathers}
 use Rattle.rx_ground.proofs.Common.{GoesFirst}
 use Rattle.rx_ground.proofs.Common.{numbers_of, closed_key, closed_keys, AreRecords, IsTied, Cuts, Moves}
 use Rattle.rx_ground.proofs.Records.{AreLeft, cut_left}

@@ -3,7 +3,7 @@ use Rattle.rx_ground.proofs.Common.{◌≡◌, ◌≢◌, ℕ, ◌<◌, true, fa
 use Rattle.rx_ground.proofs.Common.{length-append, append-nil, append_assoc, map-append, All, AllPairs, Contains, and_parts, and_from, both_ways, cases_Bool}
 use Rattle.rx_ground.proofs.Common.{cases_order, false_from_ne_true, not-true, not_from_false, All-contains, Kept, Event, makes_node, at, is_open, MayFollow}
 use Rattle.rx_ground.proofs.Common.{IsForcedOn, stays, more, at-append, at_within, slice_get_last, open_old, shuts_none, is_open_kept, is_open_new, Key, goes}
-use Rattle.rx_ground.proofs.Common.{Writes, has_gone, numbers_of, Gathers, AllPairs-cons, zero, suc, Some, IsSome, ◌≤◌, take, drop, take-append-drop}
+use Rattle.rx_ground.proofs.Common.{Writes, has_gone, numbers_of, Gathers, AllPairs-cons, zero, suc, IsSome, ◌≤◌, take, drop, take-append-drop}
 use Rattle.rx_ground.proofs.Common.{Closes, GoesFirst, Ground, Moves, find}
 use Rattle.std.proofs.Math.Seq.{take-nil}
 use Rattle.std.proofs.lemmas.List.Elements.{Contains-append_left, Contains-append_right, Contains-append_cases}

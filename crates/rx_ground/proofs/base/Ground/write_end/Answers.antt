@@ -1,6 +1,6 @@
 use Rattle.rx_ground.proofs.Common.{◌∷◌, [], ◌-◌, ◌∙◌, refl, sym, ap, subst, arith, Option, option_map_or, false, length, vec_capacity, IsSome, end_by}
 use Rattle.rx_ground.proofs.Common.{Event, End, is_root, find, Slots, Node, State, Writes}
-use Rattle.rx_ground.proofs.EventWritten.{ground_of, IsClosing, seen, closes, wrote_closing}
+use Rattle.rx_ground.proofs.EventWritten.{ground_of, IsClosing, closes, wrote_closing}
 use Rattle.rx_ground.proofs.NodeEnds.{IsReadyToEnd, ready_to_end, above_there, above_counted, ended}
 use Rattle.rx_ground.proofs.RegisterAfterWrite.{TellsOf, writes_told}
 use Rattle.rx_slots.proofs.Laws.EntryByNumber.{find-value_at}
