@@ -1,5 +1,5 @@
 -- The list of what a call closes: begun anew it changes nothing else, and what goes on it has gone.
-use Rattle.rx_book.proofs.Common.{◌≡◌, ℕ, List, [], ◌∷◌, ◌++◌, map, refl, ap, ◌∙◌, Ok, Ghosts, Kept, Event, IsForcedOn, Wanted, goes, numbers_of}
+use Rattle.rx_book.proofs.Common.{◌≡◌, ℕ, List, [], ◌++◌, map, ap, ◌∙◌, Ok, Ghosts, Kept, Event, IsForcedOn, Wanted, goes}
 use Rattle.rx_book.proofs.Common.{Gathers, Ground, IsStanding, HasRoomBeside, IsFurther, gone_on, gone_forced, Key, State, AreJust, Request, Accepts, Answers}
 use Rattle.rx_book.proofs.Common.{IsOpened, IsOpenedUsing, Opened, OpenedUsing, At, OpenedHolding, AnswersOpenedHolding, Kind}
 use Rattle.rx_book.proofs.Common.{◌<◌, ◌≤◌, ◌⊎◌, inl, inr, length, sym, subst, arith, length-append, IsSome, Contains, find, keys_of, Closes, GoesFirst}

@@ -1,10 +1,9 @@
 -- What callers see of a ground before a checkpoint and after it.
-use Rattle.rx_book.proofs.Common.{◌≡◌, ℕ, None, Ok, Err, List, map, ap, length, Ghosts, shown, base_of, Agree, Refusal, first_cause, IsRefusal, Slots, Tree}
+use Rattle.rx_book.proofs.Common.{◌≡◌, ℕ, None, Ok, Err, map, ap, length, Ghosts, shown, base_of, Agree, Refusal, first_cause, IsRefusal, Slots, Tree}
 use Rattle.rx_book.proofs.Common.{checkpoint_causes, Ground, held_in, waiting_in, label_in, IsCheckpoint, IsStanding, Checkpoints, AnswersCheckpoint, State}
 use Rattle.rx_book.proofs.Common.{state_of, keys_of, res_keys_of, lease_keys_of}
 use Rattle.rx_event.proofs.Laws.Checkpoints.{kept_agrees}
 use Rattle.rx_register.specs.State.{IsPromised as IsRegisterPromised}
-use Rattle.rx_slots.specs.declared.Key.{Key}
 use Rattle.rx_tree.specs.declared.node.ResKey.{ResKey}
 
 pub checkpointed : {T : Type 0} (g : Ghosts T) (old new : Ground T) → IsRegisterPromised old.register → IsStanding g old →

@@ -1,6 +1,6 @@
 //! What is there, counted, and room for more.
 
-ghost use Rattle.std.specs.Prelude.{◌≡◌, ◌+◌, ◌<◌, ◌≤◌, ◌^◌, ◌↔◌, [], length, slice_get, is_some, if◌then◌else◌, IsTrue, IsSome, IfSome, IfNone, IfErr, OnOk};
+ghost use Rattle.std.specs.Prelude.{◌≡◌, ◌+◌, ◌<◌, ◌≤◌, ◌↔◌, [], length, slice_get, is_some, if◌then◌else◌, IsTrue, IsSome, IfSome, IfNone, IfErr, OnOk};
 ghost use Rattle.rx_event.specs.Kept.{nothing_kept, event_since};
 ghost use Rattle.rx_event.specs.Notes.{notes};
 ghost use Rattle.rx_event.specs.Totals.{open_count as open_count_in, held_count, waiting_count, lease_count};

@@ -12,8 +12,6 @@ ghost use Rattle.rx_slots.specs.Slots.{find};
 ghost use Rattle.rx_tree.specs.Resources.{is_held_at};
 ghost use Rattle.rx_ground.specs.Leases.{is_out_at};
 ghost use Rattle.rx_event.specs.Causes.{by_key, projecting_causes};
-ghost use Rattle.rx_event.specs.Causes.{is_wrong_place as is_wrong_place_in};
-ghost use Rattle.rx_event.specs.Causes.{is_taken_place as is_taken_place_in, is_unowed_place as is_unowed_place_in};
 ghost use Rattle.rx_event.specs.Causes.{is_crowded as is_crowded_in, is_over as is_over_in};
 ghost use Rattle.rx_ground.specs.Costs.{cost_of};
 ghost use Rattle.rx_ground.specs.FirstCause.{IsFreePlace, first_at, first_at_place, first_by_key, first_by_res_key, first_by_lease_key, has_node};

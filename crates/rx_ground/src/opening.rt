@@ -9,7 +9,7 @@ ghost use Rattle.rx_slots.specs.Slots.{find};
 ghost use Rattle.rx_tree.specs.Tree.{IsPlaced, is_on};
 ghost use Rattle.rx_ground.specs.Wrote.{IsBetween, Wrote, IsCut, OpensNode};
 ghost use Rattle.rx_ground.specs.Inners.{IsLeft, IsInner, HasNoInner, IsReplaced, ReplacesNone};
-ghost use Rattle.rx_ground.specs.Ties.{IsReady, IsUndue, Moves, Remarks};
+ghost use Rattle.rx_ground.specs.Ties.{IsReady, IsUndue, Remarks};
 ghost use Rattle.rx_ground.specs.Ties.{opened_marks};
 ghost use Rattle.rx_event.specs.declared.event.Kind.{Kind};
 ghost use Rattle.rx_hub.specs.After.{with_made};

@@ -1,7 +1,7 @@
 //! Where an item goes, and what it does on its way: up from its leaf, and from a connection on to each
 //! subscriber of its hub (Publish), the first one's climb before the second's.
 
-ghost use Rattle.std.specs.Prelude.{◌≡◌, ◌+◌, ◌<◌, ◌≤◌, ◌++◌, [], ◌∷◌, length, Some, None, false, is_some, nat_lt, IsSome, IfSome};
+ghost use Rattle.std.specs.Prelude.{◌≡◌, ◌+◌, ◌<◌, ◌≤◌, ◌++◌, [], length, Some, None, false, is_some, nat_lt, IsSome, IfSome};
 ghost use Rattle.std.specs.Prelude.{IfOk, IfErr, OnOk, if◌then◌else◌};
 ghost use Rattle.std.specs.Option.{option_to_list};
 ghost use Rattle.std.proofs.Math.Bool.{not};
@@ -9,7 +9,6 @@ ghost use Rattle.rx_event.specs.declared.event.Event.{Event};
 ghost use Rattle.rx_event.specs.Climb.{visits, most_visits};
 ghost use Rattle.rx_event.specs.Calls.{Emitting};
 ghost use Rattle.rx_event.specs.Lawful.{IsLawful};
-ghost use Rattle.rx_event.specs.Marks.{after_projection, after_firing};
 ghost use Rattle.rx_event.specs.Notes.{mail_of};
 ghost use Rattle.rx_slots.specs.Slots.{find};
 ghost use Rattle.rx_tree.specs.Owed.{owed_in};
@@ -17,7 +16,7 @@ ghost use Rattle.rx_tree.specs.Tree.{is_on};
 ghost use Rattle.rx_hub.specs.Route.{IsOrdered};
 ghost use Rattle.rx_hub.specs.Walk.{IsWalk, climb_over, stops_over};
 ghost use Rattle.rx_ground.specs.FirstCause.{first_at};
-ghost use Rattle.rx_ground.specs.Ties.{AreRecords, IsStanding, IsUndue, Remarks};
+ghost use Rattle.rx_ground.specs.Ties.{AreRecords, IsStanding, IsUndue};
 ghost use Rattle.rx_ground.specs.Passing.{owed_at, told_at, mail_at, IsThere, IsMarkedAt, IsArrived, IsMeasured, IsPassing};
 ghost use Rattle.rx_ground.specs.Reached.{IsReach, MakesOnly};
 

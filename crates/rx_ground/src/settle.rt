@@ -3,7 +3,6 @@
 ghost use Rattle.std.specs.Prelude.{◌≡◌, ◌<◌, ◌∷◌, [], true, MatchOption};
 ghost use Rattle.rx_event.specs.Forced.{IsSettled};
 ghost use Rattle.rx_register.specs.Paid.{IsPaid};
-ghost use Rattle.rx_register.specs.State.{Writes};
 ghost use Rattle.rx_hub.specs.declared.hub.HubDue.{HubDue};
 ghost use Rattle.rx_hub.specs.Due.{event_of};
 ghost use Rattle.rx_ground.specs.Ties.{IsReady, IsNext, WithChain};

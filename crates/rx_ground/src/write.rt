@@ -12,7 +12,6 @@ ghost use Rattle.rx_event.specs.Resources.{is_waiting};
 ghost use Rattle.rx_resource.specs.declared.Life.{Life};
 ghost use Rattle.rx_slots.specs.Slots.{find};
 ghost use Rattle.rx_tree.specs.Resources.{is_held_at, is_owned_at};
-ghost use Rattle.rx_register.specs.State.{Writes};
 ghost use Rattle.rx_hub.specs.After.{end_by};
 ghost use Rattle.rx_ground.specs.Reached.{MakesOnly};
 ghost use Rattle.rx_ground.specs.Ties.{IsReady, IsListed, Remarks};

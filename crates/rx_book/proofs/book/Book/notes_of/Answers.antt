@@ -1,4 +1,4 @@
-use Rattle.rx_book.proofs.Common.{◌≡◌, true, sym, ap, ◌∙◌, w64, next_request, to_z-of_z, Emitting, state_of, State, Some, None}
+use Rattle.rx_book.proofs.Common.{true, sym, w64, next_request, to_z-of_z, Emitting, state_of}
 use Rattle.rx_book.proofs.CausesByKey.{first_of_node}
 use Rattle.rx_book.proofs.AnswersOkOrErr.{refused_with}
 use Rattle.rx_book.specs.Answers.{IsCause}

@@ -1,5 +1,5 @@
 use Rattle.rx_book.proofs.Common.{◌≡◌, refl, sym, ap, map, subst, ◌∙◌, ◌∷◌, [], Ok, Accept, Opening, outside_of, first_cause, Slots, Node, adds_forced}
-use Rattle.rx_book.proofs.Common.{ℕ, ◌<◌, ◌⊎◌, ◌++◌, length, length-append, arith, IsSome, Contains, Key, find, keys_of}
+use Rattle.rx_book.proofs.Common.{◌<◌, ◌⊎◌, ◌++◌, length, length-append, arith, IsSome, Contains, Key, find, keys_of}
 use Rattle.rx_book.proofs.Common.{gathers_on, State, place_of, AnswersOpenedHolding, IsAdmittedHolding, stands_holding, state_of}
 use Rattle.rx_ground.specs.Shown.{Kept, kept_in}
 use Rattle.rx_book.proofs.Admitted.{found_admitted, state_admitted}
