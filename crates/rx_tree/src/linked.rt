@@ -1,21 +1,18 @@
 //! The record of a node with its links, as it stands at a slot, and what it tells of the node in place.
 
-ghost use Rattle.std.specs.Prelude.{◌≡◌, ◌+◌, ◌<◌, ◌^◌, IsTrue, IfSome, option_map, is_some};
+ghost use Rattle.std.specs.Prelude.{◌≡◌, ◌<◌, ◌^◌, IsTrue, IfSome, option_map, is_some};
 ghost use Rattle.rx_event.specs.Events.{makes_node, parent_named, is_root, is_leaf, is_switch, is_until, is_merging, has_source, is_connect};
-ghost use Rattle.rx_event.specs.Events.{source_named, inner_named, notifier_named, hub_connected, hub_subscribed};
-ghost use Rattle.rx_event.specs.Marks.{terminal_due, after_child, after_source, after_notifier, after_inner, after_projection, after_firing, after_decline};
+ghost use Rattle.rx_event.specs.Events.{source_named, notifier_named, hub_connected, hub_subscribed};
+ghost use Rattle.rx_event.specs.Marks.{terminal_due};
 ghost use Rattle.rx_tree.specs.Store.{alone, no_counts};
-ghost use Rattle.rx_tree.specs.Places.{is_place};
-ghost use Rattle.std.proofs.Math.Bool.{not};
-ghost use Rattle.rx_tree.specs.Tree.{with_marks};
 ghost use Rattle.rx_tree.specs.declared.links.Place.TheVariants.{Children, Held, Sibling, Noted};
 
 use crate::closed::Closed;
 use crate::counts::Counts;
-use crate::links::{Link, Place, Step};
+use crate::links::{Link, Place};
 use crate::made::{KindWord, Made, PlaceWord};
 use crate::node::Node;
-use rx_event::{Event, Marks, Place as At, Terminal};
+use rx_event::{Event, Marks, Terminal};
 use rx_slots::Key;
 use std::marker::Model;
 
@@ -176,21 +173,17 @@ impl Record {
         }
     }
 
-    // Where a test asks for the place, the event is written out for the proof alone: it is inlined, and
-    // no event is made.
+    // A connection stands at no place, whatever its word is.
 
     /// Whether it is a root. A connection is none.
     #[inline(always)]
     pub fn is_root(&self) -> bool
         ensures { result ≡ is_root self.now.node.made }
     {
-        matches!(
-            self.made(),
-            Event::Open {
-                place: At::Root,
-                ..
-            }
-        )
+        match self.made.place {
+            PlaceWord::Root => !self.is_connection(),
+            PlaceWord::Source | PlaceWord::Inner | PlaceWord::Notifier => false,
+        }
     }
 
     /// Whether it stands at a Source place.
@@ -198,13 +191,10 @@ impl Record {
     pub fn is_source(&self) -> bool
         ensures { result ≡ is_some (source_named self.now.node.made) }
     {
-        matches!(
-            self.made(),
-            Event::Open {
-                place: At::Source(_),
-                ..
-            }
-        )
+        match self.made.place {
+            PlaceWord::Source => !self.is_connection(),
+            PlaceWord::Root | PlaceWord::Inner | PlaceWord::Notifier => false,
+        }
     }
 
     /// Whether it stands at a Notifier place.
@@ -212,13 +202,10 @@ impl Record {
     pub fn is_notifier(&self) -> bool
         ensures { result ≡ is_some (notifier_named self.now.node.made) }
     {
-        matches!(
-            self.made(),
-            Event::Open {
-                place: At::Notifier(_),
-                ..
-            }
-        )
+        match self.made.place {
+            PlaceWord::Notifier => !self.is_connection(),
+            PlaceWord::Root | PlaceWord::Source | PlaceWord::Inner => false,
+        }
     }
 
     /// Whether it is a leaf.

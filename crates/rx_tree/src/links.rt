@@ -1,7 +1,7 @@
 //! Where a link of the tree leads.
 
 ghost use Rattle.std.specs.Prelude.{◌≡◌, ◌<◌, ◌^◌};
-ghost use Rattle.rx_tree.specs.Places.{is_place, slot_of, tag_of};
+ghost use Rattle.rx_tree.specs.Places.{is_place, slot_of};
 ghost use Rattle.rx_tree.specs.declared.links.Place.TheVariants.{Noted};
 
 use std::marker::Model;

@@ -220,7 +220,7 @@ impl<R: Resource> Tree<R> {
     pub fn made(&self, key: Key) -> Option<Event>
         ensures { result ≡ option_map (λ node. node.made) (find self.now.nodes key) }
     {
-        Some(self.store.nodes.get(key)?.made())
+        Some(self.store.nodes.get(key)?.made.event())
     }
 
     /// The node's marks; None where the key finds none.

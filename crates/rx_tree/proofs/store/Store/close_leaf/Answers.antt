@@ -1,5 +1,5 @@
 use Rattle.rx_tree.proofs.Common.{arith}
-use Rattle.rx_tree.proofs.MarksWritten.{slot_there, record_found}
+use Rattle.rx_tree.proofs.MarksWritten.{slot_there}
 use Rattle.rx_tree.proofs.store.Store.close_leaf.Goals as goal
 
 pub at-leaf-requires : goal.at-leaf-requires

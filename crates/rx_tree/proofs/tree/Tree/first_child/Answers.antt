@@ -4,7 +4,6 @@ use Rattle.rx_tree.proofs.InPlace.{key_at-project, there_project, children_read}
 use Rattle.rx_tree.proofs.Siblings.{children_ring, first_some, first_there, first_none}
 use Rattle.rx_tree.proofs.There.{slot_stands}
 use Rattle.rx_tree.proofs.tree.Tree.first_child.Goals as goal
-use Rattle.std.proofs.Common.{rules}
 
 pub returns-in-Sibling-clause-some : goal.returns-in-Sibling-clause-some
 returns-in-Sibling-clause-some g c =

@@ -4,7 +4,6 @@ use Rattle.rx_tree.proofs.InPlace.{key_at-project, there_project, sibling_read}
 use Rattle.rx_tree.proofs.Siblings.{sibling_some, sibling_there, sibling_none, named_above_one, named_above_none}
 use Rattle.rx_tree.proofs.There.{slot_stands}
 use Rattle.rx_tree.proofs.tree.Tree.next_sibling.Goals as goal
-use Rattle.std.proofs.Common.{rules}
 
 pub returns-in_err-_parent-clause-none : goal.returns-in_err-_parent-clause-none
 returns-in_err-_parent-clause-none g c = let s = c.self.inside.store in rw (← c.self.view_is) (subst (λ o. IfNone o ((parent : Key) → IsChild
