@@ -3,7 +3,7 @@
 use super::book::{Bench, Call, Step};
 use crate::book::{rx_book_dump, rx_book_next_all};
 use rx_scarce::Scarce;
-use std::alloc::{AllocError};
+use std::alloc::AllocError;
 
 // What one block of memory has in bytes.
 const BLOCK: usize = 100_000;
