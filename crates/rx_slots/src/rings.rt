@@ -111,7 +111,7 @@ impl Rings {
     pub fn first(&self, list: usize) -> Option<usize>
         ensures { result ≡ head_of (list_at self.now list) }
     {
-        match self.links.link(Place::End(list)).next {
+        match self.links.ends.get(list)?.next {
             Place::Member(member) => Some(member),
             Place::End(_) => None,
         }
@@ -122,7 +122,7 @@ impl Rings {
     pub fn last(&self, list: usize) -> Option<usize>
         ensures { result ≡ last_of (list_at self.now list) }
     {
-        match self.links.link(Place::End(list)).previous {
+        match self.links.ends.get(list)?.previous {
             Place::Member(member) => Some(member),
             Place::End(_) => None,
         }
