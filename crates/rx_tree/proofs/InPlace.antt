@@ -38,6 +38,10 @@ pub key_of_number : {X : Type 0} (s : Slots X) (slot number : ℕ) → number_at
     key_at s slot ≡ Some (record { slot = slot; number = number })
 key_of_number {X} s slot number at = search (rules, true≢false)
 
+-- what stands at a slot, as it is seen once it is read in place
+pub seen_at : {X : Type 0} {at : Option X} {before seen : X} → at ≡ Some before → seen ≡ before → at ≡ Some seen
+seen_at at is = at ∙ ap (λ x. Some x) (sym is)
+
 -- a link that is read at a slot is that of its place
 module _ {T : Type 0} (s : Store T) (slot : ℕ) {before : Record} (l : Record) (at : value_at s.nodes slot ≡ Some before) (seen : l ≡ before) where
   pub children_read : l.children ≡ link_at s (Children slot)

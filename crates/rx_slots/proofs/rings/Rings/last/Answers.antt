@@ -7,14 +7,16 @@ returns-in_err-member c =
     let s = c.self.inside.links in
     let end = alone (End c.args.list) in
     let read = c.in_err-member.ensures.lookup.4 (omega arith) end ∙ ap (λ xs. get_or xs c.args.list end) c.deref.ensures.value in
-    rw (← c.self.view_is) (c.from_residual.ensures ∙ ap (λ l. as_member l.previous) read ∙ last_seen s.ends.items s.members.items 0 c.self.invariant c.args.list)
+    rw (← c.self.view_is) (c.from_residual.ensures ∙ ap (λ l. as_member l.previous) read
+    ∙ last_seen s.ends.items s.members.items 0 c.self.invariant c.args.list)
 
 pub returns-in-Member : goal.returns-in-Member
 returns-in-Member c =
     let s = c.self.inside.links in
     let end = alone (End c.args.list) in
     let read = c.in_ok-member.ensures.lookup.3.1 end ∙ ap (λ xs. get_or xs c.args.list end) c.deref.ensures.value in
-    rw (← c.self.view_is) (ap as_member (sym c.in-Member.is ∙ ap (λ l. l.previous) read) ∙ last_seen s.ends.items s.members.items 0 c.self.invariant c.args.list)
+    rw (← c.self.view_is) (ap as_member (sym c.in-Member.is ∙ ap (λ l. l.previous) read)
+    ∙ last_seen s.ends.items s.members.items 0 c.self.invariant c.args.list)
 
 pub returns-in-End : goal.returns-in-End
 returns-in-End c =

@@ -19,7 +19,8 @@ returns-in-Sibling-clause-there g c = search (rules, first_child_at, nodes_of, r
 
 pub returns-in-Sibling-clause-later : goal.returns-in-Sibling-clause-later
 returns-in-Sibling-clause-later g c = let s = c.args.self.now in let h = first_child_at (nodes_of s) (resources_of s) (next_of s) (previous_of s)
-    c.requires.tied _ c.requires.open _ (ap (λ l. l.next) (sym (children_read s c.args.key.slot _ c.at.ensures.value c.behind-self.view_is)) ∙ (sym c.place.ensures ∙ c.in-Sibling.is)) in subst (λ o. IfSome o (λ
+    c.requires.tied _ c.requires.open _ (ap (λ l. l.next) (sym (children_read s c.args.key.slot _ c.at.ensures.value c.behind-self.view_is)) ∙
+    (sym c.place.ensures ∙ c.in-Sibling.is)) in subst (λ o. IfSome o (λ
     child. c.args.key.number < child.number)) (sym h.at ∙ c.node_key.ensures) h.later
 
 pub returns-in-Sibling-clause-none : goal.returns-in-Sibling-clause-none
@@ -27,7 +28,9 @@ returns-in-Sibling-clause-none g c none = absurd (true≢false (ap is_some none)
 
 pub node_key-requires : goal.node_key-requires
 node_key-requires g c = let s = c.args.self.now in record {
-  there = subst (λ q. stands (nodes_of s) (resources_of s) q ≡ true) (ap (λ l. l.next) (sym (children_read s c.args.key.slot _ c.at.ensures.value c.behind-self.view_is)) ∙ (sym c.place.ensures ∙ c.in-Sibling.is)) (next_stands (nodes_of s) (resources_of s) (next_of s) (previous_of s)
+  there = subst (λ q. stands (nodes_of s) (resources_of s) q ≡ true) (ap (λ l. l.next) (sym
+      (children_read s c.args.key.slot _ c.at.ensures.value c.behind-self.view_is)) ∙ (sym c.place.ensures ∙ c.in-Sibling.is)) (next_stands (nodes_of s)
+      (resources_of s) (next_of s) (previous_of s)
       c.requires.tied (Children _) (slot_stands (nodes_of s) _ c.requires.«open»));
 }
 
@@ -39,8 +42,12 @@ returns-in_default g c =
       there = tt;
       later = tt;
       none = λ _. no_child (nodes_of s) (resources_of s) (next_of s) (previous_of s) c.requires.tied
-          c.args.key.slot (λ j e. c.in_default.not-Sibling j (c.place.ensures ∙ ap (λ l. l.next) (children_read s c.args.key.slot _ c.at.ensures.value c.behind-self.view_is) ∙ e));
+          c.args.key.slot (λ j e. c.in_default.not-Sibling j (c.place.ensures ∙ ap (λ l. l.next)
+          (children_read s c.args.key.slot _ c.at.ensures.value c.behind-self.view_is) ∙ e));
     }
 
 pub at-requires : goal.at-requires
-at-requires g c = record { there = there_project (λ l. l.node) c.args.self.now.nodes c.args.key.slot (slot_stands (nodes_of c.args.self.now) c.args.key c.requires.«open») }
+at-requires g c = record {
+  there = there_project (λ l. l.node) c.args.self.now.nodes c.args.key.slot (slot_stands
+      (nodes_of c.args.self.now) c.args.key c.requires.«open»);
+}

@@ -7,14 +7,16 @@ pub returns-clause-joins : goal.returns-clause-joins
 returns-clause-joins g c =
     let link : Link = record { next = c.to-2.result; previous = c.last_sibling-last.result } in
     joins_of places {n1 = next_of c.set_next_sibling.new.self} {p1 = previous_of c.set_sibling.new.self} c.last_sibling-last.ensures (record {
-      to = λ q. c.set_next_sibling.ensures.next q ∙ (λ i. set_step places (c.place_beside.ensures i) (c.to.ensures c.set_sibling.ensures.fits i) (next_of c.args.self.now) q);
+      to = λ q. c.set_next_sibling.ensures.next q ∙ (λ i. set_step places (c.place_beside.ensures i) (c.to.ensures c.set_sibling.ensures.fits i)
+          (next_of c.args.self.now) q);
       back = λ q. wrote_previous (link_at c.set_next_sibling.new.self) (link_at c.set_sibling.new.self) (Sibling c.args.slot) link
           c.set_sibling.ensures.linked c.last_sibling-last.result refl q ∙
           ap (λ p. cond (is_place (Sibling c.args.slot) q) c.last_sibling-last.result p) (c.set_next_sibling.ensures.previous q);
     }) (record {
       to = λ q. c.set_previous_sibling.ensures.next q ∙ wrote_next (link_at c.set_next_sibling.new.self) (link_at c.set_sibling.new.self)
           (Sibling c.args.slot) link c.set_sibling.ensures.linked c.args.end (c.to-2.ensures c.set_previous_sibling.ensures.fits) q;
-      back = λ q. c.set_previous_sibling.ensures.previous q ∙ (λ i. set_step places c.args.end (c.to-3.ensures c.set_sibling.ensures.fits i) (previous_of c.set_sibling.new.self) q);
+      back = λ q. c.set_previous_sibling.ensures.previous q ∙ (λ i. set_step places c.args.end (c.to-3.ensures c.set_sibling.ensures.fits i)
+          (previous_of c.set_sibling.new.self) q);
     })
 
 pub returns-clause-rest : goal.returns-clause-rest

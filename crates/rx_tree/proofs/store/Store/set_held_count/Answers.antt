@@ -1,6 +1,6 @@
-use Rattle.rx_tree.proofs.Common.{◌≡◌, ℕ, Some, refl, sym, ap, ◌∙◌, value_at, with_value_at, Children, Held, Sibling, Noted, Counts, Record, Store, alone}
+use Rattle.rx_tree.proofs.Common.{◌≡◌, ℕ, Some, refl, value_at, with_value_at, Children, Held, Sibling, Noted, Counts, Record, Store, alone}
 use Rattle.rx_tree.proofs.Common.{KeepsLinks}
-use Rattle.rx_tree.proofs.InPlace.{there_project}
+use Rattle.rx_tree.proofs.InPlace.{there_project, seen_at}
 use Rattle.rx_tree.proofs.StoreLemmas.{part-kept, project-written, nodes_keep_links}
 use Rattle.rx_tree.proofs.store.Store.set_held_count.Goals as goal
 
@@ -18,8 +18,8 @@ links_kept s slot count l at =
 
 pub returns-clause-links : goal.returns-clause-links
 returns-clause-links g c =
-    links_kept c.args.self.now c.args.slot c.args.count _ (c.at_mut-record.ensures.value ∙ ap (λ l. Some l) (sym c.record.view_is))
+    links_kept c.args.self.now c.args.slot c.args.count _ (seen_at c.at_mut-record.ensures.value c.record.view_is)
 
 pub returns-clause-nodes : goal.returns-clause-nodes
 returns-clause-nodes g c = project-written (λ l. l.node) c.args.self.now.nodes c.args.slot _ _
-    (c.at_mut-record.ensures.value ∙ ap (λ l. Some l) (sym c.record.view_is)) refl
+    (seen_at c.at_mut-record.ensures.value c.record.view_is) refl

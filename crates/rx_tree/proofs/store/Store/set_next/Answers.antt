@@ -1,5 +1,4 @@
-use Rattle.rx_tree.proofs.Common.{Some, sym, ap, ◌∙◌}
-use Rattle.rx_tree.proofs.InPlace.{there_project}
+use Rattle.rx_tree.proofs.InPlace.{there_project, seen_at}
 use Rattle.rx_tree.proofs.LinkWrites.{next-written, previous-kept, writes-Children, writes-Held, writes-Sibling, writes-Noted, writes-Stored}
 use Rattle.rx_tree.proofs.store.Store.set_next.Goals as goal
 
@@ -8,52 +7,62 @@ at_mut-requires g c =
     record { there = there_project (λ l. l.node) c.args.self.now.nodes c.in-Children.slot (rw c.in-Children.is at c.requires.there) }
 
 pub returns-in-Children-clause-next : goal.returns-in-Children-clause-next
-returns-in-Children-clause-next g c = rw c.in-Children.is (next-written (writes-Children c.args.self.now c.in-Children.slot _ _ (c.at_mut.ensures.value ∙ ap (λ l. Some l) (sym c.behind-self.view_is))))
+returns-in-Children-clause-next g c = rw c.in-Children.is (next-written (writes-Children c.args.self.now c.in-Children.slot _ _
+    (seen_at c.at_mut.ensures.value c.behind-self.view_is)))
 
 pub returns-in-Children-clause-previous : goal.returns-in-Children-clause-previous
-returns-in-Children-clause-previous g c = previous-kept (writes-Children c.args.self.now c.in-Children.slot _ _ (c.at_mut.ensures.value ∙ ap (λ l. Some l) (sym c.behind-self.view_is)))
+returns-in-Children-clause-previous g c = previous-kept (writes-Children c.args.self.now c.in-Children.slot _ _
+    (seen_at c.at_mut.ensures.value c.behind-self.view_is))
 
 pub returns-in-Children-clause-rest : goal.returns-in-Children-clause-rest
-returns-in-Children-clause-rest g c = (writes-Children c.args.self.now c.in-Children.slot _ _ (c.at_mut.ensures.value ∙ ap (λ l. Some l) (sym c.behind-self.view_is))).rest
+returns-in-Children-clause-rest g c = (writes-Children c.args.self.now c.in-Children.slot _ _ (seen_at c.at_mut.ensures.value c.behind-self.view_is)).rest
 
 pub at_mut-requires-in-Held : goal.at_mut-requires-in-Held
 at_mut-requires-in-Held g c =
     record { there = there_project (λ l. l.node) c.args.self.now.nodes c.in-Held.slot (rw c.in-Held.is at c.requires.there) }
 
 pub returns-in-Held-clause-next : goal.returns-in-Held-clause-next
-returns-in-Held-clause-next g c = rw c.in-Held.is (next-written (writes-Held c.args.self.now c.in-Held.slot _ _ (c.at_mut-in-Held.ensures.value ∙ ap (λ l. Some l) (sym c.behind-self-in-Held.view_is))))
+returns-in-Held-clause-next g c = rw c.in-Held.is (next-written (writes-Held c.args.self.now c.in-Held.slot _ _
+    (seen_at c.at_mut-in-Held.ensures.value c.behind-self-in-Held.view_is)))
 
 pub returns-in-Held-clause-previous : goal.returns-in-Held-clause-previous
-returns-in-Held-clause-previous g c = previous-kept (writes-Held c.args.self.now c.in-Held.slot _ _ (c.at_mut-in-Held.ensures.value ∙ ap (λ l. Some l) (sym c.behind-self-in-Held.view_is)))
+returns-in-Held-clause-previous g c = previous-kept (writes-Held c.args.self.now c.in-Held.slot _ _
+    (seen_at c.at_mut-in-Held.ensures.value c.behind-self-in-Held.view_is))
 
 pub returns-in-Held-clause-rest : goal.returns-in-Held-clause-rest
-returns-in-Held-clause-rest g c = (writes-Held c.args.self.now c.in-Held.slot _ _ (c.at_mut-in-Held.ensures.value ∙ ap (λ l. Some l) (sym c.behind-self-in-Held.view_is))).rest
+returns-in-Held-clause-rest g c = (writes-Held c.args.self.now c.in-Held.slot _ _ (seen_at c.at_mut-in-Held.ensures.value c.behind-self-in-Held.view_is)).rest
 
 pub at_mut-requires-in-Sibling : goal.at_mut-requires-in-Sibling
 at_mut-requires-in-Sibling g c =
     record { there = there_project (λ l. l.node) c.args.self.now.nodes c.in-Sibling.slot (rw c.in-Sibling.is at c.requires.there) }
 
 pub returns-in-Sibling-clause-next : goal.returns-in-Sibling-clause-next
-returns-in-Sibling-clause-next g c = rw c.in-Sibling.is (next-written (writes-Sibling c.args.self.now c.in-Sibling.slot _ _ (c.at_mut-in-Sibling.ensures.value ∙ ap (λ l. Some l) (sym c.behind-self-in-Sibling.view_is))))
+returns-in-Sibling-clause-next g c = rw c.in-Sibling.is (next-written (writes-Sibling c.args.self.now c.in-Sibling.slot _ _
+    (seen_at c.at_mut-in-Sibling.ensures.value c.behind-self-in-Sibling.view_is)))
 
 pub returns-in-Sibling-clause-previous : goal.returns-in-Sibling-clause-previous
-returns-in-Sibling-clause-previous g c = previous-kept (writes-Sibling c.args.self.now c.in-Sibling.slot _ _ (c.at_mut-in-Sibling.ensures.value ∙ ap (λ l. Some l) (sym c.behind-self-in-Sibling.view_is)))
+returns-in-Sibling-clause-previous g c = previous-kept (writes-Sibling c.args.self.now c.in-Sibling.slot _ _
+    (seen_at c.at_mut-in-Sibling.ensures.value c.behind-self-in-Sibling.view_is))
 
 pub returns-in-Sibling-clause-rest : goal.returns-in-Sibling-clause-rest
-returns-in-Sibling-clause-rest g c = (writes-Sibling c.args.self.now c.in-Sibling.slot _ _ (c.at_mut-in-Sibling.ensures.value ∙ ap (λ l. Some l) (sym c.behind-self-in-Sibling.view_is))).rest
+returns-in-Sibling-clause-rest g c = (writes-Sibling c.args.self.now c.in-Sibling.slot _ _
+    (seen_at c.at_mut-in-Sibling.ensures.value c.behind-self-in-Sibling.view_is)).rest
 
 pub at_mut-requires-in-Noted : goal.at_mut-requires-in-Noted
 at_mut-requires-in-Noted g c =
     record { there = there_project (λ l. l.node) c.args.self.now.nodes c.in-Noted.slot (rw c.in-Noted.is at c.requires.there) }
 
 pub returns-in-Noted-clause-next : goal.returns-in-Noted-clause-next
-returns-in-Noted-clause-next g c = rw c.in-Noted.is (next-written (writes-Noted c.args.self.now c.in-Noted.slot _ _ (c.at_mut-in-Noted.ensures.value ∙ ap (λ l. Some l) (sym c.behind-self-in-Noted.view_is))))
+returns-in-Noted-clause-next g c = rw c.in-Noted.is (next-written (writes-Noted c.args.self.now c.in-Noted.slot _ _
+    (seen_at c.at_mut-in-Noted.ensures.value c.behind-self-in-Noted.view_is)))
 
 pub returns-in-Noted-clause-previous : goal.returns-in-Noted-clause-previous
-returns-in-Noted-clause-previous g c = previous-kept (writes-Noted c.args.self.now c.in-Noted.slot _ _ (c.at_mut-in-Noted.ensures.value ∙ ap (λ l. Some l) (sym c.behind-self-in-Noted.view_is)))
+returns-in-Noted-clause-previous g c = previous-kept (writes-Noted c.args.self.now c.in-Noted.slot _ _
+    (seen_at c.at_mut-in-Noted.ensures.value c.behind-self-in-Noted.view_is))
 
 pub returns-in-Noted-clause-rest : goal.returns-in-Noted-clause-rest
-returns-in-Noted-clause-rest g c = (writes-Noted c.args.self.now c.in-Noted.slot _ _ (c.at_mut-in-Noted.ensures.value ∙ ap (λ l. Some l) (sym c.behind-self-in-Noted.view_is))).rest
+returns-in-Noted-clause-rest g c = (writes-Noted c.args.self.now c.in-Noted.slot _ _
+    (seen_at c.at_mut-in-Noted.ensures.value c.behind-self-in-Noted.view_is)).rest
 
 pub at_mut-requires-in-Stored : goal.at_mut-requires-in-Stored
 at_mut-requires-in-Stored g c =

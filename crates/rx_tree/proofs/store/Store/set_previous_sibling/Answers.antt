@@ -1,5 +1,4 @@
-use Rattle.rx_tree.proofs.Common.{Some, sym, ap, ◌∙◌}
-use Rattle.rx_tree.proofs.InPlace.{there_project}
+use Rattle.rx_tree.proofs.InPlace.{there_project, seen_at}
 use Rattle.rx_tree.proofs.LinkWrites.{previous-written, next-kept, writes-Children, writes-Sibling}
 use Rattle.rx_tree.proofs.store.Store.set_previous_sibling.Goals as goal
 
@@ -8,23 +7,27 @@ at_mut-requires g c =
     record { there = there_project (λ l. l.node) c.args.self.now.nodes c.in-Children.slot (rw c.in-Children.is at c.requires.there) }
 
 pub returns-in-Children-clause-previous : goal.returns-in-Children-clause-previous
-returns-in-Children-clause-previous g c = rw c.in-Children.is (previous-written (writes-Children c.args.self.now c.in-Children.slot _ _ (c.at_mut.ensures.value ∙ ap (λ l. Some l) (sym c.behind-self.view_is))))
+returns-in-Children-clause-previous g c = rw c.in-Children.is (previous-written (writes-Children c.args.self.now c.in-Children.slot _ _
+    (seen_at c.at_mut.ensures.value c.behind-self.view_is)))
 
 pub returns-in-Children-clause-next : goal.returns-in-Children-clause-next
-returns-in-Children-clause-next g c = next-kept (writes-Children c.args.self.now c.in-Children.slot _ _ (c.at_mut.ensures.value ∙ ap (λ l. Some l) (sym c.behind-self.view_is)))
+returns-in-Children-clause-next g c = next-kept (writes-Children c.args.self.now c.in-Children.slot _ _ (seen_at c.at_mut.ensures.value c.behind-self.view_is))
 
 pub returns-in-Children-clause-rest : goal.returns-in-Children-clause-rest
-returns-in-Children-clause-rest g c = (writes-Children c.args.self.now c.in-Children.slot _ _ (c.at_mut.ensures.value ∙ ap (λ l. Some l) (sym c.behind-self.view_is))).rest
+returns-in-Children-clause-rest g c = (writes-Children c.args.self.now c.in-Children.slot _ _ (seen_at c.at_mut.ensures.value c.behind-self.view_is)).rest
 
 pub at_mut-requires-in-Sibling : goal.at_mut-requires-in-Sibling
 at_mut-requires-in-Sibling g c =
     record { there = there_project (λ l. l.node) c.args.self.now.nodes c.in-Sibling.slot (rw c.in-Sibling.is at c.requires.there) }
 
 pub returns-in-Sibling-clause-previous : goal.returns-in-Sibling-clause-previous
-returns-in-Sibling-clause-previous g c = rw c.in-Sibling.is (previous-written (writes-Sibling c.args.self.now c.in-Sibling.slot _ _ (c.at_mut-in-Sibling.ensures.value ∙ ap (λ l. Some l) (sym c.behind-self-in-Sibling.view_is))))
+returns-in-Sibling-clause-previous g c = rw c.in-Sibling.is (previous-written (writes-Sibling c.args.self.now c.in-Sibling.slot _ _
+    (seen_at c.at_mut-in-Sibling.ensures.value c.behind-self-in-Sibling.view_is)))
 
 pub returns-in-Sibling-clause-next : goal.returns-in-Sibling-clause-next
-returns-in-Sibling-clause-next g c = next-kept (writes-Sibling c.args.self.now c.in-Sibling.slot _ _ (c.at_mut-in-Sibling.ensures.value ∙ ap (λ l. Some l) (sym c.behind-self-in-Sibling.view_is)))
+returns-in-Sibling-clause-next g c = next-kept (writes-Sibling c.args.self.now c.in-Sibling.slot _ _
+    (seen_at c.at_mut-in-Sibling.ensures.value c.behind-self-in-Sibling.view_is))
 
 pub returns-in-Sibling-clause-rest : goal.returns-in-Sibling-clause-rest
-returns-in-Sibling-clause-rest g c = (writes-Sibling c.args.self.now c.in-Sibling.slot _ _ (c.at_mut-in-Sibling.ensures.value ∙ ap (λ l. Some l) (sym c.behind-self-in-Sibling.view_is))).rest
+returns-in-Sibling-clause-rest g c = (writes-Sibling c.args.self.now c.in-Sibling.slot _ _
+    (seen_at c.at_mut-in-Sibling.ensures.value c.behind-self-in-Sibling.view_is)).rest

@@ -1,4 +1,5 @@
-use Rattle.rx_tree.proofs.Common.{◌≡◌, ◌+◌, ◌-◌, Bool, true, false, Some, refl, sym, ap, ◌∙◌, arith, Counts, count_if}
+use Rattle.rx_tree.proofs.Common.{◌≡◌, ◌+◌, ◌-◌, Bool, true, false, refl, arith, Counts, count_if}
+use Rattle.rx_tree.proofs.InPlace.{seen_at}
 use Rattle.rx_tree.proofs.StoreLemmas.{takes-project, changes-project, part-taken, part-gone, links_taken}
 use Rattle.rx_tree.proofs.CountSteps.{out_fits, some_owed, counted_gone}
 use Rattle.rx_tree.proofs.MarksWritten.{found_in, slot_there, record_found}
@@ -21,7 +22,7 @@ pub overflow_add-self : goal.overflow_add-self
 overflow_add-self g c =
     let a = c.args.self.now in
     let b = record a { nodes = c.remove.new.self } in
-    let found = record_found a c.args.key c.requires.«open» _ (c.at-leaf.ensures.value ∙ ap (λ l. Some l) (sym c.leaf.view_is)) in
+    let found = record_found a c.args.key c.requires.«open» _ (seen_at c.at-leaf.ensures.value c.leaf.view_is) in
     let few = out_fits a b c.requires.counted _ _ found (changes-project (λ l. l.node) _ _ _ _ c.remove.ensures.changes) false in
     let slots = c.slot_count-slots.ensures.value in
     let fits = c.slot_count-slots.ensures.most in omega (arith, few, slots, fits)
@@ -30,7 +31,7 @@ pub overflow_add-self-2 : goal.overflow_add-self-2
 overflow_add-self-2 g c =
     let a = c.args.self.now in
     let b = record a { nodes = c.remove.new.self } in
-    let found = record_found a c.args.key c.requires.«open» _ (c.at-leaf.ensures.value ∙ ap (λ l. Some l) (sym c.leaf.view_is)) in
+    let found = record_found a c.args.key c.requires.«open» _ (seen_at c.at-leaf.ensures.value c.leaf.view_is) in
     let few = out_fits a b c.requires.counted _ _ found (changes-project (λ l. l.node) _ _ _ _ c.remove.ensures.changes) true in
     let slots = c.slot_count-slots.ensures.value in
     let fits = c.slot_count-slots.ensures.most in omega (arith, few, slots, fits)
@@ -39,7 +40,7 @@ pub overflow_sub-self : goal.overflow_sub-self
 overflow_sub-self g c = rw c.owed-owed.ensures
     (let a = c.args.self.now in
     let b = record a { nodes = c.remove.new.self } in
-    let found = record_found a c.args.key c.requires.«open» _ (c.at-leaf.ensures.value ∙ ap (λ l. Some l) (sym c.leaf.view_is)) in
+    let found = record_found a c.args.key c.requires.«open» _ (seen_at c.at-leaf.ensures.value c.leaf.view_is) in
     some_owed a b c.requires.counted _ _ found (changes-project (λ l. l.node) _ _ _ _ c.remove.ensures.changes))
 
 pub returns-clause-counted : goal.returns-clause-counted
@@ -51,6 +52,6 @@ returns-clause-counted g c = rw c.owed-owed.ensures
     let both : (l : Bool) → count_if l more ≡ count_if l waiting + count_if l leaf.held_count =
     λ l. elim l as (λ l. count_if l more ≡ count_if l waiting + count_if l leaf.held_count) [ true ↦ refl | false ↦ refl ] in
     let b = record a { nodes = c.remove.new.self; waiting_count = more; owed = a.owed - leaf.marks.owed } in
-    let found = record_found a c.args.key c.requires.«open» _ (c.at-leaf.ensures.value ∙ ap (λ l. Some l) (sym c.leaf.view_is)) in
+    let found = record_found a c.args.key c.requires.«open» _ (seen_at c.at-leaf.ensures.value c.leaf.view_is) in
     counted_gone a b c.requires.counted c.args.key _ found
     (changes-project (λ l. l.node) _ _ c.args.key.slot _ c.remove.ensures.changes) refl both c.remove.ensures.changes refl)

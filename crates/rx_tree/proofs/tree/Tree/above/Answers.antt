@@ -1,4 +1,5 @@
-use Rattle.rx_tree.proofs.Common.{◌≡◌, Some, option_map, is_some, IsSome, IfSome, sym, ap, ◌∙◌, entry_at, value_at, find, find-value_at, subst, nodes_of, some_of}
+use Rattle.rx_tree.proofs.Common.{◌≡◌, Some, option_map, is_some, IsSome, IfSome, sym, ap, ◌∙◌, entry_at, value_at, find, find-value_at, nodes_of, some_of}
+use Rattle.rx_tree.proofs.Common.{subst}
 use Rattle.rx_tree.proofs.InPlace.{value_at-project, there_project, above_at}
 use Rattle.rx_tree.proofs.There.{slot_stands}
 use Rattle.rx_tree.proofs.WordsOfNodes.{slot_above}

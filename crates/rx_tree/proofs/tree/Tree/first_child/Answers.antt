@@ -10,18 +10,22 @@ returns-in-Sibling-clause-some g c =
     let s = c.self.inside.store in
     let ring = children_ring (nodes_of s) (resources_of s) (next_of s) (previous_of s) c.self.invariant.tied c.args.key
     (ap is_some (sym c.node.ensures ∙ c.in_ok-_node.was)) in
-    rw (← c.self.view_is) (subst (λ o. IfSome o (IsFirst (IsChild (nodes_of s) c.args.key) 0)) (sym (c.key_at.ensures ∙ sym (key_at-project (λ l. l.node) s.nodes _)))
+    rw (← c.self.view_is) (subst (λ o. IfSome o (IsFirst (IsChild (nodes_of s) c.args.key) 0)) (sym (c.key_at.ensures ∙ sym (key_at-project
+    (λ l. l.node) s.nodes _)))
     (first_some (nodes_of s) (resources_of s) (next_of s) (previous_of s) c.self.invariant.tied (IsChild (nodes_of s) c.args.key)
-    (Children c.args.key.slot) refl refl ring c.in-Sibling.slot (ap (λ l. l.next) (sym (children_read s c.args.key.slot _ c.at.ensures.value c.behind-self.view_is)) ∙ (sym c.place.ensures ∙ c.in-Sibling.is))))
+    (Children c.args.key.slot) refl refl ring c.in-Sibling.slot (ap (λ l. l.next) (sym
+    (children_read s c.args.key.slot _ c.at.ensures.value c.behind-self.view_is)) ∙ (sym c.place.ensures ∙ c.in-Sibling.is))))
 
 pub returns-in-Sibling-clause-none : goal.returns-in-Sibling-clause-none
 returns-in-Sibling-clause-none g c =
     let s = c.self.inside.store in
     let ring = children_ring (nodes_of s) (resources_of s) (next_of s) (previous_of s) c.self.invariant.tied c.args.key
     (ap is_some (sym c.node.ensures ∙ c.in_ok-_node.was)) in
-    rw (← c.self.view_is) (subst (λ o. IfNone o (HasNone (IsChild (nodes_of s) c.args.key) 0)) (sym (c.key_at.ensures ∙ sym (key_at-project (λ l. l.node) s.nodes _)))
+    rw (← c.self.view_is) (subst (λ o. IfNone o (HasNone (IsChild (nodes_of s) c.args.key) 0)) (sym (c.key_at.ensures ∙ sym (key_at-project
+    (λ l. l.node) s.nodes _)))
     (first_there (nodes_of s) (resources_of s) (next_of s) (previous_of s) c.self.invariant.tied (IsChild (nodes_of s) c.args.key)
-    (Children c.args.key.slot) refl refl ring c.in-Sibling.slot (ap (λ l. l.next) (sym (children_read s c.args.key.slot _ c.at.ensures.value c.behind-self.view_is)) ∙ (sym c.place.ensures ∙ c.in-Sibling.is))))
+    (Children c.args.key.slot) refl refl ring c.in-Sibling.slot (ap (λ l. l.next) (sym
+    (children_read s c.args.key.slot _ c.at.ensures.value c.behind-self.view_is)) ∙ (sym c.place.ensures ∙ c.in-Sibling.is))))
 
 pub returns-in_default : goal.returns-in_default
 returns-in_default g c =
@@ -31,7 +35,8 @@ returns-in_default g c =
     rw (← c.self.view_is) (record {
       some = tt;
       none = first_none (nodes_of s) (resources_of s) (next_of s) (previous_of s) c.self.invariant.tied (IsChild (nodes_of s) c.args.key)
-          (Children c.args.key.slot) refl refl ring (λ slot e. c.in_default.not-Sibling slot (c.place.ensures ∙ ap (λ l. l.next) (children_read s c.args.key.slot _ c.at.ensures.value c.behind-self.view_is) ∙ e));
+          (Children c.args.key.slot) refl refl ring (λ slot e. c.in_default.not-Sibling slot (c.place.ensures ∙ ap (λ l. l.next)
+          (children_read s c.args.key.slot _ c.at.ensures.value c.behind-self.view_is) ∙ e));
     })
 
 pub at-requires : goal.at-requires

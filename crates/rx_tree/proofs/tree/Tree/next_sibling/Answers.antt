@@ -13,14 +13,18 @@ returns-in_err-_parent-clause-none g c = let s = c.self.inside.store in rw (← 
 
 pub returns-in-Sibling-clause-some : goal.returns-in-Sibling-clause-some
 returns-in-Sibling-clause-some g c = let s = c.self.inside.store in rw (← c.self.view_is) (subst (λ o. IfSome o (λ next. (parent : Key) → IsChild
-    (nodes_of s) parent c.args.key → IsFirst (IsChild (nodes_of s) parent) (c.args.key.number + 1) next)) (sym (c.key_at.ensures ∙ sym (key_at-project (λ l. l.node) s.nodes _))) (sibling_some
-    (nodes_of s) (resources_of s) (next_of s) (previous_of s) c.self.invariant.tied _ _ (ap (λ l. l.next) (sym (sibling_read s c.args.key.slot _ c.at.ensures.value c.behind-self.view_is)) ∙ (sym c.place.ensures
+    (nodes_of s) parent c.args.key → IsFirst (IsChild (nodes_of s) parent) (c.args.key.number + 1) next)) (sym (c.key_at.ensures ∙ sym (key_at-project
+    (λ l. l.node) s.nodes _))) (sibling_some
+    (nodes_of s) (resources_of s) (next_of s) (previous_of s) c.self.invariant.tied _ _ (ap (λ l. l.next) (sym
+    (sibling_read s c.args.key.slot _ c.at.ensures.value c.behind-self.view_is)) ∙ (sym c.place.ensures
     ∙ c.in-Sibling.is))))
 
 pub returns-in-Sibling-clause-none : goal.returns-in-Sibling-clause-none
 returns-in-Sibling-clause-none g c = let s = c.self.inside.store in rw (← c.self.view_is) (subst (λ o. IfNone o ((parent : Key) → IsChild (nodes_of s)
-    parent c.args.key → HasNone (IsChild (nodes_of s) parent) (c.args.key.number + 1))) (sym (c.key_at.ensures ∙ sym (key_at-project (λ l. l.node) s.nodes _))) (sibling_there (nodes_of s)
-    (resources_of s) (next_of s) (previous_of s) c.self.invariant.tied _ _ (ap (λ l. l.next) (sym (sibling_read s c.args.key.slot _ c.at.ensures.value c.behind-self.view_is)) ∙ (sym c.place.ensures
+    parent c.args.key → HasNone (IsChild (nodes_of s) parent) (c.args.key.number + 1))) (sym (c.key_at.ensures ∙ sym (key_at-project
+    (λ l. l.node) s.nodes _))) (sibling_there (nodes_of s)
+    (resources_of s) (next_of s) (previous_of s) c.self.invariant.tied _ _ (ap (λ l. l.next) (sym
+    (sibling_read s c.args.key.slot _ c.at.ensures.value c.behind-self.view_is)) ∙ (sym c.place.ensures
     ∙ c.in-Sibling.is))))
 
 pub returns-in-Sibling-clause-alone : goal.returns-in-Sibling-clause-alone
@@ -33,7 +37,8 @@ returns-in_default g c =
     rw (← c.self.view_is) (record {
       some = tt;
       none = sibling_none (nodes_of s) (resources_of s) (next_of s) (previous_of s) c.self.invariant.tied c.args.key
-          (λ slot e. c.in_default.not-Sibling slot (c.place.ensures ∙ ap (λ l. l.next) (sibling_read s c.args.key.slot _ c.at.ensures.value c.behind-self.view_is) ∙ e));
+          (λ slot e. c.in_default.not-Sibling slot (c.place.ensures ∙ ap (λ l. l.next)
+          (sibling_read s c.args.key.slot _ c.at.ensures.value c.behind-self.view_is) ∙ e));
       alone = λ none. refl;
     })
 
