@@ -213,6 +213,8 @@ impl<R: Resource> Ground<R> {
 
     /// Gets room for so many events and notes alone, beside what is kept for closing everything. Where no note is
     /// told, none is asked for.
+    ///
+    /// `NoMemory` where memory is refused; then some of the room may have been gotten, and nothing else changed.
     #[inline(always)]
     pub fn make_room_to_tell(&mut self, events: u64, notes: u64) -> Result<(), Refusal>
         requires standing { IsStanding R.Resource self.old }
@@ -276,8 +278,8 @@ impl<R: Resource> Ground<R> {
         self.sum_up(events)
     }
 
-    // The same by what closing everything needs, summed. Room that was set aside for what came to an end in
-    // another way is spare again.
+    // Sets that much room aside by what closing everything needs, summed: room for what came to an end in another
+    // way is spare again.
     #[cold]
     #[inline(never)]
     fn sum_up(&mut self, events: u64) -> Result<(), AllocError>

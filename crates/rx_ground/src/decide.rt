@@ -125,7 +125,7 @@ impl<R: Resource> Ground<R> {
         self.is_over_in_all(more)
     }
 
-    // The same by what closing everything needs, summed.
+    // Whether so many events more are too many, by what closing everything needs, summed.
     #[cold]
     #[inline(never)]
     fn is_over_in_all(&self, more: u64) -> bool

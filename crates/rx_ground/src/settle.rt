@@ -81,7 +81,7 @@ impl<R: Resource> Ground<R> {
         self.settle_all();
     }
 
-    // The same where something may be due.
+    // Writes what is forced, event by event, where something may be due.
     #[cold]
     #[inline(never)]
     fn settle_all(&mut self)

@@ -101,7 +101,7 @@ fn note(store: &Store, waiting: &mut Rings, due: &mut Rings, index: usize) -> bo
     waiting.first(0).is_some() || due.first(0).is_some()
 }
 
-// The same where a subscriber came or left: the chains stay as they are where nothing is due by that.
+// Puts a hub on the chains where a subscriber came or left: they stay as they are where nothing is due by that.
 #[inline(always)]
 fn note_unless(
     is_quiet: bool,

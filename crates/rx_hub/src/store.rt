@@ -175,7 +175,7 @@ impl Store {
         copy_at(&self.records, index)
     }
 
-    // The same where there is one: nothing is asked.
+    // A hub that is there, without its subscribers: nothing is asked.
     #[inline(always)]
     pub(crate) fn at(&self, index: usize) -> Published
         requires { IsSome (slice_get self.now.hubs index) }
@@ -270,7 +270,7 @@ impl Store {
         self.admit_more(slots)
     }
 
-    // The same where there are more than before.
+    // Gets room where there are more slots than before.
     #[cold]
     #[inline(never)]
     fn admit_more(&mut self, slots: usize) -> Result<(), AllocError>

@@ -154,7 +154,7 @@ impl<T> Cells<T> {
         &self.values[slot]
     }
 
-    // The same, for writing.
+    // The value at a slot that has one, for writing.
     #[inline(always)]
     #[tactic(auto, using(crate::proofs::Standing::standing_below, crate::proofs::Standing::value_standing, crate::proofs::Standing::written_at))]
     pub(crate) fn value_mut(&mut self, slot: usize) -> &mut T

@@ -58,7 +58,7 @@ impl Links {
         }
     }
 
-    // The same of a place that is there: nothing is asked.
+    // What comes after a place that is there, and before it: nothing is asked.
     #[inline(always)]
     fn at(&self, place: Place) -> Link
         requires there { IsTrue (is_there self.now place) }

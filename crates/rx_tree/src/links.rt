@@ -109,7 +109,7 @@ impl Step {
         }
     }
 
-    // The same, which is not likely: apart, so that what asks stays small.
+    // The place where it is not likely to lead: apart, so that what asks stays small.
     #[cold]
     #[inline(never)]
     fn place_apart(&self) -> Place
@@ -118,7 +118,7 @@ impl Step {
         self.place()
     }
 
-    // The same where it leads along the ring of another place: first are asked for the kinds that stand on such a ring.
+    // The place of a word along the ring of another place: first are asked for the kinds that stand on such a ring.
     #[inline(always)]
     pub(crate) fn place_beside(&self, other: Place) -> Place
         ensures { result ≡ self.now }

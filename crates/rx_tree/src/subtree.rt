@@ -86,7 +86,7 @@ impl<R: Drop> Store<R> {
         }
     }
 
-    // The same of one that stands there, which is seldom: apart, so that what closes a node stays small.
+    // Takes a node off the chain on which it stands, which is seldom: apart, so that what closes a node stays small.
     #[cold]
     #[inline(never)]
     fn leave_noted(&mut self, slot: usize)
