@@ -1,6 +1,7 @@
 pub mod Common
 pub mod ShownKeys
 pub mod AnswersOkOrErr
+mod ItemsWithin
 pub mod ListOfClosed
 pub mod CausesByKey
 pub mod CallWithoutCause

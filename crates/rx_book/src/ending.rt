@@ -1,19 +1,25 @@
 //! Items, ends and unsubscriptions.
 
-ghost use Rattle.std.specs.Prelude.{◌≡◌, ◌<◌, Some, None, length, slice_get, IfOk, IfErr, OnOk};
-ghost use Rattle.rx_event.specs.declared.event.Event.{Event};
-ghost use Rattle.rx_event.specs.Notes.{mail_of};
-ghost use Rattle.rx_event.specs.Refusals.{first_cause};
+ghost use Rattle.std.specs.Prelude.{◌≡◌, ◌<◌, Some, length, slice_get};
 ghost use Rattle.rx_book.specs.Requests.{next_request, end_request, abort_request, dispose_request};
-ghost use Rattle.rx_book.specs.Requests.{decline_request, fail_request, stands};
-ghost use Rattle.rx_book.specs.Answers.{AnswersPlace, AnswersPlaceOrWant, IsCause};
-ghost use Rattle.rx_book.specs.Courses.{EmitsAll};
+ghost use Rattle.rx_book.specs.Requests.{decline_request, fail_request};
+ghost use Rattle.rx_book.specs.Answers.{AnswersPlace, AnswersPlaceOrWant};
+ghost use Rattle.rx_book.specs.Courses.{EmitsAll, EmitsWithin};
 
 use crate::Book;
 use crate::call::Call;
 use rx_event::{Refusal, Terminal};
 use rx_resource::Resource;
 use rx_tree::Key;
+
+/// What came of an item that was to come to so many notes at most.
+#[derive(Clone, Copy, Debug, PartialEq, Eq)]
+pub enum ItemWithin {
+    /// It was emitted: the place of its event.
+    Told(u64),
+    /// It comes to more notes than that, to so many, and was not emitted.
+    Beyond(u64),
+}
 
 /// How many of several items were emitted, and why the next one was refused, where one was.
 #[derive(Clone, Copy, Debug, PartialEq, Eq)]
@@ -43,25 +49,29 @@ impl<R: Resource> Book<R> {
     pub fn next(&mut self, leaf: Key, value: i64) -> Result<u64, Refusal>
         ensures { AnswersPlaceOrWant self.old (next_request self.old leaf value) self.new result }
     {
+        match self.next_within(leaf, value, u64::MAX) {
+            Ok(ItemWithin::Told(place)) => Ok(place),
+            Ok(ItemWithin::Beyond(_)) => unreachable!(),
+            Err(why) => Err(why),
+        }
+    }
+
+    /// A leaf emits an item, as by [`Book::next`], where it comes to so many notes at most by itself, the ends that it
+    /// forces not counted; else nothing changes, and how many it comes to is answered.
+    #[inline(always)]
+    pub fn next_within(&mut self, leaf: Key, value: i64, most: u64) -> Result<ItemWithin, Refusal>
+        ensures { EmitsWithin most self.old leaf value self.new result }
+    {
         let way = self.ground.route(leaf, value)?;
+        if way.reach.notes > most {
+            return Ok(ItemWithin::Beyond(way.reach.notes));
+        }
         self.ground
             .make_room_to_tell(way.reach.events, way.reach.notes)?;
         let place = self.ground.begin();
         self.ground.write_item(leaf, value, way);
         self.ground.settle();
-        Ok(place)
-    }
-
-    /// How many notes an item of this leaf comes to by itself, the ends that it forces not counted; or what stands
-    /// against it, as [`Book::next`] says. Nothing changes.
-    pub fn notes_of(&mut self, leaf: Key, value: i64) -> Result<u64, Refusal>
-        ensures kept { self.new ≡ self.old }
-        ensures ok { IfOk result (λ n. n ≡ length (mail_of self.old.history (Event.Item leaf.number value))) }
-        ensures none { OnOk result (first_cause (stands self.old (next_request self.old leaf value)) ≡ None) }
-        ensures refused { IfErr result (IsCause self.old (next_request self.old leaf value)) }
-    {
-        let way = self.ground.route(leaf, value)?;
-        Ok(way.reach.notes)
+        Ok(ItemWithin::Told(place))
     }
 
     /// A leaf emits several items, one after another, up to the first that is refused: as so many calls of

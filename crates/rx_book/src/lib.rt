@@ -83,7 +83,7 @@ pub use answer::{Answer, At, Opened, OpenedHolding, OpenedUsing, Refused};
 pub use book::Book;
 pub use call::Call;
 pub use closing::Closed;
-pub use ending::Emitted;
+pub use ending::{Emitted, ItemWithin};
 pub use rx_event::{Event, Kind, Mail, Mode, Refusal, Terminal};
 pub use rx_ground::LeaseKey;
 pub use rx_note::Note;

@@ -20,7 +20,7 @@ use std::sync::ledger::{Blank, Ledger};
 
 /// What lies behind a desk's lock. It has the calls of the [`Book`] by the same names, each of which
 /// answers, refuses and does just what the book's call does; one that counts takes the caller's seat too.
-/// It has not `next_all`, `ask`, `closed_count`, `nth_closed` and `notes_of`, and no call that releases, as
+/// It has not `next_all`, `ask`, `closed_count`, `nth_closed` and `next_within`, and no call that releases, as
 /// `close` and `finish`: a release is not to run under the lock.
 ///
 /// At each moment the totals of the ledgers are those of the book's history, beside all that a book

@@ -8,7 +8,7 @@
 //!
 //! - The [`Floor`] is what lies behind the lock: the book, the totals of the ledgers, and whether the
 //!   desk is shut. It has the book's calls by the same names, but for `next_all`, `ask`, `closed_count`,
-//!   `nth_closed`, `notes_of` and those that release, and its `shut` shuts the desk. It has calls of hubs too, the published observables that threads share
+//!   `nth_closed`, `next_within` and those that release, and its `shut` shuts the desk. It has calls of hubs too, the published observables that threads share
 //!   (Publish, Connect and RefCount, at reactivex.io), and of leases, which one thread may take out and
 //!   another give back (RefCountDisposable of System.Reactive).
 //! - `Counting` of `specs/` says what a call counts, `Verdicts` what [`finish`] answers.

@@ -120,6 +120,14 @@ impl Effects {
         self.list.reserve_exact(many)
     }
 
+    /// For how many more there is room.
+    #[inline(always)]
+    pub fn room(&self) -> usize
+        ensures { result ≡ self.now.room }
+    {
+        self.list.capacity() - self.list.len()
+    }
+
     /// Puts an effect behind the others. It takes no memory.
     #[inline(always)]
     pub fn put(&mut self, effect: Effect)
