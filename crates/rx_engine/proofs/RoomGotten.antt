@@ -1,5 +1,5 @@
 -- Parts with more room are as ready as they were, and as much readier as there is room.
-use Rattle.std.proofs.Common.{◌≡◌, ℕ, ◌+◌, Bool, length, Option, IsSome, ap, sym, ◌∙◌, arith, subst, length-append, ◌∷◌, []}
+use Rattle.std.proofs.Common.{◌≡◌, ℕ, ◌+◌, ◌≤◌, Bool, length, Option, IsSome, ap, sym, ◌∙◌, arith, subst, length-append, ◌∷◌, []}
 use Rattle.rx_lanes.specs.declared.names.LaneName.{LaneName}
 use Rattle.rx_lanes.specs.Lane.{Lane}
 use Rattle.rx_lanes.specs.State.{lane}
@@ -47,6 +47,16 @@ ready_with extra p q ready r has =
       room = omega (arith, had);
       spare = omega (arith, spare);
     }
+
+-- there is room for what comes to no more than there is room for
+pub ready_within : (items most : ℕ) (p : Parts) → items ≤ most → IsReady 0 p → role_count p + most ≤ p.effects.room → role_count p + most ≤ p.lanes.spare →
+    IsReady items p
+ready_within items most p few ready room spare = record {
+  empty = ready.empty;
+  many = ready.many;
+  room = omega (arith, few, room);
+  spare = omega (arith, few, spare);
+}
 
 -- who gets roles uses up as much
 pub ready_entered : (n k : ℕ) → n ≡ k + 2 → (p q : Parts) (number : ℕ) (hears merges : Bool) (word : ℕ) (home : Home) (name : LaneName) → IsReady n p →

@@ -6,24 +6,21 @@ ghost use Rattle.rx_book.specs.Requests.{apply_request, remove_request, lease_re
 ghost use Rattle.rx_book.specs.Answers.{IsNewLeaseKey};
 ghost use Rattle.rx_engine.specs.Commands.{IsFreeMade, IsCostlyMade};
 
+use crate::emitting::emit;
 use crate::engine::Engine;
 use crate::settling::settle;
 use rx_book::{Key, LeaseKey, Mode, Refusal, ResKey, Resource, Terminal};
 use rx_resource::Token;
 
 impl Engine {
-    /// A leaf emits an item. The book has 0 in the place of the value.
+    /// A leaf emits an item.
     pub fn next(&mut self, leaf: Key, by: u64, value: u64) -> Result<(), Refusal>
         ensures { IsCostlyMade ⟦<Token as Resource>⟧ (λ s. next_request s.book leaf (pos 0)) by value
             self.old self.new result }
     {
         self.book.promise();
-        let notes = self.book.notes_of(leaf, 0)?;
-        if !self.parts.reserve(notes) {
-            return Err(Refusal::NoMemory);
-        }
-        match self.book.next(leaf, 0) {
-            Ok(_) => {
+        match emit(&mut self.book, &mut self.parts, leaf) {
+            Ok(()) => {
                 settle(&mut self.book, &mut self.parts, &mut self.wishes, by, value);
                 Ok(())
             }

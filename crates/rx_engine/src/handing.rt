@@ -2,6 +2,7 @@
 
 ghost use Rattle.rx_engine.specs.Handings.{IsNextHanded};
 
+use crate::emitting::emit;
 use crate::engine::Engine;
 use crate::settling::{gather, spread_and_hand};
 use rx_book::{Key, Refusal, Resource};
@@ -21,12 +22,8 @@ impl Engine {
         ensures { IsNextHanded ⟦<Token as Resource>⟧ leaf by value self.old self.new result }
     {
         self.book.promise();
-        let notes = self.book.notes_of(leaf, 0)?;
-        if !self.parts.reserve(notes) {
-            return Err(Refusal::NoMemory);
-        }
-        match self.book.next(leaf, 0) {
-            Ok(_) => {
+        match emit(&mut self.book, &mut self.parts, leaf) {
+            Ok(()) => {
                 gather(&mut self.book, &mut self.parts, &mut self.wishes, by, value);
                 spread_and_hand(&self.book, &mut self.parts, by)
             }

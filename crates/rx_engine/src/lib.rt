@@ -28,6 +28,7 @@ mod calls;
 mod checkpoint;
 mod closing;
 mod delivering;
+mod emitting;
 mod engine;
 mod entering;
 mod handing;

@@ -1,7 +1,7 @@
 //! What an engine keeps beside its book: roles, the effects of the command that is being done, and lanes.
 
 ghost use Rattle.std.specs.Prelude.{◌≡◌, ◌+◌, ◌<◌, ◌≤◌, ◌^◌, IfSome, IsTrue};
-ghost use Rattle.rx_engine.specs.Rooms.{role_count, name_count, IsRoomier, HasRoomFor, HasRoomToEnter};
+ghost use Rattle.rx_engine.specs.Rooms.{role_count, name_count, IsReady, IsRoomier, HasRoomFor, HasRoomToEnter};
 
 use crate::homes::LaneOf;
 use rx_book::{Key, ResKey};
@@ -70,6 +70,23 @@ impl Parts {
         let roles = ears.checked_add(self.holds.len())?;
         let many = roles.checked_add(more as usize)?;
         where_few(many.checked_add(self.homes.len())?, many)
+    }
+
+    /// For how many effects there is room beside the last one of each role.
+    #[inline(always)]
+    pub(crate) fn spare(&self) -> usize
+        requires ready { IsReady 0 self.now }
+        ensures room { role_count self.now + result ≤ self.now.effects.room }
+        ensures spare { role_count self.now + result ≤ self.now.lanes.spare }
+    {
+        let on_their_way = self.effects.room();
+        let in_lanes = self.lanes.spare();
+        let roles = self.hears.len() + self.merges.len() + self.holds.len();
+        if on_their_way < in_lanes {
+            on_their_way - roles
+        } else {
+            in_lanes - roles
+        }
     }
 
     // Gets room for so many effects, on their way and in lanes.
