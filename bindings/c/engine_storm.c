@@ -2,7 +2,8 @@
  * and are interrupted with an effect in their hands, which they give back. Every second one takes several effects of a lane by one
  * call, and is never interrupted. Each tag is released once; each root hears its items in order, from one thread at a time, then one last effect, and nothing
  * behind it; each value is given back as often as counted; and memory stays as it was behind the first tenth. Numbers of roots and tags
- * are used again once they have had their last effect. */
+ * are used again once they have had their last effect. Where many effects wait, as behind a thread that is held up, nobody emits: so
+ * what waits stays within bounds. Each thread pauses for so many microseconds after every hundredth step. */
 #define _POSIX_C_SOURCE 200809L
 #include <cellarcliff.h>
 #include <pthread.h>
@@ -12,7 +13,7 @@
 
 #include "must.h"
 
-enum { THREADS = 8, SHARES = 4, MOST = 1 << 16, MINE = 16 };
+enum { THREADS = 8, SHARES = 4, MOST = 1 << 16, MINE = 16, CROWD = 2048 };
 #define NOBODY UINT64_MAX /* heard by a root that is not there */
 static struct cellar engine;
 static pthread_mutex_t lock = PTHREAD_MUTEX_INITIALIZER;
@@ -24,10 +25,22 @@ static uint64_t last_heard[MOST]; /* of a root: by whoever serves its lane */
 static unsigned char is_held[MOST];
 static atomic_ulong given_back, told;
 static time_t ends;
+static long pauses;
 static time_t now(void) {
   struct timespec t;
   clock_gettime(CLOCK_MONOTONIC, &t);
   return t.tv_sec;
+}
+
+static void wait_for(long microseconds) {
+  nanosleep(&(struct timespec){.tv_sec = microseconds / 1000000, .tv_nsec = microseconds % 1000000 * 1000}, NULL);
+}
+static int is_crowded(void) {
+  struct cellar_totals totals;
+  pthread_mutex_lock(&lock);
+  MUST(cellar_totals(&engine, &totals) == 0);
+  pthread_mutex_unlock(&lock);
+  return totals.effects > CROWD;
 }
 
 struct one { /* a thread */
@@ -146,7 +159,8 @@ static uint8_t make(struct one *self, struct cellar_command command, struct cell
 static void *run(void *words) {
   struct one *self = words;
   struct cellar_answer answer;
-  while (now() < ends) {
+  for (uint64_t step = 1; now() < ends; step++) {
+    if (pauses && step % 100 == 0) wait_for(pauses);
     uint64_t share = dice(self, SHARES), place = dice(self, MINE);
     switch (dice(self, 8)) {
       case 0:
@@ -164,6 +178,11 @@ static void *run(void *words) {
         if (dice(self, 4) == 0) serve_what_is_left(self);
         break;
       default:
+        if (is_crowded()) {
+          serve_what_is_left(self);
+          wait_for(1000);
+          break;
+        }
         make(self, (struct cellar_command){.what = CELLAR_NEXT, .value = share, .flags = dice(self, 4) ? 0 : CELLAR_QUEUES}, &answer);
     }
   }
@@ -184,6 +203,7 @@ int main(int count, char **words) {
   struct cellar_answer answer;
   struct cellar_totals totals;
   long seconds = count > 1 ? atol(words[1]) : 10, pages;
+  pauses = count > 2 ? atol(words[2]) : 0;
   ends = now() + seconds;
   for (uint32_t i = 0; i < MOST; i++) free_roots[i] = free_tags[i] = i, last_heard[i] = NOBODY;
   MUST(cellar_new(&engine, 0) == 0);
@@ -196,7 +216,7 @@ int main(int count, char **words) {
   for (int i = 0; i < THREADS; i++)
     for (int j = 0; j < MINE; j++) ones[i].mine[j] = (struct cellar_node){UINT64_MAX, UINT64_MAX};
   for (int i = 0; i < THREADS; i++) MUST(pthread_create(&threads[i], NULL, run, &ones[i]) == 0);
-  nanosleep(&(struct timespec){.tv_sec = seconds / 10, .tv_nsec = seconds % 10 * 100000000}, NULL);
+  wait_for(seconds * 100000);
   pages = memory();
   for (int i = 0; i < THREADS; i++) pthread_join(threads[i], NULL);
   struct cellar_command shut = {.what = CELLAR_SHUT, .by = THREADS};
