@@ -76,13 +76,13 @@ pub record Gives (name : LaneName) (by : ℕ) (sent : Option Sent) (s t : Cellar
   pub left_is : is_left ≡ left_number answer
   pub status_is : status ≡ given_up_status answer
 
-abbrev pub GivesIf : Option LaneName → (by : ℕ) → Option Effect → Cellar → Cellar → (is_left status : ℕ) → Type 0
-GivesIf None by back s t is_left status = (t ≡ s) × (is_left ≡ 0) × (status ≡ 17)
-GivesIf (Some name) by back s t is_left status = Gives name by (sent_of name back) s t is_left status
+abbrev pub GivesBackIf : Option LaneName → (by : ℕ) → Option Effect → Cellar → Cellar → (is_left status : ℕ) → Type 0
+GivesBackIf None by back s t is_left status = (t ≡ s) × (is_left ≡ 0) × (status ≡ 17)
+GivesBackIf (Some name) by back s t is_left status = Gives name by (sent_of name back) s t is_left status
 
 abbrev pub IsGivenUpIf : Option (Option Effect) → (word by : ℕ) → Cellar → Cellar → (is_left status : ℕ) → Type 0
 IsGivenUpIf None word by s t is_left status = (t ≡ s) × (is_left ≡ 0) × (status ≡ 5)
-IsGivenUpIf (Some back) word by s t is_left status = GivesIf (named s.engine.parts.lanes word) by back s t is_left status
+IsGivenUpIf (Some back) word by s t is_left status = GivesBackIf (named s.engine.parts.lanes word) by back s t is_left status
 
 -- more than one effect, or one of no kind, does not come back; then a word that names no lane gives nothing up
 abbrev pub IsGivenUp : (word by : ℕ) → List Effect → Cellar → Cellar → (is_left status : ℕ) → Type 0
