@@ -2,6 +2,8 @@
 
 ghost use Rattle.std.specs.Prelude.{◌≡◌, ◌++◌, codes, IfOk};
 ghost use Rattle.serde_json.specs.View.{view};
+ghost use Rattle.rx_event.specs.declared.event.Event.TheVariants.{Open};
+ghost use Rattle.rx_event.specs.declared.event.Place.{Place};
 ghost use Rattle.rx_event.specs.declared.refusal.Refusal.TheVariants.{WrongKind};
 ghost use Rattle.rx_explain.specs.Worded.{number_named, hub_number, labels, IsBeginning, Words};
 
@@ -27,17 +29,26 @@ pub fn number_named(event: Event) -> u64
     }
 }
 
+// The number of the hub to which a node of this kind subscribes.
+fn hub_of(kind: Kind) -> u64
+    ensures { (p : Place) → result ≡ hub_number (Open p kind) }
+{
+    match kind {
+        Kind::Sub(hub) => hub,
+        Kind::Leaf | Kind::Pass | Kind::Flat | Kind::Switch | Kind::Until => 0,
+    }
+}
+
 /// The number of the hub that it subscribes to or connects.
 pub fn hub_number(event: Event) -> u64
     ensures { result ≡ hub_number event }
 {
     match event {
         Event::Connect(hub) => hub,
-        Event::Open {
-            kind: Kind::Sub(hub),
-            ..
-        } => hub,
-        _ => 0,
+        Event::Open { kind, .. } => hub_of(kind),
+        Event::Hub(_) | Event::Accept(_, _) | Event::Item(_, _) | Event::End(_, _) => 0,
+        Event::Decline(_) | Event::Close(_) | Event::Use(_) | Event::Remove(_) => 0,
+        Event::Lease(_) | Event::Take(_) | Event::Return(_) => 0,
     }
 }
 
