@@ -1,9 +1,14 @@
-use Rattle.std.proofs.Common.{rules, map, append_assoc}
-use Rattle.std.proofs.lemmas.Grind.{common_steps}
+use Rattle.std.proofs.Common.{◌∙◌, append_assoc}
 use Rattle.std.proofs.lemmas.List.{map-append}
-use Rattle.rx_scenario.proofs.Steps.{labels_in-push}
+use Rattle.rx_scenario.proofs.Steps.{labels_in-push, with_front-more}
 use Rattle.rx_scenario.proofs.reading.steps.+steps.Goals as goal
 
 pub each_step-loop-value-preserved : goal.each_step-loop-value-preserved
 each_step-loop-value-preserved t c =
-    search (rules, map, map-append, common_steps, labels_in-push, append_assoc)
+    let within = rw c.deref-value-items.ensures.value at c.loop-value-test.true in
+    let is = rw c.deref-value-items.ensures.value at c.value-item.is in
+    let gives = rw c.new.ensures at c.in_ok-step_in.ensures.value in
+    record {
+      steps = rw (c.in_ok-push.ensures.items, map-append) (c.loop-value.invariant.steps ∙ with_front-more _ _ _ _ _ _ within is gives);
+      noted = rw (c.in_ok-push.ensures.items, map-append, labels_in-push, ← append_assoc, ← c.loop-value.invariant.noted) c.in_ok-step_in.ensures.labels;
+    }
