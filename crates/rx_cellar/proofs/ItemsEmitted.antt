@@ -100,8 +100,8 @@ item_done g item by s e (Ok first) given a tried is =
     (handed_told (comes_to_one u) by (record s { engine = u }) (record s { engine = e }) first given nothing_made a same tried.done.hand refl) refl
 item_done g item by s e (Err why) given a tried is = absurd (cc)
 
-pub item_refused : (g : Ghosts Token) (item : Item) (by : ℕ) (s : Cellar) (e : State) (answer : Result (Option Sent) Refusal) (why : Refusal) (a : Answer) →
-    IsNextHanded g item.leaf by item.value s.engine e answer → answer ≡ Err why →
-    IsMadeOnce g (asked_for item) by s (record s { engine = e }) a a (refusal_status why)
-item_refused g item by s e answer why a tried is =
-    once_refused why (performs_err g item by s e answer why tried is) refl refl
+pub item_refused : (g : Ghosts Token) (item : Item) (by : ℕ) (s : Cellar) (e : State) (answer : Result (Option Sent) Refusal) (why : Refusal)
+    (a b : Answer) (status : ℕ) → IsNextHanded g item.leaf by item.value s.engine e answer → answer ≡ Err why → b ≡ a → status ≡ refusal_status why →
+    IsMadeOnce g (asked_for item) by s (record s { engine = e }) a b status
+item_refused g item by s e answer why a b status tried is same status_is =
+    once_refused why (performs_err g item by s e answer why tried is) same status_is

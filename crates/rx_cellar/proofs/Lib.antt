@@ -2,6 +2,8 @@ pub mod WordsFilled
 pub mod WordsFind
 pub mod ItemsAsked
 pub mod ItemsEmitted
+pub mod FrequentAsked
+pub mod AnswersTold
 pub mod Tries
 pub mod TakesGoOn
 pub mod ServesWhoTook

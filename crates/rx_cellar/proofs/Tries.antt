@@ -15,6 +15,7 @@ use Rattle.rx_cellar.specs.declared.making.Made.{Made}
 use Rattle.rx_cellar.specs.declared.asked.Asked.{Asked}
 use Rattle.rx_cellar.specs.declared.cellar.Cellar.{Cellar}
 use Rattle.rx_cellar.specs.Asking.{asks_item}
+use Rattle.rx_cellar.specs.Crossings.{no_answer}
 use Rattle.rx_cellar.specs.Makings.{IsPerformed}
 use Rattle.rx_cellar.specs.Cellars.{Tidies, IsTidy, IsTidyIf, is_due, Performs, IsTried, at_once, once_more, behind_one, behind_none}
 use Rattle.rx_cellar.specs.Cellars.{told, HandsOut, hands_out, IsMadeIf, is_done, is_refused}
@@ -70,9 +71,9 @@ pub behind : (g : Ghosts Token) (o : Option Asked) (by : ℕ) (s u t : Cellar) (
     Tidies s u made → IsMadeOnceIf g o by u t a b status → IsMadeAgain g o by s t a b status
 behind g o by s u t made at a b status is tidies once = again_done at u (subst (λ (r : Result ℕ Refusal). Tidies s u r) is tidies) once
 
-pub not_behind : (g : Ghosts Token) (o : Option Asked) (by : ℕ) (s t : Cellar) (made : Result ℕ Refusal) (why : Refusal) (a : Answer) → made ≡ Err why →
-    Tidies s t made → IsMadeAgain g o by s t a a (refusal_status why)
-not_behind g o by s t made why a is tidies = again_not why (subst (λ (r : Result ℕ Refusal). Tidies s t r) is tidies) refl refl
+pub not_behind : (g : Ghosts Token) (o : Option Asked) (by : ℕ) (s t : Cellar) (made : Result ℕ Refusal) (why : Refusal) (a b : Answer) (status : ℕ) → made ≡ Err why →
+    Tidies s t made → b ≡ a → status ≡ refusal_status why → IsMadeAgain g o by s t a b status
+not_behind g o by s t made why a b status is tidies same status_is = again_not why (subst (λ (r : Result ℕ Refusal). Tidies s t r) is tidies) same status_is
 
 -- made -------------------------------------------------------------------------------------------------------
 
@@ -139,10 +140,10 @@ again g asked by s u v t a b status tidy first (again_not why tidies same is) =
     refused_so g asked by s u t why a b status tidy (once_more v first (behind_none tidies)) same is
 
 pub made_again : (g : Ghosts Token) (o : Option Asked) (by : ℕ) (s u v t : Cellar) (a b d : Answer) (before status : ℕ) → IsTidyFor o s u →
-    IsMadeOnceIf g o by u v a b before → before ≡ 16 → IsMadeAgain g o by v t b d status → IsMadeIf g o by s t a d status
+    IsMadeOnceIf g o by u v (no_answer a) b before → before ≡ 16 → IsMadeAgain g o by v t (no_answer b) d status → IsMadeIf g o by s t (no_answer a) d status
 made_again g None by s u v t a b d before status tidy first full more = absurd (let e = first.0 in cc)
 made_again g (Some asked) by s u v t a b d before status tidy (once_done made x tried hands is) full more = absurd (cc)
 made_again g (Some asked) by s u v t a b d before status tidy (once_refused why tried same is) full more =
-    again g asked by s u v t a d status tidy
+    again g asked by s u v t (no_answer a) d status tidy
     (subst (λ (x : Refusal). Performs g asked by u v (Err x)) (full_is why (sym is ∙ full)) tried)
-    (subst (λ (x : Answer). IsMadeAgain g (Some asked) by v t x d status) same more)
+    (subst (λ (x : Answer). IsMadeAgain g (Some asked) by v t (no_answer x) d status) same more)

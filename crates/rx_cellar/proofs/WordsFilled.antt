@@ -110,3 +110,31 @@ pub got_mapped : (ds : List Due) (n : ℕ) (d : Due) → n < length ds → slice
 got_mapped [] n d h = let l : n < 0 = h in absurd (omega (arith, l))
 got_mapped (x ∷ ds) zero d h = refl
 got_mapped (x ∷ ds) (suc n) d h = let l : suc n < suc (length ds) = h in got_mapped ds n d (omega (arith, l))
+
+-- none, and one ----------------------------------------------------------------------------------------------
+
+pub one_filled : (xs ws : List ℕ) (x : ℕ) → slice_get xs 0 ≡ Some x → length xs ≡ 1 → filled (x ∷ []) ws ≡ filled xs ws
+one_filled [] ws x there one = absurd (cc)
+one_filled (y ∷ []) ws x there one = let same : y ≡ x = cc in ap (λ z. filled (z ∷ []) ws) (sym same)
+one_filled (y ∷ z ∷ zs) ws x there one = let l : suc (suc (length zs)) ≡ 1 = one in absurd (omega (arith, l))
+
+pub none_filled : (xs ws : List ℕ) → slice_get xs 0 ≡ None → ws ≡ filled xs ws
+none_filled [] ws none = refl
+none_filled (x ∷ xs) ws none = absurd (cc)
+
+pub word_set : (x : ℕ) (ws : List ℕ) → set ws 0 x ≡ filled (x ∷ []) ws
+word_set x [] = refl
+word_set x (w ∷ ws) = refl
+
+pub no_word_set : (x : ℕ) (ws : List ℕ) → length ws ≤ 0 → ws ≡ filled (x ∷ []) ws
+no_word_set x [] h = refl
+no_word_set x (w ∷ ws) h = let l : suc (length ws) ≤ 0 = h in absurd (omega (arith, l))
+
+pub none_due : (ds : List Due) (ws : List ℕ) → length ds ≡ 0 → ws ≡ filled (map word_of_due ds) ws
+none_due [] ws none = refl
+none_due (d ∷ ds) ws none = let l : suc (length ds) ≡ 0 = none in absurd (omega (arith, l))
+
+pub one_due : (ds : List Due) (ws : List ℕ) (e : Due) → length ds ≡ 1 → filled (word_of_due (get_or ds 0 e) ∷ []) ws ≡ filled (map word_of_due ds) ws
+one_due [] ws e one = absurd (let l : 0 ≡ 1 = one in omega (arith, l))
+one_due (d ∷ []) ws e one = refl
+one_due (d ∷ f ∷ fs) ws e one = let l : suc (suc (length fs)) ≡ 1 = one in absurd (omega (arith, l))

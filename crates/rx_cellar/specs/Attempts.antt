@@ -9,6 +9,7 @@ use Rattle.rx_cellar.specs.declared.shapes.Answer.{Answer}
 use Rattle.rx_cellar.specs.declared.making.Made.{Made}
 use Rattle.rx_cellar.specs.declared.asked.Asked.{Asked}
 use Rattle.rx_cellar.specs.declared.cellar.Cellar.{Cellar}
+use Rattle.rx_cellar.specs.Crossings.{no_answer}
 use Rattle.rx_cellar.specs.Asking.{asked_of}
 use Rattle.rx_cellar.specs.Cellars.{Tidies, IsTidy, Performs, told, HandsOut, hands_out}
 
@@ -27,9 +28,9 @@ abbrev pub IsMadeOnceIf : Ghosts Token → Option Asked → (by : ℕ) → Cella
 IsMadeOnceIf g None by s t a b status = (status ≡ 5) × (t ≡ s) × (b ≡ a)
 IsMadeOnceIf g (Some asked) by s t a b status = IsMadeOnce g asked by s t a b status
 
--- by its numbers
+-- by its numbers, whatever the answer told before
 abbrev pub IsTriedOnce : Ghosts Token → Command → Cellar → Cellar → Answer → Answer → ℕ → Type 0
-IsTriedOnce g c s t a b status = IsMadeOnceIf g (asked_of c) c.by s t a b status
+IsTriedOnce g c s t a b status = IsMadeOnceIf g (asked_of c) c.by s t (no_answer a) b status
 
 -- behind a checkpoint; or that was refused, and so is the command, for its cause
 pub data IsMadeAgain (g : Ghosts Token) (o : Option Asked) (by : ℕ) (s t : Cellar) (a b : Answer) (status : ℕ) : Type 0 where
@@ -37,4 +38,4 @@ pub data IsMadeAgain (g : Ghosts Token) (o : Option Asked) (by : ℕ) (s t : Cel
   again_not : (why : Refusal) → Tidies s t (Err why) → b ≡ a → status ≡ refusal_status why → IsMadeAgain g o by s t a b status
 
 abbrev pub IsTriedBehind : Ghosts Token → Command → Cellar → Cellar → Answer → Answer → ℕ → Type 0
-IsTriedBehind g c s t a b status = IsMadeAgain g (asked_of c) c.by s t a b status
+IsTriedBehind g c s t a b status = IsMadeAgain g (asked_of c) c.by s t (no_answer a) b status

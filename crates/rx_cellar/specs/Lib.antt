@@ -9,3 +9,4 @@ pub mod Serving
 pub mod Words
 pub mod TakingOn
 pub mod Behind
+pub mod Frequent

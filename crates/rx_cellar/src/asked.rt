@@ -1,10 +1,10 @@
 //! What a command asks, by its numbers.
 
-ghost use Rattle.std.specs.Prelude.{◌≡◌, true, false, Some, IfSome, IfNone};
+ghost use Rattle.std.specs.Prelude.{◌≡◌, true};
 ghost use Rattle.rx_engine.specs.Openings.{connects_none};
 ghost use Rattle.rx_cellar.specs.Asking.{asked_of, kind_of, opened_as, user_of, lane_asked, share_of, res_of, lease_of};
-ghost use Rattle.rx_cellar.specs.Asking.{by_code, opening_of, using_of, connect_of, put_of, next_of, plain_of};
-ghost use Rattle.rx_cellar.specs.Asking.{is_emission, asks_item, asked_for};
+ghost use Rattle.rx_cellar.specs.Asking.{by_code, opening_of, using_of, connect_of, put_of, next_of, plain_of, is_emission};
+ghost use Rattle.rx_cellar.specs.Frequent.{opening_in, is_plain};
 
 use crate::shapes::Command;
 use rx_book::{At, Key, Kind, LeaseKey, Mode, ResKey};
@@ -35,6 +35,13 @@ pub enum OpenedAs {
 pub(crate) struct Item {
     pub(crate) leaf: Key,
     pub(crate) value: u64,
+}
+
+/// What an opening says beside its kind.
+#[derive(Clone, Copy)]
+pub(crate) struct Opening {
+    pub(crate) at: At,
+    pub(crate) user: User,
 }
 
 /// What a command asks.
@@ -82,8 +89,8 @@ pub(crate) fn kind_of(kind: OwnKind) -> Kind
 
 // The share of a command.
 #[inline(always)]
-fn share_of(command: Command, mode: Mode) -> Share
-    ensures { result ≡ share_of command mode }
+fn share_of(command: &Command, mode: Mode) -> Share
+    ensures { result ≡ share_of command.now mode }
 {
     Share {
         word: command.value,
@@ -92,10 +99,10 @@ fn share_of(command: Command, mode: Mode) -> Share
     }
 }
 
-// How a node is opened.
+/// How a node is opened.
 #[inline(always)]
-fn opened_as(command: Command) -> Option<OpenedAs>
-    ensures { result ≡ opened_as command }
+pub(crate) fn opened_as(command: &Command) -> Option<OpenedAs>
+    ensures { result ≡ opened_as command.now }
 {
     match command.kind {
         0 => Some(OpenedAs::Own(OwnKind::Leaf)),
@@ -124,8 +131,8 @@ fn lane_asked(code: u8, node: RxNode) -> Option<Option<LaneOf>>
 
 // What the face says of a node that it opens.
 #[inline(always)]
-fn user_of(command: Command) -> Option<User>
-    ensures { result ≡ user_of command }
+fn user_of(command: &Command) -> Option<User>
+    ensures { result ≡ user_of command.now }
 {
     // Most commands wish at most.
     if command.flags < 2 {
@@ -148,8 +155,8 @@ fn user_of(command: Command) -> Option<User>
 
 // An opening.
 #[inline(always)]
-fn opening_of(command: Command) -> Option<Asked>
-    ensures { result ≡ opening_of command }
+fn opening_of(command: &Command) -> Option<Asked>
+    ensures { result ≡ opening_of command.now }
 {
     let at = place_at(command.place, command.node)?;
     let user = user_of(command)?;
@@ -161,8 +168,8 @@ fn opening_of(command: Command) -> Option<Asked>
 
 // An opening with a resource.
 #[inline(always)]
-fn using_of(command: Command) -> Option<Asked>
-    ensures { result ≡ using_of command }
+fn using_of(command: &Command) -> Option<Asked>
+    ensures { result ≡ using_of command.now }
 {
     let at = place_at(command.place, command.node)?;
     let user = user_of(command)?;
@@ -171,8 +178,8 @@ fn using_of(command: Command) -> Option<Asked>
 
 // An item.
 #[inline(always)]
-fn next_of(command: Command) -> Option<Asked>
-    ensures { result ≡ next_of command }
+fn next_of(command: &Command) -> Option<Asked>
+    ensures { result ≡ next_of command.now }
 {
     match command.flags {
         0 => Some(Asked::Next(key_of(command.node), command.value, true)),
@@ -183,8 +190,8 @@ fn next_of(command: Command) -> Option<Asked>
 
 // A connection by hand.
 #[inline(always)]
-fn connect_of(command: Command) -> Option<Asked>
-    ensures { result ≡ connect_of command }
+fn connect_of(command: &Command) -> Option<Asked>
+    ensures { result ≡ connect_of command.now }
 {
     if command.flags > 1 {
         return None;
@@ -199,8 +206,8 @@ fn connect_of(command: Command) -> Option<Asked>
 
 // An effect of the face's own.
 #[inline(always)]
-fn put_of(command: Command) -> Option<Asked>
-    ensures { result ≡ put_of command }
+fn put_of(command: &Command) -> Option<Asked>
+    ensures { result ≡ put_of command.now }
 {
     let key = key_of(command.node);
     match command.flags {
@@ -230,8 +237,8 @@ fn lease_of(node: RxNode) -> LeaseKey
 
 // A command that has no flags.
 #[inline(always)]
-fn plain_of(command: Command) -> Option<Asked>
-    ensures { result ≡ plain_of command }
+fn plain_of(command: &Command) -> Option<Asked>
+    ensures { result ≡ plain_of command.now }
 {
     let key = key_of(command.node);
     match command.what {
@@ -254,8 +261,8 @@ fn plain_of(command: Command) -> Option<Asked>
 
 // By its first number.
 #[inline(always)]
-fn by_code(command: Command) -> Option<Asked>
-    ensures { result ≡ by_code command }
+fn by_code(command: &Command) -> Option<Asked>
+    ensures { result ≡ by_code command.now }
 {
     match command.what {
         0 => opening_of(command),
@@ -273,27 +280,12 @@ fn by_code(command: Command) -> Option<Asked>
     }
 }
 
-// Whether a command is an item that is to be handed out.
-fn is_emission(command: &Command) -> bool
+/// Whether a command is an item that is to be handed out: found before the rest of the command is read.
+#[inline(always)]
+pub(crate) fn is_emission(command: &Command) -> bool
     ensures { result ≡ is_emission command.now }
 {
     command.what == 3 && command.flags == 0 && command.spare == 0
-}
-
-/// The item that a command asks for, where it is to be handed out: found before the rest of the command is read.
-#[inline(always)]
-pub(crate) fn item_asked(command: &Command) -> Option<Item>
-    ensures item { IfSome result (λ item. asked_of command.now ≡ Some (asked_for item)) }
-    ensures other { IfNone result (asks_item (asked_of command.now) ≡ false) }
-{
-    if is_emission(command) {
-        Some(Item {
-            leaf: key_of(command.node),
-            value: command.value,
-        })
-    } else {
-        None
-    }
 }
 
 /// What a command asks; nothing where a number of it is none of its enum, a flag is one that it does not have, or
@@ -303,8 +295,29 @@ pub fn asked_of(command: &Command) -> Option<Asked>
     ensures { result ≡ asked_of command.now }
 {
     if command.spare == 0 {
-        by_code(*command)
+        by_code(command)
     } else {
         None
     }
+}
+
+/// What an opening says beside its kind; nothing where the command is none.
+#[inline(always)]
+pub(crate) fn opening_in(command: &Command) -> Option<Opening>
+    ensures { result ≡ opening_in command.now }
+{
+    if command.spare != 0 {
+        return None;
+    }
+    let at = place_at(command.place, command.node)?;
+    let user = user_of(command)?;
+    Some(Opening { at, user })
+}
+
+/// Whether a command has no flags and nothing to spare.
+#[inline(always)]
+pub(crate) fn is_plain(command: &Command) -> bool
+    ensures { result ≡ is_plain command.now }
+{
+    command.flags == 0 && command.spare == 0
 }

@@ -32,12 +32,14 @@ mod asked;
 mod beginning;
 mod behind;
 mod cellar;
+mod frequent;
 mod making;
 mod reading;
 mod rest;
 mod serving;
 mod shapes;
 mod taking_on;
+mod telling;
 mod word_laws;
 mod words;
 

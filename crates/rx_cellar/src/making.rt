@@ -6,7 +6,8 @@ ghost use Rattle.rx_event.specs.declared.refusal.Refusal.TheVariants.{NoHub};
 ghost use Rattle.rx_engine.specs.Openings.{IsOpenMade};
 ghost use Rattle.rx_engine.specs.Usings.{IsUsingMade};
 ghost use Rattle.rx_cellar.specs.Asking.{kind_of};
-ghost use Rattle.rx_cellar.specs.Makings.{Shows, shown, nothing_made, of_nothing, of_node, of_used, of_held, of_lease, of_subscribed, of_connected};
+ghost use Rattle.rx_cellar.specs.Makings.{shown, nothing_made, of_nothing, of_node, of_used, of_held, of_lease, of_subscribed, of_connected};
+ghost use Rattle.rx_cellar.specs.Frequent.{is_rest};
 ghost use Rattle.rx_cellar.specs.Makings.{IsSubscribed, IsConnected, WithHubs, IsPerformed};
 
 use crate::asked::{Asked, OwnKind, kind_of};
@@ -57,36 +58,6 @@ fn used(answer: Result<u64, Refusal>) -> Result<Made, Refusal>
 {
     match answer {
         Ok(_word) => Ok(nothing_made()),
-        Err(why) => Err(why),
-    }
-}
-
-// A node was opened.
-fn opened(answer: Result<Key, Refusal>) -> Result<Made, Refusal>
-    ensures { result ≡ shown of_node answer }
-{
-    match answer {
-        Ok(key) => Ok(Made {
-            node: node_of(key),
-            ..nothing_made()
-        }),
-        Err(why) => Err(why),
-    }
-}
-
-// A node was opened, and holds a resource.
-fn opened_using(answer: Result<Used, Refusal>) -> Result<Made, Refusal>
-    ensures { result ≡ shown of_used answer }
-{
-    match answer {
-        Ok(made) => Ok(Made {
-            node: node_of(made.key),
-            other: RxNode {
-                slot: made.res.slot,
-                number: made.res.number,
-            },
-            ..nothing_made()
-        }),
         Err(why) => Err(why),
     }
 }
@@ -177,18 +148,6 @@ fn wants_hubs(answer: Result<Made, Refusal>) -> bool
     }
 }
 
-fn open(engine: &mut Engine, at: At, kind: OwnKind, user: User, by: u64) -> Result<Made, Refusal>
-    ensures { Shows (IsOpenMade ⟦<Token as Resource>⟧ at (kind_of kind) user by engine.old engine.new) of_node result }
-{
-    opened(engine.open(at, kind_of(kind), user, by))
-}
-
-fn using(engine: &mut Engine, at: At, user: User, tag: u64, by: u64) -> Result<Made, Refusal>
-    ensures { Shows (IsUsingMade ⟦<Token as Resource>⟧ at (kind_of Pass) user tag by engine.old engine.new) of_used result }
-{
-    opened_using(engine.using(at, kind_of(OwnKind::Pass), user, tag, by))
-}
-
 fn subscribe_once(
     engine: &mut Engine,
     at: At,
@@ -254,15 +213,17 @@ fn connect(
     }
 }
 
-/// Makes what is asked.
+/// Makes what is asked, if it opens no node but as a subscriber: else it is made in a function of its own, so that the
+/// engine's call has one caller.
 #[inline(always)]
 pub(crate) fn perform(engine: &mut Engine, asked: Asked, by: u64) -> Result<Made, Refusal>
+    requires { is_rest asked ≡ true }
     ensures { IsPerformed ⟦<Token as Resource>⟧ asked by engine.old engine.new result }
 {
     match asked {
-        Asked::Open(at, kind, user) => open(engine, at, kind, user, by),
+        Asked::Open(_, _, _) => unreachable!(),
         Asked::Subscribe(at, share, hint, user) => subscribe(engine, at, share, hint, user, by),
-        Asked::Using(at, user, tag) => using(engine, at, user, tag, by),
+        Asked::Using(_, _, _) => unreachable!(),
         Asked::Hold(node, tag) => held(engine.hold(node, tag, by)),
         Asked::Next(leaf, value, _hands) => plain(engine.next(leaf, by, value)),
         Asked::Complete(leaf) => plain(engine.end(leaf, Terminal::Completed, by, 0)),

@@ -5,13 +5,13 @@ ghost use Rattle.rx_cellar.specs.Words.{named};
 ghost use Rattle.rx_cellar.specs.Serving.{IsTaken, undone_in, sent_of, left_number, given_up_status, IsGivenUp, IsLeftTold, IsRest};
 ghost use Rattle.rx_cellar.specs.Serving.{Gives, uncounted_where, IsTakeTold};
 
-use crate::cellar::{Cellar, counted, uncounted};
+use crate::cellar::Cellar;
 use crate::rest::{fill_closings, fill_lanes};
 use crate::shapes::{Effect, effect_of, inner_of, what_of};
 use crate::words::{is_inside, is_named, place_in, word_of};
 use rx_book::Refusal;
 use rx_lanes::LaneName;
-use rx_roles::Effect as Sent;
+use rx_roles::{Effect as Sent, What};
 use rx_typed::{DONE, NO_SUCH_CODE, status_of};
 
 // No lane.
@@ -72,9 +72,12 @@ fn uncounted_where(answer: Option<bool>, sent: Option<Sent>, released: u64) -> u
     if answer.is_none() {
         return released;
     }
-    match sent {
-        Some(effect) => uncounted(effect.what, released),
-        None => released,
+    let Some(effect) = sent else {
+        return released;
+    };
+    match effect.what {
+        What::Release => released.saturating_sub(1),
+        _ => released,
     }
 }
 
@@ -101,7 +104,7 @@ impl Cellar {
         };
         match self.engine.take(name, is_inside(word), by) {
             Some(sent) => {
-                self.released = counted(sent.what, self.released);
+                self.count(sent.what);
                 Some(effect_of(sent))
             }
             None => None,

@@ -4,7 +4,7 @@ ghost use Rattle.std.specs.Prelude.{nat_lt, false};
 ghost use Rattle.rx_cellar.specs.Serving.{Takes};
 ghost use Rattle.rx_cellar.specs.TakingOn.{ServesOn, EndsBehind, AreEffectsTaken, IsTakenOn, WhoTookServes};
 
-use crate::cellar::{Cellar, counted};
+use crate::cellar::Cellar;
 use crate::shapes::{Effect, effect_of};
 use crate::words::is_inside;
 use rx_lanes::LaneName;
@@ -17,7 +17,7 @@ impl Cellar {
     {
         match self.engine.take(name, inside, by) {
             Some(sent) => {
-                self.released = counted(sent.what, self.released);
+                self.count(sent.what);
                 Some(effect_of(sent))
             }
             None => None,

@@ -1,8 +1,7 @@
-use Rattle.std.proofs.Common.{rules, ◌≡◌, ◌≢◌, subst}
+use Rattle.std.proofs.Common.{rules, ◌≡◌, ◌≢◌}
 use Rattle.rx_resource.specs.contracts.token.TokenResource.TheImpl.{ghosts}
-use Rattle.rx_cellar.specs.declared.shapes.Answer.{Answer}
 use Rattle.rx_cellar.specs.Asking.{asked_of}
-use Rattle.rx_cellar.specs.Cellars.{IsMadeIf}
+use Rattle.rx_cellar.specs.Crossings.{no_answer}
 use Rattle.rx_cellar.proofs.Tries.{made_first, made_again}
 use Rattle.rx_cellar.proofs.cellar.Cellar.make.Goals as goal
 
@@ -11,18 +10,14 @@ returns-then-status-status_of c =
     let h = c.if-status-status_of.true in
     let f = c.status_of.ensures in
     let other : c.make_once-status.result ≢ 16 = search rules in
-    subst (λ (a : Answer). IsMadeIf ghosts (asked_of c.args.command.now) c.args.command.now.by c.args.self.now c.make_once-status.new.self a
-    c.make_once-status.new.answer c.make_once-status.result) c.clear.ensures
-    (made_first ghosts (asked_of c.args.command.now) c.args.command.now.by c.args.self.now c.tidy.new.self c.make_once-status.new.self c.clear.new.self
-    c.make_once-status.new.answer c.make_once-status.result c.tidy.ensures c.make_once-status.ensures other)
+    made_first ghosts (asked_of c.args.command.now) c.args.command.now.by c.args.self.now c.tidy.new.self c.make_once-status.new.self
+    (no_answer c.args.answer.now) c.make_once-status.new.answer c.make_once-status.result c.tidy.ensures c.make_once-status.ensures other
 
 pub returns : goal.returns
 returns c =
     let h = c.if-status-status_of.false in
     let f = c.status_of.ensures in
     let full : c.make_once-status.result ≡ 16 = search rules in
-    subst (λ (a : Answer). IsMadeIf ghosts (asked_of c.args.command.now) c.args.command.now.by c.args.self.now c.make_again.new.self a
-    c.make_again.new.answer c.make_again.result) c.clear.ensures
-    (made_again ghosts (asked_of c.args.command.now) c.args.command.now.by c.args.self.now c.tidy.new.self c.make_once-status.new.self c.make_again.new.self
-    c.clear.new.self c.make_once-status.new.answer c.make_again.new.answer c.make_once-status.result c.make_again.result c.tidy.ensures
-    c.make_once-status.ensures full c.make_again.ensures)
+    made_again ghosts (asked_of c.args.command.now) c.args.command.now.by c.args.self.now c.tidy.new.self c.make_once-status.new.self c.make_again.new.self
+    c.args.answer.now c.make_once-status.new.answer c.make_again.new.answer c.make_once-status.result c.make_again.result c.tidy.ensures
+    c.make_once-status.ensures full c.make_again.ensures
