@@ -15,7 +15,7 @@ use Rattle.rx_cellar.specs.declared.asked.OpenedAs.TheVariants.{Own, Of}
 use Rattle.rx_cellar.specs.declared.asked.Asked.{Asked}
 use Rattle.rx_cellar.specs.declared.asked.Asked.TheVariants.{Open, Using, Complete, Dispose}
 use Rattle.rx_cellar.specs.Asking.{opened_as, user_of, opening_as, opening_of, using_of, connect_of, put_of, plain_of, next_of, by_code, asked_of, asks_item}
-use Rattle.rx_cellar.specs.Frequent.{opening_in, is_plain, rests}
+use Rattle.rx_cellar.specs.Frequent.{opening_in, has_no_flags, rests}
 
 -- openings ---------------------------------------------------------------------------------------------------
 
@@ -106,13 +106,13 @@ both false false o = refl
 completion_first : (c : Command) → c.what ≡ 4 → asked_of c ≡ (if c.spare == 0 then (if c.flags == 0 then Some (Complete (key_of c.node)) else None) else None)
 completion_first c what = λ i. asked_of (record c { what = what i })
 
-pub completion_asked : (c : Command) → c.what ≡ 4 → asked_of c ≡ (if is_plain c then Some (Complete (key_of c.node)) else None)
+pub completion_asked : (c : Command) → c.what ≡ 4 → asked_of c ≡ (if has_no_flags c then Some (Complete (key_of c.node)) else None)
 completion_asked c what = completion_first c what ∙ both (c.flags == 0) (c.spare == 0) (Some (Complete (key_of c.node)))
 
 disposal_first : (c : Command) → c.what ≡ 8 → asked_of c ≡ (if c.spare == 0 then (if c.flags == 0 then Some (Dispose (key_of c.node)) else None) else None)
 disposal_first c what = λ i. asked_of (record c { what = what i })
 
-pub disposal_asked : (c : Command) → c.what ≡ 8 → asked_of c ≡ (if is_plain c then Some (Dispose (key_of c.node)) else None)
+pub disposal_asked : (c : Command) → c.what ≡ 8 → asked_of c ≡ (if has_no_flags c then Some (Dispose (key_of c.node)) else None)
 disposal_asked c what = disposal_first c what ∙ both (c.flags == 0) (c.spare == 0) (Some (Dispose (key_of c.node)))
 
 -- all others -------------------------------------------------------------------------------------------------

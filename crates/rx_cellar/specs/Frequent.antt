@@ -21,8 +21,8 @@ item_in c = record { leaf = key_of c.node; value = c.value }
 abbrev pub opening_in : Command → Option Opening
 opening_in c = if c.spare == 0 then option_and_then (λ at. option_map (λ user. record { at = at; user = user }) (user_of c)) (place_at c.place c.node) else None
 
-abbrev pub is_plain : Command → Bool
-is_plain c = c.flags == 0 && c.spare == 0
+abbrev pub has_no_flags : Command → Bool
+has_no_flags c = c.flags == 0 && c.spare == 0
 
 -- it opens no node, but as a subscriber of a share
 abbrev pub is_rest : Asked → Bool
@@ -35,6 +35,6 @@ rests None = true
 rests (Some asked) = is_rest asked
 
 -- done, and all of it told; or refused, and nothing is told
-abbrev pub IsAnswered : Result Made Refusal → State → Answer → Answer → (status : ℕ) → Type 0
-IsAnswered (Ok made) e a b status = (b ≡ told made e a) × (status ≡ 0)
-IsAnswered (Err why) e a b status = (b ≡ a) × (status ≡ refusal_status why)
+abbrev pub IsToldOrRefused : Result Made Refusal → State → Answer → Answer → (status : ℕ) → Type 0
+IsToldOrRefused (Ok made) e a b status = (b ≡ told made e a) × (status ≡ 0)
+IsToldOrRefused (Err why) e a b status = (b ≡ a) × (status ≡ refusal_status why)

@@ -4,7 +4,7 @@ ghost use Rattle.std.specs.Prelude.{◌≡◌, true};
 ghost use Rattle.rx_engine.specs.Openings.{connects_none};
 ghost use Rattle.rx_cellar.specs.Asking.{asked_of, kind_of, opened_as, user_of, lane_asked, share_of, res_of, lease_of};
 ghost use Rattle.rx_cellar.specs.Asking.{by_code, opening_of, using_of, connect_of, put_of, next_of, plain_of, is_emission};
-ghost use Rattle.rx_cellar.specs.Frequent.{opening_in, is_plain};
+ghost use Rattle.rx_cellar.specs.Frequent.{opening_in, has_no_flags};
 
 use crate::shapes::Command;
 use rx_book::{At, Key, Kind, LeaseKey, Mode, ResKey};
@@ -316,8 +316,8 @@ pub(crate) fn opening_in(command: &Command) -> Option<Opening>
 
 /// Whether a command has no flags and nothing to spare.
 #[inline(always)]
-pub(crate) fn is_plain(command: &Command) -> bool
-    ensures { result ≡ is_plain command.now }
+pub(crate) fn has_no_flags(command: &Command) -> bool
+    ensures { result ≡ has_no_flags command.now }
 {
     command.flags == 0 && command.spare == 0
 }

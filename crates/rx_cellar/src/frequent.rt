@@ -8,7 +8,9 @@ ghost use Rattle.rx_cellar.specs.Crossings.{no_answer};
 ghost use Rattle.rx_cellar.specs.Attempts.{IsMadeOnce, IsTriedOnce};
 ghost use Rattle.rx_cellar.specs.Frequent.{item_in, rests};
 
-use crate::asked::{Item, OpenedAs, OwnKind, asked_of, is_plain, kind_of, opened_as, opening_in};
+use crate::asked::{
+    Item, OpenedAs, OwnKind, asked_of, has_no_flags, kind_of, opened_as, opening_in,
+};
 use crate::cellar::Cellar;
 use crate::making::{Made, nothing_made, perform};
 use crate::shapes::{Answer, Command};
@@ -112,7 +114,7 @@ impl Cellar {
         requires { command.now.what ≡ 4 }
         ensures { IsTriedOnce ⟦<Token as Resource>⟧ command.now self.old self.new answer.old answer.new result }
     {
-        if !is_plain(command) {
+        if !has_no_flags(command) {
             return refuse_unknown(answer);
         }
         let leaf = key_of(command.node);
@@ -126,7 +128,7 @@ impl Cellar {
         requires { command.now.what ≡ 8 }
         ensures { IsTriedOnce ⟦<Token as Resource>⟧ command.now self.old self.new answer.old answer.new result }
     {
-        if !is_plain(command) {
+        if !has_no_flags(command) {
             return refuse_unknown(answer);
         }
         let root = key_of(command.node);

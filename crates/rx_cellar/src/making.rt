@@ -1,18 +1,14 @@
 //! What a command asks is made: each by the engine's call of that name.
 
 ghost use Rattle.std.specs.Prelude.{◌≡◌, ◌≢◌, true, false, Err};
-ghost use Rattle.rx_cellar.specs.declared.asked.OwnKind.TheVariants.{Pass};
 ghost use Rattle.rx_event.specs.declared.refusal.Refusal.TheVariants.{NoHub};
-ghost use Rattle.rx_engine.specs.Openings.{IsOpenMade};
-ghost use Rattle.rx_engine.specs.Usings.{IsUsingMade};
-ghost use Rattle.rx_cellar.specs.Asking.{kind_of};
-ghost use Rattle.rx_cellar.specs.Makings.{shown, nothing_made, of_nothing, of_node, of_used, of_held, of_lease, of_subscribed, of_connected};
+ghost use Rattle.rx_cellar.specs.Makings.{shown, nothing_made, of_nothing, of_held, of_lease, of_subscribed, of_connected};
 ghost use Rattle.rx_cellar.specs.Frequent.{is_rest};
 ghost use Rattle.rx_cellar.specs.Makings.{IsSubscribed, IsConnected, WithHubs, IsPerformed};
 
-use crate::asked::{Asked, OwnKind, kind_of};
-use rx_book::{At, Key, LeaseKey, Refusal, ResKey, Resource, Terminal};
-use rx_engine::{Connected, Engine, Subscribed, Used, User};
+use crate::asked::Asked;
+use rx_book::{At, LeaseKey, Refusal, ResKey, Resource, Terminal};
+use rx_engine::{Connected, Engine, Subscribed, User};
 use rx_pool::Share;
 use rx_resource::Token;
 use rx_typed::{RxNode, no_node, node_of};

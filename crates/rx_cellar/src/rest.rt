@@ -1,6 +1,6 @@
 //! The closings and the lanes of the last accepted command, in parts.
 
-ghost use Rattle.std.specs.Prelude.{◌≡◌, ◌-◌, [], ◌∷◌, min, drop, length, map};
+ghost use Rattle.std.specs.Prelude.{◌≡◌, ◌-◌, min, drop, length, map};
 ghost use Rattle.rx_cellar.specs.Cellars.{filled};
 ghost use Rattle.rx_cellar.specs.Words.{word_of_due};
 

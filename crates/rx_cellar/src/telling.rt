@@ -5,7 +5,7 @@ ghost use Rattle.rx_typed.specs.Codes.{refusal_status};
 ghost use Rattle.rx_cellar.specs.Crossings.{no_answer};
 ghost use Rattle.rx_cellar.specs.Makings.{nothing_made, of_nothing, shown};
 ghost use Rattle.rx_cellar.specs.Cellars.{told, counted, counted_if, with_handed};
-ghost use Rattle.rx_cellar.specs.Frequent.{IsAnswered};
+ghost use Rattle.rx_cellar.specs.Frequent.{IsToldOrRefused};
 
 use crate::cellar::Cellar;
 use crate::making::{Made, nothing_made};
@@ -90,7 +90,7 @@ impl Cellar {
     /// The answer where nothing was made.
     #[inline(always)]
     pub(crate) fn answer_done(&self, tried: Result<(), Refusal>, answer: &mut Answer) -> u8
-        ensures { IsAnswered (shown of_nothing tried) self.now.engine (no_answer answer.old) answer.new result }
+        ensures { IsToldOrRefused (shown of_nothing tried) self.now.engine (no_answer answer.old) answer.new result }
     {
         match tried {
             Ok(()) => {

@@ -11,23 +11,23 @@ use Rattle.rx_cellar.proofs.FrequentAsked.{completion_asked}
 use Rattle.rx_cellar.proofs.AnswersTold.{answered_once, unknown_once}
 use Rattle.rx_cellar.proofs.cellar.Cellar.make_completion.Goals as goal
 
-pub returns-then-not-is_plain : goal.returns-then-not-is_plain
-returns-then-not-is_plain c =
+pub returns-then-not-has_no_flags : goal.returns-then-not-has_no_flags
+returns-then-not-has_no_flags c =
     let command = c.args.command.now in
-    let h = c.if-not-is_plain.true in
-    let not_plain : c.is_plain.result ≡ false = search rules in
+    let h = c.if-not-has_no_flags.true in
+    let not_plain : c.has_no_flags.result ≡ false = search rules in
     let is = completion_asked command c.requires
-    ∙ ap (λ (b : Bool). if b then Some (Complete (key_of command.node)) else None) (sym c.is_plain.ensures ∙ not_plain) in
+    ∙ ap (λ (b : Bool). if b then Some (Complete (key_of command.node)) else None) (sym c.has_no_flags.ensures ∙ not_plain) in
     unknown_once ghosts (asked_of command) command.by c.args.self.now (no_answer c.args.answer.now) c.refuse_unknown.new.answer c.refuse_unknown.result is
     c.refuse_unknown.ensures.answer c.refuse_unknown.ensures.status
 
 pub returns : goal.returns
 returns c =
     let command = c.args.command.now in
-    let h = c.if-not-is_plain.false in
-    let plain : c.is_plain.result ≡ true = search rules in
+    let h = c.if-not-has_no_flags.false in
+    let plain : c.has_no_flags.result ≡ true = search rules in
     let is = completion_asked command c.requires
-    ∙ ap (λ (b : Bool). if b then Some (Complete (key_of command.node)) else None) (sym c.is_plain.ensures ∙ plain)
+    ∙ ap (λ (b : Bool). if b then Some (Complete (key_of command.node)) else None) (sym c.has_no_flags.ensures ∙ plain)
     ∙ ap (λ (k : Key). Some (Complete k)) (sym c.key_of-leaf.ensures) in
     answered_once ghosts (asked_of command) (Complete c.key_of-leaf.result) command.by c.args.self.now c.end-tried.new.self
     (shown (of_nothing {A = Unit}) c.end-tried.result) (no_answer c.args.answer.now) c.answer_done.new.answer c.answer_done.result is (ap asks_item is)
