@@ -1,9 +1,10 @@
 //! What things are called in a picture, each written behind a text.
 
+ghost use Rattle.std.specs.Fmt.{decimal};
 ghost use Rattle.std.specs.Prelude.{◌≡◌, ◌++◌, string_bytes, OnOk};
 ghost use Rattle.serde_json.specs.View.{view};
 ghost use Rattle.rx_names.specs.Names.{name_in_object};
-ghost use Rattle.rx_svg.specs.Label.{kind_label, place_label, mode_label, terminal_label, event_label, called_text};
+ghost use Rattle.rx_svg.specs.Label.{kind_label, place_label, terminal_label, event_label, called_text};
 ghost use Rattle.rx_svg.specs.Said.{said_label};
 
 use crate::names::push_named;
@@ -11,6 +12,14 @@ use rx_event::{Event, Kind, Mode, Place, Terminal};
 use rx_names::Names;
 use rx_note::Note;
 use std::alloc::AllocError;
+
+// Words, and the number that they are about.
+fn push_about(text: &mut String, words: &'static str, n: u64) -> Result<(), AllocError>
+    ensures { OnOk result (string_bytes text.new ≡ string_bytes text.old ++ (words.now ++ decimal n)) }
+{
+    text.push_str(words)?;
+    write!(text, "{n}")
+}
 
 #[tactic(auto, unfolding(crate::specs::Label::kind_label))]
 fn push_kind(text: &mut String, kind: Kind) -> Result<(), AllocError>
@@ -22,7 +31,7 @@ fn push_kind(text: &mut String, kind: Kind) -> Result<(), AllocError>
         Kind::Flat => text.push_str(" FlatMap"),
         Kind::Switch => text.push_str(" Switch"),
         Kind::Until => text.push_str(" TakeUntil"),
-        Kind::Sub(hub) => write!(text, " subscriber of hub {hub}"),
+        Kind::Sub(hub) => push_about(text, " subscriber of hub ", hub),
     }
 }
 
@@ -32,19 +41,9 @@ fn push_place(text: &mut String, place: Place) -> Result<(), AllocError>
 {
     match place {
         Place::Root => text.push_str(", root"),
-        Place::Source(p) => write!(text, ", source of {p}"),
-        Place::Inner(p) => write!(text, ", inner of {p}"),
-        Place::Notifier(p) => write!(text, ", notifier of {p}"),
-    }
-}
-
-#[tactic(auto, unfolding(crate::specs::Label::mode_label))]
-fn push_mode(text: &mut String, mode: Mode) -> Result<(), AllocError>
-    ensures { OnOk result (string_bytes text.new ≡ string_bytes text.old ++ mode_label mode) }
-{
-    match mode {
-        Mode::Auto => text.push_str(" hub, RefCount"),
-        Mode::Manual => text.push_str(" hub"),
+        Place::Source(p) => push_about(text, ", source of ", p),
+        Place::Inner(p) => push_about(text, ", inner of ", p),
+        Place::Notifier(p) => push_about(text, ", notifier of ", p),
     }
 }
 
@@ -59,7 +58,7 @@ fn push_terminal(text: &mut String, terminal: Terminal) -> Result<(), AllocError
 }
 
 /// What the event did; of one that makes something, what it made.
-#[tactic(auto, unfolding(crate::specs::Label::event_label))]
+#[tactic(auto, unfolding(crate::specs::Label::event_label, crate::specs::Label::mode_label))]
 pub fn push_event(text: &mut String, event: Event) -> Result<(), AllocError>
     ensures { OnOk result (string_bytes text.new ≡ string_bytes text.old ++ event_label event) }
 {
@@ -68,21 +67,22 @@ pub fn push_event(text: &mut String, event: Event) -> Result<(), AllocError>
             push_kind(text, kind)?;
             push_place(text, place)
         }
-        Event::Hub(mode) => push_mode(text, mode),
-        Event::Connect(hub) => write!(text, " connection of hub {hub}"),
+        Event::Hub(Mode::Auto) => text.push_str(" hub, RefCount"),
+        Event::Hub(Mode::Manual) => text.push_str(" hub"),
+        Event::Connect(hub) => push_about(text, " connection of hub ", hub),
         Event::Accept(node, tag) => write!(text, " resource of {node}, tag {tag}"),
-        Event::Use(r) => write!(text, " use of {r}"),
-        Event::Remove(r) => write!(text, " removal of {r}"),
-        Event::Lease(r) => write!(text, " lease of {r}"),
-        Event::Return(l) => write!(text, " return of lease {l}"),
+        Event::Use(r) => push_about(text, " use of ", r),
+        Event::Remove(r) => push_about(text, " removal of ", r),
+        Event::Lease(r) => push_about(text, " lease of ", r),
+        Event::Return(l) => push_about(text, " return of lease ", l),
         Event::Item(n, value) => write!(text, " item {value} of {n}"),
-        Event::Decline(f) => write!(text, " no inner for an item of {f}"),
+        Event::Decline(f) => push_about(text, " no inner for an item of ", f),
         Event::End(n, terminal) => {
             write!(text, " end of {n}:")?;
             push_terminal(text, terminal)
         }
-        Event::Close(n) => write!(text, " closing of {n}"),
-        Event::Take(r) => write!(text, " release of {r}"),
+        Event::Close(n) => push_about(text, " closing of ", n),
+        Event::Take(r) => push_about(text, " release of ", r),
     }
 }
 
