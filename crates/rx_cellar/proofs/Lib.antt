@@ -7,3 +7,4 @@ pub mod AnswersTold
 pub mod Tries
 pub mod TakesGoOn
 pub mod ServesWhoTook
+pub mod GoesOn

@@ -106,7 +106,7 @@ full_only NoLease is = absurd (false≢true is)
 full_only Leased is = absurd (false≢true is)
 full_only MailLeft is = absurd (false≢true is)
 
-full_is : (why : Refusal) → refusal_status why ≡ 16 → why ≡ Full
+pub full_is : (why : Refusal) → refusal_status why ≡ 16 → why ≡ Full
 full_is why is = full_only why (ap (λ n. n == 16) is)
 
 done_so : (g : Ghosts Token) (asked : Asked) (by : ℕ) (s u v t : Cellar) (made : Made) (a b : Answer) (status : ℕ) → IsTidy s u →

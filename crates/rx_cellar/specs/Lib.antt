@@ -10,3 +10,4 @@ pub mod Words
 pub mod TakingOn
 pub mod Behind
 pub mod Frequent
+pub mod GoingOn

@@ -10,8 +10,8 @@ use rx_resource::Token;
 use rx_typed::UNTAKEN;
 
 impl Answer {
-    // All that is answered is this effect.
-    fn hand(&mut self, given: Effect)
+    /// All that is answered is this effect.
+    pub(crate) fn hand(&mut self, given: Effect)
         ensures { self.new ≡ only_handed given self.old }
     {
         self.clear();

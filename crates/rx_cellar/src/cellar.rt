@@ -89,9 +89,9 @@ impl Cellar {
         }
     }
 
-    // Makes a checkpoint before a command, where one is due. Else the command is read but once, where it is made.
+    /// Makes a checkpoint before a command, where one is due. Else the command is read but once, where it is made.
     #[inline(always)]
-    fn tidy(&mut self, command: &Command)
+    pub(crate) fn tidy(&mut self, command: &Command)
         ensures { IsTidyFor (asked_of command.now) self.old self.new }
     {
         if self.is_due() {

@@ -24,7 +24,8 @@
 //!   refused, for want of memory, so is the command. Where a share finds no hub the hubs are made, and it is tried
 //!   once more.
 //! - Serving, giving up and finding lanes are the engine's, by the lane that the word names. [`Cellar::take_on`] takes
-//!   one effect after another, and [`Cellar::make_behind`] gives a lane back with the next command.
+//!   one effect after another, [`Cellar::make_behind`] gives a lane back with the next command, and
+//!   [`Cellar::make_on`] does both: it takes what there is of the one lane that its command answers.
 //! - What a face makes of effects is its own: that it serves what an answer names, and that words of callers differ.
 #![tactic(auto)]
 
@@ -33,6 +34,7 @@ mod beginning;
 mod behind;
 mod cellar;
 mod frequent;
+mod going_on;
 mod making;
 mod reading;
 mod rest;

@@ -29,7 +29,7 @@ use Rattle.rx_engine.proofs.LanesServed.{kept_many, taken_many, claimed_many, tu
 use Rattle.rx_engine.proofs.Laws.EffectsInLanes.{found_lane, arrives_gets}
 
 -- both steps are a settling
-pub settles_of : {g : Ghosts Token} {by value : ℕ} {mid : BookState} {p : Parts} {t : BookState} {q r : Parts} →
+unfoldable pub settles_of : {g : Ghosts Token} {by value : ℕ} {mid : BookState} {p : Parts} {t : BookState} {q r : Parts} →
     Gathers g by value mid p t q → Spreads by q r → Settles g by value mid p t r
 settles_of {g} {by} {value} {mid} {p} {t} {q} {r} gathers spreads = record {
   homes = ap (λ (x : Parts). x.homes.list) spreads.only ∙ gathers.homes;

@@ -93,6 +93,7 @@ fn give(
 
 impl Parts {
     /// Gives a node that was opened its home and its roles, and answers its lane.
+    #[inline(always)]
     pub(crate) fn enter(
         &mut self,
         at: At,

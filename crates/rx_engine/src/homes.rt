@@ -105,6 +105,7 @@ impl Engine {
     }
 
     // What a root gets, with a new lane or that which is asked for.
+    #[inline(always)]
     fn root_home(&self, asked: Option<LaneOf>) -> Option<Home>
         ensures home { result ≡
             (if is_housed self.now.book asked then Some (home_of self.now Root asked) else None) }
@@ -125,6 +126,7 @@ impl Engine {
     }
 
     /// What a node gets that is opened there; none where the node is not there whose lane it would have.
+    #[inline(always)]
     pub(crate) fn home_of(&self, at: At, asked: Option<LaneOf>) -> Option<Home>
         ensures home { result ≡
             (if is_housed self.now.book (whose at asked) then Some (home_of self.now at asked) else None) }

@@ -134,6 +134,7 @@ impl Parts {
 
     /// Gets room for the roles of one node more, their lanes, and so many effects more; false where memory was
     /// refused.
+    #[inline(always)]
     pub(crate) fn make_room(&mut self, more: u64) -> bool
         ensures same { IsRoomier self.old self.new }
         ensures room { IsTrue result → HasRoomFor more self.new }
@@ -159,6 +160,7 @@ impl Parts {
 
     /// Gets room for the roles of one node more, for a resource, and for their last effects; false where memory was
     /// refused.
+    #[inline(always)]
     pub(crate) fn make_room_to_use(&mut self) -> bool
         ensures same { IsRoomier self.old self.new }
         ensures room { IsTrue result → HasRoomFor 3 self.new }

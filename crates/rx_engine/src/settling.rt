@@ -1,6 +1,6 @@
 //! What a call of the book leaves to be done.
 
-ghost use Rattle.std.specs.Prelude.{◌≡◌, ◌==◌, ◌+◌, ◌≤◌, length, true, false};
+ghost use Rattle.std.specs.Prelude.{◌≡◌, ◌==◌, ◌+◌, ◌≤◌, length, true, false, IfSome, IfNone};
 ghost use Rattle.rx_lanes.specs.declared.names.LaneName.{LaneName};
 ghost use Rattle.rx_roles.specs.Effects.{items_in, names_of};
 ghost use Rattle.rx_engine.specs.Deliveries.{many_at};
@@ -11,6 +11,7 @@ ghost use Rattle.rx_engine.specs.Settlements.{mail_left, closed_of, Settles, Kee
 ghost use Rattle.rx_engine.specs.Gatherings.{Gathers, EndsClosed, Spreads, IsLoaded};
 ghost use Rattle.rx_engine.specs.Closings.{Closes};
 ghost use Rattle.rx_engine.specs.Handings.{IsClaimed, GivesIf, SpreadsAndHands, AnswersHandOut};
+ghost use Rattle.rx_engine.specs.Handings.{IsHandedOver, SpreadsAndGives, at_once};
 ghost use Rattle.rx_engine.specs.Servings.{is_one};
 
 use crate::delivering::deliver;
@@ -20,7 +21,7 @@ use crate::telling::{set_free, tell};
 use crate::wishes::Wishes;
 use rx_book::{Book, Refusal, Resource};
 use rx_resource::Token;
-use rx_roles::Effect;
+use rx_roles::{Effect, Few};
 
 // What the last call closed ends its wishes, leaves its hub and its lane, and ends its other roles.
 #[inline(never)]
@@ -197,4 +198,42 @@ pub(crate) fn spread_and_hand(
     parts.effects.clear();
     parts.copies = 1;
     Ok(Some(effect))
+}
+
+// Hands the lane over of what is on its way, where that is few effects for one lane, with nothing in it, that nobody
+// serves; else nothing changes.
+#[inline(always)]
+fn hands_few(parts: &mut Parts, by: u64) -> Option<Few>
+    requires { IsLoaded parts.old }
+    ensures hands { IfSome result (λ few. IsHandedOver few by parts.old parts.new) }
+    ensures other { IfNone result (parts.new ≡ parts.old) }
+    ensures exact { result ≡ at_once parts.old.effects.list parts.old.lanes }
+{
+    let few = parts.effects.few()?;
+    if parts.lanes.hand_over(few.first.lane, by, few.lasts()) {
+        Some(few)
+    } else {
+        None
+    }
+}
+
+/// All effects go into their lanes; or, where they are few, for one lane, with nothing in it, that nobody serves, they
+/// are handed out without being put there. Who made the command serves that lane from then on, as long as it is named.
+#[inline(always)]
+pub(crate) fn spread_or_hand(parts: &mut Parts, by: u64) -> Option<Few>
+    requires { IsLoaded parts.old }
+    ensures gives { SpreadsAndGives by parts.old parts.new result }
+    ensures ready { IsReady 0 parts.new }
+{
+    match hands_few(parts, by) {
+        Some(few) => {
+            parts.effects.clear();
+            parts.copies = few.copies();
+            Some(few)
+        }
+        None => {
+            spread(parts, by);
+            None
+        }
+    }
 }

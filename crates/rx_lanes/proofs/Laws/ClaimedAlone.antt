@@ -1,13 +1,12 @@
 -- To claim a lane that alone is due is to put an effect there, to settle, and to take it.
-use Rattle.std.proofs.Common.{◌≡◌, ◌≢◌, ℕ, ◌&&◌, ◌||◌, Bool, true, false, cond, List, [], ◌∷◌, ◌++◌, Option, Some, None, is_some, IsSome, get_or, set, refl, sym, ◌∙◌, ap, subst, true≢false, length-set}
-use Rattle.std.proofs.Common.{get_or-set_same, get_or-set_other}
+use Rattle.std.proofs.Common.{◌≡◌, ◌≢◌, ℕ, ◌&&◌, ◌||◌, Bool, true, false, cond, List, [], ◌∷◌, ◌++◌, Option, Some, None, is_some, refl, sym, ◌∙◌, ap, subst, true≢false}
 use Rattle.std.proofs.Math.Bool.{not}
 use Rattle.rx_lanes.specs.declared.names.LaneName.{LaneName}
 use Rattle.rx_lanes.specs.declared.names.Due.{Due}
 use Rattle.rx_lanes.specs.Lane.{Lane, put, taken, claimed, kept, with_server, is_idle, is_served, serves, is_empty}
 use Rattle.rx_lanes.specs.Handings.{ClaimsAlone}
-use Rattle.rx_lanes.specs.State.{State, Opened, lane, Gets, Turns, with_turn, fresh_with, due_of, due_at, due_lane, touched}
-use Rattle.rx_lanes.proofs.LaneTurns.{some_below, found_opened, with_turn-own, Puts, others_find}
+use Rattle.rx_lanes.specs.State.{State, Opened, lane, Gets, Turns, fresh_with, due_of, due_at, due_lane, touched}
+use Rattle.rx_lanes.proofs.Laws.LanesWritten.{written, opened_here, found_here, others_as_before}
 
 -- a lane with nothing in it, that nobody serves
 idle_parts : (a b c d : Bool) → (not a && not (b || (not c || not d))) ≡ true → (a ≡ false) × (b ≡ false) × (c ≡ true) × (d ≡ true)
@@ -51,14 +50,19 @@ module _ {E : Type 0} where
   nil_is [] e = refl
   nil_is (x ∷ xs) e = absurd (true≢false (sym e))
 
-  given_at_once : (by : ℕ) (e : E) (l : Lane E) → is_idle l ≡ true → taken by false (put e l) ≡ record { effect = Some e; lane = claimed by l }
-  given_at_once by e l idle =
+  -- nothing is in a lane that is idle, and nobody serves it
+  abbrev pub bare : ℕ → Lane E
+  bare many = record { returned = None; front = []; back = []; server = None; many = many }
+
+  pub idle_is : (l : Lane E) → is_idle l ≡ true → l ≡ bare l.many
+  idle_is l idle =
       let parts = idle_parts (is_some l.server) (is_some l.returned) (is_empty l.front) (is_empty l.back) idle in
       let server = none_is l.server parts.0 in let returned = none_is l.returned parts.1 in
       let front = nil_is l.front parts.2 in let back = nil_is l.back parts.3 in
-      let is : l ≡ record { returned = None; front = []; back = []; server = None; many = l.many } =
-      λ i. record { returned = returned i; front = front i; back = back i; server = server i; many = l.many } in
-      subst (λ (x : Lane E). taken by false (put e x) ≡ record { effect = Some e; lane = claimed by x }) (sym is) refl
+      λ i. record { returned = returned i; front = front i; back = back i; server = server i; many = l.many }
+
+  given_at_once : (by : ℕ) (e : E) (l : Lane E) → is_idle l ≡ true → taken by false (put e l) ≡ record { effect = Some e; lane = claimed by l }
+  given_at_once by e l idle = subst (λ (x : Lane E). taken by false (put e x) ≡ record { effect = Some e; lane = claimed by x }) (sym (idle_is l idle)) refl
 
   pub alone_is_put_and_taken : (name : LaneName) (by : ℕ) (e : E) (s t : State E) → ClaimsAlone name by s t → IsPutAndTaken name by e s t
   alone_is_put_and_taken name by e s t claims =
@@ -79,35 +83,15 @@ module _ {E : Type 0} where
         };
       }
     where
-      now_is : Opened E
-      now_is = record { turn = name.turn; lane = put e claims.before }
-
-      places : List (Option (Opened E))
-      places = set s.places name.place (Some now_is)
-
       between : State E
-      between = record s { places = places; fresh = name.place ∷ [] }
-
-      there : IsSome (get_or s.places name.place None)
-      there = ap is_some (found_opened name.turn (get_or s.places name.place None) claims.before claims.was)
-
-      here : get_or places name.place None ≡ Some now_is
-      here = get_or-set_same s.places name.place (Some now_is) None (some_below name.place s.places there)
-
-      puts : Puts (record { places = s.places; spare = s.spare }) (record { places = places; spare = s.spare }) name.place (Some now_is)
-      puts = record {
-        here = here;
-        elsewhere = λ p apart. get_or-set_other s.places name.place p (Some now_is) None (λ same. apart (sym same));
-        places = length-set s.places name.place (Some now_is);
-      }
+      between = written s name (put e claims.before) (name.place ∷ [])
 
       others : (other : LaneName) → other ≢ name → lane between other ≡ lane s other
-      others other apart = others_find {t0 = record { places = s.places; spare = s.spare }} {t1 = record { places = places; spare = s.spare }}
-          name claims.before claims.was (Some (put e claims.before)) puts other apart
+      others = others_as_before s name claims.before claims.was (put e claims.before) (name.place ∷ [])
 
       gets : Gets s between name (put e claims.before)
       gets = record {
-        found = ap (with_turn name.turn) here ∙ with_turn-own name.turn (put e claims.before);
+        found = found_here s name claims.before claims.was (put e claims.before) (name.place ∷ []);
         others = others;
         fresh_is = ap (touched name.place) (sym claims.none_fresh);
         next_turn = refl;
@@ -117,5 +101,7 @@ module _ {E : Type 0} where
       free : is_served (put e claims.before) ≡ false
       free = (idle_parts (is_some claims.before.server) (is_some claims.before.returned) (is_empty claims.before.front) (is_empty claims.before.back) claims.idle).0
 
-      due : due_of by places (name.place ∷ []) ≡ record { lane = name; inside = false } ∷ []
-      due = ap (λ (o : Option (Opened E)). due_at by name.place o ++ []) here ∙ ap (λ (ds : List Due). ds ++ []) (due_free by name.place now_is free)
+      due : due_of by between.places (name.place ∷ []) ≡ record { lane = name; inside = false } ∷ []
+      due = ap (λ (o : Option (Opened E)). due_at by name.place o ++ [])
+          (opened_here s name claims.before claims.was (put e claims.before) (name.place ∷ []))
+          ∙ ap (λ (ds : List Due). ds ++ []) (due_free by name.place (record { turn = name.turn; lane = put e claims.before }) free)
