@@ -35,6 +35,11 @@ int main(void) {
     MISUSED(cellar_make_behind(BAD(struct cellar), 0, &command, &answer));
     MISUSED(cellar_make_behind(&engine, 0, BAD(struct cellar_command), &answer));
     MISUSED(cellar_make_behind(&engine, 0, &command, BAD(struct cellar_answer)));
+    MISUSED(cellar_make_on(BAD(struct cellar), 0, &command, &answer, &effect, 1, &one));
+    MISUSED(cellar_make_on(&engine, 0, BAD(struct cellar_command), &answer, &effect, 1, &one));
+    MISUSED(cellar_make_on(&engine, 0, &command, BAD(struct cellar_answer), &effect, 1, &one));
+    MISUSED(cellar_make_on(&engine, 0, &command, &answer, BAD(struct cellar_effect), 1, &one));
+    MISUSED(cellar_make_on(&engine, 0, &command, &answer, &effect, 1, BAD(uint64_t)));
     MISUSED(cellar_give_up(BAD(struct cellar), 0, 0, &effect, 0, &one));
     MISUSED(cellar_give_up(&engine, 0, 0, BAD(struct cellar_effect), 0, &one));
     MISUSED(cellar_give_up(&engine, 0, 0, &effect, 0, BAD(uint64_t)));
@@ -61,6 +66,8 @@ int main(void) {
   MUST(engine.at == 0 && cellar_finish(&engine) == CELLAR_NOTHING_KEPT);
   MUST(cellar_make(&engine, &command, &answer) == CELLAR_NOTHING_KEPT && !answer.copies && !answer.closed && !answer.due && !answer.handed);
   MUST(cellar_make_behind(&engine, 0, &command, &answer) == CELLAR_NOTHING_KEPT && !answer.copies && !answer.due && !answer.handed);
+  one = 1;
+  MUST(cellar_make_on(&engine, 0, &command, &answer, &effect, 1, &one) == CELLAR_NOTHING_KEPT && one == 0 && !answer.due && !answer.handed);
   MUST(cellar_take(&engine, 0, 0, &effect, &one) == CELLAR_NOTHING_KEPT && one == 0);
   MUST(cellar_take_on(&engine, 0, 0, &effect, 1, &one) == CELLAR_NOTHING_KEPT && one == 0);
   MUST(cellar_give_up(&engine, 0, 0, &effect, 0, &one) == CELLAR_NOTHING_KEPT && cellar_left(&engine, 0, &one, &two) == CELLAR_NOTHING_KEPT);

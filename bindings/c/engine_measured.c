@@ -1,6 +1,6 @@
 /* Measures the engine beside the book's calls that tell: nanoseconds of processor time, the median of nine rounds with the least and
  * the greatest, and bytes. Both do the same work: of a book, what is told stands in the answer; of an engine, it is taken of its lane.
- * A lane is served by cellar_take_on, and the last one is given back with the command that follows. */
+ * The lane of an item that was handed out is given back with the command that follows, and what a disposal comes to is taken with it. */
 #define _POSIX_C_SOURCE 200809L
 #include <cellarcliff.h>
 #include <rx_book.h>
@@ -10,9 +10,10 @@
 
 #include "must.h"
 
-enum { N = 200000, ROUNDS = 9, EVENTS = 60000 };
+enum { N = 200000, ROUNDS = 9, EVENTS = 8192 };
 static struct cellar_answer a;
 static struct cellar_command c;
+static struct cellar_effect room[CELLAR_ROOM];
 static struct rx_told told;
 static uint64_t done = UINT64_MAX; /* a lane of which all that was taken is done, and which the next command gives back */
 static const struct rx_node none = {0, 0};
@@ -27,17 +28,10 @@ static void make(struct cellar *e, uint8_t what) {
   MUST((done == UINT64_MAX ? cellar_make(e, &c, &a) : cellar_make_behind(e, done, &c, &a)) == 0);
   done = UINT64_MAX;
 }
-static uint64_t serve(struct cellar *e) {
-  uint64_t count, all = 0;
-  struct cellar_effect room[CELLAR_ROOM];
-  if (a.due) done = a.lanes[a.due - 1];
-  if (a.handed) return 1;
-  for (uint64_t i = 0; i < a.due; i++)
-    do {
-      MUST(cellar_take_on(e, a.lanes[i], c.by, room, CELLAR_ROOM, &count) == 0);
-      all += count;
-    } while (i + 1 < a.due ? count : count == CELLAR_ROOM);
-  return all;
+static void emit(struct cellar *e) {
+  make(e, CELLAR_NEXT);
+  MUST(a.handed == 1 && a.due == 1);
+  done = a.lanes[0];
 }
 static void open_node(struct cellar *e, uint8_t place, uint8_t kind, struct cellar_node above, uint8_t flags) {
   c.place = place, c.kind = kind, c.node = above, c.flags = flags;
@@ -51,8 +45,7 @@ static void items(struct cellar *e) {
   c.node = a.node;
   for (uint64_t i = 0; i < N; i++) {
     c.value = i;
-    make(e, CELLAR_NEXT);
-    MUST(serve(e) == 1);
+    emit(e);
   }
 }
 static void items_told(struct rx_book *book) {
@@ -66,17 +59,17 @@ static void items_told(struct rx_book *book) {
 }
 /* A Using with a leaf whose closing is heard of: one item, disposed of, its resource taken. */
 static void cycles(struct cellar *e) {
+  uint64_t count;
   for (uint64_t i = 0; i < N / 4; i++) {
-    c.place = CELLAR_ROOT, c.value = i, c.flags = 0;
+    c.place = CELLAR_ROOT, c.value = i;
     make(e, CELLAR_USING);
     struct cellar_node root = a.node;
     open_node(e, CELLAR_SOURCE, CELLAR_LEAF, root, CELLAR_WISHES);
     c.node = a.node;
-    make(e, CELLAR_NEXT);
-    MUST(serve(e) == 1);
-    c.node = root;
-    make(e, CELLAR_DISPOSE);
-    MUST(a.closed == 1 && serve(e) == 2);
+    emit(e);
+    c.what = CELLAR_DISPOSE, c.node = root;
+    MUST(cellar_make_on(e, done, &c, &a, room, CELLAR_ROOM, &count) == 0 && a.closed == 1 && count == 2);
+    done = a.lanes[0];
   }
 }
 static void cycles_told(struct rx_book *book) {
@@ -106,8 +99,7 @@ static void inners(struct cellar *e) {
     uint64_t lane = a.lanes[0];
     open_node(e, CELLAR_INNER, CELLAR_LEAF, flat, CELLAR_WISHES);
     c.node = a.node;
-    make(e, CELLAR_NEXT);
-    MUST(serve(e) == 1);
+    emit(e);
     make(e, CELLAR_COMPLETE);
     MUST(a.closed == 1 && a.due == 0);
     done = lane;

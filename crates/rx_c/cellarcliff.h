@@ -64,7 +64,7 @@ extern "C" {
  *   read but compared (`by`) and given back.
  * Refusal. With any status but 0 nothing changed that a later call can see (the engine may have made a checkpoint, or hubs for
  *   shares, which its events tell), all counts of the answer are 0, no tag and no value was taken in, and no effect comes of the command.
- *   Of cellar_make_behind this is said of its command, beside the lane that it serves on or gives back.
+ *   Of cellar_make_behind and cellar_make_on this is said of the command, beside the lane that it serves on or gives back.
  * Memory. Only CELLAR_OPEN, CELLAR_USING, CELLAR_HOLD, CELLAR_APPLY, CELLAR_LEASE, CELLAR_CONNECT, CELLAR_NEXT, CELLAR_PUT, cellar_new
  *   and cellar_dump may answer CELLAR_NO_MEMORY. An opening may answer it before a cause of its own. A command that finds the history
  *   full answers it where the checkpoint that would make room is refused memory.
@@ -88,7 +88,7 @@ extern "C" {
  *   - what does not fit becomes a call of another name, beside the old one.
  *   cellar_abi answers the number of the header that the library was built for. A face asks once, by CELLAR_FITS, and refuses to run
  *   where the upper half differs from CELLAR_ABI's, or the lower half is less; CELLAR_ANOTHER says so. */
-#define CELLAR_ABI UINT32_C(0x00010001) /* upper half: counts changes that break; lower half: what was added since */
+#define CELLAR_ABI UINT32_C(0x00010002) /* upper half: counts changes that break; lower half: what was added since */
 
 uint32_t cellar_abi(void);
 #define CELLAR_FITS() (cellar_abi() >> 16 == CELLAR_ABI >> 16 && (cellar_abi() & 0xFFFF) + 1 > (CELLAR_ABI & 0xFFFF))
@@ -233,7 +233,7 @@ enum cellar_status {
   CELLAR_HELD = 3,          /* cellar_new: the handle keeps an engine already */
   CELLAR_NO_MEMORY = 4,
   CELLAR_NO_SUCH_CODE = 5,
-  CELLAR_UNTAKEN = 6,       /* cellar_finish: an effect waits, or something is open, held or leased. cellar_make_behind: the lane has an effect */
+  CELLAR_UNTAKEN = 6,       /* cellar_finish: an effect waits, or something is open, held or leased. cellar_make_behind, cellar_make_on: the lane has an effect */
   CELLAR_SMALL = 7,         /* cellar_dump */
   CELLAR_CUT = 8,           /* cellar_dump: the engine made a checkpoint, so the history is not whole */
   CELLAR_MISUSE = 9,        /* CELLAR_ARMOR alone: a null or misaligned pointer */
@@ -250,7 +250,7 @@ enum cellar_status {
 
 /* Makes an engine in a handle that keeps nothing: 0, 3 or 4. Its history has at most so many events at a time, those counted in that
  * closing everything needs: where a command would pass that, the engine makes a checkpoint by itself, and the command is tried once
- * more. 0 lets it choose: before a command it makes one behind 65,536 events, or behind four times as many as nodes are open and
+ * more. 0 lets it choose: before a command it makes one behind 8,192 events, or behind four times as many as nodes are open and
  * resources held where that is more, so that it costs each event little. */
 uint8_t cellar_new(struct cellar *engine, uint32_t max_events);
 
@@ -277,6 +277,14 @@ uint8_t cellar_take_on(struct cellar *engine, uint64_t lane, uint64_t by, struct
  * again, or serve the lane to its end first. With any other status the lane is given back, also where the command was refused. Until
  * the call nobody else is given what comes into the lane: so only for a command that follows at once, as the next item of a loop. */
 uint8_t cellar_make_behind(struct cellar *engine, uint64_t lane, const struct cellar_command *command, struct cellar_answer *answer);
+
+/* Makes a command as cellar_make_behind does, where a `lane` of UINT64_MAX gives none back; and where the answer names one lane and hands
+ * out nothing, takes of that lane as cellar_take_on does: two calls in one. *count is how many effects stand at the front of `effects`,
+ * 0 where none was taken, as of a command that was refused or not made. Do them behind what each command asks for: first keep `copies`
+ * references to the value, and act on the closings. With *count above 0 the caller serves the lane on: it is given back as after
+ * cellar_take_on, or with the next command. */
+uint8_t cellar_make_on(struct cellar *engine, uint64_t lane, const struct cellar_command *command, struct cellar_answer *answer,
+                       struct cellar_effect *effects, size_t room, uint64_t *count);
 
 /* Lets others serve a lane that `by` serves, in the midst of serving it: 0, 1, 5 or 17. `count` is how many effects (0 or 1) the
  * caller took and did not tell, which go to the front again. *is_left is 1 if the lane has something now. CELLAR_GONE: `by` does not
@@ -390,6 +398,12 @@ static inline uint8_t cellar_make_behind_armored(struct cellar *engine, uint64_t
                                              struct cellar_answer *answer) {
   return CELLAR_FIT(engine) && CELLAR_FIT(command) && CELLAR_FIT(answer) ? cellar_make_behind(engine, lane, command, answer) : (uint8_t)CELLAR_MISUSE;
 }
+static inline uint8_t cellar_make_on_armored(struct cellar *engine, uint64_t lane, const struct cellar_command *command,
+                                         struct cellar_answer *answer, struct cellar_effect *effects, size_t room, uint64_t *count) {
+  return CELLAR_FIT(engine) && CELLAR_FIT(command) && CELLAR_FIT(answer) && CELLAR_FIT(effects) && CELLAR_FIT(count)
+             ? cellar_make_on(engine, lane, command, answer, effects, room, count)
+             : (uint8_t)CELLAR_MISUSE;
+}
 static inline uint8_t cellar_give_up_armored(struct cellar *engine, uint64_t lane, uint64_t by, const struct cellar_effect *untold,
                                          uint64_t count, uint64_t *is_left) {
   return CELLAR_FIT(engine) && CELLAR_FIT(untold) && CELLAR_FIT(is_left) ? cellar_give_up(engine, lane, by, untold, count, is_left) : (uint8_t)CELLAR_MISUSE;
@@ -428,6 +442,7 @@ static inline void cellar_drop_armored(struct cellar *engine) {
 #define cellar_take(e, l, b, f, n) cellar_take_armored(e, l, b, f, n)
 #define cellar_take_on(e, l, b, f, r, n) cellar_take_on_armored(e, l, b, f, r, n)
 #define cellar_make_behind(e, l, c, a) cellar_make_behind_armored(e, l, c, a)
+#define cellar_make_on(e, l, c, a, f, r, n) cellar_make_on_armored(e, l, c, a, f, r, n)
 #define cellar_give_up(e, l, b, f, n, i) cellar_give_up_armored(e, l, b, f, n, i)
 #define cellar_rest(e, w, f, d, r, n) cellar_rest_armored(e, w, f, d, r, n)
 #define cellar_drop(e) cellar_drop_armored(e)

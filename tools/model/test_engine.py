@@ -27,7 +27,7 @@ class Itself:
     def key(self, named):
         return (0, named)
 
-    def make(self, c, behind=None):
+    def make(self, c, behind=None, room=None):
         if behind is not None and (effect := self.take(behind, c.by)):
             return Made(UNTAKEN, handed=effect)
         it = self.engine.make(c)
@@ -39,7 +39,9 @@ class Itself:
         if it.handed:
             self.hear(it.handed)
         self.lists = it.closings, tuple(due.lane + 1 | due.inside * INSIDE for due in it.lanes)
-        return Made(0, it.node, it.other, it.is_connected, it.hub, it.copies, self.lists[0], it.handed, self.lists[1])
+        made = Made(0, it.node, it.other, it.is_connected, it.hub, it.copies, self.lists[0], it.handed, self.lists[1])
+        is_named = room is not None and len(made.lanes) == 1 and not made.handed
+        return made._replace(taken=tuple(self.take_on(made.lanes[0], c.by, room))) if is_named else made
 
     def rest(self, which, start, room):
         return list(self.lists[which][start:start + room]) if which < 2 else []
@@ -223,11 +225,12 @@ class Laws(unittest.TestCase):
 
     def test_what_is_answered_otherwise_is_found(self):
         faults = {'make': lambda it: it._replace(copies=it.copies + (it.copies > 0)), 'take': lambda it: it and it._replace(by=it.by ^ 1),
-                  'take_on': lambda it: it[:-1],
+                  'take_on': lambda it: it[:-1], 'make ': lambda it: it._replace(taken=it.taken[1:]),
                   'left': lambda it: it[:-1], 'totals': lambda it: (*it[:7], it[7] + (it[7] > 2)), 'finish': lambda it: DONE}
         for name, turn in faults.items():
-            was = getattr(Itself, name)
-            with self.subTest(name), mock.patch.object(Itself, name, lambda s, *words: turn(was(s, *words))), self.assertRaises(Differs):
+            call = name.strip()
+            was = getattr(Itself, call)
+            with self.subTest(name), mock.patch.object(Itself, call, lambda s, *words: turn(was(s, *words))), self.assertRaises(Differs):
                 for seed in range(60):
                     Course(random.Random(seed), Itself()).run(30)
 

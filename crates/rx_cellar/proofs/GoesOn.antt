@@ -22,7 +22,7 @@ use Rattle.rx_lanes.specs.State.{State as LanesState, lane, Turns}
 use Rattle.rx_lanes.specs.Handings.{IsGiven, IsServedOn, goes_on, is_gone, AreGiven, none_given, one_given}
 use Rattle.rx_roles.specs.declared.effect.Effect.{Effect as Sent}
 use Rattle.rx_roles.specs.declared.effect.Few.{Few}
-use Rattle.rx_roles.specs.Effects.{effects_of}
+use Rattle.rx_roles.specs.Effects.{few_listed}
 use Rattle.rx_engine.specs.States.{State}
 use Rattle.rx_engine.specs.Servings.{IsTake}
 use Rattle.rx_engine.specs.Commands.{IsFreeMade}
@@ -133,7 +133,7 @@ first_there {name} (one_given s u e es one rest) = of (lane s name) refl where
   of None none = absurd (true≢false (ap (λ (x : Option Sent). is_some x) (one.absent none)))
   of (Some l) found = (l, found)
 
-few_long : (few : Few) (n : ℕ) → 2 < n → length (effects_of few) < n
+few_long : (few : Few) (n : ℕ) → 2 < n → length (few_listed few) < n
 few_long few n long = of few.second where
   of : (o : Option Sent) → length (few.first ∷ option_to_list o) < n
   of None = omega (arith, long)
@@ -155,22 +155,22 @@ lane_of_one d e a is some =
 
 pub few_taken : (c : Cellar) (few : Few) (by n : ℕ) (s t : LanesState Sent) (room : List Effect) (a b : Answer) → GivesThese few by s t → 2 < length room →
     0 < length a.lanes → b ≡ record (told nothing_made (standing c t n).engine a) { handed = 0 } →
-    TakesOnIf (lane_named b) by (standing c s n) (standing c t (counted_all (effects_of few) n)) room (shown_in (effects_of few) room) (length
-    (effects_of few))
+    TakesOnIf (lane_named b) by (standing c s n) (standing c t (counted_all (few_listed few) n)) room (shown_in (few_listed few) room) (length
+    (few_listed few))
 few_taken c few by n s t room a b gives long some is =
     let d : Due = record { lane = few.first.lane; inside = false } in
     let due : t.due ≡ d ∷ [] = gives.still_due ∙ gives.due in
     let name = ap lane_named is ∙ lane_of_one d (standing c t n).engine a due some in
     let there = first_there gives.given in
     let finds = words_find s few.first.lane there.0 false there.1 gives.below in
-    subst (λ (o : Option ℕ). TakesOnIf o by (standing c s n) (standing c t (counted_all (effects_of few) n)) room (shown_in (effects_of few) room)
-    (length (effects_of few)))
+    subst (λ (o : Option ℕ). TakesOnIf o by (standing c s n) (standing c t (counted_all (few_listed few) n)) room (shown_in (few_listed few) room)
+    (length (few_listed few)))
     (sym name)
-    (subst (λ (i : Bool). IsTakenOnIf i by (standing c s n) (standing c t (counted_all (effects_of few) n)) room (shown_in (effects_of few) room)
-    (length (effects_of few)) (named s (word_of_due d))) (sym finds.1)
-    (subst (λ (o : Option LaneName). IsTakenOnIf false by (standing c s n) (standing c t (counted_all (effects_of few) n)) room (shown_in
-    (effects_of few) room)
-    (length (effects_of few)) o) (sym finds.0)
+    (subst (λ (i : Bool). IsTakenOnIf i by (standing c s n) (standing c t (counted_all (few_listed few) n)) room (shown_in (few_listed few) room)
+    (length (few_listed few)) (named s (word_of_due d))) (sym finds.1)
+    (subst (λ (o : Option LaneName). IsTakenOnIf false by (standing c s n) (standing c t (counted_all (few_listed few) n)) room (shown_in
+    (few_listed few) room)
+    (length (few_listed few)) o) (sym finds.0)
     (of_lane few.first.lane (all_taken c t n room gives.given (few_long few (length room) long)))))
 
 pub disposal_so : (c : Command) (root : Key) → c.what ≡ 8 → has_no_flags c ≡ true → root ≡ key_of c.node → asked_of c ≡ Some (Dispose root)

@@ -14,8 +14,8 @@ use rx_engine::Engine;
 use rx_resource::Token;
 use rx_typed::status_of;
 
-// Where the engine chooses, it makes a checkpoint behind so many events at least.
-pub(crate) const FEW: u64 = 65_536;
+// Where the engine chooses, it makes a checkpoint behind so many events at least: few enough to stay in a cache.
+pub(crate) const FEW: u64 = 8_192;
 
 /// An engine by commands of numbers.
 #[derive(Drop)]

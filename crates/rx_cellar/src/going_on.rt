@@ -1,7 +1,7 @@
 //! A command, and all that is to be taken of the lane that its answer names, by one call.
 
 ghost use Rattle.std.specs.Prelude.{◌≡◌, ◌<◌, length, true};
-ghost use Rattle.rx_roles.specs.Effects.{effects_of};
+ghost use Rattle.rx_roles.specs.Effects.{few_listed};
 ghost use Rattle.rx_cellar.specs.Frequent.{has_no_flags};
 ghost use Rattle.rx_cellar.specs.GoingOn.{lane_named, TakesOnIf, IsMadeThen, IsMadeOn, counted_all, shown_in};
 
@@ -20,9 +20,9 @@ impl Cellar {
     #[inline(always)]
     fn show_few(&mut self, few: Few, room: &mut [Effect]) -> usize
         requires { 2 < length room.old }
-        ensures counts { self.new ≡ record self.old { released = counted_all (effects_of few) self.old.released } }
-        ensures shows { room.new ≡ shown_in (effects_of few) room.old }
-        ensures many { result ≡ length (effects_of few) }
+        ensures counts { self.new ≡ record self.old { released = counted_all (few_listed few) self.old.released } }
+        ensures shows { room.new ≡ shown_in (few_listed few) room.old }
+        ensures many { result ≡ length (few_listed few) }
     {
         room[0] = effect_of(few.first);
         self.count(few.first.what);

@@ -22,14 +22,14 @@ use Rattle.rx_lanes.proofs.Laws.LanesWritten.{written, opened_here, found_here, 
 use Rattle.rx_lanes.proofs.Laws.HandedWhole.{waiting, Waits, all_given}
 use Rattle.rx_roles.specs.declared.effect.Effect.{Effect}
 use Rattle.rx_roles.specs.declared.effect.Few.{Few}
-use Rattle.rx_roles.specs.Effects.{is_last, is_release, lasts, lasts_at, copies_in, few_of, effects_of}
+use Rattle.rx_roles.specs.Effects.{is_last, is_release, lasts, lasts_at, copies_in, few_of, few_listed}
 use Rattle.rx_engine.specs.declared.parts.Parts.{Parts}
 use Rattle.rx_engine.specs.Deliveries.{many_of, many_at, put_by, PartsIf, Arrives, Delivers, none_delivered, one_delivered, settled}
 use Rattle.rx_engine.specs.Rooms.{role_count, named, IsReady}
 use Rattle.rx_engine.specs.Gatherings.{Gathers, IsLoaded}
 use Rattle.rx_engine.specs.Closings.{WishState, Closes}
 use Rattle.rx_engine.specs.States.{State as EngineState}
-use Rattle.rx_engine.specs.Handings.{IsHandedOver, SpreadsAndGives, at_once, IsFreeMadeAndGiven}
+use Rattle.rx_engine.specs.Handings.{IsLaneHandedOver, SpreadsAndGives, at_once, IsFreeMadeAndGiven}
 use Rattle.rx_engine.proofs.SpreadOut.{settles_of}
 use Rattle.rx_engine.proofs.Laws.EffectsInLanes.{same_name, is_itself, other_name, kept_put}
 
@@ -41,8 +41,8 @@ AreAt name [] = ⊤
 AreAt name (e ∷ es) = (e.lane ≡ name) × AreAt name es
 
 pub record AreFew (es : List Effect) (few : Few) : Type 0 where
-  pub all : es ≡ effects_of few
-  pub at : AreAt few.first.lane (effects_of few)
+  pub all : es ≡ few_listed few
+  pub at : AreAt few.first.lane (few_listed few)
 
 pub are_few : (es : List Effect) (few : Few) → few_of es ≡ Some few → AreFew es few
 are_few [] few is = absurd (cc)
@@ -175,20 +175,20 @@ module _ (s : State Effect) (name : LaneName) (by : ℕ) where
 
 -- as many name the lane, at least, as last effects go there
 pub few_named : (p : Parts) (few : Few) → IsLoaded p → few_of p.effects.list ≡ Some few → (l : Lane Effect) → lane p.lanes few.first.lane ≡ Some l →
-    lasts (effects_of few) ≤ l.many
+    lasts (few_listed few) ≤ l.many
 few_named p few loaded is l found =
     let these = are_few p.effects.list few is in
     let had = loaded.many few.first.lane in
-    let all = ap (lasts_at few.first.lane) these.all ∙ lasts_there few.first.lane (effects_of few) these.at in
+    let all = ap (lasts_at few.first.lane) these.all ∙ lasts_there few.first.lane (few_listed few) these.at in
     let here = ap many_of found in
     omega (arith, had, all, here)
 
-module _ {few : Few} {by : ℕ} {p m : Parts} (over : IsHandedOver few by p m) (loaded : IsLoaded p) where
+module _ {few : Few} {by : ℕ} {p m : Parts} (over : IsLaneHandedOver few by p m) (loaded : IsLoaded p) where
   abbrev name : LaneName
   name = few.first.lane
 
   abbrev es : List Effect
-  es = effects_of few
+  es = few_listed few
 
   is_few : AreFew p.effects.list few
   is_few = are_few p.effects.list few over.few_is

@@ -14,7 +14,7 @@ use Rattle.rx_lanes.specs.State.{State as LanesState, lane}
 use Rattle.rx_lanes.specs.Handings.{ClaimsAlone, HandsOver, IsDueGiven, AreGiven}
 use Rattle.rx_roles.specs.declared.effect.Effect.{Effect}
 use Rattle.rx_roles.specs.declared.effect.Few.{Few}
-use Rattle.rx_roles.specs.Effects.{only_item, few_of, effects_of, lasts}
+use Rattle.rx_roles.specs.Effects.{only_item, few_of, few_listed, lasts}
 use Rattle.rx_engine.specs.declared.parts.Parts.{Parts}
 use Rattle.rx_engine.specs.States.{State, IsSeenAs, IsLanesOnly}
 use Rattle.rx_engine.specs.Commands.{IsDone, IsCostlyMade}
@@ -82,9 +82,9 @@ abbrev pub at_once : List Effect → LanesState Effect → Option Few
 at_once es lanes = option_and_then (λ (few : Few). if may_hand lanes few.first.lane then Some few else None) (few_of es)
 
 -- the lane of what was on its way is handed over; nothing else changed
-pub record IsHandedOver (few : Few) (by : ℕ) (p q : Parts) : Type 0 where
+pub record IsLaneHandedOver (few : Few) (by : ℕ) (p q : Parts) : Type 0 where
   pub few_is : few_of p.effects.list ≡ Some few
-  pub hands : HandsOver few.first.lane by (lasts (effects_of few)) p.lanes q.lanes
+  pub hands : HandsOver few.first.lane by (lasts (few_listed few)) p.lanes q.lanes
   pub below : few.first.lane.place < 2 ^ 29
   pub spare : q.lanes.spare ≡ p.lanes.spare
   pub only : q ≡ record p { lanes = q.lanes }
@@ -94,7 +94,7 @@ pub record GivesThese (few : Few) (by : ℕ) (s t : LanesState Effect) : Type 0 
   pub due : s.due ≡ record { lane = few.first.lane; inside = false } ∷ []
   pub still_due : t.due ≡ s.due
   pub below : few.first.lane.place < 2 ^ 29
-  pub given : AreGiven few.first.lane by t s (effects_of few)
+  pub given : AreGiven few.first.lane by t s (few_listed few)
 
 -- where there are such; else nothing changes
 abbrev pub GivesFew : (by : ℕ) → (s t : LanesState Effect) → Option Few → Type 0

@@ -11,7 +11,7 @@ ghost use Rattle.rx_engine.specs.Settlements.{mail_left, closed_of, Settles, Kee
 ghost use Rattle.rx_engine.specs.Gatherings.{Gathers, EndsClosed, Spreads, IsLoaded};
 ghost use Rattle.rx_engine.specs.Closings.{Closes};
 ghost use Rattle.rx_engine.specs.Handings.{IsClaimed, GivesIf, SpreadsAndHands, AnswersHandOut};
-ghost use Rattle.rx_engine.specs.Handings.{IsHandedOver, SpreadsAndGives, at_once};
+ghost use Rattle.rx_engine.specs.Handings.{IsLaneHandedOver, SpreadsAndGives, at_once};
 ghost use Rattle.rx_engine.specs.Servings.{is_one};
 
 use crate::delivering::deliver;
@@ -205,7 +205,7 @@ pub(crate) fn spread_and_hand(
 #[inline(always)]
 fn hands_few(parts: &mut Parts, by: u64) -> Option<Few>
     requires { IsLoaded parts.old }
-    ensures hands { IfSome result (λ few. IsHandedOver few by parts.old parts.new) }
+    ensures hands { IfSome result (λ few. IsLaneHandedOver few by parts.old parts.new) }
     ensures other { IfNone result (parts.new ≡ parts.old) }
     ensures exact { result ≡ at_once parts.old.effects.list parts.old.lanes }
 {

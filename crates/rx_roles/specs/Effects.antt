@@ -55,8 +55,8 @@ few_of (e ∷ (f ∷ [])) = if is_name f.lane e.lane then Some (record { first =
 few_of (e ∷ (f ∷ (g ∷ es))) = None
 
 -- in order
-abbrev pub effects_of : Few → List Effect
-effects_of few = few.first ∷ option_to_list few.second
+abbrev pub few_listed : Few → List Effect
+few_listed few = few.first ∷ option_to_list few.second
 
 -- for who has this role, of a call of this caller with this value
 abbrev pub effect_for : (by value : ℕ) → What → Role → Effect

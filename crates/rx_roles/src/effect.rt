@@ -2,7 +2,7 @@
 
 ghost use Rattle.std.specs.Prelude.{◌≡◌, ◌+◌, ◌<◌, ◌≤◌, [], ◌∷◌, ◌++◌, OnOk, length, slice_get, if◌then◌else◌, Some, IsSome, is_some};
 ghost use Rattle.rx_lanes.specs.Courses.{is_name};
-ghost use Rattle.rx_roles.specs.Effects.{is_last, is_item, lasts, copies_in, only_item, few_of, effects_of};
+ghost use Rattle.rx_roles.specs.Effects.{is_last, is_item, lasts, copies_in, only_item, few_of, few_listed};
 
 use crate::telling::copies_of;
 use rx_lanes::LaneName;
@@ -109,7 +109,7 @@ impl Few {
     /// How many of them are the last of their roles.
     #[inline(always)]
     pub fn lasts(&self) -> u64
-        ensures { result ≡ lasts (effects_of self.now) }
+        ensures { result ≡ lasts (few_listed self.now) }
     {
         let first = lasts_where(self.first.what);
         match self.second {
@@ -121,7 +121,7 @@ impl Few {
     /// How many of them carry the value of their call.
     #[inline(always)]
     pub fn copies(&self) -> u64
-        ensures { result ≡ copies_in (effects_of self.now) }
+        ensures { result ≡ copies_in (few_listed self.now) }
     {
         let first = copies_of(self.first.what);
         match self.second {

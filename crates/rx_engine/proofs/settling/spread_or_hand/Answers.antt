@@ -1,13 +1,13 @@
 use Rattle.std.proofs.Common.{◌≤◌, refl, ap, arith}
 use Rattle.rx_engine.specs.declared.parts.Parts.{Parts}
-use Rattle.rx_engine.specs.Handings.{IsHandedOver}
+use Rattle.rx_engine.specs.Handings.{IsLaneHandedOver}
 use Rattle.rx_engine.proofs.FewHanded.{over_ready, over_gives}
 use Rattle.rx_engine.proofs.settling.spread_or_hand.Goals as goal
 
 abbrev behind : goal.After-parts-1 → Parts
 behind c = record c.hands_few.new.parts { effects = c.clear.new.self; copies = c.copies-parts.result }
 
-over : (c : goal.After-parts-1) → IsHandedOver c.in-Some.few c.args.by c.args.parts.now c.hands_few.new.parts
+over : (c : goal.After-parts-1) → IsLaneHandedOver c.in-Some.few c.args.by c.args.parts.now c.hands_few.new.parts
 over c = c.in-Some.ensures.hands
 
 more : (c : goal.After-parts-1) → c.args.parts.now.effects.room ≤ c.clear.new.self.room

@@ -7,7 +7,7 @@ use Rattle.rx_book.specs.Requests.{dispose_request}
 use Rattle.rx_lanes.specs.State.{State as LanesState}
 use Rattle.rx_roles.specs.declared.effect.Effect.{Effect as Sent}
 use Rattle.rx_roles.specs.declared.effect.Few.{Few}
-use Rattle.rx_roles.specs.Effects.{effects_of}
+use Rattle.rx_roles.specs.Effects.{few_listed}
 use Rattle.rx_engine.specs.States.{State}
 use Rattle.rx_engine.specs.Commands.{IsDone, IsFreeMade}
 use Rattle.rx_engine.specs.Handings.{IsMadeAndGiven, IsFreeMadeAndGiven}
@@ -70,13 +70,13 @@ returns-in-Ok-Some c =
     c.args.command.now.by 0 u.engine e x) (c.in-Ok-Some.is ∙ ap (λ (o : Option Few). Ok o) c.in-Ok-Some.field-0-is) c.dispose_handing.ensures).done in
     let a = no_answer c.args.answer.now in
     let between : Cellar = record u { engine = done.between } in
-    let after : Cellar = standing between e.parts.lanes (counted_all (effects_of few) u.released) in
+    let after : Cellar = standing between e.parts.lanes (counted_all (few_listed few) u.released) in
     let some : 0 < length c.args.answer.now.lanes = search rules in
     let tells : c.tell.new.answer ≡ told nothing_made e a = c.tell.ensures ∙ ap (λ (m : Made). told m e a) c.nothing_made.ensures in
     let ends : c.show_few.new.self ≡ after = c.show_few.ensures.counts ∙ ap (λ (x : State). record u {
       engine = x;
       released = counted_all
-          (effects_of few) u.released;
+          (few_listed few) u.released;
     }) done.same in
     record {
       between = between;
@@ -89,7 +89,7 @@ returns-in-Ok-Some c =
           (subst (λ (r : List Effect). TakesOnIf (lane_named c.tell.new.answer) c.args.command.now.by between after c.args.room.now r c.show_few.result)
           (sym c.show_few.ensures.shows)
           (subst (λ (k : ℕ). TakesOnIf (lane_named c.tell.new.answer) c.args.command.now.by between after c.args.room.now (shown_in
-          (effects_of few) c.args.room.now) k)
+          (few_listed few) c.args.room.now) k)
           (sym c.show_few.ensures.many)
           (few_taken between few c.args.command.now.by u.released done.between.parts.lanes e.parts.lanes c.args.room.now a c.tell.new.answer done.gives
           c.requires.long some (tells ∙ ap (λ (x : State). told nothing_made x a) done.same))));
