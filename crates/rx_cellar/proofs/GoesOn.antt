@@ -1,6 +1,6 @@
 -- A root that was unsubscribed, and what comes of it handed out: as by the command, and then by taking on.
-use Rattle.std.proofs.Common.{◌≡◌, ◌≢◌, ℕ, ◌+◌, ◌<◌, ◌^◌, ◌==◌, ◌&&◌, Bool, true, false, List, [], ◌∷◌, length, map, Option, Some, None, is_some}
-use Rattle.std.proofs.Common.{IsSome, Result, Ok, Err, refl, sym, ap, ◌∙◌, subst, arith, true≢false}
+use Rattle.std.proofs.Common.{◌≡◌, ◌≢◌, ℕ, ◌+◌, ◌<◌, ◌==◌, ◌&&◌, Bool, true, false, List, [], ◌∷◌, length, map, Option, Some, None, is_some}
+use Rattle.std.proofs.Common.{Result, refl, sym, ap, ◌∙◌, subst, arith, true≢false}
 use Rattle.std.specs.Prelude.{slice_index_or, if◌then◌else◌}
 use Rattle.std.specs.Option.{option_to_list}
 use Rattle.std.proofs.lemmas.Option.{same_Some}
@@ -10,7 +10,7 @@ use Rattle.rx_event.specs.declared.refusal.Refusal.{Refusal}
 use Rattle.rx_event.specs.declared.refusal.Refusal.TheVariants.{Full}
 use Rattle.rx_event.specs.Refusals.{first_of_these, refusal_order}
 use Rattle.rx_event.specs.Causes.{causes, by_key}
-use Rattle.rx_event.specs.Calls.{Call, Disposing}
+use Rattle.rx_event.specs.Calls.{Disposing}
 use Rattle.rx_slots.specs.declared.Key.{Key}
 use Rattle.rx_book.specs.State.{State as BookState, has_key}
 use Rattle.rx_book.specs.Requests.{dispose_request, stands}
@@ -26,7 +26,7 @@ use Rattle.rx_roles.specs.Effects.{few_listed}
 use Rattle.rx_engine.specs.States.{State}
 use Rattle.rx_engine.specs.Servings.{IsTake}
 use Rattle.rx_engine.specs.Commands.{IsFreeMade}
-use Rattle.rx_engine.specs.Handings.{GivesThese, IsMadeAndGiven, IsFreeMadeAndGiven}
+use Rattle.rx_engine.specs.Handings.{GivesThese}
 use Rattle.rx_typed.specs.Codes.{key_of}
 use Rattle.rx_cellar.specs.declared.asked.Asked.TheVariants.{Dispose}
 use Rattle.rx_cellar.specs.declared.making.Made.{Made}
@@ -40,9 +40,9 @@ use Rattle.rx_cellar.specs.Crossings.{effect_of, no_answer}
 use Rattle.rx_cellar.specs.Frequent.{IsToldOrRefused, has_no_flags}
 use Rattle.rx_cellar.specs.Makings.{nothing_made, of_nothing, shown}
 use Rattle.rx_cellar.specs.Cellars.{counted, filled, told, IsCommandMade}
-use Rattle.rx_cellar.specs.Words.{named, is_inside, word_of_due, word_for}
+use Rattle.rx_cellar.specs.Words.{named, word_of_due}
 use Rattle.rx_cellar.specs.Serving.{Takes}
-use Rattle.rx_cellar.specs.TakingOn.{ServesOn, serves_on, lane_is_gone, AreEffectsTaken, none_found, one_more, IsTakenOnIf, of_lane, IsTakenOn}
+use Rattle.rx_cellar.specs.TakingOn.{ServesOn, serves_on, lane_is_gone, AreEffectsTaken, none_found, one_more, IsTakenOnIf, of_lane}
 use Rattle.rx_cellar.specs.GoingOn.{lane_named, TakesOnIf, counted_all, shown_in}
 use Rattle.rx_cellar.proofs.AnswersTold.{answered_once}
 use Rattle.rx_cellar.proofs.FrequentAsked.{disposal_asked}

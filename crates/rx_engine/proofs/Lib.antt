@@ -23,6 +23,7 @@ pub mod NewEngine
 pub mod HomesFound
 pub mod SpreadOut
 pub mod HandedOut
+pub mod FewPut
 pub mod FewHanded
 pub mod NothingLeft
 pub mod KeysKept

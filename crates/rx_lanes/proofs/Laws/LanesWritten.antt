@@ -33,9 +33,6 @@ module _ {E : Type 0} where
     others_as_before l fresh other apart = others_find {t0 = record { places = s.places; spare = s.spare }}
         {t1 = record { places = (written s name l fresh).places; spare = s.spare }} name was found (Some l) (puts l fresh) other apart
 
-    pub first_written : (l : Lane E) (fresh : List ℕ) → Becomes s (written s name l fresh) name (Some l) fresh
-    first_written l fresh = record { found = found_here l fresh; others = others_as_before l fresh; fresh_is = refl; next_turn = refl; due = refl }
-
     pub next_written : (l l' : Lane E) (fresh fresh' : List ℕ) → Becomes (written s name l fresh) (written s name l' fresh') name (Some l') fresh'
     next_written l l' fresh fresh' = record {
       found = found_here l' fresh';

@@ -1,28 +1,22 @@
-use Rattle.std.proofs.Common.{◌≡◌, ◌≢◌, ◌<◌, ℕ, List, Bool, Option, Some, None, Result, Ok, Err, length, true, rules, refl, sym, ap, ◌∙◌, subst}
-use Rattle.std.specs.Prelude.{if◌then◌else◌}
+use Rattle.std.proofs.Common.{◌≡◌, ◌<◌, ℕ, List, Option, Some, None, Result, Ok, Err, length, rules, refl, sym, ap, ◌∙◌, subst}
 use Rattle.rx_resource.specs.contracts.token.TokenResource.TheImpl.{ghosts}
 use Rattle.rx_event.specs.declared.refusal.Refusal.{Refusal}
-use Rattle.rx_slots.specs.declared.Key.{Key}
 use Rattle.rx_book.specs.Requests.{dispose_request}
 use Rattle.rx_lanes.specs.State.{State as LanesState}
 use Rattle.rx_roles.specs.declared.effect.Effect.{Effect as Sent}
 use Rattle.rx_roles.specs.declared.effect.Few.{Few}
 use Rattle.rx_roles.specs.Effects.{few_listed}
 use Rattle.rx_engine.specs.States.{State}
-use Rattle.rx_engine.specs.Commands.{IsDone, IsFreeMade}
-use Rattle.rx_engine.specs.Handings.{IsMadeAndGiven, IsFreeMadeAndGiven}
-use Rattle.rx_typed.specs.Codes.{key_of}
-use Rattle.rx_cellar.specs.declared.asked.Asked.TheVariants.{Dispose}
+use Rattle.rx_engine.specs.Commands.{IsDone}
+use Rattle.rx_engine.specs.Handings.{IsFreeMadeAndGiven}
 use Rattle.rx_cellar.specs.declared.making.Made.{Made}
 use Rattle.rx_cellar.specs.declared.shapes.Answer.{Answer}
 use Rattle.rx_cellar.specs.declared.shapes.Effect.{Effect}
 use Rattle.rx_cellar.specs.declared.cellar.Cellar.{Cellar}
-use Rattle.rx_cellar.specs.Asking.{asked_of}
 use Rattle.rx_cellar.specs.Crossings.{no_answer}
 use Rattle.rx_cellar.specs.Makings.{nothing_made}
 use Rattle.rx_cellar.specs.Cellars.{told}
 use Rattle.rx_cellar.specs.GoingOn.{lane_named, TakesOnIf, counted_all, shown_in}
-use Rattle.rx_cellar.proofs.FrequentAsked.{disposal_asked}
 use Rattle.rx_cellar.proofs.Tries.{full_is}
 use Rattle.rx_cellar.proofs.GoesOn.{never_full, standing, few_taken, disposal_so, disposal_made, told_alike}
 use Rattle.rx_cellar.proofs.cellar.Cellar.dispose_on.Goals as goal
