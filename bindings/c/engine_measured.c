@@ -1,20 +1,24 @@
 /* Measures the engine beside the book's calls that tell: nanoseconds of processor time, the median of nine rounds with the least and
  * the greatest, and bytes. Both do the same work: of a book, what is told stands in the answer; of an engine, it is taken of its lane.
- * The lane of an item that was handed out is given back with the command that follows, and what a disposal comes to is taken with it. */
+ * The lane of an item that was handed out is given back with the command that follows, and what a disposal comes to is taken with it.
+ * What crosses lies at another place of a page each round, so that no figure hangs on where it happens to lie. */
 #define _POSIX_C_SOURCE 200809L
 #include <cellarcliff.h>
 #include <rx_book.h>
 #include <malloc.h>
 #include <stdlib.h>
+#include <string.h>
 #include <time.h>
 
 #include "must.h"
 
 enum { N = 200000, ROUNDS = 9, EVENTS = 8192 };
-static struct cellar_answer a;
-static struct cellar_command c;
-static struct cellar_effect room[CELLAR_ROOM];
-static struct rx_told told;
+static struct crossing {
+  struct cellar_command c;
+  struct cellar_answer a;
+  struct cellar_effect room[CELLAR_ROOM];
+  struct rx_told told;
+} *at;
 static uint64_t done = UINT64_MAX; /* a lane of which all that was taken is done, and which the next command gives back */
 static const struct rx_node none = {0, 0};
 
@@ -24,27 +28,27 @@ static double now(void) {
   return (double)t.tv_sec * 1e9 + (double)t.tv_nsec;
 }
 static void make(struct cellar *e, uint8_t what) {
-  c.what = what;
-  MUST((done == UINT64_MAX ? cellar_make(e, &c, &a) : cellar_make_behind(e, done, &c, &a)) == 0);
+  at->c.what = what;
+  MUST((done == UINT64_MAX ? cellar_make(e, &at->c, &at->a) : cellar_make_behind(e, done, &at->c, &at->a)) == 0);
   done = UINT64_MAX;
 }
 static void emit(struct cellar *e) {
   make(e, CELLAR_NEXT);
-  MUST(a.handed == 1 && a.due == 1);
-  done = a.lanes[0];
+  MUST(at->a.handed == 1 && at->a.due == 1);
+  done = at->a.lanes[0];
 }
 static void open_node(struct cellar *e, uint8_t place, uint8_t kind, struct cellar_node above, uint8_t flags) {
-  c.place = place, c.kind = kind, c.node = above, c.flags = flags;
+  at->c.place = place, at->c.kind = kind, at->c.node = above, at->c.flags = flags;
   make(e, CELLAR_OPEN);
-  c.flags = 0;
+  at->c.flags = 0;
 }
 
 /* An item: told and taken. */
 static void items(struct cellar *e) {
   open_node(e, CELLAR_ROOT, CELLAR_LEAF, (struct cellar_node){0, 0}, CELLAR_WISHES);
-  c.node = a.node;
+  at->c.node = at->a.node;
   for (uint64_t i = 0; i < N; i++) {
-    c.value = i;
+    at->c.value = i;
     emit(e);
   }
 }
@@ -53,7 +57,7 @@ static void items_told(struct rx_book *book) {
   uint64_t place;
   MUST(rx_book_open(book, RX_ROOT, none, RX_LEAF, 0, &leaf) == 0);
   for (uint64_t i = 0; i < N; i++) {
-    MUST(rx_book_next_told(book, leaf.node, (int64_t)i, &told) == 0 && told.mails == 1);
+    MUST(rx_book_next_told(book, leaf.node, (int64_t)i, &at->told) == 0 && at->told.mails == 1);
     if (i % EVENTS == 0) MUST(rx_book_checkpoint(book, &place) == 0);
   }
 }
@@ -61,15 +65,15 @@ static void items_told(struct rx_book *book) {
 static void cycles(struct cellar *e) {
   uint64_t count;
   for (uint64_t i = 0; i < N / 4; i++) {
-    c.place = CELLAR_ROOT, c.value = i;
+    at->c.place = CELLAR_ROOT, at->c.value = i;
     make(e, CELLAR_USING);
-    struct cellar_node root = a.node;
+    struct cellar_node root = at->a.node;
     open_node(e, CELLAR_SOURCE, CELLAR_LEAF, root, CELLAR_WISHES);
-    c.node = a.node;
+    at->c.node = at->a.node;
     emit(e);
-    c.what = CELLAR_DISPOSE, c.node = root;
-    MUST(cellar_make_on(e, done, &c, &a, room, CELLAR_ROOM, &count) == 0 && a.closed == 1 && count == 2);
-    done = a.lanes[0];
+    at->c.what = CELLAR_DISPOSE, at->c.node = root;
+    MUST(cellar_make_on(e, done, &at->c, &at->a, at->room, CELLAR_ROOM, &count) == 0 && at->a.closed == 1 && count == 2);
+    done = at->a.lanes[0];
   }
 }
 static void cycles_told(struct rx_book *book) {
@@ -78,30 +82,30 @@ static void cycles_told(struct rx_book *book) {
     struct rx_opened leaf;
     struct rx_res res;
     uint64_t place;
-    MUST(rx_book_using_told(book, RX_ROOT, none, i, &used, &told) == 0);
-    MUST(rx_book_open_told(book, RX_SOURCE, used.node, RX_LEAF, 0, &leaf, &told) == 0);
+    MUST(rx_book_using_told(book, RX_ROOT, none, i, &used, &at->told) == 0);
+    MUST(rx_book_open_told(book, RX_SOURCE, used.node, RX_LEAF, 0, &leaf, &at->told) == 0);
     MUST(rx_book_hold(book, leaf.node, i, &res) == 0); /* to hear of its closing */
-    MUST(rx_book_next_told(book, leaf.node, (int64_t)i, &told) == 0 && told.mails == 1);
-    MUST(rx_book_dispose_told(book, used.node, &told) == 0 && told.resources == 2);
+    MUST(rx_book_next_told(book, leaf.node, (int64_t)i, &at->told) == 0 && at->told.mails == 1);
+    MUST(rx_book_dispose_told(book, used.node, &at->told) == 0 && at->told.resources == 2);
     if (i % (EVENTS / 8) == 0) MUST(rx_book_checkpoint(book, &place) == 0);
   }
 }
 /* An item through a FlatMap, whose inner tells one and completes. */
 static void inners(struct cellar *e) {
   open_node(e, CELLAR_ROOT, CELLAR_FLAT, (struct cellar_node){0, 0}, 0);
-  struct cellar_node flat = a.node;
+  struct cellar_node flat = at->a.node;
   open_node(e, CELLAR_SOURCE, CELLAR_LEAF, flat, 0);
-  struct cellar_node leaf = a.node;
+  struct cellar_node leaf = at->a.node;
   for (uint64_t i = 0; i < N / 4; i++) {
-    c.node = leaf, c.value = i;
+    at->c.node = leaf, at->c.value = i;
     make(e, CELLAR_NEXT);
-    MUST(a.handed == 1 && a.effect.kind == CELLAR_E_PROJECT);
-    uint64_t lane = a.lanes[0];
+    MUST(at->a.handed == 1 && at->a.effect.kind == CELLAR_E_PROJECT);
+    uint64_t lane = at->a.lanes[0];
     open_node(e, CELLAR_INNER, CELLAR_LEAF, flat, CELLAR_WISHES);
-    c.node = a.node;
+    at->c.node = at->a.node;
     emit(e);
     make(e, CELLAR_COMPLETE);
-    MUST(a.closed == 1 && a.due == 0);
+    MUST(at->a.closed == 1 && at->a.due == 0);
     done = lane;
   }
 }
@@ -111,11 +115,11 @@ static void inners_told(struct rx_book *book) {
   uint64_t place;
   MUST(rx_book_open(book, RX_ROOT, none, RX_FLAT, 0, &flat) == 0 && rx_book_open(book, RX_SOURCE, flat.node, RX_LEAF, 0, &leaf) == 0);
   for (uint64_t i = 0; i < N / 4; i++) {
-    MUST(rx_book_next_told(book, leaf.node, (int64_t)i, &told) == 0 && told.mails == 1);
-    MUST(rx_book_open_told(book, RX_INNER, flat.node, RX_LEAF, 0, &inner, &told) == 0);
+    MUST(rx_book_next_told(book, leaf.node, (int64_t)i, &at->told) == 0 && at->told.mails == 1);
+    MUST(rx_book_open_told(book, RX_INNER, flat.node, RX_LEAF, 0, &inner, &at->told) == 0);
     MUST(rx_book_hold(book, inner.node, i, &res) == 0);
-    MUST(rx_book_next_told(book, inner.node, (int64_t)i, &told) == 0 && told.mails == 1);
-    MUST(rx_book_end_told(book, inner.node, 0, 0, &told) == 0 && told.resources == 1);
+    MUST(rx_book_next_told(book, inner.node, (int64_t)i, &at->told) == 0 && at->told.mails == 1);
+    MUST(rx_book_end_told(book, inner.node, 0, 0, &at->told) == 0 && at->told.resources == 1);
     if (i % (EVENTS / 8) == 0) MUST(rx_book_checkpoint(book, &place) == 0);
   }
 }
@@ -150,10 +154,14 @@ static double bytes(int of_engine) {
 }
 
 int main(void) {
+  enum { STEP = 7 * 64 }; /* from round to round, which nine times are a page */
   static double took[WORKS][2][ROUNDS];
-  c.by = 1;
+  static _Alignas(4096) unsigned char space[ROUNDS * STEP + sizeof *at];
   for (int round = 0; round < ROUNDS; round++)
     for (int i = 0; i < WORKS; i++) {
+      at = (struct crossing *)(void *)(space + STEP * round);
+      memset(at, 0, sizeof *at);
+      at->c.by = 1;
       struct cellar engine = {0};
       struct rx_book book = {0};
       MUST(cellar_new(&engine, 0) == 0 && rx_book_new(&book, UINT32_MAX) == 0);
