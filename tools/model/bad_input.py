@@ -21,9 +21,10 @@ from .history import forget
 from .scenario import Differs
 from .typed import CUT, HELD, NOTHING_WAITS, REFUSED, SMALL
 
-MAKE, TAKE, GIVE_UP, LEFT, REST, TOTALS, EVENT, DUMP, FINISH, NEW, DROP, TAKE_ON, MAKE_BEHIND = range(13)
-CALLS = ('make', 'take', 'give up', 'left', 'rest', 'totals', 'event', 'dump', 'finish', 'new', 'drop', 'take on', 'make behind')
-POINTERS = (3, 3, 3, 3, 3, 2, 2, 3, 1, 1, 1, 3, 3)  # of each call
+MAKE, TAKE, GIVE_UP, LEFT, REST, TOTALS, EVENT, DUMP, FINISH, NEW, DROP, TAKE_ON, MAKE_BEHIND, MAKE_ON = range(14)
+CALLS = ('make', 'take', 'give up', 'left', 'rest', 'totals', 'event', 'dump', 'finish', 'new', 'drop', 'take on', 'make behind', 'make on')
+POINTERS = (3, 3, 3, 3, 3, 2, 2, 3, 1, 1, 1, 3, 3, 5)  # of each call
+COMMANDS = (MAKE, MAKE_BEHIND, MAKE_ON)
 MISUSE, GONE = 9, REFUSED['Gone']
 OF_ONE = (HOLD, NEXT, COMPLETE, ERROR, FAIL, DECLINE, DISPOSE, PUT, ABORT, APPLY, REMOVE, LEASE, GIVE_BACK)  # which read a key
 FLAGS = {OPEN: (0, 1, 2, 3, 6, 7), USING: (0, 1, 2, 3, 6, 7), NEXT: (0, 8), PUT: (0, 4)}
@@ -110,10 +111,10 @@ class Bad:
 
     def refused(self, wanted: int, c: Command, key: tuple[int, int]) -> None:
         """A command; or one behind a lane of which its caller is given nothing, and which stands where the hub does."""
-        is_behind = self.rng.random() < 0.2
-        if is_behind:
+        call = self.rng.choice((MAKE, MAKE, MAKE, MAKE_BEHIND, MAKE_ON))
+        if call != MAKE:
             c.hub, c.by = self.lane()
-        self.call(MAKE_BEHIND if is_behind else MAKE, wanted, self.command(c, key))
+        self.call(call, wanted, self.command(c, key))
 
     def by_code(self) -> None:
         """A command that would do, but for a number that is none."""
@@ -178,10 +179,10 @@ class Bad:
     def by_pointer(self) -> None:
         """Any call, with one pointer that is none: it is not made, whatever it would have been."""
         rng = self.rng
-        call = rng.choice((MAKE, MAKE, TAKE, GIVE_UP, *range(13)))
+        call = rng.choice((MAKE, MAKE, TAKE, GIVE_UP, *range(14)))
         pointer = rng.randrange(POINTERS[call]) + 1
         off = 0 if (call, pointer) == (DUMP, 2) else rng.randrange(8)  # a buffer of bytes is aligned anywhere
-        if call in (MAKE, MAKE_BEHIND):
+        if call in COMMANDS:
             what, node = rng.choice(((12, 0), (DISPOSE, 1), (NEXT, 1), (OPEN, 0))), (0, 0)
             key = self.own.engine.cellar.key(rng.choice(self.own.keys)) if what[1] and self.own.keys else node
             words = self.command(self.filled(Command(what[0])), key)
@@ -192,8 +193,8 @@ class Bad:
 
     def by_handle(self) -> None:
         """Any call on a handle that keeps nothing."""
-        call = self.rng.choice((MAKE, TAKE, GIVE_UP, LEFT, REST, TOTALS, EVENT, DUMP, FINISH, TAKE_ON, MAKE_BEHIND))
-        what = self.word() & 2**64 - 256 | self.rng.randrange(18) if call in (MAKE, MAKE_BEHIND) else self.word()
+        call = self.rng.choice((MAKE, TAKE, GIVE_UP, LEFT, REST, TOTALS, EVENT, DUMP, FINISH, TAKE_ON, MAKE_BEHIND, MAKE_ON))
+        what = self.word() & 2**64 - 256 | self.rng.randrange(18) if call in COMMANDS else self.word()
         words = (what, self.word() % 9 if call == REST else self.word(),
                  self.rng.randrange(9) if call == REST else self.rng.randrange(2), *(self.word() for _ in range(5)))
         self.call(call, NOTHING_KEPT, (self.rng.randrange(64), *words[1:]) if call == DUMP else words, handle=1)
