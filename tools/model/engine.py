@@ -225,6 +225,15 @@ class Engine:
             raise Stands(why)
         return self.happens(outside_of(self.h, call))
 
+    def opened_and_held(self, call: Call) -> tuple[list[Note], int]:
+        """Opens a node, and then holds its resource there: what the opening forces comes between. The notes, and the resource."""
+        if why := first_cause(self.h, call, self.limit, self.since):
+            raise Stands(why)
+        opening, holding = outside_of(self.h, call)
+        told = self.happens([opening])
+        resource = len(self.h)
+        return told + self.happens([holding]), resource
+
     def happens(self, events: list[Event]) -> list[Note]:
         """These events of the caller, and what they force."""
         told: list[Note] = []
@@ -309,11 +318,14 @@ class Engine:
             answer.hub = place = self.chosen(c, 'auto' if c.kind == SHARED else 'manual', limit)
             hub = self.published(place)
         answer.node = n = len(self.h)
-        told = self.ask(Call('using' if c.what == USING else 'open', above, AT[c.place], kind, hub, 0 if c.what == USING else None))
-        self.enter_node(n, c, lane, limit)
+        call = Call('using' if c.what == USING else 'open', above, AT[c.place], kind, hub, 0 if c.what == USING else None)
         if c.what == USING:
-            answer.other = n + 1
-            self.enter(self.holds, n + 1, c.value, self.homes[n].lane)
+            told, answer.other = self.opened_and_held(call)
+        else:
+            told = self.ask(call)
+        self.enter_node(n, c, lane, limit)
+        if answer.other is not None:
+            self.enter(self.holds, answer.other, c.value, self.homes[n].lane)
         if kind == 'sub':
             self.join(n, answer.hub, c.value)
             if isinstance(at(self.h, n + 1), Connect):
