@@ -12,7 +12,7 @@
 
 #include "must.h"
 
-enum { N = 200000, ROUNDS = 9, EVENTS = 8192 };
+enum { N = 200000, ROUNDS = 9, EVENTS = 4000 };
 static struct crossing {
   struct cellar_command c;
   struct cellar_answer a;

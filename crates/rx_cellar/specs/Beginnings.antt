@@ -9,7 +9,7 @@ abbrev pub limit_of : ℕ → ℕ
 limit_of max_events = if max_events == 0 then 4294967295 else max_events
 
 abbrev pub first_until : ℕ → Option ℕ
-first_until max_events = if max_events == 0 then Some 8192 else None
+first_until max_events = if max_events == 0 then Some 4000 else None
 
 -- nothing is in it
 pub record IsFresh (limit : ℕ) (s : State) : Type 0 where

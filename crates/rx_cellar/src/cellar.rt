@@ -14,8 +14,9 @@ use rx_engine::Engine;
 use rx_resource::Token;
 use rx_typed::status_of;
 
-// Where the engine chooses, it makes a checkpoint behind so many events at least: few enough to stay in a cache.
-pub(crate) const FEW: u64 = 8_192;
+// Where the engine chooses, it makes a checkpoint behind so many events at least. They and those of one command more
+// mostly fill one piece of the history, which stays in a cache, and whose memory malloc keeps.
+pub(crate) const FEW: u64 = 4_000;
 
 /// An engine by commands of numbers.
 #[derive(Drop)]
