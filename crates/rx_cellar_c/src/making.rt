@@ -19,7 +19,7 @@ const ABI: u32 = 65_538;
 /// The number of the header that the library was built for.
 #[unsafe(no_mangle)]
 pub extern "C" fn cellar_abi() -> u32
-    ensures { result ≡ 65537 }
+    ensures { result ≡ 65538 }
 {
     ABI
 }
