@@ -1,5 +1,5 @@
 -- What is handed out at once, where an item was emitted.
-use Rattle.std.proofs.Common.{◌≡◌, ◌==◌, ℕ, Bool, true, false, length, List, [], ◌∷◌, Option, Result, Ok, Err, pos, sym, ap, ◌∙◌, subst}
+use Rattle.std.proofs.Common.{◌≡◌, ℕ, Bool, true, false, List, [], ◌∷◌, Option, Result, Ok, Err, pos, sym, ap, ◌∙◌, subst}
 use Rattle.rx_resource.specs.declared.Resource.{Ghosts}
 use Rattle.rx_resource.specs.declared.token.Token.{Token}
 use Rattle.rx_slots.specs.declared.Key.{Key}
@@ -19,7 +19,7 @@ use Rattle.rx_engine.specs.Rooms.{IsReady, IsRoomier}
 use Rattle.rx_engine.specs.Gatherings.{Gathers}
 use Rattle.rx_engine.specs.Closings.{WishState, Closes}
 use Rattle.rx_engine.specs.Handings.{GivesIf, SpreadsAndHands, IsNextHanded}
-use Rattle.rx_engine.specs.Servings.{IsHand, HandsIf, comes_to_one}
+use Rattle.rx_engine.specs.Servings.{IsHand, HandsIf, is_item_last, comes_to_one}
 use Rattle.rx_engine.specs.States.{State, IsTied, IsSeenAs, IsLanesOnly, hears_in, merges_in}
 use Rattle.rx_engine.proofs.SpreadOut.{settles_of}
 use Rattle.rx_engine.proofs.LanesServed.{settles_roomier}
@@ -60,7 +60,7 @@ handed_tied s q tied only ready = record {
 -- what was made, and handed out
 pub next_handed : (g : Ghosts Token) (leaf : Key) (by value : ℕ) (s : State) (p q r : Parts) (mid t : BookState) (ws : WishState) (given : Option Effect) →
     Accepts s.book (next_request s.book leaf (pos 0)) mid → IsRoomier s.parts p → Gathers g by value mid p t q → Closes mid s.wishes.roles.list ws →
-    SpreadsAndHands (length t.closed == 0) by q r given → IsNextHanded g leaf by value s (record { book = t; parts = r; wishes = ws }) (Ok given)
+    SpreadsAndHands (is_item_last t) by q r given → IsNextHanded g leaf by value s (record { book = t; parts = r; wishes = ws }) (Ok given)
 next_handed g leaf by value s p q r mid t ws given accepts more gathers closes hands =
     let u : State = record { book = t; parts = hands.between; wishes = ws } in
     record {

@@ -12,7 +12,7 @@ ghost use Rattle.rx_engine.specs.Gatherings.{Gathers, EndsClosed, Spreads, IsLoa
 ghost use Rattle.rx_engine.specs.Closings.{Closes};
 ghost use Rattle.rx_engine.specs.Handings.{IsClaimed, GivesIf, SpreadsAndHands, AnswersHandOut};
 ghost use Rattle.rx_engine.specs.Handings.{IsLaneHandedOver, SpreadsAndGives, at_once};
-ghost use Rattle.rx_engine.specs.Servings.{is_one};
+ghost use Rattle.rx_engine.specs.Servings.{is_one, is_some_item, is_item_last};
 
 use crate::delivering::deliver;
 use crate::leaving::end_nodes;
@@ -20,6 +20,7 @@ use crate::parts::Parts;
 use crate::telling::{set_free, tell};
 use crate::wishes::Wishes;
 use rx_book::{Book, Refusal, Resource};
+use rx_event::Event;
 use rx_resource::Token;
 use rx_roles::{Effect, Few};
 
@@ -174,6 +175,25 @@ fn spread_then_hand(parts: &mut Parts, by: u64) -> Option<Effect>
     hand_one(parts, by)
 }
 
+// Whether an event is an item, if there is one.
+#[inline(always)]
+fn is_some_item(event: Option<Event>) -> bool
+    ensures { result ≡ is_some_item event }
+{
+    match event {
+        Some(Event::Item(_, _)) => true,
+        _ => false,
+    }
+}
+
+// Whether the last event is an item: then its call closed nothing, and set nothing free.
+#[inline(always)]
+fn is_item_last(book: &Book<Token>) -> bool
+    ensures { result ≡ is_item_last book.now }
+{
+    is_some_item(book.event(book.len().saturating_sub(1)))
+}
+
 /// All effects go into their lanes; and where nothing was closed, and all that there was is one item, that is handed
 /// out: where nobody serves its lane, without being put there. This refuses nothing, and answers as its command does,
 /// so that no answer is copied into another.
@@ -184,10 +204,10 @@ pub(crate) fn spread_and_hand(
     by: u64,
 ) -> Result<Option<Effect>, Refusal>
     requires { IsLoaded parts.old }
-    ensures hands { AnswersHandOut (length book.now.closed == 0) by parts.old parts.new result }
+    ensures hands { AnswersHandOut (is_item_last book.now) by parts.old parts.new result }
     ensures ready { IsReady 0 parts.new }
 {
-    if book.closed_count() != 0 {
+    if !is_item_last(book) {
         spread_some(parts, by);
         return Ok(None);
     }

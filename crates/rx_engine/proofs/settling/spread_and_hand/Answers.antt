@@ -1,5 +1,6 @@
-use Rattle.std.proofs.Common.{◌≡◌, ◌==◌, true, Some, length, ap, arith, rules, tests}
+use Rattle.std.proofs.Common.{◌≡◌, true, Some, sym, ◌∙◌, ap, arith, rules}
 use Rattle.rx_engine.specs.declared.parts.Parts.{Parts}
+use Rattle.rx_engine.specs.Servings.{is_item_last}
 use Rattle.rx_engine.specs.Handings.{ClaimsOnly}
 use Rattle.rx_engine.proofs.SpreadOut.{claimed_only, claimed_ready, claims_hand, handed_over}
 use Rattle.rx_engine.proofs.settling.spread_and_hand.Goals as goal
@@ -20,6 +21,7 @@ returns-clause-ready c =
 
 pub returns-clause-hands : goal.returns-clause-hands
 returns-clause-hands c =
-    let h = c.if-closed_count-ne0.false in
-    let none : (length c.args.book.now.closed == 0) ≡ true = search (rules, tests) in
-    handed_over (length c.args.book.now.closed == 0) true (Some c.only_item-effect.result) none (claims_hand (only c) c.requires (returns-clause-ready c))
+    let h = c.if-not-is_item_last.false in
+    let item : c.is_item_last.result ≡ true = search rules in
+    let none = sym c.is_item_last.ensures ∙ item in
+    handed_over (is_item_last c.args.book.now) true (Some c.only_item-effect.result) none (claims_hand (only c) c.requires (returns-clause-ready c))
