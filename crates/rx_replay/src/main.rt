@@ -10,10 +10,13 @@
 //! written, or differs, is a line with `DIFFERS`.
 //!
 //! Then the program takes each line of the texts in `schemas` that end in `taken.txt`, and refuses each of those that
-//! end in `refused.txt`, as the JSON Schemas there do: `tools/check-schemas` compares those.
+//! end in `refused.txt`, as the JSON Schemas there do: `tools/check-schemas` compares those. At last it gives an engine
+//! each of its commands, and prints what they come to.
 #![tactic(auto)]
 
+mod engine;
 mod program;
+mod stopped;
 
 use program::{Asked, answer};
 use rx_names::Labels;
@@ -21,6 +24,7 @@ use rx_script::Form;
 use std::fs::DirEntry;
 use std::rt::Files;
 use std::{fs, io};
+use stopped::Stopped;
 
 /// How the name of a file ends in which something is stored, what is asked of the program, and how the name of the
 /// file ends that it is asked of.
@@ -136,17 +140,23 @@ fn list<R: Files + AllocGlobal + Clone + Drop>(
     Ok(())
 }
 
-fn main(rt: HostRuntime) -> io::Result<()> {
+// Replays what is stored in the folders, and tries the texts.
+fn replay_all<R: Files + AllocGlobal + Clone + Drop + Print>(rt: &R) -> io::Result<()> {
     let mut paths = Vec::new(rt.alloc());
     for folder in [".", "cases", "histories", "mistakes", "pictures"] {
-        list(&rt, folder, &mut paths)?;
+        list(rt, folder, &mut paths)?;
     }
     paths.sort()?;
     for path in paths.as_slice() {
-        replay(&rt, path.as_str(), paths.as_slice())?;
+        replay(rt, path.as_str(), paths.as_slice())?;
     }
     for &(path, asked, is_taken) in &TEXTS {
-        try_lines(&rt, path, asked, is_taken)?;
+        try_lines(rt, path, asked, is_taken)?;
     }
     Ok(())
+}
+
+fn main(rt: HostRuntime) -> Result<(), Stopped> {
+    replay_all(&rt)?;
+    engine::show(&rt, rt.alloc())
 }

@@ -1,6 +1,6 @@
 //! Each command once.
 
-use crate::serving::{ME, serve};
+use super::serving::{ME, serve};
 use crate::stopped::Stopped;
 use rx_book::{At, Key, Kind, Mode, Refusal, Terminal};
 use rx_engine::{Engine, LaneOf, User};
