@@ -1,4 +1,5 @@
 -- A resource is held where its own row has a full bar, or a lease of it has one.
+use Rattle.rx_picture.proofs.Common.{Hub}
 use Rattle.rx_picture.proofs.Common.{◌≡◌, ℕ, zero, suc, ◌+◌, ◌<◌, ◌≤◌, Bool, true, false, List, [], ◌∷◌, length, take, map, Option, Some, None, refl, sym, ap}
 use Rattle.rx_picture.proofs.Common.{◌∙◌, arith, ◌⊎◌, ◌==◌, nat_lt, slice_get, not, ◌&&◌, ◌||◌, AllByRecursion, list_any, range_with_len}
 use Rattle.rx_picture.proofs.Common.{option_map_or, false≢true, and_parts, and_from, or_left, or_right, eqb-true, eq-eqb, ltb-true, length-take-le, none-some}
@@ -96,7 +97,23 @@ module _ (h : List Event) (d : Drawing) (is : IsDrawing h d) (r : ℕ) (made : a
 
   back : list_any (bars_row r k) d.rows.items ≡ true → is_held (take k h) r ≡ true
   back some =
-      search (rules, list_any_found, all_at, ℕ, Shape, take, Node, false≢true, Resource, and_parts, nat_lt, not, owned_held, eqb-true, Loan, ltb-true, slice_get, Some, Lease, get_prefix, leased_held, leased_where, at_prefix, leases_of_some)
+      let found = list_any_found (bars_row r k) d.rows.items some in
+      let row = all_at (IsRowMade h) d.rows.items found.0 found.1 is.rows.each found.2 in
+      by_shape found.1.number found.1.shape row.shape found.3
+    where
+      by_shape : (n : ℕ) (shape : Shape) → IsShape h n shape → bars r k n shape ≡ true → is_held (take k h) r ≡ true
+      by_shape n (Node until ending) is_so barred = absurd (false≢true barred)
+      by_shape n Hub is_so barred = absurd (false≢true barred)
+      by_shape n (Resource after until taken) is_so barred =
+          let parts = and_parts (n == r) (nat_lt after k && not (nat_lt until k)) barred in
+          owned_held (take k h) r (ap (is_owned (take k h)) (sym (eqb-true n r parts.0)) ∙ is_so.1.owned k m ∙ parts.1)
+      by_shape n (Loan q until) is_so barred =
+          let parts = and_parts (q == r) (nat_lt n k && not (nat_lt until k)) barred in
+          let inside = ltb-true n k (and_parts (nat_lt n k) (not (nat_lt until k)) parts.1).0 in
+          let leased : slice_get (take k h) n ≡ Some (Lease r) =
+          get_prefix h k n inside m ∙ is_so.0 ∙ ap (λ (p : ℕ). Some (Lease p)) (eqb-true q r parts.0) in
+          leased_held (take k h) r (leased_where (take k h) r (at_prefix makes_resource h k r l m ∙ made)
+          (leases_of_some (take k h) n r leased (is_so.1.out k m ∙ parts.1)))
 
   pub held_where : is_held (take k h) r ≡ list_any (bars_row r k) d.rows.items
   held_where = search (rules, same_tests, take, list_any, by_case, held_parts, back)

@@ -117,3 +117,11 @@ marbles_whole lane place h n shown whole same = search (rules, ℕ, take, take-l
 pub visits_whole : (old new : List Mail) (f : ℕ → List Mail) (ns : List ℕ) (i : ℕ)
     → length ns ≤ i → new ≡ old ++ flat_map f (take i ns) → new ≡ old ++ flat_map f ns
 visits_whole old new f ns i whole is = is ∙ ap (λ (ks : List ℕ). old ++ flat_map f ks) (take_all i ns whole)
+
+-- one note, where its lane is shown and where it is not
+pub note_shown : (shown : Mail → Bool) (ms : List Mail) (m : Mail) → shown m ≡ true
+    → ms ++ m ∷ [] ≡ ms ++ filter shown (m ∷ [])
+note_shown shown ms m is = rw is refl
+
+pub note_hidden : (shown : Mail → Bool) (ms : List Mail) (m : Mail) → shown m ≡ false → ms ≡ ms ++ filter shown (m ∷ [])
+note_hidden shown ms m hidden = rw hidden (sym (append-nil ms))

@@ -1,16 +1,20 @@
 -- Which node an event itself takes away: what it stops, or the last inner of its Switch.
 use Rattle.rx_picture.proofs.Common.{◌≡◌, ℕ, zero, suc, ◌+◌, ◌<◌, ◌≤◌, Bool, true, false, cond, List, [], length, take, replicate, get_or, set, Option, Some}
-use Rattle.rx_picture.proofs.Common.{None, refl, sym, ap, ◌∙◌, arith, ◌==◌, nat_lt, slice_get, ◌&&◌, ◌||◌, list_any, option_and_then}
+use Rattle.rx_picture.proofs.Common.{None, refl, sym, ap, inl, inr, ◌⊎◌, ◌∙◌, arith, ◌==◌, nat_lt}
+use Rattle.rx_picture.proofs.Common.{slice_get, ◌&&◌, ◌||◌, list_any, option_and_then}
 use Rattle.rx_picture.proofs.Common.{option_map_or, cases_Bool, cases_lt, cases_eq, lt-ltb, le-ltb, ltb-true, eq-eqb, ne_eqb, eqb-true, and_left, and_from}
 use Rattle.rx_picture.proofs.Common.{and_parts, both_ways, false≢true, none-some, same_Some, get_or-set_same, get_or-set_other, length-set, length-replicate}
 use Rattle.rx_picture.proofs.Common.{Event, End, at, is_shut, has_number, AreTurns, AreInners, noted, was_shut, event_at, false_from_ne_true}
 use Rattle.std.proofs.lemmas.Bool.{and_right, or_from, or_parts}
 use Rattle.std.proofs.lemmas.Option.{cond_some, option_and_then_some, slice_get_within}
 use Rattle.std.proofs.lemmas.List.{drop_all}
+use Rattle.rx_event.specs.declared.event.Place.TheVariants.{Inner}
+use Rattle.rx_event.specs.declared.event.Event.TheVariants.{Open, Close}
 use Rattle.rx_event.specs.Events.{inner_named, is_switch, is_inner_of}
 use Rattle.rx_event.specs.Tree.{if_less, shuts, is_switched_inner}
 use Rattle.rx_event.proofs.Laws.Openness.{is_shut-push}
-use Rattle.rx_picture.specs.Tables.{IsShutBy, if_switch, switch_of, number_before, latest_of, inner_with, shut_key}
+use Rattle.rx_picture.specs.Tables.{IsShutBy, if_switch, switch_of, number_before, latest_of}
+use Rattle.rx_picture.specs.Tables.{inner_with, stopped_of, shut_key}
 use Rattle.rx_picture.proofs.Prefixes.{same_tests, take_next, in_prefix, past_prefix, at_prefix}
 use Rattle.rx_picture.proofs.WhereTestsTurnTrue.{turns_step}
 use Rattle.std.proofs.Common.{rules, ⊎_elim}
@@ -22,11 +26,39 @@ is_key_of x0 n e = search (rules, false≢true, Some, eqb-true)
 
 switch_shape : (h : List Event) (f n : ℕ) (o : Option Event) →
     ((nat_lt f n && at is_switch h f) && option_map_or (is_inner_of f) o false) ≡ has_number (option_and_then (if_switch h n) (option_and_then inner_named o)) f
-switch_shape h f n x3 = search (rules, and_right, cases_eq, Bool, cond, Some, None, eq-eqb, nat_lt, ℕ, ne_eqb)
+switch_shape h f n None = and_right _ _ refl
+switch_shape h f n (Some (Open (Inner g) kind)) = by_order (cases_eq g f) where
+  alike : (x : Bool) → (x && true) ≡ has_number (cond x (Some f) None) f
+  alike true = sym (eq-eqb f f refl)
+  alike false = refl
+
+  other : (x : Bool) → (g == f) ≡ false → false ≡ has_number (cond x (Some g) None) f
+  other true differs = sym differs
+  other false differs = refl
+
+  by_order : (g ≡ f) ⊎ (g ≡ f → ⊥) → ((nat_lt f n && at is_switch h f) && (g == f))
+      ≡ has_number (cond (nat_lt g n && at is_switch h g) (Some g) None) f
+  by_order (inl same) =
+      ap (λ (x : Bool). (nat_lt f n && at is_switch h f) && x) (eq-eqb g f same)
+      ∙ alike (nat_lt f n && at is_switch h f)
+      ∙ ap (λ (q : ℕ). has_number (cond (nat_lt q n && at is_switch h q) (Some q) None) f) (sym same)
+  by_order (inr differs) =
+      and_right _ _ (ne_eqb g f differs) ∙ other (nat_lt g n && at is_switch h g) (ne_eqb g f differs)
+switch_shape h f n (Some _) = and_right _ _ refl
 
 -- an inner of a Switch among the first events
 switched_is : (h : List Event) (b f n : ℕ) → n < b → b ≤ length h → is_switched_inner (take b h) f n ≡ has_number (switch_of h n) f
-switched_is h b f n l m = search (rules, cases_lt, take, Bool, nat_lt, at_prefix, switch_shape, slice_get, le-ltb)
+switched_is h b f n l m = by_order (cases_lt f n) where
+  by_order : (f < n) ⊎ (n ≤ f) → is_switched_inner (take b h) f n ≡ has_number (switch_of h n) f
+  by_order (inl s) =
+      ap (λ (x : Bool). (nat_lt f n && x) && at (is_inner_of f) (take b h) n)
+      (at_prefix is_switch h b f (omega arith) m)
+      ∙ ap (λ (x : Bool). (nat_lt f n && at is_switch h f) && x) (at_prefix (is_inner_of f) h b n l m)
+      ∙ switch_shape h f n (slice_get h n)
+  by_order (inr s) =
+      ap (λ (x : Bool). (x && at is_switch (take b h) f) && at (is_inner_of f) (take b h) n) (le-ltb f n s)
+      ∙ sym (ap (λ (x : Bool). (x && at is_switch h f) && at (is_inner_of f) h n) (le-ltb f n s))
+      ∙ switch_shape h f n (slice_get h n)
 
 switch_parts : (h : List Event) (n f : ℕ) → switch_of h n ≡ Some f → (nat_lt f n ≡ true) × (at is_switch h f ≡ true)
 switch_parts h n f named = search (rules, option_and_then_some, option_and_then, slice_get, cond_some, nat_lt, and_parts)
@@ -35,7 +67,8 @@ switch_inner : (h : List Event) (b g : ℕ) (e : Event) → slice_get h b ≡ So
 switch_inner h b g e at_b named = search (rules, option_and_then_some, option_and_then, slice_get, cond_some, nat_lt, Option, Event, Some)
 
 shuts_inner : (k : List Event) (n : ℕ) (e : Event) (g : ℕ) → inner_named e ≡ Some g → shuts k n e ≡ is_switched_inner k g n
-shuts_inner k n x2 g named = search (rules, ℕ, same_Some, none-some)
+shuts_inner k n (Open (Inner f) kind) g named = ap (λ (x : ℕ). is_switched_inner k x n) (same_Some f g named)
+shuts_inner k n _ g named = absurd (none-some g named)
 
 -- what an event shuts -----------------------------------------------------------------------------
 
@@ -50,7 +83,18 @@ unfolding is_shut
 is_shut_short k n l = ap (λ (x : List Event). list_any (shuts k n) x) (drop_all (suc n) k l)
 
 below_key : (b m n : ℕ) → has_number (if_less b m) n ≡ (nat_lt n b && (m == n))
-below_key b m n = search (rules, cases_eq, Bool, cond, Some, None, and_right, nat_lt, ne_eqb)
+below_key b m n = by_order (cases_eq m n) where
+  alike : (x : Bool) → has_number (cond x (Some n) None) n ≡ (x && (n == n))
+  alike true = refl
+  alike false = refl
+
+  other : (x y : Bool) → (m == n) ≡ false → has_number (cond x (Some m) None) n ≡ (y && (m == n))
+  other true y differs = differs ∙ sym (and_right y _ differs)
+  other false y differs = sym (and_right y _ differs)
+
+  by_order : (m ≡ n) ⊎ (m ≡ n → ⊥) → has_number (if_less b m) n ≡ (nat_lt n b && (m == n))
+  by_order (inl same) = rw same (alike (nat_lt n b))
+  by_order (inr differs) = other (nat_lt m b) (nat_lt n b) (ne_eqb m n differs)
 
 -- the last inner of the Switch is the one that is not shut
 module _ (h : List Event) (b : ℕ) (inner : List ℕ) (n f : ℕ) (within : b ≤ length h) (tied : AreInners h b inner) (still : is_shut (take b h) n ≡ false) where
@@ -85,7 +129,20 @@ module _ (h : List Event) (b : ℕ) (inner : List ℕ) (n f : ℕ) (within : b �
 
 pub shut_by_key : (h : List Event) (b : ℕ) (inner : List ℕ) → b < length h → AreInners h b inner → IsShutBy h b (shut_key h inner b)
 shut_by_key h b inner inside tied n still =
-    search (rules, event_at, slice_get, Some, Option, Event, option_map_or, option_and_then, nat_lt, take, End, below_key, shut_inner, and_right)
+    let e = (event_at h b inside).0 in
+    let at_b : slice_get h b ≡ Some e = (event_at h b inside).1 in
+    ap (λ (o : Option Event). has_number (option_map_or (if_less b) (option_and_then stopped_of o)
+    (latest_of inner (option_and_then (if_switch h b) (option_and_then inner_named o)))) n) at_b
+    ∙ by_event e ∙ sym (ap (λ (o : Option Event). nat_lt n b && option_map_or (shuts (take b h) n) o false) at_b)
+  where
+    by_event : (e : Event) →
+        has_number (option_map_or (if_less b) (stopped_of e)
+        (latest_of inner (option_and_then (if_switch h b) (inner_named e)))) n
+        ≡ (nat_lt n b && shuts (take b h) n e)
+    by_event (End m t) = below_key b m n
+    by_event (Close m) = below_key b m n
+    by_event (Open (Inner f) kind) = shut_inner h b inner n f (omega arith) tied still
+    by_event _ = sym (and_right _ _ refl)
 
 pub shut_step : (h : List Event) (b : ℕ) (table inner : List ℕ) → b < length h → AreInners h b inner → AreTurns h was_shut b table →
     AreTurns h was_shut (b + 1) (noted table (shut_key h inner b) b)

@@ -18,7 +18,17 @@ accepted_makes x0 node named = search (rules, none-some)
 -- held from the later of node and acceptance to the earlier of the node's end and the removal
 bar_cut : (node u gone r k : ℕ) → r < k →
     ((nat_lt node k && not (nat_lt u k)) && not (nat_lt gone k)) ≡ (nat_lt (max node r) k && not (nat_lt (max (min u gone) (max node r)) k))
-bar_cut node u gone r k l = search (rules, cases_lt, nat_lt, not, max, min, Bool, lt-ltb, neither, cut_either, and_left, le-ltb)
+bar_cut node u gone r k l = by_place (cases_lt node k) where
+  by_place : (node < k) ⊎ (k ≤ node) → ((nat_lt node k && not (nat_lt u k)) && not (nat_lt gone k))
+      ≡ (nat_lt (max node r) k && not (nat_lt (max (min u gone) (max node r)) k))
+  by_place (inl m) =
+      ap (λ (x : Bool). (x && not (nat_lt u k)) && not (nat_lt gone k)) (lt-ltb node k m)
+      ∙ neither (nat_lt u k) (nat_lt gone k)
+      ∙ sym (ap (λ (x : Bool). x && not (nat_lt (max (min u gone) (max node r)) k))
+      (lt-ltb (max node r) k (omega arith))
+      ∙ ap (λ (x : Bool). true && not x) (cut_either u gone (max node r) k (omega arith)))
+  by_place (inr m) =
+      and_left _ _ (and_left _ _ (le-ltb node k m)) ∙ sym (and_left _ _ (le-ltb (max node r) k (omega arith)))
 
 start_after : (ends : List ℕ) (node r : ℕ) → r ≤ owned_start ends node r
 start_after ends node r = search (rules, nat_lt, length, Bool, cond, max)
@@ -65,7 +75,10 @@ module _ (h : List Event) (r node : ℕ) (accepted : option_and_then node_of_acc
       search (rules, Bool, list_any, take, at_prefix, accepted_makes, slice_get)
 
   bar_taken : (out : ℕ) → TurnsAt h (has_taken r) (length h) (length h) out → Begins h (λ k. is_taken k r) (max out r)
-  bar_taken out taken k m = search (rules, cases_lt, take, nat_lt, max, taken_prefix, cut_alone, is_taken_past, past_prefix, le-ltb)
+  bar_taken out taken k m = by_place (cases_lt r k) where
+    by_place : (r < k) ⊎ (k ≤ r) → is_taken (take k h) r ≡ nat_lt (max out r) k
+    by_place (inl l) = taken_prefix out k taken l m ∙ sym (cut_alone out r k l)
+    by_place (inr l) = is_taken_past (take k h) r (past_prefix h k r l m) ∙ sym (le-ltb (max out r) k (omega arith))
 
   pub bar_is : (gone out : ℕ) (ends : List ℕ) → r < length h → TurnsAt h (has_removed r) (length h) (length h) gone
       → TurnsAt h (has_taken r) (length h) (length h) out → AreLines h (length h) ends →

@@ -1,10 +1,12 @@
 -- The place at which a test of the prefixes turns true, in a table by number.
 use Rattle.rx_picture.proofs.Common.{◌≡◌, ℕ, suc, ◌+◌, ◌<◌, ◌≤◌, Bool, true, false, cond, List, [], ◌∷◌, length, take, replicate, get_or, set, Option, Some}
-use Rattle.rx_picture.proofs.Common.{sym, ap, ◌∙◌, arith, ◌==◌, nat_lt, slice_get, ◌||◌, list_any, option_and_then, cases_Bool}
+use Rattle.rx_picture.proofs.Common.{None, refl, sym, ap, ◌∙◌, arith, inl, inr, ◌⊎◌, ◌==◌, nat_lt, slice_get}
+use Rattle.rx_picture.proofs.Common.{◌||◌, list_any, option_and_then, cases_Bool}
 use Rattle.rx_picture.proofs.Common.{cases_lt, cases_eq, lt-ltb, le-ltb, ltb-true, eq-eqb, ne_eqb, eqb-true, or_left, or_right, or_cases, both_ways}
 use Rattle.rx_picture.proofs.Common.{get_or-set_same, get_or-set_other, length-set, get_or-replicate, length-replicate, Event, is_remove_of, is_return_of}
 use Rattle.rx_picture.proofs.Common.{is_take_of, has_number, TurnsAt, AreTurns, noted, has_removed, has_returned, has_taken, or_false, event_at}
 use Rattle.std.proofs.lemmas.List.Folds.{list_any-append}
+use Rattle.rx_event.specs.declared.event.Event.TheVariants.{Remove, Return, Take}
 use Rattle.rx_event.specs.Events.{removed_of, returned_of, taken_of}
 use Rattle.rx_picture.proofs.Prefixes.{take_next}
 use Rattle.std.proofs.Common.{rules, ⊎_elim}
@@ -35,7 +37,17 @@ module _ (h : List Event) (test : List Event → Bool) (b at : ℕ) (s : Bool) (
 
   -- the event makes it true
   turns_now : test (take b h) ≡ false → s ≡ true → TurnsAt h test (suc b) (length h) b
-  turns_now was now = search (rules, cases_lt, or_left, lt-ltb, length, unturned, ℕ, take, nat_lt, or_right, le-ltb)
+  turns_now was now =
+      record { turns = λ k m. by_place k m (cases_lt b k); told = or_left _ _ (lt-ltb b (suc b) (omega arith)) }
+    where
+      last : at ≡ length h
+      last = unturned was
+
+      by_place : (k : ℕ) → k ≤ suc b → (b < k) ⊎ (k ≤ b) → test (take k h) ≡ nat_lt b k
+      by_place k m (inl l) =
+          let same : k ≡ suc b = omega arith in
+          ap (λ (j : ℕ). test (take j h)) same ∙ next ∙ or_right _ _ now ∙ sym (lt-ltb b k l)
+      by_place k m (inr l) = let e = last in tied.turns k l ∙ le-ltb at k (omega arith) ∙ sym (le-ltb b k l)
 
   -- it stays false
   turns_later : test (take b h) ≡ false → s ≡ false → TurnsAt h test (suc b) (length h) at
@@ -46,7 +58,16 @@ module _ (h : List Event) (test : List Event → Bool) (b at : ℕ) (s : Bool) (
   }
 
   pub turn_step : (now : Bool) → (test (take b h) ≡ false → now ≡ s) → TurnsAt h test (suc b) (length h) (cond now (cond (at == length h) b at) at)
-  turn_step now same = search (rules, cases_Bool, take, length, cond, ltb-true, kept_value, ne_eqb, turned, eq-eqb, unturned, turns_now, turns_later)
+  turn_step now same = by_before (cases_Bool (test (take b h))) where
+    by_before : (test (take b h) ≡ true) ⊎ (test (take b h) ≡ false)
+        → TurnsAt h test (suc b) (length h) (cond now (cond (at == length h) b at) at)
+    by_before (inl was) =
+        let below : at < b = ltb-true at b (sym (tied.turns b (omega arith)) ∙ was) in
+        rw (kept_value now (at == length h) b at (ne_eqb at (length h) (omega arith))) (turned was)
+    by_before (inr was) = by_now (cases_Bool s) where
+      by_now : (s ≡ true) ⊎ (s ≡ false) → TurnsAt h test (suc b) (length h) (cond now (cond (at == length h) b at) at)
+      by_now (inl holds) = rw (same was ∙ holds, eq-eqb at (length h) (unturned was)) (turns_now was holds)
+      by_now (inr fails) = rw (same was ∙ fails) (turns_later was fails)
 
 -- a table -----------------------------------------------------------------------------------------
 
@@ -58,7 +79,21 @@ noted_size table x1 place = search (rules, get_or, length, Bool, cond, set, leng
 
 noted_at : (table : List ℕ) (key : Option ℕ) (place n : ℕ) → n < length table →
     get_or (noted table key place) n 0 ≡ cond (has_number key n) (cond (get_or table n 0 == length table) place (get_or table n 0)) (get_or table n 0)
-noted_at table x1 place n l = search (rules, cases_eq, Bool, get_or, cond, set, get_or-set_same, get_or-set_other, length, eq-eqb, ne_eqb)
+noted_at table None place n l = refl
+noted_at table (Some m) place n l = by_order (cases_eq m n) where
+  here : (full : Bool) → get_or (cond full (set table n place) table) n 0 ≡ cond full place (get_or table n 0)
+  here true = get_or-set_same table n place 0 l
+  here false = refl
+
+  there : (full : Bool) → (n ≡ m → ⊥) → get_or (cond full (set table m place) table) n 0 ≡ get_or table n 0
+  there true differs = get_or-set_other table m n place 0 differs
+  there false differs = refl
+
+  by_order : (m ≡ n) ⊎ (m ≡ n → ⊥) →
+      get_or (cond (get_or table m 0 == length table) (set table m place) table) n 0
+      ≡ cond (m == n) (cond (get_or table n 0 == length table) place (get_or table n 0)) (get_or table n 0)
+  by_order (inl same) = rw (same, eq-eqb n n refl) (here (get_or table n 0 == length table))
+  by_order (inr differs) = rw (ne_eqb m n differs) (there (get_or table m 0 == length table) (λ e. differs (sym e)))
 
 pub turns_step : {h : List Event} {test : ℕ → List Event → Bool} (b : ℕ) (table : List ℕ) (key : Option ℕ) (s : ℕ → Bool) → b < length h →
     ((n : ℕ) → test n (take (suc b) h) ≡ (test n (take b h) || s n)) → ((n : ℕ) → test n (take b h) ≡ false → has_number key n ≡ s n) →
@@ -81,13 +116,16 @@ any_next p h b e at_b = ap (λ (k : List Event). list_any p k) (take_next h b e 
     ∙ list_any-append p (take b h) (e ∷ []) ∙ ap (λ x. list_any p (take b h) || x) (or_false (p e))
 
 removes : (e : Event) (n : ℕ) → has_number (removed_of e) n ≡ is_remove_of n e
-removes x0 n = search rules
+removes (Remove r) n = refl
+removes _ n = refl
 
 returned : (e : Event) (n : ℕ) → has_number (returned_of e) n ≡ is_return_of n e
-returned x0 n = search rules
+returned (Return l) n = refl
+returned _ n = refl
 
 takes : (e : Event) (n : ℕ) → has_number (taken_of e) n ≡ is_take_of n e
-takes x0 n = search rules
+takes (Take r) n = refl
+takes _ n = refl
 
 -- where an event has a key just where the test holds of it
 event_step : (h : List Event) (b : ℕ) (table : List ℕ) (key : Event → Option ℕ) (test : ℕ → Event → Bool)

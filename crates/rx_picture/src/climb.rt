@@ -5,7 +5,7 @@ ghost use Rattle.rx_picture.specs.Imports.{length, option_and_then, option_to_li
 ghost use Rattle.rx_picture.specs.Imports.{parent, stop_made, stop_at, onward_from, onward, climb, told};
 ghost use Rattle.rx_picture.specs.Told.{AreEndsOf};
 
-use crate::event_tests::at;
+use crate::event_tests::{at, event_at};
 use crate::firsts::value_at;
 use crate::lines::parent_of;
 use rx_event::{Event, MOST_VISITS, Mail, Place};
@@ -63,7 +63,7 @@ fn mail_of(past: &[Event], n: u64, event: Event, item: Emitted) -> Option<Mail>
 pub fn mail_at(past: &[Event], n: u64, item: Emitted) -> Option<Mail>
     ensures { result ≡ option_and_then (told (length past.now) item.value) (stop_at past.now n) }
 {
-    mail_of(past, n, *past.get(n as usize)?, item)
+    mail_of(past, n, event_at(past, n as usize)?, item)
 }
 
 /// Whether an item goes no further than node `n`, which the event made.
@@ -84,7 +84,7 @@ fn is_stop(past: &[Event], n: u64, event: Event) -> bool
 fn stops_at(past: &[Event], n: u64) -> bool
     ensures { result ≡ is_some (stop_at past.now n) }
 {
-    match past.get(n as usize).copied() {
+    match event_at(past, n as usize) {
         Some(event) => is_stop(past, n, event),
         None => false,
     }
@@ -103,9 +103,7 @@ fn is_open_subscriber(past: &[Event], ends: &[usize], g: u64, k: u64) -> bool
     requires { AreEndsOf past.now ends.now }
     ensures { result ≡ (at (is_subscriber_of g) past.now k && is_open past.now k) }
 {
-    past.get(k as usize)
-        .copied()
-        .is_some_and(|e| e.subscribes_to() == Some(g))
+    event_at(past, k as usize).is_some_and(|e| e.subscribes_to() == Some(g))
         && is_open_after(past, ends, k)
 }
 
@@ -159,7 +157,7 @@ fn onward(alloc: Global, past: &[Event], ends: &[usize], n: u64) -> Result<Vec<u
     if stops_at(past, n) {
         return Ok(Vec::new(alloc));
     }
-    match past.get(n as usize).copied() {
+    match event_at(past, n as usize) {
         Some(event) => onward_from(alloc, past, ends, n, event),
         None => Ok(Vec::new(alloc)),
     }
@@ -182,7 +180,6 @@ fn push_onward(
 }
 
 /// The nodes that an item of the leaf visits, in order, each as often as it is reached.
-#[tactic(auto, using(crate::proofs::ClimbByStack::climb_begins, crate::proofs::ClimbByStack::climb_ended, crate::proofs::ClimbByStack::climb_stopped, crate::proofs::ClimbByStack::climb_popped))]
 pub fn climb(
     alloc: Global,
     past: &[Event],

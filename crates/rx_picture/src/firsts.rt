@@ -4,6 +4,7 @@ ghost use Rattle.std.specs.Prelude.{◌≡◌, IfOk, replicate, slice_index_or};
 ghost use Rattle.rx_picture.specs.Imports.{slice_get, option_and_then, removed_of, returned_of, taken_of};
 ghost use Rattle.rx_picture.specs.Tables.{noted};
 
+use crate::event_tests::event_at;
 use rx_event::Event;
 use std::alloc::{AllocError, Global};
 
@@ -39,19 +40,19 @@ pub fn note(table: &mut Vec<usize>, key: Option<u64>, place: usize)
 pub fn removed_at(events: &[Event], place: usize) -> Option<u64>
     ensures { result ≡ option_and_then removed_of (slice_get events.now place) }
 {
-    events.get(place)?.removed()
+    event_at(events, place)?.removed()
 }
 
 /// The lease that the event at the place returns.
 pub fn returned_at(events: &[Event], place: usize) -> Option<u64>
     ensures { result ≡ option_and_then returned_of (slice_get events.now place) }
 {
-    events.get(place)?.returned()
+    event_at(events, place)?.returned()
 }
 
 /// The resource that the event at the place hands out.
 pub fn taken_at(events: &[Event], place: usize) -> Option<u64>
     ensures { result ≡ option_and_then taken_of (slice_get events.now place) }
 {
-    events.get(place)?.taken()
+    event_at(events, place)?.taken()
 }

@@ -3,18 +3,29 @@
 ghost use Rattle.std.specs.Prelude.{◌≡◌, IfOk, length};
 ghost use Rattle.rx_picture.specs.Choice.{AreMarksByTest, marked};
 ghost use Rattle.rx_picture.specs.Drawn.{is_rowed_by};
+ghost use Rattle.rx_picture.specs.Rows.{lane_of};
 
 use crate::choice::is_marked;
+use crate::event_tests::event_at;
 use rx_event::Event;
 use std::alloc::{AllocError, Global};
+
+/// The number in whose lane the row lies of what the event at place `n` made.
+fn lane_of(n: usize, made: Event) -> usize
+    ensures { result ≡ lane_of n made }
+{
+    match made {
+        Event::Lease(resource) => resource as usize,
+        _ => n,
+    }
+}
 
 /// Whether the lane is marked in which the row of the event at the place lies.
 fn is_lane_marked(events: &[Event], shown: &[bool], n: usize) -> bool
     ensures { result ≡ is_rowed_by (marked shown.now) events.now n }
 {
-    match events.get(n).copied() {
-        Some(Event::Lease(resource)) => is_marked(shown, resource as usize),
-        Some(_) => is_marked(shown, n),
+    match event_at(events, n) {
+        Some(made) => is_marked(shown, lane_of(n, made)),
         None => false,
     }
 }

@@ -5,7 +5,7 @@ ghost use Rattle.rx_picture.specs.Imports.{length, makes_node, at, is_open, pare
 ghost use Rattle.rx_picture.specs.Rows.{Spans};
 ghost use Rattle.rx_picture.specs.Tables.{AreTurns, AreLines, was_shut};
 
-use crate::event_tests::at;
+use crate::event_tests::{at, event_at};
 use crate::firsts::value_at;
 use rx_event::Event;
 use std::alloc::{AllocError, Global};
@@ -15,7 +15,7 @@ use std::alloc::{AllocError, Global};
 pub fn parent_of(events: &[Event], n: usize) -> Option<u64>
     ensures { result ≡ parent events.now n }
 {
-    let p = events.get(n)?.parent()?;
+    let p = event_at(events, n)?.parent()?;
     if p < n as u64 { Some(p) } else { None }
 }
 

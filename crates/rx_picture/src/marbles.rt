@@ -8,7 +8,7 @@ ghost use Rattle.rx_picture.specs.Told.{AreEndsOf, mail_told, marbles, told_in_l
 
 use crate::choice::is_marked;
 use crate::climb::{Emitted, climb, mail_at};
-use crate::event_tests::at;
+use crate::event_tests::{at, event_at};
 use rx_event::{Event, Mail, Terminal};
 use rx_note::Note;
 use std::alloc::{AllocError, Global};
@@ -119,14 +119,13 @@ fn push_told_at(
     requires within { place < length events.now }
     ensures { OnOk result (marbles.new.items ≡ marbles.old.items ++ mail_told (marked lanes.now) events.now place) }
 {
-    match events.get(place).copied() {
+    match event_at(events, place) {
         Some(event) => push_told(alloc, marbles, lanes, &events[..place], ends, event),
         None => Ok(()),
     }
 }
 
 /// What was told, in order, so far as the lane and the place are marked.
-#[tactic(auto, using(crate::proofs::MarblesOfPrefixes::marbles_whole))]
 pub fn marbles_of(
     alloc: Global,
     events: &[Event],

@@ -5,6 +5,7 @@ ghost use Rattle.rx_picture.specs.Choice.{marked};
 ghost use Rattle.rx_picture.specs.Told.{ArePoints, IsPointAt};
 
 use crate::choice::is_marked;
+use crate::event_tests::event_at;
 use rx_event::Event;
 use std::alloc::{AllocError, Global};
 
@@ -25,7 +26,7 @@ fn point_at(events: &[Event], places: &[bool], n: usize) -> Option<Point>
     if !is_marked(places, n) {
         return None;
     }
-    let event = events.get(n).copied()?;
+    let event = event_at(events, n)?;
     Some(Point {
         place: n as u64,
         event,

@@ -7,6 +7,7 @@ ghost use Rattle.rx_picture.specs.Choice.{marked};
 ghost use Rattle.rx_picture.specs.Tables.{AreTurns, AreLines, AreTables, IsShownAt, owned_end, owned_start, has_returned};
 
 use crate::choice::is_marked;
+use crate::event_tests::event_at;
 use crate::firsts::value_at;
 use crate::row::{Ending, Row, Shape};
 use crate::tables::Tables;
@@ -33,7 +34,7 @@ fn ending_by(n: usize, event: Event) -> Ending
 fn ending_at(events: &[Event], n: usize, until: usize) -> Ending
     ensures { result ≡ ending_by n (slice_get events.now until) }
 {
-    match events.get(until).copied() {
+    match event_at(events, until) {
         Some(event) => ending_by(n, event),
         None => Ending::Lasting,
     }
@@ -135,7 +136,7 @@ fn row_at(events: &[Event], tables: &Tables, shown: &[bool], n: usize) -> Option
     if !is_marked(shown, n) {
         return None;
     }
-    let made = events.get(n).copied()?;
+    let made = event_at(events, n)?;
     let shape = shape_of(events, tables, n, made)?;
     Some(Row {
         number: n as u64,

@@ -5,7 +5,7 @@ ghost use Rattle.std.specs.Prelude.{◌≡◌, ◌+◌, IfOk};
 ghost use Rattle.rx_picture.specs.Imports.{length, slice_get, option_and_then, at, if_less, is_switch, inner_named};
 ghost use Rattle.rx_picture.specs.Tables.{AreTurns, was_shut, switch_of, if_switch, stopped_of, shut_key, number_before, latest_of, inner_with};
 
-use crate::event_tests::at;
+use crate::event_tests::{at, event_at};
 use crate::firsts::{filled, note, value_at};
 use rx_event::Event;
 use std::alloc::{AllocError, Global};
@@ -32,7 +32,7 @@ fn if_switch(events: &[Event], place: usize, f: u64) -> Option<u64>
 fn inner_at(events: &[Event], place: usize) -> Option<u64>
     ensures { result ≡ option_and_then inner_named (slice_get events.now place) }
 {
-    events.get(place)?.inner_of()
+    event_at(events, place)?.inner_of()
 }
 
 /// The Switch of which the event at the place opens an inner.
@@ -82,7 +82,7 @@ fn stopped(event: Event) -> Option<u64>
 fn stopped_at(events: &[Event], place: usize) -> Option<u64>
     ensures { result ≡ option_and_then stopped_of (slice_get events.now place) }
 {
-    stopped(*events.get(place)?)
+    stopped(event_at(events, place)?)
 }
 
 /// The number of the node that the event at the place itself takes away, if there is one.

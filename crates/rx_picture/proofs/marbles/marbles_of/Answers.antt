@@ -1,5 +1,5 @@
-use Rattle.rx_picture.proofs.Common.{◌∙◌, marked}
-use Rattle.rx_picture.proofs.MarblesOfPrefixes.{marbles_none, marbles_more, marbles_skip}
+use Rattle.rx_picture.proofs.Common.{◌∙◌, arith, marked}
+use Rattle.rx_picture.proofs.MarblesOfPrefixes.{marbles_none, marbles_more, marbles_skip, marbles_whole}
 use Rattle.rx_picture.proofs.marbles.marbles_of.Goals.{then-is_marked+in_ok-push_told_at, else-is_marked}
 use Rattle.rx_picture.proofs.marbles.marbles_of.Goals as goal
 use Rattle.std.proofs.Common.{rules}
@@ -9,3 +9,6 @@ loop-place-init c = c.new-marbles.ensures.items ∙ marbles_none (marked c.args.
 
 pub loop-place-preserved : goal.loop-place-preserved
 loop-place-preserved c = search (rules, then-is_marked+in_ok-push_told_at, marbles_more, else-is_marked, marbles_skip)
+
+pub returns : goal.returns
+returns c = grind (arith, marbles_whole)
