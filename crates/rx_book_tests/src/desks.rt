@@ -1,7 +1,8 @@
-//! A book behind a desk: the worked examples, that each call of a desk can succeed, threads, and storms.
+//! A book behind a desk: that each call of a desk can succeed, threads, and storms.
 //!
 //! What is tried at a desk is a [`trials::Trial`]; a test is a table of them, with the lines that each has to tell.
 
+mod accepted_calls;
 mod closed_keys;
 mod desk_calls;
 mod endless;
@@ -15,5 +16,4 @@ mod seats;
 mod storms;
 mod ticks;
 mod trials;
-mod worked_examples;
 mod workers;

@@ -1,9 +1,9 @@
 //! What no clause says of a book, of its [`parts`] and of [`desks`], and no scenario shows.
 //!
-//! Of a book: memory that is refused, just the memory that a call needs, closings where none is left, keys that are
-//! nobody's, boxes of two kinds, many items, and what becomes of a book that is dropped. Of desks: worked examples with
-//! their events, that each call that may want memory can succeed, threads, and storms. What operators do, over
-//! checkpoints too, and which calls are refused, stands in the scenarios that `rx_replay` compares.
+//! Of a book: memory that is refused, just the memory that a call needs, closings where none is left, boxes of two kinds,
+//! many items, and what becomes of a book that is dropped. Of desks: that each call that may want memory can succeed,
+//! threads, and storms. What operators do, over checkpoints too, and which calls are refused, stands in the scenarios
+//! that `rx_replay` compares.
 //!
 //! Each test runs in a process of its own, so the memory that one test uses up is missing in no other.
 #![tactic(auto)]
@@ -30,8 +30,6 @@ mod load;
 mod memory_refused;
 #[cfg(test)]
 mod no_memory_left;
-#[cfg(test)]
-mod old_keys;
 #[cfg(test)]
 mod parts;
 #[cfg(test)]

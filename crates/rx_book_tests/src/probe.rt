@@ -197,14 +197,6 @@ impl<R: Resource> Probe<R> {
         self.book.open_count()
     }
 
-    pub(super) fn is_open(&self, node: Key) -> bool {
-        self.book.is_open(node)
-    }
-
-    pub(super) fn is_held(&self, res: ResKey) -> bool {
-        self.book.is_held(res)
-    }
-
     pub(super) fn event(&self, place: u64) -> Option<Event> {
         self.book.event(place)
     }

@@ -17,6 +17,7 @@ use std::sync::ledger::Ledger;
 pub(super) enum Call {
     Open(Place, Kind),
     Using(Place, u64),
+    Holding(Place, Kind, u64),
     Hold(u64, u64),
     At(u64, Deed),
     On(u64, Use),
@@ -32,10 +33,6 @@ pub(super) enum Call {
 #[derive(Clone, Copy)]
 pub(super) enum Deed {
     Next(i64),
-    End(Terminal),
-    Abort(u32),
-    Decline,
-    Fail(u32),
     Dispose,
 }
 
@@ -43,19 +40,16 @@ pub(super) enum Deed {
 #[derive(Clone, Copy)]
 pub(super) enum Use {
     Apply(u64),
-    Remove,
     Lease,
     GiveBack,
 }
 
-// What is done with a hub, and with the whole book.
+// What is done with hubs, and with the whole book.
 #[derive(Clone, Copy)]
 pub(super) enum Hub {
     Make(Mode),
     Connect(u64),
-    Disconnect(u64),
     Checkpoint,
-    Shut,
 }
 
 // What a floor is asked.
@@ -63,11 +57,6 @@ pub(super) enum Hub {
 pub(super) enum Ask {
     Mail,
     Event(u64),
-    Owed(u64),
-    IsOpen(u64),
-    IsHeld(u64),
-    Lease,
-    Manual,
     Root,
     Sums,
 }
@@ -88,11 +77,6 @@ fn slot_of(slots: &Slots, number: u64) -> u64 {
 pub(super) fn key_of(slots: &Slots, number: u64) -> Key {
     let slot = slot_of(slots, number);
     Key { slot, number }
-}
-
-fn res_of(slots: &Slots, number: u64) -> ResKey {
-    let slot = slot_of(slots, number);
-    ResKey { slot, number }
 }
 
 fn at_of(slots: &Slots, place: Place) -> At {
@@ -158,6 +142,22 @@ fn open_with<I: Ledger, A: Ledger, K: Ledger>(
     }
 }
 
+fn open_holding<I: Ledger, A: Ledger, K: Ledger>(
+    floor: &mut Floor<Sample, I, A, K>,
+    seat: &mut Seat<I, A, K>,
+    slots: &mut Slots,
+    (at, kind): (At, Kind),
+    tag: u64,
+) -> Result<u64, Refusal> {
+    match floor.open_holding(seat, at, kind, sample_of(tag)) {
+        Ok(holding) => {
+            keep(slots, holding.res.number, holding.res.slot);
+            Ok(keep_both(slots, holding.opened).0)
+        }
+        Err(refused) => Err(refused.why),
+    }
+}
+
 fn hold_at<I: Ledger, A: Ledger, K: Ledger>(
     floor: &mut Floor<Sample, I, A, K>,
     seat: &mut Seat<I, A, K>,
@@ -179,10 +179,6 @@ fn do_at<I: Ledger, A: Ledger, K: Ledger>(
 ) -> Result<u64, Refusal> {
     match deed {
         Deed::Next(value) => floor.next(seat, node, value),
-        Deed::End(terminal) => floor.end(node, terminal),
-        Deed::Abort(code) => floor.abort(node, code),
-        Deed::Decline => floor.decline(node),
-        Deed::Fail(code) => floor.fail(node, code),
         Deed::Dispose => floor.dispose(node),
     }
 }
@@ -197,7 +193,6 @@ fn do_on<I: Ledger, A: Ledger, K: Ledger>(
     let res = ResKey { slot, number };
     match deed {
         Use::Apply(word) => floor.apply(res, word),
-        Use::Remove => floor.remove(res),
         Use::GiveBack => floor.give_back(LeaseKey { slot, number }),
         Use::Lease => match floor.lease(res) {
             Ok(lease) => Ok(keep(slots, lease.number, lease.slot)),
@@ -217,37 +212,18 @@ fn do_hub<I: Ledger, A: Ledger, K: Ledger>(
             Ok(key) => Ok(keep(slots, key.number, key.slot)),
             Err(why) => Err(why),
         },
-        Hub::Disconnect(hub) => floor.disconnect(hub),
         Hub::Checkpoint => floor.checkpoint(),
-        Hub::Shut => {
-            floor.shut();
-            Ok(u64::from(floor.is_shut()))
-        }
-    }
-}
-
-// The number of a lease.
-fn lease_of(key: Option<LeaseKey>) -> Option<u64> {
-    match key {
-        Some(key) => Some(key.number),
-        None => None,
     }
 }
 
 fn ask_floor<I: Ledger, A: Ledger, K: Ledger>(
     floor: &mut Floor<Sample, I, A, K>,
-    slots: &Slots,
     asked: Ask,
     told: &mut String,
 ) {
     match asked {
         Ask::Mail => tell(told, floor.take_mail()),
         Ask::Event(place) => tell(told, floor.event(place)),
-        Ask::Owed(node) => tell(told, floor.owed(key_of(slots, node))),
-        Ask::IsOpen(node) => tell(told, floor.is_open(key_of(slots, node))),
-        Ask::IsHeld(number) => tell(told, floor.is_held(res_of(slots, number))),
-        Ask::Lease => tell(told, (floor.leases(), lease_of(floor.open_lease()))),
-        Ask::Manual => tell(told, floor.open_manual()),
         Ask::Root => tell(told, (floor.open_count(), number_of(floor.open_root()))),
         Ask::Sums => tell(told, sums_of(floor)),
     }
@@ -288,6 +264,10 @@ fn make_call<I: Ledger, A: Ledger, K: Ledger>(
             let at = at_of(slots, place);
             tell(told, open_with(floor, seat, slots, at, tag));
         }
+        Call::Holding(place, kind, tag) => {
+            let at = at_of(slots, place);
+            tell(told, open_holding(floor, seat, slots, (at, kind), tag));
+        }
         Call::Hold(node, tag) => {
             let node = key_of(slots, node);
             tell(told, hold_at(floor, seat, slots, node, tag));
@@ -298,7 +278,7 @@ fn make_call<I: Ledger, A: Ledger, K: Ledger>(
         }
         Call::On(number, deed) => tell(told, do_on(floor, slots, number, deed)),
         Call::Hub(deed) => tell(told, do_hub(floor, slots, deed)),
-        Call::Ask(asked) => ask_floor(floor, slots, asked, told),
+        Call::Ask(asked) => ask_floor(floor, asked, told),
         Call::Take => tell(told, take_one(floor, seat)),
         Call::Feed(..) => {}
     }

@@ -28,7 +28,7 @@ Closed { released: 0, faults: 0 }
 
 #[test]
 fn a_feed_stops_at_its_turns_at_the_end_and_when_refused(rt: HostRuntime) {
-    let trial = Trial::Calls(1000, &STOPPED, &[]);
+    let trial = Trial::Calls(&STOPPED, &[]);
     assert_all(&rt, rt.alloc(), &[(trial, STOPPED_TOLD)]);
 }
 
@@ -72,6 +72,6 @@ Closed { released: 0, faults: 0 }
 
 #[test]
 fn a_feed_writes_what_was_pulled_and_takes_no_note(rt: HostRuntime) {
-    let trial = Trial::Calls(1000, &WRITTEN, &[]);
+    let trial = Trial::Calls(&WRITTEN, &[]);
     assert_all(&rt, rt.alloc(), &[(trial, WRITTEN_TOLD)]);
 }

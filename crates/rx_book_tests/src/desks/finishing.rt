@@ -1,6 +1,6 @@
 //! What a desk says at its end of its seats and of the receipts that it is shown.
 
-use super::desk_calls::{Call, Deed, NO_SLOTS, make_all};
+use super::desk_calls::{Call, Deed, Hub, NO_SLOTS, make_all};
 use super::trials::{Trial, assert_all};
 use rx_crew::Desk;
 use rx_event::{Event, Kind, Place};
@@ -74,9 +74,7 @@ const CLOSES_LEAF: Receipt = Receipt {
     event: Event::Close(5),
 };
 
-const FORGED: [(Trial, &str); 1] = [(
-    Trial::Work(true, true, &[CLOSES_LEAF]),
-    "\
+const CLOSES_LEAF_TOLD: &str = "\
 Ok(0)
 Ok(2)
 Some((1, 7, 0))
@@ -84,11 +82,39 @@ Some((1, 7, 0))
 Err(Receipt { place: 2 })
 Some(4)
 Closed { released: 0, faults: 0 }
-",
-)];
+";
+
+// A checkpoint takes the events before it away, so that a receipt of one stands no longer.
+const PAUSED: [Call; 3] = [
+    Call::Using(Place::Root, 7),
+    Call::Hub(Hub::Checkpoint),
+    Call::At(0, Deed::Dispose),
+];
+
+const ACCEPTS_IT: Receipt = Receipt {
+    place: 1,
+    event: Event::Accept(0, 7),
+};
+
+const PAUSED_TOLD: &str = "\
+Ok(0)
+Ok(2)
+Ok(2)
+Err(Receipt { place: 1 })
+None
+Closed { released: 1, faults: 0 }
+";
+
+const FORGED: [(Trial, &str); 2] = [
+    (Trial::Work(true, true, &[CLOSES_LEAF]), CLOSES_LEAF_TOLD),
+    (
+        Trial::Calls(&PAUSED, &[CLOSES_ROOT, ACCEPTS_IT]),
+        PAUSED_TOLD,
+    ),
+];
 
 #[test]
-fn a_receipt_of_another_event_is_told_with_its_place(rt: HostRuntime) {
+fn a_receipt_whose_event_does_not_stand_there_is_told_with_its_place(rt: HostRuntime) {
     assert_all(&rt, rt.alloc(), &FORGED);
 }
 

@@ -1,13 +1,10 @@
-//! What a first seat has: all parts of its desk, and all that the book of the desk has.
+//! What a desk has that is made of a book with a past.
 
 use super::desk_calls::{Ask, Call};
-use super::parts::tell;
 use super::trials::{Trial, assert_all};
 use rx_book::{At, Book};
 use rx_event::Kind;
-use rx_ledger::{PARTS, Seat};
 use rx_resource::Sample;
-use std::sync::ledger::Ledger;
 
 // Opens a root with a resource and a source below it, which emits an item, and a root with one that waits; takes no note.
 pub(super) fn give_a_past(book: &mut Book<Sample>) {
@@ -53,34 +50,4 @@ Closed { released: 1, faults: 0 }
 #[test]
 fn a_desk_goes_on_with_the_book_that_it_is_made_of(rt: HostRuntime) {
     assert_all(&rt, rt.alloc(), &PAST);
-}
-
-// Splits a seat until it has one part. Tells at which time it gave none.
-pub(super) fn split_all<I: Ledger, A: Ledger, K: Ledger>(
-    seat: Seat<I, A, K>,
-    told: &mut String,
-) -> Seat<I, A, K> {
-    let mut seat = seat;
-    for time in 1..=PARTS {
-        if seat.split().is_none() {
-            tell(told, time);
-            break;
-        }
-    }
-    seat
-}
-
-const SPLIT: [(Trial, &str); 1] = [(
-    Trial::Split,
-    "\
-1048576
-Ok(Totals { items: 0, accepted: 0, taken: 0, held: 0, waiting: 0, len: 0 })
-None
-Closed { released: 0, faults: 0 }
-",
-)];
-
-#[test]
-fn the_first_seat_of_a_desk_cannot_be_split_the_1_048_576th_time(rt: HostRuntime) {
-    assert_all(&rt, rt.alloc(), &SPLIT);
 }

@@ -10,7 +10,7 @@ use super::leases::passed_on;
 use super::parts::{blanks, number_of, tell};
 use super::pull_refused_memory::feed_in_the_end;
 use super::releases_outside_the_lock::{both_release, wakes};
-use super::seats::{SEEN, give_a_past, split_all};
+use super::seats::{SEEN, give_a_past};
 use super::workers::work_thrice;
 use rx_book::Book;
 use rx_crew::{Desk, Finished, finish};
@@ -26,8 +26,8 @@ use std::thread::Threads;
 // What is tried. The receipts are those that the desk is shown at its end.
 #[derive(Clone, Copy)]
 pub(super) enum Trial {
-    // These calls, of a book that may have so many events.
-    Calls(u32, &'static [Call], &'static [Receipt]),
+    // These calls.
+    Calls(&'static [Call], &'static [Receipt]),
     // Two seats' work; whether each of them is there at the end.
     Work(bool, bool, &'static [Receipt]),
     // A feed that is refused memory.
@@ -46,14 +46,11 @@ pub(super) enum Trial {
     Endless,
     // A desk that is made of a book with a past.
     Past,
-    // A seat that is split as often as it can be.
-    Split,
 }
 
 // How many events the book may have.
 fn limit_of(trial: Trial) -> u32 {
     match trial {
-        Trial::Calls(limit, _, _) => limit,
         Trial::Endless => LIMIT,
         _ => 10_000,
     }
@@ -61,7 +58,7 @@ fn limit_of(trial: Trial) -> u32 {
 
 fn receipts_of(trial: Trial) -> &'static [Receipt] {
     match trial {
-        Trial::Calls(_, _, receipts) => receipts,
+        Trial::Calls(_, receipts) => receipts,
         Trial::Work(_, _, receipts) => receipts,
         _ => &[],
     }
@@ -82,7 +79,7 @@ fn tried<
     told: &mut String,
 ) -> Option<Seat<I, A, K>> {
     match trial {
-        Trial::Calls(_, calls, _) => {
+        Trial::Calls(calls, _) => {
             let mut slots = NO_SLOTS;
             Some(make_all(rt, alloc, desk, seat, &mut slots, calls, told))
         }
@@ -95,7 +92,6 @@ fn tried<
         Trial::Closed => eight_refused(rt, alloc, desk, seat, told),
         Trial::Endless => storm(rt, alloc, desk, seat, told),
         Trial::Past => Some(make_all(rt, alloc, desk, seat, &mut NO_SLOTS, &SEEN, told)),
-        Trial::Split => Some(split_all(seat, told)),
     }
 }
 

@@ -1,7 +1,8 @@
-//! Worked examples, and calls in want of memory.
+//! Calls of a group in want of memory, and the callers of a page. A single, a serial and a counted value take no memory:
+//! their clauses say all that they answer.
 use super::uses::{moved_out, there_and_back};
 use crate::same::same;
-use rx_disposable::{Back, Counted, Denied, Group, Members, NoLease, Serial, Single, Why};
+use rx_disposable::{Back, Group, Members, Why};
 use rx_scarce::{MOST_BLOCKS, Scarce};
 use std::alloc::{AllocError, Global};
 use std::process::Abort;
@@ -16,43 +17,6 @@ fn told<U, T>(answer: Result<U, Back<T>>) -> Result<U, (Why, T)> {
         Ok(taken) => Ok(taken),
         Err(Back { why, value }) => Err((why, value)),
     }
-}
-
-#[test]
-fn a_single_takes_one_value(rt: HostRuntime) {
-    let mut single = Single::new();
-    let answers = [told(single.set(1)), told(single.set(2))];
-    let given = [single.dispose(), single.dispose()];
-    same(&rt, answers, [Ok(()), Err((Why::Already, 2))]);
-    same(
-        &rt,
-        (given, told(single.set(3))),
-        ([Some(1), None], Err((Why::Disposed, 3))),
-    );
-}
-
-#[test]
-fn a_serial_gives_the_previous_value(rt: HostRuntime) {
-    let mut serial = Serial::new();
-    let answers = [serial.replace(1), serial.replace(2)];
-    let given = [serial.dispose(), serial.dispose()];
-    same(&rt, answers, [Ok(None), Ok(Some(1))]);
-    same(&rt, (given, serial.replace(3)), ([Some(2), None], Err(3)));
-}
-
-#[test]
-fn a_counted_value_comes_out_at_the_last_lease(rt: HostRuntime) {
-    let mut counted = Counted::new(9);
-    let leased = counted.lease();
-    let disposed = counted.dispose();
-    let denied = counted.lease();
-    same(
-        &rt,
-        (leased, disposed, denied),
-        (Ok(()), None, Err(Denied::Disposed)),
-    );
-    let returned = [counted.give_back(), counted.give_back()];
-    same(&rt, returned, [Ok(Some(9)), Err(NoLease)]);
 }
 
 // Adds three values, of which the first is taken out again, and moves the others to a list.
@@ -73,21 +37,6 @@ fn a_group_serves_generic_callers(rt: HostRuntime) {
     let called = call_them(&rt, &mut Group::new(rt.alloc()), &mut list);
     same(&rt, called, Ok(()));
     same(&rt, list.as_slice(), [(1, 'y'), (2, 'z')].as_slice());
-}
-
-#[test]
-fn a_group_that_is_cleared_takes_more_and_one_that_is_disposed_of_takes_none(rt: HostRuntime) {
-    let mut group = Group::new(rt.alloc());
-    let added = [told(group.add('x')), told(group.add('y'))];
-    let removed = [group.remove(0), group.remove(0)];
-    same(&rt, (added, removed), ([Ok(0), Ok(1)], [Some('x'), None]));
-    let mut cleared = group.clear();
-    same(&rt, cleared.next(), Some((1, 'y')));
-    same(&rt, (cleared.next(), told(group.add('z'))), (None, Ok(2)));
-    let mut disposed = group.dispose();
-    same(&rt, disposed.next(), Some((2, 'z')));
-    let denied = Err((Why::Disposed, 'w'));
-    same(&rt, (disposed.next(), told(group.add('w'))), (None, denied));
 }
 
 // Adds the numbers up to 40 in want of memory: each refusal hands the number back, and then one block is given

@@ -84,13 +84,6 @@ fn room_is_refused_in_turn_and_then_had(rt: HostRuntime) -> Result<(), Fail> {
     Ok(())
 }
 
-#[test]
-fn a_history_of_two_has_room_for_two_and_is_full_at_three(rt: HostRuntime) {
-    let mut history = History::new(rt.alloc(), 2);
-    let answers = [history.reserve(2), history.reserve(3)];
-    same(&rt, answers, [Ok(()), Err(Refusal::Full)]);
-}
-
 // Four records, for which there is no more room.
 fn four_records(alloc: Global) -> Result<Records<Sample>, AllocError> {
     let mut records = Records::new(alloc);

@@ -33,27 +33,6 @@ fn the_contracts_say_what_comes_first(rt: HostRuntime) -> Result<(), Fail> {
     Ok(())
 }
 
-#[test]
-fn a_timeline_gives_what_is_due_and_then_stands_at_the_time_that_was_asked(
-    rt: HostRuntime,
-) -> Result<(), Fail> {
-    let mut timeline = Timeline::new(rt.alloc());
-    let ticket = timeline.schedule(10, 'a').map_err(reason)?;
-    timeline.schedule(5, 'b').map_err(reason)?;
-    timeline.schedule(5, 'c').map_err(reason)?;
-    let given = [
-        timeline.next_until(7),
-        timeline.next_until(7),
-        timeline.next_until(7),
-    ];
-    same(&rt, given, [Some((5, 'b')), Some((5, 'c')), None]);
-    timeline.schedule(3, 'd').map_err(reason)?;
-    same(&rt, timeline.next_until(7), Some((7, 'd')));
-    same(&rt, timeline.cancel(ticket), Some('a'));
-    same(&rt, (timeline.next_until(20), timeline.now()), (None, 20));
-    Ok(())
-}
-
 const ITEMS: u64 = 60;
 
 // Due times that rise, fall and repeat.
