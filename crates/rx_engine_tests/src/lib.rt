@@ -1,11 +1,9 @@
-//! What no clause says of what the engine keeps: of lanes and of the pool of hubs each call once on its happy path, shares
-//! that come and go, and memory that is refused.
+//! What no clause says of what the engine keeps: of lanes and of the pool of hubs memory that is refused, and that is found.
+//! What their other calls answer, their clauses say in full.
 #![tactic(auto)]
 
 #[cfg(test)]
 mod memory;
-#[cfg(test)]
-mod order;
 #[cfg(test)]
 mod pool;
 #[cfg(test)]
