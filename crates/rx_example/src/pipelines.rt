@@ -90,15 +90,10 @@ fn until(rt: &impl Print, book: &mut Book<File>) -> Result<(), Stopped> {
 
 /// Sends texts: an item is the place of its text in a list.
 fn carry(rt: &impl Print, book: &mut Book<File>) -> Result<(), Stopped> {
-    let texts = ["bid 17", "ask 19"];
     let quotes = book.open(At::Root, Kind::Leaf)?.key;
     book.next(quotes, 1)?;
     book.next(quotes, 0)?;
-    while let Some(mail) = book.take_mail() {
-        if let Some(text) = text_of(&texts, mail.note) {
-            println!(rt; "observer {} receives {text}", mail.to)?;
-        }
-    }
+    tell_texts(rt, book, &["bid 17", "ask 19"])?;
     book.dispose(quotes)?;
     Ok(())
 }
@@ -135,6 +130,16 @@ fn text_of<'a>(texts: &[&'a str], note: Note) -> Option<&'a str> {
         return None;
     };
     texts.get(usize::try_from(index).ok()?).copied()
+}
+
+/// Tells the observers the texts that their items name.
+fn tell_texts(rt: &impl Print, book: &mut Book<File>, texts: &[&str]) -> Result<(), Stopped> {
+    while let Some(mail) = book.take_mail() {
+        if let Some(text) = text_of(texts, mail.note) {
+            println!(rt; "observer {} receives {text}", mail.to)?;
+        }
+    }
+    Ok(())
 }
 
 /// Tells the observers what there is for them, and releases the files that wait.
