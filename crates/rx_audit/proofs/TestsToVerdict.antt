@@ -7,8 +7,10 @@ use Rattle.rx_audit.proofs.Common.{AreListsFound, IsClimbed, IsReached, leaf_of,
 use Rattle.rx_event.specs.Lawful.{forced, allowed, opened_with as accepted_with}
 use Rattle.rx_event.proofs.Laws.Begin.{shown_nothing}
 use Rattle.rx_event.proofs.Laws.Lawful.{IsLawful-push, FoundAt, in_base, since_base, found_at}
-use Rattle.std.proofs.lemmas.List.{take_more}
+use Rattle.std.proofs.lemmas.List.{take_more, take_all}
 use Rattle.rx_audit.specs.declared.found.Found.{Found}
+use Rattle.rx_audit.specs.Found.{IsFoundHere}
+use Rattle.rx_audit.specs.Standing.{IsAllFound}
 use Rattle.rx_audit.specs.Verdict.{IsFoundUnlawful}
 use Rattle.rx_audit.specs.Rules.{opens_pass, opened_with}
 use Rattle.rx_event.specs.declared.refusal.Refusal.{Refusal}
@@ -120,10 +122,20 @@ unforced_follows h e b no_force unsettled is = (λ t. opened_first h e (sym is �
 length-take-most : (i : ℕ) (h : List Event) → length (take i h) ≤ length h
 length-take-most i h = let s = length-append (take i h) (drop i h) in let t = ap length (take-append-drop i h) in omega arith
 
--- what is known of the events so far
+-- what was found of the events so far, and what is known of them
+pub found_from : (h : List Event) (i : ℕ) (found : Found) → AreListsFound (take i h) (length h) found → IsFoundHere (take i h) found
+found_from h i found f = record { room = (let l = length-take-most i h in let s = f.live_size in omega arith); is = rw f.live_size f }
+
 pub known_from : (h : List Event) (i : ℕ) (found : Found) (nodes : Nodes) → IsLawful nothing_kept (take i h) → AreListsFound (take i h) (length h) found
     → IsFollowed (take i h) (length h) nodes → IsKnown (take i h) found.live.items nodes
-known_from h i found nodes law f w = search (rules, length-take-most)
+known_from h i found nodes law f w =
+    record { lawful = law; tied = f.live; room = (found_from h i found f).room; followed = rw f.live_size w }
+
+-- which is all of them at the end
+pub all_found : (h : List Event) (i : ℕ) (found : Found) (nodes : Nodes) → length h ≤ i → IsLawful nothing_kept (take i h)
+    → AreListsFound (take i h) (length h) found → IsFollowed (take i h) (length h) nodes → IsAllFound h found nodes
+all_found h i found nodes over law f w = subst (λ (k : List Event). IsAllFound k found nodes) (take_all i h over)
+    (record { is = found_from h i found f; known = known_from h i found nodes law f w })
 
 -- a list with an event that may not follow those before it is not lawful
 pub not_lawful : (h : List Event) (i : ℕ) → IsFoundUnlawful h i → IsLawful nothing_kept h → ⊥

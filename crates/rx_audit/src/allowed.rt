@@ -24,7 +24,7 @@ ghost use Rattle.rx_audit.specs.Rules.{was_removed, was_taken, refused_simply};
 
 use crate::advance::Nodes;
 use crate::children::word_at;
-use crate::event_tests::at;
+use crate::event_tests::{at, event_at};
 use crate::forced::is_connected;
 use crate::found::Found;
 use crate::marks::is_marked;
@@ -232,7 +232,7 @@ fn is_full_of_hubs(past: &[Event], live: &[bool], nodes: &Nodes) -> bool
 fn node_of_resource(past: &[Event], r: u64) -> Option<u64>
     ensures { result ≡ option_and_then node_of_accept (slice_get past.now r) }
 {
-    past.get(r as usize)?.held_at()
+    event_at(past, r as usize)?.held_at()
 }
 
 /// Whether node `n` is open, and resource `r`, which is in the history, was not removed.
@@ -404,7 +404,7 @@ fn ending_refusal(past: &[Event], found: &Found, n: u64, terminal: Terminal) -> 
     if !is_open_node(past, found, n) {
         return Some(Refusal::Gone);
     }
-    if !at(Event::is_leaf, past, n) {
+    if !is_leaf(past, n) {
         return Some(Refusal::WrongKind);
     }
     None
@@ -451,7 +451,7 @@ fn failing_refusal(
     if !is_open_node(past, found, n) {
         return Some(Refusal::Gone);
     }
-    if at(Event::is_leaf, past, n) {
+    if is_leaf(past, n) {
         return None;
     }
     if may_fail(past, marks, n) {

@@ -16,7 +16,7 @@ use std::alloc::AllocError;
 pub fn projected_at(past: &[Event], n: u64) -> Option<u64>
     ensures { result ≡ option_and_then projecting_node (stop_at past.now n) }
 {
-    let f = past.get(n as usize)?.source_of()?;
+    let f = event_at(past, n as usize)?.source_of()?;
     if at(Event::is_merging, past, f) {
         Some(f)
     } else {
@@ -28,7 +28,7 @@ pub fn projected_at(past: &[Event], n: u64) -> Option<u64>
 pub fn fired_at(past: &[Event], n: u64) -> Option<u64>
     ensures { result ≡ option_and_then fired_by (stop_at past.now n) }
 {
-    past.get(n as usize)?.notifier_of()
+    event_at(past, n as usize)?.notifier_of()
 }
 
 /// Whether an item goes no further than node `n`, which the event made.

@@ -17,5 +17,5 @@ pub fn at<F: Fn(Event) -> bool>(test: F, past: &[Event], n: u64) -> bool
     requires { F.IsAlwaysCallable test }
     ensures { MatchOption (slice_get past.now n) (result ≡ false) (λ e. F.post test e result) }
 {
-    past.get(n as usize).copied().is_some_and(test)
+    event_at(past, n as usize).is_some_and(test)
 }

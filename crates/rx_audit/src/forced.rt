@@ -149,7 +149,7 @@ fn terminal_of_word(past: &[Event], word: usize) -> Option<Terminal>
     if word == 0 {
         return None;
     }
-    terminal_of_end(*past.get(word - 1)?)
+    terminal_of_end(event_at(past, word - 1)?)
 }
 
 /// Whether the last end of a connection of the hub of node `s` is so.

@@ -9,6 +9,7 @@ ghost use Rattle.rx_audit.specs.Tables.{IsTally};
 
 use crate::advance::{Nodes, advance};
 use crate::children::zeros;
+use crate::event_tests::event_at;
 use crate::marks::{count, count_less, mark};
 use crate::reach::Visit;
 use rx_event::Event;
@@ -58,7 +59,7 @@ fn given_back(past: &[Event], event: Event) -> Option<u64>
     ensures { result ≡ option_and_then (resource_of past.now) (returned_of event) }
 {
     let lease = event.returned()?;
-    past.get(lease as usize)?.leased()
+    event_at(past, lease as usize)?.leased()
 }
 
 /// Finds how many leases of each resource the event leaves out.

@@ -5,6 +5,7 @@ ghost use Rattle.rx_audit.specs.Imports.{option_and_then, parent_named, parent, 
 ghost use Rattle.rx_audit.specs.Tables.{IsMarked};
 ghost use Rattle.rx_audit.specs.Rules.{stays_open, opens};
 
+use crate::event_tests::event_at;
 use crate::marks::is_marked;
 use rx_event::Event;
 
@@ -13,7 +14,7 @@ use rx_event::Event;
 pub fn parent_of(past: &[Event], n: usize) -> Option<u64>
     ensures { result ≡ parent past.now n }
 {
-    let p = past.get(n)?.parent()?;
+    let p = event_at(past, n)?.parent()?;
     if p < n as u64 { Some(p) } else { None }
 }
 

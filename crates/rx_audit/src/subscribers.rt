@@ -7,6 +7,7 @@ ghost use Rattle.rx_audit.specs.Rules.{hub_subscribed_at, hub_connected_at};
 ghost use Rattle.rx_audit.specs.HubTables.{number_by_word, hub_if_last, listed_hub, AreLinked, AreOpenListed, AreLetGo};
 
 use crate::children::{one_more, put, value_at, word_at, zeros};
+use crate::event_tests::event_at;
 use crate::found::unmarked;
 use crate::marks::is_marked;
 use rx_event::Event;
@@ -31,14 +32,14 @@ pub struct Subscribers {
 pub fn hub_subscribed_at(past: &[Event], k: u64) -> Option<u64>
     ensures { result ≡ hub_subscribed_at past.now k }
 {
-    past.get(k as usize)?.subscribes_to()
+    event_at(past, k as usize)?.subscribes_to()
 }
 
 /// The hub that node `k` connects.
 pub fn hub_connected_at(past: &[Event], k: u64) -> Option<u64>
     ensures { result ≡ hub_connected_at past.now k }
 {
-    past.get(k as usize)?.connects()
+    event_at(past, k as usize)?.connects()
 }
 
 /// There are no subscribers, with room for this many events.

@@ -53,7 +53,7 @@ pub enum NoVerdict {
 
 /// Whether a caller's event may come next, where operators have nothing left to do. Where an item may, the
 /// climb has the nodes that it visits.
-#[tactic(auto, using(crate::proofs::TestsToVerdict::decided, crate::proofs::TestsToVerdict::none_climbs))]
+#[tactic(auto, using(crate::proofs::TestsToVerdict::none_climbs))]
 fn is_allowed(
     past: &[Event],
     event: Event,

@@ -1,9 +1,8 @@
-use Rattle.rx_audit.proofs.Common.{length, arith}
+use Rattle.rx_audit.proofs.Common.{arith}
 use Rattle.rx_audit.proofs.ClosingBelow.{noted_last}
 use Rattle.std.proofs.lemmas.List.{get_or_default}
 use Rattle.rx_audit.proofs.DueLists.{keeps_more, keeps_on, lost_more, lost_all}
 use Rattle.rx_audit.proofs.duties.note_left.Goals as goal
-use Rattle.std.proofs.Common.{rules}
 
 pub loop-s-init : goal.loop-s-init
 loop-s-init c = record { keeps = λ n w. w; lost = λ k l. absurd (omega arith) }
@@ -17,10 +16,11 @@ loop-s-preserved c = record {
 }
 
 pub returns-clause-keeps : goal.returns-clause-keeps
-returns-clause-keeps c = search (rules, keeps_on, keeps_more, length)
+returns-clause-keeps c = rw c.in_ok-push.ensures.items (keeps_on _ _ _ c.loop-s.invariant.keeps (keeps_more c.loop-s.due.items _))
 
 pub returns-clause-lost : goal.returns-clause-lost
-returns-clause-lost c = search (rules, keeps_more, length, lost_all)
+returns-clause-lost c = rw c.in_ok-push.ensures.items (λ s g k noted hub word. keeps_more c.loop-s.due.items _ k
+    (lost_all _ _ _ _ c.loop-s.s-index (omega arith) c.loop-s.invariant.lost s g k noted hub word))
 
 pub returns-clause-new : goal.returns-clause-new
-returns-clause-new c = search (rules, noted_last, length)
+returns-clause-new c = rw c.in_ok-push.ensures.items (noted_last 0 _ _ (omega arith))
