@@ -1,6 +1,7 @@
 //! The dump of a history, written behind a text.
 
-ghost use Rattle.std.specs.Prelude.{◌≡◌, ◌++◌, flat_map, string_bytes, OnOk};
+ghost use Rattle.std.specs.Prelude.{◌≡◌, ◌++◌, codes, flat_map, string_bytes, OnOk};
+ghost use Rattle.std.specs.Fmt.{decimal};
 ghost use Rattle.rx_dump.specs.Dump.{place_text, kind_text, mode_text, terminal_text, event_text, following_event_text, events_text, dump};
 
 use rx_event::{Event, Kind, Mode, Place, Terminal};
@@ -68,6 +69,14 @@ fn push_end(text: &mut String, node: u64, terminal: Terminal) -> Result<(), Allo
     text.push_str("]")
 }
 
+// An event of one number.
+fn push_numbered(text: &mut String, word: &str, number: u64) -> Result<(), AllocError>
+    ensures { OnOk result (string_bytes text.new
+        ≡ string_bytes text.old ++ codes "[\"" ++ word.now ++ codes "\"," ++ decimal number ++ codes "]") }
+{
+    write!(text, "[\"{word}\",{number}]")
+}
+
 #[tactic(auto, unfolding(crate::specs::Dump::event_text))]
 fn push_event(text: &mut String, event: Event) -> Result<(), AllocError>
     ensures { OnOk result (string_bytes text.new ≡ string_bytes text.old ++ event_text event) }
@@ -78,17 +87,17 @@ fn push_event(text: &mut String, event: Event) -> Result<(), AllocError>
             let mode = mode_text(mode);
             write!(text, "[\"hub\",{mode}]")
         }
-        Event::Connect(hub) => write!(text, "[\"connect\",{hub}]"),
+        Event::Connect(hub) => push_numbered(text, "connect", hub),
         Event::Accept(node, tag) => write!(text, "[\"accept\",{node},{tag}]"),
-        Event::Use(res) => write!(text, "[\"use\",{res}]"),
-        Event::Remove(res) => write!(text, "[\"remove\",{res}]"),
-        Event::Lease(res) => write!(text, "[\"lease\",{res}]"),
-        Event::Return(lease) => write!(text, "[\"return\",{lease}]"),
+        Event::Use(res) => push_numbered(text, "use", res),
+        Event::Remove(res) => push_numbered(text, "remove", res),
+        Event::Lease(res) => push_numbered(text, "lease", res),
+        Event::Return(lease) => push_numbered(text, "return", lease),
         Event::Item(leaf, value) => write!(text, "[\"item\",{leaf},{value}]"),
-        Event::Decline(node) => write!(text, "[\"decline\",{node}]"),
+        Event::Decline(node) => push_numbered(text, "decline", node),
         Event::End(node, terminal) => push_end(text, node, terminal),
-        Event::Close(node) => write!(text, "[\"close\",{node}]"),
-        Event::Take(res) => write!(text, "[\"take\",{res}]"),
+        Event::Close(node) => push_numbered(text, "close", node),
+        Event::Take(res) => push_numbered(text, "take", res),
     }
 }
 
