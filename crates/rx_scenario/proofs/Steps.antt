@@ -1,6 +1,7 @@
 -- Steps from their parts.
 use Rattle.std.proofs.Common.{◌≡◌, ℕ, ◌+◌, ◌<◌, List, [], ◌∷◌, ◌++◌, append_assoc, append-nil, ◌∙◌, ap, length, drop, get_or}
-use Rattle.std.proofs.Common.{Option, Some, None, option_map, refl, sym, add-one, drop-cons, Global}
+use Rattle.std.proofs.Common.{Option, Some, None, option_map, refl, sym, add-one, drop-cons, Global, ◌≤◌}
+use Rattle.std.proofs.lemmas.List.{drop_all}
 use Rattle.json.specs.Value.{value_view, items_view}
 use Rattle.json.specs.declared.value.Value.{Value}
 use Rattle.serde_json.specs.Data.{Data}
@@ -27,3 +28,10 @@ pub with_front-more : (read : Data → Option Step) (front : List Step) (values 
     → with_front front (each_step read (items_data (items_view (drop i values))))
     ≡ with_front (front ++ s ∷ []) (each_step read (items_data (items_view (drop (i + 1) values))))
 with_front-more read front values i value s within is gives = rw (add-one, drop-cons values i value within, ← is, gives) (in_front front s _)
+
+-- none is left
+pub with_front-all : (read : Data → Option Step) (front : List Step) (values seen : List (Value Global)) (i : ℕ) (all : Option (List Step))
+    → seen ≡ values → length seen ≤ i
+    → all ≡ with_front front (each_step read (items_data (items_view (drop i values)))) → all ≡ Some front
+with_front-all read front values seen i all is past so_far =
+    so_far ∙ rw (drop_all i values (rw is at past)) (ap Some (append-nil front))

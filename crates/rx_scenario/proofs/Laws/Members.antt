@@ -56,3 +56,6 @@ list_all_keys p (m ∷ ms) found =
 
 pub bytes_eq-other : (xs ys : List ℕ) → ys ≢ xs → bytes_eq xs ys ≡ false
 bytes_eq-other xs ys other = search (rules, bytes_eq-Decides, Bool, Decides)
+
+pub bytes_eq-none : (xs ys : List ℕ) → xs ≢ ys → bytes_eq xs ys ≡ false
+bytes_eq-none xs ys other = bytes_eq-other xs ys (λ same. other (sym same))
