@@ -1,6 +1,7 @@
 //! The steps that are to come.
 
-ghost use Rattle.std.specs.Prelude.{◌≡◌, ◌+◌, ◌≤◌, Some, None, map, sum_by, option_map, string_bytes, IfOk, OnOk, IfSome, IfNone};
+ghost use Rattle.std.specs.Prelude.{◌≡◌, ◌+◌, ◌≤◌, ◌++◌, ◌∷◌, []};
+ghost use Rattle.std.specs.Prelude.{Some, None, map, sum_by, option_map, string_bytes, IfOk, OnOk, IfSome, IfNone};
 ghost use Rattle.rx_time.specs.Schedule.{with_work};
 ghost use Rattle.rx_scenario.specs.Scenario.{step_of};
 ghost use Rattle.rx_agenda.specs.Agenda.{empty_agenda, with_label, with_step_after, with_step, with_steps, followed_by, next_step, Cancels};
@@ -95,6 +96,16 @@ fn wait(agenda: &mut Agenda, delay: Ticks, step: Step) -> Result<(), AllocError>
     note_label(&mut agenda.labels, label, ticket)
 }
 
+// Puts the step last in this turn.
+fn put_last(turn: &mut Trampoline<Step>, step: Step) -> Result<(), AllocError>
+    ensures { OnOk result (turn.new ≡ turn.old ++ step ∷ []) }
+{
+    match turn.push(step) {
+        Ok(()) => Ok(()),
+        Err(Back { why: _, value: _ }) => Err(AllocError),
+    }
+}
+
 /// A step is to come: after its delay, or where it has none, last in this turn.
 pub fn add(agenda: &mut Agenda, step: Step) -> Result<(), AllocError>
     requires { agenda.old.timeline.clock ≤ 1000000000000000 }
@@ -104,10 +115,7 @@ pub fn add(agenda: &mut Agenda, step: Step) -> Result<(), AllocError>
 {
     match step.delay {
         Some(delay) => wait(agenda, delay, step),
-        None => match agenda.turn.push(step) {
-            Ok(()) => Ok(()),
-            Err(Back { why: _, value: _ }) => Err(AllocError),
-        },
+        None => put_last(&mut agenda.turn, step),
     }
 }
 
