@@ -1,0 +1,20 @@
+use Rattle.rx_listing.proofs.Common.{ℕ, Option, sym, ◌∙◌, holder_by}
+use Rattle.rx_listing.proofs.Keeping.{kept_put, none_put, kept_all}
+use Rattle.rx_listing.proofs.past.holders_of.Goals.{in-Some+in_ok-keep, in_default}
+use Rattle.rx_listing.proofs.past.holders_of.Goals as goal
+
+pub numbers-preserved : goal.numbers-preserved
+numbers-preserved g c =
+    let want : ℕ → Option ℕ = holder_by c.args.book.now c.args.past.now in
+    let ns = c.args.numbers.now in
+    let i = c.numbers.number-index in
+    elim c.match-holder_of.branch [
+      | in-Some+in_ok-keep w ↦
+          rw w.holders-is (kept_put want _ _ ns i _ c.numbers-test.true (sym c.holder_of.ensures ∙ w.in-Some.is) w.in_ok-keep.ensures c.numbers.invariant)
+      | in_default w ↦
+          rw w.holders-is (none_put want _ ns i c.numbers-test.true (sym c.holder_of.ensures ∙ w.in_default.is) c.numbers.invariant)
+    ]
+
+pub returns : goal.returns
+returns g c =
+    kept_all (holder_by c.args.book.now c.args.past.now) _ c.args.numbers.now c.numbers.number-index c.numbers-test.false c.numbers.invariant
