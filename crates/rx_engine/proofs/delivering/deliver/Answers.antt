@@ -75,3 +75,7 @@ returns-clause-spare c =
     let none = drop_all c.loop-effect.at c.args.effects.now.list (get_past c.args.effects.now.list c.loop-effect.at (sym c.in_default.ensures)) in
     let all = c.loop-effect.invariant.spare in let z = ap (length {A = Effect}) none in
     omega (arith, all, z)
+
+pub loop-effect-smaller : goal.loop-effect-smaller
+loop-effect-smaller c =
+    let w = get_within c.args.effects.now.list c.loop-effect.at c.in-Some.effect (sym c.in-Some.ensures) in omega (arith, w)

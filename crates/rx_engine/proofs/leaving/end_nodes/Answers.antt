@@ -91,3 +91,9 @@ returns c =
     let none = closed_none c.args.book.now.closed c.loop-key.at (sym c.in_default.ensures) in
     c.loop-key.invariant.ends c.loop-key.parts
     (subst (λ (ns : List ℕ). EndsClosed c.args.by ns c.loop-key.parts c.loop-key.parts) (sym none) (none_end c.args.by c.loop-key.parts))
+
+pub loop-key-smaller : goal.loop-key-smaller
+loop-key-smaller c =
+    let ks = c.args.book.now.closed in
+    let w = get_within ks c.loop-key.at c.in-Some.key (sym c.in-Some.ensures) in let l = length-map ks (λ (j : Key). j.number) in
+    omega (arith, w, l)

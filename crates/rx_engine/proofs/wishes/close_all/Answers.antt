@@ -64,3 +64,9 @@ returns-clause-closings c =
     sym (append-nil c.loop-key.closings.items)
     ∙ sym (ap (λ (ns : List ℕ). c.loop-key.closings.items ++ words_taken c.loop-key.roles.list ns) none)
     ∙ c.loop-key.invariant.closings
+
+pub loop-key-smaller : goal.loop-key-smaller
+loop-key-smaller c =
+    let ks = c.args.book.now.closed in
+    let w = get_within ks c.loop-key.at c.in-Some.key (sym c.in-Some.ensures) in let l = length-map ks (λ (j : Key). j.number) in
+    omega (arith, w, l)

@@ -181,3 +181,15 @@ invariant_of-self-in-Err-connect c =
       wishes = c.make_room.ensures.roles;
       closings = c.make_room.ensures.closings;
     })
+
+pub invariant_of-self : goal.invariant_of-self
+invariant_of-self c =
+    let i = c.self.inside in
+    tied_seen (state_of i) (record { book = i.book; parts = c.make_room_to_share.new.self; wishes = i.wishes }) c.self.invariant
+    (record { book = refl; parts = c.make_room_to_share.ensures.same; wishes = refl; closings = refl })
+
+pub invariant_of-self-then-not-make_room : goal.invariant_of-self-then-not-make_room
+invariant_of-self-then-not-make_room c =
+    let i = c.self.inside in
+    tied_seen (state_of i) (record { book = i.book; parts = c.make_room_to_share.new.self; wishes = c.make_room.new.self }) c.self.invariant
+    (record { book = refl; parts = c.make_room_to_share.ensures.same; wishes = c.make_room.ensures.roles; closings = c.make_room.ensures.closings })

@@ -1,4 +1,4 @@
-use Rattle.std.proofs.Common.{◌≡◌, List, length, Ok, Some, IsSome, sym, arith, subst}
+use Rattle.std.proofs.Common.{◌≡◌, List, length, Ok, Some, IsSome, sym, arith, subst, refl}
 use Rattle.rx_resource.specs.contracts.token.TokenResource.TheImpl.{ghosts}
 use Rattle.rx_resource.specs.declared.token.Token.{Token}
 use Rattle.rx_book.specs.Answers.{Accepts}
@@ -14,6 +14,7 @@ use Rattle.rx_engine.specs.Holdings.{IsHoldMade}
 use Rattle.rx_engine.proofs.LanesJoined.{many_few}
 use Rattle.rx_engine.proofs.RoomGotten.{ready_roomier, still_open}
 use Rattle.rx_engine.proofs.TiedAfterHolding.{IsKeeping, ready_held, none_leave, keeps_first, none_kept_beyond, tied_held}
+use Rattle.rx_engine.proofs.SharesChosen.{tied_seen}
 use Rattle.rx_engine.proofs.engine.Engine.hold.Goals as goal
 
 pub keep-requires : goal.keep-requires
@@ -113,3 +114,9 @@ returns-in-Ok c =
       refused = tt;
       kept = tt;
     })
+
+pub invariant_of-self : goal.invariant_of-self
+invariant_of-self c =
+    let i = c.self.inside in
+    tied_seen (state_of i) (record { book = i.book; parts = c.make_room_to_hold.new.self; wishes = i.wishes }) c.self.invariant
+    (record { book = refl; parts = c.make_room_to_hold.ensures.same; wishes = refl; closings = refl })

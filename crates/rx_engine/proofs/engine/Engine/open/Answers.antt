@@ -1,4 +1,4 @@
-use Rattle.std.proofs.Common.{◌≡◌, List, length, Some, None, Ok, Err, inr, if◌then◌else◌, sym, ◌∙◌, subst}
+use Rattle.std.proofs.Common.{◌≡◌, List, length, Some, None, Ok, Err, inr, if◌then◌else◌, sym, ◌∙◌, subst, refl}
 use Rattle.rx_resource.specs.contracts.token.TokenResource.TheImpl.{ghosts}
 use Rattle.rx_event.specs.declared.event.Event.TheVariants.{Open}
 use Rattle.rx_event.specs.Events.{is_root, is_merging}
@@ -17,6 +17,7 @@ use Rattle.rx_engine.proofs.LanesGiven.{IsOpenAt}
 use Rattle.rx_engine.proofs.RoomGotten.{ready_roomier, still_at}
 use Rattle.rx_engine.proofs.TiedAfterOpening.{is_opening, IsEntering, ready_opened, leave_opened, enters_first, none_beyond, none_housed_beyond, tied_opened}
 use Rattle.rx_engine.proofs.WishesKept.{none_wished_beyond}
+use Rattle.rx_engine.proofs.SharesChosen.{tied_seen}
 use Rattle.rx_engine.proofs.engine.Engine.open.Goals as goal
 
 pub enter-lane-requires : goal.enter-lane-requires
@@ -153,3 +154,15 @@ returns-in-Err c =
         closings = c.make_room-2.ensures.closings;
       };
     })
+
+pub invariant_of-self : goal.invariant_of-self
+invariant_of-self c =
+    let i = c.self.inside in
+    tied_seen (state_of i) (record { book = i.book; parts = c.make_room.new.self; wishes = i.wishes }) c.self.invariant
+    (record { book = refl; parts = c.make_room.ensures.same; wishes = refl; closings = refl })
+
+pub invariant_of-self-then-not-make_room-2 : goal.invariant_of-self-then-not-make_room-2
+invariant_of-self-then-not-make_room-2 c =
+    let i = c.self.inside in
+    tied_seen (state_of i) (record { book = i.book; parts = c.make_room.new.self; wishes = c.make_room-2.new.self }) c.self.invariant
+    (record { book = refl; parts = c.make_room.ensures.same; wishes = c.make_room-2.ensures.roles; closings = c.make_room-2.ensures.closings })

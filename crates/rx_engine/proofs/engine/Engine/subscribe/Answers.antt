@@ -18,7 +18,7 @@ use Rattle.rx_engine.specs.Sharings.{Subscribes, IsChosen, limit_for, is_gone, n
 use Rattle.rx_engine.specs.Ties.{state_of}
 use Rattle.rx_engine.proofs.HomesFound.{housed_home, not_housed}
 use Rattle.rx_engine.proofs.LanesGiven.{IsOpenAt}
-use Rattle.rx_engine.proofs.SharesChosen.{seen_itself, chosen_there, IsReserved, may_share}
+use Rattle.rx_engine.proofs.SharesChosen.{seen_itself, chosen_there, IsReserved, may_share, tied_seen}
 use Rattle.rx_engine.proofs.TiedAfterOpening.{is_opening}
 use Rattle.rx_engine.proofs.TiedAfterSharing.{IsSubscribing, leave_subscribed, ready_subscribed, subscribes_first, tied_subscribed}
 use Rattle.rx_engine.proofs.KeysKept.{second_listed}
@@ -240,3 +240,15 @@ returns-in-Err-open c =
         closings = c.make_room.ensures.closings;
       };
     })
+
+pub invariant_of-self : goal.invariant_of-self
+invariant_of-self c =
+    let i = c.self.inside in
+    tied_seen (state_of i) (record { book = i.book; parts = c.make_room_to_share.new.self; wishes = i.wishes }) c.self.invariant
+    (record { book = refl; parts = c.make_room_to_share.ensures.same; wishes = refl; closings = refl })
+
+pub invariant_of-self-then-not-make_room : goal.invariant_of-self-then-not-make_room
+invariant_of-self-then-not-make_room c =
+    let i = c.self.inside in
+    tied_seen (state_of i) (record { book = i.book; parts = c.make_room_to_share.new.self; wishes = c.make_room.new.self }) c.self.invariant
+    (record { book = refl; parts = c.make_room_to_share.ensures.same; wishes = c.make_room.ensures.roles; closings = c.make_room.ensures.closings })

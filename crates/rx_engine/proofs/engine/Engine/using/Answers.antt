@@ -27,6 +27,7 @@ use Rattle.rx_engine.proofs.TiedAfterUsing.{IsUsing, longer, IsUsed, ready_used,
 use Rattle.rx_engine.proofs.TiedAfterOpening.{none_beyond, none_housed_beyond}
 use Rattle.rx_engine.proofs.TiedAfterHolding.{none_kept_beyond}
 use Rattle.rx_engine.proofs.WishesKept.{none_wished_beyond}
+use Rattle.rx_engine.proofs.SharesChosen.{tied_seen}
 use Rattle.rx_engine.proofs.engine.Engine.using.Goals as goal
 
 pub enter-name-requires : goal.enter-name-requires
@@ -250,3 +251,15 @@ returns-in-Err c =
         closings = c.make_room.ensures.closings;
       };
     })
+
+pub invariant_of-self : goal.invariant_of-self
+invariant_of-self c =
+    let i = c.self.inside in
+    tied_seen (state_of i) (record { book = i.book; parts = c.make_room_to_use.new.self; wishes = i.wishes }) c.self.invariant
+    (record { book = refl; parts = c.make_room_to_use.ensures.same; wishes = refl; closings = refl })
+
+pub invariant_of-self-then-not-make_room : goal.invariant_of-self-then-not-make_room
+invariant_of-self-then-not-make_room c =
+    let i = c.self.inside in
+    tied_seen (state_of i) (record { book = i.book; parts = c.make_room_to_use.new.self; wishes = c.make_room.new.self }) c.self.invariant
+    (record { book = refl; parts = c.make_room_to_use.ensures.same; wishes = c.make_room.ensures.roles; closings = c.make_room.ensures.closings })
