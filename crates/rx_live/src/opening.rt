@@ -54,12 +54,11 @@ pub fn connection_name(sort: Sort) -> Option<String>
     ensures { option_map string_bytes result ≡ connection_asked (sort_of sort) }
 {
     match sort {
-        Sort::Sub { hub: _, connection } => connection,
-        Sort::Leaf => None,
-        Sort::Pass => None,
-        Sort::Flat => None,
-        Sort::Switch => None,
-        Sort::Until => None,
+        Sort::Sub {
+            hub: _hub,
+            connection,
+        } => connection,
+        _ => None,
     }
 }
 

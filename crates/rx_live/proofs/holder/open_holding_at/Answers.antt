@@ -5,10 +5,25 @@ use Rattle.rx_live.proofs.Common.{is_open_taken}
 use Rattle.rx_live.proofs.Common.{is_holder_taken, OpensHolder, BindsMade, BindsHolder}
 use Rattle.rx_live.proofs.Soundness.{accepted_longer}
 use Rattle.rx_live.proofs.AcceptedBindsNames.{none_of, or_false, is_new, tag_of_new, accepted_by, refused_by}
-use Rattle.rx_live.proofs.OpenedNodesGetNames.{placed, unchanged_room, unchanged_rooms, connection_free, made_unnamed, unnamed_past, on_err, with_book}
+use Rattle.rx_live.proofs.OpenedNodesGetNames.{unchanged_nodes, placed, unchanged_room, unchanged_rooms, connection_free, made_unnamed, unnamed_past, on_err, with_book}
 use Rattle.rx_live.proofs.OpenedNodesHold.{causes_of, holder_bound, holder_sound}
 use Rattle.rx_live.proofs.holder.open_holding_at.Goals as goal
 use Rattle.std.proofs.Common.{rules}
+
+pub returns-in_err-name-clause-err : goal.returns-in_err-name-clause-err
+returns-in_err-name-clause-err c =
+    on_err c.from_residual.result _
+    (unchanged_nodes (session_of c.args.engine.now) c.are_taken.new.nodes c.requires c.are_taken.ensures.same c.are_taken.ensures.paired)
+
+pub returns-in_err-connection-clause-err : goal.returns-in_err-connection-clause-err
+returns-in_err-connection-clause-err c =
+    on_err c.from_residual-in_err-connection.result _
+    (unchanged_nodes (session_of c.args.engine.now) c.are_taken.new.nodes c.requires c.are_taken.ensures.same c.are_taken.ensures.paired)
+
+pub returns-in_err-res-clause-err : goal.returns-in_err-res-clause-err
+returns-in_err-res-clause-err c =
+    on_err c.from_residual-in_err-res.result _
+    (unchanged_nodes (session_of c.args.engine.now) c.are_taken.new.nodes c.requires c.are_taken.ensures.same c.are_taken.ensures.paired)
 
 pub returns-in_err-make_room-clause-err : goal.returns-in_err-make_room-clause-err
 returns-in_err-make_room-clause-err c =

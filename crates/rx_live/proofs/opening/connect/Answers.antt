@@ -1,8 +1,13 @@
 use Rattle.rx_live.proofs.Common.{◌≡◌, ℕ, false, Option, Some, length, sym, ap, ◌∙◌, subst, option_map, string_bytes, option_map_or, Name, connect_request}
 use Rattle.rx_live.proofs.Common.{Accepts, session_of, hub_by_name, is_node, BindsMade, BindsConnection}
 use Rattle.rx_live.proofs.AcceptedBindsNames.{given_accepted, given_refused}
-use Rattle.rx_live.proofs.OpenedNodesGetNames.{unchanged_room, on_err, with_book, connected_bound, connected_sound}
+use Rattle.rx_live.proofs.OpenedNodesGetNames.{unchanged_nodes, unchanged_room, on_err, with_book, connected_bound, connected_sound}
 use Rattle.rx_live.proofs.opening.connect.Goals as goal
+
+pub returns-in_err-name-clause-err : goal.returns-in_err-name-clause-err
+returns-in_err-name-clause-err c =
+    on_err c.from_residual.result _
+    (unchanged_nodes (session_of c.args.engine.now) c.is_other_taken.new.nodes c.requires c.is_other_taken.ensures.same c.is_other_taken.ensures.paired)
 
 pub returns-in_err-make_room-clause-err : goal.returns-in_err-make_room-clause-err
 returns-in_err-make_room-clause-err c =

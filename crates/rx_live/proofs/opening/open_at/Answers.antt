@@ -1,9 +1,19 @@
 use Rattle.rx_live.proofs.Common.{◌≡◌, false, Option, Some, length, refl, sym, ap, ◌∙◌, subst, option_map, string_bytes, Name, Key, Accepts}
 use Rattle.rx_live.proofs.Common.{open_request, Spot, Binds, session_of, NamesOne, is_open_taken, BindsMade, BindsNode}
 use Rattle.rx_live.proofs.AcceptedBindsNames.{given_accepted, given_refused}
-use Rattle.rx_live.proofs.OpenedNodesGetNames.{unchanged_room, connection_free, on_err, with_book, opened_bound, opened_sound}
+use Rattle.rx_live.proofs.OpenedNodesGetNames.{unchanged_nodes, unchanged_room, connection_free, on_err, with_book, opened_bound, opened_sound}
 use Rattle.rx_live.proofs.opening.open_at.Goals as goal
 use Rattle.std.proofs.Common.{rules}
+
+pub returns-in_err-name-clause-err : goal.returns-in_err-name-clause-err
+returns-in_err-name-clause-err c =
+    on_err c.from_residual.result _
+    (unchanged_nodes (session_of c.args.engine.now) c.are_taken.new.nodes c.requires c.are_taken.ensures.same c.are_taken.ensures.paired)
+
+pub returns-in_err-connection-clause-err : goal.returns-in_err-connection-clause-err
+returns-in_err-connection-clause-err c =
+    on_err c.from_residual-in_err-connection.result _
+    (unchanged_nodes (session_of c.args.engine.now) c.are_taken.new.nodes c.requires c.are_taken.ensures.same c.are_taken.ensures.paired)
 
 pub returns-in_err-make_room-clause-err : goal.returns-in_err-make_room-clause-err
 returns-in_err-make_room-clause-err c =

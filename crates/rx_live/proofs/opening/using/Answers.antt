@@ -3,11 +3,21 @@ use Rattle.rx_live.proofs.Common.{site_of, State, Request, place_of, is_known_pl
 use Rattle.rx_live.proofs.Common.{has_resource}
 use Rattle.rx_live.proofs.Common.{NamesOne, place_at, using_asked, using_at, is_node, is_using_taken, BindsUsing}
 use Rattle.rx_live.proofs.AcceptedBindsNames.{is_new, tag_of_new, given_accepted, given_refused}
-use Rattle.rx_live.proofs.OpenedNodesGetNames.{unchanged_room, unchanged_rooms, unnamed_past, on_err, with_book, used_bound, used_sound}
+use Rattle.rx_live.proofs.OpenedNodesGetNames.{unchanged_nodes, unchanged_room, unchanged_rooms, unnamed_past, on_err, with_book, used_bound, used_sound}
 use Rattle.rx_live.proofs.opening.using.Goals as goal
 
 abbrev asked : State → At → (tag : ℕ) → (fresh : Bool) → Request
 asked book at tag fresh = record { call = OpeningUsing (place_of at) tag; is_known = is_known_place book.keys at; is_fresh = fresh }
+
+pub returns-in_err-name-clause-err : goal.returns-in_err-name-clause-err
+returns-in_err-name-clause-err c =
+    on_err c.from_residual.result _
+    (unchanged_nodes (session_of c.args.engine.now) c.is_taken.new.nodes c.requires c.is_taken.ensures.same c.is_taken.ensures.paired)
+
+pub returns-in_err-res-clause-err : goal.returns-in_err-res-clause-err
+returns-in_err-res-clause-err c =
+    on_err c.from_residual-in_err-res.result _
+    (unchanged_nodes (session_of c.args.engine.now) c.is_taken.new.nodes c.requires c.is_taken.ensures.same c.is_taken.ensures.paired)
 
 pub returns-in_err-make_room-clause-err : goal.returns-in_err-make_room-clause-err
 returns-in_err-make_room-clause-err c =
