@@ -17,11 +17,11 @@ use crate::hubs::{Hubs, no_hubs, note_hubs};
 use crate::nodes::{remark, remark_visits};
 use crate::reach::Visit;
 use crate::subscribers::{Subscribers, let_go, list_new, no_subscribers};
-use rx_event::{Event, Marks};
+use rx_event::Event;
+use rx_marks::Marks;
 use std::alloc::{AllocError, Global};
 
 /// What is kept of the nodes and the hubs.
-#[derive(Drop)]
 pub struct Nodes {
     /// The children of each node.
     pub children: Children,
@@ -35,6 +35,20 @@ pub struct Nodes {
     pub marks: Vec<Marks>,
     /// Numbers of nodes, among which is each that has to end or to close.
     pub due: Vec<usize>,
+}
+
+// Written out, so that where they are let go there is one call to prove, and not the drop of each list in turn.
+impl Drop for Nodes {
+    fn drop(self) {
+        let Nodes {
+            children: _children,
+            subscribers: _subscribers,
+            hubs: _hubs,
+            todo: _todo,
+            marks: _marks,
+            due: _due,
+        } = self;
+    }
 }
 
 /// The leaf that emits the item, if the event is one.

@@ -32,7 +32,8 @@ use crate::nodes::marks_at;
 use crate::openness::parent_of;
 use crate::reach::{Climb, reached};
 use crate::subscribers::{Subscribers, hub_connected_at};
-use rx_event::{Event, Kind, MOST_HUBS, MOST_NODES, Marks, Place, Refusal, Terminal};
+use rx_event::{Event, Kind, MOST_HUBS, MOST_NODES, Place, Refusal, Terminal};
+use rx_marks::Marks;
 use std::alloc::AllocError;
 
 /// How many nodes are open.

@@ -10,7 +10,6 @@ use std::alloc::{AllocError, Global};
 /// Lists by number: they lead from a node to its youngest child, from each child to the next older
 /// one, and from a node to its youngest inner observable. Each says one more than the number, and 0
 /// where there is none.
-#[derive(Drop)]
 pub struct Children {
     /// By node: its youngest child.
     pub youngest: Vec<u32>,
@@ -18,6 +17,17 @@ pub struct Children {
     pub older: Vec<u32>,
     /// By node: its youngest inner observable.
     pub inner: Vec<u32>,
+}
+
+// Written out, so that where they are let go there is one call to prove, and not the drop of each list in turn.
+impl Drop for Children {
+    fn drop(self) {
+        let Children {
+            youngest: _youngest,
+            older: _older,
+            inner: _inner,
+        } = self;
+    }
 }
 
 /// A list of so many zeros.

@@ -18,7 +18,8 @@ use crate::hubs::{Hubs, hub_ended};
 use crate::marks::is_marked;
 use crate::nodes::{marks_at, touched};
 use crate::subscribers::{Subscribers, hub_subscribed_at, number_by_word};
-use rx_event::{Event, Marks};
+use rx_event::Event;
+use rx_marks::Marks;
 use std::alloc::AllocError;
 
 /// Whether node `n` has to end, by its marks.

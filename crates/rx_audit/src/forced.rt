@@ -15,7 +15,8 @@ use crate::event_tests::{at, event_at};
 use crate::marks::is_marked;
 use crate::nodes::marks_at;
 use crate::subscribers::{hub_connected_at, hub_subscribed_at};
-use rx_event::{Event, Marks, Terminal};
+use rx_event::{Event, Terminal};
+use rx_marks::Marks;
 
 /// Whether the ends are the same.
 pub fn same_terminal(one: Terminal, other: Terminal) -> bool

@@ -17,7 +17,6 @@ use std::alloc::{AllocError, Global};
 
 /// What was found, by the number of a node, a resource or a lease. Each list has a place for every event
 /// that there will be.
-#[derive(Drop)]
 pub struct Found {
     /// The node is open.
     pub live: Vec<bool>,
@@ -31,6 +30,20 @@ pub struct Found {
     pub leases: Vec<u32>,
     /// The resource was handed out.
     pub taken: Vec<bool>,
+}
+
+// Written out, so that where it is let go there is one call to prove, and not the drop of each list in turn.
+impl Drop for Found {
+    fn drop(self) {
+        let Found {
+            live: _live,
+            live_count: _,
+            removed: _removed,
+            returned: _returned,
+            leases: _leases,
+            taken: _taken,
+        } = self;
+    }
 }
 
 /// A list of this many marks, none of which is set.

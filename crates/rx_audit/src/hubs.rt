@@ -13,7 +13,6 @@ use std::alloc::{AllocError, Global};
 
 /// Lists by the number of a hub: each says one more than the number of an event, and 0 where there is
 /// none.
-#[derive(Drop)]
 pub struct Hubs {
     /// Its last connection.
     pub connection: Vec<u32>,
@@ -23,6 +22,18 @@ pub struct Hubs {
     pub waiting: Option<u64>,
     /// How many hubs there are.
     pub count: usize,
+}
+
+// Written out, so that where they are let go there is one call to prove, and not the drop of each list in turn.
+impl Drop for Hubs {
+    fn drop(self) {
+        let Hubs {
+            connection: _connection,
+            ended: _ended,
+            waiting: _,
+            count: _,
+        } = self;
+    }
 }
 
 /// There are no hubs, with room for this many events.

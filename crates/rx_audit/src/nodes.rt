@@ -8,7 +8,8 @@ use crate::climb::{fired_at, projected_at};
 use crate::event_tests::at;
 use crate::openness::parent_of;
 use crate::reach::Visit;
-use rx_event::{Event, Marks, Place};
+use rx_event::{Event, Place};
+use rx_marks::Marks;
 use std::alloc::AllocError;
 
 /// The node whose marks the event changes, if it is no item.

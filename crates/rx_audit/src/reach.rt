@@ -26,7 +26,6 @@ pub struct Visit {
 
 /// What a climb for an item takes, kept for the next one, so that it asks for memory only where it
 /// grows.
-#[derive(Drop)]
 pub struct Climb {
     /// By node: where in the log its last entry may be. What stands there from items before does no
     /// harm, since the entry itself is looked at.
@@ -35,6 +34,17 @@ pub struct Climb {
     pub log: Vec<Visit>,
     /// The nodes above the one that is looked at.
     pub next: Vec<u64>,
+}
+
+// Written out, so that where it is let go there is one call to prove, and not the drop of each list in turn.
+impl Drop for Climb {
+    fn drop(self) {
+        let Climb {
+            entries: _entries,
+            log: _log,
+            next: _next,
+        } = self;
+    }
 }
 
 /// Nothing was climbed for yet, with room for this many events.

@@ -16,7 +16,6 @@ use std::alloc::{AllocError, Global};
 /// Lists by number that lead over the open subscribers of each hub: from a hub to its last one, and
 /// from each to the one before it and to the one after it. Each says one more than the number, and 0
 /// where there is none.
-#[derive(Drop)]
 pub struct Subscribers {
     /// By node: it is an open subscriber.
     pub listed: Vec<bool>,
@@ -26,6 +25,18 @@ pub struct Subscribers {
     pub before: Vec<u32>,
     /// By open subscriber: the one of its hub after it.
     pub after: Vec<u32>,
+}
+
+// Written out, so that where they are let go there is one call to prove, and not the drop of each list in turn.
+impl Drop for Subscribers {
+    fn drop(self) {
+        let Subscribers {
+            listed: _listed,
+            last: _last,
+            before: _before,
+            after: _after,
+        } = self;
+    }
 }
 
 /// The hub that node `k` subscribes to.

@@ -1,3 +1,2 @@
-pub mod WordsBack
 pub mod Laws
 pub mod Examples

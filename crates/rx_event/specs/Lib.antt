@@ -12,7 +12,6 @@ pub mod Notes
 pub mod Totals
 pub mod Forced
 pub mod Marks
-pub mod MarksInWords
 pub mod Allowed
 pub mod Lawful
 pub mod Calls

@@ -3,24 +3,21 @@
 //! Vocabulary: an `Event` is one accepted change, a `History` a list of them with a limit, and a
 //! `Base` what a checkpoint keeps of the events before it. The definitions in `specs/` say which
 //! nodes a history leaves open, which resources it leaves held or waiting and which leases it
-//! leaves out, what observers were told, what operators still have to do, and which histories are
-//! lawful. `Marks` are what a node remembers of what happened below it, so that its operator's
-//! rule can be told without the history. `Mail` is a note as it is handed out. `Refusal` names
-//! each cause for which a call changes nothing.
+//! leaves out, what observers were told, what operators still have to do, what a node has to remember
+//! for that, and which histories are lawful. `Mail` is a note as it is handed out. `Refusal` names each
+//! cause for which a call changes nothing.
 //!
 //! Promised: a history is the list of the events that were pushed, and has room for as many as
-//! were reserved. An event, a place and a kind answer what the definitions say of them; marks
-//! change as the definitions say. The laws over the definitions are contracts of public functions
-//! without a body. Not promised: that a history is lawful; that is for whoever keeps one.
+//! were reserved. An event, a place and a kind answer what the definitions say of them. The laws
+//! over the definitions are contracts of public functions without a body. Not promised: that a
+//! history is lawful; that is for whoever keeps one.
 #![tactic(auto)]
 
 mod base;
 mod event;
-mod flags;
 mod history;
 mod limits;
 mod mail;
-mod marks;
 mod refusal;
 mod stored;
 mod theorems;
@@ -30,7 +27,6 @@ pub use event::{Event, Kind, Mode, Place};
 pub use history::History;
 pub use limits::{MOST_HUBS, MOST_NODES, MOST_VISITS};
 pub use mail::Mail;
-pub use marks::Marks;
 pub use refusal::Refusal;
 pub use rx_note::Terminal;
 pub use theorems::{

@@ -42,10 +42,10 @@ pub use Rattle.rx_event.proofs.Laws.Totals.{is_open_new, accepted_count-parts, u
 pub use Rattle.rx_event.specs.{Allowed.taken, Claims.Nodes.IsOpenInner, Forced.none_waits, Forced.MayWait, Moments.is_projection, Notes.told}
 pub use Rattle.rx_event.specs.Causes.{has_connection, is_over, checkpoint_causes, connects_up_to, is_taken_place, is_unowed_place, is_wrong_place}
 pub use Rattle.rx_event.specs.{Events.named_by, Events.hub_connected, Events.inner_named, Events.source_named, Events.is_leaf, Refusals.first_cause}
-pub use Rattle.rx_event.specs.Marks.{after_child, touches, after_decline, after_notifier, after_source, after_inner}
+pub use Rattle.rx_event.specs.Marks.{Marks, after_child, touches, after_decline, after_notifier, after_source, after_inner}
 pub use Rattle.rx_event.specs.{Totals.lease_count, Totals.owed_count, Totals.item_count, Totals.owed_open, Totals.owned_count, Tree.has_open_child, Tree.hubs}
 pub use Rattle.rx_event.specs.declared.base.{BaseLease.BaseLease, BaseNode.BaseNode, BaseResource.BaseResource, BaseState.BaseState}
-pub use Rattle.rx_event.specs.declared.{event.Event.Event, event.Kind.Kind, event.Mode.Mode, event.Place.Place, mail.Mail.Mail, marks.Marks.Marks}
+pub use Rattle.rx_event.specs.declared.{event.Event.Event, event.Kind.Kind, event.Mode.Mode, event.Place.Place, mail.Mail.Mail}
 pub use Rattle.rx_event.specs.declared.event.Event.TheVariants.{Open, Connect, End, Item, Accept, Close, Lease, Return, Decline, Remove, Take, Use}
 pub use Rattle.rx_event.specs.declared.event.Kind.TheVariants.{Sub, Switch, Flat, Pass, Until}
 pub use Rattle.rx_event.specs.declared.event.Place.TheVariants.{Source, Notifier, Root, Inner}

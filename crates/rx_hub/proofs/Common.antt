@@ -20,7 +20,8 @@ pub use Rattle.rx_event.{proofs.Laws.Switches.is_open-inner_switch, proofs.Laws.
 pub use Rattle.rx_event.specs.{Events.hub_connected, Events.is_connect, declared.event.Event.Event, declared.event.Kind.Kind, declared.event.Mode.Mode}
 pub use Rattle.rx_event.specs.declared.event.{Event.TheVariants.Connect, Event.TheVariants.Open, Event.TheVariants.End, Event.TheVariants.Close, Place.Place}
 pub use Rattle.rx_event.specs.declared.event.Kind.TheVariants.{Sub, Flat, Leaf, Pass, Switch, Until}
-pub use Rattle.rx_event.specs.declared.{event.Mode.TheVariants.Auto, event.Mode.TheVariants.Manual, marks.Marks.Marks}
+pub use Rattle.rx_event.specs.declared.{event.Mode.TheVariants.Auto, event.Mode.TheVariants.Manual}
+pub use Rattle.rx_event.specs.Marks.{Marks}
 pub use Rattle.rx_event.specs.declared.event.Place.TheVariants.{Inner, Notifier, Root, Source}
 pub use Rattle.rx_hub.specs.Hubs.{Hub, Hubs, find_hub, at_hub, subscribed, disconnected, unsubscribed, IsPromised, connected, published_of, AreBelow, new_hub}
 pub use Rattle.rx_hub.specs.Hubs.{AreAbove, Rises, ended_never, with_published, without_end, without_key, IsFree, key_after, last_from, hub_as_kept, hub_of}

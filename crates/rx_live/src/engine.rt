@@ -12,7 +12,6 @@ use rx_resource::Token;
 use std::alloc::Global;
 
 /// A book, and the names of its nodes, of its hubs, of its resources and of its leases.
-#[derive(Drop)]
 pub struct Engine {
     pub alloc: Global,
     pub book: Book<Token>,
@@ -26,6 +25,23 @@ pub struct Engine {
     pub unnamed: Option<String>,
     /// What `list` tells of the events before the last checkpoint. No contract speaks of it.
     pub past: Past,
+}
+
+// Written out, so that where a session is let go there is one call to prove, and not the drop of each field in turn.
+impl Drop for Engine {
+    fn drop(self) {
+        let Engine {
+            alloc: _,
+            book: _book,
+            nodes: _nodes,
+            hubs: _hubs,
+            resources: _resources,
+            leases: _leases,
+            untold: _,
+            unnamed: _unnamed,
+            past: _past,
+        } = self;
+    }
 }
 
 impl Engine {

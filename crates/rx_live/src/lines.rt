@@ -36,11 +36,12 @@ impl Live {
         ensures fresh { IfOk result (λ live. IsNewSession (session live)) }
         ensures limit { IfOk result (λ live. (session live).book.limit ≡ max_events) }
     {
+        let kept = String::with_capacity(alloc, KEPT)?;
         Ok(Live {
             engine: Engine::new(alloc, max_events),
             scratch: Scratch::new(alloc),
             answer: None,
-            kept: String::with_capacity(alloc, KEPT)?,
+            kept,
         })
     }
 

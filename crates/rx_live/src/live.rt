@@ -16,7 +16,6 @@ pub(crate) const KEPT: usize = 4_608;
 /// when it is to be released.
 ///
 /// Contracts speak of its `session`: its book, and which names are bound (`specs/Session.antt`).
-#[derive(Drop)]
 pub struct Live {
     pub(crate) engine: Engine,
     /// What reading a line needs, kept from line to line.
@@ -27,4 +26,16 @@ pub struct Live {
     pub(crate) kept: String,
     ghost tied: { IsTied (session_of engine) },
     ghost roomy: { 4608 ≤ string_capacity kept },
+}
+
+// Written out, so that where a live book is let go there is one call to prove, and not the drop of each field in turn.
+impl Drop for Live {
+    fn drop(self) {
+        let Live {
+            engine: _engine,
+            scratch: _scratch,
+            answer: _answer,
+            kept: _kept,
+        } = self;
+    }
 }

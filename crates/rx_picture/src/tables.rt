@@ -15,7 +15,6 @@ use rx_event::Event;
 use std::alloc::{AllocError, Global};
 
 /// By number: the place of the first such event, and the number of events where there is none.
-#[derive(Drop)]
 pub struct Tables {
     /// Where the resource is removed.
     pub removed: Vec<usize>,
@@ -25,6 +24,18 @@ pub struct Tables {
     pub taken: Vec<usize>,
     /// Where the node is closed.
     pub ends: Vec<usize>,
+}
+
+// Written out, so that where the tables are let go there is one call to prove, and not the drop of each in turn.
+impl Drop for Tables {
+    fn drop(self) {
+        let Tables {
+            removed: _removed,
+            returned: _returned,
+            taken: _taken,
+            ends: _ends,
+        } = self;
+    }
 }
 
 /// The tables of the events.

@@ -9,9 +9,9 @@ pub use Rattle.rx_event.proofs.Laws.Common.{makes_node, option_or, take}
 pub use Rattle.std.proofs.{Math.Bool.not, Math.Seq.map-set_same, lemmas.Bool.cases_eq, lemmas.Bool.Decides.nat_tests, lemmas.List.get_or_past}
 pub use Rattle.std.proofs.lemmas.List.{Sorted.IsNonDecreasingBy-from_sort_by_key, Sums.count_by-le-length, Sums.sum_by-set}
 pub use Rattle.std.{proofs.lemmas.Option.option_and_then_some, specs.List.filter, specs.List.Sorted.IsPermutation, specs.Option.option_copied_mut}
-pub use Rattle.rx_event.specs.Marks.{after_child, after_decline, after_inner, after_notifier, after_projection, after_source}
+pub use Rattle.rx_event.specs.Marks.{Marks, after_child, after_decline, after_inner, after_notifier, after_projection, after_source}
 pub use Rattle.rx_event.specs.declared.{base.BaseNode.BaseNode, base.BaseResource.BaseResource, event.Event.Event}
-pub use Rattle.rx_event.specs.declared.{event.Event.TheVariants.Open, event.Event.TheVariants.Connect, marks.Marks.Marks}
+pub use Rattle.rx_event.specs.declared.{event.Event.TheVariants.Open, event.Event.TheVariants.Connect}
 pub use Rattle.rx_slots.proofs.Laws.JoinsLeavesMerges.{leaves_nothing, leaves_of, joins_of, merges_of}
 pub use Rattle.rx_slots.proofs.Laws.Links.{first_among, last_among, next_in, no_loop, previous_in, set_same, walk_leads}
 pub use Rattle.rx_slots.proofs.Laws.Places.{among_here, among_there, cases_place, without_none, among_cons, place_apart, among_without, or_true, few_places}

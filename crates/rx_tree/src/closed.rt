@@ -5,7 +5,8 @@ ghost use Rattle.rx_event.specs.Events.{hub_connected, hub_subscribed};
 
 use crate::made::Made;
 use crate::node::Node;
-use rx_event::{Event, Marks};
+use rx_event::Event;
+use rx_marks::Marks;
 use rx_slots::Key;
 use std::marker::Model;
 

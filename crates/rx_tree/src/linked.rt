@@ -12,7 +12,8 @@ use crate::counts::Counts;
 use crate::links::{Link, Place};
 use crate::made::{KindWord, Made, PlaceWord};
 use crate::node::Node;
-use rx_event::{Event, Marks, Terminal};
+use rx_event::{Event, Terminal};
+use rx_marks::Marks;
 use rx_slots::Key;
 use std::marker::Model;
 

@@ -1,6 +1,7 @@
 //! The record of an open node, and a resource in the store.
 
-use rx_event::{Event, Marks};
+use rx_event::Event;
+use rx_marks::Marks;
 use rx_slots::Key;
 
 /// The record of an open node.

@@ -23,7 +23,8 @@ use crate::linked::Record;
 use crate::links::{Link, Place};
 use crate::node::{Node, Stowed};
 use crate::store::{Store, Stored};
-use rx_event::{Marks, Terminal};
+use rx_event::Terminal;
+use rx_marks::Marks;
 use rx_slots::Key;
 use std::alloc::AllocError;
 

@@ -103,17 +103,21 @@ fn call_all_but_add(
     (cleared, group.dispose())
 }
 
-// Calls all where one block is left, which a request would break up: a small piece that is given back is
-// kept for requests of its size.
-fn call_at_one_block(rt: &impl Abort, alloc: Global, numbers: u64) -> Result<(), Fail> {
-    let mut group = Group::new(alloc);
+// Calls all of a group of so many where one block is left, which a request would break up: a small piece that is
+// given back is kept for requests of its size.
+fn call_at_one_block(
+    rt: &impl Abort,
+    alloc: Global,
+    group: &mut Group<u64>,
+    numbers: u64,
+) -> Result<(), Fail> {
     for number in 0..numbers {
         same(rt, told(group.add(number)), Ok(number));
     }
     let block: Vec<u8> = Vec::with_capacity(alloc, BLOCK)?;
     let _scarce = Scarce::new(alloc)?;
     drop(block);
-    let _out = call_all_but_add(rt, &mut group, numbers);
+    let _out = call_all_but_add(rt, group, numbers);
     assert!(rt; is_had(alloc, BLOCK));
     assert!(rt; is_had(alloc, 64));
     assert!(rt; !is_had(alloc, BLOCK));
@@ -122,6 +126,6 @@ fn call_at_one_block(rt: &impl Abort, alloc: Global, numbers: u64) -> Result<(),
 
 #[test]
 fn a_group_asks_for_memory_in_add_alone(rt: HostRuntime) -> Result<(), Fail> {
-    call_at_one_block(&rt, rt.alloc(), 3)?;
-    call_at_one_block(&rt, rt.alloc(), 10)
+    call_at_one_block(&rt, rt.alloc(), &mut Group::new(rt.alloc()), 3)?;
+    call_at_one_block(&rt, rt.alloc(), &mut Group::new(rt.alloc()), 10)
 }

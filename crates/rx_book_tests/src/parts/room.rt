@@ -94,12 +94,21 @@ fn four_records(alloc: Global) -> Result<Records<Sample>, AllocError> {
 }
 
 // Whether there is room for one more beside those where one block of so many bytes is left.
-fn is_met_by(alloc: Global, bytes: usize) -> Result<bool, AllocError> {
-    let mut records = four_records(alloc)?;
+fn has_room(
+    alloc: Global,
+    records: &mut Records<Sample>,
+    bytes: usize,
+) -> Result<bool, AllocError> {
     let block: Vec<u8> = Vec::with_capacity(alloc, bytes)?;
     let _scarce = Scarce::new(alloc)?;
     drop(block);
     Ok(records.reserve(1).is_ok())
+}
+
+// So beside four.
+fn is_met_by(alloc: Global, bytes: usize) -> Result<bool, AllocError> {
+    let mut records = four_records(alloc)?;
+    has_room(alloc, &mut records, bytes)
 }
 
 // Growing eightfold takes room for 32 records, of 40 bytes each, and for as many free slots, of 4 bytes, and numbers, of 8.

@@ -27,10 +27,10 @@ fn first_of_two(timeline: &mut Timeline<char>, a: u64, b: u64) -> Result<Option<
 }
 
 #[test]
-fn the_contracts_say_what_comes_first(rt: HostRuntime) -> Result<(), Fail> {
+fn the_contracts_say_what_comes_first(rt: HostRuntime) {
     let mut timeline = Timeline::new(rt.alloc());
-    same(&rt, first_of_two(&mut timeline, 8, 6)?, Some((6, 'b')));
-    Ok(())
+    let first = first_of_two(&mut timeline, 8, 6);
+    same(&rt, first, Ok(Some((6, 'b'))));
 }
 
 const ITEMS: u64 = 60;
@@ -125,38 +125,32 @@ fn take_all(
     Ok(taken)
 }
 
-// Fills both in want of memory, and takes all out. How many came out of the timeline, and how often memory was
-// refused to each.
+// Fills both in want of memory, which is refused to each more than twice, and takes all out.
 fn fill_and_take(
     rt: &impl Abort,
     alloc: Global,
     timeline: &mut Timeline<u64>,
     trampoline: &mut Trampoline<u64>,
-) -> Result<(u64, usize, usize), Fail> {
+) -> Result<(), Fail> {
     let scheduled = schedule_all(rt, alloc, timeline)?;
     let pushed = push_all(rt, alloc, trampoline)?;
-    Ok((
-        take_all(rt, alloc, timeline, trampoline)?,
-        scheduled,
-        pushed,
-    ))
+    let taken = take_all(rt, alloc, timeline, trampoline)?;
+    assert!(rt; taken == ITEMS && scheduled > 2 && pushed > 2);
+    Ok(())
 }
 
 #[test]
 fn taking_out_needs_no_memory(rt: HostRuntime) -> Result<(), Fail> {
     let mut timeline = Timeline::new(rt.alloc());
     let mut trampoline = Trampoline::new(rt.alloc());
-    let done = fill_and_take(&rt, rt.alloc(), &mut timeline, &mut trampoline);
-    let (taken, scheduled, pushed) = done?;
-    assert!(rt; taken == ITEMS && scheduled > 2 && pushed > 2);
-    Ok(())
+    fill_and_take(&rt, rt.alloc(), &mut timeline, &mut trampoline)
 }
 
 // Three items, of which two are due, and then one that is due at once: what comes by 7, and what is cancelled of
 // the one that does not.
 fn come_in_order(
     timeline: &mut Timeline<char>,
-) -> Result<([Option<(u64, char)>; 4], [Option<char>; 2]), Fail> {
+) -> Result<([Option<(u64, char)>; 4], [Option<char>; 2]), Why> {
     let late = timeline.schedule(10, 'a').map_err(reason)?;
     timeline.schedule(5, 'b').map_err(reason)?;
     timeline.schedule(5, 'c').map_err(reason)?;
@@ -168,10 +162,9 @@ fn come_in_order(
 }
 
 #[test]
-fn work_comes_out_by_due_time_then_by_order(rt: HostRuntime) -> Result<(), Fail> {
+fn work_comes_out_by_due_time_then_by_order(rt: HostRuntime) {
     let mut timeline = Timeline::new(rt.alloc());
-    let came = come_in_order(&mut timeline)?;
+    let came = come_in_order(&mut timeline);
     let in_order = [Some((5, 'b')), Some((5, 'c')), None, Some((7, 'd'))];
-    same(&rt, came, (in_order, [Some('a'), None]));
-    Ok(())
+    same(&rt, came, Ok((in_order, [Some('a'), None])));
 }

@@ -22,13 +22,23 @@ const LINES: [&str; 12] = [
 ];
 
 // What all answers tell of notes, of what is to be released, and of what was closed, which is not said again.
-#[derive(Drop)]
 struct Told {
     notes: String,
     released: String,
     closed: String,
     // Whether memory was refused for nothing of the answer to the line at which it was scarce.
     is_whole: bool,
+}
+
+impl Drop for Told {
+    fn drop(self) {
+        let Told {
+            notes: _notes,
+            released: _released,
+            closed: _closed,
+            is_whole: _,
+        } = self;
+    }
 }
 
 // Puts behind what was told what a member of an answer has between its brackets.

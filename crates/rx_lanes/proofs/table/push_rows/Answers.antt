@@ -1,4 +1,4 @@
-use Rattle.std.proofs.Common.{◌≡◌, ◌∙◌, ◌+◌, ◌++◌, ◌∷◌, [], sym, ap, subst, arith, List, Option, None, length, length-append}
+use Rattle.std.proofs.Common.{◌∙◌, ◌+◌, ◌++◌, ◌∷◌, [], sym, ap, subst, arith, List, Option, None, length, length-append}
 use Rattle.rx_lanes.specs.declared.table.Row.{Row}
 use Rattle.rx_lanes.specs.Rows.{no_row, Pushes}
 use Rattle.rx_lanes.proofs.RowsShowLanes.{pushes_more}

@@ -1,7 +1,7 @@
 //! Two flags in one byte.
 
 ghost use Rattle.std.specs.Prelude.{◌≡◌, true};
-ghost use Rattle.rx_event.specs.MarksInWords.{two_of, first_in, second_in};
+ghost use Rattle.rx_marks.specs.MarksInWords.{two_of, first_in, second_in};
 
 /// Which of two flags are set.
 #[derive(Clone, Copy, Debug, PartialEq, Eq)]

@@ -1,6 +1,6 @@
 -- Words tell the marks that they were made of.
 use Rattle.rx_event.proofs.Laws.Common.{◌≡◌, Bool}
-use Rattle.rx_event.specs.MarksInWords.{two_of, first_in, second_in}
+use Rattle.rx_marks.specs.MarksInWords.{two_of, first_in, second_in}
 use Rattle.std.proofs.Common.{rules}
 
 pub first_back : (a b : Bool) → first_in (two_of a b) ≡ a

@@ -2,9 +2,9 @@
 use Rattle.std.specs.Prelude.{◌≡◌, ℕ, Bool, true, false, Option, Some, None, refl}
 use Rattle.rx_note.specs.declared.Terminal.{Terminal}
 use Rattle.rx_note.specs.declared.Terminal.TheVariants.{Completed, Error}
-use Rattle.rx_event.specs.declared.flags.Two.{Two}
-use Rattle.rx_event.specs.declared.marks.EndWord.{EndWord}
-use Rattle.rx_event.specs.declared.marks.Marks.TheInside.{Inside}
+use Rattle.rx_marks.specs.declared.flags.Two.{Two}
+use Rattle.rx_marks.specs.declared.marks.EndWord.{EndWord}
+use Rattle.rx_marks.specs.declared.marks.Marks.TheInside.{Inside}
 use Rattle.rx_event.specs.Marks.{Marks}
 
 -- two flags in one word
