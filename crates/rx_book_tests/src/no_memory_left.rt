@@ -117,16 +117,22 @@ fn subscribed_twice(book: &mut Probe<Sample>) -> Result<Key, Fail> {
     Ok(root.key)
 }
 
+// A resource that waits, and another that is leased: its key, that of the lowest node, and the lease.
+fn leased(book: &mut Probe<Sample>) -> Result<(Key, ResKey, LeaseKey), Fail> {
+    let (lowest, removed) = using_two(book)?;
+    let (_, waiting) = using_two(book)?;
+    book.remove(waiting)?;
+    let lease = book.lease(removed)?;
+    Ok((lowest, removed, lease))
+}
+
 // Some of each kind of node, a resource that waits, and what is to be called, in turn or alone.
 pub(super) fn new_closings(book: &mut Probe<Sample>) -> Result<(Key, [Closing; CLOSINGS]), Fail> {
     let flat = owing_two(book)?;
     let hub = connected_by_hand(book)?;
     let _ = connected_by_hand(book)?;
-    let (lowest, removed) = using_two(book)?;
     let disposed = subscribed_twice(book)?;
-    let (_, waiting) = using_two(book)?;
-    book.remove(waiting)?;
-    let lease = book.lease(removed)?;
+    let (lowest, removed, lease) = leased(book)?;
     let leaf = book.open(At::Root, Kind::Leaf)?.key;
     let closings = [
         Closing::Remove(removed),

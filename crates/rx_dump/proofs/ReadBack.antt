@@ -3,7 +3,7 @@ use Rattle.rx_dump.proofs.Common.{◌≡◌, pos, true, List, [], ◌∷◌, Som
 use Rattle.rx_dump.proofs.Common.{Root, Source, Inner, Notifier, Kind, Leaf, Auto, Event, Open, Hub, Item, End, has_count, event_of, each_event, history_of}
 use Rattle.rx_dump.specs.History.{word_at, number_element, value_element, only_number, plain_kind, kind_from, place_below, open_below, open_by, open_event_of}
 use Rattle.rx_dump.specs.History.{terminal_by}
-use Rattle.rx_dump.specs.History.{end_event_of, mode_by_word, hub_of, accept_of, item_event_of, event_by_word}
+use Rattle.rx_dump.specs.History.{end_event_of, mode_by_word, hub_of, accept_of, item_event_of, resource_event_by, event_by_word}
 use Rattle.rx_dump.specs.Claims.Dumps.{kind_parts, event_data, history_data, is_in_range}
 
 kind_after_two : (a b : Data) (kind : Kind) → kind_from 2 (array (items_of (a ∷ b ∷ kind_parts kind))) ≡ Some kind
@@ -24,7 +24,7 @@ open_read (Inner n) kind = ap (option_map (Open (Inner n))) (kind_after_three _ 
 open_read (Notifier n) kind = ap (option_map (Open (Notifier n))) (kind_after_three _ _ _ kind)
 
 event_read : (e : Event) → is_in_range e ≡ true → event_of (event_data e) ≡ Some e
-unfolding event_of event_by_word hub_of mode_by_word accept_of item_event_of end_event_of terminal_by only_number has_count word_at number_element value_element
+unfolding event_of event_by_word resource_event_by hub_of mode_by_word accept_of item_event_of end_event_of terminal_by only_number has_count word_at number_element value_element
 event_read (Open place kind) h = open_read place kind
 event_read (Hub Auto) h = refl
 event_read (Item leaf (pos n)) h = rw h refl

@@ -111,22 +111,27 @@ item_event_of d = if has_count 3 d then option_and_then (λ n. option_map (Item 
 
 -- histories ---------------------------------------------------------------------------------------
 
+unfoldable pub resource_event_by : List ℕ → Data → Option Event
+resource_event_by word d =
+    if bytes_eq word (codes "accept") then accept_of d
+    else if bytes_eq word (codes "use") then option_map Use (only_number d)
+    else if bytes_eq word (codes "remove") then option_map Remove (only_number d)
+    else if bytes_eq word (codes "lease") then option_map Lease (only_number d)
+    else if bytes_eq word (codes "return") then option_map Return (only_number d)
+    else if bytes_eq word (codes "take") then option_map Take (only_number d)
+    else None
+
+-- an event of a node or a hub, or by another word of a resource
 unfoldable pub event_by_word : List ℕ → Data → Option Event
 event_by_word word d =
     if bytes_eq word (codes "open") then open_event_of d
     else if bytes_eq word (codes "hub") then hub_of d
     else if bytes_eq word (codes "connect") then option_map Connect (only_number d)
-    else if bytes_eq word (codes "accept") then accept_of d
-    else if bytes_eq word (codes "use") then option_map Use (only_number d)
-    else if bytes_eq word (codes "remove") then option_map Remove (only_number d)
-    else if bytes_eq word (codes "lease") then option_map Lease (only_number d)
-    else if bytes_eq word (codes "return") then option_map Return (only_number d)
     else if bytes_eq word (codes "item") then item_event_of d
     else if bytes_eq word (codes "decline") then option_map Decline (only_number d)
     else if bytes_eq word (codes "end") then end_event_of d
     else if bytes_eq word (codes "close") then option_map Close (only_number d)
-    else if bytes_eq word (codes "take") then option_map Take (only_number d)
-    else None
+    else resource_event_by word d
 
 -- the event, by its first part
 unfoldable pub event_of : Data → Option Event

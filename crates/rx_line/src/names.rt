@@ -17,10 +17,19 @@ pub struct Spot {
 }
 
 /// A name that is to be bound, once for each way.
-#[derive(Drop)]
 pub struct Twice {
     one: String,
     other: String,
+}
+
+// Written out, so that where one is let go there is one call to prove, and not the drop of each name.
+impl Drop for Twice {
+    fn drop(self) {
+        let Twice {
+            one: _one,
+            other: _other,
+        } = self;
+    }
 }
 
 /// A space of names, each of which stands for one number: from the name to where that lies, and from the
@@ -51,6 +60,15 @@ impl Twice {
     {
         let other = name.clone()?;
         Ok(Twice { one: name, other })
+    }
+
+    // The name, and the name once more.
+    fn into_both(self) -> (String, String)
+        ensures one { string_bytes result.0 ≡ self }
+        ensures other { string_bytes result.1 ≡ self }
+    {
+        let Twice { one, other } = self;
+        (one, other)
     }
 }
 
@@ -109,7 +127,7 @@ impl Names {
         ensures binds { Binds self.old name spot self.new }
         ensures room { room_for_names self.old ≤ room_for_names self.new + 1 }
     {
-        let Twice { one, other } = name;
+        let (one, other) = name.into_both();
         let number = spot.number;
         let Ok(_) = self.by_name.insert(one, spot) else {
             unreachable!()

@@ -31,10 +31,19 @@ enum Part {
 
 // What is counted before the text is written: what the events tell, and how many of the nodes that are listed
 // subscribe to each hub.
-#[derive(Drop)]
 struct Sight {
     seen: Seen,
     subscribers: Counts,
+}
+
+// Written out, so that where one is let go there is one call to prove, and not the drop of each field in turn.
+impl Drop for Sight {
+    fn drop(self) {
+        let Sight {
+            seen: _seen,
+            subscribers: _subscribers,
+        } = self;
+    }
 }
 
 // The hub that an open node subscribes to.

@@ -16,12 +16,23 @@ use std::collections::HashMap;
 
 /// What is told of the events before the last checkpoint: what made all nodes, hubs and leases that have names,
 /// the node and the uses of each resource that has one, and the hub of each connection that is open.
-#[derive(Drop)]
 pub struct Past {
     made: HashMap<u64, Event>,
     holders: Counts,
     uses: Counts,
     connections: Counts,
+}
+
+// Written out, so that where one is let go there is one call to prove, and not the drop of each field in turn.
+impl Drop for Past {
+    fn drop(self) {
+        let Past {
+            made: _made,
+            holders: _holders,
+            uses: _uses,
+            connections: _connections,
+        } = self;
+    }
 }
 
 impl Past {
@@ -152,6 +163,6 @@ pub fn past_of<R: Resource>(
         made,
         holders,
         uses,
-        connections: seen.connections,
+        connections: seen.into_connections(),
     })
 }

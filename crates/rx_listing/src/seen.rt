@@ -14,13 +14,33 @@ use rx_book::{Book, Event, Resource};
 use std::alloc::AllocError;
 
 /// How often each resource was used, and the hub of each connection that is open.
-#[derive(Drop)]
 pub struct Seen {
     pub uses: Counts,
     pub connections: Counts,
 }
 
+// Written out, so that where one is let go there is one call to prove, and not the drop of each field in turn.
+impl Drop for Seen {
+    fn drop(self) {
+        let Seen {
+            uses: _uses,
+            connections: _connections,
+        } = self;
+    }
+}
+
 impl Seen {
+    /// The hub of each connection that is open.
+    pub fn into_connections(self) -> Counts
+        ensures { result ≡ self.connections }
+    {
+        let Seen {
+            uses: _uses,
+            connections,
+        } = self;
+        connections
+    }
+
     // Takes in the event at a place. A connection stands below no node, so that it is open until an event of its
     // own.
     fn see(&mut self, place: u64, event: Event) -> Result<(), AllocError>

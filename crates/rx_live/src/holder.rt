@@ -89,11 +89,13 @@ pub fn open_holding(
     ensures err { OnErr result (IsUnchanged (session_of engine.old) (session_of engine.new)) }
     ensures want { IfOk result (λ o. o ≢ Refused (CauseOf.Book NoMemory)) }
 {
+    let kind = kind_of_sort(engine, &sort);
+    let connection = connection_name(sort);
     let Some(place) = place_at(engine, site) else {
         return Ok(Outcome::Refused(Cause::NoName));
     };
-    let Some(kind) = kind_of_sort(engine, &sort) else {
+    let Some(kind) = kind else {
         return Ok(Outcome::Refused(Cause::NoName));
     };
-    open_holding_at(engine, name, connection_name(sort), place, kind, res)
+    open_holding_at(engine, name, connection, place, kind, res)
 }

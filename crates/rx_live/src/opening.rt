@@ -234,13 +234,15 @@ pub fn open(
     ensures err { OnErr result (IsUnchanged (session_of engine.old) (session_of engine.new)) }
     ensures want { IfOk result (λ o. o ≢ Refused (CauseOf.Book NoMemory)) }
 {
+    let kind = kind_of_sort(engine, &sort);
+    let connection = connection_name(sort);
     let Some(place) = place_at(engine, site) else {
         return Ok(Outcome::Refused(Cause::NoName));
     };
-    let Some(kind) = kind_of_sort(engine, &sort) else {
+    let Some(kind) = kind else {
         return Ok(Outcome::Refused(Cause::NoName));
     };
-    open_at(engine, name, connection_name(sort), place, kind)
+    open_at(engine, name, connection, place, kind)
 }
 
 /// A mirroring node is opened with a resource of the caller's.

@@ -4,9 +4,11 @@ ghost use Rattle.std.specs.Prelude.{◌≡◌, ◌≤◌, ◌+◌, ◌++◌, ◌
 ghost use Rattle.std.specs.String.{string_capacity};
 ghost use Rattle.rx_device.specs.Part.{part_data};
 ghost use Rattle.rx_line.specs.Orders.{task_of, order_in};
+ghost use Rattle.rx_line.specs.Pieces.{ok_text};
 ghost use Rattle.rx_live.specs.Session.{session_of, IsSound};
 ghost use Rattle.rx_live.specs.Given.{IsUnchanged, IsAlike};
 ghost use Rattle.rx_live.specs.Answers.{late_text};
+ghost use Rattle.rx_live.specs.Openings.{connected_by};
 ghost use Rattle.rx_live.specs.Renewals.{Renews, may_renew};
 ghost use Rattle.rx_live.specs.Lines.{TellsAll, CarriesOut, FindsFull, WaitsFor, AnswersAsked, EndsSession};
 ghost use Rattle.rx_live.specs.Taken.{is_full_cause, IsFullByAge, Answered, WritesAnswer, Tries};
@@ -71,6 +73,26 @@ fn make_place(text: &mut String, front: &str, said: &str, rest: u32) -> Result<(
     text.reserve(wanted.saturating_add(rest as usize + ROOM))
 }
 
+// The front of the answer to a task that is done, and what is said then of a connection; with room for both, for
+// what may be said behind them and for what closes the answer.
+fn front_of(
+    engine: &Engine,
+    task: &Task,
+    text: &mut String,
+    rest: u32,
+) -> Result<(String, String), AllocError>
+    ensures front { IfOk result (λ f. string_bytes f.0 ≡ ok_text (length engine.now.book.history)) }
+    ensures said { IfOk result (λ f. string_bytes f.1 ≡ connected_by (task_of task.now)) }
+    ensures made { IfOk result (λ f. HasRoom (length (string_bytes f.0) + (length (string_bytes f.1) + (rest + 29))) text.new) }
+    ensures same { string_bytes text.new ≡ string_bytes text.old }
+    ensures kept { HasRoom rest text.old → HasRoom rest text.new }
+{
+    let connected = connected_by(engine.alloc, task)?;
+    let placed = ok_text(engine.alloc, engine.book.len())?;
+    make_place(text, placed.as_str(), connected.as_str(), rest)?;
+    Ok((placed, connected))
+}
+
 // Whether the history is full by its age, so that a checkpoint makes room: an event was written since the last
 // one, and there is a place for one more.
 fn may_renew(engine: &Engine) -> bool
@@ -121,11 +143,13 @@ fn carry_out(
     ensures sound { IsSound (session_of engine.new) }
     ensures room { HasRoom rest text.new }
 {
-    let connected = connected_by(engine.alloc, &task)?;
-    let said = connected.as_str();
-    let placed = ok_text(engine.alloc, engine.book.len())?;
+    let Ok((placed, connected)) = front_of(engine, &task, text, rest) else {
+        // By a call: in place, the drop of each kind of task would be proved here.
+        drop(task);
+        return Err(AllocError);
+    };
     let front = placed.as_str();
-    make_place(text, front, said, rest)?;
+    let said = connected.as_str();
     let behind = engine.place_behind();
     let closing = closing_of(engine, &task);
     match act(engine, task)? {

@@ -9,9 +9,15 @@ use commands::{hub, run};
 use rx_engine::Engine;
 use std::alloc::Global;
 
+// Prints the number of a hub.
+fn show_hub(rt: &impl Print, alloc: Global) -> Result<(), Stopped> {
+    println!(rt; "a hub has the number {}", hub(alloc)?)?;
+    Ok(())
+}
+
 /// Prints it.
 pub fn show(rt: &impl Print, alloc: Global) -> Result<(), Stopped> {
-    println!(rt; "a hub has the number {}", hub(alloc)?)?;
+    show_hub(rt, alloc)?;
     let mut engine = Engine::new(alloc, 1_000_000);
     run(rt, &mut engine)
 }

@@ -140,20 +140,34 @@ fn list<R: Files + AllocGlobal + Clone + Drop>(
     Ok(())
 }
 
-// Replays what is stored in the folders, and tries the texts.
-fn replay_all<R: Files + AllocGlobal + Clone + Drop + Print>(rt: &R) -> io::Result<()> {
-    let mut paths = Vec::new(rt.alloc());
+// Lists the paths of all files in the folders, in order.
+fn list_all<R: Files + AllocGlobal + Clone + Drop>(
+    rt: &R,
+    paths: &mut Vec<String>,
+) -> io::Result<()> {
     for folder in [".", "cases", "histories", "mistakes", "pictures"] {
-        list(rt, folder, &mut paths)?;
+        list(rt, folder, paths)?;
     }
     paths.sort()?;
-    for path in paths.as_slice() {
-        replay(rt, path.as_str(), paths.as_slice())?;
-    }
+    Ok(())
+}
+
+// Tries all texts.
+fn try_all<R: Files + AllocGlobal + Print>(rt: &R) -> io::Result<()> {
     for &(path, asked, is_taken) in &TEXTS {
         try_lines(rt, path, asked, is_taken)?;
     }
     Ok(())
+}
+
+// Replays what is stored in the folders, and tries the texts.
+fn replay_all<R: Files + AllocGlobal + Clone + Drop + Print>(rt: &R) -> io::Result<()> {
+    let mut paths = Vec::new(rt.alloc());
+    list_all(rt, &mut paths)?;
+    for path in paths.as_slice() {
+        replay(rt, path.as_str(), paths.as_slice())?;
+    }
+    try_all(rt)
 }
 
 fn main(rt: HostRuntime) -> Result<(), Stopped> {

@@ -260,27 +260,38 @@ drain_of d = if is_step_of [] d then Some drain else None
 unfoldable pub checkpoint_of : Data → Option Command
 checkpoint_of d = if is_step_of [] d then Some checkpoint else None
 
-unfoldable pub command_by : List ℕ → Data → Option Command
-command_by what d =
-    if bytes_eq what (codes "using") then using_command_of d
-    else if bytes_eq what (codes "open") then open_command_of d
-    else if bytes_eq what (codes "hold") then hold_of d
-    else if bytes_eq what (codes "apply") then apply_of d
-    else if bytes_eq what (codes "remove") then remove_of d
-    else if bytes_eq what (codes "lease") then lease_command_of d
-    else if bytes_eq what (codes "return") then return_of d
+-- what is done with a hub, or with the book
+unfoldable pub book_command_by : List ℕ → Data → Option Command
+book_command_by what d =
+    if bytes_eq what (codes "hub") then hub_of d
+    else if bytes_eq what (codes "connect") then connect_of d
+    else if bytes_eq what (codes "disconnect") then disconnect_of d
+    else if bytes_eq what (codes "drain") then drain_of d
+    else if bytes_eq what (codes "checkpoint") then checkpoint_of d
+    else None
+
+-- what is done with a node, or by another word with a hub or the book
+unfoldable pub node_command_by : List ℕ → Data → Option Command
+node_command_by what d =
+    if bytes_eq what (codes "open") then open_command_of d
     else if bytes_eq what (codes "next") then next_of d
     else if bytes_eq what (codes "end") then end_command_of d
     else if bytes_eq what (codes "abort") then abort_of d
     else if bytes_eq what (codes "decline") then decline_of d
     else if bytes_eq what (codes "fail") then fail_of d
     else if bytes_eq what (codes "dispose") then dispose_of d
-    else if bytes_eq what (codes "hub") then hub_of d
-    else if bytes_eq what (codes "connect") then connect_of d
-    else if bytes_eq what (codes "disconnect") then disconnect_of d
-    else if bytes_eq what (codes "drain") then drain_of d
-    else if bytes_eq what (codes "checkpoint") then checkpoint_of d
-    else None
+    else book_command_by what d
+
+-- what is done with a resource, or by another word with anything else
+unfoldable pub command_by : List ℕ → Data → Option Command
+command_by what d =
+    if bytes_eq what (codes "using") then using_command_of d
+    else if bytes_eq what (codes "hold") then hold_of d
+    else if bytes_eq what (codes "apply") then apply_of d
+    else if bytes_eq what (codes "remove") then remove_of d
+    else if bytes_eq what (codes "lease") then lease_command_of d
+    else if bytes_eq what (codes "return") then return_of d
+    else node_command_by what d
 
 unfoldable pub cancel_of : Data → Option Action
 cancel_of d = if is_step_of (codes "step" ∷ []) d then option_map cancel (name_in (codes "step") d) else None

@@ -78,7 +78,7 @@ fn bind<R: Resource>(
     match command {
         Command::Open {
             name,
-            place: _,
+            place: _place,
             kind,
         } => match given {
             Given::Opened(opened) => {
@@ -87,7 +87,7 @@ fn bind<R: Resource>(
             }
             _ => Ok(()),
         },
-        Command::Lease { res: _, name } => match given {
+        Command::Lease { res: _res, name } => match given {
             Given::Leased(lease) => engine.leases.bind(name, lease),
             _ => Ok(()),
         },
@@ -95,7 +95,7 @@ fn bind<R: Resource>(
             Given::Place(number) => engine.hubs.bind(name, number),
             _ => Ok(()),
         },
-        Command::Connect { hub: _, name } => match given {
+        Command::Connect { hub: _hub, name } => match given {
             Given::Connected(connection) => bind_connection(
                 &mut engine.nodes,
                 name,
@@ -103,20 +103,26 @@ fn bind<R: Resource>(
             ),
             _ => Ok(()),
         },
-        _ => Ok(()),
+        other => {
+            drop(other);
+            Ok(())
+        }
     }
 }
 
-// Makes the call of a command.
+// Makes the call of a command. Where it ends early, it lets the command go by a call: in place, the drop of each kind of
+// command would be proved once more.
 fn ask<R: Resource>(engine: &mut Engine<R>, command: Command) -> Result<Answer, AllocError>
     requires sound { IsSound engine.old }
     requires asked { is_asked (command_of command) ≡ true }
     ensures { IfOk result (λ a. CarriesStep engine.old (command_of command) a engine.new) }
 {
     let Some(call) = keyed_call(engine, &command) else {
+        drop(command);
         return Ok(Answer::Refused(Cause::NoName));
     };
     if rebinds(engine, &command) {
+        drop(command);
         return Ok(Answer::Refused(Cause::NameTaken));
     }
     match engine.book.ask(call) {
@@ -125,7 +131,10 @@ fn ask<R: Resource>(engine: &mut Engine<R>, command: Command) -> Result<Answer, 
             bind(engine, command, given)?;
             Ok(Answer::Accepted)
         }
-        Err(why) => refused(why),
+        Err(why) => {
+            drop(command);
+            refused(why)
+        }
     }
 }
 

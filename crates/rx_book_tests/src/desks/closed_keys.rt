@@ -1,7 +1,7 @@
 //! That what is closed refuses, from eight threads at the same time.
 
 use super::desk_calls::{Call, Deed, NO_SLOTS, key_of, make_all};
-use super::parts::tell;
+use super::parts::{seats_beside, tell};
 use super::trials::{Trial, assert_all};
 use rx_book::{Key, Refused, ResKey};
 use rx_crew::Desk;
@@ -76,10 +76,7 @@ pub(super) fn eight_refused<
     let mut slots = NO_SLOTS;
     let mut first = make_all(rt, alloc, desk, first, &mut slots, &CLOSES, told);
     let closed = key_of(&slots, 0);
-    let mut seats = Vec::new(alloc);
-    for _ in 0..8u32 {
-        seats.push(first.split()?).ok()?;
-    }
+    let seats = seats_beside(alloc, &mut first, 8)?;
     let rounds = thread::map_vec(rt, seats, &|seat| refused_rounds(rt, desk, seat, closed)).ok()?;
     tell(told, rounds.as_slice());
     Some(first)

@@ -250,6 +250,36 @@ fn take_one<I: Ledger, A: Ledger, K: Ledger>(
     Some((released.number, released.tag, released.spent.uses()))
 }
 
+// The answer of a call that is answered with a number or a refusal; of another call None, and it is not made.
+fn answer_of<I: Ledger, A: Ledger, K: Ledger>(
+    floor: &mut Floor<Sample, I, A, K>,
+    seat: &mut Seat<I, A, K>,
+    slots: &mut Slots,
+    call: Call,
+) -> Option<Result<u64, Refusal>> {
+    match call {
+        Call::Using(place, tag) => {
+            let at = at_of(slots, place);
+            Some(open_with(floor, seat, slots, at, tag))
+        }
+        Call::Holding(place, kind, tag) => {
+            let at = at_of(slots, place);
+            Some(open_holding(floor, seat, slots, (at, kind), tag))
+        }
+        Call::Hold(node, tag) => {
+            let node = key_of(slots, node);
+            Some(hold_at(floor, seat, slots, node, tag))
+        }
+        Call::At(node, deed) => {
+            let node = key_of(slots, node);
+            Some(do_at(floor, seat, node, deed))
+        }
+        Call::On(number, deed) => Some(do_on(floor, slots, number, deed)),
+        Call::Hub(deed) => Some(do_hub(floor, slots, deed)),
+        _ => None,
+    }
+}
+
 // Makes a call, and tells its answer.
 fn make_call<I: Ledger, A: Ledger, K: Ledger>(
     floor: &mut Floor<Sample, I, A, K>,
@@ -260,27 +290,13 @@ fn make_call<I: Ledger, A: Ledger, K: Ledger>(
 ) {
     match call {
         Call::Open(place, kind) => open_node(floor, slots, place, kind, told),
-        Call::Using(place, tag) => {
-            let at = at_of(slots, place);
-            tell(told, open_with(floor, seat, slots, at, tag));
-        }
-        Call::Holding(place, kind, tag) => {
-            let at = at_of(slots, place);
-            tell(told, open_holding(floor, seat, slots, (at, kind), tag));
-        }
-        Call::Hold(node, tag) => {
-            let node = key_of(slots, node);
-            tell(told, hold_at(floor, seat, slots, node, tag));
-        }
-        Call::At(node, deed) => {
-            let node = key_of(slots, node);
-            tell(told, do_at(floor, seat, node, deed));
-        }
-        Call::On(number, deed) => tell(told, do_on(floor, slots, number, deed)),
-        Call::Hub(deed) => tell(told, do_hub(floor, slots, deed)),
         Call::Ask(asked) => ask_floor(floor, asked, told),
         Call::Take => tell(told, take_one(floor, seat)),
-        Call::Feed(..) => {}
+        _ => {
+            if let Some(answer) = answer_of(floor, seat, slots, call) {
+                tell(told, answer);
+            }
+        }
     }
 }
 

@@ -1,7 +1,7 @@
 //! Threads that could go on for ever at a book with little room: four of them feed, and a keeper takes the mail
 //! and makes a checkpoint each time enough events are stored.
 
-use super::parts::tell;
+use super::parts::{seats_beside, tell};
 use super::ticks::Ticks;
 use super::trials::{Trial, assert_all};
 use rx_book::{At, Key};
@@ -118,7 +118,31 @@ fn open_leaf<I: Ledger, A: Ledger, K: Ledger>(
     }
 }
 
-// Feeds a leaf of its own, a round each time no checkpoint is due, and completes it. None where a call is refused.
+// Feeds a round of items, once no checkpoint is due. None where the feed is refused.
+fn feed_round<I: Ledger, A: Ledger, K: Ledger>(
+    rt: &impl Wait,
+    alloc: Global,
+    desk: &Desk<Sample, I, A, K>,
+    seat: Seat<I, A, K>,
+    leaf: Key,
+    begin: &AtomicU64,
+) -> Option<Seat<I, A, K>> {
+    let floor = desk.floor.lock(rt);
+    let floor = desk.bell.wait_while(rt, floor, |floor| {
+        !floor.is_shut() && OFTEN <= stored(floor, begin)
+    });
+    drop(floor);
+    let mut source = Ticks::of(ITEMS, Terminal::Completed);
+    let fed = feed(rt, alloc, desk, seat, leaf, &mut source, u64::from(ITEMS));
+    desk.bell.notify_all();
+    let seat = fed.seat;
+    if let Stop::Refused(_) = fed.stop {
+        return None;
+    }
+    Some(seat)
+}
+
+// Feeds a leaf of its own, round by round, and completes it. None where a call is refused.
 fn feed_rounds<I: Ledger, A: Ledger, K: Ledger>(
     rt: &impl Wait,
     alloc: Global,
@@ -128,18 +152,7 @@ fn feed_rounds<I: Ledger, A: Ledger, K: Ledger>(
 ) -> Option<Seat<I, A, K>> {
     let leaf = open_leaf(&mut desk.floor.lock(rt), &mut seat)?;
     for _ in 0..ROUNDS {
-        let floor = desk.floor.lock(rt);
-        let floor = desk.bell.wait_while(rt, floor, |floor| {
-            !floor.is_shut() && OFTEN <= stored(floor, begin)
-        });
-        drop(floor);
-        let mut source = Ticks::of(ITEMS, Terminal::Completed);
-        let fed = feed(rt, alloc, desk, seat, leaf, &mut source, u64::from(ITEMS));
-        desk.bell.notify_all();
-        seat = fed.seat;
-        if let Stop::Refused(_) = fed.stop {
-            return None;
-        }
+        seat = feed_round(rt, alloc, desk, seat, leaf, begin)?;
     }
     let ended = desk.floor.lock(rt).end(leaf, Terminal::Completed);
     desk.bell.notify_all();
@@ -168,6 +181,17 @@ fn feed_all<
     fed
 }
 
+// Merges the seat of each feed into the first one. None where a feed was refused.
+fn merge_all<I: Ledger, A: Ledger, K: Ledger>(
+    first: &mut Seat<I, A, K>,
+    fed: Fed<I, A, K>,
+) -> Option<()> {
+    for seat in fed {
+        first.merge(seat?);
+    }
+    Some(())
+}
+
 // The keeper in one thread, and the feeds in others. Tells what the keeper did; the checkpoints, and the most that
 // was stored, are as the threads come.
 pub(super) fn storm<
@@ -184,10 +208,7 @@ pub(super) fn storm<
 ) -> Option<Seat<I, A, K>> {
     let begin = AtomicU64::new(0);
     let at = &begin;
-    let mut seats = Vec::new(alloc);
-    for _ in 0..FEEDS {
-        seats.push(first.split()?).ok()?;
-    }
+    let seats = seats_beside(alloc, &mut first, FEEDS)?;
     let (kept, fed) = thread::join(
         rt,
         || keep_all(rt, desk, at),
@@ -195,9 +216,7 @@ pub(super) fn storm<
     );
     tell(told, (kept.refused, kept.notes));
     tell(told, (300 < kept.checkpoints, kept.most < 3_100));
-    for seat in fed.ok()? {
-        first.merge(seat?);
-    }
+    merge_all(&mut first, fed.ok()?)?;
     Some(first)
 }
 

@@ -5,9 +5,10 @@ ghost use Rattle.rx_ledger.specs.Shares.{all_parts};
 
 use rx_book::Key;
 use rx_crew::Gate;
-use rx_ledger::PARTS;
+use rx_ledger::{PARTS, Seat};
+use std::alloc::Global;
 use std::fmt::Debug;
-use std::sync::ledger::Blank;
+use std::sync::ledger::{Blank, Ledger};
 
 // A gate that does nothing.
 pub(super) struct Open;
@@ -23,6 +24,19 @@ pub(super) fn blanks() -> (Blank, Blank, Blank)
     ensures { (result.0.parts ≡ all_parts) × (result.1.parts ≡ all_parts) × (result.2.parts ≡ all_parts) }
 {
     (Blank::new(PARTS), Blank::new(PARTS), Blank::new(PARTS))
+}
+
+// So many seats beside the first one.
+pub(super) fn seats_beside<I: Ledger, A: Ledger, K: Ledger>(
+    alloc: Global,
+    first: &mut Seat<I, A, K>,
+    count: u64,
+) -> Option<Vec<Seat<I, A, K>>> {
+    let mut seats = Vec::new(alloc);
+    for _ in 0..count {
+        seats.push(first.split()?).ok()?;
+    }
+    Some(seats)
 }
 
 // Puts a line behind what was told. Without memory for it the line is missing.

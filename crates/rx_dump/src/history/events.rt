@@ -3,7 +3,7 @@
 ghost use Rattle.std.specs.Prelude.{◌≡◌, ◌+◌, ◌^◌, ◌<◌};
 ghost use Rattle.serde_json.specs.View.{view};
 ghost use Rattle.rx_dump.specs.History.{plain_kind, kind_from, place_below, open_below, open_by, open_event_of, terminal_by};
-ghost use Rattle.rx_dump.specs.History.{end_event_of, mode_by_word, hub_of, accept_of, item_event_of, event_by_word, event_of};
+ghost use Rattle.rx_dump.specs.History.{end_event_of, mode_by_word, hub_of, accept_of, item_event_of, resource_event_by, event_by_word, event_of};
 
 use super::parts::{has_count, number_element, only_number, value_element, word_at};
 use rx_event::{Event, Kind, Mode, Place, Terminal};
@@ -154,6 +154,23 @@ fn item_event_of(event: &Value) -> Option<Event>
     Some(Event::Item(leaf, value))
 }
 
+// An event of a resource.
+#[tactic(auto, unfolding(crate::specs::History::resource_event_by))]
+fn resource_event_by(word: &str, event: &Value) -> Option<Event>
+    ensures { result ≡ resource_event_by word.now (view event.now) }
+{
+    match word {
+        "accept" => accept_of(event),
+        "use" => only_number(event).map(Event::Use),
+        "remove" => only_number(event).map(Event::Remove),
+        "lease" => only_number(event).map(Event::Lease),
+        "return" => only_number(event).map(Event::Return),
+        "take" => only_number(event).map(Event::Take),
+        _ => None,
+    }
+}
+
+// An event of a node or a hub, or by another word of a resource.
 #[tactic(auto, unfolding(crate::specs::History::event_by_word))]
 fn event_by_word(word: &str, event: &Value) -> Option<Event>
     ensures { result ≡ event_by_word word.now (view event.now) }
@@ -162,17 +179,11 @@ fn event_by_word(word: &str, event: &Value) -> Option<Event>
         "open" => open_event_of(event),
         "hub" => hub_of(event),
         "connect" => only_number(event).map(Event::Connect),
-        "accept" => accept_of(event),
-        "use" => only_number(event).map(Event::Use),
-        "remove" => only_number(event).map(Event::Remove),
-        "lease" => only_number(event).map(Event::Lease),
-        "return" => only_number(event).map(Event::Return),
         "item" => item_event_of(event),
         "decline" => only_number(event).map(Event::Decline),
         "end" => end_event_of(event),
         "close" => only_number(event).map(Event::Close),
-        "take" => only_number(event).map(Event::Take),
-        _ => None,
+        _ => resource_event_by(word, event),
     }
 }
 

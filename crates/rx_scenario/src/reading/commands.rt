@@ -5,7 +5,8 @@ ghost use Rattle.rx_scenario.specs.Scenario.{command_of as command_meant, action
 ghost use Rattle.rx_device.specs.Gives.{Gives};
 ghost use Rattle.rx_scenario.specs.Reading.{using_command_of, open_command_of, hold_of, apply_of, remove_of, lease_command_of, return_of};
 ghost use Rattle.rx_scenario.specs.Reading.{next_of, end_command_of, abort_of, decline_of, fail_of, dispose_of, hub_of};
-ghost use Rattle.rx_scenario.specs.Reading.{connect_of, disconnect_of, drain_of, checkpoint_of, command_by, cancel_of, action_by, action_in};
+ghost use Rattle.rx_scenario.specs.Reading.{connect_of, disconnect_of, drain_of, checkpoint_of};
+ghost use Rattle.rx_scenario.specs.Reading.{book_command_by, node_command_by, command_by, cancel_of, action_by, action_in};
 
 use super::members::{
     code_in, is_step_of, kind_in, mode_in, name_in, optional_name_in, site_in, terminal_in,
@@ -227,30 +228,51 @@ fn checkpoint_of(object: Part<'_, '_>) -> Result<Command, ShapeError>
     Ok(Command::Checkpoint)
 }
 
-#[tactic(auto, unfolding(crate::specs::Reading::command_by))]
-fn command_by(alloc: Global, what: &str, object: Part<'_, '_>) -> Result<Command, ShapeError>
-    ensures { Gives command_meant result (command_by what.now (part_data object.entry)) }
+// What is done with a hub, or with the book.
+#[tactic(auto, unfolding(crate::specs::Reading::book_command_by))]
+fn book_command_by(alloc: Global, what: &str, object: Part<'_, '_>) -> Result<Command, ShapeError>
+    ensures { Gives command_meant result (book_command_by what.now (part_data object.entry)) }
 {
     match what {
-        "using" => using_command_of(alloc, object),
-        "open" => open_command_of(alloc, object),
-        "hold" => hold_of(alloc, object),
-        "apply" => apply_of(alloc, object),
-        "remove" => remove_of(alloc, object),
-        "lease" => lease_command_of(alloc, object),
-        "return" => return_of(alloc, object),
-        "next" => next_of(alloc, object),
-        "end" => end_command_of(alloc, object),
-        "abort" => abort_of(alloc, object),
-        "decline" => decline_of(alloc, object),
-        "fail" => fail_of(alloc, object),
-        "dispose" => dispose_of(alloc, object),
         "hub" => hub_of(alloc, object),
         "connect" => connect_of(alloc, object),
         "disconnect" => disconnect_of(alloc, object),
         "drain" => drain_of(object),
         "checkpoint" => checkpoint_of(object),
         _ => Err(ShapeError::Shape),
+    }
+}
+
+// What is done with a node, or by another word with a hub or the book.
+#[tactic(auto, unfolding(crate::specs::Reading::node_command_by))]
+fn node_command_by(alloc: Global, what: &str, object: Part<'_, '_>) -> Result<Command, ShapeError>
+    ensures { Gives command_meant result (node_command_by what.now (part_data object.entry)) }
+{
+    match what {
+        "open" => open_command_of(alloc, object),
+        "next" => next_of(alloc, object),
+        "end" => end_command_of(alloc, object),
+        "abort" => abort_of(alloc, object),
+        "decline" => decline_of(alloc, object),
+        "fail" => fail_of(alloc, object),
+        "dispose" => dispose_of(alloc, object),
+        _ => book_command_by(alloc, what, object),
+    }
+}
+
+// What is done with a resource, or by another word with anything else.
+#[tactic(auto, unfolding(crate::specs::Reading::command_by))]
+fn command_by(alloc: Global, what: &str, object: Part<'_, '_>) -> Result<Command, ShapeError>
+    ensures { Gives command_meant result (command_by what.now (part_data object.entry)) }
+{
+    match what {
+        "using" => using_command_of(alloc, object),
+        "hold" => hold_of(alloc, object),
+        "apply" => apply_of(alloc, object),
+        "remove" => remove_of(alloc, object),
+        "lease" => lease_command_of(alloc, object),
+        "return" => return_of(alloc, object),
+        _ => node_command_by(alloc, what, object),
     }
 }
 

@@ -29,5 +29,5 @@ returns g c = λ placed.
           (ap (list_any (nat_eq r)) (c.as_slice-3.ensures.value ∙ c.in_ok-resources.ensures len placed.resources)
           ∙ listed (λ m. is_some (name_of_number known.resources.now m)) len r within named))
           ∙ c.in_ok-seen.ensures.uses r countable;
-      connections = λ n. c.in_ok-seen.ensures.connections n;
+      connections = λ n. ap (λ held. get nat_eq held n) c.into_connections.ensures ∙ c.in_ok-seen.ensures.connections n;
     }

@@ -25,12 +25,12 @@ returns-in-Accepted-clause-ok c =
     let led : List ℕ = said_if (connects_at done.book c.place_behind-behind.result) said in
     let front : placed ++ led ≡ answer_front_text old asked done =
     front_said old done asked placed said (placed ++ led) c.place_behind-behind.result c.requires.sound runs
-    (c.as_str-front.ensures.value ∙ c.in_ok-placed.ensures ∙ ap ok_text c.len.ensures) (c.as_str-said.ensures.value ∙ c.in_ok-connected.ensures)
+    (c.as_str-front.ensures.value ∙ c.in-Ok.ensures.front) (c.as_str-said.ensures.value ∙ c.in-Ok.ensures.said)
     c.place_behind-behind.ensures refl in
     let wrote = c.push_closed.ensures.said in
     let said_closed : List ℕ = wrote.said in
     let connected : string_bytes c.push_connected.new.text ≡ begun ++ (placed ++ led) =
-    c.push_connected.ensures.text ∙ ap (λ (t : List ℕ). t ++ led) (c.put.ensures.bytes ∙ ap (λ (t : List ℕ). t ++ placed) c.make_place.ensures.same)
+    c.push_connected.ensures.text ∙ ap (λ (t : List ℕ). t ++ led) (c.put.ensures.bytes ∙ ap (λ (t : List ℕ). t ++ placed) c.front_of.ensures.same)
     ∙ append_assoc begun placed led in
     let written : string_bytes c.push_closed.new.text ≡ begun ++ (placed ++ led ++ said_closed) =
     wrote.written ∙ ap (λ (t : List ℕ). t ++ said_closed) connected ∙ append_assoc begun (placed ++ led) said_closed in
@@ -49,7 +49,7 @@ returns-clause-ok c =
     refused_out old new (task_of c.args.task) why (string_bytes c.args.text.now) (string_bytes c.in_ok-told-in-Refused.told) (string_bytes
     c.push_answer.new.text) runs (full_by_open old new why c.requires.sound.kept (refused_alike old new (task_of c.args.task) why runs)
     (sym c.is_full_by_age.ensures ∙ c.if-is_full_by_age.false)) c.in_ok-told-in-Refused.ensures
-    (c.in_ok-push_answer-in-Refused.ensures.ok ∙ (λ i. c.make_place.ensures.same i ++ c.as_str.ensures.value i))
+    (c.in_ok-push_answer-in-Refused.ensures.ok ∙ (λ i. c.front_of.ensures.same i ++ c.as_str.ensures.value i))
 
 pub returns-in_err-told-in-Refused-clause-err : goal.returns-in_err-told-in-Refused-clause-err
 returns-in_err-told-in-Refused-clause-err c = search (rules, on_err, refused_alike)

@@ -1,4 +1,3 @@
-use Rattle.std.proofs.Common.{refl}
 use Rattle.rx_scenario.specs.Reading.{command_by}
 use Rattle.rx_scenario.proofs.Laws.Members.{bytes_eq-none}
 use Rattle.rx_scenario.proofs.reading.commands.command_by.Goals as goal
@@ -10,21 +9,9 @@ returns-in_default c =
     let no = bytes_eq-none c.args.what.now in
     rw (
       no _ none.not-using,
-      no _ none.not-open,
       no _ none.not-hold,
       no _ none.not-apply,
       no _ none.not-remove,
       no _ none.not-lease,
       no _ none.not-return,
-      no _ none.not-next,
-      no _ none.not-end,
-      no _ none.not-abort,
-      no _ none.not-decline,
-      no _ none.not-fail,
-      no _ none.not-dispose,
-      no _ none.not-hub,
-      no _ none.not-connect,
-      no _ none.not-disconnect,
-      no _ none.not-drain,
-      no _ none.not-checkpoint,
-    ) refl
+    ) c.node_command_by.ensures
