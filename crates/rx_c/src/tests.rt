@@ -96,7 +96,7 @@ fn is_answered(alloc: Global, step: Step) -> bool {
     status == wanted && handed.is_in(&buffer, told)
 }
 
-const STEPS: [Step; 7] = [
+static STEPS: [Step; 7] = [
     (Call::Run, FIRST_RUN, 256, 0, Handed::Text(FIRST_REPORT)),
     (Call::Dump, FIRST_RUN, 256, 0, Handed::Text(FIRST_DUMP)),
     (Call::Audit, FIRST_DUMP, 256, 0, Handed::Text(FIRST_VERDICT)),

@@ -178,7 +178,7 @@ const TRACE: &str = "\
 {\"closed\":true,\"release\":[\"q\"]}
 ";
 
-const OUTCOMES: [Row; 27] = [
+static OUTCOMES: [Row; 27] = [
     (&["rxbook"], EMPTY, 0, NOTHING_DONE, ""),
     (&["rxbook", "run"], EMPTY, 0, NOTHING_DONE, ""),
     (&["rxbook", "run", "--dump"], EMPTY, 0, "[]\n", ""),
@@ -291,7 +291,7 @@ fn each_outcome_has_its_status_and_line(rt: HostRuntime) -> Result<(), Fail> {
     assert_rows(&rt, rt.alloc(), Flaw::None, &OUTCOMES)
 }
 
-const STORMS: [Row; 3] = [
+static STORMS: [Row; 3] = [
     (
         &["rxbook", "storm"],
         UNREAD,
@@ -427,7 +427,7 @@ The exit status is 0 if the threads counted what the book says, otherwise 5; 1 i
 thread could not be started, 4 if out of memory. docs/reference/command-line.md explains the figures.
 ";
 
-const HELPS: [Row; 8] = [
+static HELPS: [Row; 8] = [
     (&["rxbook", "--help"], UNREAD, 0, HELP, ""),
     (&["rxbook", "-h"], UNREAD, 0, HELP, ""),
     (&["rxbook", "help"], UNREAD, 0, HELP, ""),
@@ -443,7 +443,7 @@ fn help_and_version_go_to_the_output(rt: HostRuntime) -> Result<(), Fail> {
     assert_rows(&rt, rt.alloc(), Flaw::None, &HELPS)
 }
 
-const READ_FAULTS: [Row; 2] = [
+static READ_FAULTS: [Row; 2] = [
     (&["rxbook"], "{", 1, "", "rxbook: read fault\n"),
     (&["rxbook", "audit"], "{", 1, "", "rxbook: read fault\n"),
 ];
@@ -455,14 +455,14 @@ fn a_reader_that_fails_is_a_read_fault(rt: HostRuntime) -> Result<(), Fail> {
 
 const WRITE_FAULT: &str = "rxbook: write fault\n";
 
-const FULL: [Row; 4] = [
+static FULL: [Row; 4] = [
     (&["rxbook"], EMPTY, 1, "totals nod", WRITE_FAULT),
     (&["rxbook", "audit"], "[]", 1, "lawful\nliv", WRITE_FAULT),
     (&["rxbook", "storm"], UNREAD, 1, "accepted 4", WRITE_FAULT),
     (&["rxbook", "--help"], UNREAD, 1, "Runs scena", WRITE_FAULT),
 ];
 
-const STUCK: [Row; 2] = [
+static STUCK: [Row; 2] = [
     (&["rxbook"], EMPTY, 1, "totals nod", WRITE_FAULT),
     (
         &["rxbook", "audit"],
@@ -479,7 +479,7 @@ fn an_output_that_fails_is_a_write_fault(rt: HostRuntime) -> Result<(), Fail> {
     assert_rows(&rt, rt.alloc(), Flaw::Stuck, &STUCK)
 }
 
-const UNTOLD: [Row; 2] = [
+static UNTOLD: [Row; 2] = [
     (&["rxbook"], "{", 3, "", "rxb"),
     (&["rxbook", "bad"], "{", 2, "", "err"),
 ];

@@ -278,7 +278,7 @@ impl Bench {
 }
 
 // Without a book.
-const NOTHING_KEPT: [Step; 26] = [
+static NOTHING_KEPT: [Step; 26] = [
     (Call::Open, 0, 0, 0),
     (Call::Using, 0, 0, 0),
     (Call::Hold, 0, 0, 0),
@@ -308,7 +308,7 @@ const NOTHING_KEPT: [Step; 26] = [
 ];
 
 // Codes that are none, and keys that were made up.
-const REFUSED: [Step; 24] = [
+static REFUSED: [Step; 24] = [
     (Call::Make, 0, 0, 40),
     (Call::Open, 4, 0, 0),
     (Call::Open, 0, 0, 6),
@@ -336,7 +336,7 @@ const REFUSED: [Step; 24] = [
 ];
 
 // To the end of that book, and of one that is full.
-const ENDED: [Step; 22] = [
+static ENDED: [Step; 22] = [
     (Call::Remove, 0, 0, 0),
     (Call::GiveBack, 0, 0, 0),
     (Call::Remove, 0, 0, 0),

@@ -137,7 +137,7 @@ fn assert_answered(rt: &(impl AllocGlobal + Abort), rows: &[Row]) {
     assert_eq!(rt; other, None);
 }
 
-const SESSION: [Row; 10] = [
+static SESSION: [Row; 10] = [
     (Asking::Make, 0, 0, NOTHING),
     (Asking::Make, 0, 5, NOTHING),
     (Asking::Send(USING), 512, 0, Handed::Text(FIRST)),
@@ -155,7 +155,7 @@ fn lines_are_answered_and_the_last_answer_names_what_is_left(rt: HostRuntime) {
     assert_answered(&rt, &SESSION);
 }
 
-const WAITING: [Row; 14] = [
+static WAITING: [Row; 14] = [
     (Asking::Make, 0, 0, NOTHING),
     (Asking::Send(USING), 7, 1, Handed::Length(8)),
     (Asking::Send(DISPOSE), 512, 3, Handed::Length(8)),
@@ -177,7 +177,7 @@ fn an_answer_that_does_not_fit_waits_and_nothing_is_done_meanwhile(rt: HostRunti
     assert_answered(&rt, &WAITING);
 }
 
-const ZEROS: [Row; 3] = [
+static ZEROS: [Row; 3] = [
     (Asking::Send(LIST), 512, 2, NOTHING),
     (Asking::Read, 512, 2, NOTHING),
     (Asking::End, 512, 2, NOTHING),
@@ -188,7 +188,7 @@ fn a_handle_of_zeros_keeps_nothing(rt: HostRuntime) {
     assert_answered(&rt, &ZEROS);
 }
 
-const LEFT_WAITING: [Row; 2] = [
+static LEFT_WAITING: [Row; 2] = [
     (Asking::Make, 0, 0, NOTHING),
     (Asking::Send(USING), 0, 1, Handed::Length(8)),
 ];
@@ -199,7 +199,7 @@ fn what_waits_is_given_back_too(rt: HostRuntime) {
 }
 
 // Makes a book, subscribes and ends.
-const TAKERS: [(Asking, Handed); 4] = [
+static TAKERS: [(Asking, Handed); 4] = [
     (Asking::Make, NOTHING),
     (Asking::Send(USING), Handed::Text(FIRST)),
     (Asking::Send(OPEN), Handed::Text("{\"ok\":2}")),

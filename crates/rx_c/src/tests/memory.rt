@@ -12,7 +12,7 @@ const BLOCK: usize = 100_000;
 const TIMES: u32 = 2_000;
 
 // A book from its beginning to its end.
-const WHOLE: [Step; 6] = [
+static WHOLE: [Step; 6] = [
     (Call::Make, 0, 0, 1_000),
     (Call::Open, 0, 0, 0),
     (Call::Hold, 0, 1, 7),

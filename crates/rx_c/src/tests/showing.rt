@@ -34,7 +34,7 @@ fn is_answered(alloc: Global, step: Step) -> bool {
     status == wanted && handed.is_in(&buffer, told)
 }
 
-const STEPS: [Step; 8] = [
+static STEPS: [Step; 8] = [
     (Call::Names, FIRST_RUN, 512, 0, Handed::Text(FIRST_NAMES)),
     (Call::Names, "{}", 512, 3, Handed::Length(0)),
     (Call::Picture, "{}", 512, 3, Handed::Length(0)),

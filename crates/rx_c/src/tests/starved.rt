@@ -9,7 +9,7 @@ use std::test::Fail;
 
 // The calls that may take memory, behind one another on one book; but `next_all`, which keeps the items before the
 // one that is refused.
-const TAKERS: [Step; 12] = [
+static TAKERS: [Step; 12] = [
     (Call::Make, 0, 0, 1000),
     (Call::Hub, 0, 0, 0),
     (Call::Open, 0, 0, 5),

@@ -273,7 +273,7 @@ fn first_other_of(rt: &impl AllocGlobal, steps: &[Told]) -> Result<Option<usize>
     other
 }
 
-const TABLES: [&[Told]; 6] = [&UNASKED, &MADE_UP, &OF_NODES, &OF_DEBTS, &OF_HUBS, &OF_ROOM];
+static TABLES: [&[Told]; 6] = [&UNASKED, &MADE_UP, &OF_NODES, &OF_DEBTS, &OF_HUBS, &OF_ROOM];
 
 #[test]
 fn each_call_that_tells_has_a_status_for_each_refusal(rt: HostRuntime) -> Result<(), Fail> {

@@ -33,7 +33,7 @@ const ENDED: [Row; 3] = [
     ("", r#"{"closed":true}"#),
 ];
 
-const LONG: [Part; 3] = [(1, &BEGUN), (100, &ITEM), (1, &ENDED)];
+static LONG: [Part; 3] = [(1, &BEGUN), (100, &ITEM), (1, &ENDED)];
 
 #[test]
 fn a_run_that_is_longer_than_its_limit_goes_on(rt: HostRuntime) {
@@ -54,7 +54,7 @@ const FULL: [Row; 5] = [
     (r#"{"do":"hold","node":"a","res":"u"}"#, r#"{"ok":7}"#),
 ];
 
-const OPEN_ALONE: [Part; 2] = [(1, &BEGUN), (1, &FULL)];
+static OPEN_ALONE: [Part; 2] = [(1, &BEGUN), (1, &FULL)];
 
 #[test]
 fn full_is_answered_by_what_is_open_alone(rt: HostRuntime) {

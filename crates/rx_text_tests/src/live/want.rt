@@ -6,7 +6,7 @@ use rx_scarce::{MOST_BLOCKS, Scarce};
 use std::alloc::{AllocError, Global};
 use std::test::Fail;
 
-const LINES: [&str; 12] = [
+static LINES: [&str; 12] = [
     r#"{"do":"using","name":"a","place":"root","res":"r"}"#,
     r#"{"do":"open","name":"b","place":"source","of":"a","kind":"leaf"}"#,
     r#"{"do":"hold","node":"b","res":"s"}"#,
@@ -243,7 +243,7 @@ fn an_array_goes_on_behind_an_element_that_finds_no_memory(rt: HostRuntime) -> R
 }
 
 // What a session has that is closed without memory. The last line is answered without any, so none comes back with its answer.
-const OPENED: [&str; 10] = [
+static OPENED: [&str; 10] = [
     r#"{"do":"using","name":"a","place":"root","res":"r"}"#,
     r#"{"do":"open","name":"b","place":"source","of":"a","kind":"leaf"}"#,
     r#"{"do":"hold","node":"a","res":"s"}"#,
@@ -258,7 +258,7 @@ const OPENED: [&str; 10] = [
 
 // Lines that take no memory, with and without blanks, and their answers where there is none: no note and no name of a node
 // is told, and where there is a name to tell the answer says so.
-const CLOSING: [(&str, &str); 9] = [
+static CLOSING: [(&str, &str); 9] = [
     (
         r#"{"do":"decline","node":"a"}"#,
         r#"{"refused":"WrongKind"}"#,
