@@ -256,7 +256,7 @@ fn are_refused_first<T: Abort>(rt: &T, alloc: Global, calls: &[Made]) -> Result<
     Ok(())
 }
 
-const WITH_A_RESOURCE: [Made; 2] = [Made::OpenUsing, Made::OpenHolding];
+static WITH_A_RESOURCE: [Made; 2] = [Made::OpenUsing, Made::OpenHolding];
 
 #[test]
 fn an_opening_that_holds_and_is_refused_memory_changes_nothing(
@@ -265,7 +265,7 @@ fn an_opening_that_holds_and_is_refused_memory_changes_nothing(
     are_refused_first(&rt, rt.alloc(), &WITH_A_RESOURCE)
 }
 
-const WITHOUT_INNERS: [Made; 2] = [Made::Open(Kind::Pass), Made::Open(Kind::Leaf)];
+static WITHOUT_INNERS: [Made; 2] = [Made::Open(Kind::Pass), Made::Open(Kind::Leaf)];
 
 #[test]
 fn an_opening_at_a_root_that_is_refused_memory_changes_nothing(
@@ -274,14 +274,14 @@ fn an_opening_at_a_root_that_is_refused_memory_changes_nothing(
     are_refused_first(&rt, rt.alloc(), &WITHOUT_INNERS)
 }
 
-const WITH_A_NOTIFIER: [Made; 1] = [Made::Open(Kind::Until)];
+static WITH_A_NOTIFIER: [Made; 1] = [Made::Open(Kind::Until)];
 
 #[test]
 fn a_take_until_that_is_refused_memory_changes_nothing(rt: HostRuntime) -> Result<(), Fail> {
     are_refused_first(&rt, rt.alloc(), &WITH_A_NOTIFIER)
 }
 
-const WITH_PLACES: [Made; 2] = [Made::Open(Kind::Flat), Made::Open(Kind::Switch)];
+static WITH_PLACES: [Made; 2] = [Made::Open(Kind::Flat), Made::Open(Kind::Switch)];
 
 #[test]
 fn an_operator_at_a_root_that_is_refused_memory_changes_nothing(
@@ -290,7 +290,7 @@ fn an_operator_at_a_root_that_is_refused_memory_changes_nothing(
     are_refused_first(&rt, rt.alloc(), &WITH_PLACES)
 }
 
-const INNER: [Made; 2] = [Made::OpenInner, Made::OpenNotifier];
+static INNER: [Made; 2] = [Made::OpenInner, Made::OpenNotifier];
 
 #[test]
 fn an_inner_or_a_notifier_that_is_refused_memory_changes_nothing(
@@ -299,7 +299,7 @@ fn an_inner_or_a_notifier_that_is_refused_memory_changes_nothing(
     are_refused_first(&rt, rt.alloc(), &INNER)
 }
 
-const BELOW: [Made; 2] = [Made::OpenBelow, Made::Hold];
+static BELOW: [Made; 2] = [Made::OpenBelow, Made::Hold];
 
 #[test]
 fn an_opening_below_or_a_resource_that_is_refused_memory_changes_nothing(
@@ -313,7 +313,7 @@ fn a_use_or_a_lease_that_is_refused_memory_changes_nothing(rt: HostRuntime) -> R
     are_refused_first(&rt, rt.alloc(), &[Made::Apply, Made::Lease])
 }
 
-const SHARED: [Made; 2] = [Made::NextShared, Made::Hub];
+static SHARED: [Made; 2] = [Made::NextShared, Made::Hub];
 
 #[test]
 fn a_shared_item_or_a_hub_that_is_refused_memory_changes_nothing(
@@ -322,14 +322,14 @@ fn a_shared_item_or_a_hub_that_is_refused_memory_changes_nothing(
     are_refused_first(&rt, rt.alloc(), &SHARED)
 }
 
-const ITEMS: [Made; 2] = [Made::Next, Made::NextProjected];
+static ITEMS: [Made; 2] = [Made::Next, Made::NextProjected];
 
 #[test]
 fn an_item_or_a_hub_that_is_refused_memory_changes_nothing(rt: HostRuntime) -> Result<(), Fail> {
     are_refused_first(&rt, rt.alloc(), &ITEMS)
 }
 
-const CONNECTED: [Made; 3] = [Made::Connect, Made::Subscribe, Made::SubscribeHolding];
+static CONNECTED: [Made; 3] = [Made::Connect, Made::Subscribe, Made::SubscribeHolding];
 
 #[test]
 fn a_connection_that_is_refused_memory_changes_nothing(rt: HostRuntime) -> Result<(), Fail> {

@@ -6,7 +6,7 @@ use super::trials::{Trial, assert_all};
 use rx_event::{Kind, Mode, Place};
 
 // Each once, but the use: a sample answers all the words that it was used on, one bit each.
-const ACCEPTED: [Call; 15] = [
+static ACCEPTED: [Call; 15] = [
     Call::Using(Place::Root, 7),
     Call::Open(Place::Source(0), Kind::Leaf),
     Call::Hold(0, 8),

@@ -55,7 +55,7 @@ fn refused_rounds<I: Ledger, A: Ledger, K: Ledger>(
 }
 
 // A root that is a leaf, and is closed.
-const CLOSES: [Call; 2] = [
+static CLOSES: [Call; 2] = [
     Call::Open(Place::Root, Kind::Leaf),
     Call::At(0, Deed::Dispose),
 ];
@@ -82,7 +82,7 @@ pub(super) fn eight_refused<
     Some(first)
 }
 
-const REFUSED: [(Trial, &str); 1] = [(
+static REFUSED: [(Trial, &str); 1] = [(
     Trial::Closed,
     "\
 (0, None)

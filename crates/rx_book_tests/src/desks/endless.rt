@@ -222,7 +222,7 @@ pub(super) fn storm<
 
 // Each feed writes an opening with its resource, another, its items and two ends, and each item and the end of
 // each root gives a note.
-const WITHOUT_END: [(Trial, &str); 1] = [(
+static WITHOUT_END: [(Trial, &str); 1] = [(
     Trial::Endless,
     "\
 (None, 1000004)

@@ -7,7 +7,7 @@ use rx_event::{Kind, Place, Terminal};
 const DONE: Terminal = Terminal::Completed;
 
 // Of no turn, of one turn and of many, and once the leaf has ended.
-const STOPPED: [Call; 5] = [
+static STOPPED: [Call; 5] = [
     Call::Open(Place::Root, Kind::Leaf),
     Call::Feed(0, 1, DONE, 0),
     Call::Feed(0, 1, DONE, 1),
@@ -33,7 +33,7 @@ fn a_feed_stops_at_its_turns_at_the_end_and_when_refused(rt: HostRuntime) {
 }
 
 // Of a source that fails, of one that begins with its end, and of a node that is no leaf.
-const WRITTEN: [Call; 14] = [
+static WRITTEN: [Call; 14] = [
     Call::Open(Place::Root, Kind::Pass),
     Call::Open(Place::Root, Kind::Leaf),
     Call::Open(Place::Root, Kind::Leaf),

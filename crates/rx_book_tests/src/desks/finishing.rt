@@ -11,10 +11,10 @@ use std::sync::Wait;
 use std::sync::ledger::Ledger;
 
 // Seat A accepts a resource at root 0 and unsubscribes that.
-const ACCEPTS: [Call; 2] = [Call::Using(Place::Root, 7), Call::At(0, Deed::Dispose)];
+static ACCEPTS: [Call; 2] = [Call::Using(Place::Root, 7), Call::At(0, Deed::Dispose)];
 
 // Seat B takes and releases; a leaf stays open.
-const TAKES_IT: [Call; 2] = [Call::Take, Call::Open(Place::Root, Kind::Leaf)];
+static TAKES_IT: [Call; 2] = [Call::Take, Call::Open(Place::Root, Kind::Leaf)];
 
 // Both do so, and those that are to be there at the end are answered, together.
 pub(super) fn work<I: Ledger, A: Ledger, K: Ledger>(
@@ -50,7 +50,7 @@ const TAKES: Receipt = Receipt {
     event: Event::Take(1),
 };
 
-const AGREED: [(Trial, &str); 1] = [(
+static AGREED: [(Trial, &str); 1] = [(
     Trial::Work(true, true, &[CLOSES_ROOT, TAKES]),
     "\
 Ok(0)
@@ -105,7 +105,7 @@ None
 Closed { released: 1, faults: 0 }
 ";
 
-const FORGED: [(Trial, &str); 2] = [
+static FORGED: [(Trial, &str); 2] = [
     (Trial::Work(true, true, &[CLOSES_LEAF]), CLOSES_LEAF_TOLD),
     (
         Trial::Calls(&PAUSED, &[CLOSES_ROOT, ACCEPTS_IT]),
@@ -128,7 +128,7 @@ Some(4)
 Closed { released: 0, faults: 0 }
 ";
 
-const LEFT_OUT: [(Trial, &str); 3] = [
+static LEFT_OUT: [(Trial, &str); 3] = [
     (
         Trial::Work(true, false, &[]),
         "\

@@ -13,14 +13,14 @@ use std::thread;
 use std::thread::Threads;
 
 // Leases a resource and closes its node.
-const LEASES: [Call; 3] = [
+static LEASES: [Call; 3] = [
     Call::Using(Place::Root, 7),
     Call::On(1, Use::Lease),
     Call::At(0, Deed::Dispose),
 ];
 
 // Gives the lease back, and releases what waits then.
-const RETURNS: [Call; 2] = [Call::On(2, Use::GiveBack), Call::Take];
+static RETURNS: [Call; 2] = [Call::On(2, Use::GiveBack), Call::Take];
 
 // Does that, and answers what is told of it.
 fn give_back<I: Ledger, A: Ledger, K: Ledger>(
@@ -61,7 +61,7 @@ pub(super) fn passed_on<
     Some(first)
 }
 
-const PASSED_ON: [(Trial, &str); 1] = [(
+static PASSED_ON: [(Trial, &str); 1] = [(
     Trial::Lease,
     "\
 Ok(0)

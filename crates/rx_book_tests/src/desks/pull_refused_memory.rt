@@ -95,7 +95,7 @@ fn refusals<I: Ledger, A: Ledger, K: Ledger>(
 }
 
 // Two roots that are leaves.
-const ROOTS: [Call; 2] = [
+static ROOTS: [Call; 2] = [
     Call::Open(Place::Root, Kind::Leaf),
     Call::Open(Place::Root, Kind::Leaf),
 ];
@@ -131,7 +131,7 @@ pub(super) fn feed_in_the_end<I: Ledger, A: Ledger, K: Ledger>(
 }
 
 // Two openings, the items and an end.
-const WANTED: [(Trial, &str); 1] = [(
+static WANTED: [(Trial, &str); 1] = [(
     Trial::Want,
     "\
 (0, None)

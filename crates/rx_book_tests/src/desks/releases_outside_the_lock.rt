@@ -199,7 +199,7 @@ impl Gate for Pair {
 }
 
 // Two resources of roots that are closed.
-const LAID_OUT: [Call; 4] = [
+static LAID_OUT: [Call; 4] = [
     Call::Using(Place::Root, 1),
     Call::At(0, Deed::Dispose),
     Call::Using(Place::Root, 2),
@@ -234,7 +234,7 @@ pub(super) fn both_release<
     Some(both)
 }
 
-const MET: [(Trial, &str); 1] = [(
+static MET: [(Trial, &str); 1] = [(
     Trial::Meeting,
     "\
 Ok(0)
@@ -286,7 +286,7 @@ fn feed_meanwhile<I: Ledger, A: Ledger, K: Ledger>(
 }
 
 // A root that is a leaf, and holds a resource.
-const HOLDS: [Call; 2] = [Call::Open(Place::Root, Kind::Leaf), Call::Hold(0, 1)];
+static HOLDS: [Call; 2] = [Call::Open(Place::Root, Kind::Leaf), Call::Hold(0, 1)];
 
 // One thread waits for the bell, the other feeds a leaf that holds a resource. Tells whether the first was woken.
 pub(super) fn wakes<
@@ -315,7 +315,7 @@ pub(super) fn wakes<
     Some(seat)
 }
 
-const WOKEN: [(Trial, &str); 1] = [(
+static WOKEN: [(Trial, &str); 1] = [(
     Trial::Bell,
     "\
 (0, None)

@@ -19,7 +19,7 @@ pub(super) fn give_a_past(book: &mut Book<Sample>) {
 }
 
 // What a floor is asked about it.
-pub(super) const SEEN: [Call; 8] = [
+pub(super) static SEEN: [Call; 8] = [
     Call::Ask(Ask::Sums),
     Call::Ask(Ask::Event(1)),
     Call::Ask(Ask::Event(3)),
@@ -30,7 +30,7 @@ pub(super) const SEEN: [Call; 8] = [
     Call::Ask(Ask::Sums),
 ];
 
-const PAST: [(Trial, &str); 1] = [(
+static PAST: [(Trial, &str); 1] = [(
     Trial::Past,
     "\
 [7, 1, 2, 1, 1, 0]

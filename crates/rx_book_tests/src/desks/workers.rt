@@ -44,7 +44,7 @@ fn work_once<I: Ledger, A: Ledger, K: Ledger>(
 }
 
 // Three resources, one of them faulty, of roots that are closed.
-const LAID_OUT: [Call; 6] = [
+static LAID_OUT: [Call; 6] = [
     Call::Using(Place::Root, 2),
     Call::At(0, Deed::Dispose),
     Call::Using(Place::Root, 3),
@@ -78,7 +78,7 @@ pub(super) fn work_thrice<I: Ledger, A: Ledger, K: Ledger>(
 }
 
 // The resources have the numbers 1, 4 and 7, and come out in any order.
-const WORKED: [(Trial, &str); 1] = [(
+static WORKED: [(Trial, &str); 1] = [(
     Trial::Workers,
     "\
 Ok(0)

@@ -5,7 +5,7 @@ use rx_scarce::{MOST_BLOCKS, Scarce};
 use std::alloc::{AllocError, Global};
 use std::test::Fail;
 
-const SIZES: [usize; 6] = [1, 48, 64, 1000, 65_536, 1 << 30];
+static SIZES: [usize; 6] = [1, 48, 64, 1000, 65_536, 1 << 30];
 
 // How many of `SIZES` can be had, one after the other.
 fn sizes_had(alloc: Global) -> u32 {
