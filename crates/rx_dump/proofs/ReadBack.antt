@@ -24,7 +24,8 @@ open_read (Inner n) kind = ap (option_map (Open (Inner n))) (kind_after_three _ 
 open_read (Notifier n) kind = ap (option_map (Open (Notifier n))) (kind_after_three _ _ _ kind)
 
 event_read : (e : Event) → is_in_range e ≡ true → event_of (event_data e) ≡ Some e
-unfolding event_of event_by_word resource_event_by hub_of mode_by_word accept_of item_event_of end_event_of terminal_by only_number has_count word_at number_element value_element
+unfolding event_of event_by_word resource_event_by hub_of mode_by_word accept_of item_event_of end_event_of terminal_by only_number has_count word_at
+    number_element value_element
 event_read (Open place kind) h = open_read place kind
 event_read (Hub Auto) h = refl
 event_read (Item leaf (pos n)) h = rw h refl

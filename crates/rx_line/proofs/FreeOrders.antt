@@ -8,7 +8,8 @@ use Rattle.serde_json.specs.Data.{Data}
 use Rattle.serde_json.specs.Read.{read}
 use Rattle.rx_note.specs.declared.note.Terminal.TheVariants.{Completed}
 use Rattle.rx_scenario.specs.Scenario.{Command, remove, give_back, end, decline, dispose, disconnect, drain}
-use Rattle.rx_scenario.specs.Reading.{is_name_text, action_in, action_by, command_by, node_command_by, book_command_by, is_one_of, has_only, has_only_steps, name_in, terminal_in}
+use Rattle.rx_scenario.specs.Reading.{is_name_text, action_in, action_by, command_by, node_command_by, book_command_by}
+use Rattle.rx_scenario.specs.Reading.{is_one_of, has_only, has_only_steps, name_in, terminal_in}
 use Rattle.rx_scenario.specs.Reading.{remove_of, return_of, end_command_of, decline_of, dispose_of, disconnect_of, drain_of}
 use Rattle.rx_line.specs.Orders.{plain, task, order_in, does, says, is_timed, command_in, task_in, IsOrderOf}
 use Rattle.rx_line.specs.declared.free.FreeCommand.{FreeCommand}
@@ -23,31 +24,38 @@ abbrev Asks : Data → Command → Type 0
 Asks d c = order_in d ≡ Some (task (plain c))
 
 asks_drain : Asks (of_one (codes "do") (codes "drain")) drain
-unfolding order_in says does task_in command_in is_timed action_in action_by command_by node_command_by book_command_by is_one_of has_only has_only_steps drain_of
+unfolding order_in says does task_in command_in is_timed action_in action_by command_by node_command_by book_command_by is_one_of has_only has_only_steps
+    drain_of
 asks_drain = refl
 
 asks_end : (name : List ℕ) → is_name_text name ≡ true → Asks (of_two (codes "do") (codes "end") (codes "node") name) (end name Completed)
-unfolding order_in says does task_in command_in is_timed action_in action_by command_by node_command_by book_command_by is_one_of has_only has_only_steps name_in terminal_in end_command_of
+unfolding order_in says does task_in command_in is_timed action_in action_by command_by node_command_by book_command_by is_one_of has_only has_only_steps
+    name_in terminal_in end_command_of
 asks_end name is = rw is refl
 
 asks_decline : (name : List ℕ) → is_name_text name ≡ true → Asks (of_two (codes "do") (codes "decline") (codes "node") name) (decline name)
-unfolding order_in says does task_in command_in is_timed action_in action_by command_by node_command_by book_command_by is_one_of has_only has_only_steps name_in decline_of
+unfolding order_in says does task_in command_in is_timed action_in action_by command_by node_command_by book_command_by is_one_of has_only has_only_steps
+    name_in decline_of
 asks_decline name is = rw is refl
 
 asks_dispose : (name : List ℕ) → is_name_text name ≡ true → Asks (of_two (codes "do") (codes "dispose") (codes "node") name) (dispose name)
-unfolding order_in says does task_in command_in is_timed action_in action_by command_by node_command_by book_command_by is_one_of has_only has_only_steps name_in dispose_of
+unfolding order_in says does task_in command_in is_timed action_in action_by command_by node_command_by book_command_by is_one_of has_only has_only_steps
+    name_in dispose_of
 asks_dispose name is = rw is refl
 
 asks_disconnect : (name : List ℕ) → is_name_text name ≡ true → Asks (of_two (codes "do") (codes "disconnect") (codes "hub") name) (disconnect name)
-unfolding order_in says does task_in command_in is_timed action_in action_by command_by node_command_by book_command_by is_one_of has_only has_only_steps name_in disconnect_of
+unfolding order_in says does task_in command_in is_timed action_in action_by command_by node_command_by book_command_by is_one_of has_only has_only_steps
+    name_in disconnect_of
 asks_disconnect name is = rw is refl
 
 asks_remove : (name : List ℕ) → is_name_text name ≡ true → Asks (of_two (codes "do") (codes "remove") (codes "res") name) (remove name)
-unfolding order_in says does task_in command_in is_timed action_in action_by command_by node_command_by book_command_by is_one_of has_only has_only_steps name_in remove_of
+unfolding order_in says does task_in command_in is_timed action_in action_by command_by node_command_by book_command_by is_one_of has_only has_only_steps
+    name_in remove_of
 asks_remove name is = rw is refl
 
 asks_return : (name : List ℕ) → is_name_text name ≡ true → Asks (of_two (codes "do") (codes "return") (codes "lease") name) (give_back name)
-unfolding order_in says does task_in command_in is_timed action_in action_by command_by node_command_by book_command_by is_one_of has_only has_only_steps name_in return_of
+unfolding order_in says does task_in command_in is_timed action_in action_by command_by node_command_by book_command_by is_one_of has_only has_only_steps
+    name_in return_of
 asks_return name is = rw is refl
 
 -- which it is ----------------------------------------------------------------------------------------

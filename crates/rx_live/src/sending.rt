@@ -83,7 +83,8 @@ fn front_of(
 ) -> Result<(String, String), AllocError>
     ensures front { IfOk result (λ f. string_bytes f.0 ≡ ok_text (length engine.now.book.history)) }
     ensures said { IfOk result (λ f. string_bytes f.1 ≡ connected_by (task_of task.now)) }
-    ensures made { IfOk result (λ f. HasRoom (length (string_bytes f.0) + (length (string_bytes f.1) + (rest + 29))) text.new) }
+    ensures made { IfOk result
+        (λ f. HasRoom (length (string_bytes f.0) + (length (string_bytes f.1) + (rest + 29))) text.new) }
     ensures same { string_bytes text.new ≡ string_bytes text.old }
     ensures kept { HasRoom rest text.old → HasRoom rest text.new }
 {

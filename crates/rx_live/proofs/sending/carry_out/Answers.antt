@@ -1,5 +1,5 @@
 use Rattle.rx_live.proofs.Common.{if◌then◌else◌, Name, ◌≡◌, ℕ, ◌++◌, List, [], subst, string_bytes, refl, sym, ap, ◌∙◌, append_assoc, Task, task_of, Outcome}
-use Rattle.rx_live.proofs.Common.{Accepted, Refused, ok_text, session_of, said_if, answer_front_text, closed_names, SaysClosed, DoesTask, TellsAll, connects_at}
+use Rattle.rx_live.proofs.Common.{Accepted, Refused, session_of, said_if, answer_front_text, closed_names, SaysClosed, DoesTask, TellsAll, connects_at}
 use Rattle.rx_live.specs.Closings.{names_closed}
 use Rattle.rx_live.proofs.Acts.{refused_alike}
 use Rattle.rx_live.proofs.OpenedNodesGetNames.{on_err}
