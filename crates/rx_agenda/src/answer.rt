@@ -3,7 +3,7 @@
 use rx_event::Refusal;
 
 /// The answer of an executed step.
-#[derive(Clone, Copy, Debug, PartialEq, Eq)]
+#[derive(Clone, Copy)]
 pub enum Answer {
     /// It was done.
     Accepted,
@@ -12,7 +12,7 @@ pub enum Answer {
 }
 
 /// Why a step changes nothing. The scenario's own causes come before the book's, in this order.
-#[derive(Clone, Copy, Debug, PartialEq, Eq)]
+#[derive(Clone, Copy)]
 pub enum Cause {
     /// It uses a name that is not bound.
     NoName,

@@ -4,7 +4,7 @@ use rx_names::Labels;
 use rx_script::Form;
 
 /// What the words of a command line order.
-#[derive(Clone, Copy, Debug, PartialEq, Eq)]
+#[derive(Clone, Copy)]
 pub enum Order {
     /// Read a scenario from standard input, run it, and write what the form says.
     Run(Form),

@@ -16,7 +16,7 @@ use rx_roles::Roles;
 pub(crate) const NO_LIMIT: u64 = 1024;
 
 /// Whose lane.
-#[derive(Clone, Copy, Debug, PartialEq, Eq)]
+#[derive(Clone, Copy)]
 pub enum LaneOf {
     /// The lane of an open node.
     Node(Key),
@@ -25,7 +25,7 @@ pub enum LaneOf {
 }
 
 /// What a node gets that is opened.
-#[derive(Clone, Copy, Debug)]
+#[derive(Clone, Copy)]
 pub struct Home {
     /// A lane that is open; a new one where it is none.
     pub lane: Option<LaneName>,

@@ -21,7 +21,7 @@ pub struct User {
 }
 
 /// What was opened, and what it holds.
-#[derive(Clone, Copy, Debug)]
+#[derive(Clone, Copy)]
 pub struct Used {
     pub key: Key,
     pub res: ResKey,

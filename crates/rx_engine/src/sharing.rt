@@ -23,7 +23,7 @@ use rx_resource::Token;
 use rx_roles::Role;
 
 /// What was subscribed to.
-#[derive(Clone, Copy, Debug)]
+#[derive(Clone, Copy)]
 pub struct Subscribed {
     pub key: Key,
     /// The connection that came with it, where the share had none.
@@ -33,7 +33,7 @@ pub struct Subscribed {
 }
 
 /// What was connected.
-#[derive(Clone, Copy, Debug)]
+#[derive(Clone, Copy)]
 pub struct Connected {
     pub key: Key,
     /// Where its hub stands in the pool: a hint for the share's next command.

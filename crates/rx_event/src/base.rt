@@ -8,7 +8,7 @@ use std::alloc::Global;
 use std::marker::Model;
 
 /// A hub.
-#[derive(Clone, Copy, Debug, PartialEq, Eq)]
+#[derive(Clone, Copy)]
 pub struct BaseHub {
     /// Its number.
     pub number: u64,
@@ -17,7 +17,7 @@ pub struct BaseHub {
 }
 
 /// An open node.
-#[derive(Clone, Copy, Debug, PartialEq, Eq)]
+#[derive(Clone, Copy)]
 pub struct BaseNode {
     /// Its number.
     pub number: u64,
@@ -34,7 +34,7 @@ pub struct BaseNode {
 }
 
 /// What holds a resource.
-#[derive(Clone, Copy, Debug, PartialEq, Eq)]
+#[derive(Clone, Copy)]
 pub enum BaseState {
     /// Its node, and the leases of it that are out.
     Owned,
@@ -45,7 +45,7 @@ pub enum BaseState {
 }
 
 /// A resource that was not taken.
-#[derive(Clone, Copy, Debug, PartialEq, Eq)]
+#[derive(Clone, Copy)]
 pub struct BaseResource {
     /// Its number.
     pub number: u64,
@@ -60,7 +60,7 @@ pub struct BaseResource {
 }
 
 /// A lease that is out.
-#[derive(Clone, Copy, Debug, PartialEq, Eq)]
+#[derive(Clone, Copy)]
 pub struct BaseLease {
     /// Its number.
     pub number: u64,
@@ -69,7 +69,7 @@ pub struct BaseLease {
 }
 
 /// How much there was.
-#[derive(Clone, Copy, Debug, PartialEq, Eq)]
+#[derive(Clone, Copy)]
 pub struct BaseCounts {
     /// How many events.
     pub at: u64,

@@ -5,7 +5,7 @@ use rx_note::Terminal;
 use rx_slots::Key;
 
 /// How a hub's connection ended that ended by itself.
-#[derive(Clone, Copy, Debug, PartialEq, Eq)]
+#[derive(Clone, Copy)]
 pub struct LastEnd {
     /// The place of its End in the history. A subscriber that is older ends in the same way.
     pub place: u64,
@@ -14,7 +14,7 @@ pub struct LastEnd {
 }
 
 /// A published observable, without its subscribers.
-#[derive(Clone, Copy, Debug, PartialEq, Eq)]
+#[derive(Clone, Copy)]
 pub struct Published {
     /// The place of the event that made it.
     pub number: u64,
@@ -27,7 +27,7 @@ pub struct Published {
 }
 
 /// What a hub has to do.
-#[derive(Clone, Copy, Debug, PartialEq, Eq)]
+#[derive(Clone, Copy)]
 pub enum HubDue {
     /// The hub of this number connects.
     Connect(u64),

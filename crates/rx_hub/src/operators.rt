@@ -8,7 +8,7 @@ use rx_resource::Resource;
 use rx_tree::{Key, Tree};
 
 /// A node that has to end by its operator's rule, and how.
-#[derive(Clone, Copy, Debug, PartialEq, Eq)]
+#[derive(Clone, Copy)]
 pub struct Due {
     /// The node's key.
     pub node: Key,

@@ -4,7 +4,7 @@ use rx_tree::Key;
 
 /// Where an item stops inside one tree, with the key of the node (Observable Contract; FlatMap,
 /// Switch, TakeUntil; Publish).
-#[derive(Clone, Copy, Debug, PartialEq, Eq)]
+#[derive(Clone, Copy)]
 pub enum Stop {
     /// A root, whose observer is told the item.
     Delivery(Key),
@@ -17,7 +17,7 @@ pub enum Stop {
 }
 
 /// The end of an item's way inside one tree.
-#[derive(Clone, Copy, Debug, PartialEq, Eq)]
+#[derive(Clone, Copy)]
 pub struct Reached {
     /// Where it stops; None where its way was cut off, one visit after the most that an item may make.
     pub stop: Option<Stop>,

@@ -8,7 +8,7 @@ use std::marker::Model;
 use std::sync::ledger::{Blank, Book as Total, Ledger};
 
 /// How many items were emitted, and how many resources accepted and taken.
-#[derive(Clone, Copy, Debug, PartialEq, Eq)]
+#[derive(Clone, Copy)]
 pub struct Sums {
     /// Items emitted.
     pub items: u64,

@@ -10,7 +10,7 @@ ghost use Rattle.rx_line.specs.FreeCommands.{past_blanks, behind, past_mark, quo
 use rx_scenario::is_name;
 
 /// A command that closes, removes, gives back or asks for what is late, and its name. None of these takes memory.
-#[derive(Clone, Copy, Debug, PartialEq, Eq)]
+#[derive(Clone, Copy, PartialEq, Eq)]
 pub enum FreeCommand<'a> {
     Remove(&'a str),
     Return(&'a str),

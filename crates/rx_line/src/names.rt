@@ -10,7 +10,7 @@ use std::collections::HashMap;
 use std::marker::Model;
 
 /// Where something lies in its book, and its number.
-#[derive(Clone, Copy, Debug, PartialEq, Eq)]
+#[derive(Clone, Copy)]
 pub struct Spot {
     pub slot: u64,
     pub number: u64,

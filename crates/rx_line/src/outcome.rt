@@ -3,7 +3,7 @@
 use rx_event::Refusal;
 
 /// Why a command was refused, and nothing changed.
-#[derive(Clone, Copy, Debug, PartialEq, Eq)]
+#[derive(Clone, Copy)]
 pub enum Cause {
     /// It uses a name that is not bound: one that was never given, or whose node was closed, whose resource
     /// was taken, or whose lease was given back.
@@ -15,7 +15,7 @@ pub enum Cause {
 }
 
 /// What a command is answered.
-#[derive(Clone, Copy, Debug, PartialEq, Eq)]
+#[derive(Clone, Copy)]
 pub enum Outcome {
     /// It was carried out.
     Accepted,

@@ -4,7 +4,7 @@ ghost use Rattle.std.specs.Prelude.{◌≡◌, true};
 ghost use Rattle.rx_marks.specs.MarksInWords.{two_of, first_in, second_in};
 
 /// Which of two flags are set.
-#[derive(Clone, Copy, Debug, PartialEq, Eq)]
+#[derive(Clone, Copy)]
 pub(crate) enum Two {
     Neither,
     First,

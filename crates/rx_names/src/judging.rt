@@ -26,7 +26,7 @@ use std::alloc::Global;
 use std::io::{Read, Write};
 
 /// What a verdict tells of something that is open, held or waiting.
-#[derive(Clone, Copy, Debug, PartialEq, Eq)]
+#[derive(Clone, Copy)]
 pub enum Labels {
     /// Its number.
     Numbers,

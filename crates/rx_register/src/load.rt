@@ -1,7 +1,7 @@
 //! What a caller counts for the register.
 
 /// What is open, and what its closing may need.
-#[derive(Clone, Copy, Debug, PartialEq, Eq)]
+#[derive(Clone, Copy)]
 pub struct Load {
     /// How many nodes are open.
     pub open: u64,

@@ -10,7 +10,7 @@ use std::alloc::{AllocError, Global};
 use std::marker::Model;
 
 /// What is to be done.
-#[derive(Clone, Copy, Debug, PartialEq, Eq)]
+#[derive(Clone, Copy, Debug)]
 pub enum What {
     /// The root's observer receives an item.
     Next,
@@ -54,7 +54,7 @@ fn is_item(what: What) -> bool
 }
 
 /// Something that the face is to do.
-#[derive(Clone, Copy, Debug)]
+#[derive(Clone, Copy)]
 pub struct Effect {
     /// Where it waits.
     pub lane: LaneName,
@@ -68,7 +68,7 @@ pub struct Effect {
 }
 
 /// One effect, or two for one lane.
-#[derive(Clone, Copy, Debug)]
+#[derive(Clone, Copy)]
 pub struct Few {
     pub first: Effect,
     pub second: Option<Effect>,

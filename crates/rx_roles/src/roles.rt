@@ -9,7 +9,7 @@ use std::alloc::{AllocError, Global};
 use std::marker::Model;
 
 /// What a node or a resource has to end with one last effect.
-#[derive(Clone, Copy, Debug)]
+#[derive(Clone, Copy)]
 pub struct Role {
     /// The number of the node or of the resource.
     pub number: u64,
@@ -20,7 +20,7 @@ pub struct Role {
 }
 
 // A role without its number, under which it is kept.
-#[derive(Clone, Copy, Debug)]
+#[derive(Clone, Copy)]
 pub(crate) struct Said {
     pub(crate) word: u64,
     pub(crate) lane: LaneName,

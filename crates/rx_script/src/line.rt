@@ -1,7 +1,7 @@
 //! What a report's lines show.
 
 /// Where a resource is.
-#[derive(Clone, Copy, Debug, PartialEq, Eq)]
+#[derive(Clone, Copy)]
 pub enum Whereabouts {
     /// Its node is open and it was not removed from there, or a lease of it is out.
     Held,
@@ -12,7 +12,7 @@ pub enum Whereabouts {
 }
 
 /// A resource: its tag, how often it was used, where it is, and how many leases of it are out.
-#[derive(Clone, Copy, Debug, PartialEq, Eq)]
+#[derive(Clone, Copy)]
 pub struct Account {
     pub tag: u64,
     pub uses: u64,
@@ -21,7 +21,7 @@ pub struct Account {
 }
 
 /// Counts over all that happened.
-#[derive(Clone, Copy, Debug, PartialEq, Eq)]
+#[derive(Clone, Copy)]
 pub struct Totals {
     /// The nodes that were made.
     pub nodes: u64,

@@ -5,7 +5,7 @@ use rx_marks::Marks;
 use rx_slots::Key;
 
 /// The record of an open node.
-#[derive(Clone, Copy, Debug, PartialEq, Eq)]
+#[derive(Clone, Copy)]
 pub struct Node {
     /// The Open or Connect that made it.
     pub made: Event,

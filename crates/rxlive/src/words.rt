@@ -34,7 +34,7 @@ docs/reference/live-protocol.md has the lines and the answers in full.
 pub const USAGE: &str = "\nUsage: rxlive\n\nFor more information, try '--help'.\n";
 
 /// What the words of the command line ask for.
-#[derive(Clone, Copy, Debug, PartialEq, Eq)]
+#[derive(Clone, Copy)]
 pub enum Asked {
     /// A book on the standard streams.
     Book,
