@@ -480,6 +480,7 @@ static int come_of(Core *core, Lanes *lanes, int is_exchange, struct cellar_effe
 /* The same of one answer. */
 static int settle(Core *core, struct cellar_answer *a, PyObject *value, int is_exchange) {
   struct cellar_effect *handed = a->handed ? &a->effect : NULL;
+  if (handed) value = a->effect.carries && a->effect.value ? word(a->effect.value) : NULL;
   if (handed && a->due == 1 && !core->many) return serve(core, a->lanes[0], handed, value, 1);
   if (!a->due && !core->many && !is_exchange) return 0;
   Lanes lanes;
@@ -502,11 +503,9 @@ static int emit(struct Mine *here, Leaf *leaf, PyObject *value) {
   uint8_t status = command_by(here, core, &c, &a);
   if (status == CELLAR_GONE) return leaf->is_stopped = 1, 0;
   if (status) return refused(status);
-  if (a.handed && a.due == 1 && !core->many) { /* it is told while the caller holds it: no reference is taken */
-    a.effect.carries = 0;
-    return serve_by(here, core, a.lanes[0], &a.effect, value, 1);
-  }
   keep(core, value, a.copies);
+  if (a.handed && a.due == 1 && !core->many)
+    return serve_by(here, core, a.lanes[0], &a.effect, a.effect.carries && a.effect.value ? word(a.effect.value) : NULL, 1);
   return settle(core, &a, value, 0);
 }
 /* The leaf completes, or fails. */

@@ -198,7 +198,7 @@ export class Crossing {
     if (this.#a.length === 0) this.#look();
     if (status !== DONE) return status;
     const a = this.#a;
-    if (a[18] === 0 || a[14] !== 0 || a[58] !== 0) return this.#act(value);
+    if (a[18] === 0 || a[14] !== 0 || a[58] !== 0 || a[54] !== word) return this.#act(value);
     // the usual case: one observer, who is told now
     const low = a[36], high = a[37], { hears } = this.#things.get(a[52]);
     this.#depth++;
@@ -332,7 +332,9 @@ export class Crossing {
 
   // The effect of an answer, told at once where there is room.
   #handed(value) {
-    const a = this.#a, low = a[36], high = a[37], user = a[52], kind = a[58];
+    const a = this.#a, low = a[36], high = a[37], user = a[52], kind = a[58], word = a[59] !== 0 ? a[54] : 0;
+    if (a[12] !== 0) this.#values.keep(value, a[12]);
+    value = word !== 0 ? this.#values.give(word) : undefined;
     if (a[14] !== 0) this.#close(a[14]);
     this.#depth++;
     try { this.#glue.all(0); } catch (error) {
@@ -492,6 +494,8 @@ export class Crossing {
     try { return this.#glue.giveUp(low, high) !== 0; } catch (error) { throw this.#failed(error); }
   }
 
+  /** Its lane may have more. */
+  stir() { this.#made++; }
   /** Serves what stands behind the end that is being told, and behind those that it comes of: what they held is released now. */
   goOn() {
     for (const it of [...this.#ending]) if (this.giveUp(it)) this.#serve(it.low, it.high);

@@ -6,7 +6,7 @@ import { operator } from '../core/operator.mjs';
 /** Calls it once, however each subscription comes to its end: a resource of the engine. */
 export const finalize = (callback) => operator((at, source) => {
   const tag = traced(new Tag(callback), 'finalizer'), below = openUsing(at, tag);
-  if (below === null) return;
+  if (below === null) return void tag.release();
   openAt(source, below);
   if (below._above === LEFT) tag.release();
 });

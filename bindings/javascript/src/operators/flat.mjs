@@ -52,6 +52,7 @@ class Bounded extends Projects {
   project(thing, value, lane) {
     if (this.active < this.bound) return this.start(thing, value, lane);
     this.waiting.push(value);
+    realm.engine.stir();
     return false;
   }
   start(thing, value, lane) {

@@ -29,10 +29,10 @@ function notifies(other, place) {
 
 export function takeUntil(notifier) {
   return operator((at, source) => {
-    const other = innerFrom(notifier), place = settled(at), thing = place && openNode(place, UNTIL);
+    const other = innerFrom(notifier), place = settled(at), body = { over: false, shut() { this.over = true; } }, thing = place && openNode(place, UNTIL, body);
     if (!thing) return;
     notifies(other, new Place(NOTIFIER, thing, null, new Notifies(TERMINAL)));
-    if (thing !== LEFT) openAt(source, new Place(SOURCE, thing, null, place._way));
+    if (thing !== LEFT && !body.over) openAt(source, new Place(SOURCE, thing, null, place._way));
   });
 }
 

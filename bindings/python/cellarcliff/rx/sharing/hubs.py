@@ -54,6 +54,8 @@ def level(observable: Observable[Any]) -> int:
 class ConnectableObservable(Observable[Any]):
     """An observable that can be connected and disconnected: of a source and a subject, through which its items go."""
 
+    _is_hot = True
+
     def __init__(self, source: Any, subject: Any):
         self.source, self.subject = to_observable(source), subject
         self._subscription: Any = None
@@ -101,6 +103,8 @@ class ConnectableObservable(Observable[Any]):
 
 class Published(ConnectableObservable):
     """publish(): a hub that is connected by hand."""
+
+    _is_hot = False
 
     def __init__(self, source: Any):
         self.source = to_observable(source)
