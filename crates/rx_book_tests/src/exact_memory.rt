@@ -178,7 +178,8 @@ fn an_opening_or_a_resource_beside_32_others_takes_room_for_32_more(
     let needs = [
         (Full::Nodes, for_others(63, 0), for_others(64, 0)),
         (Full::NodesUsing, for_others(63, 4), for_others(64, 4)),
-        (Full::Resources, for_others(0, 63), for_others(0, 64)),
+        // What grows copies the keys of the 32 first: they fit where eight resources more would.
+        (Full::Resources, for_others(0, 63), for_others(0, 72)),
     ];
     are_met_by_just(&rt, rt.alloc(), &needs)
 }

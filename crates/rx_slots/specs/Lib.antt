@@ -5,3 +5,4 @@ pub mod Lists
 pub mod Rings
 pub mod Links
 pub mod Places
+pub mod Keyed

@@ -1,12 +1,14 @@
 //! How both kinds of store get room for more.
 
-ghost use Rattle.std.specs.Prelude.{◌≡◌, ◌+◌, ◌≤◌, length, vec_capacity, IfOk};
+ghost use Rattle.std.specs.Prelude.{◌≡◌, ◌+◌, ◌-◌, ◌<◌, ◌≤◌, ◌^◌, ◌++◌, length, replicate, vec_capacity, IfOk, None};
 ghost use Rattle.rx_slots.specs.Kept.{Fits};
+ghost use Rattle.slab.specs.Slab.{HasRoomFor};
 
+use slab::Slab;
 use std::alloc::AllocError;
 
 // As many slots are used at most, so that a link may keep one in 29 bits.
-const MOST: usize = 536_870_912;
+pub(crate) const MOST: usize = 536_870_912;
 
 // Gets room for so many values more, and answers how many values fit then. Growing may copy all values, so it
 // is done rarely: eightfold, where there is memory for that.
@@ -60,4 +62,32 @@ fn extend<C>(
     let more = cells.capacity().min(MOST);
     free.reserve(more - free.len())?;
     Ok(more)
+}
+
+// A copy of these keys, with room for so many more. A slab tells its capacity only once it has grown, and one that has
+// grown past the most slots is of no use: so it is the copy that grows, and a refusal leaves the keys as they were.
+pub(crate) fn wider(keys: &Slab<()>, additional: usize) -> Result<Slab<()>, AllocError>
+    ensures slots { IfOk result (λ more. more.slots ≡ keys.now.slots) }
+    ensures vacant_key { IfOk result (λ more. more.vacant_key ≡ keys.now.vacant_key) }
+    ensures room { IfOk result (λ more. HasRoomFor more additional) }
+    ensures most { IfOk result (λ more. more.capacity ≤ 2 ^ 29) }
+{
+    let mut more = keys.clone()?;
+    more.reserve_exact(additional)?;
+    if more.capacity() > MOST {
+        return Err(AllocError);
+    }
+    Ok(more)
+}
+
+// Adds cells of nothing until there is one at a slot. There is room for them.
+#[inline(always)]
+pub(crate) fn fill<C>(cells: &mut Vec<Option<C>>, slot: usize)
+    requires room { slot < vec_capacity cells.old }
+    ensures items { cells.new.items ≡ cells.old.items ++ replicate (slot + 1 - length cells.old.items) None }
+    ensures capacity { vec_capacity cells.new ≡ vec_capacity cells.old }
+{
+    while cells.len() <= slot {
+        cells.push_reserved(None);
+    }
 }

@@ -18,6 +18,9 @@
 //! in. A store of the same contracts whose values need not come out is [`Records`]: there a value stays
 //! where it stood until its slot is used again, so in a proved build these calls ask nothing.
 //!
+//! The slots of a [`Slots`] are keys of the toolchain's `slab`, which says which of them have a value and which comes
+//! next; the values stand in cells beside it. Those of [`Records`] are its own.
+//!
 //! Promised: each answer is the one that the entries tell, after `reserve(n)` n inserts succeed with
 //! no memory, and a slot is below 2^29: room for more is refused as memory is. A walk over all values,
 //! by [`Slots::slot_count`] or [`Slots::next_key`], takes no memory. Values need not be `Drop`.
@@ -54,9 +57,10 @@ mod links;
 mod records;
 mod rings;
 
-use growing::grow;
+use growing::{MOST, fill, wider};
 pub use records::Records;
 pub use rings::Rings;
+use slab::Slab;
 use std::alloc::{AllocError, Global};
 use std::marker::Model;
 use std::mem;
@@ -82,12 +86,10 @@ pub struct Entry<T> {
 /// Values at slots, each under a key that finds no other value.
 #[derive(Drop)]
 pub struct Slots<T> {
+    // Which slots have a value, and which is used next.
+    keys: Slab<()>,
     // What stands at each slot that was ever used.
     cells: Vec<Option<Entry<T>>>,
-    // The slots without a value, each once. The last of them is used next.
-    free: Vec<u32>,
-    // How many values there are and have room.
-    capacity: usize,
 }
 
 impl<T> Model for Slots<T> {
@@ -98,11 +100,11 @@ impl<T> Model for Slots<T> {
     ghost coded = { slots_code T.code };
 
     ghost use Rattle.std.specs.Prelude.{vec_capacity};
-    ghost use Rattle.rx_slots.specs.Kept.{shown, IsKept};
+    ghost use Rattle.rx_slots.specs.Keyed.{shown_keyed, IsKeyed};
 
-    ghost view = { λ s. shown s.cells.items s.free.items s.capacity };
+    ghost view = { λ s. shown_keyed s.keys s.cells.items };
 
-    ghost invariant = { λ s. IsKept s.cells.items s.free.items s.capacity (vec_capacity s.cells) (vec_capacity s.free) };
+    ghost invariant = { λ s. IsKeyed s.keys s.cells.items (vec_capacity s.cells) };
 }
 
 impl<T> Slots<T> {
@@ -117,9 +119,8 @@ impl<T> Slots<T> {
         ensures room { result.room ≡ 0 }
     {
         Slots {
+            keys: Slab::new(alloc),
             cells: Vec::new(alloc),
-            free: Vec::new(alloc),
-            capacity: 0,
         }
     }
 
@@ -141,15 +142,39 @@ impl<T> Slots<T> {
         self.grow(additional)
     }
 
-    // It is rare, and apart, so that what asks for room stays small.
+    // It is rare, and apart, so that what asks for room stays small. Growing may copy all values: so it is eightfold
+    // where there is memory for that, and else twofold.
     #[cold]
     #[inline(never)]
     fn grow(&mut self, additional: usize) -> Result<(), AllocError>
+        requires short { self.old.room < additional }
         ensures ok { OnOk result (additional ≤ self.new.room) }
         ensures kept { self.new ≡ record self.old { room = self.new.room } }
         ensures room { self.old.room ≤ self.new.room }
     {
-        self.capacity = grow(&mut self.cells, &mut self.free, self.capacity, additional)?;
+        let len = self.keys.len();
+        let most = MOST - len;
+        if additional > most {
+            return Err(AllocError);
+        }
+        let more = len.saturating_mul(7).min(most);
+        if additional < more && self.extend(more).is_ok() {
+            return Ok(());
+        }
+        self.extend(additional.max(len.max(4)).min(most))
+    }
+
+    // Gets room for so many values more, or for as many as fit the memory that this takes.
+    fn extend(&mut self, additional: usize) -> Result<(), AllocError>
+        requires short { self.old.room < additional }
+        ensures ok { OnOk result (additional ≤ self.new.room) }
+        ensures kept { self.new ≡ record self.old { room = self.new.room } }
+        ensures room { self.old.room ≤ self.new.room }
+        ensures err { OnErr result (self.new ≡ self.old) }
+    {
+        let keys = wider(&self.keys, additional)?;
+        self.cells.reserve(keys.capacity() - self.cells.len())?;
+        self.keys = keys;
         Ok(())
     }
 
@@ -158,7 +183,7 @@ impl<T> Slots<T> {
     pub fn room(&self) -> usize
         ensures { result ≡ self.now.room }
     {
-        self.capacity - self.len()
+        self.keys.capacity() - self.keys.len()
     }
 
     /// Puts a value at the next slot, under a number that its caller gives.
@@ -212,14 +237,9 @@ impl<T> Slots<T> {
         ensures count { self.new.count ≡ self.old.count + 1 }
         ensures had_room { self.new.room + 1 ≡ self.old.room }
     {
-        let entry = Some(Entry { number, value });
-        let Some(slot) = self.free.pop() else {
-            let slot = self.cells.len();
-            self.cells.push_reserved(entry);
-            return slot;
-        };
-        let slot = slot as usize;
-        match mem::replace(&mut self.cells[slot], entry) {
+        let slot = self.keys.insert_reserved(());
+        fill(&mut self.cells, slot);
+        match mem::replace(&mut self.cells[slot], Some(Entry { number, value })) {
             None => slot,
             Some(_before) => unreachable!(),
         }
@@ -294,7 +314,7 @@ impl<T> Slots<T> {
         ensures count { self.new.count + 1 ≡ self.old.count }
         ensures room { self.new.room ≡ self.old.room + 1 }
     {
-        self.free.push_reserved(slot as u32);
+        self.keys.remove(slot);
         match self.cells[slot].take() {
             Some(Entry { number: _, value }) => value,
             None => unreachable!(),
@@ -307,7 +327,7 @@ impl<T> Slots<T> {
         ensures value { result ≡ self.now.count }
         ensures counted { result ≡ count_by is_some self.now.entries }
     {
-        self.cells.len() - self.free.len()
+        self.keys.len()
     }
 
     /// Whether there is no value.
@@ -325,7 +345,7 @@ impl<T> Slots<T> {
         ensures within { IsWithin self.now }
         ensures most { result ≤ 2 ^ 29 }
     {
-        self.capacity
+        self.keys.capacity()
     }
 
     /// How many slots were ever used: each value is at a slot below.
@@ -345,10 +365,7 @@ impl<T> Slots<T> {
         ensures free { entry_at self.now result ≡ None }
         ensures most { result ≤ 2 ^ 29 }
     {
-        match self.free.last() {
-            Some(slot) => *slot as usize,
-            None => self.cells.len(),
-        }
+        self.keys.vacant_key().min(MOST)
     }
 
     /// The value at a slot with its number, if one stands there.

@@ -1,117 +1,35 @@
-use Rattle.rx_slots.proofs.Common.{◌≡◌, None, is_some, length, sym, ap, ◌∙◌, arith, true≢false, get_or_past, get_or_read, Entry, Key, shown, Slots}
-use Rattle.rx_slots.proofs.Common.{with_number, placed, entry_at}
-use Rattle.rx_slots.proofs.SlotsLemmas.{length-placed, Changes-placed}
+use Rattle.rx_slots.proofs.Common.{◌≡◌, ◌+◌, ◌≤◌, List, Option, Some, None, ap, set, arith, Entry, Key, Slots, entry_at}
+use Rattle.rx_slots.proofs.SlotsLemmas.{Changes-placed}
 use Rattle.rx_slots.proofs.Laws.OthersKept.{KeepsOthers-insert}
-use Rattle.rx_slots.proofs.Laws.EntryByNumber.{with_number-same}
-use Rattle.rx_slots.proofs.KeptLemmas.{placed_next, placed_within, reused_below, reused_free, reused_next, kept_reused}
+use Rattle.rx_slots.proofs.KeyedLemmas.{keyed_placed, no_cell}
 use Rattle.rx_slots.proofs.Slots.place.Goals as goal
-use Rattle.std.proofs.Common.{rules}
-use Rattle.std.proofs.lemmas.Grind.{common_steps}
+use Rattle.rx_slots.specs.Keyed.{shown_keyed}
+use Rattle.slab.specs.Slab.{slab_len}
 
-pub returns-in_default-clause-placed : goal.returns-in_default-clause-placed
-returns-in_default-clause-placed g c =
-    search (rules, length, placed_next, placed)
-
-pub returns-in_default-clause-kept : goal.returns-in_default-clause-kept
-returns-in_default-clause-kept g c =
-    let cells = c.self.inside.cells in
-    let key : Key = record { slot = c.len-slot.result; number = c.args.number } in
-    let at = c.len-slot.ensures ∙ cells.ok.0 in
-    let free : entry_at c.args.self.now c.len-slot.result ≡ None =
-    rw (← c.self.view_is) (get_or_past cells.items c.len-slot.result None (omega (arith, at))) in
-    let new : Slots g.row.T.Denot = shown c.push_reserved.new.self.items c.pop.new.self.items c.self.inside.capacity in
-    KeepsOthers-insert c.args.self.now new key c.args.value free (Changes-placed c.args.self.now new c.len-slot.result _ (returns-in_default-clause-placed g c))
-
-pub index_mut-requires : goal.index_mut-requires
-index_mut-requires g c =
-    let cells = c.self.inside.cells in
-    let below = reused_below cells.items c.self.inside.free.items _ _ _ c.self.invariant c.pop.new.self.items c.in-Some.slot
-    (record { number = c.args.number; value = c.args.value }) c.in-Some.ensures.items in
-    let same = cells.ok.0 in
-    omega (arith, below, same)
-
-pub unreachable-requires : goal.unreachable-requires
-unreachable-requires g c =
-    let cells = c.self.inside.cells in
-    let e : Entry g.row.T.Denot = record { number = c.args.number; value = c.args.value } in
-    let below = reused_below cells.items c.self.inside.free.items _ _ _ c.self.invariant c.pop.new.self.items c.in-Some.slot e c.in-Some.ensures.items in
-    let free = reused_free cells.items c.self.inside.free.items _ _ _ c.self.invariant c.pop.new.self.items c.in-Some.slot e c.in-Some.ensures.items in
-    let read = get_or_read cells.items c.in-Some.slot _ below c.index_mut.ensures.value None in
-    true≢false (ap is_some (sym c.in-Some-replace.is ∙ c.replace.ensures.value ∙ read ∙ free))
-
-pub invariant_of-self-2 : goal.invariant_of-self-2
-invariant_of-self-2 g c =
-    rw (c.replace.ensures.after, c.pop.ensures.capacity)
-    (kept_reused c.self.inside.cells.items c.self.inside.free.items _ _ _ c.self.invariant c.pop.new.self.items c.in-Some.slot _ c.in-Some.ensures.items)
-
-pub returns-clause-slot : goal.returns-clause-slot
-returns-clause-slot g c =
-    let e : Entry g.row.T.Denot = record { number = c.args.number; value = c.args.value } in
-    rw (← c.self.view_is)
-    (sym (reused_next c.self.inside.cells.items c.self.inside.free.items _ _ _ c.self.invariant c.pop.new.self.items c.in-Some.slot e c.in-Some.ensures.items))
-
-pub returns-clause-below : goal.returns-clause-below
-returns-clause-below g c =
-    let e : Entry g.row.T.Denot = record { number = c.args.number; value = c.args.value } in
-    let below = reused_below c.self.inside.cells.items c.self.inside.free.items _ _ _ c.self.invariant c.pop.new.self.items c.in-Some.slot e
-    c.in-Some.ensures.items in
-    let within = c.self.invariant.within in
-    let most = c.self.invariant.most in
-    omega (arith, below, within, most)
+pub invariant_of-self : goal.invariant_of-self
+invariant_of-self g c =
+    let keys = c.self.inside.keys in
+    let come = c.insert_reserved-slot.ensures in
+    let had = rw (← c.self.view_is) at c.requires.room in
+    let room : slab_len keys + 1 ≤ keys.capacity = omega (arith, had) in
+    rw (c.replace.ensures.after, c.fill.ensures.items, c.fill.ensures.capacity)
+    (keyed_placed keys c.self.inside.cells.items _ c.self.invariant c.insert_reserved-slot.new.self c.insert_reserved-slot.result _ _ come.updates come.len room
+    come.key_in_range come.capacity)
 
 pub returns-clause-placed : goal.returns-clause-placed
 returns-clause-placed g c =
     let e : Entry g.row.T.Denot = record { number = c.args.number; value = c.args.value } in
-    let below = reused_below c.self.inside.cells.items c.self.inside.free.items _ _ _ c.self.invariant c.pop.new.self.items c.in-Some.slot e
-    c.in-Some.ensures.items in
-    rw (← c.self.view_is, c.replace.ensures.after) (placed_within c.self.inside.cells.items c.in-Some.slot e below)
+    rw (← c.self.view_is, c.replace.ensures.after)
+    (ap (λ (cells : List (Option (Entry g.row.T.Denot))). set cells c.insert_reserved-slot.result (Some e)) c.fill.ensures.items)
 
 pub returns-clause-changes : goal.returns-clause-changes
-returns-clause-changes g c = Changes-placed c.args.self.now _ c.in-Some.slot _ (returns-clause-placed g c)
+returns-clause-changes g c = Changes-placed c.args.self.now _ c.insert_reserved-slot.result _ (returns-clause-placed g c)
 
-pub returns-clause-found : goal.returns-clause-found
-returns-clause-found g c =
-    search (rules, with_number, returns-clause-changes, with_number-same)
-
-pub returns-clause-slot_count : goal.returns-clause-slot_count
-returns-clause-slot_count g c =
-    search (rules, length, returns-clause-placed, length-placed)
-
-pub returns-in_default-clause-slot_count : goal.returns-in_default-clause-slot_count
-returns-in_default-clause-slot_count g c = grind (arith, common_steps)
-
-pub returns-in_default-clause-count : goal.returns-in_default-clause-count
-returns-in_default-clause-count g c = grind (arith, common_steps)
-
-pub returns-in_default-clause-had_room : goal.returns-in_default-clause-had_room
-returns-in_default-clause-had_room g c = grind (arith, common_steps)
-
-pub returns-clause-count : goal.returns-clause-count
-returns-clause-count g c = grind (arith, common_steps)
-
-pub returns-clause-had_room : goal.returns-clause-had_room
-returns-clause-had_room g c = grind (arith, common_steps)
-
-pub overflow_cast-slot : goal.overflow_cast-slot
-overflow_cast-slot g c = grind (arith, common_steps)
-
-pub push_reserved-requires : goal.push_reserved-requires
-push_reserved-requires g c = grind (arith, common_steps)
-
-pub invariant_of-self : goal.invariant_of-self
-invariant_of-self g c = grind (arith, common_steps)
-
-pub returns-in_default-clause-below : goal.returns-in_default-clause-below
-returns-in_default-clause-below g c = grind (arith, common_steps)
-
-pub returns-in_default-clause-was_free : goal.returns-in_default-clause-was_free
-returns-in_default-clause-was_free g c = grind (arith, common_steps)
-
-pub returns-in_default-clause-changes : goal.returns-in_default-clause-changes
-returns-in_default-clause-changes g c = grind (arith, common_steps)
-
-pub returns-in_default-clause-found : goal.returns-in_default-clause-found
-returns-in_default-clause-found g c = grind (arith, common_steps)
-
-pub returns-in_default-clause-slot : goal.returns-in_default-clause-slot
-returns-in_default-clause-slot g c = grind (arith, common_steps)
+pub returns-clause-kept : goal.returns-clause-kept
+returns-clause-kept g c =
+    let key : Key = record { slot = c.insert_reserved-slot.result; number = c.args.number } in
+    let free : entry_at c.args.self.now c.insert_reserved-slot.result ≡ None =
+    rw (← c.self.view_is)
+    (no_cell c.self.inside.keys c.self.inside.cells.items _ c.self.invariant c.insert_reserved-slot.result c.insert_reserved-slot.ensures.was_vacant) in
+    let new : Slots g.row.T.Denot = shown_keyed c.insert_reserved-slot.new.self (set c.fill.new.cells.items c.insert_reserved-slot.result c.replace.new.dest) in
+    KeepsOthers-insert c.args.self.now new key c.args.value free (returns-clause-changes g c)
