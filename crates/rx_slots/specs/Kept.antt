@@ -1,5 +1,5 @@
 -- What `Records` shows of its cells, and keeps true of them. No public clause cites this module.
-use Rattle.std.specs.Prelude.{◌≡◌, ◌≢◌, ℕ, ◌+◌, ◌-◌, ◌<◌, ◌≤◌, ◌==◌, ◌&&◌, nat_le, nat_lt, Bool, cond, List, [], ◌∷◌, length}
+use Rattle.std.specs.Prelude.{◌≡◌, ◌≢◌, ℕ, ◌+◌, ◌-◌, ◌<◌, ◌≤◌, ◌^◌, ◌==◌, ◌&&◌, nat_le, nat_lt, Bool, cond, List, [], ◌∷◌, length}
 use Rattle.std.specs.Prelude.{Option, Some, None, is_some, count_by, slice_index_or, refl}
 use Rattle.std.specs.Coded.{Coded, code_by, coded×, coded_ℕ, coded_list, coded_option}
 use Rattle.rx_slots.specs.declared.Entry.{Entry}
@@ -43,7 +43,7 @@ pub record AreTold (free numbers : List ℕ) : Type 0 where
 
 -- so many values fit, and so do all cells and the slots of those that are free
 pub record Fits {C : Type 0} (cells : List C) (free : List ℕ) (capacity cells_fit free_fit : ℕ) : Type 0 where
-  pub most : capacity ≤ 536870912
+  pub most : capacity ≤ 2 ^ 29
   pub cells_in : capacity ≤ cells_fit
   pub free_in : capacity ≤ free_fit
   pub within : length cells ≤ capacity
@@ -62,7 +62,7 @@ module _ {T : Type 0} where
 
   -- the values fit, and so do the free slots, which are all those without a value, each once; and slots are below 2^29
   pub record IsKept (cells : List (Option (Entry T))) (free : List ℕ) (capacity cells_fit free_fit : ℕ) : Type 0 where
-    pub most : capacity ≤ 536870912
+    pub most : capacity ≤ 2 ^ 29
     pub cells_in : capacity ≤ cells_fit
     pub free_in : capacity ≤ free_fit
     pub within : length cells ≤ capacity

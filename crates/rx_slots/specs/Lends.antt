@@ -25,7 +25,7 @@ module _ (T : RattleType) (s : MutBor (Slots T.Denot)) where
   abbrev pub lends_record : ℕ → MutBor T.Denot → Fml
   lends_record slot r = Lends (records_row T) T s r (with_value_at s.now slot)
 
--- the same of the cells behind those
+-- and the cells behind such a store, whose slot keeps its number
 abbrev pub lends_cell : (T : RattleType) → MutBor (Cells T.Denot) → ℕ → MutBor T.Denot → Fml
 lends_cell T c slot r = Lends (cells_row T) T c r (λ value. record c.now {
   items = slice_set c.now.items slot (option_map (λ e. entry_of e.number value) (slice_index_or c.now.items slot None));

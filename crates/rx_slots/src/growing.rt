@@ -7,8 +7,8 @@ ghost use Rattle.slab.specs.Slab.{HasRoomFor};
 use slab::Slab;
 use std::alloc::AllocError;
 
-// As many slots are used at most, so that a link may keep one in 29 bits.
-pub(crate) const MOST: usize = 536_870_912;
+/// How many slots a store uses at most, so that a link may keep one in 29 bits.
+pub const MOST_SLOTS: usize = 536_870_912;
 
 // Gets room for so many values more, and answers how many values fit then. Growing may copy all values, so it
 // is done rarely: eightfold, where there is memory for that.
@@ -54,12 +54,12 @@ fn extend<C>(
     ensures enough { IfOk result (λ more. length cells.old.items + additional ≤ more + length free.old.items) }
 {
     let len = cells.len() - free.len();
-    if additional > MOST - len {
+    if additional > MOST_SLOTS - len {
         return Err(AllocError);
     }
     let wanted = capacity.max(len + additional);
     cells.reserve(wanted - cells.len())?;
-    let more = cells.capacity().min(MOST);
+    let more = cells.capacity().min(MOST_SLOTS);
     free.reserve(more - free.len())?;
     Ok(more)
 }
@@ -74,7 +74,7 @@ pub(crate) fn wider(keys: &Slab<()>, additional: usize) -> Result<Slab<()>, Allo
 {
     let mut more = keys.clone()?;
     more.reserve_exact(additional)?;
-    if more.capacity() > MOST {
+    if more.capacity() > MOST_SLOTS {
         return Err(AllocError);
     }
     Ok(more)

@@ -57,7 +57,8 @@ mod links;
 mod records;
 mod rings;
 
-use growing::{MOST, fill, wider};
+pub use growing::MOST_SLOTS;
+use growing::{fill, wider};
 pub use records::Records;
 pub use rings::Rings;
 use slab::Slab;
@@ -153,7 +154,7 @@ impl<T> Slots<T> {
         ensures room { self.old.room ≤ self.new.room }
     {
         let len = self.keys.len();
-        let most = MOST - len;
+        let most = MOST_SLOTS - len;
         if additional > most {
             return Err(AllocError);
         }
@@ -365,7 +366,7 @@ impl<T> Slots<T> {
         ensures free { entry_at self.now result ≡ None }
         ensures most { result ≤ 2 ^ 29 }
     {
-        self.keys.vacant_key().min(MOST)
+        self.keys.vacant_key().min(MOST_SLOTS)
     }
 
     /// The value at a slot with its number, if one stands there.

@@ -5,7 +5,7 @@ use Rattle.rx_tree.proofs.Common.{Noted, Node, Stowed, is_among, without, Steps,
 use Rattle.rx_tree.proofs.Common.{among_cons, among_without, put_ring, by_ring, rings_joined, rings_left, key_on, Rises, is_by_age, home_of, IsTiedAt}
 use Rattle.rx_slots.proofs.Laws.Places.{among_append}
 
--- the same rings, where each place has the home that it had
+-- rings stay what they are where each place has the home that it had
 pub rings_same : (n p : Steps Place) (home home' : Place → Option Place) (rings : Place → List Place) → AreRings places n p home rings →
     ((q : Place) → home' q ≡ home q) → AreRings places n p home' rings
 rings_same n p home home' rings R same = let e : home ≡ home' = (λ i q. sym (same q) i) in subst (λ h. AreRings places n p h rings) e R

@@ -4,6 +4,7 @@ ghost use Rattle.std.specs.Prelude.{◌≡◌, ◌<◌, ◌^◌};
 ghost use Rattle.rx_tree.specs.Places.{is_place, slot_of};
 ghost use Rattle.rx_tree.specs.declared.links.Place.TheVariants.{Noted};
 
+use rx_slots::MOST_SLOTS;
 use std::marker::Model;
 
 /// A place on one of the tree's rings. A ring begins and ends at one of the first five, and goes
@@ -45,9 +46,6 @@ const NOTED: u32 = 6;
 
 const STORED: u32 = 7;
 
-// How many slots there are at most.
-const SLOTS: usize = 536_870_912;
-
 /// A place as a link keeps it, in a word of 32 bits: its kind in the three low ones, and above them its slot, which
 /// is below 2^29. It is seen as the place.
 #[derive(Clone, Copy)]
@@ -82,11 +80,11 @@ impl Step {
             Place::Roots => ROOTS,
             Place::Due => DUE,
             Place::Waiting => WAITING,
-            Place::Children(slot) => (slot % SLOTS) as u32 * 8 + CHILDREN,
-            Place::Held(slot) => (slot % SLOTS) as u32 * 8 + HELD,
-            Place::Sibling(slot) => (slot % SLOTS) as u32 * 8 + SIBLING,
-            Place::Noted(slot) => (slot % SLOTS) as u32 * 8 + NOTED,
-            Place::Stored(slot) => (slot % SLOTS) as u32 * 8 + STORED,
+            Place::Children(slot) => (slot % MOST_SLOTS) as u32 * 8 + CHILDREN,
+            Place::Held(slot) => (slot % MOST_SLOTS) as u32 * 8 + HELD,
+            Place::Sibling(slot) => (slot % MOST_SLOTS) as u32 * 8 + SIBLING,
+            Place::Noted(slot) => (slot % MOST_SLOTS) as u32 * 8 + NOTED,
+            Place::Stored(slot) => (slot % MOST_SLOTS) as u32 * 8 + STORED,
         };
         Step { word }
     }
