@@ -8,7 +8,7 @@ use std::marker::Model;
 use std::sync::ledger::{Blank, Book as Total, Ledger};
 
 /// How many items were emitted, and how many resources accepted and taken.
-#[derive(Clone, Copy)]
+#[derive(Clone, Copy, Debug, PartialEq, Eq)]
 pub struct Sums {
     /// Items emitted.
     pub items: u64,

@@ -3,7 +3,7 @@
 use rx_event::Event;
 
 /// That an event was written at a place of the history.
-#[derive(Clone, Copy, Debug)]
+#[derive(Clone, Copy, Debug, PartialEq, Eq)]
 pub struct Receipt {
     /// The place.
     pub place: u64,
