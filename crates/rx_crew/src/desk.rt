@@ -28,6 +28,9 @@ impl<R: Resource, I: Ledger, A: Ledger, K: Ledger> Desk<R, I, A, K> {
     /// A desk for this book, and its first seat, which has all parts and has counted all that the
     /// book has. Each blank has [`rx_ledger::PARTS`] parts and the name of its ledger's type.
     ///
+    /// No clause says which book is on the floor, since a contract knows nothing of what lies behind a
+    /// lock: `finish` says what the book that it takes out comes to beside all seats.
+    ///
     /// It is called in a function that is generic in the three ledgers, which is itself called with
     /// `std::marker::Brand` for each: so each desk has types of its own, and the seat of one is
     /// refused by the compiler at another.
