@@ -29,17 +29,9 @@ int main(void) {
     MISUSED(cellar_take(BAD(struct cellar), 0, 0, &effect, &one));
     MISUSED(cellar_take(&engine, 0, 0, BAD(struct cellar_effect), &one));
     MISUSED(cellar_take(&engine, 0, 0, &effect, BAD(uint64_t)));
-    MISUSED(cellar_take_on(BAD(struct cellar), 0, 0, &effect, 1, &one));
-    MISUSED(cellar_take_on(&engine, 0, 0, BAD(struct cellar_effect), 1, &one));
-    MISUSED(cellar_take_on(&engine, 0, 0, &effect, 1, BAD(uint64_t)));
     MISUSED(cellar_make_behind(BAD(struct cellar), 0, &command, &answer));
     MISUSED(cellar_make_behind(&engine, 0, BAD(struct cellar_command), &answer));
     MISUSED(cellar_make_behind(&engine, 0, &command, BAD(struct cellar_answer)));
-    MISUSED(cellar_make_on(BAD(struct cellar), 0, &command, &answer, &effect, 1, &one));
-    MISUSED(cellar_make_on(&engine, 0, BAD(struct cellar_command), &answer, &effect, 1, &one));
-    MISUSED(cellar_make_on(&engine, 0, &command, BAD(struct cellar_answer), &effect, 1, &one));
-    MISUSED(cellar_make_on(&engine, 0, &command, &answer, BAD(struct cellar_effect), 1, &one));
-    MISUSED(cellar_make_on(&engine, 0, &command, &answer, &effect, 1, BAD(uint64_t)));
     MISUSED(cellar_give_up(BAD(struct cellar), 0, 0, &effect, 0, &one));
     MISUSED(cellar_give_up(&engine, 0, 0, BAD(struct cellar_effect), 0, &one));
     MISUSED(cellar_give_up(&engine, 0, 0, &effect, 0, BAD(uint64_t)));
@@ -67,9 +59,7 @@ int main(void) {
   MUST(cellar_make(&engine, &command, &answer) == CELLAR_NOTHING_KEPT && !answer.copies && !answer.closed && !answer.due && !answer.handed);
   MUST(cellar_make_behind(&engine, 0, &command, &answer) == CELLAR_NOTHING_KEPT && !answer.copies && !answer.due && !answer.handed);
   one = 1;
-  MUST(cellar_make_on(&engine, 0, &command, &answer, &effect, 1, &one) == CELLAR_NOTHING_KEPT && one == 0 && !answer.due && !answer.handed);
   MUST(cellar_take(&engine, 0, 0, &effect, &one) == CELLAR_NOTHING_KEPT && one == 0);
-  MUST(cellar_take_on(&engine, 0, 0, &effect, 1, &one) == CELLAR_NOTHING_KEPT && one == 0);
   MUST(cellar_give_up(&engine, 0, 0, &effect, 0, &one) == CELLAR_NOTHING_KEPT && cellar_left(&engine, 0, &one, &two) == CELLAR_NOTHING_KEPT);
   MUST(cellar_rest(&engine, 0, 0, list, 8, &one) == CELLAR_NOTHING_KEPT && cellar_totals(&engine, &totals) == CELLAR_NOTHING_KEPT);
   MUST(cellar_event(&engine, 0, &event) == CELLAR_NOTHING_KEPT && cellar_dump(&engine, text, sizeof text, &one) == CELLAR_NOTHING_KEPT);

@@ -1,6 +1,6 @@
 /* Measures the engine beside the book's calls that tell: nanoseconds of processor time, the median of nine rounds with the least and
  * the greatest, and bytes. Both do the same work: of a book, what is told stands in the answer; of an engine, it is taken of its lane.
- * The lane of an item that was handed out is given back with the command that follows, and what a disposal comes to is taken with it.
+ * The lane of an item that was handed out is given back with the command that follows.
  * What crosses lies at another place of a page each round, so that no figure hangs on where it happens to lie. */
 #define _POSIX_C_SOURCE 200809L
 #include <cellarcliff.h>
@@ -16,7 +16,7 @@ enum { N = 200000, ROUNDS = 9, EVENTS = 4000 };
 static struct crossing {
   struct cellar_command c;
   struct cellar_answer a;
-  struct cellar_effect room[CELLAR_ROOM];
+  struct cellar_effect effect;
   struct rx_told told;
 } *at;
 static uint64_t done = UINT64_MAX; /* a lane of which all that was taken is done, and which the next command gives back */
@@ -63,7 +63,7 @@ static void items_told(struct rx_book *book) {
 }
 /* A Using with a leaf whose closing is heard of: one item, disposed of, its resource taken. */
 static void cycles(struct cellar *e) {
-  uint64_t count;
+  uint64_t count, told;
   for (uint64_t i = 0; i < N / 4; i++) {
     at->c.place = CELLAR_ROOT, at->c.value = i;
     make(e, CELLAR_USING);
@@ -71,9 +71,11 @@ static void cycles(struct cellar *e) {
     open_node(e, CELLAR_SOURCE, CELLAR_LEAF, root, CELLAR_WISHES);
     at->c.node = at->a.node;
     emit(e);
-    at->c.what = CELLAR_DISPOSE, at->c.node = root;
-    MUST(cellar_make_on(e, done, &at->c, &at->a, at->room, CELLAR_ROOM, &count) == 0 && at->a.closed == 1 && count == 2);
-    done = at->a.lanes[0];
+    at->c.node = root;
+    make(e, CELLAR_DISPOSE);
+    MUST(at->a.closed == 1 && at->a.due == 1);
+    for (told = 0; cellar_take(e, at->a.lanes[0], at->c.by, &at->effect, &count) == 0 && count; told++) continue;
+    MUST(told == 2);
   }
 }
 static void cycles_told(struct rx_book *book) {

@@ -28,35 +28,23 @@ static long starved, commands;
 static int handed_in[TAGS], released[TAGS];
 static uint64_t tags, kept, given_back;
 
-/* Every second command takes what comes of it by the same call. */
-enum { ROOM = 3 };
-static struct cellar_effect effects[ROOM];
-static uint64_t taken;
-static uint8_t make_once(const struct cellar_command *c) {
-  taken = 0;
-  return commands % 2 ? cellar_make(&engine, c, &answer) : cellar_make_on(&engine, UINT64_MAX, c, &answer, effects, ROOM, &taken);
-}
-
 static void tell(const struct cellar_effect *it) {
   if (it->kind == CELLAR_E_RELEASE) released[it->user]++;
   given_back += it->carries;
 }
 
-/* Of the lanes of the answer every second one is given up in the midst, now and then; else several effects are taken by one call. */
+/* Of the lanes of the answer every second one is given up in the midst, now and then. */
 static void serve(uint64_t by, int all) {
   uint64_t lanes[64], due = answer.due, count;
-  struct cellar_effect it, room[ROOM];
+  struct cellar_effect it;
   int was = takes_none;
   takes_none = 1;
   MUST(due <= 64 && cellar_rest(&engine, 1, 0, lanes, 64, &count) == 0 && count == due);
   if (answer.handed) tell(&answer.effect);
-  for (uint64_t i = 0; i < taken; i++) tell(&effects[i]);
   for (uint64_t i = 0; i < due; i++) {
-    while (all && cellar_take_on(&engine, lanes[i], by, room, ROOM, &count) == 0 && count)
-      for (uint64_t k = 0; k < count; k++) tell(&room[k]);
-    while (!all && cellar_take(&engine, lanes[i], by, &it, &count) == 0 && count) {
+    while (cellar_take(&engine, lanes[i], by, &it, &count) == 0 && count) {
       tell(&it);
-      if (i % 2) {
+      if (!all && i % 2) {
         MUST(cellar_give_up(&engine, lanes[i], by, NULL, 0, &count) == 0);
         break;
       }
@@ -82,14 +70,14 @@ static uint8_t make(uint8_t what, uint8_t place, uint8_t kind, struct cellar_nod
   commands++;
   takes_none = closes(what);
   MUST(cellar_totals(&engine, &before) == 0);
-  status = make_once(&c);
+  status = cellar_make(&engine, &c, &answer);
   if (status == CELLAR_NO_MEMORY) {
-    MUST(left < 0 && !closes(what) && !answer.copies && !answer.closed && !answer.due && !answer.handed && !taken);
+    MUST(left < 0 && !closes(what) && !answer.copies && !answer.closed && !answer.due && !answer.handed);
     MUST(cellar_totals(&engine, &after) == 0);
     after.events = before.events; /* hubs that were made stay */
     MUST(memcmp(&before, &after, sizeof before) == 0);
     starved++;
-    status = make_once(&c);
+    status = cellar_make(&engine, &c, &answer);
   }
   takes_none = 0;
   if (status == 0) kept += answer.copies, serve(1, commands % 3);

@@ -1,8 +1,7 @@
 /* Eight threads share an engine behind one mutex, for so many seconds: they subscribe to four shares, emit, hold, dispose, serve, wait,
- * and are interrupted with an effect in their hands, which they give back. Every second one takes several effects of a lane by one
- * call, and is never interrupted. Each tag is released once; each root hears its items in order, from one thread at a time, then one last effect, and nothing
- * behind it; each value is given back as often as counted; and memory stays as it was behind the first tenth. Numbers of roots and tags
- * are used again once they have had their last effect. Where many effects wait, as behind a thread that is held up, nobody emits: so
+ * and are interrupted with an effect in their hands, which they give back. Each tag is released once; each root hears its items in order,
+ * from one thread at a time, then one last effect, and nothing behind it; each value is given back as often as counted; and memory stays
+ * as it was behind the first tenth. Numbers of roots and tags are used again once they have had their last effect. Where many effects wait, as behind a thread that is held up, nobody emits: so
  * what waits stays within bounds. Each thread pauses for so many microseconds after every hundredth step. */
 #define _POSIX_C_SOURCE 200809L
 #include <cellarcliff.h>
@@ -61,26 +60,25 @@ static void give_back(uint32_t *list, uint32_t *many, uint64_t number) {
 static void tell(struct one *self, const struct cellar_effect *it);
 static uint8_t make(struct one *self, struct cellar_command command, struct cellar_answer *answer);
 
-static int takes_several(struct one *self) { return self->by % 2; }
-static uint64_t take(struct one *self, uint64_t lane, struct cellar_effect *it, size_t room) {
+static uint64_t take(struct one *self, uint64_t lane, struct cellar_effect *it) {
   uint64_t count;
   pthread_mutex_lock(&lock);
-  MUST((takes_several(self) ? cellar_take_on(&engine, lane, self->by, it, room, &count) : cellar_take(&engine, lane, self->by, it, &count)) == 0);
+  MUST(cellar_take(&engine, lane, self->by, it, &count) == 0);
   pthread_mutex_unlock(&lock);
   return count;
 }
 /* Now and then it is interrupted, and gives back what it did not tell. */
 static void serve(struct one *self, uint64_t lane) {
-  struct cellar_effect it[4];
-  uint64_t count, is_left;
-  while ((count = take(self, lane, it, 4))) {
-    if (!takes_several(self) && dice(self, 200) == 0) {
+  struct cellar_effect it;
+  uint64_t is_left;
+  while (take(self, lane, &it)) {
+    if (dice(self, 200) == 0) {
       pthread_mutex_lock(&lock);
-      MUST(cellar_give_up(&engine, lane, self->by, it, 1, &is_left) == 0 && is_left == 1);
+      MUST(cellar_give_up(&engine, lane, self->by, &it, 1, &is_left) == 0 && is_left == 1);
       pthread_mutex_unlock(&lock);
       return;
     }
-    for (uint64_t i = 0; i < count; i++) tell(self, &it[i]);
+    tell(self, &it);
   }
 }
 static void serve_what_is_left(struct one *self) {

@@ -4,16 +4,16 @@
 #include <cellarcliff.h>
 #include <string.h>
 
-enum { MAKE, TAKE, GIVE_UP, LEFT, REST, TOTALS, EVENT, DUMP, FINISH, NEW, DROP, TAKE_ON, MAKE_BEHIND, MAKE_ON };
-enum { OUT = 72, COUNT = 64, ROOM = 4 }; /* words that a call may write, and where its count stands among them */
+enum { MAKE, TAKE, GIVE_UP, LEFT, REST, TOTALS, EVENT, DUMP, FINISH, NEW, DROP, MAKE_BEHIND };
+enum { OUT = 72, COUNT = 64 }; /* words that a call may write, and where its count stands among them */
 
 struct bad {
   uint8_t call, handle; /* which; 1: on a handle that keeps nothing */
   uint8_t pointer, off; /* which of its pointers is no good, 0 none; how far it is from one that is, 0 null */
   uint8_t wanted, spare[3];
-  uint64_t words[8]; /* the command, whose hub names the lane of MAKE_BEHIND and MAKE_ON too; or what the call takes, in order */
+  uint64_t words[8]; /* the command, whose hub names the lane of MAKE_BEHIND too; or what the call takes, in order */
 };
-static uint64_t out[OUT], before[OUT], on[4 * ROOM];
+static uint64_t out[OUT], before[OUT];
 
 /* What --plant compiles in, one after the other: faults of a library, each of which is to be found. */
 #ifndef PLANT
@@ -46,9 +46,7 @@ static uint8_t made(struct cellar *engine, const struct bad *it) {
   switch (it->call) {
     case MAKE: return cellar_make(e, POINTER(2, w), POINTER(3, out));
     case TAKE: return cellar_take(e, w[0], w[1], POINTER(2, out), POINTER(3, out + COUNT));
-    case TAKE_ON: return cellar_take_on(e, w[0], w[1], POINTER(2, out), w[2], POINTER(3, out + COUNT));
     case MAKE_BEHIND: return cellar_make_behind(e, w[1], POINTER(2, w), POINTER(3, out));
-    case MAKE_ON: return cellar_make_on(e, w[1], POINTER(2, w), POINTER(3, out), POINTER(4, on), ROOM, POINTER(5, out + COUNT));
     case GIVE_UP: return cellar_give_up(e, w[0], w[1], POINTER(2, given), w[2], POINTER(3, out + COUNT));
     case LEFT: return cellar_left(e, w[0], POINTER(2, out), POINTER(3, out + COUNT));
     case REST: return cellar_rest(e, (uint8_t)w[0], w[1], POINTER(2, out), w[2], POINTER(3, out + COUNT));
@@ -71,10 +69,6 @@ static int are_zero(int from, int count) {
 static int is_written_right(const struct bad *it, uint8_t status) {
   if (status == CELLAR_MISUSE || it->call == FINISH || it->call == NEW) return are_zero(0, 0);
   switch (it->call) {
-    case MAKE_ON: /* none is taken, and then as any command */
-      if (out[COUNT] || memcmp(on, before, sizeof on)) return 0;
-      out[COUNT] = before[COUNT];
-      /* fall through */
     case MAKE: case MAKE_BEHIND: /* all counts, and the spare words, which here take the places of two that stay */
       if (out[4] || out[30] || out[31] || out[5] != before[5]) return 0;
       out[4] = out[5] = 0, out[30] = out[31] = before[30];
@@ -103,7 +97,7 @@ uint64_t bad_calls(struct cellar *engine, const struct bad *calls, uint64_t many
     struct cellar nothing = {0};
     struct bad it = calls[i];
     uint8_t status;
-    memcpy(out, before, sizeof out), memcpy(on, before, sizeof on);
+    memcpy(out, before, sizeof out);
     turn(&it);
     const struct bad made_so = it;
     status = made(it.handle ? &nothing : engine, &it);

@@ -21,10 +21,10 @@ from .history import forget
 from .scenario import Differs
 from .typed import CUT, HELD, NOTHING_WAITS, REFUSED, SMALL
 
-MAKE, TAKE, GIVE_UP, LEFT, REST, TOTALS, EVENT, DUMP, FINISH, NEW, DROP, TAKE_ON, MAKE_BEHIND, MAKE_ON = range(14)
-CALLS = ('make', 'take', 'give up', 'left', 'rest', 'totals', 'event', 'dump', 'finish', 'new', 'drop', 'take on', 'make behind', 'make on')
-POINTERS = (3, 3, 3, 3, 3, 2, 2, 3, 1, 1, 1, 3, 3, 5)  # of each call
-COMMANDS = (MAKE, MAKE_BEHIND, MAKE_ON)
+MAKE, TAKE, GIVE_UP, LEFT, REST, TOTALS, EVENT, DUMP, FINISH, NEW, DROP, MAKE_BEHIND = range(12)
+CALLS = ('make', 'take', 'give up', 'left', 'rest', 'totals', 'event', 'dump', 'finish', 'new', 'drop', 'make behind')
+POINTERS = (3, 3, 3, 3, 3, 2, 2, 3, 1, 1, 1, 3)  # of each call
+COMMANDS = (MAKE, MAKE_BEHIND)
 MISUSE, GONE = 9, REFUSED['Gone']
 OF_ONE = (HOLD, NEXT, COMPLETE, ERROR, FAIL, DECLINE, DISPOSE, PUT, ABORT, APPLY, REMOVE, LEASE, GIVE_BACK)  # which read a key
 FLAGS = {OPEN: (0, 1, 2, 3, 6, 7), USING: (0, 1, 2, 3, 6, 7), NEXT: (0, 8), PUT: (0, 4)}
@@ -111,7 +111,7 @@ class Bad:
 
     def refused(self, wanted: int, c: Command, key: tuple[int, int]) -> None:
         """A command; or one behind a lane of which its caller is given nothing, and which stands where the hub does."""
-        call = self.rng.choice((MAKE, MAKE, MAKE, MAKE_BEHIND, MAKE_ON))
+        call = self.rng.choice((MAKE, MAKE, MAKE, MAKE_BEHIND, MAKE_BEHIND))
         if call != MAKE:
             c.hub, c.by = self.lane()
         self.call(call, wanted, self.command(c, key))
@@ -151,7 +151,7 @@ class Bad:
     def by_lane(self) -> None:
         rng, (word, by) = self.rng, self.lane()
         if rng.random() < 0.5:
-            self.call(*rng.choice(((TAKE, 0, (word, by)), (TAKE_ON, 0, (word, by, rng.randrange(9))))))
+            self.call(TAKE, 0, (word, by))
         else:
             count, kind = rng.choice((0, 1, 1, 1, 2)), rng.choice((*range(8), 8, 255, 2**31))
             effect = self.word(), self.word(), self.word(), kind | rng.randrange(3) << 32
@@ -179,7 +179,7 @@ class Bad:
     def by_pointer(self) -> None:
         """Any call, with one pointer that is none: it is not made, whatever it would have been."""
         rng = self.rng
-        call = rng.choice((MAKE, MAKE, TAKE, GIVE_UP, *range(14)))
+        call = rng.choice((MAKE, MAKE, TAKE, GIVE_UP, *range(12)))
         pointer = rng.randrange(POINTERS[call]) + 1
         off = 0 if (call, pointer) == (DUMP, 2) else rng.randrange(8)  # a buffer of bytes is aligned anywhere
         if call in COMMANDS:
@@ -193,7 +193,7 @@ class Bad:
 
     def by_handle(self) -> None:
         """Any call on a handle that keeps nothing."""
-        call = self.rng.choice((MAKE, TAKE, GIVE_UP, LEFT, REST, TOTALS, EVENT, DUMP, FINISH, TAKE_ON, MAKE_BEHIND, MAKE_ON))
+        call = self.rng.choice((MAKE, TAKE, GIVE_UP, LEFT, REST, TOTALS, EVENT, DUMP, FINISH, MAKE_BEHIND))
         what = self.word() & 2**64 - 256 | self.rng.randrange(18) if call in COMMANDS else self.word()
         words = (what, self.word() % 9 if call == REST else self.word(),
                  self.rng.randrange(9) if call == REST else self.rng.randrange(2), *(self.word() for _ in range(5)))

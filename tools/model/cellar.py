@@ -9,13 +9,12 @@ from .engine import NOTHING, UNTAKEN, Command, Effect
 from .typed import Differs, event_of
 from .definitions import Accept, Event
 
-ABI, ROOM, INSIDE, NO_LANE = 0x10002, 8, 2**63, 2**64 - 1
+ABI, ROOM, INSIDE, NO_LANE = 0x20000, 8, 2**63, 2**64 - 1
 SIZES = (8, 64, 256, 32, 64, 32)  # handle, command, answer, effect, totals, event
 MADE = {0: 1, 1: 3, 2: 2, 9: 2, 16: 2}  # which keys a command makes: 1 node, 2 other
 CALLS = {  # what each call takes behind the handle
     'new': [c_uint32], 'make': [c_void_p, c_void_p], 'make_behind': [c_uint64, c_void_p, c_void_p],
-    'make_on': [c_uint64, c_void_p, c_void_p, c_void_p, c_size_t, c_void_p],
-    'take': [c_uint64, c_uint64, c_void_p, c_void_p], 'take_on': [c_uint64, c_uint64, c_void_p, c_size_t, c_void_p],
+    'take': [c_uint64, c_uint64, c_void_p, c_void_p],
     'give_up': [c_uint64, c_uint64, c_void_p, c_uint64, c_void_p], 'left': [c_uint64, c_void_p, c_void_p],
     'rest': [c_uint8, c_uint64, c_void_p, c_size_t, c_void_p], 'totals': [c_void_p], 'event': [c_uint64, c_void_p],
     'dump': [c_void_p, c_size_t, c_void_p], 'finish': [], 'drop': []}
@@ -32,7 +31,6 @@ class Made(NamedTuple):
     closings: tuple[int, ...] = ()
     handed: Effect | None = None
     lanes: tuple[int, ...] = ()
-    taken: tuple[Effect, ...] = ()
 
 
 class Cellar:
@@ -48,9 +46,9 @@ class Cellar:
             call.argtypes, call.restype = [c_void_p, *words], None if do == 'drop' else c_uint8
             setattr(self, f'_{do}', call)
         self.handle, self.command, self.answer = (c_uint64 * 1)(), (c_uint64 * 8)(), (c_uint64 * 32)()
-        self.effect, self.words, self.count, self.effects = (c_uint64 * 4)(), (c_uint64 * 16)(), (c_uint64 * 2)(), (c_uint64 * 4 * (ROOM + 1))()
-        self.at, self.c, self.a, self.e, self.w, self.n, self.es = map(addressof, (
-            self.handle, self.command, self.answer, self.effect, self.words, self.count, self.effects))
+        self.effect, self.words, self.count = (c_uint64 * 4)(), (c_uint64 * 16)(), (c_uint64 * 2)()
+        self.at, self.c, self.a, self.e, self.w, self.n = map(addressof, (
+            self.handle, self.command, self.answer, self.effect, self.words, self.count))
         self.slots: dict[int, int] = {}  # of the keys that were told
         self.seen = 0                    # events
 
@@ -64,18 +62,12 @@ class Cellar:
         """The key of a number that was told, or a pair that is one or none."""
         return named if isinstance(named, tuple) else (self.slots.get(named, NO_LANE), min(named, NO_LANE))
 
-    def make(self, c: Command, behind: int | None = None, room: int | None = None) -> Made:
-        """A command; or one behind a lane, by its word; or one that takes on, with this room."""
+    def make(self, c: Command, behind: int | None = None) -> Made:
+        """A command; or one behind a lane, by its word."""
         node = self.key(c.node)
         self.command[:] = [c.what | c.place << 8 | c.kind << 16 | c.flags << 24 | c.level << 32, c.hub, *node, c.user, c.value, c.by, c.spare]
         memset(self.a, 0xAA, 256)
-        taken: tuple[Effect, ...] = ()
-        if room is not None:
-            memset(self.es, 0xAA, sizeof(self.effects))
-            status = self._make_on(self.at, NO_LANE if behind is None else behind, self.c, self.a, self.es, room, self.n)
-            taken = tuple(self.written('a command', room, room if status == 0 else 0))
-        else:
-            status = self._make(self.at, self.c, self.a) if behind is None else self._make_behind(self.at, behind, self.c, self.a)
+        status = self._make(self.at, self.c, self.a) if behind is None else self._make_behind(self.at, behind, self.c, self.a)
         a = self.answer
         if status == UNTAKEN:
             if behind is None or any(a[4:5] + a[6:9] + a[30:]) or a[9] != 1 or set(a[:4] + a[5:6] + a[10:26]) != {0xAAAAAAAAAAAAAAAA}:
@@ -94,7 +86,7 @@ class Cellar:
         closings, lanes = self.first(10, a[7], 0), self.first(18, a[8], 1)
         handed = self.effect_at(a, 26) if a[9] else None
         return Made(status, a[1] if makes & 1 else None, a[3] if makes & 2 else None, a[4] if c.what == 0 else 0,
-                    a[5] if c.what == 9 or c.what == 0 and c.kind >= 5 else 0, a[6], closings, handed, lanes, taken)
+                    a[5] if c.what == 9 or c.what == 0 and c.kind >= 5 else 0, a[6], closings, handed, lanes)
 
     def first(self, at: int, count: int, which: int) -> tuple[int, ...]:
         """Those of the answer, and the rest."""
@@ -124,19 +116,6 @@ class Cellar:
         if status or self.count[0] > 1:
             raise Differs(f'take is answered {status}, {self.count[0]}')
         return self.effect_at(self.effect, 0) if self.count[0] else None
-
-    def take_on(self, word: int, by: int, room: int) -> list[Effect]:
-        memset(self.es, 0xAA, sizeof(self.effects))
-        if status := self._take_on(self.at, word, by, self.es, room, self.n):
-            raise Differs(f'taking {room} is answered {status}')
-        return self.written('taking', room, room)
-
-    def written(self, what: str, room: int, most: int) -> list[Effect]:
-        """The effects at the front of a room, behind which nothing may be written."""
-        count = self.count[0]
-        if count > most or any(set(words) != {0xAAAAAAAAAAAAAAAA} for words in self.effects[count:]):
-            raise Differs(f'{what} with a room of {room} answers {count} effects, or writes more')
-        return [self.effect_at(words, 0) for words in self.effects[:count]]
 
     def give_up(self, word: int, by: int, untold: Effect | None, count: int | None = None) -> tuple[int, int]:
         """The status, and whether something is left."""

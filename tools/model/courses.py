@@ -38,9 +38,9 @@ class Beside:
         if said != wanted:
             raise Differs(f'{what}: {said}, and it is {wanted}')
 
-    def make(self, c: Command, behind: int | None = None, room: int | None = None) -> tuple[Any, Answer]:
-        """A command; or one behind a lane, by its word; or one that takes on of the one lane that it answers, with this room."""
-        made = self.cellar.make(c, behind, room) if room is not None else self.cellar.make(c) if behind is None else self.cellar.make(c, behind)
+    def make(self, c: Command, behind: int | None = None) -> tuple[Any, Answer]:
+        """A command; or one behind a lane, by its word."""
+        made = self.cellar.make(c) if behind is None else self.cellar.make(c, behind)
         step = ['make', self.written(c), {'status': made.status} if made.status else {}]
         self.steps.append(step if behind is None else ['make behind', behind, *step[1:]])
         self.way.told += self.cellar.events()
@@ -68,18 +68,7 @@ class Beside:
                 'copies': made.copies, 'closings': list(made.closings), 'handed': list(made.handed or ()),
                 'lanes': [self.lane_at(word) for word in made.lanes]}
         step[2] |= {name: it for name, it in said.items() if it}
-        if room is not None:
-            self.took_on(made.lanes[0] if len(made.lanes) == 1 and made.handed is None else None, c.by, room, list(made.taken))
         return made, wanted
-
-    def took_on(self, word: int | None, by: int, room: int, effects: list[Effect]) -> None:
-        """What was taken of a lane, if of one, is what waits there."""
-        if word is None:
-            return self.same('what is taken of no lane', effects, [])
-        name = self.names.get(word & ~INSIDE, -1)
-        self.steps.append(['take on', word, by, room, [list(effect) for effect in effects]])
-        wanted = self.model.take_on(name, word >= INSIDE, by, room, lambda number: self.first(name, effects[number] if number < len(effects) else None))
-        self.same('what is taken one after another', effects, wanted)
 
     def written(self, c: Command) -> list[Any]:
         """A command as a stored course has it: a key is the step that made it, or a slot and a number."""
@@ -164,11 +153,6 @@ class Beside:
         self.first(name, effect)
         self.same('what is taken', effect, self.model.take(name, word >= INSIDE, by))
         return effect
-
-    def take_on(self, word: int, by: int, room: int) -> list[Effect]:
-        effects = self.cellar.take_on(word, by, room)
-        self.took_on(word, by, room, effects)
-        return effects
 
     def give_up(self, word: int, by: int, untold: Effect | None) -> int:
         status, is_left = self.cellar.give_up(word, by, untold)
@@ -345,36 +329,27 @@ class Course:
             return self.step_behind(c)
         is_pair = isinstance(c.node, tuple)
         pair = c.node
-        more = (None, room) if (room := self.room()) is not None else ()
-        made, wanted = self.engine.make(c, *more) if not is_pair else self.made_by_pair(c, pair, *more)
-        self.did(c, made, wanted, room)
+        made, wanted = self.engine.make(c) if not is_pair else self.made_by_pair(c, pair)
+        self.did(c, made, wanted)
 
-    def room(self) -> int | None:
-        """For how many effects a command takes on, if it does."""
-        return self.rng.choice((0, 1, 2, 3, 8, 8)) if not self.plain and self.rng.random() < 0.3 else None
-
-    def did(self, c: Command, made: Any, wanted: Answer, room: int | None) -> None:
+    def did(self, c: Command, made: Any, wanted: Answer) -> None:
         self.done[c.what, made.status] += 1
         self.keys += [n for n in (wanted.node, wanted.other) if n is not None]
-        if room and len(made.lanes) == 1 and made.handed is None:
-            self.served += [(made.lanes[0], c.by, made.taken[-1])] if made.taken else []
-        else:
-            self.served += [(word, c.by, wanted.handed if i == 0 else None) for i, word in enumerate(made.lanes)]
+        self.served += [(word, c.by, wanted.handed if i == 0 else None) for i, word in enumerate(made.lanes)]
 
     def step_behind(self, c: Command) -> None:
         """A command by who serves a lane, or was to; now and then it is another who asks."""
         i = self.rng.randrange(len(self.served))
         word, by, _ = self.served[i]
         c.by = by if self.rng.random() < 0.95 else c.by
-        more = (word,) if (room := self.room()) is None else (word, room)
-        made, wanted = self.engine.make(c, *more) if not isinstance(c.node, tuple) else self.made_by_pair(c, c.node, *more)
+        made, wanted = self.engine.make(c, word) if not isinstance(c.node, tuple) else self.made_by_pair(c, c.node, word)
         if made.status == UNTAKEN:
             self.served[i] = word, c.by, made.handed
         elif c.by == by:
             del self.served[i]
-        self.did(c, made, wanted, room)
+        self.did(c, made, wanted)
 
-    def made_by_pair(self, c: Command, pair: tuple[int, int], *more: int | None) -> Any:
+    def made_by_pair(self, c: Command, pair: tuple[int, int], *more: int) -> Any:
         """A key that nobody was told names nothing, unless it is by chance one of something there."""
         slots = self.engine.cellar.slots
         c.node = pair[1] if slots.get(pair[1]) == pair[0] else NOTHING
@@ -409,12 +384,6 @@ class Course:
             untold = last if rng.random() < 0.6 else None
             self.engine.give_up(word, by, untold)
             del self.served[i]
-        elif not self.plain and rng.random() < 0.4:
-            room = rng.choice((0, 1, 2, 3, 8))
-            if effects := self.engine.take_on(word, by, room):
-                self.served[i] = word, by, effects[-1]
-            elif room:
-                del self.served[i]
         else:
             effect = self.engine.take(word, by)
             if effect is None:
@@ -433,10 +402,7 @@ class Course:
         by = rng.choice((1, 2, 3, 4, 0, 2**64 - 1))
         self.engine.rest(rng.choice((0, 1, 1, 2, 255)), rng.choice((0, 0, 1, 5, 2**64 - 1)), rng.randrange(6))
         self.engine.same('two effects given back', self.engine.cellar.give_up(word, by, None, 2), (5, 0))
-        if not self.plain and rng.random() < 0.3:
-            if effects := self.engine.take_on(word, by, rng.randrange(4)):
-                self.served.append((word, by, effects[-1]))
-        elif rng.random() < 0.8:
+        if rng.random() < 0.8:
             effect = self.engine.take(word, by)
             if effect:
                 self.served.append((word, by, effect))
@@ -461,7 +427,7 @@ class Course:
                 if rng.random() < 0.1 and engine.finish() == DONE:
                     return
             for word, by, _ in reversed(self.served):
-                while engine.take_on(word, by, rng.randrange(1, 9)) if not self.plain else engine.take(word, by):
+                while engine.take(word, by):
                     pass
             for word in list(engine.names):
                 for by in (1, 2, 3, 4, 0, 2**64 - 1):

@@ -97,10 +97,6 @@ class Lane:
                 return line[:1], replace(self, **{name: line[1:], 'server': by})
         return (), self if inside else replace(self, server=None)
 
-    def claimed(self, by: int) -> Lane:
-        """With nothing in it, and served by nobody, it is served."""
-        return replace(self, server=by) if self.is_idle() else self
-
     def given_up(self, by: int, untold: tuple[Waiting, ...]) -> Lane:
         return replace(self, returned=untold, server=None) if self.server == by else self
 
@@ -246,14 +242,14 @@ class Engine:
     # Commands
 
     def make(self, c: Command) -> Answer:
-        """A command, and the effect that is handed out with it, of the lane that is named first."""
+        """A command, and the item that is handed out with it."""
         answer = self.made(c)
         if answer.hands is not None:
             self.hand(answer, answer.lanes[0])
         return answer
 
     def hand(self, answer: Answer, due: Due) -> None:
-        """The caller takes the first effect of this lane, and serves it."""
+        """The caller takes the item, which stands alone in its lane, and serves that."""
         assert answer.hands is not None
         answer.handed = self.take(due.lane, due.inside, answer.hands)
 
@@ -454,6 +450,7 @@ class Engine:
         """The effects stand in their lanes, each last one in the place of its role; the lanes that got something are named."""
         answer.copies = sum(it.effect.carries for it in effects)
         answer.closings = tuple(self.wishes.pop(n).word for n in self.gone if n in self.wishes)
+        is_alone = not self.gone and len(effects) == 1 and self.lanes[effects[0].lane].is_idle()
         fresh: dict[int, int] = {}
         for i, (name, e, part) in enumerate(effects):
             lane, waiting = self.lanes[name], Waiting(e, part)
@@ -461,7 +458,6 @@ class Engine:
             fresh.setdefault(name, -part if part else i)
             if e.kind not in (E_NEXT, E_PROJECT, E_PUT):
                 self.part(name)
-        is_open_still = not self.gone
         for n in self.gone:
             self.part(self.homes.pop(n).lane)
             if n in self.hub_of:
@@ -469,7 +465,7 @@ class Engine:
         self.gone = []
         answer.lanes = tuple(Due(name, lane.server is not None, first) for name, first in fresh.items()
                              for lane in [self.lanes[name]] if lane.server is None or lane.server == c.by and lane.front)
-        if c.what == NEXT and not c.flags & QUEUES and is_open_still and answer.copies == len(answer.lanes) == 1:
+        if c.what == NEXT and not c.flags & QUEUES and is_alone:
             answer.hands = c.by
         return answer
 
@@ -491,20 +487,6 @@ class Engine:
         found, lane = self.lanes[name].taken(by, inside)
         self.kept(name, lane)
         return found[0].effect if found else None
-
-    def take_on(self, name: int, inside: bool, by: int, room: int, comes: Callable[[int], object] = lambda number: None) -> list[Effect]:
-        """One after another, until there is room for no more or there is none; `comes` is called before each. As long as what was taken
-        is to be done the lane is served on."""
-        found: list[Effect] = []
-        while len(found) < room:
-            comes(len(found))
-            effect = self.take(name, inside, by)
-            if effect is None:
-                if found and name in self.lanes:
-                    self.lanes[name] = self.lanes[name].claimed(by)
-                break
-            found.append(effect)
-        return found
 
     def make_behind(self, c: Command, name: int, inside: bool) -> Answer:
         """A command whose caller did all that it took of a lane. Where the lane has another effect that is handed out in its place."""

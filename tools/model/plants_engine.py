@@ -31,8 +31,6 @@ planted('what is given back stands behind', Lane, 'given_up',
 planted('who gives up serves on', Lane, 'given_up',
         lambda was: lambda l, by, untold: replace(was(l, by, untold), server=l.server) if l.line() else was(l, by, untold))
 planted('what is put comes first', Lane, 'put', lambda was: lambda l, e: replace(l, back=(e,) + l.back))
-planted('behind what is to be done another serves', Lane, 'claimed', lambda was: lambda l, by: l)
-planted('the room is overdrawn', Engine, 'take_on', lambda was: lambda s, name, inside, by, room, *more: was(s, name, inside, by, room + (room == 3), *more))
 planted('a command is made before what is left', Engine, 'make_behind', lambda was: lambda s, c, name, inside: (
     it if (it := was(s, c, name, inside)).status != 6 or c.what != engine.NEXT else s.made(c)))
 
@@ -65,6 +63,7 @@ planted('what ends is of another caller', Engine, 'last', lambda was: lambda s, 
     it._replace(effect=it.effect._replace(by=it.effect.by ^ 1)) if kind == E_RELEASE else it for it in was(s, c, table, number, kind, part)])
 planted('an item is handed out that was to be queued', Engine, 'delivered', lambda was: lambda s, c, answer, effects: was(
     s, replace(c, flags=c.flags & ~QUEUES), answer, effects))
+planted('an item is handed out though something stands before it', Lane, 'is_idle', lambda was: lambda l: l.server is None)
 planted('copies are one too few', Engine, 'delivered', lambda was: lambda s, c, answer, effects: replace(
     it := was(s, c, answer, effects), copies=max(0, it.copies - (it.copies > 1))))
 planted('closings of a connection are not told', Engine, 'connect', lambda was: lambda s, c, answer: was(

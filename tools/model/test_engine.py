@@ -27,7 +27,7 @@ class Itself:
     def key(self, named):
         return (0, named)
 
-    def make(self, c, behind=None, room=None):
+    def make(self, c, behind=None):
         if behind is not None and (effect := self.take(behind, c.by)):
             return Made(UNTAKEN, handed=effect)
         it = self.engine.make(c)
@@ -39,9 +39,7 @@ class Itself:
         if it.handed:
             self.hear(it.handed)
         self.lists = it.closings, tuple(due.lane + 1 | due.inside * INSIDE for due in it.lanes)
-        made = Made(0, it.node, it.other, it.is_connected, it.hub, it.copies, self.lists[0], it.handed, self.lists[1])
-        is_named = room is not None and len(made.lanes) == 1 and not made.handed
-        return made._replace(taken=tuple(self.take_on(made.lanes[0], c.by, room))) if is_named else made
+        return Made(0, it.node, it.other, it.is_connected, it.hub, it.copies, self.lists[0], it.handed, self.lists[1])
 
     def rest(self, which, start, room):
         return list(self.lists[which][start:start + room]) if which < 2 else []
@@ -65,12 +63,6 @@ class Itself:
         if effect:
             self.hear(effect)
         return effect
-
-    def take_on(self, word, by, room):
-        effects = self.engine.take_on((word & ~INSIDE) - 1, word >= INSIDE, by, room)
-        for effect in effects:
-            self.hear(effect)
-        return effects
 
     def give_up(self, word, by, untold, count=0):
         if count > 1:
@@ -136,16 +128,16 @@ class Examples(unittest.TestCase):
         self.assertEqual(self.engine.give_up(item.lanes[0].lane, 1, item.handed), 1)
         self.assertEqual(self.taken(item.lanes[0], 2), [(E_NEXT, 7, 1), (E_NEXT, 7, 2)])
 
-    def test_who_takes_several_serves_on_until_there_is_none(self):
-        leaf = self.make(OPEN, user=7).node
-        due = self.make(NEXT, node=leaf, value=1, flags=QUEUES).lanes[0]
-        self.make(NEXT, node=leaf, value=2, flags=QUEUES)
-        self.assertEqual(self.engine.take_on(due.lane, False, 1, 0), [])
-        self.assertEqual([e.value for e in self.engine.take_on(due.lane, False, 1, 8)], [1, 2])
-        self.assertEqual(self.make(NEXT, node=leaf, value=3, by=2).lanes, ())
-        self.assertEqual([e.value for e in self.engine.take_on(due.lane, False, 1, 1)], [3])
-        self.assertEqual(self.engine.take_on(due.lane, False, 1, 8), [])
-        self.assertEqual(len(self.make(NEXT, node=leaf, value=4, by=2).lanes), 1)
+    def test_an_item_is_handed_out_only_where_nothing_stands_before_it(self):
+        root = self.make(USING, user=7, value=42).node
+        leaf = self.make(OPEN, place=1, node=root).node
+        queued = self.make(NEXT, node=leaf, value=1, flags=QUEUES).lanes[0]
+        behind = self.make(NEXT, node=leaf, value=2)
+        self.assertEqual((behind.handed, behind.lanes[0].lane), (None, queued.lane))
+        self.assertEqual(self.engine.take(queued.lane, False, 1).value, 1)
+        self.assertEqual((self.make(NEXT, node=leaf, value=3).handed, self.make(NEXT, node=leaf, value=4, by=2).lanes), (None, ()))
+        self.assertEqual([it[2] for it in self.taken(queued)], [2, 3, 4])
+        self.assertEqual(self.make(NEXT, node=leaf, value=5, by=2).handed, Effect(E_NEXT, 7, 5, 2, 1))
 
     def test_a_command_behind_a_lane_is_made_where_that_has_no_more(self):
         leaf = self.make(OPEN, user=7).node
@@ -225,7 +217,6 @@ class Laws(unittest.TestCase):
 
     def test_what_is_answered_otherwise_is_found(self):
         faults = {'make': lambda it: it._replace(copies=it.copies + (it.copies > 0)), 'take': lambda it: it and it._replace(by=it.by ^ 1),
-                  'take_on': lambda it: it[:-1], 'make ': lambda it: it._replace(taken=it.taken[1:]),
                   'left': lambda it: it[:-1], 'totals': lambda it: (*it[:7], it[7] + (it[7] > 2)), 'finish': lambda it: DONE}
         for name, turn in faults.items():
             call = name.strip()

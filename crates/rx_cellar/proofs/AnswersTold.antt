@@ -41,7 +41,7 @@ answered_once g o asked by s e (Ok made) a b n is plain performed answered =
 answered_once g o asked by s e (Err why) a b n is plain performed answered =
     subst (λ (k : ℕ). IsMadeOnceIf g o by s (record s { engine = e }) a b k) (sym answered.1)
     (subst (λ (x : Answer). IsMadeOnceIf g o by s (record s { engine = e }) a x (refusal_status why)) (sym answered.0)
-    (plain_refused g o asked by s e (Err why) why a is performed refl))
+    (plain_refused g o asked by s e (Err why) why a is plain performed refl))
 
 -- where it is none
 pub unknown_once : (g : Ghosts Token) (o : Option Asked) (by : ℕ) (s : Cellar) (a b : Answer) (n : ℕ) → o ≡ None → b ≡ a → n ≡ 5 → IsMadeOnceIf g o by s s a b n

@@ -5,6 +5,3 @@ pub mod ItemsEmitted
 pub mod FrequentAsked
 pub mod AnswersTold
 pub mod Tries
-pub mod TakesGoOn
-pub mod ServesWhoTook
-pub mod GoesOn

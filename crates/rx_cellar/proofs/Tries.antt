@@ -1,5 +1,5 @@
 -- A command that is tried, and tried again behind a checkpoint; and what comes of that is told.
-use Rattle.std.proofs.Common.{◌≡◌, ◌≢◌, ◌&&◌, ℕ, Bool, true, false, Option, Some, None, Result, Ok, Err, refl, sym, ap, ◌∙◌, subst, ◌==◌}
+use Rattle.std.proofs.Common.{◌≡◌, ◌≢◌, ℕ, Bool, true, false, Option, Some, None, Result, Ok, Err, refl, sym, ap, ◌∙◌, subst, ◌==◌}
 use Rattle.std.proofs.lemmas.Bool.{false≢true}
 use Rattle.std.specs.Prelude.{is_some}
 use Rattle.rx_resource.specs.declared.Resource.{Ghosts}
@@ -8,17 +8,17 @@ use Rattle.rx_event.specs.declared.refusal.Refusal.{Refusal}
 use Rattle.rx_event.specs.declared.refusal.Refusal.TheVariants.{Full, NoMemory, Gone, WrongKind, PlaceTaken, NothingOwed, NotRoot, NoHub, HubOrder}
 use Rattle.rx_event.specs.declared.refusal.Refusal.TheVariants.{Connected, NotConnected, NotFresh, NotHeld, HasChild, TooMany, NoLease, Leased, MailLeft}
 use Rattle.rx_engine.specs.States.{State}
-use Rattle.rx_engine.specs.Servings.{comes_to_one}
 use Rattle.rx_typed.specs.Codes.{refusal_status}
 use Rattle.rx_cellar.specs.declared.shapes.Answer.{Answer}
 use Rattle.rx_cellar.specs.declared.making.Made.{Made}
+use Rattle.rx_cellar.specs.declared.asked.Item.{Item}
 use Rattle.rx_cellar.specs.declared.asked.Asked.{Asked}
 use Rattle.rx_cellar.specs.declared.cellar.Cellar.{Cellar}
-use Rattle.rx_cellar.specs.Asking.{asks_item}
+use Rattle.rx_cellar.specs.Asking.{item_asked, hands, asks_item}
 use Rattle.rx_cellar.specs.Crossings.{no_answer}
-use Rattle.rx_cellar.specs.Makings.{IsPerformed}
+use Rattle.rx_cellar.specs.Makings.{IsPerformed, Outcome, of_made, shown, ComesToIf}
 use Rattle.rx_cellar.specs.Cellars.{Tidies, IsTidy, IsTidyIf, is_due, Performs, IsTried, at_once, once_more, behind_one, behind_none}
-use Rattle.rx_cellar.specs.Cellars.{told, HandsOut, hands_out, IsMadeIf, is_done, is_refused}
+use Rattle.rx_cellar.specs.Cellars.{told, counted_with, told_with, IsMadeIf, is_done, is_refused}
 use Rattle.rx_cellar.specs.Attempts.{IsTidyFor, IsMadeOnce, IsMadeOnceIf, once_done, once_refused, IsMadeAgain, again_done, again_not}
 
 -- tidied -----------------------------------------------------------------------------------------------------
@@ -37,10 +37,18 @@ not_due (Some asked) s due = subst (λ (b : Bool). IsTidyIf b s s) (sym due) ref
 
 -- tried ------------------------------------------------------------------------------------------------------
 
-performs : (g : Ghosts Token) (asked : Asked) (by : ℕ) (s : Cellar) (e : State) (answer is : Result Made Refusal) → IsPerformed g asked by s.engine e answer →
-    answer ≡ is → Performs g asked by s (record s { engine = e }) is
-performs g asked by s e answer is made same =
-    record { performed = subst (λ (r : Result Made Refusal). IsPerformed g asked by s.engine e r) same made; only = refl }
+-- it asks for no item
+none_asked : (o : Option Item) → is_some o ≡ false → None ≡ o
+none_asked None none = refl
+none_asked (Some item) none = absurd (cc)
+
+performs : (g : Ghosts Token) (asked : Asked) (by : ℕ) (s : Cellar) (e : State) (answer is : Result Made Refusal) → hands asked ≡ false →
+    IsPerformed g asked by s.engine e answer → answer ≡ is → Performs g asked by s (record s { engine = e }) (shown of_made is)
+performs g asked by s e answer is plain made same = record {
+  performed = subst (λ (o : Option Item). ComesToIf o g asked by s.engine e (shown of_made is)) (none_asked (item_asked asked) plain)
+      (record { engine_answer = answer; made_so = made; is_shown = ap (shown of_made) (sym same) });
+  only = refl;
+}
 
 pub none_once : (g : Ghosts Token) (o : Option Asked) (by : ℕ) (s : Cellar) (a : Answer) → o ≡ None → IsMadeOnceIf g o by s s a a 5
 none_once g None by s a is = (refl, refl, refl)
@@ -55,17 +63,16 @@ pub plain_done : (g : Ghosts Token) (o : Option Asked) (asked : Asked) (by : ℕ
     (a b : Answer) → o ≡ Some asked → asks_item o ≡ false → IsPerformed g asked by s.engine e answer → answer ≡ Ok made → b ≡ told made e a →
     IsMadeOnceIf g o by s (record s { engine = e }) a b 0
 plain_done g o asked by s e answer made a b is plain made_so ok tells =
-    let none : asks_item (Some asked) ≡ false = ap asks_item (sym is) ∙ plain in
     let t : Cellar = record s { engine = e } in
-    known_once g o asked by s t a b 0 is (once_done made t (performs g asked by s e answer (Ok made) made_so ok)
-    (subst (λ (h : Bool). HandsOut (h && comes_to_one e) by t t (told made e a) b) (sym none) (refl, tells)) refl)
+    known_once g o asked by s t a b 0 is
+    (once_done (of_made made) t (performs g asked by s e answer (Ok made) (ap asks_item (sym is) ∙ plain) made_so ok) refl tells refl)
 
 pub plain_refused : (g : Ghosts Token) (o : Option Asked) (asked : Asked) (by : ℕ) (s : Cellar) (e : State) (answer : Result Made Refusal) (why : Refusal)
-    (a : Answer) → o ≡ Some asked → IsPerformed g asked by s.engine e answer → answer ≡ Err why →
+    (a : Answer) → o ≡ Some asked → asks_item o ≡ false → IsPerformed g asked by s.engine e answer → answer ≡ Err why →
     IsMadeOnceIf g o by s (record s { engine = e }) a a (refusal_status why)
-plain_refused g o asked by s e answer why a is made_so err =
+plain_refused g o asked by s e answer why a is plain made_so err =
     known_once g o asked by s (record s { engine = e }) a a (refusal_status why) is
-    (once_refused why (performs g asked by s e answer (Err why) made_so err) refl refl)
+    (once_refused why (performs g asked by s e answer (Err why) (ap asks_item (sym is) ∙ plain) made_so err) refl refl)
 
 pub behind : (g : Ghosts Token) (o : Option Asked) (by : ℕ) (s u t : Cellar) (made : Result ℕ Refusal) (at : ℕ) (a b : Answer) (status : ℕ) → made ≡ Ok at →
     Tidies s u made → IsMadeOnceIf g o by u t a b status → IsMadeAgain g o by s t a b status
@@ -77,10 +84,10 @@ not_behind g o by s t made why a b status is tidies same status_is = again_not w
 
 -- made -------------------------------------------------------------------------------------------------------
 
-ok_not : (made : Made) → ◌≢◌ {A = Result Made Refusal} (Ok made) (Err Full)
-ok_not made is = absurd (cc)
+ok_not : (o : Outcome) → ◌≢◌ {A = Result Outcome Refusal} (Ok o) (Err Full)
+ok_not o is = absurd (cc)
 
-err_not : (why : Refusal) (status : ℕ) → status ≡ refusal_status why → status ≢ 16 → ◌≢◌ {A = Result Made Refusal} (Err why) (Err Full)
+err_not : (why : Refusal) (status : ℕ) → status ≡ refusal_status why → status ≢ 16 → ◌≢◌ {A = Result Outcome Refusal} (Err why) (Err Full)
 err_not why status is other same =
     let full : why ≡ Full = cc in
     other (is ∙ ap refusal_status full)
@@ -109,11 +116,10 @@ full_only MailLeft is = absurd (false≢true is)
 pub full_is : (why : Refusal) → refusal_status why ≡ 16 → why ≡ Full
 full_is why is = full_only why (ap (λ n. n == 16) is)
 
-done_so : (g : Ghosts Token) (asked : Asked) (by : ℕ) (s u v t : Cellar) (made : Made) (a b : Answer) (status : ℕ) → IsTidy s u →
-    IsTried g asked by u v (Ok made) → HandsOut (hands_out asked v.engine) by v t (told made v.engine a) b → status ≡ 0 →
-    IsMadeIf g (Some asked) by s t a b status
-done_so g asked by s u v t made a b status tidy tried hands is =
-    subst (λ (n : ℕ). IsMadeIf g (Some asked) by s t a b n) (sym is) (is_done made u v tidy tried hands)
+done_so : (g : Ghosts Token) (asked : Asked) (by : ℕ) (s u v t : Cellar) (o : Outcome) (a b : Answer) (status : ℕ) → IsTidy s u →
+    IsTried g asked by u v (Ok o) → t ≡ counted_with o v → b ≡ told_with o v.engine a → status ≡ 0 → IsMadeIf g (Some asked) by s t a b status
+done_so g asked by s u v t o a b status tidy tried counts tells is =
+    subst (λ (n : ℕ). IsMadeIf g (Some asked) by s t a b n) (sym is) (is_done o u v tidy tried counts tells)
 
 refused_so : (g : Ghosts Token) (asked : Asked) (by : ℕ) (s u t : Cellar) (why : Refusal) (a b : Answer) (status : ℕ) → IsTidy s u →
     IsTried g asked by u t (Err why) → b ≡ a → status ≡ refusal_status why → IsMadeIf g (Some asked) by s t a b status
@@ -124,16 +130,16 @@ refused_so g asked by s u t why a b status tidy tried same is =
 pub made_first : (g : Ghosts Token) (o : Option Asked) (by : ℕ) (s u t : Cellar) (a b : Answer) (status : ℕ) → IsTidyFor o s u →
     IsMadeOnceIf g o by u t a b status → status ≢ 16 → IsMadeIf g o by s t a b status
 made_first g None by s u t a b status tidy once other = (once.0, once.1 ∙ tidy, once.2)
-made_first g (Some asked) by s u t a b status tidy (once_done made v tried hands is) other =
-    done_so g asked by s u v t made a b status tidy (at_once (ok_not made) tried) hands is
+made_first g (Some asked) by s u t a b status tidy (once_done o v tried counts tells is) other =
+    done_so g asked by s u v t o a b status tidy (at_once (ok_not o) tried) counts tells is
 made_first g (Some asked) by s u t a b status tidy (once_refused why tried same is) other =
     refused_so g asked by s u t why a b status tidy (at_once (err_not why status is other) tried) same is
 
 -- behind a checkpoint, where it was
 again : (g : Ghosts Token) (asked : Asked) (by : ℕ) (s u v t : Cellar) (a b : Answer) (status : ℕ) → IsTidy s u → Performs g asked by u v (Err Full) →
     IsMadeAgain g (Some asked) by v t a b status → IsMadeIf g (Some asked) by s t a b status
-again g asked by s u v t a b status tidy first (again_done at w tidies (once_done made x tried hands is)) =
-    done_so g asked by s u x t made a b status tidy (once_more v first (behind_one at w tidies tried)) hands is
+again g asked by s u v t a b status tidy first (again_done at w tidies (once_done o x tried counts tells is)) =
+    done_so g asked by s u x t o a b status tidy (once_more v first (behind_one at w tidies tried)) counts tells is
 again g asked by s u v t a b status tidy first (again_done at w tidies (once_refused why tried same is)) =
     refused_so g asked by s u t why a b status tidy (once_more v first (behind_one at w tidies tried)) same is
 again g asked by s u v t a b status tidy first (again_not why tidies same is) =
@@ -142,7 +148,7 @@ again g asked by s u v t a b status tidy first (again_not why tidies same is) =
 pub made_again : (g : Ghosts Token) (o : Option Asked) (by : ℕ) (s u v t : Cellar) (a b d : Answer) (before status : ℕ) → IsTidyFor o s u →
     IsMadeOnceIf g o by u v (no_answer a) b before → before ≡ 16 → IsMadeAgain g o by v t (no_answer b) d status → IsMadeIf g o by s t (no_answer a) d status
 made_again g None by s u v t a b d before status tidy first full more = absurd (let e = first.0 in cc)
-made_again g (Some asked) by s u v t a b d before status tidy (once_done made x tried hands is) full more = absurd (cc)
+made_again g (Some asked) by s u v t a b d before status tidy (once_done o x tried counts tells is) full more = absurd (cc)
 made_again g (Some asked) by s u v t a b d before status tidy (once_refused why tried same is) full more =
     again g asked by s u v t (no_answer a) d status tidy
     (subst (λ (x : Refusal). Performs g asked by u v (Err x)) (full_is why (sym is ∙ full)) tried)

@@ -1,5 +1,5 @@
 -- What a command asks, by its numbers.
-use Rattle.std.specs.Prelude.{ℕ, ◌==◌, ◌&&◌, nat_lt, Bool, true, false, Option, Some, None, option_map, if◌then◌else◌}
+use Rattle.std.specs.Prelude.{ℕ, ◌==◌, ◌&&◌, nat_lt, Bool, true, false, Option, Some, None, is_some, option_map, if◌then◌else◌}
 use Rattle.std.specs.Option.{option_and_then}
 use Rattle.std.proofs.Math.Bool.{not}
 use Rattle.std.proofs.Common.{◌/◌, ◌%◌}
@@ -63,7 +63,7 @@ opening_of c = option_and_then (λ at. option_and_then (λ user. option_map (ope
 abbrev pub using_of : Command → Option Asked
 using_of c = option_and_then (λ at. option_map (λ user. Using at user c.value) (user_of c)) (place_at c.place c.node)
 
--- an item, of which the first effect is handed out but for the flag 8
+-- an item, which may be handed out but for the flag 8
 abbrev pub next_of : Command → Option Asked
 next_of c = if c.flags == 0 then Some (Next (key_of c.node) c.value true) else if c.flags == 8 then Some (Next (key_of c.node) c.value false) else None
 
@@ -100,10 +100,13 @@ by_code c = if c.what == 0 then opening_of c else if c.what == 1 then using_of c
 abbrev pub asked_of : Command → Option Asked
 asked_of c = if c.spare == 0 then by_code c else None
 
--- an item that does not queue may be handed out
+-- an item that may be handed out: it does not queue
+abbrev pub item_asked : Asked → Option Item
+item_asked (Next leaf value may_hand) = if may_hand then Some (record { leaf = leaf; value = value }) else None
+item_asked _ = None
+
 abbrev pub hands : Asked → Bool
-hands (Next leaf value is_asked) = is_asked
-hands _ = false
+hands asked = is_some (item_asked asked)
 
 abbrev pub asks_item : Option Asked → Bool
 asks_item None = false

@@ -6,12 +6,12 @@ use Rattle.rx_event.specs.declared.refusal.Refusal.{Refusal}
 use Rattle.rx_typed.specs.Codes.{refusal_status}
 use Rattle.rx_cellar.specs.declared.shapes.Command.{Command}
 use Rattle.rx_cellar.specs.declared.shapes.Answer.{Answer}
-use Rattle.rx_cellar.specs.declared.making.Made.{Made}
+use Rattle.rx_cellar.specs.Makings.{Outcome}
 use Rattle.rx_cellar.specs.declared.asked.Asked.{Asked}
 use Rattle.rx_cellar.specs.declared.cellar.Cellar.{Cellar}
 use Rattle.rx_cellar.specs.Crossings.{no_answer}
 use Rattle.rx_cellar.specs.Asking.{asked_of}
-use Rattle.rx_cellar.specs.Cellars.{Tidies, IsTidy, Performs, told, HandsOut, hands_out}
+use Rattle.rx_cellar.specs.Cellars.{Tidies, IsTidy, Performs, counted_with, told_with}
 
 -- before a command that is known a checkpoint is made where one is to be made
 abbrev pub IsTidyFor : Option Asked → Cellar → Cellar → Type 0
@@ -20,8 +20,8 @@ IsTidyFor (Some asked) s t = IsTidy s t
 
 -- done, and all of it told; or refused, and nothing is told
 pub data IsMadeOnce (g : Ghosts Token) (asked : Asked) (by : ℕ) (s t : Cellar) (a b : Answer) (status : ℕ) : Type 0 where
-  once_done : (made : Made) (v : Cellar) → Performs g asked by s v (Ok made) → HandsOut (hands_out asked v.engine) by v t (told made v.engine a) b →
-      status ≡ 0 → IsMadeOnce g asked by s t a b status
+  once_done : (o : Outcome) (v : Cellar) → Performs g asked by s v (Ok o) → t ≡ counted_with o v → b ≡ told_with o v.engine a → status ≡ 0 →
+      IsMadeOnce g asked by s t a b status
   once_refused : (why : Refusal) → Performs g asked by s t (Err why) → b ≡ a → status ≡ refusal_status why → IsMadeOnce g asked by s t a b status
 
 abbrev pub IsMadeOnceIf : Ghosts Token → Option Asked → (by : ℕ) → Cellar → Cellar → Answer → Answer → ℕ → Type 0

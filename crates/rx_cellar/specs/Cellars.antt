@@ -1,5 +1,5 @@
 -- An engine with what is counted beside it, and what a command makes of it.
-use Rattle.std.specs.Prelude.{◌≡◌, ◌&&◌, ◌≢◌, ℕ, ◌+◌, ◌*◌, ◌-◌, ◌^◌, nat_lt, min, max, Bool, true, false, List, [], ◌∷◌, length, map, Option, Some, None, option_map, Result, Ok, Err}
+use Rattle.std.specs.Prelude.{◌≡◌, ◌≢◌, ℕ, ◌+◌, ◌*◌, ◌-◌, ◌^◌, nat_lt, min, max, Bool, true, false, List, [], ◌∷◌, length, map, Option, Some, None, option_map, Result, Ok, Err}
 use Rattle.rx_resource.specs.declared.Resource.{Ghosts}
 use Rattle.rx_resource.specs.declared.token.Token.{Token}
 use Rattle.rx_event.specs.declared.refusal.Refusal.{Refusal}
@@ -10,16 +10,15 @@ use Rattle.rx_roles.specs.declared.effect.What.{What}
 use Rattle.rx_roles.specs.declared.effect.What.TheVariants.{Release}
 use Rattle.rx_engine.specs.States.{State}
 use Rattle.rx_engine.specs.Checkpoints.{IsCheckpointMade}
-use Rattle.rx_engine.specs.Servings.{IsHand, comes_to_one}
 use Rattle.rx_typed.specs.Codes.{refusal_status}
 use Rattle.rx_cellar.specs.declared.shapes.Command.{Command}
 use Rattle.rx_cellar.specs.declared.shapes.Answer.{Answer}
 use Rattle.rx_cellar.specs.declared.making.Made.{Made}
 use Rattle.rx_cellar.specs.declared.asked.Asked.{Asked}
 use Rattle.rx_cellar.specs.declared.cellar.Cellar.{Cellar}
-use Rattle.rx_cellar.specs.Asking.{asked_of, hands}
+use Rattle.rx_cellar.specs.Asking.{asked_of}
 use Rattle.rx_cellar.specs.Crossings.{effect_of, no_answer}
-use Rattle.rx_cellar.specs.Makings.{IsPerformed}
+use Rattle.rx_cellar.specs.Makings.{Outcome, ComesTo}
 use Rattle.rx_cellar.specs.Words.{word_of_due}
 
 -- the largest number that is counted
@@ -61,19 +60,19 @@ abbrev pub IsTidy : Cellar → Cellar → Type 0
 IsTidy s t = IsTidyIf (is_due s) s t
 
 -- the engine made it, and nothing else changed
-pub record Performs (g : Ghosts Token) (asked : Asked) (by : ℕ) (s t : Cellar) (answer : Result Made Refusal) : Type 0 where
-  pub performed : IsPerformed g asked by s.engine t.engine answer
+pub record Performs (g : Ghosts Token) (asked : Asked) (by : ℕ) (s t : Cellar) (answer : Result Outcome Refusal) : Type 0 where
+  pub performed : ComesTo g asked by s.engine t.engine answer
   pub only : t ≡ record s { engine = t.engine }
 
 -- what a second try came to, behind a checkpoint; or the checkpoint was refused, and so is the command, for its cause
-pub data IsTriedAgain (g : Ghosts Token) (asked : Asked) (by : ℕ) (s t : Cellar) : Result Made Refusal → Type 0 where
-  behind_one : {answer : Result Made Refusal} (at : ℕ) (u : Cellar) → Tidies s u (Ok at) → Performs g asked by u t answer → IsTriedAgain g asked by s t answer
+pub data IsTriedAgain (g : Ghosts Token) (asked : Asked) (by : ℕ) (s t : Cellar) : Result Outcome Refusal → Type 0 where
+  behind_one : {answer : Result Outcome Refusal} (at : ℕ) (u : Cellar) → Tidies s u (Ok at) → Performs g asked by u t answer → IsTriedAgain g asked by s t answer
   behind_none : {why : Refusal} → Tidies s t (Err why) → IsTriedAgain g asked by s t (Err why)
 
 -- made or refused; where the history was full, that is what the second try came to
-pub data IsTried (g : Ghosts Token) (asked : Asked) (by : ℕ) (s t : Cellar) : Result Made Refusal → Type 0 where
-  at_once : {answer : Result Made Refusal} → answer ≢ Err Full → Performs g asked by s t answer → IsTried g asked by s t answer
-  once_more : {answer : Result Made Refusal} (u : Cellar) → Performs g asked by s u (Err Full) → IsTriedAgain g asked by u t answer → IsTried g asked by s t answer
+pub data IsTried (g : Ghosts Token) (asked : Asked) (by : ℕ) (s t : Cellar) : Result Outcome Refusal → Type 0 where
+  at_once : {answer : Result Outcome Refusal} → answer ≢ Err Full → Performs g asked by s t answer → IsTried g asked by s t answer
+  once_more : {answer : Result Outcome Refusal} (u : Cellar) → Performs g asked by s u (Err Full) → IsTriedAgain g asked by u t answer → IsTried g asked by s t answer
 
 -- so many releases were told with this effect, and without it
 abbrev pub counted : What → ℕ → ℕ
@@ -112,24 +111,16 @@ abbrev pub with_handed : Option Sent → Answer → Answer
 with_handed None a = a
 with_handed (Some sent) a = record a { handed = 1; effect = effect_of sent }
 
--- the first effect of the first lane that is due is handed out, by which its release is told
-pub record IsHanded (by : ℕ) (s t : Cellar) (a b : Answer) : Type 0 where
-  pub given : Option Sent
-  pub hand : IsHand s.engine.parts.lanes.due by s.engine t.engine given
-  pub counts : t ≡ record s { engine = t.engine; released = counted_if given s.released }
-  pub answer : b ≡ with_handed given a
+-- what is handed out counts as told, and stands in the answer
+abbrev pub counted_with : Outcome → Cellar → Cellar
+counted_with o s = record s { released = counted_if o.given s.released }
 
-abbrev pub HandsOut : Bool → (by : ℕ) → Cellar → Cellar → Answer → Answer → Type 0
-HandsOut true by s t a b = IsHanded by s t a b
-HandsOut false by s t a b = (t ≡ s) × (b ≡ a)
-
--- an item that may be handed out is where it is all that came of the command
-abbrev pub hands_out : Asked → State → Bool
-hands_out asked s = hands asked && comes_to_one s
+abbrev pub told_with : Outcome → State → Answer → Answer
+told_with o e a = with_handed o.given (told o.made e a)
 
 -- done, and all of it told; or refused, and nothing is told
 pub data IsAskedMade (g : Ghosts Token) (asked : Asked) (by : ℕ) (s t : Cellar) (a b : Answer) : ℕ → Type 0 where
-  is_done : (made : Made) (u v : Cellar) → IsTidy s u → IsTried g asked by u v (Ok made) → HandsOut (hands_out asked v.engine) by v t (told made v.engine a) b → IsAskedMade g asked by s t a b 0
+  is_done : (o : Outcome) (u v : Cellar) → IsTidy s u → IsTried g asked by u v (Ok o) → t ≡ counted_with o v → b ≡ told_with o v.engine a → IsAskedMade g asked by s t a b 0
   is_refused : (why : Refusal) (u : Cellar) → IsTidy s u → IsTried g asked by u t (Err why) → b ≡ a → IsAskedMade g asked by s t a b (refusal_status why)
 
 -- a command, by its numbers

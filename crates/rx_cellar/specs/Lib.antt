@@ -7,7 +7,5 @@ pub mod Makings
 pub mod Readings
 pub mod Serving
 pub mod Words
-pub mod TakingOn
 pub mod Behind
 pub mod Frequent
-pub mod GoingOn

@@ -19,6 +19,8 @@ use Rattle.rx_engine.specs.declared.sharing.Subscribed.{Subscribed}
 use Rattle.rx_engine.specs.declared.sharing.Connected.{Connected}
 use Rattle.rx_engine.specs.States.{State}
 use Rattle.rx_engine.specs.Commands.{IsFreeMade, IsCostlyMade}
+use Rattle.rx_roles.specs.declared.effect.Effect.{Effect as Sent}
+use Rattle.rx_engine.specs.Handings.{IsNextHanded}
 use Rattle.rx_engine.specs.Openings.{IsOpenMade}
 use Rattle.rx_engine.specs.Usings.{IsUsingMade}
 use Rattle.rx_engine.specs.Holdings.{IsHoldMade}
@@ -29,10 +31,11 @@ use Rattle.rx_engine.specs.Hubs.{AreHubsMade}
 use Rattle.rx_typed.specs.Codes.{no_node, node_numbered}
 use Rattle.rx_cellar.specs.declared.making.Made.{Made}
 use Rattle.rx_cellar.specs.declared.asked.OwnKind.TheVariants.{Pass}
+use Rattle.rx_cellar.specs.declared.asked.Item.{Item}
 use Rattle.rx_cellar.specs.declared.asked.Asked.{Asked}
 use Rattle.rx_cellar.specs.declared.asked.Asked.TheVariants.{Open, Subscribe, Using, Hold, Next, Complete, Error as Fails, Fail, Decline, Dispose, Connect, Disconnect}
 use Rattle.rx_cellar.specs.declared.asked.Asked.TheVariants.{Put, Shut, Abort, Apply, Remove, Lease, GiveBack}
-use Rattle.rx_cellar.specs.Asking.{kind_of}
+use Rattle.rx_cellar.specs.Asking.{kind_of, item_asked}
 
 -- nothing was opened
 abbrev pub nothing_made : Made
@@ -65,12 +68,12 @@ abbrev pub of_connected : Connected → Made
 of_connected c = record nothing_made { other = node_numbered c.key; hub = c.place }
 
 -- what is shown of an answer of the engine
-abbrev pub shown : {A : Type 0} → (A → Made) → Result A Refusal → Result Made Refusal
+abbrev pub shown : {A B : Type 0} → (A → B) → Result A Refusal → Result B Refusal
 shown made (Ok a) = Ok (made a)
 shown made (Err why) = Err why
 
 -- the engine answered this, and it is what crosses
-pub record Shows {A : Type 0} (is : Result A Refusal → Type 0) (made : A → Made) (answer : Result Made Refusal) : Type 0 where
+pub record Shows {A B : Type 0} (is : Result A Refusal → Type 0) (made : A → B) (answer : Result B Refusal) : Type 0 where
   pub engine_answer : Result A Refusal
   pub made_so : is engine_answer
   pub is_shown : answer ≡ shown made engine_answer
@@ -116,3 +119,22 @@ IsPerformed g (Apply res) by s t a = Shows {A = ℕ} (IsCostlyMade g (λ x. appl
 IsPerformed g (Remove res) by s t a = IsFree g (λ x. remove_request x.book res) by 0 s t a
 IsPerformed g (Lease res) by s t a = Shows (IsLeaseAnswered g res by s t) of_lease a
 IsPerformed g (GiveBack lease) by s t a = IsFree g (λ x. give_back_request x.book lease) by 0 s t a
+
+-- what a command made, and the effect that is handed out with its answer
+pub record Outcome : Type 0 where
+  pub made : Made
+  pub given : Option Sent
+
+abbrev pub of_made : Made → Outcome
+of_made made = record { made = made; given = None }
+
+abbrev pub of_given : Option Sent → Outcome
+of_given given = record { made = nothing_made; given = given }
+
+-- an item that asks for it is handed out as it is emitted; no other command hands anything out
+abbrev pub ComesToIf : Option Item → Ghosts Token → Asked → (by : ℕ) → State → State → Result Outcome Refusal → Type 0
+ComesToIf None g asked by s t answer = Shows (IsPerformed g asked by s t) of_made answer
+ComesToIf (Some item) g asked by s t answer = Shows (IsNextHanded g item.leaf by item.value s t) of_given answer
+
+abbrev pub ComesTo : Ghosts Token → Asked → (by : ℕ) → State → State → Result Outcome Refusal → Type 0
+ComesTo g asked by s t answer = ComesToIf (item_asked asked) g asked by s t answer

@@ -20,7 +20,7 @@ use rx_resource::Token;
 use rx_typed::{DONE, RxNode, key_of, node_of};
 
 impl Cellar {
-    /// Emits an item, and hands it out where it is all that comes of it.
+    /// Emits an item, and hands it out where it is all that comes of it, and nothing stands before it in its lane.
     #[inline(never)]
     pub(crate) fn emit(&mut self, command: &Command, answer: &mut Answer) -> u8
         ensures { IsMadeOnce ⟦<Token as Resource>⟧ (asked_for (item_in command.now)) command.now.by

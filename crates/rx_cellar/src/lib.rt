@@ -19,13 +19,13 @@
 //! - [`Cellar::make`] does what the command asks, by the engine's call of that name, and its answer is the engine's:
 //!   keys, hub, copies, closings and due lanes, of each list the first eight, the rest by [`Cellar::rest`]. Where it is
 //!   refused, all counts are 0, and nothing changed but room, a checkpoint, and the hubs of shares.
-//! - Only an item hands out an effect: where it is all that comes of the command, and not where it says that it queues.
+//! - Only an item is handed out with its answer: if, and only if, it is all that comes of its command, its lane has
+//!   nothing in it, and nobody serves that; and never where the command says that it queues.
 //! - Where the history is full a checkpoint is made, and the command is tried once more; where the checkpoint is
 //!   refused, for want of memory, so is the command. Where a share finds no hub the hubs are made, and it is tried
 //!   once more.
-//! - Serving, giving up and finding lanes are the engine's, by the lane that the word names. [`Cellar::take_on`] takes
-//!   one effect after another, [`Cellar::make_behind`] gives a lane back with the next command, and
-//!   [`Cellar::make_on`] does both: it takes what there is of the one lane that its command answers.
+//! - Serving, giving up and finding lanes are the engine's, by the lane that the word names.
+//!   [`Cellar::make_behind`] gives a lane back with the next command.
 //! - What a face makes of effects is its own: that it serves what an answer names, and that words of callers differ.
 #![tactic(auto)]
 
@@ -34,13 +34,11 @@ mod beginning;
 mod behind;
 mod cellar;
 mod frequent;
-mod going_on;
 mod making;
 mod reading;
 mod rest;
 mod serving;
 mod shapes;
-mod taking_on;
 mod telling;
 mod word_laws;
 mod words;
@@ -50,5 +48,4 @@ pub use cellar::Cellar;
 pub use making::Made;
 pub use reading::{Event, Totals, no_event_shown, no_totals};
 pub use shapes::{Answer, Command, Effect};
-pub use taking_on::who_took_serves_on;
 pub use word_laws::words_find_their_lanes;

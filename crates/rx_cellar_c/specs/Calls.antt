@@ -3,14 +3,11 @@ use Rattle.std.specs.Prelude.{◌≡◌, ℕ, ◌^◌, ◌-◌, ◌==◌, List, 
 use Rattle.rx_engine.specs.States.{IsPromised}
 use Rattle.rx_engine.specs.LettingGo.{is_over}
 use Rattle.rx_cellar.specs.declared.cellar.Cellar.{Cellar}
-use Rattle.rx_cellar.specs.declared.shapes.Answer.{Answer}
 use Rattle.rx_cellar.specs.declared.shapes.Effect.{Effect}
-use Rattle.rx_cellar.specs.Crossings.{no_answer}
 use Rattle.rx_cellar.specs.declared.reading.Totals.{Totals}
 use Rattle.rx_cellar.specs.declared.reading.Event.{Event}
 use Rattle.rx_cellar.specs.Beginnings.{IsFresh, limit_of, first_until}
 use Rattle.rx_cellar.specs.Serving.{IsLeftTold, IsRest}
-use Rattle.rx_cellar.specs.TakingOn.{IsTakenOn}
 use Rattle.rx_cellar.specs.Readings.{totals_of, IsEventTold}
 use Rattle.std.specs.Prelude.{true, false}
 
@@ -52,20 +49,6 @@ pub data IsFinished (old new : Option Cellar) (status : ℕ) : Type 0 where
 pub record IsNoneTaken (effect effect' : Effect) (count : ℕ) : Type 0 where
   pub kept : effect' ≡ effect
   pub none : count ≡ 0
-
-pub record AreNoneWritten (effects effects' : List Effect) (count : ℕ) : Type 0 where
-  pub kept : effects' ≡ effects
-  pub none : count ≡ 0
-
--- no command was made, and nothing was taken
-pub record IsNoneMadeOn (a b : Answer) (effects effects' : List Effect) (count : ℕ) : Type 0 where
-  pub answer : b ≡ no_answer a
-  pub taken : AreNoneWritten effects effects' count
-
--- so many were taken of the lane, to the front of the effects
-pub record IsTakenOnAnswered (lane by : ℕ) (s t : Cellar) (effects effects' : List Effect) (count status : ℕ) : Type 0 where
-  pub taken : IsTakenOn lane by s t effects effects' count
-  pub done : status ≡ 0
 
 -- no lane is left
 pub record IsNoneLeft (from lane next : ℕ) : Type 0 where

@@ -21,8 +21,8 @@ mod serving;
 
 pub use handle::CellarHandle;
 pub use making::{
-    cellar_abi, cellar_drop, cellar_finish, cellar_make, cellar_make_behind, cellar_make_on,
-    cellar_new, cellar_size,
+    cellar_abi, cellar_drop, cellar_finish, cellar_make, cellar_make_behind, cellar_new,
+    cellar_size,
 };
 pub use reading::{cellar_dump, cellar_event, cellar_totals};
-pub use serving::{cellar_give_up, cellar_left, cellar_rest, cellar_take, cellar_take_on};
+pub use serving::{cellar_give_up, cellar_left, cellar_rest, cellar_take};

@@ -5,21 +5,20 @@ ghost use Rattle.rx_resource.specs.contracts.token.TokenResource.TheImpl.{ghosts
 ghost use Rattle.rx_cellar.specs.Crossings.{no_answer};
 ghost use Rattle.rx_cellar.specs.Cellars.{IsCommandMade};
 ghost use Rattle.rx_cellar.specs.Behind.{IsMadeBehind};
-ghost use Rattle.rx_cellar.specs.GoingOn.{IsMadeOn};
-ghost use Rattle.rx_cellar_c.specs.Calls.{IsCalled, IsMade, IsFinished, IsNoneMadeOn, size_of};
+ghost use Rattle.rx_cellar_c.specs.Calls.{IsCalled, IsMade, IsFinished, size_of};
 
 use crate::handle::CellarHandle;
-use rx_cellar::{Answer, Cellar, Command, Effect};
+use rx_cellar::{Answer, Cellar, Command};
 use rx_typed::{DONE, HELD, NO_MEMORY, NOTHING_KEPT, UNTAKEN};
 use std::alloc::Global;
 
 // The number of the header.
-const ABI: u32 = 65_538;
+const ABI: u32 = 131_072;
 
 /// The number of the header that the library was built for.
 #[unsafe(no_mangle)]
 pub extern "C" fn cellar_abi() -> u32
-    ensures { result ≡ 65538 }
+    ensures { result ≡ 131072 }
 {
     ABI
 }
@@ -96,31 +95,6 @@ pub extern "C" fn cellar_make_behind(
         return NOTHING_KEPT;
     };
     let status = kept.make_behind(lane, command, answer);
-    handle.put(kept);
-    status
-}
-
-/// Makes a command as [`cellar_make_behind`]; and where it answers one lane, and hands out nothing, takes of that lane as
-/// `cellar_take_on`, to the front of the effects.
-#[unsafe(no_mangle)]
-pub extern "C" fn cellar_make_on(
-    alloc: Global,
-    handle: &mut CellarHandle,
-    lane: u64,
-    command: &Command,
-    answer: &mut Answer,
-    effects: &mut [Effect],
-    count: &mut u64,
-) -> u8
-    ensures { IsCalled (λ s t n. IsMadeOn ghosts lane command.now s t answer.old answer.new effects.old effects.new count.new n)
-        (IsNoneMadeOn answer.old answer.new effects.old effects.new count.new) handle.old.kept handle.new.kept result }
-{
-    let Some(mut kept) = handle.take(alloc) else {
-        answer.clear();
-        *count = 0;
-        return NOTHING_KEPT;
-    };
-    let status = kept.make_on(lane, command, answer, effects, count);
     handle.put(kept);
     status
 }

@@ -3,11 +3,10 @@
 ghost use Rattle.std.specs.Prelude.{◌≡◌};
 ghost use Rattle.rx_cellar.specs.Serving.{IsTakeTold, IsGivenUp};
 ghost use Rattle.rx_cellar_c.specs.Calls.{IsCalled, IsLooked, IsNoneTaken, IsNoneLeft, IsNoRest, IsLeftAnswered, IsRestAnswered};
-ghost use Rattle.rx_cellar_c.specs.Calls.{IsTakenOnAnswered, AreNoneWritten};
 
 use crate::handle::CellarHandle;
 use rx_cellar::Effect;
-use rx_typed::{DONE, NOTHING_KEPT};
+use rx_typed::NOTHING_KEPT;
 use std::alloc::Global;
 
 /// Takes the next effect of a lane, for who serves it.
@@ -30,28 +29,6 @@ pub extern "C" fn cellar_take(
     let status = kept.take_told(lane, by, effect, count);
     handle.put(kept);
     status
-}
-
-/// Takes one effect of a lane after another, for who serves it, until the room is used up or a take finds none.
-#[unsafe(no_mangle)]
-pub extern "C" fn cellar_take_on(
-    alloc: Global,
-    handle: &mut CellarHandle,
-    lane: u64,
-    by: u64,
-    effects: &mut [Effect],
-    count: &mut u64,
-) -> u8
-    ensures { IsCalled (λ s t n. IsTakenOnAnswered lane by s t effects.old effects.new count.new n) (AreNoneWritten effects.old effects.new count.new)
-        handle.old.kept handle.new.kept result }
-{
-    let Some(mut kept) = handle.take(alloc) else {
-        *count = 0;
-        return NOTHING_KEPT;
-    };
-    *count = kept.take_on(lane, by, effects) as u64;
-    handle.put(kept);
-    DONE
 }
 
 /// Lets others serve a lane; what was taken and not told comes first again.

@@ -154,7 +154,7 @@ parted_many s t name l found some turns other = by_name (is_name name other) ref
       omega (arith, now, was, some)
   by_name false is = let same = ap many_of (turns.others other (other_name name other is)) in omega (arith, same)
 
-leaves_kept : (s s' : State Effect) (rs : List Role) (u : State Effect) → KeepsLanes s s' → Leaves s' rs u → Leaves s rs u
+pub leaves_kept : (s s' : State Effect) (rs : List Role) (u : State Effect) → KeepsLanes s s' → Leaves s' rs u → Leaves s rs u
 leaves_kept s s' rs u k (none_left j) = none_left (record {
   lanes = λ name. j.lanes name ∙ k.lanes name;
   fresh_is = j.fresh_is ∙ k.fresh_is;
@@ -164,7 +164,7 @@ leaves_kept s s' rs u k (none_left j) = none_left (record {
 leaves_kept s s' rs u k (one_left {t = m} r l found turns rest) = one_left r l (sym (k.lanes r.lane) ∙ found)
     (turns_from s s' m r.lane (kept (parted l)) k turns) rest
 
-pub settles_roomier : (g : Ghosts Token) (by value : ℕ) (mid : BookState) (p p' : Parts) (t : BookState) (q : Parts) → IsRoomier p p' →
+unfoldable pub settles_roomier : (g : Ghosts Token) (by value : ℕ) (mid : BookState) (p p' : Parts) (t : BookState) (q : Parts) → IsRoomier p p' →
     Settles g by value mid p' t q → Settles g by value mid p t q
 settles_roomier g by value mid p p' t q r s = record {
   hears = s.hears ∙ (λ i. without_all (after_all (r.hears i) (mail_left mid)) (closed_of mid));

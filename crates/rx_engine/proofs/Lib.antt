@@ -21,10 +21,10 @@ pub mod SharesChosen
 pub mod TiedAfterHub
 pub mod NewEngine
 pub mod HomesFound
+pub mod ItemsSaid
+pub mod LanesPromised
 pub mod SpreadOut
 pub mod HandedOut
-pub mod FewPut
-pub mod FewHanded
 pub mod NothingLeft
 pub mod KeysKept
 pub mod TiedAfterPutting

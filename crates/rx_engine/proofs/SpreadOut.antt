@@ -1,15 +1,15 @@
 -- What a call came to is put into lanes, or its only item is handed out without being put there.
-use Rattle.std.proofs.Common.{◌≡◌, ℕ, ◌+◌, ◌<◌, ◌≤◌, ◌&&◌, ◌==◌, Bool, true, false, List, [], ◌∷◌, length, Option, Some, None, Ok, refl, sym, ap, ◌∙◌, arith, subst, if◌then◌else◌}
+use Rattle.std.proofs.Common.{◌≡◌, ℕ, ◌+◌, ◌<◌, ◌≤◌, ◌&&◌, Bool, true, false, List, [], ◌∷◌, Option, Some, None, is_some, Ok, refl, sym, ap, ◌∙◌, arith, subst, if◌then◌else◌}
 use Rattle.std.proofs.lemmas.Bool.{false≢true}
 use Rattle.std.proofs.lemmas.Option.{same_Some}
+use Rattle.std.specs.Option.{option_and_then}
 use Rattle.rx_resource.specs.declared.Resource.{Ghosts}
 use Rattle.rx_resource.specs.declared.token.Token.{Token}
 use Rattle.rx_book.specs.State.{State as BookState}
 use Rattle.rx_lanes.specs.declared.names.LaneName.{LaneName}
-use Rattle.rx_lanes.specs.declared.names.Due.{Due}
-use Rattle.rx_lanes.specs.Lane.{Lane, put, freed, taken, claimed, kept}
-use Rattle.rx_lanes.specs.State.{State, lane, Gets, Turns}
-use Rattle.rx_lanes.specs.Handings.{IsGiven, IsDueGiven}
+use Rattle.rx_lanes.specs.Lane.{Lane, put, freed, taken, claimed, kept, is_empty, is_idle}
+use Rattle.rx_lanes.specs.State.{State, lane, Gets, Turns, IsPromised as AreLanesPromised}
+use Rattle.rx_lanes.specs.Handings.{IsGiven}
 use Rattle.rx_lanes.specs.Courses.{is_name}
 use Rattle.rx_lanes.proofs.Laws.ClaimedAlone.{IsPutAndTaken, alone_is_put_and_taken}
 use Rattle.rx_roles.specs.declared.effect.Effect.{Effect}
@@ -22,10 +22,11 @@ use Rattle.rx_engine.specs.Rooms.{role_count, named, IsReady}
 use Rattle.rx_roles.specs.declared.roles.Role.{Role}
 use Rattle.rx_engine.specs.Settlements.{Settles, Releases, all_given, effects_told}
 use Rattle.rx_engine.specs.Gatherings.{Gathers, Spreads, IsLoaded}
-use Rattle.rx_engine.specs.Handings.{ClaimsOnly, IsClaimed, GivesIf, SpreadsAndHands, AnswersHandOut}
-use Rattle.rx_engine.specs.Servings.{is_one}
+use Rattle.rx_engine.specs.Handings.{is_idle_there, may_hand, item_at_once, handed_of}
+use Rattle.rx_engine.specs.HandingSteps.{ClaimsOnly, IsClaimed, AnswersHandOut}
 use Rattle.rx_engine.proofs.NamedLanes.{delivered_many}
-use Rattle.rx_engine.proofs.LanesServed.{kept_many, taken_many, claimed_many, turns_many, served_many}
+use Rattle.rx_engine.proofs.LanesPromised.{settled_promised}
+use Rattle.rx_engine.proofs.LanesServed.{claimed_many, turns_many}
 use Rattle.rx_engine.proofs.Laws.EffectsInLanes.{found_lane, arrives_gets}
 
 -- both steps are a settling
@@ -80,6 +81,47 @@ only_found p e loaded is =
 
 no_lasts : (name : LaneName) (es : List Effect) (e : Effect) → IsItemAlone es e → lasts_at name es ≡ 0
 no_lasts name es e alone = ap (lasts_at name) alone.only ∙ ap (λ (b : Bool). (if (b && is_name e.lane name) then 1 else 0) + 0) alone.goes_on
+
+-- what is handed out ----------------------------------------------------------------------------------------
+
+-- an item alone, where something is handed out
+some_handed : (lanes : State Effect) (e : Effect) (o : Option Effect) → o ≡ Some e →
+    is_some (option_and_then (λ (x : Effect). if may_hand lanes x.lane then Some x else None) o) ≡ true →
+    Some e ≡ option_and_then (λ (x : Effect). if may_hand lanes x.lane then Some x else None) o
+some_handed lanes e None is some = absurd (cc)
+some_handed lanes e (Some x) is some = by_test (may_hand lanes x.lane) some where
+  by_test : (b : Bool) → is_some (if b then Some x else None) ≡ true → Some e ≡ (if b then Some x else None)
+  by_test true some = sym is
+  by_test false some = absurd (false≢true some)
+
+handed_alone : (es : List Effect) (lanes : State Effect) (e : Effect) (none_behind : Bool) → none_behind ≡ true → only_item es ≡ Some e →
+    is_some (item_at_once es lanes) ≡ true → Some e ≡ handed_of none_behind es lanes
+handed_alone es lanes e none_behind last item some =
+    some_handed lanes e (only_item es) item some ∙ sym (ap (λ (b : Bool). handed_of b es lanes) last)
+
+-- whether something is
+is_some_if : (test : Bool) (e : Effect) → is_some (if test then Some e else None) ≡ test
+is_some_if true e = refl
+is_some_if false e = refl
+
+none_of : (lanes : State Effect) (o : Option Effect) → is_some o ≡ false →
+    is_some (option_and_then (λ (x : Effect). if may_hand lanes x.lane then Some x else None) o) ≡ false
+none_of lanes None none = refl
+none_of lanes (Some e) none = absurd (false≢true (sym none))
+
+pub none_alone : (es : List Effect) (lanes : State Effect) → is_some (only_item es) ≡ false → false ≡ is_some (item_at_once es lanes)
+none_alone es lanes none = sym (none_of lanes (only_item es) none)
+
+pub one_alone : (es : List Effect) (lanes : State Effect) (e : Effect) (l : Lane Effect) (is_claimed : Bool) → only_item es ≡ Some e →
+    lane lanes e.lane ≡ Some l → is_claimed ≡ (is_empty lanes.fresh && is_idle l) → is_claimed ≡ is_some (item_at_once es lanes)
+one_alone es lanes e l is_claimed item found is =
+    is ∙ ap (λ (o : Option (Lane Effect)). is_empty lanes.fresh && is_idle_there o) (sym found) ∙ sym (is_some_if (may_hand lanes e.lane) e)
+    ∙ ap (λ (o : Option Effect). is_some (option_and_then (λ (x : Effect). if may_hand lanes x.lane then Some x else None) o)) (sym item)
+
+none_handed : (none_behind : Bool) (o : Option Effect) → is_some o ≡ false → (if none_behind then o else None) ≡ None
+none_handed true None none = refl
+none_handed true (Some e) none = absurd (false≢true (sym none))
+none_handed false o none = refl
 
 -- claimed ----------------------------------------------------------------------------------------------------
 
@@ -156,18 +198,20 @@ module _ {by : ℕ} {e : Effect} {p q : Parts} (c : ClaimsOnly by e p q) (loaded
         spare = let had = loaded.spare in let same = law.spare in omega (arith, had, same, roles);
       }
 
-  -- one lane is due, and there is one copy
-  one : is_one between ≡ true
-  one = (λ i. length (law.due i) == 1 && c.copies i == 1)
-
-  pub claims_hand : IsReady 0 q → SpreadsAndHands true by p q (Some e)
-  claims_hand ready = record {
-    between = between;
-    spreads = spreads;
-    ready = between_ready ready;
-    gives = subst (λ (b : Bool). GivesIf b by between.lanes q.lanes (Some e)) (sym one)
-        (subst (λ (ds : List Due). IsDueGiven ds by between.lanes q.lanes (Some e)) (sym law.due) given_once);
-    only = refl;
+  pub claims_hand : (none_behind : Bool) → none_behind ≡ true → is_some (item_at_once p.effects.list p.lanes) ≡ true → AreLanesPromised p.lanes → IsReady 0 q →
+      AnswersHandOut none_behind by p q (Ok (Some e))
+  claims_hand none_behind last some promised ready = record {
+    given = Some e;
+    answers = refl;
+    hands = record {
+      between = between;
+      spreads = spreads;
+      ready = between_ready ready;
+      promised = settled_promised e promised law.was law.gets by;
+      exact = handed_alone p.effects.list p.lanes e none_behind last c.item some;
+      hands = (law.due, given_once);
+      only = refl;
+    };
   }
 
 -- claimed, and then no more on its way
@@ -182,43 +226,35 @@ claimed_only {by} {p} {m} e effects claimed item =
       only = ap (λ (x : Parts). record x { effects = effects; copies = 1 }) claimed.only;
     }
 
--- taken --------------------------------------------------------------------------------------------------------
-
-given_many : (ds : List Due) (by : ℕ) (s t : State Effect) (answer : Option Effect) → IsDueGiven ds by s t answer → (name : LaneName) →
-    many_at t name ≡ many_at s name
-given_many [] by s t answer given name = ap (λ (x : State Effect). many_at x name) given.1
-given_many (d ∷ ds) by s t answer given name =
-    served_many s t d.lane (λ (l : Lane Effect). kept (taken by d.inside l).lane) given.takes given.gone
-    (λ (l : Lane Effect). kept_many (taken by d.inside l).lane ∙ taken_many by d.inside l) name
-
-pub given_ready : (p : Parts) (lanes : State Effect) (by : ℕ) (answer : Option Effect) → IsReady 0 p → IsDueGiven p.lanes.due by p.lanes lanes answer →
-    p.lanes.spare ≤ lanes.spare → IsReady 0 (record p { lanes = lanes })
-given_ready p lanes by answer ready given more = record {
-  empty = ready.empty;
-  many = λ name. given_many p.lanes.due by p.lanes lanes answer given name ∙ ready.many name;
-  room = ready.room;
-  spare = let had = ready.spare in omega (arith, had, more);
-}
-
-pub spread_hand : {by : ℕ} {p q : Parts} (r : Parts) (answer : Option Effect) → Spreads by p q → IsReady 0 q →
-    GivesIf (is_one q) by q.lanes r.lanes answer → r ≡ record q { lanes = r.lanes } → SpreadsAndHands true by p r answer
-spread_hand {q = q} r answer spreads ready given only = record { between = q; spreads = spreads; ready = ready; gives = given; only = only }
-
--- where something was closed, nothing is handed out
-pub spread_only : {by : ℕ} {p q : Parts} (none_closed : Bool) → none_closed ≡ false → Spreads by p q → IsReady 0 q → SpreadsAndHands none_closed by p q None
-spread_only {by} {p} {q} none_closed is spreads ready = record {
-  between = q;
-  spreads = spreads;
-  ready = ready;
-  gives = subst (λ (b : Bool). GivesIf (b && is_one q) by q.lanes q.lanes None) (sym is) (refl, refl);
-  only = refl;
-}
-
--- where one look tells whether something was closed
-pub handed_over : {by : ℕ} {p q : Parts} (none_closed is : Bool) (given : Option Effect) → none_closed ≡ is → SpreadsAndHands is by p q given →
-    AnswersHandOut none_closed by p q (Ok given)
-handed_over {by} {p} {q} none_closed is given same hands = record {
-  given = given;
+-- where an event stands behind the item, or it is not alone, or its lane is not idle, nothing is handed out
+pub spread_only : {by : ℕ} {p q : Parts} (none_behind : Bool) → none_behind ≡ false → Spreads by p q → IsReady 0 q → AreLanesPromised q.lanes →
+    AnswersHandOut none_behind by p q (Ok None)
+spread_only {by} {p} {q} none_behind is spreads ready promised = record {
+  given = None;
   answers = refl;
-  hands = subst (λ (b : Bool). SpreadsAndHands b by p q given) (sym same) hands;
+  hands = record {
+    between = q;
+    spreads = spreads;
+    ready = ready;
+    promised = promised;
+    exact = sym (ap (λ (b : Bool). handed_of b p.effects.list p.lanes) is);
+    hands = refl;
+    only = refl;
+  };
+}
+
+pub spread_beside : {by : ℕ} {p q : Parts} (none_behind : Bool) → is_some (item_at_once p.effects.list p.lanes) ≡ false → Spreads by p q → IsReady 0 q →
+    AreLanesPromised q.lanes → AnswersHandOut none_behind by p q (Ok None)
+spread_beside {by} {p} {q} none_behind none spreads ready promised = record {
+  given = None;
+  answers = refl;
+  hands = record {
+    between = q;
+    spreads = spreads;
+    ready = ready;
+    promised = promised;
+    exact = sym (none_handed none_behind (item_at_once p.effects.list p.lanes) none);
+    hands = refl;
+    only = refl;
+  };
 }

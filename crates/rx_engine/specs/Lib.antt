@@ -4,6 +4,7 @@ pub mod Commands
 pub mod Deliveries
 pub mod Gatherings
 pub mod Handings
+pub mod HandingSteps
 pub mod Holdings
 pub mod Homes
 pub mod Hubs

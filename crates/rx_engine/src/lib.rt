@@ -4,8 +4,7 @@
 //!
 //! - A **command** ([`Engine::next`], [`Engine::open`], ..) is a call of the book. What it tells, ends and sets
 //!   free becomes **effects**, each in the **lane** of its role; whoever serves a lane takes them there
-//!   ([`Engine::take`]). An item may be handed out as it is emitted ([`Engine::next_handing`]), and so may what
-//!   comes of unsubscribing a root ([`Engine::dispose_handing`]).
+//!   ([`Engine::take`]). An item may be handed out as it is emitted ([`Engine::next_handing`]).
 //! - A **home** is the lane of an open node, which what stands below it has too ([`Engine::lane_of`]). Its word is
 //!   the place in the pool of hubs before which a share below it has to stand.
 //! - A **role** stands for the last effect that is still to come: of who hears an open root, of who projects for

@@ -11,7 +11,6 @@ use Rattle.rx_roles.specs.declared.roles.Role.{Role}
 use Rattle.rx_roles.specs.declared.effect.What.{What}
 use Rattle.rx_roles.specs.declared.effect.What.TheVariants.{Next, Project, Completed, Failed, Gone, Merged, Release, Put}
 use Rattle.rx_roles.specs.declared.effect.Effect.{Effect}
-use Rattle.rx_roles.specs.declared.effect.Few.{Few}
 use Rattle.rx_roles.specs.declared.effect.Effects.TheInside.{Inside}
 use Rattle.rx_lanes.specs.declared.names.LaneName.{LaneName}
 use Rattle.rx_lanes.specs.Courses.{is_name}
@@ -46,17 +45,6 @@ abbrev pub only_item : List Effect → Option Effect
 only_item [] = None
 only_item (e ∷ []) = if is_item e.what then Some e else None
 only_item (e ∷ (f ∷ es)) = None
-
--- one effect, or two for one lane, where those are all
-abbrev pub few_of : List Effect → Option Few
-few_of [] = None
-few_of (e ∷ []) = Some (record { first = e; second = None })
-few_of (e ∷ (f ∷ [])) = if is_name f.lane e.lane then Some (record { first = e; second = Some f }) else None
-few_of (e ∷ (f ∷ (g ∷ es))) = None
-
--- in order
-abbrev pub few_listed : Few → List Effect
-few_listed few = few.first ∷ option_to_list few.second
 
 -- for who has this role, of a call of this caller with this value
 abbrev pub effect_for : (by value : ℕ) → What → Role → Effect

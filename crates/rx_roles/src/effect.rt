@@ -1,10 +1,8 @@
 //! What a face is to do.
 
-ghost use Rattle.std.specs.Prelude.{◌≡◌, ◌+◌, ◌<◌, ◌≤◌, [], ◌∷◌, ◌++◌, OnOk, length, slice_get, if◌then◌else◌, Some, IsSome, is_some};
-ghost use Rattle.rx_lanes.specs.Courses.{is_name};
-ghost use Rattle.rx_roles.specs.Effects.{is_last, is_item, lasts, copies_in, only_item, few_of, few_listed};
+ghost use Rattle.std.specs.Prelude.{◌≡◌, ◌+◌, ◌<◌, ◌≤◌, [], ◌∷◌, ◌++◌, OnOk, length, slice_get, Some, IsSome, is_some};
+ghost use Rattle.rx_roles.specs.Effects.{is_last, is_item, only_item};
 
-use crate::telling::copies_of;
 use rx_lanes::LaneName;
 use std::alloc::{AllocError, Global};
 use std::marker::Model;
@@ -65,70 +63,6 @@ pub struct Effect {
     /// Who made the call of which it came.
     pub by: u64,
     pub what: What,
-}
-
-/// One effect, or two for one lane.
-#[derive(Clone, Copy)]
-pub struct Few {
-    pub first: Effect,
-    pub second: Option<Effect>,
-}
-
-// Whether it is the same lane's name.
-#[inline(always)]
-fn is_name(name: LaneName, other: LaneName) -> bool
-    ensures { result ≡ is_name name other }
-{
-    name.place == other.place && name.turn == other.turn
-}
-
-// Two effects, where they are for one lane.
-#[inline(always)]
-fn both(first: Effect, second: Effect) -> Option<Few>
-    ensures { result ≡ few_of (first ∷ second ∷ []) }
-{
-    if is_name(second.lane, first.lane) {
-        Some(Few {
-            first,
-            second: Some(second),
-        })
-    } else {
-        None
-    }
-}
-
-// 1 for the last effect of a role.
-#[inline(always)]
-fn lasts_where(what: What) -> u64
-    ensures { result ≡ (if is_last what then 1 else 0) }
-{
-    if is_last(what) { 1 } else { 0 }
-}
-
-impl Few {
-    /// How many of them are the last of their roles.
-    #[inline(always)]
-    pub fn lasts(&self) -> u64
-        ensures { result ≡ lasts (few_listed self.now) }
-    {
-        let first = lasts_where(self.first.what);
-        match self.second {
-            Some(second) => first + lasts_where(second.what),
-            None => first,
-        }
-    }
-
-    /// How many of them carry the value of their call.
-    #[inline(always)]
-    pub fn copies(&self) -> u64
-        ensures { result ≡ copies_in (few_listed self.now) }
-    {
-        let first = copies_of(self.first.what);
-        match self.second {
-            Some(second) => first + copies_of(second.what),
-            None => first,
-        }
-    }
 }
 
 /// Effects in order, on their way to their lanes.
@@ -218,24 +152,6 @@ impl Effects {
         ensures { result ≡ slice_get self.now.list place }
     {
         self.list.get(place).copied()
-    }
-
-    /// What is on its way, where that is one effect, or two for one lane.
-    #[inline(always)]
-    pub fn few(&self) -> Option<Few>
-        ensures { result ≡ few_of self.now.list }
-    {
-        let first = self.get(0)?;
-        let Some(second) = self.get(1) else {
-            return Some(Few {
-                first,
-                second: None,
-            });
-        };
-        if self.get(2).is_some() {
-            return None;
-        }
-        both(first, second)
     }
 
     /// Whether there is but one effect, and that is an item.

@@ -3,7 +3,7 @@ use Rattle.std.proofs.lemmas.Option.{same_Some}
 use Rattle.rx_lanes.specs.Lane.{Lane}
 use Rattle.rx_lanes.specs.Handings.{ClaimsAlone}
 use Rattle.rx_roles.specs.declared.effect.Effect.{Effect}
-use Rattle.rx_engine.proofs.SpreadOut.{only_found}
+use Rattle.rx_engine.proofs.SpreadOut.{only_found, one_alone}
 use Rattle.rx_engine.proofs.settling.claims_only.Goals as goal
 
 pub claim_alone-requires : goal.claim_alone-requires
@@ -20,3 +20,9 @@ returns-clause-claims c = λ is. record {
   spare = c.claim_alone.ensures.spare;
   only = refl;
 }
+
+pub returns-clause-exact : goal.returns-clause-exact
+returns-clause-exact c =
+    let found = only_found c.args.parts.now c.only_item-effect.result c.requires c.only_item-effect.ensures in
+    one_alone c.args.parts.now.effects.list c.args.parts.now.lanes c.only_item-effect.result found.0 c.claim_alone.result c.only_item-effect.ensures found.1
+    (c.claim_alone.ensures.result found.0 found.1)

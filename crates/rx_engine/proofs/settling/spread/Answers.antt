@@ -2,7 +2,7 @@ use Rattle.std.proofs.Common.{◌≡◌, length, [], rules, tests}
 use Rattle.rx_engine.proofs.NothingToDo.{none_of_length, nothing_spreads, nothing_ready}
 use Rattle.rx_engine.proofs.settling.spread.Goals as goal
 
-nothing_left : (c : goal.After-settle-none) → c.args.parts.now.effects.list ≡ []
+nothing_left : (c : goal.After-promise) → c.args.parts.now.effects.list ≡ []
 nothing_left c =
     let h = c.if-len-gt0.false in
     let none : length c.args.parts.now.effects.list ≡ 0 = search (rules, tests) in

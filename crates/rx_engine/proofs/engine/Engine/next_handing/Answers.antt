@@ -5,13 +5,15 @@ use Rattle.rx_roles.specs.declared.roles.Role.{Role}
 use Rattle.rx_shares.specs.Places.{places_left}
 use Rattle.rx_roles.specs.declared.effect.Effect.{Effect}
 use Rattle.rx_event.specs.declared.refusal.Refusal.{Refusal}
-use Rattle.rx_engine.specs.Settlements.{closed_of}
+use Rattle.rx_engine.specs.Settlements.{Settles, closed_of}
 use Rattle.rx_resource.specs.contracts.token.TokenResource.TheImpl.{ghosts}
 use Rattle.rx_event.specs.declared.event.Event.TheVariants.{Item}
 use Rattle.rx_event.specs.Notes.{mail_of}
 use Rattle.rx_book.specs.State.{State as BookState}
 use Rattle.rx_steps.proofs.Laws.NotesOfStep.{items_few}
-use Rattle.rx_engine.specs.States.{State}
+use Rattle.rx_engine.specs.declared.parts.Parts.{Parts}
+use Rattle.rx_engine.specs.Rooms.{IsReady}
+use Rattle.rx_engine.specs.States.{State, IsTied}
 use Rattle.rx_engine.specs.Handings.{IsNextHanded}
 use Rattle.rx_engine.specs.Plain.{emits}
 use Rattle.rx_engine.specs.Ties.{state_of}
@@ -37,18 +39,23 @@ gather-requires c =
           (leave_for (state_of c.self.inside) _ c.emit.new.book (emits c.args.leaf (pos 0)) c.promise.ensures c.self.invariant accepts));
     }
 
-pub invariant_of-self : goal.invariant_of-self
-invariant_of-self c =
-    let b : BookState = c.self.inside.book in
-    let accepts = c.in-Ok.ensures.accepted in
+-- tied between the command and the handing out
+between_tied : (c : goal.After-spread_and_hand) (parts : Parts) →
+    Settles ghosts c.args.by c.args.value c.emit.new.book c.emit.new.parts c.gather.new.book parts → IsReady 0 parts →
+    IsTied (record { book = c.gather.new.book; parts = parts; wishes = c.gather.new.wishes })
+between_tied c parts settles ready =
     let same = c.emit.ensures.roomier in
     let tied = tied_roomier (state_of c.self.inside) c.emit.new.parts c.self.invariant same
     (ready_roomier c.self.inside.parts c.emit.new.parts c.self.invariant.ready same) in
+    tied_behind ghosts (record { book = c.self.inside.book; parts = c.emit.new.parts; wishes = c.self.inside.wishes })
+    (record { book = c.gather.new.book; parts = parts; wishes = c.gather.new.wishes }) _ c.emit.new.book c.args.by c.args.value
+    (emits c.args.leaf (pos 0)) c.promise.ensures tied c.in-Ok.ensures.accepted settles c.gather.ensures.closes ready
+
+pub invariant_of-self : goal.invariant_of-self
+invariant_of-self c =
     let hands = c.spread_and_hand.ensures.hands.hands in
-    let behind : State = record { book = c.gather.new.book; parts = hands.between; wishes = c.gather.new.wishes } in
-    let then = tied_behind ghosts (record { book = b; parts = c.emit.new.parts; wishes = c.self.inside.wishes }) behind _ c.emit.new.book c.args.by c.args.value
-    (emits c.args.leaf (pos 0)) c.promise.ensures tied accepts (settles_of c.gather.ensures.gathers hands.spreads) c.gather.ensures.closes hands.ready in
-    handed_tied behind c.spread_and_hand.new.parts then hands.only c.spread_and_hand.ensures.ready
+    handed_tied (record { book = c.gather.new.book; parts = hands.between; wishes = c.gather.new.wishes }) c.spread_and_hand.new.parts
+    (between_tied c hands.between (settles_of c.gather.ensures.gathers hands.spreads) hands.ready) hands.only c.spread_and_hand.ensures.ready
 
 pub returns-in-Ok : goal.returns-in-Ok
 returns-in-Ok c =
@@ -59,4 +66,4 @@ returns-in-Ok c =
     (next_handed ghosts c.args.leaf c.args.by c.args.value (state_of c.self.inside) c.emit.new.parts c.gather.new.parts c.spread_and_hand.new.parts c.emit.new.book
     c.gather.new.book c.gather.new.wishes over.given
     c.in-Ok.ensures.accepted
-    c.emit.ensures.roomier c.gather.ensures.gathers c.gather.ensures.closes over.hands))
+    c.emit.ensures.roomier c.gather.ensures.gathers c.gather.ensures.closes over.hands c.promise-in-Ok.ensures c.promise-in-Ok-2.ensures (between_tied c)))

@@ -2,7 +2,7 @@ use Rattle.std.proofs.Common.{rules, ◌≡◌, true, false, Option, IsSome, sym
 use Rattle.rx_lanes.specs.Lane.{Lane}
 use Rattle.rx_lanes.specs.State.{lane}
 use Rattle.rx_lanes.proofs.LaneTurns.{some_is}
-use Rattle.rx_lanes.proofs.FirstDue.{none_of, claims_alone}
+use Rattle.rx_lanes.proofs.AloneDue.{none_of, claims_alone}
 use Rattle.rx_lanes.proofs.lanes.Lanes.claim_alone.Goals as goal
 
 pub name_alone-requires : goal.name_alone-requires

@@ -1,12 +1,11 @@
--- What is handed out is the first of the first lane that is due; and what holds where one lane alone is.
-use Rattle.std.proofs.Common.{◌≡◌, ℕ, List, [], ◌∷◌, Option, Some, None, true, false, slice_get, refl, ap, sym, ◌∙◌, subst, true≢false}
-use Rattle.std.proofs.lemmas.Option.{same_Some}
+-- Where no lane got something none is due, and a lane that is claimed then is due alone.
+use Rattle.std.proofs.Common.{◌≡◌, ℕ, List, [], ◌∷◌, Some, true, false, refl, ap, sym, ◌∙◌, true≢false}
 use Rattle.rx_lanes.specs.declared.names.Due.{Due}
 use Rattle.std.proofs.Math.Bool.{not}
 use Rattle.rx_lanes.specs.declared.names.LaneName.{LaneName}
 use Rattle.rx_lanes.specs.Lane.{Lane, is_empty, is_idle, claimed}
 use Rattle.rx_lanes.specs.State.{State, lane, Turns, due_of}
-use Rattle.rx_lanes.specs.Handings.{ClaimsAlone, IsGiven, IsDueGiven}
+use Rattle.rx_lanes.specs.Handings.{ClaimsAlone}
 
 pub none_of : (xs : List ℕ) → not (is_empty xs) ≡ false → xs ≡ []
 none_of [] e = refl
@@ -17,15 +16,6 @@ module _ {E : Type 0} where
   pub settles_none : (by : ℕ) (s : State E) {due : List Due} → s.fresh ≡ [] → due ≡ [] →
       record s { due = due } ≡ record s { fresh = []; due = due_of by s.places s.fresh }
   settles_none by s fresh due = λ i. record s { fresh = fresh i; due = (due ∙ sym (ap (due_of by s.places) fresh)) i }
-
-  pub due_some : (ds : List Due) (d : Due) (by : ℕ) (s t : State E) (answer : Option E) → Some d ≡ slice_get ds 0 →
-      IsGiven d.lane d.inside by s t answer → IsDueGiven ds by s t answer
-  due_some [] d by s t answer is given = absurd (cc)
-  due_some (x ∷ ds) d by s t answer is given = subst (λ (y : Due). IsGiven y.lane y.inside by s t answer) (same_Some d x is) given
-
-  pub due_none : (ds : List Due) (by : ℕ) (s : State E) → None ≡ slice_get ds 0 → IsDueGiven ds by s s None
-  due_none [] by s is = (refl, refl)
-  due_none (x ∷ ds) by s is = absurd (cc)
 
   pub claims_alone : (name : LaneName) (by : ℕ) (s m t : State E) (l : Lane E) → lane s name ≡ Some l → is_idle l ≡ true → s.fresh ≡ [] →
       Turns s m name (Some (claimed by l)) → t ≡ record m { due = record { lane = name; inside = false } ∷ [] } → ClaimsAlone name by s t
