@@ -115,7 +115,7 @@ IsPerformed g (Disconnect word hint) by s t a = Shows {A = Unit} (IsDisconnectMa
 IsPerformed g (Put to user value) by s t a = Shows {A = Unit} (IsPutMade to user value by s t) of_nothing a
 IsPerformed g Shut by s t a = Shows {A = Unit} (IsClosingMade g by s t) of_nothing a
 IsPerformed g (Abort node value) by s t a = IsFree g (λ x. abort_request x.book node 0) by value s t a
-IsPerformed g (Apply res) by s t a = Shows {A = ℕ} (IsCostlyMade g (λ x. apply_request x.book res) by 0 s t) of_nothing a
+IsPerformed g (Apply res) by s t a = Shows {A = Unit} (IsCostlyMade g (λ x. apply_request x.book res) by 0 s t) of_nothing a
 IsPerformed g (Remove res) by s t a = IsFree g (λ x. remove_request x.book res) by 0 s t a
 IsPerformed g (Lease res) by s t a = Shows (IsLeaseAnswered g res by s t) of_lease a
 IsPerformed g (GiveBack lease) by s t a = IsFree g (λ x. give_back_request x.book lease) by 0 s t a

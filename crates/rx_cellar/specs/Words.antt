@@ -1,5 +1,5 @@
 -- The words of lanes.
-use Rattle.std.specs.Prelude.{◌≡◌, ℕ, ◌+◌, ◌*◌, ◌^◌, ◌<◌, ◌==◌, nat_lt, Bool, Option, Some, None, if◌then◌else◌}
+use Rattle.std.specs.Prelude.{◌≡◌, ℕ, ◌+◌, ◌*◌, ◌==◌, nat_lt, Bool, Option, Some, None, if◌then◌else◌}
 use Rattle.std.specs.Option.{option_and_then}
 use Rattle.std.proofs.Math.Bool.{not}
 use Rattle.std.proofs.Common.{◌%◌}
@@ -7,7 +7,7 @@ use Rattle.rx_lanes.specs.declared.names.LaneName.{LaneName}
 use Rattle.rx_lanes.specs.declared.names.Due.{Due}
 use Rattle.rx_lanes.specs.Reports.{name_of}
 use Rattle.rx_lanes.specs.Lane.{Lane}
-use Rattle.rx_lanes.specs.State.{State, opened_at, lane}
+use Rattle.rx_lanes.specs.State.{State, IsPromised, opened_at, lane}
 
 -- of a lane's name: its place, and above it the last 34 bits of its turn
 abbrev pub word_of : LaneName → ℕ
@@ -34,7 +34,7 @@ named s word = option_and_then (λ name. if is_named word name then Some name el
 abbrev pub word_for : LaneName → (inside : Bool) → ℕ
 word_for name inside = word_of_due (record { lane = name; inside = inside })
 
--- as long as a lane is open its words find it, and say whether the caller serves it already; each lane's place is below 2^29
+-- as long as a lane is open its words find it, and say whether the caller serves it already
 abbrev pub WordsFindTheirLanes : Type 0 → Type 0
-WordsFindTheirLanes E = (s : State E) (name : LaneName) (l : Lane E) (inside : Bool) → lane s name ≡ Some l → name.place < 2 ^ 29 →
+WordsFindTheirLanes E = (s : State E) → IsPromised s → (name : LaneName) (l : Lane E) (inside : Bool) → lane s name ≡ Some l →
     (named s (word_for name inside) ≡ Some name) × (is_inside (word_for name inside) ≡ inside)

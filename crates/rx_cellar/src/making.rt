@@ -48,16 +48,6 @@ fn plain(answer: Result<(), Refusal>) -> Result<Made, Refusal>
     }
 }
 
-// What was used, and made nothing.
-fn used(answer: Result<u64, Refusal>) -> Result<Made, Refusal>
-    ensures { result ≡ shown of_nothing answer }
-{
-    match answer {
-        Ok(_word) => Ok(nothing_made()),
-        Err(why) => Err(why),
-    }
-}
-
 // A resource is held.
 fn held(answer: Result<ResKey, Refusal>) -> Result<Made, Refusal>
     ensures { result ≡ shown of_held answer }
@@ -232,7 +222,7 @@ pub(crate) fn perform(engine: &mut Engine, asked: Asked, by: u64) -> Result<Made
         Asked::Put(to, user, value) => plain(engine.put(to, user, value, by)),
         Asked::Shut => plain(engine.close_next(by)),
         Asked::Abort(node, value) => plain(engine.abort(node, 0, by, value)),
-        Asked::Apply(res) => used(engine.apply(res, 0, by)),
+        Asked::Apply(res) => plain(engine.apply(res, by)),
         Asked::Remove(res) => plain(engine.remove(res, by)),
         Asked::Lease(res) => leased(engine.lease(res, by)),
         Asked::GiveBack(lease) => plain(engine.give_back(lease, by)),

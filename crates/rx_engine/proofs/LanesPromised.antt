@@ -1,5 +1,5 @@
 -- Lanes of which one got an effect keep what lanes promise, once they are settled.
-use Rattle.std.proofs.Common.{◌≡◌, ◌<◌, ◌||◌, ◌⊎◌, inl, inr, ℕ, Bool, true, false, List, [], ◌∷◌, ◌++◌, Some, None, is_some, refl, sym, ap, ◌∙◌, subst}
+use Rattle.std.proofs.Common.{◌≡◌, ◌^◌, ◌<◌, ◌||◌, ◌⊎◌, inl, inr, ℕ, Bool, true, false, List, [], ◌∷◌, ◌++◌, Some, None, is_some, refl, sym, ap, ◌∙◌, subst}
 use Rattle.std.proofs.Common.{ltb as nat_lt}
 use Rattle.std.proofs.Math.Bool.{not}
 use Rattle.std.proofs.lemmas.Bool.{false≢true}
@@ -39,6 +39,10 @@ module _ (e : Effect) {name : LaneName} {before : Lane Effect} {s u : State Effe
         inl (same, same_Some (put e before) l (sym gets.found ∙ ap (lane u) same ∙ found))
     of false is = inr (sym (gets.others n (other_name name n is)) ∙ found)
 
+  place_below : (n : LaneName) (l : Lane Effect) → ((name ≡ n) × (put e before ≡ l)) ⊎ (lane s n ≡ Some l) → n.place < 2 ^ 29
+  place_below n l (inl (same, is)) = subst (λ (x : LaneName). x.place < 2 ^ 29) same (promised.places name before was)
+  place_below n l (inr found) = promised.places n l found
+
   turn_below : (n : LaneName) (l : Lane Effect) → ((name ≡ n) × (put e before ≡ l)) ⊎ (lane s n ≡ Some l) → n.turn < s.next_turn
   turn_below n l (inl (same, is)) = subst (λ (x : LaneName). x.turn < s.next_turn) same (promised.turns name before was)
   turn_below n l (inr found) = promised.turns n l found
@@ -54,6 +58,7 @@ module _ (e : Effect) {name : LaneName} {before : Lane Effect} {s u : State Effe
 
   pub settled_promised : (by : ℕ) → IsPromised (settled by u)
   settled_promised by = record {
+    places = λ n l found. place_below n l (found_now n l found);
     turns = λ n l found. subst (λ (k : ℕ). n.turn < k) (sym gets.next_turn) (turn_below n l (found_now n l found));
     needed = λ n l found. needed_now n l (found_now n l found);
     returned = λ n l found. returned_now n l (found_now n l found);

@@ -103,16 +103,16 @@ impl Engine {
         }
     }
 
-    /// Counts a use of what is held, and answers the resource's word.
-    pub fn apply(&mut self, res: ResKey, word: u64, by: u64) -> Result<u64, Refusal>
+    /// Counts a use of what is held. What it is used for is the face's own.
+    pub fn apply(&mut self, res: ResKey, by: u64) -> Result<(), Refusal>
         ensures { IsCostlyMade ⟦<Token as Resource>⟧ (λ s. apply_request s.book res) by 0
             self.old self.new result }
     {
         self.book.promise();
-        match self.book.apply(res, word) {
-            Ok(told) => {
+        match self.book.apply(res, 0) {
+            Ok(_word) => {
                 settle(&mut self.book, &mut self.parts, &mut self.wishes, by, 0);
-                Ok(told)
+                Ok(())
             }
             Err(why) => Err(why),
         }

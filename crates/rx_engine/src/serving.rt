@@ -1,6 +1,6 @@
 //! Who serves a lane takes the effects that wait there.
 
-ghost use Rattle.std.specs.Prelude.{◌≡◌, ◌<◌, IsSome, IfSome, IfNone};
+ghost use Rattle.std.specs.Prelude.{◌≡◌, ◌<◌, ◌≤◌, IsSome, IfSome, IfNone};
 ghost use Rattle.rx_lanes.specs.declared.names.LaneName.{LaneName};
 ghost use Rattle.rx_lanes.specs.State.{lane, IsLeft};
 ghost use Rattle.rx_engine.specs.Servings.{IsTake, IsGiveUp, IsClaim};
@@ -51,6 +51,8 @@ impl Engine {
     /// The first lane from a place on that has something, and that nobody serves.
     pub fn left(&self, from: usize) -> Option<LaneName>
         ensures found { IfSome result (λ name. IsLeft self.now.parts.lanes name) }
+        ensures from { IfSome result (λ name. from ≤ name.place) }
+        ensures first { IfSome result (λ name. (other : LaneName) → IsLeft self.now.parts.lanes other → from ≤ other.place → name.place ≤ other.place) }
         ensures end { IfNone result ((other : LaneName) → IsLeft self.now.parts.lanes other → other.place < from) }
     {
         self.parts.lanes.left(from)

@@ -101,7 +101,7 @@ fn exchange(rt: &impl Print, engine: &mut Engine) -> Result<(), Stopped> {
 fn lend(rt: &impl Print, engine: &mut Engine) -> Result<(), Stopped> {
     let page = engine.open(At::Root, Kind::Leaf, user(30), ME)?;
     let res = engine.hold(page, 40, ME)?;
-    engine.apply(res, 3, ME)?;
+    engine.apply(res, ME)?;
     let request = engine.lease(res, ME)?;
     engine.remove(res, ME)?;
     serve(rt, engine, "what is leased is removed")?;
