@@ -1,5 +1,5 @@
 -- Each contract of a call says that it is a command.
-use Rattle.std.proofs.Common.{◌≡◌, ℕ, true, Ok, Err, Result, refl, sym, arith, subst}
+use Rattle.std.proofs.Common.{◌≡◌, ℕ, true, Option, Some, None, Ok, Err, Result, pos, refl, sym, arith, subst}
 use Rattle.std.specs.Prelude.{OnOk, OnErr}
 use Rattle.rx_resource.specs.declared.Resource.{Ghosts}
 use Rattle.rx_resource.specs.declared.token.Token.{Token}
@@ -8,6 +8,8 @@ use Rattle.rx_book.specs.State.{State as BookState}
 use Rattle.rx_book.specs.Requests.{Request}
 use Rattle.rx_event.specs.declared.event.Kind.{Kind}
 use Rattle.rx_book.specs.declared.answer.At.{At}
+use Rattle.rx_slots.specs.declared.Key.{Key}
+use Rattle.rx_roles.specs.declared.effect.Effect.{Effect}
 use Rattle.rx_pool.specs.declared.search.Share.{Share}
 use Rattle.rx_engine.specs.declared.parts.User.{User}
 use Rattle.rx_engine.specs.declared.parts.Used.{Used}
@@ -19,10 +21,11 @@ use Rattle.rx_engine.specs.Usings.{IsUsingMade}
 use Rattle.rx_engine.specs.Checkpoints.{IsCheckpointMade}
 use Rattle.rx_engine.specs.Commands.{IsMade}
 use Rattle.rx_engine.specs.LettingGo.{IsNext, next_lease, next_root, next_hub, IsClosingMade}
-use Rattle.rx_engine.specs.Plain.{IsPlain, gives_back, disposes, disconnects}
+use Rattle.rx_engine.specs.Handings.{IsNextHanded}
+use Rattle.rx_engine.specs.Plain.{IsPlain, emits, gives_back, disposes, disconnects}
 use Rattle.rx_engine.specs.Sharings.{IsSubscribeMade, IsConnectMade, IsDisconnectMade, none_serves, one_serves}
 use Rattle.rx_courses.specs.Courses.{IsCommand, is_refused, has_done, has_held, has_used, has_opened, has_put, has_subscribed, has_connected, has_made_hubs, has_checkpointed}
-use Rattle.rx_courses.specs.Calls.{AreCommands}
+use Rattle.rx_courses.specs.Calls.{IsMadeAndTaken, hands_none, hands_one, AreCommands}
 
 pub seen_same : (s : State) → IsSeenAs s s
 seen_same s = record {
@@ -92,6 +95,14 @@ checkpoint_command : (g : Ghosts Token) (s t : State) (answer : Result ℕ Refus
 checkpoint_command g s t (Ok at) made = has_checkpointed made.made
 checkpoint_command g s t (Err why) made = unchanged g s t made.kept
 
+handed_out : (g : Ghosts Token) (leaf : Key) (by value : ℕ) (s t : State) (answer : Result (Option Effect) Refusal) → IsNextHanded g leaf by value s t answer →
+    IsMadeAndTaken g by s t
+handed_out g leaf by value s t (Ok None) made =
+    hands_none (subst (λ (x : State). IsCommand g s x) (sym made.done.hands) (has_done by value (emits leaf (pos 0)) made.done.made))
+handed_out g leaf by value s t (Ok (Some e)) made =
+    hands_one made.done.between e (has_done by value (emits leaf (pos 0)) made.done.made) made.done.promised made.done.hands.1
+handed_out g leaf by value s t (Err why) made = hands_none (is_refused made.kept)
+
 pub are_commands : (A : Type 0) (g : Ghosts Token) → AreCommands A g
 are_commands A g = record {
   plain_free = λ asked by value s t answer plain made. plain_command g _ asked by value s t answer plain made;
@@ -105,5 +116,6 @@ are_commands A g = record {
   disconnects = λ word by s t answer made. disconnect_command g word by s t answer made;
   makes_hubs = λ by s t answer made. has_made_hubs by made.makes;
   checkpoints = λ s t answer made. checkpoint_command g s t answer made;
+  hands_out = λ leaf by value s t answer made. handed_out g leaf by value s t answer made;
   lets_go = λ by s t answer made. closing_command g by s t answer made;
 }

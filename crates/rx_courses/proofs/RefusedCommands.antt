@@ -1,4 +1,4 @@
--- What may follow a refused command may follow the state before it.
+-- What may follow a refused command may follow the state before it, and the other way round.
 use Rattle.std.proofs.Common.{◌≡◌, ℕ, Bool, true, false, List, [], ◌∷◌, ◌++◌, length, slice_get, Option, Some, None, refl, sym, ap, ◌∙◌, arith, subst, if◌then◌else◌}
 use Rattle.std.specs.Option.{option_and_then}
 use Rattle.rx_resource.specs.declared.Resource.{Ghosts}
@@ -11,7 +11,8 @@ use Rattle.rx_book.specs.declared.answer.At.{At}
 use Rattle.rx_book.specs.declared.answer.At.TheVariants.{Root, Source, Inner, Notifier}
 use Rattle.rx_book.specs.Answers.{Accepts, connection_made}
 use Rattle.rx_book.specs.Checkpoints.{Checkpoints}
-use Rattle.rx_book.specs.Requests.{place_of, open_request, connect_request}
+use Rattle.rx_event.specs.declared.event.Mode.{Mode}
+use Rattle.rx_book.specs.Requests.{place_of, open_request, connect_request, hub_request}
 use Rattle.rx_book.specs.State.{State as BookState, has_key}
 use Rattle.rx_lanes.specs.declared.names.LaneName.{LaneName}
 use Rattle.rx_lanes.specs.Lane.{Lane}
@@ -34,17 +35,18 @@ use Rattle.rx_engine.specs.Closings.{WishState, with_wish, Closes}
 use Rattle.rx_engine.specs.Deliveries.{Joins, Delivers, none_delivered, one_delivered, Leaves, none_left, one_left}
 use Rattle.rx_engine.specs.Holdings.{held_request, Keeps}
 use Rattle.rx_engine.specs.Homes.{no_limit, lane_in, lane_of, whose, is_housed, limit_in, limit_at, home_of}
-use Rattle.rx_engine.specs.Hubs.{MakesHubs, none_made, one_made, room_gotten}
+use Rattle.rx_pool.specs.Pool.{new_hub}
+use Rattle.rx_engine.specs.Hubs.{mode_at, IsHubDone, MakesHubs, none_made, one_made, room_gotten}
 use Rattle.rx_engine.specs.Openings.{IsLaneFor, Gives, Enters}
 use Rattle.rx_engine.specs.Plain.{IsPlain}
 use Rattle.rx_engine.specs.Puttings.{PutsOwn}
-use Rattle.rx_engine.specs.Rooms.{role_if, IsRoomier}
+use Rattle.rx_engine.specs.Rooms.{role_if}
 use Rattle.rx_engine.specs.Servings.{IsTake, IsGiveUp, IsClaim}
 use Rattle.rx_engine.specs.Settlements.{mail_left, all_given, closed_of, taken_out, Releases, Settles}
 use Rattle.rx_engine.specs.Sharings.{Connects, Subscribes, IsChosen, limit_for}
 use Rattle.rx_engine.specs.States.{State, IsSeenAs, IsLanesOnly}
 use Rattle.rx_courses.specs.Courses.{IsCommand, is_refused, has_done, has_held, has_used, has_opened, has_put, has_subscribed, has_connected, has_made_hubs, has_checkpointed, effects_of}
-use Rattle.rx_courses.specs.Refused.{RefusedIsUnchanged}
+use Rattle.rx_courses.specs.Refused.{ArePartsAlike, AreStatesAlike, FollowsAlike, RefusedIsUnchanged}
 use Rattle.rx_courses.proofs.CallsAreCommands.{seen_same}
 
 some_none : {A : Type 0} {x : A} → None ≡ Some x → ⊥
@@ -109,7 +111,7 @@ delivers_from k by es u (one_delivered {t = m} e l found a rest) =
 
 -- parts ----------------------------------------------------------------------------------------------
 
-module _ {p p' : Parts} (r : IsRoomier p p') where
+module _ {p p' : Parts} (r : ArePartsAlike p p') where
   settles_from : (g : Ghosts Token) (by value : ℕ) (mid : BookState) (t : BookState) (q : Parts) → Settles g by value mid p' t q → Settles g by value mid p t q
   settles_from g by value mid t q d = record {
     homes = d.homes ∙ ap (λ (rs : List Role). without_all rs (closed_of mid)) r.homes;
@@ -202,8 +204,11 @@ module _ {p p' : Parts} (r : IsRoomier p p') where
 
 -- states ---------------------------------------------------------------------------------------------
 
-roomier_then : {p q r : Parts} → IsRoomier p q → IsRoomier q r → IsRoomier p r
-roomier_then x y = record {
+keeps_back : {s t : LanesState Effect} → KeepsLanes s t → KeepsLanes t s
+keeps_back k = record { lanes = λ n. sym (k.lanes n); fresh_is = sym k.fresh_is; next_turn = sym k.next_turn; due = sym k.due }
+
+parts_then : {p q r : Parts} → ArePartsAlike p q → ArePartsAlike q r → ArePartsAlike p r
+parts_then x y = record {
   homes = y.homes ∙ x.homes;
   hears = y.hears ∙ x.hears;
   merges = y.merges ∙ x.merges;
@@ -213,19 +218,85 @@ roomier_then x y = record {
   hubs = y.hubs ∙ x.hubs;
   lanes = keeps_then x.lanes y.lanes;
   copies = y.copies ∙ x.copies;
-  room = (let a = x.room in let b = y.room in omega (arith, a, b));
-  spare = (let a = x.spare in let b = y.spare in omega (arith, a, b));
 }
 
-module _ {s t : State} (seen : IsSeenAs s t) where
-  seen_then : (u : State) → IsSeenAs t u → IsSeenAs s u
-  seen_then u more = record {
-    book = more.book ∙ seen.book;
-    parts = roomier_then seen.parts more.parts;
-    wishes = more.wishes ∙ seen.wishes;
-    closings = more.closings ∙ seen.closings;
-  }
+parts_back : {p q : Parts} → ArePartsAlike p q → ArePartsAlike q p
+parts_back x = record {
+  homes = sym x.homes;
+  hears = sym x.hears;
+  merges = sym x.merges;
+  holds = sym x.holds;
+  effects = sym x.effects;
+  shares = sym x.shares;
+  hubs = sym x.hubs;
+  lanes = keeps_back x.lanes;
+  copies = sym x.copies;
+}
 
+alike_then : {s t u : State} → AreStatesAlike s t → AreStatesAlike t u → AreStatesAlike s u
+alike_then x y = record {
+  book = y.book ∙ x.book;
+  parts = parts_then x.parts y.parts;
+  wishes = y.wishes ∙ x.wishes;
+  closings = y.closings ∙ x.closings;
+}
+
+alike_back : {s t : State} → AreStatesAlike s t → AreStatesAlike t s
+alike_back x = record { book = sym x.book; parts = parts_back x.parts; wishes = sym x.wishes; closings = sym x.closings }
+
+alike_of : {s t : State} → IsSeenAs s t → AreStatesAlike s t
+alike_of seen = record {
+  book = seen.book;
+  parts = record {
+    homes = seen.parts.homes;
+    hears = seen.parts.hears;
+    merges = seen.parts.merges;
+    holds = seen.parts.holds;
+    effects = seen.parts.effects;
+    shares = seen.parts.shares;
+    hubs = seen.parts.hubs;
+    lanes = seen.parts.lanes;
+    copies = seen.parts.copies;
+  };
+  wishes = seen.wishes;
+  closings = seen.closings;
+}
+
+alike_same : (s : State) → AreStatesAlike s s
+alike_same s = alike_of (seen_same s)
+
+-- a hub that is made
+module _ {s t : State} (seen : AreStatesAlike s t) where
+  hub_from : (g : Ghosts Token) (mode : Mode) (by : ℕ) (u : State) → IsHubDone g mode by t u → IsHubDone g mode by s u
+  hub_from g mode by u d = record {
+    mid = d.mid;
+    accepts = subst (λ (b : BookState). Accepts b (hub_request mode) d.mid) seen.book d.accepts;
+    added = added;
+    adds = record {
+      list = d.adds.list ∙ seen.parts.shares;
+      hubs = d.adds.hubs ∙ (λ i. seen.parts.hubs i ++ (new_hub (length (seen.book i).history) mode) ∷ []);
+      only = refl;
+    };
+    settles = settles_from alike g by 0 d.mid u.book u.parts d.settles;
+    closes = subst (λ (rs : List Role). Closes d.mid rs u.wishes) seen.wishes d.closes;
+  } where
+    added : Parts
+    added = record s.parts { shares = d.added.shares }
+
+    alike : ArePartsAlike added d.added
+    alike = record {
+      homes = ap (λ (p : Parts). p.homes.list) d.adds.only ∙ seen.parts.homes;
+      hears = ap (λ (p : Parts). p.hears.list) d.adds.only ∙ seen.parts.hears;
+      merges = ap (λ (p : Parts). p.merges.list) d.adds.only ∙ seen.parts.merges;
+      holds = ap (λ (p : Parts). p.holds.list) d.adds.only ∙ seen.parts.holds;
+      effects = ap (λ (p : Parts). p.effects.list) d.adds.only ∙ seen.parts.effects;
+      shares = refl;
+      hubs = refl;
+      lanes = subst (λ (p : Parts). KeepsLanes s.parts.lanes p.lanes) (sym d.adds.only) seen.parts.lanes;
+      copies = ap (λ (p : Parts). p.copies) d.adds.only ∙ seen.parts.copies;
+    }
+
+module _ {s t : State} (seen : AreStatesAlike s t) where
   lane_of_same : (to : LaneOf) → lane_of t to ≡ lane_of s to
   lane_of_same (Node k) = λ i. if has_key (seen.book i).keys k then lane_in (seen.parts.homes i) k.number else None
   lane_of_same (Projections k) = λ i. if has_key (seen.book i).keys k then lane_in (seen.parts.merges i) k.number else None
@@ -270,14 +341,20 @@ module _ {s t : State} (seen : IsSeenAs s t) where
     there = sym (ap (λ (hs : List PooledHub). slice_get hs place) seen.parts.hubs) ∙ c.there;
   }
 
-  hubs_from : (g : Ghosts Token) (by : ℕ) (u : State) → MakesHubs g by t u → MakesHubs g by s u
-  hubs_from g by u none_made = room_gotten none_made seen
-  hubs_from g by u (one_made {t = m} before d) = one_made (hubs_from g by m before) d
-  hubs_from g by u (room_gotten {t = m} before more) = room_gotten (hubs_from g by m before) more
+  hubs_from : (g : Ghosts Token) (by : ℕ) (u : State) → MakesHubs g by t u → (v : State) × MakesHubs g by s v × AreStatesAlike v u
+  hubs_from g by u none_made = (s, none_made, seen)
+  hubs_from g by u (one_made {t = m} before d) =
+      let made = hubs_from g by m before in (
+        u,
+        one_made made.1 (subst (λ (n : ℕ). IsHubDone g (mode_at n) by made.0 u) (ap (λ (hs : List PooledHub). length hs) made.2.parts.hubs)
+            (hub_from made.2 g (mode_at (length m.parts.shares.hubs)) by u d)),
+        alike_same u,
+      )
+  hubs_from g by u (room_gotten {t = m} before more) = let made = hubs_from g by m before in (made.0, made.1, alike_then made.2 (alike_of more))
 
-  command_from : (g : Ghosts Token) (u : State) (c : IsCommand g t u) → (v : State) × (d : IsCommand g s v) × IsSeenAs v u × (effects_of d ≡ effects_of c)
+  command_from : (g : Ghosts Token) (u : State) (c : IsCommand g t u) → (v : State) × (d : IsCommand g s v) × AreStatesAlike v u × (effects_of d ≡ effects_of c)
   unfolding settles_from chosen_from
-  command_from g u (is_refused more) = (u, is_refused (seen_then u more), seen_same u, refl)
+  command_from g u (is_refused more) = (s, is_refused (seen_same s), alike_then seen (alike_of more), refl)
   command_from g u (has_done {asked = asked} by value plain d) = (
     u,
     has_done by value (subst (λ (b : BookState). IsPlain b asked) seen.book plain)
@@ -287,7 +364,7 @@ module _ {s t : State} (seen : IsSeenAs s t) where
           settles = settles_from seen.parts g by value d.mid u.book u.parts d.settles;
           closes = subst (λ (rs : List Role). Closes d.mid rs u.wishes) seen.wishes d.closes;
         }),
-    seen_same u,
+    alike_same u,
     refl,
   )
   command_from g u (has_held node tag by d) = (
@@ -304,7 +381,7 @@ module _ {s t : State} (seen : IsSeenAs s t) where
           settles = d.settles;
           closes = subst (λ (rs : List Role). Closes d.mid rs u.wishes) seen.wishes d.closes;
         }),
-    seen_same u,
+    alike_same u,
     refl,
   )
   command_from g u (has_used at kind user tag by alone d) = (
@@ -327,7 +404,7 @@ module _ {s t : State} (seen : IsSeenAs s t) where
           settles = d.settles;
           closes = wished_from d.mid user u d.closes;
         }),
-    seen_same u,
+    alike_same u,
     refl,
   )
   command_from g u (has_opened at kind user by alone d) = (
@@ -343,7 +420,7 @@ module _ {s t : State} (seen : IsSeenAs s t) where
           settles = d.settles;
           closes = wished_from d.mid user u d.closes;
         }),
-    seen_same u,
+    alike_same u,
     refl,
   )
   command_from g u (has_put to user value by d) = (
@@ -357,7 +434,7 @@ module _ {s t : State} (seen : IsSeenAs s t) where
           wishes = d.wishes ∙ seen.wishes;
           closings = d.closings;
         }),
-    seen_same u,
+    alike_same u,
     refl,
   )
   command_from g u (has_subscribed at share user by place d) = (
@@ -377,7 +454,7 @@ module _ {s t : State} (seen : IsSeenAs s t) where
           settles = d.settles;
           closes = wished_from d.mid user u d.closes;
         }),
-    seen_same u,
+    alike_same u,
     refl,
   )
   command_from g u (has_connected share user by place d) = (
@@ -393,16 +470,16 @@ module _ {s t : State} (seen : IsSeenAs s t) where
           settles = d.settles;
           closes = wished_from d.mid user u d.closes;
         }),
-    seen_same u,
+    alike_same u,
     refl,
   )
-  command_from g u (has_made_hubs by makes) = (u, has_made_hubs by (hubs_from g by u makes), seen_same u, refl)
+  command_from g u (has_made_hubs by makes) = let made = hubs_from g by u makes in (made.0, has_made_hubs by made.1, made.2, refl)
   command_from g u (has_checkpointed c) = (
     record u { parts = s.parts; wishes = s.wishes },
     has_checkpointed (record { book = subst (λ (b : BookState). Checkpoints b u.book) seen.book c.book; parts = refl; wishes = refl }),
     record {
       book = refl;
-      parts = subst (λ (p : Parts). IsRoomier s.parts p) (sym c.parts) seen.parts;
+      parts = subst (λ (p : Parts). ArePartsAlike s.parts p) (sym c.parts) seen.parts;
       wishes = ap (λ (w : WishState). w.roles.list) c.wishes ∙ seen.wishes;
       closings = ap (λ (w : WishState). w.closings) c.wishes ∙ seen.closings;
     },
@@ -415,8 +492,8 @@ module _ {s t : State} (seen : IsSeenAs s t) where
   abbrev with_lanes : State → State
   with_lanes u = record s { parts = record s.parts { lanes = u.parts.lanes } }
 
-  lanes_seen : (u : State) → IsLanesOnly t u → IsSeenAs (with_lanes u) u
-  lanes_seen u same = subst (λ (x : State). IsSeenAs (with_lanes u) x) (sym same)
+  lanes_seen : (u : State) → IsLanesOnly t u → AreStatesAlike (with_lanes u) u
+  lanes_seen u same = subst (λ (x : State). AreStatesAlike (with_lanes u) x) (sym same)
       (record {
         book = seen.book;
         parts = record {
@@ -429,8 +506,6 @@ module _ {s t : State} (seen : IsSeenAs s t) where
           hubs = seen.parts.hubs;
           lanes = record { lanes = λ n. refl; fresh_is = refl; next_turn = refl; due = refl };
           copies = seen.parts.copies;
-          room = seen.parts.room;
-          spare = omega arith;
         };
         wishes = seen.wishes;
         closings = seen.closings;
@@ -440,9 +515,9 @@ module _ {s t : State} (seen : IsSeenAs s t) where
   found_there name o is = seen.parts.lanes.lanes name ∙ is
 
   take_from : (name : LaneName) (inside : Bool) (by : ℕ) (u : State) (answer : Option Effect) → IsTake name inside by t u answer →
-      (v : State) × IsTake name inside by s v answer × IsSeenAs v u
+      (v : State) × IsTake name inside by s v answer × AreStatesAlike v u
   take_from name inside by u answer take = by_lane (lane s.parts.lanes name) refl where
-    by_lane : (o : Option (Lane Effect)) → lane s.parts.lanes name ≡ o → (v : State) × IsTake name inside by s v answer × IsSeenAs v u
+    by_lane : (o : Option (Lane Effect)) → lane s.parts.lanes name ≡ o → (v : State) × IsTake name inside by s v answer × AreStatesAlike v u
     by_lane None is = (
       s,
       record {
@@ -452,7 +527,7 @@ module _ {s t : State} (seen : IsSeenAs s t) where
         gone = λ none. refl;
         same = refl;
       },
-      subst (λ (x : State). IsSeenAs s x) (sym (take.gone (found_there name None is))) seen,
+      subst (λ (x : State). AreStatesAlike s x) (sym (take.gone (found_there name None is))) seen,
     )
     by_lane (Some l) is = (
       with_lanes u,
@@ -467,9 +542,9 @@ module _ {s t : State} (seen : IsSeenAs s t) where
     )
 
   give_up_from : (name : LaneName) (by : ℕ) (undone : Option Effect) (u : State) (answer : Option Bool) → IsGiveUp name by undone t u answer →
-      (v : State) × IsGiveUp name by undone s v answer × IsSeenAs v u
+      (v : State) × IsGiveUp name by undone s v answer × AreStatesAlike v u
   give_up_from name by undone u answer give = by_lane (lane s.parts.lanes name) refl where
-    by_lane : (o : Option (Lane Effect)) → lane s.parts.lanes name ≡ o → (v : State) × IsGiveUp name by undone s v answer × IsSeenAs v u
+    by_lane : (o : Option (Lane Effect)) → lane s.parts.lanes name ≡ o → (v : State) × IsGiveUp name by undone s v answer × AreStatesAlike v u
     by_lane None is = (
       s,
       record {
@@ -479,7 +554,7 @@ module _ {s t : State} (seen : IsSeenAs s t) where
         gone = λ none. refl;
         same = refl;
       },
-      subst (λ (x : State). IsSeenAs s x) (sym (give.gone (found_there name None is))) seen,
+      subst (λ (x : State). AreStatesAlike s x) (sym (give.gone (found_there name None is))) seen,
     )
     by_lane (Some l) is = (
       with_lanes u,
@@ -493,7 +568,7 @@ module _ {s t : State} (seen : IsSeenAs s t) where
       lanes_seen u give.same,
     )
 
-  claim_from : (name : LaneName) (by : ℕ) (u : State) (answer : Bool) → IsClaim name by t u answer → (v : State) × IsClaim name by s v answer × IsSeenAs v u
+  claim_from : (name : LaneName) (by : ℕ) (u : State) (answer : Bool) → IsClaim name by t u answer → (v : State) × IsClaim name by s v answer × AreStatesAlike v u
   claim_from name by u answer claim = (
     with_lanes u,
     record {
@@ -504,10 +579,13 @@ module _ {s t : State} (seen : IsSeenAs s t) where
     lanes_seen u claim.same,
   )
 
-pub refused_is_unchanged : (g : Ghosts Token) → RefusedIsUnchanged g
-refused_is_unchanged g s t seen = record {
+follows : (g : Ghosts Token) (s t : State) → AreStatesAlike s t → FollowsAlike g s t
+follows g s t seen = record {
   commands = λ u c. command_from seen g u c;
   takes = λ name inside by u answer take. take_from seen name inside by u answer take;
   gives_up = λ name by undone u answer give. give_up_from seen name by undone u answer give;
   claims = λ name by u answer claim. claim_from seen name by u answer claim;
 }
+
+pub refused_is_unchanged : (g : Ghosts Token) → RefusedIsUnchanged g
+refused_is_unchanged g s t seen = (follows g s t (alike_of seen), follows g t s (alike_back (alike_of seen)))

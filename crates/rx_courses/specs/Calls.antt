@@ -1,6 +1,6 @@
 -- Each call of an engine that changes it is a command of a course, by what its contract says: so the laws speak of all
 -- calls.
-use Rattle.std.specs.Prelude.{◌≡◌, ℕ, true, Result}
+use Rattle.std.specs.Prelude.{◌≡◌, ℕ, true, false, Option, Some, Result}
 use Rattle.rx_resource.specs.declared.Resource.{Ghosts}
 use Rattle.rx_resource.specs.declared.token.Token.{Token}
 use Rattle.rx_event.specs.declared.event.Kind.{Kind}
@@ -16,9 +16,12 @@ use Rattle.rx_engine.specs.declared.parts.Used.{Used}
 use Rattle.rx_engine.specs.declared.homes.LaneOf.{LaneOf}
 use Rattle.rx_engine.specs.declared.sharing.Subscribed.{Subscribed}
 use Rattle.rx_engine.specs.declared.sharing.Connected.{Connected}
-use Rattle.rx_engine.specs.States.{State}
+use Rattle.rx_roles.specs.declared.effect.Effect.{Effect}
+use Rattle.rx_engine.specs.States.{State, IsPromised}
 use Rattle.rx_engine.specs.Commands.{IsMade}
 use Rattle.rx_engine.specs.Plain.{IsPlain}
+use Rattle.rx_engine.specs.Handings.{IsNextHanded}
+use Rattle.rx_engine.specs.Servings.{IsTake}
 use Rattle.rx_engine.specs.Openings.{connects_none, IsOpenMade}
 use Rattle.rx_engine.specs.Holdings.{IsHoldMade}
 use Rattle.rx_engine.specs.Usings.{IsUsingMade}
@@ -29,8 +32,14 @@ use Rattle.rx_engine.specs.Checkpoints.{IsCheckpointMade}
 use Rattle.rx_engine.specs.LettingGo.{IsClosingMade}
 use Rattle.rx_courses.specs.Courses.{IsCommand}
 
+-- a command, of which nothing is handed out; or one, and what its caller is handed, as by a take
+pub data IsMadeAndTaken (g : Ghosts Token) (by : ℕ) (s t : State) : Type 0 where
+  hands_none : IsCommand g s t → IsMadeAndTaken g by s t
+  hands_one : (between : State) (given : Effect) → IsCommand g s between → IsPromised between → IsTake given.lane false by between t (Some given) →
+      IsMadeAndTaken g by s t
+
 -- of calls with this answer: next, end, fail, abort, decline, dispose, apply, remove, lease, give_back, hub and
--- disconnect are plain, and each of the others has its field
+-- disconnect are plain, and each of the others has its field; what serves lanes has steps of its own in a course
 pub record AreCommands (A : Type 0) (g : Ghosts Token) : Type 0 where
   pub plain_free : (asked : Request) (by value : ℕ) (s t : State) (answer : Result A Refusal) → IsPlain s.book asked →
       IsMade g (IsCause s.book asked) asked by value s t answer → IsCommand g s t
@@ -56,4 +65,6 @@ pub record AreCommands (A : Type 0) (g : Ghosts Token) : Type 0 where
       IsCommand g s t
   pub makes_hubs : (by : ℕ) (s t : State) (answer : Result A Refusal) → AreHubsMade g by s t answer → IsCommand g s t
   pub checkpoints : (s t : State) (answer : Result ℕ Refusal) → IsCheckpointMade s t answer → IsCommand g s t
+  pub hands_out : (leaf : Key) (by value : ℕ) (s t : State) (answer : Result (Option Effect) Refusal) →
+      IsNextHanded g leaf by value s t answer → IsMadeAndTaken g by s t
   pub lets_go : (by : ℕ) (s t : State) (answer : Result A Refusal) → IsClosingMade g by s t answer → IsCommand g s t

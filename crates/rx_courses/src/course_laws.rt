@@ -96,7 +96,7 @@ pub fn nothing_comes_behind_a_last_effect()
     ensures { NothingBehind ⟦<Token as Resource>⟧ }
 {}
 
-/// Whatever may follow a refused command may follow the state before it, with the same effects and answers.
+/// Whatever may follow a refused command may follow the state before it, and the other way round, with the same effects and answers.
 pub fn refused_is_unchanged()
     ensures { RefusedIsUnchanged ⟦<Token as Resource>⟧ }
 {}
