@@ -18,6 +18,8 @@ mod loose;
 mod making;
 mod reading;
 mod serving;
+#[cfg(test)]
+mod tests;
 
 pub use handle::CellarHandle;
 pub use making::{
