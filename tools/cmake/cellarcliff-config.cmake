@@ -1,4 +1,7 @@
 # find_package(cellarcliff): the targets cellarcliff::cellarcliff, the engine, and cellarcliff::rx, books and texts; each with _static too.
+if("@VERSION@" MATCHES "unproved$")
+  message(NOTICE "cellarcliff @VERSION@: this library is built without its proof; ./rxbook --install PREFIX in a checkout proves it")
+endif()
 get_filename_component(_cellarcliff_prefix "${CMAKE_CURRENT_LIST_DIR}/../../.." ABSOLUTE)
 foreach(_cellarcliff_it cellarcliff rx)
   if(NOT TARGET cellarcliff::${_cellarcliff_it} AND EXISTS "${_cellarcliff_prefix}/lib/lib${_cellarcliff_it}.so.@NUMBER@")

@@ -6,7 +6,7 @@ x86-64 is made: the frame pointer, the probes of the stack, the processor. The l
 module rests on: little endian, pointers of 64 bits, numbers of 64 and 128 bits aligned to 8 and 16. The C of wasm wants whoever hands out
 a small number to fill its word, which `zeroext` says.
 
-In an unproved module, of a crate's tests, each export is an internal function; the exports are written here over them.
+In an unproved module, of tests that name the exports, each export is an internal function; the exports are written here over them.
 """
 from __future__ import annotations
 
@@ -32,12 +32,12 @@ def export(name: str, answer: str, symbol: str, words: list[str]) -> str:
     passed = ', '.join(f'{word} %p{i}' for i, word in enumerate(words))
     if answer == 'void':
         return f'\ndefine void @{name}({given}) {{\n  call void @"{symbol}"({passed})\n  ret void\n}}\n'
-    return f'\ndefine zeroext i8 @{name}({given}) {{\n  %r = call i8 @"{symbol}"({passed})\n  ret i8 %r\n}}\n'
+    return f'\ndefine {"zeroext " if answer == "i8" else ""}{answer} @{name}({given}) {{\n  %r = call {answer} @"{symbol}"({passed})\n  ret {answer} %r\n}}\n'
 
 
 def retarget(source: pathlib.Path, to: pathlib.Path, crate: str | None = None) -> list[str]:
     """The names of the exports of what is written. With a crate the module is one of that crate's tests."""
-    defined = re.compile(rf'define internal (?:noundef )?(i8|void) @"({crate}::[a-z_:]*::((?:rx|cellar)_\w+))"\((.*)\)')
+    defined = re.compile(rf'define internal (?:noundef )?(i8|i32|void) @"({crate}::[a-z_:]*::((?:rx|cellar)_\w+))"\((.*)\)')
     found, names, in_main = [], [], False
     with open(source) as lines, open(to, 'w') as out:
         for line in lines:
@@ -55,7 +55,7 @@ def retarget(source: pathlib.Path, to: pathlib.Path, crate: str | None = None) -
                 in_main = not line.startswith('}')
                 continue
             if crate and (it := defined.match(line)):
-                found.append((it[3], it[1], it[2], [word.split()[0] for word in it[4].split(', ')]))
+                found.append((it[3], it[1], it[2], [word.split()[0] for word in it[4].split(', ') if word]))
             out.write(line)
         for it in found:
             out.write(export(*it))
