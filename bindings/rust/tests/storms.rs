@@ -48,6 +48,21 @@ fn eight_threads_emit_into_one_subject_and_each_item_is_told_once() {
 }
 
 #[test]
+fn eight_threads_emit_into_a_share_and_beside_it_and_each_item_is_told_once() {
+    static TOLD: [AtomicUsize; 2] = [const { AtomicUsize::new(0) }; 2];
+    let (subject, other) = (Subject::<usize>::new(), Subject::<usize>::new());
+    let shared = subject.observable().share();
+    let first = shared.each(|_| thread::yield_now()); // so that items wait for the second, which nobody tells yet
+    let second = shared.merge_with(&other.observable()).each(|it| {
+        TOLD[0].fetch_add(1, SeqCst);
+        TOLD[1].fetch_add(it, SeqCst);
+    });
+    storm(move |thread| (0..500).for_each(|it| if thread % 2 == 0 { &subject } else { &other }.next(thread as usize * 500 + it)));
+    drop((first, second));
+    assert_eq!((TOLD[0].load(SeqCst), TOLD[1].load(SeqCst)), (4000, 7_998_000));
+}
+
+#[test]
 fn eight_threads_subscribe_and_dispose_and_each_resource_is_dropped_once() {
     static OPEN: AtomicIsize = AtomicIsize::new(0);
     let subject = Subject::<u32>::new();

@@ -33,6 +33,24 @@ fn an_observer_that_emits_from_within_is_told_behind_what_it_hears() {
 }
 
 #[test]
+fn an_item_that_is_emitted_as_a_shared_one_is_told_keeps_that_from_nobody() {
+    let (subject, other) = (local::Subject::<i32>::new(), local::Subject::<i32>::new());
+    let shared = subject.observable().share();
+    let (heard, within) = (Rc::new(RefCell::new(vec![])), other.clone());
+    let (one, two) = (heard.clone(), heard.clone());
+    let _one = shared.each(move |it| {
+        one.borrow_mut().push(('A', it));
+        if it == 1 {
+            within.next(2)
+        }
+    });
+    let _two = shared.merge_with(&other.observable()).each(move |it| two.borrow_mut().push(('B', it)));
+    subject.next(1);
+    subject.next(3);
+    assert_eq!(*heard.borrow(), [('A', 1), ('B', 2), ('B', 1), ('A', 3), ('B', 3)]);
+}
+
+#[test]
 fn an_observer_that_disposes_from_within_has_released_as_that_returns() {
     let (dropped, kept) = (Rc::new(Cell::new(0)), Rc::new(RefCell::new(None::<local::Subscription>)));
     let subject = local::Subject::<i32>::new();

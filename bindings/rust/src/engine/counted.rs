@@ -1,5 +1,5 @@
-//! The calls of cellarcliff.h in Rust, for the tests of this crate's own code: a small engine without shares, which keeps count. It
-//! looks at each pointer, word and handle, and lets no two calls on one handle run at once.
+//! The calls of cellarcliff.h in Rust, for the tests of this crate's own code: a small engine that keeps count. It looks at each pointer,
+//! word and handle, and lets no two calls on one handle run at once. A lane is served from when somebody is handed out or takes of it.
 #![allow(unsafe_op_in_unsafe_fn)]
 
 use super::ffi::{Answer, Command, Effect, Handle, Key, Totals, ROOM};
@@ -8,11 +8,22 @@ use std::collections::{BTreeMap, BTreeSet, VecDeque};
 use std::sync::{Mutex, MutexGuard, PoisonError};
 
 const GONE: u8 = 17;
+const CONNECTED: u8 = 24;
+const NOT_CONNECTED: u8 = 25;
 /// An engine of so many events is refused.
 pub(crate) const REFUSED: u32 = 13;
+/// An engine of so many events hands out nothing where something stands before an item in its lane; the others the first that does.
+pub(crate) const STRICT: u32 = 14;
+
+/// The place of a connection, which no command names.
+const CONNECTION: u8 = 9;
+
+/// The share of a subscriber or a connection: its kind and its word.
+type Share = (u8, u64);
 
 struct Node {
     above: Option<u64>,
+    share: Option<Share>,
     place: u8,
     kind: u8,
     user: u64,
@@ -41,13 +52,22 @@ enum Role {
     Put,
 }
 
+/// In what order the effects of one command come into their lanes.
+#[derive(Clone, Copy, PartialEq, Eq, PartialOrd, Ord)]
+enum Rank {
+    Note,
+    Last,
+    Release,
+}
+
 struct Counted {
+    is_strict: bool,
     nodes: BTreeMap<u64, Node>,
     lanes: Vec<Lane>,
     made: u64,
     owed: BTreeMap<(Role, u64), u64>,
     closings: Vec<u64>,
-    touched: Vec<u64>,
+    comes: Vec<(Rank, u64, Effect)>, // of this command
     due: Vec<u64>,
     copies: u64,
     events: u64,
@@ -86,16 +106,47 @@ impl Counted {
     }
 
     fn push(&mut self, lane: u64, by: u64, kind: u32, user: u64, value: Option<u64>) {
-        let it = Effect { user, value: value.unwrap_or(0), by, kind, carries: value.is_some() as u32 };
+        let rank = match kind {
+            effect::RELEASE => Rank::Release,
+            effect::GONE | effect::MERGED => Rank::Last,
+            _ => Rank::Note,
+        };
         self.copies += value.is_some() as u64;
-        let at = &mut self.lanes[lane as usize];
-        if kind == effect::RELEASE && at.server == Some(by) { &mut at.front } else { &mut at.queue }.push_back(it);
-        if !self.touched.contains(&lane) {
-            self.touched.push(lane);
+        self.comes.push((rank, lane, Effect { user, value: value.unwrap_or(0), by, kind, carries: value.is_some() as u32 }));
+    }
+
+    /// What comes of a command stands in its lanes, and the caller is to serve those that nobody serves.
+    fn spread(&mut self, by: u64) {
+        let mut touched = vec![];
+        let mut comes = std::mem::take(&mut self.comes);
+        comes.sort_by_key(|it| it.0);
+        for (rank, lane, it) in comes {
+            let at = &mut self.lanes[lane as usize];
+            if rank == Rank::Release && at.server == Some(by) { &mut at.front } else { &mut at.queue }.push_back(it);
+            if !touched.contains(&lane) {
+                touched.push(lane);
+            }
+        }
+        for lane in touched {
+            let at = &self.lanes[lane as usize];
+            match at.server {
+                None => self.due.push(lane),
+                Some(server) if server == by && !at.front.is_empty() => self.due.push(lane | INSIDE),
+                Some(_) => (),
+            }
         }
     }
 
-    /// Closes a node and all below it; its own word and tags last.
+    fn subscribers(&self, share: Option<Share>) -> Vec<u64> {
+        self.nodes.iter().filter(|it| it.1.share == share && it.1.place == place::ROOT).map(|it| *it.0).collect()
+    }
+
+    fn connection(&self, share: Share) -> Option<u64> {
+        self.nodes.iter().find(|it| it.1.share == Some(share) && it.1.place == CONNECTION).map(|it| *it.0)
+    }
+
+    /// Closes a node and all below it; its own word and tags last. The last subscriber of a share that is connected while it has one
+    /// closes the connection.
     fn close(&mut self, number: u64, by: u64) -> Node {
         let below: Vec<u64> = self.nodes.iter().filter(|it| it.1.above == Some(number)).map(|it| *it.0).collect();
         below.into_iter().for_each(|it| drop(self.close(it, by)));
@@ -109,6 +160,9 @@ impl Counted {
         if node.kind == kind::FLAT || node.kind == kind::SWITCH {
             self.push(node.projects, by, effect::MERGED, node.user, None);
         }
+        if let Some(share) = node.share.filter(|it| it.0 == kind::SHARED && node.place == place::ROOT && self.subscribers(Some(*it)).is_empty()) {
+            self.connection(share).into_iter().for_each(|it| drop(self.close(it, by)));
+        }
         node
     }
 
@@ -116,22 +170,35 @@ impl Counted {
     fn end(&mut self, number: u64, by: u64, error: Option<u64>) {
         let node = self.close(number, by);
         let Some(above) = node.above else {
+            if node.place == CONNECTION {
+                return self.subscribers(node.share).into_iter().for_each(|it| self.end(it, by, error));
+            }
             return self.push(node.lane, by, if error.is_some() { effect::FAILED } else { effect::COMPLETED }, node.user, error);
         };
-        let at = self.nodes.get_mut(&above).unwrap();
-        at.is_over |= node.place == place::SOURCE;
-        let is_over = at.is_over && at.owes == 0;
-        let has_inner = || self.nodes.values().any(|it| it.above == Some(above) && it.place == place::INNER);
-        if error.is_some() || is_over && node.place != place::NOTIFIER && !has_inner() {
+        self.nodes.get_mut(&above).unwrap().is_over |= node.place == place::SOURCE;
+        if error.is_some() || node.place != place::NOTIFIER && self.is_done(above) {
             self.end(above, by, error)
         }
+    }
+
+    /// Its source is over, and nothing is open in it or owed.
+    fn is_done(&self, number: u64) -> bool {
+        let node = &self.nodes[&number];
+        node.is_over && node.owes == 0 && !self.nodes.values().any(|it| it.above == Some(number) && it.place == place::INNER)
     }
 
     fn next(&mut self, leaf: u64, by: u64, value: u64) {
         let mut number = leaf;
         loop {
             let node = &self.nodes[&number];
-            let Some(above) = node.above else { return self.push(node.lane, by, effect::NEXT, node.user, Some(value)) };
+            let Some(above) = node.above else {
+                let hear = if node.place == CONNECTION { self.subscribers(node.share) } else { vec![number] };
+                for it in hear {
+                    let (lane, user) = (self.nodes[&it].lane, self.nodes[&it].user);
+                    self.push(lane, by, effect::NEXT, user, Some(value));
+                }
+                return;
+            };
             match node.place {
                 place::NOTIFIER => return self.end(above, by, None),
                 place::SOURCE if [kind::FLAT, kind::SWITCH].contains(&self.nodes[&above].kind) => {
@@ -166,7 +233,7 @@ impl Counted {
             at.owes = at.owes.checked_sub(1).expect("it is owed");
         }
         let (kind, merges) = if it.what == what::USING { (kind::PASS, false) } else { (it.kind, [kind::FLAT, kind::SWITCH].contains(&it.kind)) };
-        assert!(kind <= kind::UNTIL, "no shares here");
+        let share = (kind > kind::UNTIL).then_some((kind, it.value));
         let lane = if is_root && it.flags & flag::LANE_OF_NODE == 0 { self.lane() } else { named.unwrap().1 };
         let projects = if merges { self.lane() } else { lane };
         let wishes = it.flags & flag::WISHES != 0;
@@ -175,11 +242,26 @@ impl Counted {
                 self.owe(role, it.user);
             }
         }
-        let node = Node { above, place: it.place, kind, user: it.user, wishes, lane, projects, owes: 0, is_over: false, tags: vec![] };
-        self.nodes.insert(self.made, node);
-        answer.node = Key { slot: 7, number: self.made };
-        self.made += 1;
+        let node = Node { above, share, place: it.place, kind, user: it.user, wishes, lane, projects, owes: 0, is_over: false, tags: vec![] };
+        answer.node = self.insert(node);
+        if let Some(share) = share.filter(|it| it.0 == kind::SHARED && self.connection(*it).is_none()) {
+            (answer.is_connected, answer.other) = (1, self.connect(share));
+        }
         if it.what == what::USING { self.hold(answer.node.number, it.value) } else { 0 }
+    }
+
+    fn insert(&mut self, node: Node) -> Key {
+        self.nodes.insert(self.made, node);
+        self.made += 1;
+        Key { slot: 7, number: self.made - 1 }
+    }
+
+    fn connect(&mut self, share: Share) -> Key {
+        let (lane, kind) = (self.lane(), kind::PASS);
+        let above = None;
+        self.insert(Node {
+            above, share: Some(share), place: CONNECTION, kind, user: 0, wishes: false, lane, projects: lane, owes: 0, is_over: false, tags: vec![],
+        })
     }
 
     fn hold(&mut self, number: u64, tag: u64) -> u8 {
@@ -193,9 +275,23 @@ impl Counted {
         match it.what {
             what::OPEN | what::USING => return self.open(it, answer),
             what::SHUT => {
-                let Some(root) = self.nodes.iter().find(|it| it.1.above.is_none()).map(|it| *it.0) else { return GONE };
-                let node = self.close(root, by);
-                self.push(node.lane, by, effect::GONE, node.user, None);
+                let is_root = |it: &(&u64, &Node)| it.1.place == place::ROOT;
+                let root = self.nodes.iter().find(is_root).or_else(|| self.nodes.iter().find(|it| it.1.place == CONNECTION)).map(|it| *it.0);
+                let Some(root) = root else { return GONE };
+                self.let_go(root, by);
+                return 0;
+            }
+            what::CONNECT => {
+                let share = (kind::PUBLISHED, it.value);
+                if self.connection(share).is_some() {
+                    return CONNECTED;
+                }
+                answer.other = self.connect(share);
+                return 0;
+            }
+            what::DISCONNECT => {
+                let Some(connection) = self.connection((kind::PUBLISHED, it.value)) else { return NOT_CONNECTED };
+                self.let_go(connection, by);
                 return 0;
             }
             _ if it.node.slot != 7 || !self.nodes.contains_key(&number) => return GONE,
@@ -203,10 +299,14 @@ impl Counted {
             what::NEXT => self.next(number, by, it.value),
             what::COMPLETE => self.end(number, by, None),
             what::ERROR | what::FAIL => self.end(number, by, Some(it.value)),
-            what::DISPOSE => {
-                let node = self.close(number, by);
-                self.push(node.lane, by, effect::GONE, node.user, None);
+            what::DECLINE => {
+                let at = self.nodes.get_mut(&number).unwrap();
+                at.owes = at.owes.checked_sub(1).expect("it is owed");
+                if self.is_done(number) {
+                    self.end(number, by, None)
+                }
             }
+            what::DISPOSE => self.let_go(number, by),
             what::PUT => {
                 self.owe(Role::Put, it.user);
                 let lane = self.nodes[&number].lane;
@@ -217,19 +317,31 @@ impl Counted {
         0
     }
 
+    /// A root or a connection closes without an end.
+    fn let_go(&mut self, number: u64, by: u64) {
+        let node = self.close(number, by);
+        if node.place == place::ROOT {
+            self.push(node.lane, by, effect::GONE, node.user, None);
+        }
+    }
+
+    /// What is handed out of an item that is all that comes of its command.
+    fn handed(&mut self, it: &Command, status: u8) -> Option<Effect> {
+        let is_item = status == 0 && it.what == what::NEXT && it.flags & flag::QUEUES == 0 && self.closings.is_empty();
+        let lane = self.due.first().copied().filter(|_| is_item && self.due.len() == 1 && self.copies == 1)?;
+        let at = &self.lanes[(lane & !INSIDE) as usize];
+        if self.is_strict && (at.server.is_some() || at.queue.len() > 1) {
+            return None;
+        }
+        self.take(lane, it.by)
+    }
+
     fn make(&mut self, it: &Command, answer: &mut Answer) -> u8 {
         assert_eq!(it.spare, 0);
-        (self.closings, self.touched, self.due, self.copies) = (vec![], vec![], vec![], 0);
+        (self.closings, self.due, self.copies) = (vec![], vec![], 0);
         *answer = Answer::default();
         let status = self.perform(it, answer);
-        for lane in std::mem::take(&mut self.touched) {
-            let at = &mut self.lanes[lane as usize];
-            match at.server {
-                None => (at.server, _) = (Some(it.by), self.due.push(lane)),
-                Some(by) if by == it.by && !at.front.is_empty() => self.due.push(lane | INSIDE),
-                Some(_) => (),
-            }
-        }
+        self.spread(it.by);
         (answer.copies, answer.closed, answer.due) = (self.copies, self.closings.len() as u64, self.due.len() as u64);
         for (place, word) in self.closings.iter().take(ROOM).enumerate() {
             answer.closings[place] = *word;
@@ -237,7 +349,7 @@ impl Counted {
         for (place, lane) in self.due.iter().take(ROOM).enumerate() {
             answer.lanes[place] = *lane;
         }
-        if let Some(it) = self.due.first().copied().filter(|lane| lane & INSIDE == 0).and_then(|lane| self.take(lane, it.by)) {
+        if let Some(it) = self.handed(it, status) {
             (answer.handed, answer.effect) = (1, it);
         }
         status
@@ -245,12 +357,13 @@ impl Counted {
 
     fn take(&mut self, lane: u64, by: u64) -> Option<Effect> {
         let at = &mut self.lanes[(lane & !INSIDE) as usize];
-        if at.server != Some(by) {
+        if at.server != Some(by) && (at.server.is_some() || lane & INSIDE != 0) {
             return None;
         }
         let it = at.front.pop_front().or_else(|| if lane & INSIDE == 0 { at.queue.pop_front() } else { None });
         match it {
             Some(it) => {
+                at.server = Some(by);
                 match it.kind {
                     effect::COMPLETED | effect::FAILED | effect::GONE => self.pay(Role::Hears, it.user),
                     effect::MERGED => self.pay(Role::Merges, it.user),
@@ -297,7 +410,8 @@ pub unsafe extern "C" fn cellar_new(engine: *mut Handle, max_events: u32) -> u8 
     let mut count = count();
     count.made += 1;
     let (nodes, owed) = (BTreeMap::new(), BTreeMap::new());
-    let it = Counted { nodes, lanes: vec![], made: 0, owed, closings: vec![], touched: vec![], due: vec![], copies: 0, events: 0 };
+    let (lanes, closings, comes, due) = (vec![], vec![], vec![], vec![]);
+    let it = Counted { is_strict: max_events == STRICT, nodes, lanes, made: 0, owed, closings, comes, due, copies: 0, events: 0 };
     (*engine).at = count.made;
     let at = count.made;
     count.live.insert(at, it);

@@ -1,5 +1,5 @@
 //! The handles' own code, and the operators', over the calls that keep count.
-use super::counted::{count, REFUSED};
+use super::counted::{count, REFUSED, STRICT};
 use super::{flag, kind, place, what, Answer, Command, Crossing, NOTHING};
 use crate::{local, sync, Note, Refusal};
 use std::cell::{Cell, RefCell};
@@ -55,9 +55,9 @@ fn an_answer_with_more_than_it_has_room_for_is_read_whole() {
         assert_eq!(engine.make(&Command { what: what::DISPOSE, node: root, by: 1, ..Command::default() }, &mut answer), 0);
         let (closings, lanes) = (engine.closings(&answer), engine.lanes(&answer));
         assert_eq!((closings, lanes.len()), ((0..30).rev().collect(), 31));
-        assert_eq!((answer.handed, engine.finish()), (1, 6));
+        assert_eq!((answer.handed, engine.finish()), (0, 6));
         let left = lanes.iter().map(|lane| std::iter::from_fn(|| engine.take(*lane, 1)).count()).sum::<usize>();
-        assert_eq!((left, engine.finish()), (30, 0));
+        assert_eq!((left, engine.finish()), (31, 0));
     });
     assert_eq!(counts, (1, 1, 0));
 }
@@ -108,6 +108,24 @@ fn a_tree_of_operators_is_told_all_that_its_words_are_owed_however_it_ends() {
             }
         });
         assert_eq!((counts, open.get()), ((1, 1, 0), 0), "{end}");
+    }
+}
+
+/// Two hear each item of a shared source; on its way to the first another is emitted for the second, behind what stands in its lane.
+#[test]
+fn each_item_is_told_once_whatever_is_handed_out_in_its_place() {
+    for room in [0, STRICT] {
+        let heard = RefCell::new(vec![]);
+        let counts = counting(|| {
+            let scope = local::Scope::with_room(room).unwrap();
+            let (subject, other) = (local::Subject::<i32>::new(), local::Subject::<i32>::new());
+            let (heard, shared, within) = (&heard, subject.observable().share(), other.clone());
+            let hears = |name| move |note| heard.borrow_mut().push((name, note));
+            let _one = shared.inspect(move |it| if *it == 1 { within.next(2) }).observe_in(&scope, hears('A')).unwrap();
+            let _two = shared.merge_with(&other.observable()).observe_in(&scope, hears('B')).unwrap();
+            [1, 3].into_iter().for_each(|it| subject.next(it));
+        });
+        assert_eq!((heard.into_inner(), counts), ([('B', 2), ('B', 1), ('A', 1), ('A', 3), ('B', 3)].map(|(name, it)| (name, Note::Next(it))).to_vec(), (1, 1, 0)));
     }
 }
 

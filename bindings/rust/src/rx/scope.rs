@@ -56,7 +56,11 @@ struct State<'a> {
     answer: Answer,
     words: Words<'a>,
     tags: Slab<Box<AHeld<'a>>>,
+    item: u64, // the number of the last item that was emitted
 }
+
+/// Items that are emitted are numbered from here, where no place in a share's tables is.
+const ITEMS: u64 = 1 << 63;
 
 impl<'a> State<'a> {
     #[inline]
@@ -72,6 +76,18 @@ impl<'a> State<'a> {
     fn take(&mut self, lane: u64, by: u64) -> Told<'a> {
         let it = self.crossing.take(lane, by)?;
         self.told(it)
+    }
+
+    /// Emits an item. Answers the status, and the lane that the caller serves from now on if that very item was handed out, and is all
+    /// that came of it. Something else is handed out where it stands before the item in its lane: an item of another emission, whoever
+    /// made it, or a release.
+    #[inline]
+    fn emit(&mut self, node: Key, by: u64) -> (u8, Option<u64>) {
+        self.item += 1;
+        let status = self.crossing.make(&Command { what: what::NEXT, node, value: self.item, by, ..Command::default() }, &mut self.answer);
+        let it = &self.answer;
+        let is_alone = status == 0 && it.handed == 1 && it.due == 1 && it.closed == 0;
+        (status, (is_alone && it.effect.carries == 1 && it.effect.value == self.item).then_some(it.lanes[0]))
     }
 
     /// What stands in the answer of a command of this caller. Nothing is taken yet of one that is settled behind others.
@@ -130,7 +146,7 @@ pub(crate) struct Engine<'a> {
 
 impl<'a> Engine<'a> {
     fn new(max_events: u32) -> Result<Ref<Self>, Refusal> {
-        let state = State { crossing: Crossing::new(max_events)?, answer: Answer::default(), words: Words::new(), tags: Slab::new() };
+        let state = State { crossing: Crossing::new(max_events)?, answer: Answer::default(), words: Words::new(), tags: Slab::new(), item: ITEMS };
         Ok(Ref::new(Engine { state: Lock::new(state), behind: Lock::new(Vec::new()), tickets: AtomicU64::new(0) }))
     }
 
@@ -142,20 +158,16 @@ impl<'a> Engine<'a> {
     /// An item goes in. Whom it is for hears it at once if nothing stands before it.
     #[inline]
     pub fn emit<V>(&self, node: Key, value: V, to: &impl Inbox<V>) -> Result<(), Refusal> {
-        let (by, mut value, mut due, mut lane) = (by(), Some(value), None, None);
-        let command = Command { what: what::NEXT, node, by, ..Command::default() };
-        let status = self.state.with(|state| {
-            let status = state.crossing.make(&command, &mut state.answer);
-            let it = &state.answer;
-            if it.handed == 1 && it.effect.carries == 1 && it.due == 1 && it.closed == 0 {
-                lane = Some(it.lanes[0]);
-            } else if status == 0 {
-                if it.copies > 0 {
+        let (by, mut value, mut due) = (by(), Some(value), None);
+        let (status, lane) = self.state.with(|state| {
+            let (status, lane) = state.emit(node, by);
+            if status == 0 && lane.is_none() {
+                if state.answer.copies > 0 {
                     value.take().into_iter().for_each(|it| to.keep(it));
                 }
                 state.due(by, false, &mut due);
             }
-            status
+            (status, lane)
         });
         if status != 0 {
             return Err(Refusal::of(status));
