@@ -3,12 +3,11 @@
 //! [`local`] has observables of one thread, [`sync`] those that threads share; both have the same names.
 //!
 //! ```
-//! use cellarcliff::{local::{Observable, Subject}, Note};
+//! use cellarcliff::{local::Subject, Note};
 //!
 //! let words = Subject::<&str>::new();
-//! let source = words.observable();
 //! let file = || std::fs::File::open("Cargo.toml").expect("there is one");
-//! let whole = Observable::using(file, move |_| source.clone());           // a file for each subscription
+//! let whole = words.observable().holding(file);                           // a file for each subscription
 //! let (subscription, heard) = whole.map(str::len).take(2).channel();
 //! words.next("a");
 //! words.next("abc");                                                      // the last: the file is closed as this returns

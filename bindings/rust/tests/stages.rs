@@ -44,7 +44,7 @@ impl Open {
 
     fn with_file(&self, source: Obs) -> Obs {
         let open = self.clone();
-        local::Observable::using(move || open.file(), move |_| source.clone())
+        source.holding(move || open.file())
     }
 }
 
@@ -105,7 +105,7 @@ fn what_is_joined_may_be_of_two_types_and_need_not_be_cloned() {
     let (numbers, words) = (local::Subject::<u32>::new(), local::Subject::<&str>::new());
     let zipped = numbers.observable().map(Once).zip_with(&words.observable().map(String::from));
     let (_zip, zip) = zipped.map(|(it, word)| format!("{}{word}", it.0)).items();
-    let (_latest, latest) = numbers.observable().combine_latest_with(&words.observable()).items();
+    let (_latest, latest) = numbers.observable().combine_latest_with(words.observable()).items();
     let (_with, with) = numbers.observable().map(Once).with_latest_from(&words.observable()).map(|(it, word)| (it.0, word)).items();
     numbers.next(1);
     words.next("a");

@@ -1,7 +1,7 @@
 //! An observable as a stream.
 use cellarcliff::sync::{Observable, Subscription};
 use cellarcliff::Note;
-use futures::Stream;
+use futures::stream::{FusedStream, Stream};
 use std::collections::VecDeque;
 use std::pin::Pin;
 use std::sync::{Arc, Mutex, PoisonError};
@@ -38,6 +38,31 @@ pub struct Items<T, E> {
 }
 
 impl<T, E> Unpin for Items<T, E> {}
+
+/// An observable as a stream, by a method of its own.
+///
+/// ```
+/// use cellarcliff::sync::Observable;
+/// use cellarcliff_futures::{IntoStream, Overflow};
+/// use futures::{executor::block_on, StreamExt};
+///
+/// let heard = Observable::<u32>::of([1, 2]).into_stream(8, Overflow::Oldest).map(Result::unwrap);
+/// assert_eq!(block_on(heard.collect::<Vec<_>>()), [1, 2]);
+/// ```
+pub trait IntoStream {
+    /// The stream.
+    type Items: Stream;
+    /// As [`into_stream`].
+    fn into_stream(self, room: usize, overflow: Overflow) -> Self::Items;
+}
+
+impl<T: Send + 'static, E: Send + 'static> IntoStream for &Observable<'static, T, E> {
+    type Items = Items<T, E>;
+
+    fn into_stream(self, room: usize, overflow: Overflow) -> Items<T, E> {
+        into_stream(self, room, overflow)
+    }
+}
 
 /// Subscribes at once; at most `room` items wait (at least one), and `overflow` says what gives way.
 pub fn into_stream<T: Send + 'static, E: Send + 'static>(source: &Observable<'static, T, E>, room: usize, overflow: Overflow) -> Items<T, E> {
@@ -112,10 +137,19 @@ impl<T, E> Stream for Items<T, E> {
                 Poll::Ready(None)
             }
             None => {
-                queue.waker = Some(context.waker().clone());
+                let before = queue.waker.replace(context.waker().clone());
+                drop(queue);
+                drop(before); // outside the lock
                 Poll::Pending
             }
         }
+    }
+}
+
+impl<T, E> FusedStream for Items<T, E> {
+    fn is_terminated(&self) -> bool {
+        let queue = self.shared.lock();
+        queue.items.is_empty() && matches!(queue.end, Some(Ok(())))
     }
 }
 

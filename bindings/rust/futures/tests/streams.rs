@@ -3,7 +3,7 @@ use cellarcliff::sync::{Observable, Subject};
 use cellarcliff::Note;
 use cellarcliff_futures::*;
 use futures::executor::block_on;
-use futures::{stream, Stream, StreamExt};
+use futures::stream::{self, FusedStream, Stream, StreamExt};
 use std::pin::Pin;
 use std::sync::atomic::{AtomicUsize, Ordering::SeqCst};
 use std::sync::Arc;
@@ -57,10 +57,37 @@ fn a_stream_that_waits_is_dropped_as_its_subscription_is_disposed_of() {
 }
 
 #[test]
+fn a_stream_that_ends_its_own_subscription_as_it_is_polled_is_dropped_as_the_poll_returns() {
+    let (stop, dropped) = (Subject::<(), ()>::new(), Arc::new(AtomicUsize::new(0)));
+    let (stops, count, ended) = (stop.clone(), dropped.clone(), Arc::new(AtomicUsize::new(0)));
+    let seen = ended.clone();
+    let make = move || {
+        let (stops, count, seen) = (stops.clone(), count.clone(), seen.clone());
+        let ends = move |it: &Result<u32, ()>| if *it == Ok(3) {
+            while stops.observers() == 0 {} // whoever subscribes has not come so far
+            stops.next(());
+            seen.store(10 + count.load(SeqCst), SeqCst);
+        };
+        Counted(stream::iter((1..10).map(Ok)).inspect(ends), dropped.clone())
+    };
+    let source = from_stream(make, |it| drop(std::thread::spawn(move || block_on(it))));
+    let (_subscription, heard) = source.take_until(stop.observable()).channel();
+    assert_eq!(heard.iter().collect::<Vec<_>>(), [Note::Next(1), Note::Next(2), Note::Completed]);
+    while ended.load(SeqCst) == 0 {}
+    assert_eq!(ended.load(SeqCst), 10); // it was not dropped within its own poll
+}
+
+#[test]
+fn an_endless_stream_whose_future_runs_as_it_is_spawned_ends_with_its_subscription() {
+    let source = from_stream::<u32, (), _>(|| stream::repeat(Ok(1)), |it| block_on(it));
+    assert_eq!(source.take(2).channel().1.iter().count(), 3);
+}
+
+#[test]
 fn an_observable_is_a_stream_with_a_bounded_queue() {
     let subject = Subject::<u32, &str>::new();
     let source = subject.observable();
-    let (oldest, newest) = (into_stream(&source, 2, Overflow::Oldest), into_stream(&source, 2, Overflow::Newest));
+    let (oldest, newest) = (source.into_stream(2, Overflow::Oldest), source.into_stream(2, Overflow::Newest));
     let dropped = into_stream(&source, 1, Overflow::Oldest);
     assert_eq!(subject.observers(), 3);
     drop(dropped);
@@ -123,6 +150,6 @@ fn a_stream_goes_through_an_observable_and_is_a_stream_again() {
     let on = runtime.handle().clone();
     let source: Observable<u32, String> = from_stream(|| stream::iter((0..100).map(Ok)), move |it| drop(on.spawn(it)));
     let shared = source.filter(|it| it % 2 == 0).share();
-    let all = into_stream(&shared, 100, Overflow::Newest);
-    assert_eq!(block_on(all.collect::<Vec<_>>()).len(), 50);
+    let mut all = shared.into_stream(100, Overflow::Newest);
+    assert_eq!((block_on(all.by_ref().collect::<Vec<_>>()).len(), all.is_terminated()), (50, true));
 }

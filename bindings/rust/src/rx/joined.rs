@@ -2,9 +2,11 @@
 //! lane of one leaf: so one note of theirs is heard at a time.
 use super::form::{Lock, Ref};
 use super::leaf::{unless_gone, Emitter};
+use super::merging::cloned;
 use super::stage::Out;
 use super::{Fits, Moves, Observable};
 use crate::Note;
+use std::borrow::Borrow;
 use std::collections::VecDeque;
 
 /// An item, and how it ends then, if it does.
@@ -134,45 +136,45 @@ fn pair<'a, T: 'a, U: 'a, E: 'a>(one: &Observable<'a, T, E>, other: &Observable<
 
 impl<'a, T: Moves + 'a, E: Moves + 'a> Observable<'a, T, E> {
     /// The first item of each, then the second of each, until one has no more.
-    pub fn zip(all: impl IntoIterator<Item = Observable<'a, T, E>>) -> Observable<'a, Vec<T>, E> {
-        let all: Vec<_> = all.into_iter().collect();
+    pub fn zip(all: impl IntoIterator<Item = impl Borrow<Observable<'a, T, E>>>) -> Observable<'a, Vec<T>, E> {
+        let all = cloned(all);
         let many = all.len();
         join(all, move || Zip { waiting: (0..many).map(|_| VecDeque::new()).collect(), is_done: vec![false; many] })
     }
 
     /// The last item of each, with each item once all have one.
-    pub fn combine_latest(all: impl IntoIterator<Item = Observable<'a, T, E>>) -> Observable<'a, Vec<T>, E>
+    pub fn combine_latest(all: impl IntoIterator<Item = impl Borrow<Observable<'a, T, E>>>) -> Observable<'a, Vec<T>, E>
     where
         T: Clone,
     {
-        let all: Vec<_> = all.into_iter().collect();
+        let all = cloned(all);
         let many = all.len();
         join(all, move || Latest { items: vec![None; many], is_done: vec![false; many] })
     }
 
     /// Each item with the last one of another, once that has one. The end of the other ends nothing.
-    pub fn with_latest_from<U: Clone + Moves + 'a>(&self, other: &Observable<'a, U, E>) -> Observable<'a, (T, U), E> {
-        join(pair(self, other), || WithLatest(None))
+    pub fn with_latest_from<U: Clone + Moves + 'a>(&self, other: impl Borrow<Observable<'a, U, E>>) -> Observable<'a, (T, U), E> {
+        join(pair(self, other.borrow()), || WithLatest(None))
     }
 
     /// The items from when another has told one. It is subscribed to first, and left as it has; its end ends nothing.
-    pub fn skip_until<U: Moves + 'a>(&self, other: &Observable<'a, U, E>) -> Self {
-        join(vec![other.take(1).map(Either::That), self.map(Either::This)], || SkipUntil(false))
+    pub fn skip_until<U: Moves + 'a>(&self, other: impl Borrow<Observable<'a, U, E>>) -> Self {
+        join(vec![other.borrow().take(1).map(Either::That), self.map(Either::This)], || SkipUntil(false))
     }
 
     /// Each item with the one of another that has the same number, until one of both has no more.
-    pub fn zip_with<U: Moves + 'a>(&self, other: &Observable<'a, U, E>) -> Observable<'a, (T, U), E> {
+    pub fn zip_with<U: Moves + 'a>(&self, other: impl Borrow<Observable<'a, U, E>>) -> Observable<'a, (T, U), E> {
         let zip = || Zip { waiting: vec![VecDeque::new(), VecDeque::new()], is_done: vec![false; 2] };
-        join::<_, Vec<Either<T, U>>, _, _>(pair(self, other), zip).filter_map(both)
+        join::<_, Vec<Either<T, U>>, _, _>(pair(self, other.borrow()), zip).filter_map(both)
     }
 
     /// The last item of this one and of another, with each item once both have one.
-    pub fn combine_latest_with<U: Clone + Moves + 'a>(&self, other: &Observable<'a, U, E>) -> Observable<'a, (T, U), E>
+    pub fn combine_latest_with<U: Clone + Moves + 'a>(&self, other: impl Borrow<Observable<'a, U, E>>) -> Observable<'a, (T, U), E>
     where
         T: Clone,
     {
         let latest = || Latest { items: vec![None, None], is_done: vec![false; 2] };
-        join::<_, Vec<Either<T, U>>, _, _>(pair(self, other), latest).filter_map(both)
+        join::<_, Vec<Either<T, U>>, _, _>(pair(self, other.borrow()), latest).filter_map(both)
     }
 }
 

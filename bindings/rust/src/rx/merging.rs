@@ -8,6 +8,7 @@ use super::way::{End, Tip, Way};
 use super::{Fits, Moves, Observable};
 use crate::engine::{effect, kind, place, Key};
 use crate::Refusal;
+use std::borrow::Borrow;
 use std::collections::VecDeque;
 use crate::rx::atomic::AtomicBool;
 use std::sync::atomic::Ordering::Relaxed;
@@ -187,15 +188,19 @@ impl<'a, T: Moves + 'a, E: Moves + 'a> Observable<'a, T, E> {
     }
 
     /// The items of all observables.
-    pub fn merge(all: impl IntoIterator<Item = Observable<'a, T, E>>) -> Self {
-        let all: Vec<_> = all.into_iter().collect();
-        Observable::<Observable<'a, T, E>, E>::of_observables(all).flat_map(|it| it)
+    pub fn merge(all: impl IntoIterator<Item = impl Borrow<Observable<'a, T, E>>>) -> Self {
+        Observable::of_observables(cloned(all)).flat_map(|it| it)
     }
 
     /// The items of this one and another.
-    pub fn merge_with(&self, other: &Observable<'a, T, E>) -> Self {
-        Observable::merge([self.clone(), other.clone()])
+    pub fn merge_with(&self, other: impl Borrow<Observable<'a, T, E>>) -> Self {
+        Observable::merge([self, other.borrow()])
     }
+}
+
+/// What is given as observables or as references to them.
+pub(crate) fn cloned<'a, T: 'a, E: 'a>(all: impl IntoIterator<Item = impl Borrow<Observable<'a, T, E>>>) -> Vec<Observable<'a, T, E>> {
+    all.into_iter().map(|it| it.borrow().clone()).collect()
 }
 
 impl<'a, T: 'a, E: 'a> Observable<'a, Observable<'a, T, E>, E> {

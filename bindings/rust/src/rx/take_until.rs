@@ -7,6 +7,7 @@ use super::way::{Tip, Way};
 use super::{Moves, Observable};
 use crate::engine::{kind, place, what};
 use crate::Refusal;
+use std::borrow::Borrow;
 
 /// The way of a notifier's leaf: an item ends the node, whatever it is; an error takes the way of the source's errors.
 pub(crate) struct Notifies<W: ?Sized>(pub Ref<W>);
@@ -33,8 +34,8 @@ impl<'a, T, N, E> Way<'a, N, E> for Notifies<AWay<'a, T, E>> {
 
 impl<'a, T: 'a, E: Moves + 'a> Observable<'a, T, E> {
     /// Completes when the other tells an item. The end of the other ends nothing.
-    pub fn take_until<N: Moves + 'a>(&self, notifier: Observable<'a, N, E>) -> Self {
-        let source = self.clone();
+    pub fn take_until<N: Moves + 'a>(&self, notifier: impl Borrow<Observable<'a, N, E>>) -> Self {
+        let (source, notifier) = (self.clone(), notifier.borrow().clone());
         Observable::new(move |mut at| {
             let node = at.open(kind::UNTIL, None, None)?.node;
             let below = Place { spot: Spot::below(place::NOTIFIER, node), way: Ref::new(Notifies(at.way.clone())) as Ref<AWay<'a, N, E>> };

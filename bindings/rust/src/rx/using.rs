@@ -15,6 +15,13 @@ impl<'a, T: 'a, E: 'a> Observable<'a, T, E> {
         Observable::try_using(move || Ok(acquire()), move |it| Ok(source(it)))
     }
 
+    /// This source with a resource for each subscription, which is acquired before the source is subscribed to, and dropped once, behind
+    /// the end.
+    pub fn holding<R: Moves + 'a>(&self, acquire: impl Fn() -> R + Fits + 'a) -> Self {
+        let source = self.clone();
+        Observable::using(acquire, move |_| source.clone())
+    }
+
     /// As [`using`](Self::using), or fails; a resource that was acquired is dropped behind that.
     pub fn try_using<R: Moves + 'a>(
         acquire: impl Fn() -> Result<R, E> + Fits + 'a, source: impl Fn(&R) -> Result<Observable<'a, T, E>, E> + Fits + 'a,
