@@ -65,8 +65,8 @@ def chained(makes: Makes, down: Any) -> Any:
 
 
 #: How a function behaves in the midst of a tree: it tells at most one item for each, and passes ends on as they are; or so, but
-#: it may complete by itself; or it hears of ends.
-PLAIN, ENDING, HEARING = range(3)
+#: it may complete by itself; or it hears of ends; or it keeps one to itself.
+PLAIN, ENDING, HEARING, KEEPING = range(4)
 
 
 class Fn(Observable[Any]):
@@ -82,12 +82,15 @@ class Fn(Observable[Any]):
         return False
 
     def _open(self, at: At) -> None:
-        makes: List[Any] = []
-        manner, core = PLAIN, self  # type: Tuple[int, Observable[Any]]
+        functions: List[Fn] = []
+        core: Observable[Any] = self
         while isinstance(core, Fn):
-            makes.append(core._make)
-            manner, core = max(manner, core._manner), core._source
-        is_hot = core._is_hot
+            functions.append(core)
+            core = core._source
+        makes, manner, is_hot = [it._make for it in functions], max(it._manner for it in functions), core._is_hot
+        if at.root is None and isinstance(core, Around) and manner != KEEPING:
+            core.within(lambda source: _behind(source, functions))._open(at)
+            return
         if at.root is not None and is_hot:
             self._at_root(core, at, makes)
         elif is_hot and any(type(it) is not Make for it in makes):
@@ -96,7 +99,7 @@ class Fn(Observable[Any]):
             pass
         elif at.root is not None:
             self._at_root(core, at, makes)
-        elif manner == HEARING:
+        elif manner >= HEARING:
             linked(core, at, makes)
         else:
             _Relay(core, at, makes, manner == ENDING)
@@ -107,6 +110,21 @@ class Fn(Observable[Any]):
         root.head = chained(makes, root)
         if not root.is_stopped:
             core._open(at)
+
+
+class Around(Observable[Any]):
+    """What makes its source as it is subscribed to, and adds nothing to what that tells. Functions may stand on either side of it."""
+
+    def within(self, wrap: Callable[[Any], Observable[Any]]) -> Observable[Any]:
+        """The same with functions at its source: so what they tell at its end is told before what it holds is released."""
+        raise NotImplementedError
+
+
+def _behind(source: Any, functions: Sequence[Fn]) -> Observable[Any]:
+    """The source with these functions, the last first."""
+    for it in reversed(functions):
+        source = Fn(source, it._make, it._manner)
+    return to_observable(source)
 
 
 class _Relay:
@@ -185,7 +203,7 @@ def linked(core: Observable[Any], at: At, makes: Makes) -> None:
     root = Root(engine.core, noop, noop, noop)
     leaf.on_closed = root.dispose
     engine.open(at, LEAF, leaf)
-    root.head = _Last(chained(makes, leaf), root)
+    root.head = chained(makes, _Last(leaf, root))
     if not leaf.is_stopped:
         inner = At(engine, ROOT, None, root, at.scheduler)
         inner.solo = at.solo
@@ -193,21 +211,25 @@ def linked(core: Observable[Any], at: At, makes: Makes) -> None:
 
 
 class _Last:
-    """Tells the head of a chain, and lets its root go once that has ended."""
+    """What the last function tells: items at once, and an end once what the root held is released, before anything takes its place."""
 
     __slots__ = ("_up", "_root", "on_next")
 
     def __init__(self, up: Any, root: Any):
         self._up, self._root, self.on_next = up, root, up.on_next
 
-    def on_error(self, error: Exception) -> None:
+    def _let_go(self) -> None:
+        is_over = self._root.is_over  # then its end is what its lane tells, and its releases stand behind that
         self._root.dispose()
-        C.finish(self._root)  # what it held is released before anything takes its place
+        if is_over:
+            C.finish(self._root)
+
+    def on_error(self, error: Exception) -> None:
+        self._let_go()
         self._up.on_error(error)
 
     def on_completed(self) -> None:
-        self._root.dispose()
-        C.finish(self._root)
+        self._let_go()
         self._up.on_completed()
 
 

@@ -19,12 +19,13 @@ Call = Callable[..., Any]
 class Link:
     """What an operator's function is given: what it tells goes to the observer."""
 
-    __slots__ = ("engine", "scheduler", "leaf", "up", "on_next", "_keeper", "_roots", "_target")
+    __slots__ = ("engine", "scheduler", "leaf", "up", "on_next", "_keeper", "_roots", "_is_ending")
 
     def __init__(self, at: At, makes: Any):
         self.engine, self.scheduler = at.engine, at.scheduler
         self.leaf = leaf = Leaf(at.engine.core)
         self._roots: Dict[Any, None] = {}
+        self._is_ending = False  # whether the end of a source is being heard
         leaf.on_closed = self._closed
         self.engine.open(at, LEAF, leaf)
         self._keeper = Root(at.engine.core, noop, noop, noop)
@@ -50,10 +51,32 @@ class Link:
         return bool(self.leaf.is_stopped)
 
     def on_error(self, error: Exception) -> None:
-        self.up.on_error(error)
+        self._end(lambda: self.up.on_error(error))
 
     def on_completed(self) -> None:
-        self.up.on_completed()
+        self._end(self.up.on_completed)
+
+    def _end(self, tell: Call) -> None:
+        """Ends; where that comes of a source's end behind what that releases, and hears of nothing till then."""
+        if not self._is_ending:
+            tell()
+            return
+        roots, self._roots, self.on_next = self._roots, {}, noop
+        for it in reversed(tuple(roots)):
+            it.dispose()
+        self.later(tell)
+
+    def _heard_end(self, root: Any, call: Call, *error: Any) -> None:
+        """A source has ended: what comes of it is told before what the source held is released, but for an end."""
+        self._roots.pop(root, None)
+        if not root.is_over:  # it failed as it was subscribed to
+            self.later(lambda: call(*error))
+        elif not self.is_over:
+            self._is_ending = True
+            try:
+                call(*error)
+            finally:
+                self._is_ending = False
 
     # what it hears of
 
@@ -61,15 +84,11 @@ class Link:
                   scheduler: Any = None) -> Any:
         """Subscribes to an observable: what it tells is heard in the operator's lane, and an error ends the operator unless it is
         heard. Answers the subscription, which has a `dispose`."""
-        roots = self._roots
-
         def failed(error: Exception) -> None:
-            roots.pop(root, None)
-            self.later(lambda: (on_error or self.on_error)(error))  # behind what it releases
+            self._heard_end(root, on_error or self.on_error, error)
 
         def completed() -> None:
-            roots.pop(root, None)
-            self.later(on_completed or self.on_completed)
+            self._heard_end(root, on_completed or self.on_completed)
         root = Root(self.engine.core, on_next or self.on_next, failed, completed)
         if self.is_over:
             root.is_stopped = root.is_over = True
@@ -97,8 +116,10 @@ class Link:
     def follow(self, call: Call) -> None:
         """Calls this once all that the commands under way released is released: for what takes the place of something."""
         def act() -> None:
-            C.settle()
-            call()
+            try:
+                C.settle()
+            finally:  # an interrupt of another's observer leaves this operator as it was
+                call()
         self.later(act)
 
     def hold(self, disposable: Any) -> Any:

@@ -6,6 +6,7 @@ from typing import Any, Callable, Tuple
 from ...book import Refused
 from .._cellar import FLAT, INNER, PASS, SOURCE, SWITCH
 from .._engine import At, C, Leaf
+from .._functions import Around
 from .._observable import Observable, open_below, to_observable
 from ..sources import Throw
 
@@ -54,21 +55,28 @@ class Merging(Observable[Any]):
         open_below(self._source, at.below(SOURCE, node))
 
 
-class Defer(Observable[Any]):
+def made(make: Callable[[Any], Any], given: Any) -> Observable[Any]:
+    """The observable that a function answers; where it raises one that fails with that."""
+    try:
+        return to_observable(make(given))
+    except Exception as error:
+        return Throw(error, None)
+
+
+class Defer(Around):
     """defer()."""
 
     _hides = True
 
-    def __init__(self, factory: Callable[[Any], Any]):
-        self._factory = factory
+    def __init__(self, factory: Callable[[Any], Any], wrap: Callable[[Any], Observable[Any]] = to_observable):
+        self._factory, self._wrap = factory, wrap
+
+    def within(self, wrap: Callable[[Any], Observable[Any]]) -> Observable[Any]:
+        return Defer(self._factory, wrap)
 
     def _open_with(self, at: At, makes: Any) -> bool:
         return False
 
     def _open(self, at: At) -> None:
         node = at.engine.open(at, PASS)
-        try:
-            source = self._factory(at.scheduler)
-        except Exception as error:
-            source = Throw(error, None)
-        open_below(source, at.inside(node))
+        open_below(self._wrap(made(self._factory, at.scheduler)), at.inside(node))

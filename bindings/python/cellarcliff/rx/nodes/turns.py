@@ -60,8 +60,10 @@ class _Outer(Observable[Any]):
             self._engine.put(self._leaf, self._behind)
 
     def _behind(self) -> None:
-        C.settle()
-        self._start()
+        try:
+            C.settle()
+        finally:
+            self._start()
 
 
 class _Turn(Observable[Any]):

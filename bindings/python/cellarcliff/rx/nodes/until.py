@@ -5,7 +5,7 @@ from typing import Any, Tuple
 
 from .._cellar import NOTIFIER, SOURCE, UNTIL
 from .._engine import At
-from .._functions import Fn, Stage
+from .._functions import KEEPING, Fn, Stage
 from .._observable import Observable, open_below, to_observable
 
 
@@ -22,7 +22,7 @@ class Until(Observable[Any]):
     """take_until()."""
 
     def __init__(self, source: Any, notifier: Any):
-        self._source, self._notifier = to_observable(source), Fn(notifier, _WithoutItsEnd)
+        self._source, self._notifier = to_observable(source), Fn(notifier, _WithoutItsEnd, KEEPING)
 
     def _below(self) -> Tuple[Any, ...]:
         return (self._source, self._notifier)

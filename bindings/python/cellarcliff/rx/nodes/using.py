@@ -4,17 +4,24 @@ from __future__ import annotations
 from typing import Any, Callable, Tuple
 
 from .._engine import At
+from .._functions import Around
 from .._observable import Observable, open_below, to_observable
 from ..sources import Throw
+from .merging import made
+
+Wrap = Callable[[Any], Observable[Any]]
 
 
-class Using(Observable[Any]):
+class Using(Around):
     """using()."""
 
     _hides = True
 
-    def __init__(self, resource_factory: Callable[[], Any], observable_factory: Callable[[Any], Any]):
-        self._make_resource, self._make_source = resource_factory, observable_factory
+    def __init__(self, resource_factory: Callable[[], Any], observable_factory: Callable[[Any], Any], wrap: Wrap = to_observable):
+        self._make_resource, self._make_source, self._wrap = resource_factory, observable_factory, wrap
+
+    def within(self, wrap: Wrap) -> Observable[Any]:
+        return Using(self._make_resource, self._make_source, wrap)
 
     def _open(self, at: At) -> None:
         try:
@@ -22,23 +29,22 @@ class Using(Observable[Any]):
         except Exception as error:
             if at.node is not None or hasattr(error, "name"):  # the engine's, not the factory's
                 raise
-            Throw(error, None)._open(at)
+            self._wrap(Throw(error, None))._open(at)
             return
-        try:
-            source = self._make_source(resource)
-        except Exception as error:
-            source = Throw(error, None)
-        open_below(source, below)
+        open_below(self._wrap(made(self._make_source, resource)), below)
 
     def _open_with(self, at: At, makes: Any) -> bool:
         return False
 
 
-class Finally(Observable[Any]):
+class Finally(Around):
     """finally_action()."""
 
     def __init__(self, source: Any, action: Callable[[], Any]):
         self._source, self._action = to_observable(source), action
+
+    def within(self, wrap: Wrap) -> Observable[Any]:
+        return Finally(wrap(self._source), self._action)
 
     def _below(self) -> Tuple[Any, ...]:
         return (self._source,)
