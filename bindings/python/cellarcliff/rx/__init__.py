@@ -12,7 +12,6 @@ from __future__ import annotations
 
 import builtins
 import importlib
-import itertools
 from typing import TYPE_CHECKING, Any, Callable, Iterable, Optional, Tuple, Type, TypeVar, Union, overload
 
 from . import _alone  # first: it refuses before ctypes is imported
@@ -21,10 +20,10 @@ from ._engine import _hook, _print, current, use
 from ._observable import Observable, Observer, pipe, to_observable
 from ._typing import Due, Scheduler, Span
 from .nodes import Defer, Merging, Using
-from .operators.faults import caught
+from .operators.faults import caught, repeat
 from .operators.joined import Concat, combined, first_of, joined_last, latest_from, resumed, zipped
 from .sharing import ConnectableObservable
-from .sources import Created, Empty, FromFuture, FromIterable, Just, Never, Throw, Timer
+from .sources import Created, Empty, FromFuture, FromIterable, Just, Never, Stepwise, Throw, Timer
 
 __all__ = ["ConnectableObservable", "Observable", "Observer", "amb", "case", "catch", "catch_with_iterable", "combine_latest", "concat",
            "concat_with_iterable", "create", "current", "defer", "empty", "for_in", "fork_join", "from_", "from_callable", "from_future",
@@ -161,7 +160,7 @@ def from_callable(supplier: Callable[[], A], scheduler: Optional[Scheduler] = No
 
 def repeat_value(value: Any = None, repeat_count: Optional[int] = None) -> Observable[Any]:
     """A value so many times, or without end."""
-    return FromIterable(itertools.repeat(value) if repeat_count is None or repeat_count < 0 else itertools.repeat(value, repeat_count), None)
+    return to_observable(repeat(None if repeat_count is None or repeat_count < 0 else repeat_count)(Just(value, None)))
 
 
 def generate(initial_state: A, condition: Callable[[A], bool], iterate: Callable[[A], A]) -> Observable[A]:
@@ -171,7 +170,7 @@ def generate(initial_state: A, condition: Callable[[A], bool], iterate: Callable
         while condition(state):
             yield state
             state = iterate(state)
-    return Defer(lambda _: FromIterable(states(), None))
+    return Stepwise(states)
 
 
 def start(func: Callable[[], A], scheduler: Optional[Scheduler] = None) -> Observable[A]:
@@ -250,7 +249,7 @@ just = return_value
 def range(start: int, stop: Optional[int] = None, step: Optional[int] = None, scheduler: Optional[Scheduler] = None) -> Observable[int]:
     """The numbers of Python's range."""
     numbers = builtins.range(start) if stop is None else builtins.range(start, stop, 1 if step is None else step)
-    return FromIterable(numbers, scheduler)
+    return Stepwise(lambda: numbers, scheduler)
 
 
 def using(resource_factory: Callable[[], Any], observable_factory: "Callable[[Any], Source[A]]") -> Observable[A]:

@@ -56,7 +56,11 @@ class FromFuture(Observable[Any]):
                 else:
                     observer.on_next(value)
                     observer.on_completed()
+            def cancel() -> None:
+                loop = self._future.get_loop() if hasattr(self._future, "get_loop") else None
+                if loop is None or not loop.is_closed():  # a loop that is closed cancels nothing
+                    self._future.cancel()
             self._future.add_done_callback(done)
-            return Disposable(self._future.cancel)
+            return Disposable(cancel)
         create(subscribe, at, makes)
         return True

@@ -1,12 +1,13 @@
 """Sources of items that are there: of an iterable, or one value."""
 from __future__ import annotations
 
-from typing import Any
+from typing import Any, Callable, Iterable
 
 from .._cellar import LEAF
 from .._engine import At, C, Leaf
 from .._functions import chained
 from .._observable import Observable
+from ..disposable import MultipleAssignmentDisposable
 
 
 class Scheduled(Observable[Any]):
@@ -37,7 +38,7 @@ class Scheduled(Observable[Any]):
 
 
 class FromIterable(Scheduled):
-    """from_iterable(), of(), range()."""
+    """from_iterable(), of()."""
 
     def __init__(self, iterable: Any, scheduler: Any):
         self._iterable, self.scheduler = iterable, scheduler
@@ -48,6 +49,48 @@ class FromIterable(Scheduled):
                 up.on_completed()
         except Exception as error:
             up.on_error(error)
+
+
+class Stepwise(Observable[Any]):
+    """Emits an item at a time, and goes on behind what was put off meanwhile, as RxPY's current thread scheduler has it: range(),
+    generate()."""
+
+    def __init__(self, items: Callable[[], Iterable[Any]], scheduler: Any = None):
+        self._items, self._scheduler = items, scheduler
+
+    def _open_with(self, at: At, makes: Any) -> bool:
+        engine, leaf = at.engine, Leaf(at.engine.core)
+        engine.open(at, LEAF, leaf)
+        up, items, scheduler = chained(makes, leaf), iter(self._items()), self._scheduler or at.scheduler
+
+        def step() -> bool:
+            """Whether there is more."""
+            try:
+                value = next(items)
+            except StopIteration:
+                up.on_completed()
+            except Exception as error:
+                up.on_error(error)
+            else:
+                up.on_next(value)
+            return not leaf.is_stopped
+
+        def go_on() -> None:
+            while not leaf.is_stopped and step():
+                if C.queue() and C.put_off(go_on):
+                    return
+
+        def timed(*_: Any) -> None:
+            if not leaf.is_stopped and C.call(step):
+                timer.disposable = scheduler.schedule(timed)
+        if leaf.is_stopped:
+            pass
+        elif scheduler is not None:
+            timer = engine.hold(leaf, MultipleAssignmentDisposable)
+            timer.disposable = scheduler.schedule(timed)
+        elif not C.put_off(go_on):
+            go_on()
+        return True
 
 
 class Just(Scheduled):
