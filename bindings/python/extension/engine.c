@@ -67,7 +67,9 @@ typedef struct {
   PyObject *target;                                   /* what an item is told to: `on_next` of the head, where there is one */
   struct Leaf *into;                                  /* whose `on_next` the root's is, or NULL */
   PyObject *references;                               /* weak ones */
-  char is_keyed, is_stopped, is_over;
+  PyObject *thing;                                    /* not held: its word in the engine, which has so many references to it */
+  int owed;
+  char is_keyed, is_stopped, is_over, is_solo;        /* is_solo: one subject alone feeds it, and holds it */
 } Root;
 
 typedef struct Subject Subject;
@@ -78,7 +80,9 @@ typedef struct Leaf {
   struct cellar_node node;
   Subject *owner;      /* not held: a subject that goes sets it to NULL */
   PyObject *on_closed; /* what is called once the node has closed, or NULL */
-  char is_keyed, is_stopped;
+  PyObject *thing;     /* as of a root, where its word is not the root's */
+  int owed;
+  char is_keyed, is_stopped, is_solo;
 } Leaf;
 
 typedef struct {
@@ -117,6 +121,7 @@ static _Thread_local struct Mine {
   uint64_t lane, ident;
   PyObject *errors, *trampoline, *put_off;
   struct Lanes *due;
+  struct Served *served;
 } mine;
 /* Asked once on the way of an item: to find what is a thread's own takes a call each time. */
 static __attribute__((noinline)) struct Mine *here_is(void) {
@@ -153,6 +158,19 @@ static void let_go(Core *core, PyObject *it) {
 static int refused(uint8_t status) {
   if (status == CELLAR_NO_MEMORY) return PyErr_NoMemory(), -1;
   return plain(PyObject_CallFunction(refuse, "i", status));
+}
+
+/* How many references the engine has to a word, for the collector of cycles: where one subject alone can tell something, it counts as
+ * that subject's what the engine holds for it. So an object that subscribes to its own subject is collected with it. */
+static int *owed_of(PyObject *thing) {
+  PyObject *hears = ITEM(thing, 0), *close = ITEM(thing, 1);
+  if (is_a(hears, root_type)) return ((Root *)hears)->thing == thing ? &((Root *)hears)->owed : NULL;
+  return Py_TYPE(close) == leaf_type && ((Leaf *)close)->thing == thing ? &((Leaf *)close)->owed : NULL;
+}
+static void let_go_word(Core *core, PyObject *thing) {
+  int *owed = owed_of(thing);
+  if (owed) --*owed;
+  let_go(core, thing);
 }
 
 /* What is raised ---------------------------------------------------------------------------------------------------------------*/
@@ -256,6 +274,12 @@ typedef struct Lanes {
   Core *core;
   struct Lanes *outer;   /* those of the command further out of this thread */
 } Lanes;
+/* A lane that this thread serves, and the one further out. */
+typedef struct Served {
+  Core *core;
+  uint64_t lane;
+  struct Served *outer;
+} Served;
 static void lanes_begin(Lanes *it, Core *core) { it->all = it->here, it->at = it->many = 0, it->room = 2 * CELLAR_ROOM, it->core = core; }
 static void lanes_end(Lanes *it) {
   if (it->all != it->here) PyMem_Free(it->all);
@@ -289,6 +313,7 @@ static int chain_tell(struct Mine *, Chain *, PyObject *);
 static int emit(struct Mine *, Leaf *, PyObject *);
 static int root_dispose(Root *);
 
+/* What was raised goes on, once the root is disposed of. */
 static int dispose_and_go_on(Root *root) {
   PyObject *error = caught_one();
   if (root_dispose(root)) {
@@ -298,7 +323,7 @@ static int dispose_and_go_on(Root *root) {
   raise_again(error);
   return -1;
 }
-/* Tells a root an item. What it raises disposes of it, and is raised. */
+/* Tells a root an item. What it raises is raised, and disposes of it unless that is an interrupt, which is nobody's fault. */
 static inline int root_tell(struct Mine *here, Root *root, PyObject *value) {
   if (root->is_stopped) return 0;
   int status;
@@ -317,7 +342,7 @@ static inline int root_tell(struct Mine *here, Root *root, PyObject *value) {
     status = plain(CALL1(target, value));
   }
   Py_DECREF(target);
-  return status ? dispose_and_go_on(root) : 0;
+  return status && PyErr_ExceptionMatches(PyExc_Exception) ? dispose_and_go_on(root) : status;
 }
 /* The observer hears an end, unless it is stopped; then nothing of it stays. */
 static int root_end(Root *root, PyObject *error) {
@@ -355,7 +380,8 @@ static int tell(Core *core, const struct cellar_effect *e, PyObject *value) {
   }
   core->kept++; /* one reference was this call's */
   let_go(core, user);
-  let_go(core, user);
+  if (e->kind == CELLAR_E_RELEASE || e->kind == CELLAR_E_PUT) let_go(core, user);
+  else let_go_word(core, user);
   if (e->carries && value) let_go(core, value);
   return status;
 }
@@ -390,6 +416,8 @@ static int serve_by(struct Mine *here, Core *core, uint64_t lane, struct cellar_
   uint64_t by = here->ident, of = by, many, before = here->lane, unused;
   PyObject *put_off = here->put_off;
   int status = 0, had = here->has_lane, let_go = here->lets_go;
+  Served served = {core, lane, here->served};
+  here->served = &served;
   here->lane = lane, here->has_lane = 1, here->lets_go = 0, here->put_off = NULL;
   for (;; has = 0) {
     if (!has && is_some(here->put_off)) {
@@ -412,6 +440,7 @@ static int serve_by(struct Mine *here, Core *core, uint64_t lane, struct cellar_
     }
   }
   Py_XDECREF(here->put_off);
+  here->served = served.outer;
   here->lane = before, here->has_lane = had, here->lets_go = let_go, here->put_off = put_off;
   return status;
 }
@@ -437,7 +466,7 @@ static int hear_closed(Core *core) {
       if (call && plain(CALL0(call))) status = caught(me());
       Py_XDECREF(call);
     } else if (plain(CALL0(close))) status = caught(me());
-    let_go(core, it);
+    let_go_word(core, it);
   }
   mine.is_closing = 0;
   return status;
@@ -579,11 +608,13 @@ static PyObject *leaf_repr(Leaf *self) { return PyUnicode_FromFormat("<Leaf %s>"
 static PyMethodDef leaf_methods[] = {{"on_next", (PyCFunction)leaf_next, METH_O, NULL}, {"on_error", (PyCFunction)leaf_error, METH_O, NULL},
                                      {"on_completed", (PyCFunction)leaf_completed, METH_NOARGS, NULL}, {NULL, NULL, 0, NULL}};
 static PyMemberDef leaf_members[] = {{"number", T_ULONGLONG, offsetof(Leaf, node.number), READONLY, NULL}, {"is_stopped", T_BOOL, offsetof(Leaf, is_stopped), 0, NULL}, {"on_closed", T_OBJECT, offsetof(Leaf, on_closed), 0, NULL},
+                                     {"is_solo", T_BOOL, offsetof(Leaf, is_solo), 0, NULL},
                                      {NULL, 0, 0, 0, NULL}};
 static int leaf_traverse(Leaf *self, visitproc visit, void *arg) {
   Py_VISIT(Py_TYPE(self));
   Py_VISIT(self->core);
   Py_VISIT(self->on_closed);
+  for (int i = 0; self->is_solo && i < self->owed; i++) Py_VISIT(self->thing);
   return 0;
 }
 static int leaf_clear(Leaf *self) {
@@ -731,12 +762,13 @@ static PyMethodDef root_methods[] = {
     {"on_completed", (PyCFunction)root_completed, METH_NOARGS, NULL}, {"dispose", (PyCFunction)root_disposed, METH_NOARGS, NULL},
     {"unsubscribe", (PyCFunction)root_unsubscribe, METH_NOARGS, NULL}, {NULL, NULL, 0, NULL}};
 static PyGetSetDef root_getset[] = {{"head", (getter)root_head, (setter)root_set_head, NULL, NULL}, {NULL, NULL, NULL, NULL, NULL}};
-static PyMemberDef root_members[] = {{"is_stopped", T_BOOL, offsetof(Root, is_stopped), 0, NULL}, {"is_over", T_BOOL, offsetof(Root, is_over), 0, NULL},
+static PyMemberDef root_members[] = {{"is_stopped", T_BOOL, offsetof(Root, is_stopped), 0, NULL}, {"is_over", T_BOOL, offsetof(Root, is_over), 0, NULL}, {"is_solo", T_BOOL, offsetof(Root, is_solo), 0, NULL},
                                      {"number", T_ULONGLONG, offsetof(Root, node.number), READONLY, NULL},
                                      {"__weaklistoffset__", T_PYSSIZET, offsetof(Root, references), READONLY, NULL}, {NULL, 0, 0, 0, NULL}};
 static int root_traverse(Root *self, visitproc visit, void *arg) {
   Py_VISIT(Py_TYPE(self)); Py_VISIT(self->core); Py_VISIT(self->head); Py_VISIT(self->target);
   Py_VISIT(self->on_next); Py_VISIT(self->on_error); Py_VISIT(self->on_completed);
+  for (int i = 0; self->is_solo && i < self->owed; i++) Py_VISIT(self->thing);
   return 0;
 }
 static int root_clear(Root *self) {
@@ -995,8 +1027,12 @@ static int opened(Core *core, struct cellar_command *c, struct cellar_answer *a,
   if (c->flags & CELLAR_WISHES) core->wishes++;
   if (thing != Py_None && c->what != CELLAR_CONNECT) {
     PyObject *hears = ITEM(thing, 0), *close = ITEM(thing, 1);
-    if (c->place == CELLAR_ROOT && is_a(hears, root_type)) ((Root *)hears)->node = a->node, ((Root *)hears)->is_keyed = 1;
-    if (Py_TYPE(close) == leaf_type) ((Leaf *)close)->node = a->node, ((Leaf *)close)->is_keyed = 1;
+    int is_root = c->place == CELLAR_ROOT && is_a(hears, root_type);
+    if (is_root) ((Root *)hears)->node = a->node, ((Root *)hears)->is_keyed = 1, ((Root *)hears)->thing = thing, ((Root *)hears)->owed = (int)roles;
+    if (Py_TYPE(close) == leaf_type) {
+      ((Leaf *)close)->node = a->node, ((Leaf *)close)->is_keyed = 1;
+      if (!is_root) ((Leaf *)close)->thing = thing, ((Leaf *)close)->owed = (int)roles;
+    }
   }
   return 0;
 }
@@ -1376,13 +1412,23 @@ static PyObject *raised(PyObject *module, PyObject *error) {
   raise_again(new_of(error));
   return none_or_null(caught(me()));
 }
-/* Serves what commands further out of this thread have still to serve: so what they released is released. */
+static int is_served(Core *core, uint64_t lane) {
+  for (Served *it = mine.served; it; it = it->outer)
+    if (it->core == core && !((it->lane ^ lane) & ~CELLAR_INSIDE)) return 1;
+  return 0;
+}
+/* Serves what commands further out of this thread have still to serve: so what they released is released. What it is in the midst of
+ * serving comes when that goes on. */
 static PyObject *settle_all(PyObject *module, PyObject *unused) {
   (void)module, (void)unused;
   struct cellar_effect e;
   for (Lanes *it = mine.due; it; it = it->outer)
-    while (it->at < it->many)
-      if (serve(it->core, it->all[it->at++], &e, NULL, 0)) return NULL;
+    for (size_t i = it->at; i < it->many; i++) {
+      uint64_t lane = it->all[i];
+      if (lane == UINT64_MAX || is_served(it->core, lane)) continue;
+      it->all[i] = UINT64_MAX; /* the name of none */
+      if (serve(it->core, lane, &e, NULL, 0)) return NULL;
+    }
   Py_RETURN_NONE;
 }
 /* Serves the rest of the lane that is served: of a root that has ended, what it held. */

@@ -41,6 +41,7 @@ class _Mine(threading.local):
     put_off_: Optional[Deque[Callable[[], Any]]] = None
     lets_go = False
     due: Tuple[Any, ...] = ()
+    served: Tuple[Tuple[Any, int], ...] = ()  # the lanes that it serves, the innermost first
 
 
 mine = _Mine()
@@ -69,7 +70,7 @@ def _enter(frame: Any) -> bool:
     """Whether this call is the outermost of its thread."""
     if _runs(mine.outermost):
         return False
-    mine.outermost, mine.is_closing, mine.lane, mine.errors, mine.put_off_, mine.due = frame, False, None, None, None, ()
+    mine.outermost, mine.is_closing, mine.lane, mine.errors, mine.put_off_, mine.due, mine.served = frame, False, None, None, None, (), ()
     return True
 
 
@@ -220,8 +221,8 @@ class Core:
             raise
 
     def _serve(self, lane: int, effect: Any = None) -> None:
-        by, before = get_ident(), (mine.lane, mine.put_off_, mine.lets_go)
-        mine.lane, mine.put_off_, mine.lets_go, of = lane, None, False, by
+        by, before = get_ident(), (mine.lane, mine.put_off_, mine.lets_go, mine.served)
+        mine.lane, mine.put_off_, mine.lets_go, mine.served, of = lane, None, False, ((self, lane & ~INSIDE), *mine.served), by
         try:
             while True:
                 try:
@@ -247,7 +248,7 @@ class Core:
             self.is_left = True
             raise
         finally:
-            mine.lane, mine.put_off_, mine.lets_go = before
+            mine.lane, mine.put_off_, mine.lets_go, mine.served = before
 
     def _tell(self, user: int, value: int, by: int, kind: int, carries: int) -> None:
         thing, item = self.things[user], self.things[value] if carries and value else None
@@ -408,7 +409,7 @@ class Root:
         if not self.is_stopped:
             try:
                 (self._on_next if self.head is None else self.head.on_next)(value)
-            except BaseException:
+            except Exception:
                 self.dispose()
                 raise
 
@@ -733,8 +734,10 @@ def raised(error: Exception) -> None:
 
 def settle() -> None:
     for core, lanes in mine.due:
-        while lanes:
-            core._serve(lanes.pop(0))
+        for lane in tuple(lanes):
+            if lane in lanes and (core, lane & ~INSIDE) not in mine.served:
+                lanes.remove(lane)
+                core._serve(lane)
 
 
 def finish(root: Root) -> None:
