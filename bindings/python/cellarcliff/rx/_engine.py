@@ -24,8 +24,7 @@ def refuse(status: int) -> None:
     if status == NO_MEMORY:
         raise MemoryError
     if status == NO_HUB:
-        raise RuntimeError("no hub is left for this share: there are 1,024, of which half are for publish() and half for ref_count() and "
-                           "share(), and each that has a subscriber or is connected takes one")
+        raise RuntimeError("no hub is left for this publish(): there are 512, and each that has a subscriber or is connected takes one")
     raise Refused(REFUSALS.get(status, f"status {status}"))
 
 
@@ -166,7 +165,7 @@ class Engine:
         root = at.root
         status, node, connection = self.core.share(OPEN | at.place << 8 | share.kind << 16 | at.flags << 24 | level << 32, at.above,
                                                    None if root is None else (root, None, None), share, at.is_exchange)
-        if status and status != HUB_ORDER:
+        if status not in (0, HUB_ORDER, NO_HUB):
             refuse(status)
         at.node = node
         return status, connection
@@ -208,6 +207,7 @@ class Engine:
 
 
 _engine: List[Optional[Engine]] = [None]
+_former: List[Engine] = []  # those that were exchanged with something open
 _making = threading.Lock()
 
 
@@ -221,14 +221,18 @@ def current() -> Engine:
 
 
 def use(engine: Optional[Engine] = None) -> Engine:
-    """Subscribes from now on in this engine; with None, in a new one. Answers it."""
+    """Subscribes from now on in this engine; with None, in a new one. Answers it. The one before stays as it is, and what is open in it
+    is closed at the end of the process."""
+    former = _engine[0]
+    _former[:] = [it for it in (*_former, former) if it is not None and it is not engine and any(it.counts()[:3])]
     _engine[0] = engine = engine or Engine()
     return engine
 
 
 def _at_exit() -> None:
-    if _engine[0] is not None:
-        _engine[0].close()
+    for it in (*_former, _engine[0]):
+        if it is not None:
+            it.close()
 
 
 def _in_child() -> None:
@@ -237,6 +241,7 @@ def _in_child() -> None:
     _making = threading.Lock()
     C.forked()
     _engine[0] = None
+    del _former[:]
 
 
 atexit.register(_at_exit)

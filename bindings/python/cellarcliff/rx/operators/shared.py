@@ -5,10 +5,8 @@ from typing import Any, Callable, Optional, overload
 
 from .._observable import Observable
 from .._typing import B, Operator, Scheduler, Span, same
-from ..sharing import ConnectableObservable, Multicast, Published, RefCount, counted
-from ..sharing.subjects import selected
+from ..sharing import ConnectableObservable, Counted, Multicast, Published, RefCount, Selected
 from ..subject import BehaviorSubject, ReplaySubject, Subject
-from ..sources import Created
 
 
 Connectable = Callable[[Observable[object]], ConnectableObservable]
@@ -24,18 +22,14 @@ def publish(mapper: Any = None) -> Any:
     """A connectable observable: one subscription to the source for all that subscribe, made by connect(). With a function, what that
     makes of it, which is connected while it is subscribed to."""
     if mapper is not None:
-        return lambda source: selected(source, Subject, mapper)
+        return lambda source: Selected(source, lambda _: Subject(), mapper)
     return Published
 
 
 def multicast(subject: Any = None, subject_factory: Any = None, mapper: Any = None) -> Callable[[Any], Any]:
     """A connectable observable, whose items go through this subject; or, with a factory, what the function makes of one."""
     if subject_factory is not None:
-        def operate(source: Any) -> Observable[Any]:
-            def subscribe(observer: Any, scheduler: Any = None) -> Any:
-                return selected(source, lambda: subject_factory(scheduler), mapper or (lambda it: it)).subscribe(observer, scheduler=scheduler)
-            return Created(subscribe)
-        return operate
+        return lambda source: Selected(source, subject_factory, mapper or (lambda it: it))
     return lambda source: Multicast(source, subject)
 
 
@@ -48,7 +42,7 @@ def publish_value(initial_value: Any, mapper: Callable[[Any], Observable[B]]) ->
 def publish_value(initial_value: Any, mapper: Any = None) -> Any:
     """publish(), where who comes hears the latest item first."""
     if mapper is not None:
-        return lambda source: selected(source, lambda: BehaviorSubject(initial_value), mapper)
+        return lambda source: Selected(source, lambda _: BehaviorSubject(initial_value), mapper)
     return lambda source: Multicast(source, BehaviorSubject(initial_value))
 
 
@@ -63,7 +57,7 @@ def replay(mapper: Callable[[Any], Observable[B]], buffer_size: Optional[int] = 
 def replay(mapper: Any = None, buffer_size: Any = None, window: Any = None, scheduler: Any = None) -> Any:
     """publish(), where who comes hears first what was told before."""
     if mapper is not None:
-        return lambda source: selected(source, lambda: ReplaySubject(buffer_size, window, scheduler), mapper)
+        return lambda source: Selected(source, lambda _: ReplaySubject(buffer_size, window, scheduler), mapper)
     return lambda source: Multicast(source, ReplaySubject(buffer_size, window, scheduler))
 
 
@@ -71,7 +65,7 @@ def ref_count() -> Operator[Any]:
     """Of a connectable observable: connected while it has a subscriber. If no hub is left for it, a subscriber receives a
     RuntimeError."""
     def operate(source: Any) -> Observable[Any]:
-        return RefCount(source.source) if isinstance(source, Published) else counted(source)
+        return RefCount(source.source) if isinstance(source, Published) else Counted(source)
     return operate
 
 

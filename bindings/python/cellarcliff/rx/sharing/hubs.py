@@ -1,16 +1,18 @@
 """publish(), ref_count(), share(): a hub of the engine."""
 from __future__ import annotations
 
+import threading
 from itertools import count
-from typing import Any, List
+from typing import Any, List, Optional
 
-from .._cellar import PUBLISHED, SHARED, SOURCE, UNKNOWN_HUB
-from .._engine import At, C, Engine, current
+from .._cellar import HUB_ORDER, NO_HUB, PUBLISHED, SHARED, SOURCE, UNKNOWN_HUB
+from .._engine import At, C, Engine, current, refuse
 from .._functions import linked
 from .._observable import Observable, open_below, to_observable
 from ..disposable import CompositeDisposable, Disposable
 
 _words = count(1)
+_choosing = threading.Lock()
 
 
 class _Share:
@@ -20,20 +22,28 @@ class _Share:
         self.source, self.kind, self.word = source, kind, next(_words)
         self.hub = UNKNOWN_HUB  # the last that it had
         self.connection: Any = None
+        self._level: Optional[int] = None
 
-    def open(self, at: At) -> bool:
-        """Opens a subscriber; False where the order of hubs forbids it there."""
-        status, connection = at.engine.share(at, self, level(self.source))
+    @property
+    def level(self) -> int:
+        """How many shares stand one below another in the source. It is asked once: a source may be many times below another."""
+        if self._level is None:
+            self._level = level(self.source)
+        return self._level
+
+    def open(self, at: At) -> int:
+        """Opens a subscriber: 0, HUB_ORDER where the order of hubs forbids it there, or NO_HUB."""
+        status, connection = at.engine.share(at, self, self.level)
         if connection is not None:
             open_below(self.source, At(at.engine, SOURCE, connection, None, at.scheduler))
-        return not status
+        return status
 
     def _closed(self) -> None:
         self.connection = None
 
     def connect(self, engine: Engine, scheduler: Any) -> Any:
         """The connection, which is made if there is none."""
-        connection = engine.connect(self, level(self.source), self._closed)
+        connection = engine.connect(self, self.level, self._closed)
         if connection is None:
             return self.connection
         C.trampolined(open_below, self.source, At(engine, SOURCE, connection, None, scheduler))
@@ -47,7 +57,7 @@ class _Share:
 def level(observable: Observable[Any]) -> int:
     """How many shares stand one below another, as far as can be seen; a mapper may make more."""
     if isinstance(observable, (RefCount, Published)):
-        return 1 + level(observable._share.source)
+        return 1 + observable._share.level
     return max([3 if observable._hides else 0, *map(level, observable._below())])
 
 
@@ -115,7 +125,10 @@ class Published(ConnectableObservable):
         return False
 
     def _open(self, at: At) -> None:
-        if not self._share.open(at):
+        status = self._share.open(at)
+        if status == NO_HUB:
+            refuse(status)
+        if status:
             linked(self, at, [])
 
     def connect(self, scheduler: Any = None) -> Any:
@@ -132,6 +145,7 @@ class RefCount(Observable[Any]):
 
     def __init__(self, source: Any):
         self._share = _Share(to_observable(source), SHARED)
+        self._instead: Any = None  # what shares, by a subject, where no hub was left
 
     def _below(self) -> Any:
         return (self._share.source,)
@@ -140,5 +154,13 @@ class RefCount(Observable[Any]):
         return False
 
     def _open(self, at: At) -> None:
-        if not self._share.open(at):
+        is_instead = self._instead is not None and self._instead.is_connected
+        status = NO_HUB if is_instead else self._share.open(at)
+        if status == HUB_ORDER:
             linked(self, at, [])
+        elif status:
+            with _choosing:
+                if self._instead is None:
+                    from .subjects import Shared
+                    self._instead = Shared(self._share.source)
+            self._instead._open(at)
