@@ -157,6 +157,7 @@ class Maker:
         """What callbacks do from within."""
         rand, found = self.random, {}
         beside = self.manner == "beside"
+        is_interrupted = not {"concat_map_just", "merge_2_just"} & set(self.kinds.values())  # their inner sources would never end
         for k in sorted(self.kinds):
             if rand.random() > (0.35 if beside else 0.5):
                 continue
@@ -166,7 +167,7 @@ class Maker:
                 if self.manner == "plain":
                     if self.kinds[k] == "finally_action":
                         continue
-                    deed = ["interrupt"] if is_observer and chance < 0.1 else ["emit", rand.randrange(self.many), next(self.values)]
+                    deed = ["interrupt"] if is_observer and is_interrupted and chance < 0.1 else ["emit", rand.randrange(self.many), next(self.values)]
                 elif beside:
                     if is_observer and chance < 0.75:
                         deed = ["dispose", rand.choice(names)]

@@ -303,7 +303,7 @@ class World:
             self.close()
 
     def close(self):
-        self.step("serve", ("emit", 0, 0))  # what an interrupt left is told with the next call
+        self.rx.empty().subscribe_()  # what an interrupt left is told with the next call
         self.heard_before_the_end = [list(it.heard) for it in self.observers]
         for _ in range(3):
             try:
@@ -348,5 +348,5 @@ class World:
 
     def report(self):
         """What is compared, and what was reached."""
-        return {"notes": self.told, "raised": [it for it in self.raised if it[0] not in ("serve", "close")], "made": len(self.resources),
+        return {"notes": self.told, "raised": [it for it in self.raised if it[0] != "close"], "made": len(self.resources),
                 "found": self.found, "hooked": sorted(self.hooked), "reached": dict(self.reached), "is_long": self.notes > LONGEST}

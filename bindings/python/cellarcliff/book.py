@@ -208,7 +208,13 @@ class Calls(abc.ABC):
 # what the library wrote is read as words, by index.
 
 class _Handle(ctypes.Structure):
+    """The word of a book, for as long as anybody calls it: where the extension does, also behind its Book."""
+
     _fields_ = [("at", c_void_p)]
+
+    def __del__(self) -> None:
+        if self.at:
+            _Library.get().drop(addressof(self))
 
 
 class Node(ctypes.Structure):
@@ -360,10 +366,6 @@ class Book(Calls):
         self.close()
         self._library.drop(self._at)
 
-    def __del__(self) -> None:
-        if hasattr(self, "_at"):
-            self._library.drop(self._at)  # of what keeps nothing any more it is nothing
-
     # what every call ends with
 
     def _hear(self, status: int) -> None:
@@ -475,12 +477,15 @@ class Book(Calls):
             self._hear(status)
 
     def end(self, leaf: Any, error: Optional[int] = None) -> None:
+        _fits(error or 0, 0, 2**32 - 1)
         self._event(self._end, leaf, error is not None, error or 0)
 
     def abort(self, node: Any, error: int) -> None:
+        _fits(error, 0, 2**32 - 1)
         self._event(self._library.abort, node, error)
 
     def fail(self, merging: Any, error: int) -> None:
+        _fits(error, 0, 2**32 - 1)
         self._event(self._library.fail, merging, error)
 
     def decline(self, merging: Any) -> None:

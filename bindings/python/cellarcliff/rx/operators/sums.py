@@ -126,7 +126,7 @@ def average(key_mapper: Predicate = None) -> Operator[float]:
 
     def result(cell: List[Any]) -> Any:
         total, many = cell[0]
-        return total / many if many else _raises(Exception("The input sequence was empty"))
+        return total / many if many else _none()
     return _at_end(lambda: (0, 0), add, result)
 
 

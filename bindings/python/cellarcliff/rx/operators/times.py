@@ -214,7 +214,7 @@ def delay_with_mapper(subscription_delay: Any = None, delay_duration_mapper: Opt
             if first is None:
                 begin()
             else:
-                delays.append(link.subscribe(first, begin, None, begin))
+                delays.append(link.subscribe(first, begin, None, lambda: link.follow(begin)))
         return Linked(run, source, name="delay_with_mapper")
     return operate
 
@@ -376,7 +376,7 @@ def _timed(make: Callable[[Any], Callable[[Any], Any]], scheduler: Any) -> Opera
     def operate(source: Any) -> Observable[Any]:
         def run(link: Link) -> None:
             function = make(clock(link, scheduler))
-            link.subscribe(source, lambda value: link.on_next(function(value)), scheduler=scheduler)
+            link.subscribe(source, lambda value: link.on_next(function(value)))
         return Linked(run, source)
     return operate
 

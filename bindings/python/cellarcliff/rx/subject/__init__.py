@@ -8,7 +8,7 @@ from ..._nearest import lacking
 from .._cellar import LEAF
 from .._engine import At, C, Leaf
 from .._functions import chained
-from .._observable import Observable
+from .._observable import Observable, create
 from .._observer import Observer
 from ..internal import DisposedException
 
@@ -77,6 +77,16 @@ class Subject(_Base, Observable[S], Observer):
         self._open_with(at, ())
 
     def _open_with(self, at: At, makes: Any) -> bool:
+        if type(self)._subscribe_core is Subject._subscribe_core:
+            return self._open_here(at, makes)
+        create(self._subscribe_core, at, makes)
+        return True
+
+    def _subscribe_core(self, observer: Any, scheduler: Any = None) -> Any:
+        """What a subclass may put something before, as in RxPY."""
+        return _Itself(self).subscribe(observer, scheduler=scheduler)
+
+    def _open_here(self, at: At, makes: Any) -> bool:
         self.check_disposed()
         leaf = Leaf(at.engine.core)
         at.engine.open(at, LEAF, leaf)
@@ -85,6 +95,7 @@ class Subject(_Base, Observable[S], Observer):
                 self._solos = {}
             solos = self._solos
             solos[leaf] = at.solo
+            leaf.is_solo = at.solo.is_solo = True
             leaf.on_closed = lambda: solos.pop(leaf, None)
         up = chained(makes, leaf) if makes else leaf
         if not leaf.is_stopped and not self._join(up, leaf):
@@ -134,6 +145,18 @@ class Subject(_Base, Observable[S], Observer):
     def __repr__(self) -> str:
         state = "disposed" if self.is_disposed else "ended" if self.is_stopped else "open"
         return f"<{type(self).__name__}: {state}, {len(self._ups)} observers>"
+
+
+class _Itself(Observable[Any]):
+    """A subject without what a subclass put before it."""
+
+    _is_hot = True
+
+    def __init__(self, subject: "Subject[Any]"):
+        self._subject = subject
+
+    def _open_with(self, at: At, makes: Any) -> bool:
+        return self._subject._open_here(at, makes)
 
 
 class BehaviorSubject(Subject[S]):
@@ -209,6 +232,9 @@ class AsyncSubject(Subject[S]):
 
     def _on_completed_core(self) -> None:
         self.is_stopped = True
+        C.call(self._tell_all)
+
+    def _tell_all(self) -> None:
         for up, _ in tuple(self._ups.values()):
             self._tell_end(up)
 

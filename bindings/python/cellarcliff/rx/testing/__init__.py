@@ -17,7 +17,7 @@ from ..._nearest import lacking
 from .._observable import Observable, create
 from .._notification import OnCompleted, OnError, OnNext
 from ..disposable import CompositeDisposable, Disposable, SingleAssignmentDisposable
-from ..internal import Missing
+from ..internal import ArgumentOutOfRangeException, Missing
 from ..scheduler import Scheduler
 
 
@@ -155,6 +155,13 @@ class VirtualTimeScheduler(Scheduler):
 
     def advance_by(self, time: Any) -> None:
         self.advance_to(self.clock + self.to_seconds(time))
+
+    def sleep(self, time: Any) -> None:
+        """Puts the clock on, and does no work."""
+        seconds = self.to_seconds(time)
+        if seconds < 0:
+            raise ArgumentOutOfRangeException()
+        self.clock += seconds
 
 
 class HistoricalScheduler(VirtualTimeScheduler):

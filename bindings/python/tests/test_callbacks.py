@@ -1,0 +1,343 @@
+"""What callbacks do from within, and what comes of it: each by its smallest program."""
+import asyncio
+import gc
+import threading
+import time
+import unittest
+import weakref
+
+from cellarcliff import rx
+from cellarcliff.rx import operators as ops
+from cellarcliff.rx.disposable import Disposable
+from cellarcliff.rx.internal import SequenceContainsNoElementsError
+from cellarcliff.rx.subject import AsyncSubject, BehaviorSubject, ReplaySubject, Subject
+from tests.kits import fresh_engine, is_exact, is_model
+
+
+class Case(unittest.TestCase):
+    def setUp(self):
+        self.engine = rx.use(fresh_engine())
+        self.unhandled = []
+        rx.set_error_hook(self.unhandled.append)
+
+    def tearDown(self):
+        rx.set_error_hook(None)
+        self.engine.close()
+        counts = self.engine.counts()
+        self.assertEqual((counts.nodes, counts.held, counts.waiting, counts.accepted), (0, 0, 0, counts.taken))
+
+
+class HandedOut(Case):
+    """What the engine hands out may be another item than the one that was emitted."""
+
+    def test_an_item_from_within_an_operator(self):
+        subject, heard, told = Subject(), [], []
+
+        def mapper(value):
+            heard.append(value)
+            if value == 1:
+                subject.on_next(2)
+                subject.on_next(3)
+            return rx.of(("inner", value))
+        subject.pipe(ops.map(mapper), ops.merge(max_concurrent=1)).subscribe(told.append)
+        subject.on_next(1)
+        subject.on_next(4)
+        self.assertEqual((heard, told), ([1, 2, 3, 4], [("inner", it) for it in (1, 2, 3, 4)]))
+
+    def test_an_item_from_within_a_share(self):
+        source, other, log = Subject(), Subject(), []
+        hub = source.pipe(ops.share())
+        hub.subscribe(lambda it: (log.append(("a", it)), other.on_next("two") if it == "one" else None))
+        rx.merge(hub, other).subscribe(lambda it: log.append(("b", it)))
+        source.on_next("one")
+        self.assertEqual(log, [("a", "one"), ("b", "one"), ("b", "two")])
+
+    def test_an_observer_that_is_interrupted(self):
+        subject, one, other = Subject(), [], []
+
+        def interrupted(value):
+            one.append(value)
+            if value == "the first":
+                raise KeyboardInterrupt
+        subject.subscribe(interrupted)
+        subject.subscribe(other.append)
+        with self.assertRaises(KeyboardInterrupt):
+            subject.on_next("the first")
+        subject.on_next("the second")
+        self.assertEqual(other, ["the first", "the second"])
+        self.assertEqual(one, other)  # an interrupt is not the observer's fault
+
+    @unittest.skipIf(is_model(), "its history would be long")
+    def test_threads_that_emit_through_concat_map(self):
+        many, subject, told = 300, Subject(), []
+        subject.pipe(ops.concat_map(rx.just)).subscribe(told.append)
+
+        def emit(first):
+            for i in range(many):
+                subject.on_next((first, i))
+        threads = [threading.Thread(target=emit, args=(it,)) for it in range(4)]
+        for it in threads:
+            it.start()
+        for it in threads:
+            it.join()
+        self.assertEqual(sorted(told), [(it, i) for it in range(4) for i in range(many)])
+
+    def test_an_interrupt_leaves_what_is_shared(self):
+        subject, told = Subject(), []
+        for share in ops.multicast(subject_factory=lambda _: Subject(), mapper=lambda it: it), rx.pipe(ops.replay(buffer_size=1), ops.ref_count()):
+            hub = subject.pipe(share, ops.share())
+            hub.subscribe(told.append)
+
+            def interrupted(value):
+                if value == 1:
+                    raise KeyboardInterrupt
+            hub.subscribe(interrupted)
+            del told[:]
+            for value in 1, 2, 3:
+                try:
+                    subject.on_next(value)
+                except KeyboardInterrupt:
+                    pass
+            self.assertEqual(told, [1, 2, 3])
+            self.engine.close()
+
+
+class InTheMidst(Case):
+    def test_nobody_is_told_in_the_midst_of_an_item(self):
+        one, other, log = Subject(), Subject(), []
+
+        def hear(value):
+            log.append(("begins", value))
+            if len(log) == 1:
+                other.on_next(7)
+            log.append(("ends", value))
+        rx.merge(one, one).subscribe(hear)
+        other.pipe(ops.map(rx.just), ops.merge(max_concurrent=2)).subscribe()
+        one.on_next(1)
+        self.assertEqual(log, [("begins", 1), ("ends", 1)] * 2)
+
+
+class Connectables(Case):
+    """Each subscriber has operators of its own behind what several share."""
+
+    def shares(self):
+        return {"replay": ops.replay(), "multicast": ops.multicast(Subject()), "publish_value": ops.publish_value(0), "publish": ops.publish()}
+
+    def test_operators_with_a_state(self):
+        for name, share in self.shares().items():
+            for operators in (ops.skip(1),), (ops.map(lambda it: it), ops.distinct_until_changed(), ops.take(2)), (ops.scan(lambda a, b: a + b),):
+                source, told = Subject(), [[], [], []]
+                hub = source.pipe(share)
+                for it in told[:2]:
+                    hub.pipe(*operators).subscribe(it.append)
+                source.pipe(*operators).subscribe(told[2].append)
+                hub.connect()
+                if name == "publish_value":  # it tells 0 first
+                    del told[2]
+                for value in 1, 1, 2, 2, 3:
+                    source.on_next(value)
+                self.assertTrue(told[0])
+                self.assertEqual(told, [told[0]] * len(told), name)
+                self.engine.close()
+
+    def test_a_mapper(self):
+        for operator in ops.publish(lambda it: rx.zip(it, it.pipe(ops.skip(1)))), ops.replay(lambda it: rx.zip(it, it.pipe(ops.skip(1)))):
+            source, told = Subject(), []
+            source.pipe(operator).subscribe(told.append)
+            for value in 1, 2, 3:
+                source.on_next(value)
+            self.assertEqual(told, [(1, 2), (2, 3)])
+
+
+class Resource:
+    def __init__(self):
+        self.is_released = False
+
+    def dispose(self):
+        self.is_released = True
+
+
+class Releases(Case):
+    """The release comes behind the last item that needs it, wherever it stands."""
+
+    @unittest.skipIf(is_model(), "it is slow")
+    def test_items_at_the_end(self):
+        at_end = {"last": ops.last(), "to_list": ops.to_list(), "reduce": ops.reduce(lambda _, it: it), "buffer": ops.buffer_with_count(5),
+                  "take_last": ops.take_last(1), "single": ops.single(), "max_by": ops.max_by(id), "first": ops.first()}
+        around = {"alone": lambda it: it, "flat_map": lambda it: rx.of(0).pipe(ops.flat_map(lambda _: it)), "merge": lambda it: rx.merge(it, rx.empty()),
+                  "concat": lambda it: rx.concat(it, rx.empty()), "share": lambda it: it.pipe(ops.share()), "defer": lambda it: rx.defer(lambda _: it),
+                  "switch": lambda it: rx.of(0).pipe(ops.flat_map_latest(lambda _: it)), "concat_map": lambda it: rx.of(0).pipe(ops.concat_map(lambda _: it)),
+                  "replay": lambda it: it.pipe(ops.replay(), ops.ref_count()), "take_until": lambda it: it.pipe(ops.take_until(rx.never()))}
+        held = {"using": lambda: rx.using(Resource, rx.of), "finally_action": None,
+                "inside defer": lambda: rx.defer(lambda _: rx.using(Resource, rx.of)), "inside flat_map": lambda: rx.of(1).pipe(ops.flat_map(lambda _: rx.using(Resource, rx.of)))}
+
+        def with_finally():
+            it = Resource()
+            return rx.of(it).pipe(ops.finally_action(it.dispose))
+        held["finally_action"] = with_finally
+        for name, operator in at_end.items():
+            for place, wrap in around.items():
+                for what, make in held.items():
+                    told = []
+
+                    def hear(value):
+                        it = value[0] if isinstance(value, list) else value
+                        told.append((it, it.is_released))
+                    wrap(make().pipe(operator)).subscribe(hear)
+                    self.assertEqual([released for _, released in told], [False], (name, place, what))
+                    self.assertTrue(told[0][0].is_released)
+
+    def test_a_notifier_that_completes_is_released(self):
+        log = []
+        source = Subject()
+        notifier = rx.using(lambda: Disposable(lambda: log.append("released")), lambda _: rx.empty())
+        source.pipe(ops.take_until(notifier)).subscribe(log.append)
+        source.on_next(1)
+        self.assertEqual(log, ["released", 1])
+
+    def test_a_factory_that_fails_is_heard_by_functions_behind_it(self):
+        def fails():
+            raise KeyError("no resource")
+        told = []
+        rx.of(0).pipe(ops.flat_map(lambda _: rx.using(fails, rx.of).pipe(ops.materialize(), ops.map(lambda it: it.kind)))).subscribe(told.append)
+        self.assertEqual(told, ["E"])
+
+
+class InSteps(Case):
+    """range(), generate() and repeat_value() go on behind what is put off meanwhile."""
+
+    def told(self, observable):
+        got = []
+        observable.subscribe(got.append, lambda error: got.append(repr(error)), lambda: got.append("end"))
+        return got
+
+    def test_they_interleave(self):
+        self.assertEqual(self.told(rx.merge(rx.range(3), rx.range(10, 13))), [0, 10, 1, 11, 2, 12, "end"])
+        self.assertEqual(self.told(rx.merge(rx.repeat_value("a", 2), rx.repeat_value("b", 2))), ["a", "b", "a", "b", "end"])
+        self.assertEqual(self.told(rx.range(3).pipe(ops.with_latest_from(rx.of("x")))), [(1, "x"), (2, "x"), "end"])
+
+    def test_what_has_no_end_is_ended(self):
+        endless = rx.generate(0, lambda _: True, lambda it: it + 1)
+        self.assertEqual(self.told(rx.range(0, 10 ** 9).pipe(ops.take_until(rx.of(2)))), [0, "end"])
+        self.assertEqual(self.told(rx.repeat_value("a").pipe(ops.take_until(rx.of(2)))), ["end"])
+        self.assertEqual(self.told(rx.zip(endless, rx.of("a", "b"))), [(0, "a"), (1, "b"), "end"])
+
+    def test_repeat_value_is_begun_anew(self):
+        twice = rx.repeat_value(1, 2)
+        self.assertEqual([self.told(twice), self.told(twice)], [[1, 1, "end"]] * 2)
+
+    def test_a_function_of_generate_fails(self):
+        self.assertEqual(self.told(rx.generate(1, lambda _: True, lambda _: 1 / 0)), [1, "ZeroDivisionError('division by zero')"])
+
+
+class Small(Case):
+    def test_each_kind_of_subject_raises_what_an_observer_raised(self):
+        for make in Subject, ReplaySubject, lambda: BehaviorSubject(None), AsyncSubject:
+            subject, told = make(), []
+
+            def fails(value):
+                if value is not None:
+                    raise KeyError(value)
+            subject.subscribe(fails)
+            subject.subscribe(told.append)
+            with self.assertRaises(KeyError):
+                subject.on_next(1)
+                subject.on_completed()
+            self.assertEqual(told[-1], 1)
+        self.assertEqual(self.unhandled, [])
+
+    def test_the_average_of_nothing(self):
+        told = []
+        rx.empty().pipe(ops.average()).subscribe(on_error=lambda error: told.append(type(error)))
+        self.assertEqual(told, [SequenceContainsNoElementsError])
+
+    def test_a_clock_of_time_interval_is_not_the_sources(self):
+        from cellarcliff.rx.testing import TestScheduler
+        for operator in ops.timestamp, ops.time_interval:
+            told = []
+            rx.of(1).pipe(operator(scheduler=TestScheduler())).subscribe(lambda it: told.append(it.value))
+            self.assertEqual(told, [1])
+
+    @unittest.skipIf(is_model(), "it is slow")
+    def test_diamonds_of_shares(self):
+        cell = Subject()
+        for _ in range(30):
+            cell = rx.zip(cell, cell).pipe(ops.map(lambda it: it[0]), ops.share())
+        began = time.process_time()
+        cell.subscribe().dispose()
+        self.assertLess(time.process_time() - began, 5)
+
+    @unittest.skipIf(is_model(), "it is slow")
+    def test_more_shares_than_hubs(self):
+        source, told = Subject(), []
+        shares = [source.pipe(ops.share()) for _ in range(600)]
+        subscriptions = [it.subscribe(told.append) for it in shares for _ in range(2)]
+        self.assertEqual(len(source.observers), 600)
+        source.on_next(1)
+        self.assertEqual(told, [1] * 1200)
+        for it in subscriptions:
+            it.dispose()
+        self.assertEqual((len(source.observers), self.engine.counts().nodes), (0, 0))
+        ended = rx.of(1).pipe(ops.share())
+        for it in shares:
+            it.subscribe()
+        for _ in range(2):  # connected anew
+            del told[:]
+            ended.subscribe(told.append)
+            self.assertEqual(told, [1])
+
+    def test_a_subject_with_a_way_of_its_own_to_subscribe(self):
+        class Loud(Subject):
+            def _subscribe_core(self, observer, scheduler=None):
+                observer.on_next("hello")
+                return super()._subscribe_core(observer, scheduler)
+        subject, told = Loud(), []
+        subscription = subject.pipe(ops.map(str)).subscribe(told.append)
+        subject.on_next(1)
+        subscription.dispose()
+        subject.on_next(2)
+        self.assertEqual(told, ["hello", "1"])
+
+    @unittest.skipUnless(is_exact(), "by ctypes an engine holds what it tells")
+    def test_an_object_that_subscribes_to_its_own_subject_is_collected(self):
+        class View:
+            def __init__(self, operators):
+                self.subject, self.heard = Subject(), None
+                self.subscription = self.subject.pipe(*operators).subscribe(self.hear)
+
+            def hear(self, value):
+                self.heard = value
+        for operators in (), (ops.map(lambda it: it), ops.scan(lambda _, it: it)):
+            views = [View(operators) for _ in range(20)]
+            known = [weakref.ref(it) for it in views]
+            gc.collect()
+            for it in views:
+                it.subject.on_next(1)
+            self.assertEqual([it.heard for it in views], [1] * 20)
+            del views, it
+            gc.collect()
+            self.assertEqual([it() for it in known], [None] * 20)
+            self.assertEqual((self.engine.counts().nodes, self.engine.core.kept), (0, 0))
+
+    def test_an_engine_that_was_exchanged_is_closed_at_the_end(self):
+        from cellarcliff.rx import _engine
+        log = []
+        engine = rx.use(fresh_engine())
+        rx.using(lambda: Disposable(lambda: log.append("released")), lambda _: rx.never()).subscribe()
+        rx.use(fresh_engine())
+        self.assertIn(engine, _engine._former)
+        _engine._at_exit()
+        self.assertEqual(log, ["released"])
+        rx.use(self.engine)
+        self.assertNotIn(engine, _engine._former)
+
+    def test_a_future_of_a_loop_that_has_ended(self):
+        async def wait():
+            rx.from_future(asyncio.get_running_loop().create_future()).subscribe()
+        asyncio.run(wait())
+        self.engine.close()
+        self.assertEqual(self.unhandled, [])
+
+
+if __name__ == "__main__":
+    unittest.main()
