@@ -21,7 +21,7 @@ NOTHING_KEPT, NO_MEMORY, FULL, GONE, NOTHING_OWED, NO_HUB, HUB_ORDER, CONNECTED,
 INSIDE, ROOM, NONE, UNKNOWN_HUB = 1 << 63, 8, 2**64 - 1, 2**64 - 1
 #: Of an answer, in words.
 CLOSINGS, LANES, EFFECT = 10, 18, 26
-_ABI, _SIZES = 0x10000, (8, 64, 256, 32, 64, 32)
+_ABI, _SIZES = 0x20000, (8, 64, 256, 32, 64, 32)
 CALLS = "abi size new make take give_up left rest totals event dump finish drop".split()
 _ARGUMENTS = {
     "new": [c_void_p, c_uint32], "make": [c_void_p] * 3, "take": [c_void_p, c_uint64, c_uint64, c_void_p, c_void_p],

@@ -55,7 +55,7 @@ pub const INSIDE: u64 = 1 << 63;
 pub const UNKNOWN_HUB: u64 = u64::MAX;
 /// A key that names nothing.
 pub const NOTHING: Key = Key { slot: u64::MAX, number: u64::MAX };
-const ABI: u32 = 0x0001_0000;
+const ABI: u32 = 0x0002_0000;
 
 /// An engine. Dropping it loses what still stands in it, which is numbers.
 pub struct Crossing {
