@@ -8,7 +8,7 @@ use Rattle.rx_event.specs.Totals.{open_count, held_count}
 use Rattle.rx_roles.specs.declared.effect.Effect.{Effect as Sent}
 use Rattle.rx_roles.specs.declared.effect.What.{What}
 use Rattle.rx_roles.specs.declared.effect.What.TheVariants.{Release}
-use Rattle.rx_engine.specs.States.{State}
+use Rattle.rx_engine.specs.States.{State, IsPromised}
 use Rattle.rx_engine.specs.Checkpoints.{IsCheckpointMade}
 use Rattle.rx_typed.specs.Codes.{refusal_status}
 use Rattle.rx_cellar.specs.declared.shapes.Command.{Command}
@@ -42,8 +42,11 @@ abbrev pub counts_from : Result ℕ Refusal → State → Cellar → Cellar
 counts_from (Ok at) e s = record s { engine = e; at = at; until = option_map (λ _. most_since e) s.until }
 counts_from (Err why) e s = record s { engine = e }
 
+-- one was asked for, and is counted from where it was made; before it and behind it the engine keeps its promise
 pub record Tidies (s t : Cellar) (answer : Result ℕ Refusal) : Type 0 where
+  pub stood : IsPromised s.engine
   pub made : IsCheckpointMade s.engine t.engine answer
+  pub stands : IsPromised t.engine
   pub counts : t ≡ counts_from answer t.engine s
 
 -- whatever is answered to that

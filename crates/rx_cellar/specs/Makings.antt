@@ -17,7 +17,7 @@ use Rattle.rx_engine.specs.declared.parts.User.{User}
 use Rattle.rx_engine.specs.declared.parts.Used.{Used}
 use Rattle.rx_engine.specs.declared.sharing.Subscribed.{Subscribed}
 use Rattle.rx_engine.specs.declared.sharing.Connected.{Connected}
-use Rattle.rx_engine.specs.States.{State}
+use Rattle.rx_engine.specs.States.{State, IsPromised}
 use Rattle.rx_engine.specs.Commands.{IsFreeMade, IsCostlyMade}
 use Rattle.rx_roles.specs.declared.effect.Effect.{Effect as Sent}
 use Rattle.rx_engine.specs.Handings.{IsNextHanded}
@@ -84,11 +84,12 @@ IsSubscribed g at share user by s t answer = Shows (IsSubscribeMade g at share u
 abbrev pub IsConnected : Ghosts Token → Share → User → (by : ℕ) → State → State → Result Made Refusal → Type 0
 IsConnected g share user by s t answer = Shows (IsConnectMade g share user by s t) of_connected answer
 
--- where a share finds no hub, the hubs are made first, and then it is asked again
+-- where a share finds no hub, the hubs are made first, and then it is asked again; between these the engine keeps its promise
 pub data WithHubs (g : Ghosts Token) (by : ℕ) (is : State → State → Result Made Refusal → Type 0) (s t : State) : Result Made Refusal → Type 0 where
   found_one : {answer : Result Made Refusal} → answer ≢ Err NoHub → is s t answer → WithHubs g by is s t answer
-  made_none : {why : Refusal} (u : State) → is s u (Err NoHub) → AreHubsMade {A = Unit} g by u t (Err why) → WithHubs g by is s t (Err why)
-  made_all : {answer : Result Made Refusal} (u v : State) (ok : Unit) → is s u (Err NoHub) → AreHubsMade {A = Unit} g by u v (Ok ok) → is v t answer → WithHubs g by is s t answer
+  made_none : {why : Refusal} (u : State) → is s u (Err NoHub) → IsPromised u → AreHubsMade {A = Unit} g by u t (Err why) → WithHubs g by is s t (Err why)
+  made_all : {answer : Result Made Refusal} (u v : State) (ok : Unit) → is s u (Err NoHub) → IsPromised u → AreHubsMade {A = Unit} g by u v (Ok ok) → IsPromised v →
+      is v t answer → WithHubs g by is s t answer
 
 abbrev pub IsLeaseAnswered : Ghosts Token → ResKey → (by : ℕ) → State → State → Result LeaseKey Refusal → Type 0
 IsLeaseAnswered g res by s t answer =

@@ -31,7 +31,10 @@ impl Cellar {
                 answer.hand(given);
                 UNTAKEN
             }
-            None => self.make(command, answer),
+            None => {
+                self.promise();
+                self.make(command, answer)
+            }
         }
     }
 }

@@ -56,15 +56,20 @@ impl Cellar {
     fn checkpoint(&mut self) -> Result<u64, Refusal>
         ensures { Tidies self.old self.new result }
     {
+        self.engine.promise();
         match self.engine.checkpoint() {
             Ok(at) => {
+                self.engine.promise();
                 self.at = at;
                 if self.until.is_some() {
                     self.until = Some(most_since(&self.engine));
                 }
                 Ok(at)
             }
-            Err(why) => Err(why),
+            Err(why) => {
+                self.engine.promise();
+                Err(why)
+            }
         }
     }
 

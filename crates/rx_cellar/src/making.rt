@@ -162,8 +162,12 @@ fn subscribe(
     if !wants_hubs(first) {
         return first;
     }
+    engine.promise();
     match engine.make_hubs(by) {
-        Ok(()) => subscribe_once(engine, at, share, hint, user, by),
+        Ok(()) => {
+            engine.promise();
+            subscribe_once(engine, at, share, hint, user, by)
+        }
         Err(why) => Err(why),
     }
 }
@@ -193,8 +197,12 @@ fn connect(
     if !wants_hubs(first) {
         return first;
     }
+    engine.promise();
     match engine.make_hubs(by) {
-        Ok(()) => connect_once(engine, share, hint, user, by),
+        Ok(()) => {
+            engine.promise();
+            connect_once(engine, share, hint, user, by)
+        }
         Err(why) => Err(why),
     }
 }

@@ -18,7 +18,9 @@ returns-in-Ok c =
     let yes : c.wants_hubs.result ≡ true = search rules in
     made_all c.connect_once-first.new.engine c.make_hubs.new.self c.in-Ok.field-0
     (subst (λ (r : Result Made Refusal). IsConnected ghosts c.args.share c.args.user c.args.by c.args.engine.now c.connect_once-first.new.engine r) (c.wants_hubs.ensures.none yes) c.connect_once-first.ensures)
+    c.promise.ensures
     (subst (λ (r : Result Unit Refusal). AreHubsMade ghosts c.args.by c.connect_once-first.new.engine c.make_hubs.new.self r) c.in-Ok.is c.make_hubs.ensures)
+    c.promise-in-Ok.ensures
     c.connect_once.ensures
 
 pub returns-in-Err : goal.returns-in-Err
@@ -27,4 +29,5 @@ returns-in-Err c =
     let yes : c.wants_hubs.result ≡ true = search rules in
     made_none c.connect_once-first.new.engine
     (subst (λ (r : Result Made Refusal). IsConnected ghosts c.args.share c.args.user c.args.by c.args.engine.now c.connect_once-first.new.engine r) (c.wants_hubs.ensures.none yes) c.connect_once-first.ensures)
+    c.promise.ensures
     (subst (λ (r : Result Unit Refusal). AreHubsMade ghosts c.args.by c.connect_once-first.new.engine c.make_hubs.new.self r) c.in-Err.is c.make_hubs.ensures)
