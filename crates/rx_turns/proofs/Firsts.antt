@@ -1,0 +1,49 @@
+-- Who is first on a list stands there, and whose list has one has a line.
+use Rattle.std.proofs.Common.{◌≡◌, ◌≢◌, ℕ, ◌+◌, ◌<◌, ◌≤◌, ◌==◌, ◌||◌, Bool, true, false, cond, List, [], ◌∷◌, length, Option, Some, None, IfSome, refl, ap, sym, ◌∙◌, subst, arith, ◌⊎◌, inl, inr}
+use Rattle.std.specs.Prelude.{slice_index_or}
+use Rattle.std.proofs.lemmas.List.{get_or_past}
+use Rattle.std.proofs.lemmas.Bool.{cases_lt, eq-eqb}
+use Rattle.rx_slots.specs.Lists.{Lists, list_at, is_in, head_of, IsPlain}
+use Rattle.rx_turns.specs.declared.agenda.Turn.{Turn}
+use Rattle.rx_turns.specs.declared.agenda.Row.{Row}
+use Rattle.rx_turns.specs.Rows.{blank, row_on, own_line, HasLine}
+
+some_is : (a b : ℕ) → Some a ≡ Some b → a ≡ b
+some_is a b same = ap (λ (o : Option ℕ). or_zero o) same
+  where
+    or_zero : Option ℕ → ℕ
+    or_zero None = 0
+    or_zero (Some n) = n
+
+first_is_in : (m : ℕ) (xs : List ℕ) → Some m ≡ head_of xs → is_in m xs ≡ true
+first_is_in m [] is = absurd (cc)
+first_is_in m (x ∷ xs) is = ap (λ b. b || is_in m xs) (eq-eqb m x (some_is m x is))
+
+-- a first one is below the bound of all
+pub first_below : (o : Option ℕ) (lists : Lists) (line : ℕ) → IsPlain lists → o ≡ head_of (list_at lists line) → IfSome o (λ place. place < lists.members)
+first_below None lists line plain is = tt
+first_below (Some m) lists line plain is = plain.below line m (first_is_in m (list_at lists line) is)
+
+there_by : (m line : ℕ) (lists : Lists) → Some m ≡ head_of (list_at lists line) → (line < length lists.lists) ⊎ (length lists.lists ≤ line) → line < length lists.lists
+there_by m line lists is (inl within) = within
+there_by m line lists is (inr past) =
+    let none : Some m ≡ None = is ∙ ap head_of (get_or_past lists.lists line [] past) in
+    absurd (cc)
+
+-- whose list has a first one has a line
+pub first_line : (o : Option ℕ) (lists : Lists) (rows : List Row) (line : ℕ) (turn : Turn) → length lists.lists ≡ length rows → line ≡ own_line turn rows →
+    o ≡ head_of (list_at lists line) → IfSome o (λ _. HasLine turn rows)
+first_line None lists rows line turn listed at is = tt
+first_line (Some m) lists rows line turn listed at is =
+    let there = there_by m line lists is (cases_lt line (length lists.lists)) in omega (arith, there, listed, at)
+
+served_by : (word : ℕ) (rows : List Row) (line : ℕ) → Some word ≡ (row_on rows line).in_hand → (line < length rows) ⊎ (length rows ≤ line) → line < length rows
+served_by word rows line is (inl within) = within
+served_by word rows line is (inr past) =
+    let none : Some word ≡ None = is ∙ ap (λ (r : Row). r.in_hand) (get_or_past rows line blank past) in
+    absurd (cc)
+
+-- and who serves a lane has one
+pub served_line : (o : Option ℕ) (rows : List Row) (turn : Turn) → o ≡ (row_on rows (own_line turn rows)).in_hand → IfSome o (λ _. HasLine turn rows)
+served_line None rows turn is = tt
+served_line (Some word) rows turn is = served_by word rows (own_line turn rows) is (cases_lt (own_line turn rows) (length rows))

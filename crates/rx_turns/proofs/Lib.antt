@@ -1,0 +1,10 @@
+pub mod Lines
+pub mod Renamed
+pub mod Claimed
+pub mod Held
+pub mod Grown
+pub mod Firsts
+pub mod Asked
+pub mod Promised
+pub mod Others
+pub mod DueOnce

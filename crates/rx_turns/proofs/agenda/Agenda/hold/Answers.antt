@@ -1,0 +1,10 @@
+use Rattle.std.proofs.Common.{◌≡◌, ◌<◌, sym, ◌∙◌, subst, length, arith, rules, ap, ℕ}
+use Rattle.rx_turns.specs.Rows.{HasLine, own_line}
+use Rattle.rx_turns.proofs.Held.{held, apart_held, line_held}
+use Rattle.rx_turns.proofs.agenda.Agenda.hold.Goals as goal
+
+pub returns-clause-holds : goal.returns-clause-holds
+returns-clause-holds c =
+    let line : c.own_line-line.result ≡ own_line c.args.turn c.args.self.now.rows.items = search rules in
+    let there = c.requires in
+    rw (c.row_on-row.ensures, c.deref-2.ensures.value) (held c.args.turn c.args.word c.own_line-line.result c.args.self.now.rows.items c.args.self.now.lists c.args.self.now.words.items line (omega (arith, line, there)))

@@ -1,0 +1,5 @@
+pub mod Rows
+pub mod Agendas
+pub mod Seen
+pub mod Serving
+pub mod Promises

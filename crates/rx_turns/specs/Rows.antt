@@ -1,0 +1,57 @@
+-- Whose each line of an agenda is. No public clause cites this module but by `Agendas`.
+use Rattle.std.specs.Prelude.{◌≡◌, ℕ, ◌<◌, ◌==◌, ◌&&◌, Bool, true, false, List, [], length, Option, Some, None, slice_index_or}
+use Rattle.std.specs.List.{position_or_len}
+use Rattle.rx_slots.specs.Lists.{Lists, list_at}
+use Rattle.rx_turns.specs.declared.agenda.Turn.{Turn}
+use Rattle.rx_turns.specs.declared.agenda.Row.{Row}
+
+abbrev pub is_same : Turn → Turn → Bool
+is_same a b = a.by == b.by && a.depth == b.depth
+
+abbrev pub is_its : Turn → Option Turn → Bool
+is_its t None = false
+is_its t (Some u) = is_same t u
+
+abbrev pub is_of : Turn → Row → Bool
+is_of t r = is_its t r.turn
+
+-- nobody's
+abbrev pub blank : Row
+blank = record { turn = None; in_hand = None }
+
+abbrev pub row_on : List Row → ℕ → Row
+row_on rows line = slice_index_or rows line blank
+
+-- the line of a turn: where its row stands; behind all rows where it has none
+abbrev pub own_line : Turn → List Row → ℕ
+own_line t rows = position_or_len (is_of t) rows
+
+-- no two rows are of one turn
+abbrev pub HaveOneRowEach : List Row → Type 0
+HaveOneRowEach rows = (t : Turn) (i j : ℕ) → is_of t (row_on rows i) ≡ true → is_of t (row_on rows j) ≡ true → i ≡ j
+
+-- what is due to a turn, and what it serves
+abbrev pub due_on : List Row → Lists → Turn → List ℕ
+due_on rows lists t = list_at lists (own_line t rows)
+
+abbrev pub hand_on : List Row → Turn → Option ℕ
+hand_on rows t = (row_on rows (own_line t rows)).in_hand
+
+-- it has one
+abbrev pub HasLine : Turn → List Row → Type 0
+HasLine t rows = own_line t rows < length rows
+
+-- whoever asks is told the same
+pub record KeepsRows (old new : List Row) (lists : Lists) : Type 0 where
+  pub due : (t : Turn) → due_on new lists t ≡ due_on old lists t
+  pub hands : (t : Turn) → hand_on new t ≡ hand_on old t
+  pub apart : HaveOneRowEach new
+  pub many : length new ≡ length old
+
+-- so many lines more, which are blank
+pub record Grows (old new : List Row) (lists lists' : Lists) : Type 0 where
+  pub due : (t : Turn) → due_on new lists' t ≡ due_on old lists t
+  pub hands : (t : Turn) → hand_on new t ≡ hand_on old t
+  pub apart : HaveOneRowEach new
+  pub listed : length lists'.lists ≡ length new
+  pub members : lists'.members ≡ lists.members
