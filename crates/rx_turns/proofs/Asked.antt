@@ -1,5 +1,5 @@
 -- Lanes that are due are asked one after another.
-use Rattle.std.proofs.Common.{◌≡◌, ℕ, zero, suc, ◌+◌, ◌<◌, ◌≤◌, ◌==◌, Bool, true, false, cond, List, [], ◌∷◌, length, Option, Some, None, refl, ap, sym, ◌∙◌, subst, arith}
+use Rattle.std.proofs.Common.{◌≡◌, ℕ, suc, ◌<◌, ◌≤◌, ◌==◌, Bool, true, false, cond, List, [], ◌∷◌, length, Option, Some, None, refl, ap, sym, ◌∙◌, arith}
 use Rattle.std.proofs.Math.Bool.{not}
 use Rattle.std.proofs.lemmas.Bool.{eq-eqb}
 use Rattle.rx_slots.specs.Lists.{head_of, take_out}
@@ -8,7 +8,7 @@ use Rattle.rx_cellar.specs.declared.cellar.Cellar.{Cellar}
 use Rattle.rx_cellar.specs.Serving.{IsTaken}
 use Rattle.rx_turns.specs.declared.agenda.Turn.{Turn}
 use Rattle.rx_turns.specs.Agendas.{DueLists, due_to, lane_word, IsDueNoMore, TakesUp}
-use Rattle.rx_turns.specs.Serving.{TakesDue, nothing_due, has_one, has_none}
+use Rattle.rx_turns.specs.Serving.{TakesDue, has_one, has_none}
 
 -- a list by its first
 pub record BeginsWith (place : ℕ) (xs : List ℕ) : Type 0 where

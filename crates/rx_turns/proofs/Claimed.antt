@@ -1,5 +1,5 @@
 -- A lane leaves its list, and comes to the end of another.
-use Rattle.std.proofs.Common.{◌≡◌, ◌≢◌, ℕ, zero, suc, ◌+◌, ◌<◌, ◌≤◌, ◌==◌, ◌&&◌, ◌||◌, Bool, true, false, cond, List, [], ◌∷◌, ◌++◌, length, Option, Some, None, refl, ap, sym, ◌∙◌, subst, arith, ◌⊎◌, inl, inr, rules}
+use Rattle.std.proofs.Common.{◌≡◌, ℕ, ◌<◌, ◌==◌, ◌||◌, Bool, true, false, cond, List, [], ◌∷◌, ◌++◌, length, refl, ap, sym, ◌∙◌}
 use Rattle.std.specs.Prelude.{slice_index_or, slice_set}
 use Rattle.std.proofs.Math.Bool.{not}
 use Rattle.std.proofs.lemmas.List.{get_or-set_same, get_or-set_other}
@@ -7,8 +7,8 @@ use Rattle.std.proofs.lemmas.Bool.{false≢true, eqb-true, eq-eqb}
 use Rattle.rx_slots.specs.Lists.{Lists, list_at, is_in, take_out}
 use Rattle.rx_turns.specs.declared.agenda.Turn.{Turn}
 use Rattle.rx_turns.specs.declared.agenda.Row.{Row}
-use Rattle.rx_turns.specs.Rows.{is_same, own_line, KeepsRows, due_on}
-use Rattle.rx_turns.specs.Agendas.{DueLists, Claims}
+use Rattle.rx_turns.specs.Rows.{is_same, own_line, KeepsRows}
+use Rattle.rx_turns.specs.Agendas.{Claims}
 use Rattle.rx_turns.proofs.Lines.{line_tells}
 
 gone_by : (m x : ℕ) (xs : List ℕ) (b : Bool) → (m == x) ≡ b → is_in m (take_out m xs) ≡ false →

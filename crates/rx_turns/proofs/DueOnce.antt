@@ -1,12 +1,10 @@
 -- A lane is due to one turn.
-use Rattle.std.proofs.Common.{◌≡◌, ℕ, ◌<◌, ◌≤◌, Bool, true, false, List, [], length, refl, ap, sym, ◌∙◌, subst, arith, ◌⊎◌, inl, inr}
+use Rattle.std.proofs.Common.{◌≡◌, ℕ, ◌<◌, ◌≤◌, true, List, [], length, refl, ap, sym, ◌∙◌, arith, ◌⊎◌, inl, inr}
 use Rattle.std.proofs.lemmas.List.{get_or_past}
 use Rattle.std.proofs.lemmas.Bool.{cases_lt, false≢true}
 use Rattle.rx_slots.specs.Lists.{Lists, list_at, is_in, IsPlain}
-use Rattle.rx_turns.specs.declared.agenda.Turn.{Turn}
 use Rattle.rx_turns.specs.declared.agenda.Row.{Row}
 use Rattle.rx_turns.specs.Rows.{row_on, own_line}
-use Rattle.rx_turns.specs.Agendas.{DueLists}
 use Rattle.rx_turns.specs.Promises.{IsDueOnce}
 use Rattle.rx_turns.proofs.Lines.{row_is, one_turn}
 

@@ -8,3 +8,4 @@ pub mod Asked
 pub mod Promised
 pub mod Others
 pub mod DueOnce
+pub mod ClaimedAll

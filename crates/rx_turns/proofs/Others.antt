@@ -1,15 +1,15 @@
 -- Who serves a turn leaves all others alone.
-use Rattle.std.proofs.Common.{◌≡◌, ◌≢◌, ℕ, ◌==◌, ◌||◌, Bool, true, false, cond, List, [], ◌∷◌, Option, Some, None, refl, ap, sym, ◌∙◌, subst, ◌⊎◌, inl, inr}
+use Rattle.std.proofs.Common.{◌≡◌, ℕ, ◌==◌, ◌||◌, Bool, true, false, cond, List, [], ◌∷◌, Option, Some, None, refl, ap, sym, ◌∙◌}
 use Rattle.std.proofs.Math.Bool.{not}
-use Rattle.std.proofs.lemmas.Bool.{false≢true, eq-eqb, eqb-true, false_from_ne_true}
+use Rattle.std.proofs.lemmas.Bool.{false≢true, eq-eqb, false_from_ne_true}
 use Rattle.rx_slots.specs.Lists.{is_in, take_out}
 use Rattle.rx_cellar.specs.declared.shapes.Effect.{Effect}
 use Rattle.rx_cellar.specs.declared.cellar.Cellar.{Cellar}
 use Rattle.rx_turns.specs.declared.agenda.Turn.{Turn}
 use Rattle.rx_turns.specs.Rows.{is_same}
-use Rattle.rx_turns.specs.Agendas.{DueLists, due_to, in_hand, lane_word, IsDueNoMore, TakesUp, Holds}
+use Rattle.rx_turns.specs.Agendas.{DueLists, due_to, in_hand, lane_word}
 use Rattle.rx_turns.specs.Serving.{TakesDue, nothing_due, has_one, has_none, Serves, goes_on, ends_lane, serves_none}
-use Rattle.rx_turns.specs.Promises.{IsHandedOf, HandsFrom, ServesWhatItHands, IsDueOnce, LeavesOthersAlone}
+use Rattle.rx_turns.specs.Promises.{HandsFrom, ServesWhatItHands, IsDueOnce, LeavesOthersAlone}
 use Rattle.rx_turns.proofs.Lines.{is_same-self}
 
 -- what is handed out -----------------------------------------------------------------------------------------

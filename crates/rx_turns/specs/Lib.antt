@@ -3,3 +3,4 @@ pub mod Agendas
 pub mod Seen
 pub mod Serving
 pub mod Promises
+pub mod Making

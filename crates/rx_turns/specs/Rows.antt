@@ -1,5 +1,5 @@
 -- Whose each line of an agenda is. No public clause cites this module but by `Agendas`.
-use Rattle.std.specs.Prelude.{◌≡◌, ℕ, ◌<◌, ◌==◌, ◌&&◌, Bool, true, false, List, [], length, Option, Some, None, slice_index_or}
+use Rattle.std.specs.Prelude.{◌≡◌, ℕ, ◌<◌, ◌==◌, ◌&&◌, Bool, true, false, List, length, Option, Some, None, slice_index_or}
 use Rattle.std.specs.List.{position_or_len}
 use Rattle.rx_slots.specs.Lists.{Lists, list_at}
 use Rattle.rx_turns.specs.declared.agenda.Turn.{Turn}

@@ -1,11 +1,9 @@
 -- What a turn is handed next: of the lane that it serves, or else of the first lane that has something among those due to it.
-use Rattle.std.specs.Prelude.{◌≡◌, ℕ, cond, List, [], ◌∷◌, Option, Some, None}
-use Rattle.rx_slots.specs.Lists.{take_out}
+use Rattle.std.specs.Prelude.{◌≡◌, ℕ, List, [], ◌∷◌, Option, Some, None}
 use Rattle.rx_cellar.specs.declared.shapes.Effect.{Effect}
 use Rattle.rx_cellar.specs.declared.cellar.Cellar.{Cellar}
 use Rattle.rx_cellar.specs.Serving.{IsTaken}
 use Rattle.rx_turns.specs.declared.agenda.Turn.{Turn}
-use Rattle.rx_turns.specs.Rows.{is_same}
 use Rattle.rx_turns.specs.Agendas.{DueLists, due_to, in_hand, lane_word, Holds, IsDueNoMore, TakesUp}
 
 -- lanes that are due are asked in order: those that have nothing are due no more, and the first that has something is served; or none has

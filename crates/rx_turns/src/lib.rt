@@ -10,6 +10,7 @@
 //! - A lane is **due** to a turn that is to serve it, and **in hand** of the turn that serves it. What is due to whom is the
 //!   **agenda** (`specs/Agendas.antt`): to each turn the places of lanes, in the order in which they were claimed.
 //! - A lane is **claimed** for a turn: then it is due to that one, behind all others, and to no other turn (`Claims`).
+//! - A command of a turn claims the lanes that its answer names ([`Turns::make`], `specs/Making.antt`).
 //! - A turn is **served** ([`Turns::serve`], `specs/Serving.antt`): the lane in hand is asked first, then those that are due.
 //!
 //! # Promises
@@ -22,11 +23,12 @@
 //!
 //! # Not promised
 //!
-//! That words of stacks differ, and that a face calls at the depth at which it is: that is the face's own.
+//! Where the agenda has no room for a lane the lane is left out, which [`Done`] tells. That words of stacks differ, and that a face calls at the depth at which it is: that is the face's own.
 #![tactic(auto)]
 
 mod agenda;
 mod laws;
+mod making;
 mod serving;
 mod turns;
 
@@ -35,4 +37,4 @@ pub use laws::{
     nothing_is_left_where_nothing_is_handed_out, other_turns_keep_theirs,
     turns_are_served_by_takes, what_is_handed_out_is_of_the_lane_in_hand,
 };
-pub use turns::Turns;
+pub use turns::{Done, Turns};

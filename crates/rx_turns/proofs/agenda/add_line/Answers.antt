@@ -1,6 +1,3 @@
-use Rattle.std.proofs.Common.{◌≡◌, sym, ◌∙◌, subst}
-use Rattle.rx_slots.specs.Lists.{Lists}
-use Rattle.rx_turns.specs.Rows.{Grows}
 use Rattle.rx_turns.proofs.Grown.{grows}
 use Rattle.rx_turns.proofs.agenda.add_line.Goals as goal
 

@@ -1,5 +1,4 @@
-use Rattle.std.proofs.Common.{◌≡◌, ◌≤◌, ◌+◌, length, vec_capacity}
-use Rattle.rx_turns.specs.Rows.{HaveOneRowEach, Grows}
+use Rattle.std.proofs.Common.{vec_capacity}
 use Rattle.rx_turns.proofs.Grown.{HaveGrown}
 use Rattle.rx_turns.proofs.agenda.add_lines.Given as goal
 

@@ -1,6 +1,4 @@
-use Rattle.std.proofs.Common.{◌≡◌, ◌<◌, ◌≤◌, length, arith, sym, rules}
-use Rattle.rx_turns.specs.Rows.{own_line}
-use Rattle.rx_turns.specs.declared.agenda.Row.{Row}
+use Rattle.std.proofs.Common.{◌<◌, length, sym, rules}
 use Rattle.rx_turns.proofs.Renamed.{IsFree, line_given, kept_given}
 use Rattle.rx_turns.proofs.agenda.line_for.Goals as goal
 

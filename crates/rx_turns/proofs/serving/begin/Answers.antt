@@ -1,5 +1,4 @@
-use Rattle.std.proofs.Common.{◌≡◌, ◌<◌, ℕ, Some, None, length, ap, sym, subst}
-use Rattle.rx_slots.specs.Lists.{take_out}
+use Rattle.std.proofs.Common.{◌<◌, ℕ, Some, None, length, ap, sym, subst}
 use Rattle.rx_cellar.specs.Serving.{IsTaken}
 use Rattle.rx_turns.specs.Agendas.{due_to}
 use Rattle.rx_turns.specs.Seen.{seen}

@@ -1,4 +1,3 @@
-use Rattle.std.proofs.Common.{◌≡◌, None}
 use Rattle.rx_turns.specs.Seen.{seen}
 use Rattle.rx_turns.specs.Serving.{goes_on, ends_lane}
 use Rattle.rx_turns.proofs.serving.go_on.Goals as goal

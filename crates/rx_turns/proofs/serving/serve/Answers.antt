@@ -1,4 +1,4 @@
-use Rattle.std.proofs.Common.{◌≡◌, sym}
+use Rattle.std.proofs.Common.{sym}
 use Rattle.rx_turns.specs.Seen.{seen}
 use Rattle.rx_turns.specs.Serving.{serves_none}
 use Rattle.rx_turns.proofs.serving.serve.Goals as goal

@@ -1,6 +1,6 @@
-use Rattle.std.proofs.Common.{◌≡◌, ◌≤◌, ◌<◌, ℕ, length, arith, sym, ◌∙◌, ap, rules, false}
+use Rattle.std.proofs.Common.{◌≡◌, ◌≤◌, ◌<◌, ℕ, arith, sym, ◌∙◌, ap, rules}
 use Rattle.std.proofs.lemmas.Bool.{false≢true}
-use Rattle.rx_slots.specs.Lists.{list_at, is_in, take_out}
+use Rattle.rx_slots.specs.Lists.{list_at, is_in}
 use Rattle.rx_turns.proofs.Claimed.{claimed, take_out-gone}
 use Rattle.rx_turns.proofs.agenda.Agenda.claim.Goals as goal
 

@@ -1,4 +1,4 @@
-use Rattle.std.proofs.Common.{◌≡◌, rules}
+use Rattle.std.proofs.Common.{rules}
 use Rattle.rx_turns.proofs.Firsts.{first_below, first_line}
 use Rattle.rx_turns.proofs.agenda.Agenda.first.Goals as goal
 

@@ -1,6 +1,6 @@
-use Rattle.std.proofs.Common.{◌≡◌, ◌<◌, sym, ◌∙◌, subst, length, arith, rules, ap, ℕ}
-use Rattle.rx_turns.specs.Rows.{HasLine, own_line}
-use Rattle.rx_turns.proofs.Held.{held, apart_held, line_held}
+use Rattle.std.proofs.Common.{◌≡◌, arith, rules}
+use Rattle.rx_turns.specs.Rows.{own_line}
+use Rattle.rx_turns.proofs.Held.{held}
 use Rattle.rx_turns.proofs.agenda.Agenda.hold.Goals as goal
 
 pub returns-clause-holds : goal.returns-clause-holds

@@ -1,4 +1,4 @@
-use Rattle.std.proofs.Common.{◌≡◌, rules}
+use Rattle.std.proofs.Common.{rules}
 use Rattle.rx_turns.proofs.Firsts.{served_line}
 use Rattle.rx_turns.proofs.agenda.Agenda.served.Goals as goal
 
