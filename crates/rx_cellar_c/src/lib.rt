@@ -9,11 +9,15 @@
 //! - Each call is one line of `specs/Calls.antt`: what the handle keeps before and after it, and what is told.
 //! - A handle owns what it keeps. Otherwise no pointer is kept: all that a call uses is the caller's, or given back
 //!   before it answers.
+//! - Any calls on one handle are a course of its engine ([`calls_are_courses`], `specs/Courses.antt`): each tag is
+//!   released once, each effect told once, and in order in its lane. A refused command changes nothing
+//!   ([`refused_calls_change_nothing`]).
 //! - What a C caller must ensure is in the header: no clause can say it.
 #![tactic(auto)]
 
 mod handing;
 mod handle;
+mod laws;
 mod loose;
 mod making;
 mod reading;
@@ -22,6 +26,10 @@ mod serving;
 mod tests;
 
 pub use handle::CellarHandle;
+pub use laws::{
+    calls_are_courses, effects_are_told_in_order, effects_are_told_once,
+    refused_calls_change_nothing, tags_are_released_once,
+};
 pub use making::{
     cellar_abi, cellar_drop, cellar_finish, cellar_make, cellar_make_behind, cellar_new,
     cellar_size,

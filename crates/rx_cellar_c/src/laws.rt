@@ -1,0 +1,48 @@
+//! Laws of the calls on a handle, which no call needs and a caller may cite.
+
+ghost use Rattle.rx_cellar_c.specs.Courses.{AreCallsCourses, AreEffectsToldInOrder, AreEffectsToldOnce, AreTagsReleasedOnce};
+ghost use Rattle.rx_cellar_c.specs.Refusals.{RefusedCallsChangeNothing};
+
+use rx_book::Resource;
+use rx_courses::{each_is_told_once, tags_once, tells_in_order};
+use rx_resource::Token;
+
+/// Any calls on one handle, from `cellar_new` on and without `cellar_drop`, are a course of its engine, in which the
+/// same tags are handed in, and the same effects told and given back. So each law of `rx_courses` holds of them.
+pub fn calls_are_courses()
+    ensures { AreCallsCourses ⟦<Token as Resource>⟧ }
+{}
+
+/// Of any calls on one handle, from `cellar_new` until `cellar_finish` is done and without `cellar_drop`: by whatever
+/// test, as many effects were told, by `cellar_take` or with an answer, as the commands put into lanes, and as were
+/// given back by `cellar_give_up`.
+pub fn effects_are_told_once()
+    ensures { AreEffectsToldOnce ⟦<Token as Resource>⟧ }
+{
+    each_is_told_once();
+}
+
+/// Of any calls on one handle, from `cellar_new` on and without `cellar_drop`, where who gives an effect back gives what
+/// was told last of that lane: of each lane all but releases, which may come before their turn, was told, or waits
+/// there, in the order in which the commands put it there.
+pub fn effects_are_told_in_order()
+    ensures { AreEffectsToldInOrder ⟦<Token as Resource>⟧ }
+{
+    tells_in_order();
+}
+
+/// Of any calls on one handle, from `cellar_new` until `cellar_finish` is done and without `cellar_drop`: for each tag,
+/// as many releases of it were told and not given back as it was handed in with the status 0.
+pub fn tags_are_released_once()
+    ensures { AreTagsReleasedOnce ⟦<Token as Resource>⟧ }
+{
+    each_is_told_once();
+    tags_once();
+}
+
+/// A call of `cellar_make` with a status that is not 0 tells nothing, and changes nothing but room, a checkpoint and
+/// the hubs of shares. Where it changed room alone, whatever may follow it may follow the engine before it, and the
+/// other way round (`refused_is_unchanged` of `rx_courses`).
+pub fn refused_calls_change_nothing()
+    ensures { RefusedCallsChangeNothing ⟦<Token as Resource>⟧ }
+{}
