@@ -2,8 +2,9 @@
 
     .ci/phases                    runs `rt ci` at the top of the repository
     .ci/phases rt must-fail NAME  runs that, as an example
-    .ci/phases --aloud            runs `rt ci` and passes on what it says, as .ci/run does: the line that ends
-                                  a crate gets its times, and no table follows
+    .ci/phases --aloud            runs `rt ci` and passes on what it says, as .ci/run does: first comes how long it
+                                  will take by what is kept; the line that ends a crate gets its times; before the
+                                  last line stands what was proved anew, and no table follows
 
 It looks twice a second at the programs that the command starts. A phase is the proof of a crate, the
 proof of its tests, its edits or its runs. The first table has a line for each crate, the second a line
@@ -20,10 +21,13 @@ import sys
 import threading
 import time
 
+import expected
+
 TICK = os.sysconf("SC_CLK_TCK")
 PAGE = os.sysconf("SC_PAGE_SIZE")
 KINDS = ("proof", "tests", "edits", "runs")
 ENDS = re.compile(r"rt: (\w+)(?:(: its tests) are)? (?:NOT )?(?:proved|PROVED)$")
+LAST = re.compile(r"\d+ passed, \d+ failed")
 
 
 class Process:
@@ -205,14 +209,30 @@ def with_times(line, phases, now):
     return f"{line} ({took}at {clock(now)})"
 
 
+def what_is_new(proved, now):
+    """What a run proved, of what its lines said."""
+    if not proved:
+        return f"gate: proved nothing anew, in {clock(now)}"
+    crates, tests = ([crate for crate, its_tests in proved if bool(its_tests) == of_tests] for of_tests in (False, True))
+    parts = [*(["crates " + " ".join(crates)] if crates else []), *(["the tests of " + " ".join(tests)] if tests else [])]
+    return f"gate: proved anew, in {clock(now)}: {'; '.join(parts)}"
+
+
 def aloud(command):
     """Runs the command and passes on what it says, a line at a time."""
-    start, phases = time.monotonic(), {}
+    if command == ["rt", "ci"]:
+        print(f"gate: {expected.sentence()}", flush=True)
+    start, phases, proved = time.monotonic(), {}, []
     gate = subprocess.Popen(command, stdout=subprocess.PIPE, stderr=subprocess.STDOUT, stdin=subprocess.DEVNULL)
     threading.Thread(target=watch, args=(gate, phases, start), daemon=True).start()
     try:
         for line in gate.stdout:
             said = line.decode(errors="replace").rstrip("\n")
+            ended = ENDS.match(said)
+            if ended and said.endswith(" proved"):
+                proved.append(ended.groups())
+            if LAST.match(said):
+                print(what_is_new(proved, time.monotonic() - start))
             print(with_times(said, phases, time.monotonic() - start), flush=True)
     except KeyboardInterrupt:
         stop(gate)
