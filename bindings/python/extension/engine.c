@@ -38,9 +38,6 @@ static struct {
   uint8_t (*left)(struct cellar *, uint64_t, uint64_t *, uint64_t *);
   uint8_t (*rest)(struct cellar *, uint8_t, uint64_t, uint64_t *, size_t, uint64_t *);
   uint8_t (*totals)(struct cellar *, struct cellar_totals *);
-  uint8_t (*event)(struct cellar *, uint64_t, struct cellar_event *);
-  uint8_t (*dump)(struct cellar *, uint8_t *, size_t, uint64_t *);
-  uint8_t (*finish)(struct cellar *);
   void (*drop)(struct cellar *);
 } calls;
 
@@ -1201,67 +1198,10 @@ static PyObject *core_totals(Core *self, PyObject *unused) {
   if (self->generation == generation) calls.totals(&self->engine, &t);
   return Py_BuildValue("(KKKKKKKK)", t.nodes, t.held, t.waiting, t.leases, t.accepted, t.taken, t.events, t.effects);
 }
-/* The calls themselves, as bytes, for the courses that each crossing runs: a command: (status, answer, closings, lanes). */
-static PyObject *words_of(Core *self, uint8_t which, uint64_t many, const uint64_t *first) {
-  PyObject *bytes = PyBytes_FromStringAndSize(NULL, (Py_ssize_t)(many * 8));
-  uint64_t here = many < CELLAR_ROOM ? many : CELLAR_ROOM, count;
-  if (!bytes) return NULL;
-  memcpy(PyBytes_AsString(bytes), first, here * 8);
-  if (many > here) calls.rest(&self->engine, which, here, (uint64_t *)(void *)PyBytes_AsString(bytes) + here, many - here, &count);
-  return bytes;
-}
-static PyObject *core_raw_make(Core *self, PyObject *given) {
-  struct cellar_command c;
-  struct cellar_answer a;
-  if (!PyBytes_Check(given) || PyBytes_Size(given) != sizeof c) return PyErr_Format(PyExc_TypeError, "the bytes of a command are wanted");
-  memcpy(&c, PyBytes_AsString(given), sizeof c);
-  memset(&a, 0, sizeof a);
-  uint8_t status = calls.make(&self->engine, &c, &a);
-  PyObject *closings = words_of(self, 0, status ? 0 : a.closed, a.closings), *lanes = words_of(self, 1, status ? 0 : a.due, a.lanes);
-  if (!closings || !lanes) return NULL;
-  return Py_BuildValue("(iy#NN)", status, (const char *)&a, (Py_ssize_t)sizeof a, closings, lanes);
-}
-static PyObject *core_raw_take(Core *self, PyObject *given) {
-  unsigned long long lane, by;
-  struct cellar_effect e;
-  uint64_t many;
-  if (!PyArg_ParseTuple(given, "KK", &lane, &by)) return NULL;
-  calls.take(&self->engine, lane, by, &e, &many);
-  return PyBytes_FromStringAndSize((const char *)&e, many ? (Py_ssize_t)sizeof e : 0);
-}
-static PyObject *core_raw_give_up(Core *self, PyObject *given) {
-  unsigned long long lane, by;
-  const char *bytes;
-  Py_ssize_t size;
-  struct cellar_effect e = {0};
-  uint64_t is_left = 0;
-  if (!PyArg_ParseTuple(given, "KKy#", &lane, &by, &bytes, &size)) return NULL;
-  if (size == (Py_ssize_t)sizeof e) memcpy(&e, bytes, sizeof e);
-  uint8_t status = calls.give_up(&self->engine, lane, by, &e, size ? 1 : 0, &is_left);
-  return Py_BuildValue("(iK)", status, (unsigned long long)is_left);
-}
-static PyObject *core_raw_left(Core *self, PyObject *from) {
-  uint64_t at, lane, next;
-  if (!number(from, &at)) return NULL;
-  calls.left(&self->engine, at, &lane, &next);
-  return Py_BuildValue("(KK)", (unsigned long long)lane, (unsigned long long)next);
-}
-static PyObject *core_dump(Core *self, PyObject *unused) {
+/* Where the engine is, for the calls that ctypes makes on it as well: none is on the way of an item. */
+static PyObject *core_address(Core *self, void *unused) {
   (void)unused;
-  uint64_t size = 0;
-  uint8_t none[8];
-  uint8_t status = calls.dump(&self->engine, none, 0, &size);
-  if (status != CELLAR_SMALL && status != CELLAR_DONE) return refused(status), NULL;
-  PyObject *bytes = PyBytes_FromStringAndSize(NULL, (Py_ssize_t)size);
-  if (bytes && (status = calls.dump(&self->engine, (uint8_t *)PyBytes_AsString(bytes), size, &size))) {
-    Py_CLEAR(bytes);
-    refused(status);
-  }
-  return bytes;
-}
-static PyObject *core_finish(Core *self, PyObject *unused) {
-  (void)unused;
-  return PyLong_FromLong(calls.finish(&self->engine));
+  return PyLong_FromVoidPtr(&self->engine);
 }
 static PyObject *core_new(PyTypeObject *type, PyObject *given, PyObject *named) {
   (void)named;
@@ -1287,9 +1227,8 @@ static PyMethodDef core_methods[] = {
     {"open", FAST(core_open), METH_FASTCALL, NULL}, {"using", FAST(core_using), METH_FASTCALL, NULL}, {"hold", FAST(core_hold), METH_FASTCALL, NULL},
     {"share", FAST(core_share), METH_FASTCALL, NULL}, {"do", FAST(core_do), METH_FASTCALL, NULL}, {"put", FAST(core_put), METH_FASTCALL, NULL},
     {"serve_left", (PyCFunction)core_serve_left, METH_NOARGS, NULL}, {"totals", (PyCFunction)core_totals, METH_NOARGS, NULL},
-    {"dump", (PyCFunction)core_dump, METH_NOARGS, NULL},
-    {"raw_make", (PyCFunction)core_raw_make, METH_O, NULL}, {"raw_take", (PyCFunction)core_raw_take, METH_VARARGS, NULL},
-    {"raw_give_up", (PyCFunction)core_raw_give_up, METH_VARARGS, NULL}, {"raw_left", (PyCFunction)core_raw_left, METH_O, NULL}, {"finish", (PyCFunction)core_finish, METH_NOARGS, NULL}, {NULL, NULL, 0, NULL}};
+    {NULL, NULL, 0, NULL}};
+static PyGetSetDef core_getset[] = {{"address", (getter)core_address, NULL, NULL, NULL}, {NULL, NULL, NULL, NULL, NULL}};
 static PyMemberDef core_members[] = {{"kept", T_LONGLONG, offsetof(Core, kept), READONLY, NULL}, {NULL, 0, 0, 0, NULL}};
 
 /* This thread ------------------------------------------------------------------------------------------------------------------*/
@@ -1503,7 +1442,7 @@ DEALLOC(Root, root_clear, PyObject_ClearWeakRefs((PyObject *)self))
 DEALLOC(Emitter, emitter_clear, )
 DEALLOC(Chain, chain_clear, PyMem_Free(self->kinds))
 #define COLLECTED(Name, name) {Py_tp_dealloc, Name##_dealloc}, {Py_tp_methods, name##_methods}, {Py_tp_traverse, name##_traverse}, {Py_tp_clear, name##_clear}
-static PyType_Slot core_slots[] = {{Py_tp_new, core_new}, {Py_tp_dealloc, core_dealloc}, {Py_tp_methods, core_methods}, {Py_tp_members, core_members}, {0, NULL}};
+static PyType_Slot core_slots[] = {{Py_tp_new, core_new}, {Py_tp_dealloc, core_dealloc}, {Py_tp_methods, core_methods}, {Py_tp_getset, core_getset}, {Py_tp_members, core_members}, {0, NULL}};
 static PyMemberDef key_members[] = {{"number", T_ULONGLONG, offsetof(Key, node.number), READONLY, NULL}, {NULL, 0, 0, 0, NULL}};
 static PyType_Slot key_slots[] = {{Py_tp_members, key_members}, {0, NULL}};
 static PyType_Slot root_slots[] = {COLLECTED(Root, root), {Py_tp_init, root_init}, {Py_tp_getset, root_getset}, {Py_tp_members, root_members}, {0, NULL}};

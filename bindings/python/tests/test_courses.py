@@ -1,7 +1,6 @@
 """The thousand courses of an engine that each crossing runs before anything else: by ctypes and by the extension."""
 import json
 import pathlib
-import struct
 import unittest
 
 from tests import kits
@@ -25,26 +24,16 @@ class ByCtypes:
         return self.give_up_(lane, by, untold), None
 
 
-class ByExtension:
+class ByExtension(ByCtypes):
+    """An engine that the extension made, and its own answer to what is open."""
+
     def __init__(self, events):
+        from cellarcliff.rx._cellar import Lent
         from cellarcliff.rx._crossing import C
         self._core = C.Core(events)
-        self.left, self.totals, self.finish = self._core.raw_left, self._core.totals, self._core.finish
-
-    def make(self, words):
-        status, answer, closings, lanes = self._core.raw_make(struct.pack("<8Q", *words))
-        of = lambda it: list(struct.unpack(f"<{len(it) // 8}Q", it))
-        return status, of(answer), of(closings), of(lanes)
-
-    def take(self, lane, by):
-        found = self._core.raw_take(lane, by)
-        if not found:
-            return None
-        user, value, of, kind, carries = struct.unpack("<3Q2I", found)
-        return user, value, of, kind, carries
-
-    def give_up(self, lane, by, untold):
-        return self._core.raw_give_up(lane, by, b"" if untold is None else struct.pack("<3Q2I", *untold))
+        self._calls = Lent(self._core)
+        self.take, self.give_up_, self.left, self.totals, self.finish = (
+            self._calls.take, self._calls.give_up, self._calls.left, self._core.totals, self._calls.finish)
 
 
 def numbers(it):

@@ -224,12 +224,14 @@ class Manners(unittest.TestCase):
 
     @unittest.skipIf(is_model(), "too slow")
     def test_too_many_hubs_say_why(self):
-        source, failures = Subject(), []
-        subscriptions = [source.pipe(ops.share()).subscribe(None, failures.append) for _ in range(600)]
-        self.assertEqual(len(failures), 600 - 512)
-        self.assertIn("no hub is left", str(failures[0]))
-        for it in subscriptions:
-            it.dispose()
+        source, failures = Subject(), {}
+        for operator in ops.publish, ops.share:
+            failures[operator] = []
+            subscriptions = [source.pipe(operator()).subscribe(None, failures[operator].append) for _ in range(600)]
+            for it in subscriptions:
+                it.dispose()
+        self.assertEqual((len(failures[ops.publish]), failures[ops.share]), (600 - 512, []))
+        self.assertIn("no hub is left", str(failures[ops.publish][0]))
 
     def test_shares_in_any_order(self):
         source, told = Subject(), []

@@ -22,7 +22,8 @@ INSIDE, ROOM, NONE, UNKNOWN_HUB = 1 << 63, 8, 2**64 - 1, 2**64 - 1
 #: Of an answer, in words.
 CLOSINGS, LANES, EFFECT = 10, 18, 26
 _ABI, _SIZES = 0x20000, (8, 64, 256, 32, 64, 32)
-CALLS = "abi size new make take give_up left rest totals event dump finish drop".split()
+#: Those that the extension makes, in its order.
+FAST = "abi size new make take give_up left rest totals drop".split()
 _ARGUMENTS = {
     "new": [c_void_p, c_uint32], "make": [c_void_p] * 3, "take": [c_void_p, c_uint64, c_uint64, c_void_p, c_void_p],
     "give_up": [c_void_p, c_uint64, c_uint64, c_void_p, c_uint64, c_void_p], "left": [c_void_p, c_uint64, c_void_p, c_void_p],
@@ -125,3 +126,14 @@ class Cellar:
     def finish(self) -> int:
         with self.lock:
             return int(self._library.cellar_finish(self._at))
+
+
+class Lent(Cellar):
+    """The calls on an engine of the extension's, under the lock that it has: the interpreter's."""
+
+    def __init__(self, core: Any) -> None:
+        self._library, self._core, self.lock = library(), core, threading.RLock()
+        self._at = core.address
+
+    def __del__(self) -> None:
+        pass  # it is the extension's

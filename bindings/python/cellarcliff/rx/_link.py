@@ -30,7 +30,7 @@ class Link:
         self.engine.open(at, LEAF, leaf)
         self._keeper = Root(at.engine.core, noop, noop, noop)
         self.engine.open(At(at.engine, ROOT, None, self._keeper, None), LEAF)
-        self.up = chained(makes, leaf)
+        self.up = chained(makes, _Last(self))
         self.on_next = self.up.on_next
 
     def _closed(self) -> None:
@@ -51,12 +51,12 @@ class Link:
         return bool(self.leaf.is_stopped)
 
     def on_error(self, error: Exception) -> None:
-        self._end(lambda: self.up.on_error(error))
+        self.up.on_error(error)
 
     def on_completed(self) -> None:
-        self._end(self.up.on_completed)
+        self.up.on_completed()
 
-    def _end(self, tell: Call) -> None:
+    def ends(self, tell: Call) -> None:
         """Ends; where that comes of a source's end behind what that releases, and hears of nothing till then."""
         if not self._is_ending:
             tell()
@@ -67,7 +67,7 @@ class Link:
         self.later(tell)
 
     def _heard_end(self, root: Any, call: Call, *error: Any) -> None:
-        """A source has ended: what comes of it is told before what the source held is released, but for an end."""
+        """A source has ended: items that come of it are told before what the source held is released."""
         self._roots.pop(root, None)
         if not root.is_over:  # it failed as it was subscribed to
             self.later(lambda: call(*error))
@@ -136,6 +136,21 @@ class Link:
         """Calls this behind what was told."""
         if not self.leaf.is_stopped:
             self.engine.put(self.leaf, call)
+
+
+class _Last:
+    """What the last function behind an operator tells."""
+
+    __slots__ = ("on_next", "_link")
+
+    def __init__(self, link: Link):
+        self.on_next, self._link = link.leaf.on_next, link
+
+    def on_error(self, error: Exception) -> None:
+        self._link.ends(lambda: self._link.leaf.on_error(error))
+
+    def on_completed(self) -> None:
+        self._link.ends(self._link.leaf.on_completed)
 
 
 class Linked(Observable[Any]):

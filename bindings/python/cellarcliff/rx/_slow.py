@@ -363,15 +363,6 @@ class Core:
     def totals(self) -> Tuple[int, ...]:
         return tuple(self.calls.totals()) if self._generation == _generation[0] else (0,) * 8
 
-    def dump(self) -> bytes:
-        status, found = self.calls.dump()
-        if status:
-            refuse(status)
-        return bytes(found)
-
-    def finish(self) -> int:
-        return int(self.calls.finish())
-
 
 def _release(thing: Any) -> None:
     if type(thing) is tuple:

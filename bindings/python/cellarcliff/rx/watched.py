@@ -20,7 +20,8 @@ import time
 import weakref
 from typing import Any, Callable, Dict, FrozenSet, List, NamedTuple, Optional
 
-from ..book import Refused
+from ._cellar import Lent
+from ._crossing import IS_EXTENSION
 from ._engine import At, Engine
 
 #: Packages whose lines are not the program's.
@@ -119,10 +120,8 @@ class Watched(Engine):
     def history(self) -> Optional[str]:
         """The history as a dump, which audit.audit() judges and audit.picture() draws: `node` of what was made is the place of an
         event in it. None where a checkpoint took events away."""
-        try:
-            return bytes(self.core.dump()).decode()
-        except Refused:
-            return None
+        status, found = (Lent(self.core) if IS_EXTENSION else self.core.calls).dump()
+        return None if status else bytes(found).decode()
 
     # what is remembered
 
