@@ -52,7 +52,7 @@ OPERATORS = {
     "fork_join": "ops.fork_join({e})", "sequence_equal": "ops.sequence_equal({e})", "take_until": "ops.take_until({e})",
     "skip_until": "ops.skip_until({e})", "sample": "ops.sample({h})", "sample_time": "ops.sample({s}, scheduler=w.clock)",
     "catch": "ops.catch(w.opens({k}, lambda error, source: {e}))", "catch_with": "(lambda source: rx.defer(lambda _: source.pipe(ops.catch({e}))))", "retry": "(lambda source: rx.defer(lambda _: source.pipe(ops.retry(2))))", "repeat": "ops.repeat(2)",
-    "on_error_resume_next": "(lambda source: rx.defer(lambda _: source.pipe(ops.on_error_resume_next({e}))))", "while_do": "ops.while_do(w.times({k}, {n}))", "do_while": "ops.do_while(w.times({k}, 1))",
+    "on_error_resume_next": "(lambda source: rx.defer(lambda _: source.pipe(ops.on_error_resume_next({e}))))", "while_do": "(lambda source: rx.defer(lambda _: source.pipe(ops.while_do(w.times({k}, {n})))))", "do_while": "(lambda source: rx.defer(lambda _: source.pipe(ops.do_while(w.times({k}, 1)))))",
     "take": "ops.take({n})", "skip": "ops.skip({n})", "take_last": "ops.take_last({n})", "skip_last": "ops.skip_last({n})", "first": "ops.first()",
     "first_or_default": "ops.first_or_default(w.test({k}), 0)", "last": "ops.last()", "last_or_default": "ops.last_or_default(None, 0)",
     "single": "ops.single()", "single_or_default": "ops.single_or_default(None, 0)", "single_or_default_async": "ops.single_or_default_async(True, 0)",
@@ -63,7 +63,7 @@ OPERATORS = {
     "to_list": "ops.to_list()", "to_iterable": "ops.to_iterable()", "to_set": "ops.map(str), ops.to_set()", "to_dict": "ops.to_dict(lambda it: str(it))",
     "take_last_buffer": "ops.take_last_buffer({n})", "pairwise": "ops.pairwise()", "distinct_until_changed": "ops.distinct_until_changed()",
     "ignore_elements": "ops.ignore_elements()", "take_while": "ops.take_while(w.times({k}, {n}))", "skip_while": "ops.skip_while(w.times({k}, {n}))",
-    "take_while_indexed": "ops.take_while_indexed(w.test({k}, lambda _, i: i < 2))", "skip_while_indexed": "ops.skip_while_indexed(w.test({k}, lambda _, i: i < 1))",
+    "take_while_indexed": "ops.take_while_indexed(w.test({k}, lambda _, i: i < 2))", "skip_while_indexed": "(lambda source: rx.defer(lambda _: source.pipe(ops.skip_while_indexed(w.test({k}, lambda _, i: i < 1)))))",
     "slice": "ops.slice(1, 3)", "materialize": "ops.materialize()", "starmap_indexed": "ops.map(lambda it: (it, it)), ops.starmap_indexed(lambda a, b, *_: b)",
     "pluck_attr": "ops.pluck_attr('real')", "zip_with_iterable": "ops.zip_with_iterable([1, 2, 3])", "zip_with_list": "ops.zip_with_list([1, 2, 3])",
     "expand": "ops.expand(w.opens({k}, lambda it: rx.empty() if isinstance(it, tuple) else rx.of((it,))))",
@@ -100,7 +100,8 @@ TRANSPARENT = list(itertools.takewhile(lambda it: it != "flat_map", OPERATORS))
 KINDS = "Subject Subject Subject BehaviorSubject ReplaySubject AsyncSubject".split()
 LEAVES = "subject subject subject subject shared of of from_iterable range just empty never throw repeat_value generate from_callable timer interval".split()
 #: Of which the page of differences has a row: rarely asked of RxPY.
-ROWED = "zip_of zip publish_value skip_until sample sample_time publish_of publish_counted share share_of partition".split()
+ROWED = ("zip_of zip publish_value skip_until sample sample_time publish_of publish_counted share share_of partition replay_counted multicast_counted "
+         "publish_value_counted").split()
 JOINS = "using using using defer merge_of concat_of zip_of combine_latest_of amb_of fork_join_of catch_of resume_of if_then case for_in create".split()
 
 
@@ -223,7 +224,7 @@ class Maker:
         return found
 
     def is_rare(self, form):
-        return self.manner == "beside" and form in ROWED and self.random.random() < 0.9
+        return self.manner == "beside" and form in ROWED and self.random.random() < 0.95
 
     def fill(self, form, depth):
         rand, found = self.random, []

@@ -143,7 +143,7 @@ class World:
 
     def subject(self, kind):
         of = self.kinds_of_subject
-        it = {"Subject": of.Subject, "BehaviorSubject": lambda: of.BehaviorSubject(None), "ReplaySubject": lambda: of.ReplaySubject(2),
+        it = {"Subject": of.Subject, "BehaviorSubject": lambda: of.BehaviorSubject(0), "ReplaySubject": lambda: of.ReplaySubject(2),
               "AsyncSubject": of.AsyncSubject}[kind]()
         self.subjects.append(it)
         return it

@@ -143,6 +143,17 @@ def a_subject_is_dropped(k, told):
     gc.collect()
 
 
+def two_ways_to_one_operator(k, told):
+    subject = k.Subject()
+    k.rx.combine_latest(subject.pipe(k.ops.amb(k.rx.never())), subject).subscribe(told.append)
+    subject.on_next(1)
+    subject.on_next(2)
+
+
+def filter_indexed_without_a_predicate(k, told):
+    k.rx.of(1).pipe(k.ops.filter_indexed()).subscribe(told.append, lambda error: told.append("error"))
+
+
 def one_of_a_group_raises(k, told):
     k.disposable.CompositeDisposable(failing(k, told, "a"), k.disposable.Disposable(lambda: told.append("b"))).dispose()
 
@@ -166,6 +177,8 @@ ROWS = {
     a_loop_that_waits_for_another_thread: (["with the loop's next event"], ["at once"]),
     a_composition_completes: ([1, "completed", "released"], [1, "released", "completed"]),
     a_subject_is_dropped: ([], ["released"]),
+    two_ways_to_one_operator: ([(1, 1), (2, 1), (2, 2)], [(1, 1), (1, 2), (2, 2)]),
+    filter_indexed_without_a_predicate: (["error"], [1]),
     one_of_a_group_raises: (["a", "raised"], ["a", "b", "raised"]),
 }
 
