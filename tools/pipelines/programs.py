@@ -37,7 +37,7 @@ OPERATORS = {
     "notes": "ops.materialize(), ops.dematerialize()", "windows": "ops.window_with_count({n}), ops.flat_map(lambda it: it)",
     "groups": "ops.group_by(lambda it: str(it)[-1:]), ops.flat_map(lambda it: it)", "buffers": "ops.buffer_with_count(1), ops.flat_map(lambda it: it)",
     "take_until_never": "ops.take_until(rx.never())", "default_if_empty": "ops.default_if_empty(None)", "expand_none": "ops.expand(lambda _: rx.empty())",
-    "distinct": "ops.distinct()", "starmap": "ops.map(lambda it: (it, it)), ops.starmap(lambda a, b: b)", "pluck": "ops.map(lambda it: [it]), ops.pluck(0)",
+    "starmap": "ops.map(lambda it: (it, it)), ops.starmap(lambda a, b: b)", "pluck": "ops.map(lambda it: [it]), ops.pluck(0)",
     "timestamp": "ops.timestamp(scheduler=w.clock), ops.map(lambda it: it.value)", "time_interval": "ops.time_interval(scheduler=w.clock), ops.map(lambda it: it.value)",
     "partition": "(lambda source: source.pipe(ops.partition(w.test({k})))[0])", "do": "ops.do(w.rx.core.Observer(w.item({k})))",
     # and those that are not
@@ -61,11 +61,12 @@ OPERATORS = {
     "contains": "ops.contains({v})", "is_empty": "ops.is_empty()", "count": "ops.count()", "sum": "ops.sum()", "average": "ops.average()",
     "reduce": "ops.reduce(w.pair({k}))", "max": "ops.max()", "min": "ops.min()", "max_by": "ops.max_by(w.item({k}))", "min_by": "ops.min_by(w.item({k}))",
     "to_list": "ops.to_list()", "to_iterable": "ops.to_iterable()", "to_set": "ops.map(str), ops.to_set()", "to_dict": "ops.to_dict(lambda it: str(it))",
-    "take_last_buffer": "ops.take_last_buffer({n})", "pairwise": "ops.pairwise()", "distinct_until_changed": "ops.distinct_until_changed()",
+    "take_last_buffer": "ops.take_last_buffer({n})", "pairwise": "ops.pairwise()", "distinct": "ops.distinct()", "distinct_until_changed": "ops.distinct_until_changed()",
     "ignore_elements": "ops.ignore_elements()", "take_while": "ops.take_while(w.times({k}, {n}))", "skip_while": "ops.skip_while(w.times({k}, {n}))",
     "take_while_indexed": "ops.take_while_indexed(w.test({k}, lambda _, i: i < 2))", "skip_while_indexed": "(lambda source: rx.defer(lambda _: source.pipe(ops.skip_while_indexed(w.test({k}, lambda _, i: i < 1)))))",
     "slice": "ops.slice(1, 3)", "materialize": "ops.materialize()", "starmap_indexed": "ops.map(lambda it: (it, it)), ops.starmap_indexed(lambda a, b, *_: b)",
-    "pluck_attr": "ops.pluck_attr('real')", "zip_with_iterable": "ops.zip_with_iterable([1, 2, 3])", "zip_with_list": "ops.zip_with_list([1, 2, 3])",
+    "pluck_attr": "ops.pluck_attr('real')", "zip_with_iterable": "(lambda source: rx.defer(lambda _: source.pipe(ops.zip_with_iterable([1, 2, 3]))))",
+    "zip_with_list": "(lambda source: rx.defer(lambda _: source.pipe(ops.zip_with_list([1, 2, 3]))))",
     "expand": "ops.expand(w.opens({k}, lambda it: rx.empty() if isinstance(it, tuple) else rx.of((it,))))",
     "buffer": "ops.buffer({h})", "buffer_when": "ops.buffer_when(w.opens({k}, lambda: {h}))", "buffer_toggle": "ops.buffer_toggle({h}, w.opens({k}, lambda _: {h}))",
     "buffer_with_count": "ops.buffer_with_count({n})", "buffer_with_skip": "ops.buffer_with_count({n}, 2)",
@@ -100,7 +101,7 @@ TRANSPARENT = list(itertools.takewhile(lambda it: it != "flat_map", OPERATORS))
 KINDS = "Subject Subject Subject BehaviorSubject ReplaySubject AsyncSubject".split()
 LEAVES = "subject subject subject subject shared of of from_iterable range just empty never throw repeat_value generate from_callable timer interval".split()
 #: Of which the page of differences has a row: rarely asked of RxPY.
-ROWED = ("zip_of zip publish_value skip_until sample sample_time publish_of publish_counted share share_of partition replay_counted multicast_counted "
+ROWED = ("expand zip_of zip publish_value skip_until sample sample_time publish_of publish_counted share share_of partition replay_counted multicast_counted "
          "publish_value_counted").split()
 JOINS = "using using using defer merge_of concat_of zip_of combine_latest_of amb_of fork_join_of catch_of resume_of if_then case for_in create".split()
 
@@ -124,11 +125,15 @@ class Maker:
         self.many, self.many_shared = len(subjects), 0
         shared = []
         for _ in range(rand.choice([0, 1, 1, 2])):
+            self.used = set()
             form = "share_of" if plain else rand.choice(list(SHARES))
             form = "replay_of" if self.is_rare(form) else form
             shared.append([form, *self.fill(form, 1)])
             self.many_shared += 1
-        pipelines = [self.expression(1 if plain else 2) for _ in range(rand.randrange(1, 4))]
+        pipelines = []
+        for _ in range(rand.randrange(1, 4)):
+            self.used = set()
+            pipelines.append(self.expression(1 if plain else 2))
         names, steps = [], []
         for i in [*range(len(pipelines)), *(rand.randrange(len(pipelines)) for _ in range(rand.choice([0, 1, 1, 2])))]:
             names.append(next(self.callbacks))
@@ -172,9 +177,11 @@ class Maker:
                 elif beside:
                     if is_observer and chance < 0.75:
                         deed = ["dispose", rand.choice(names)]
-                    elif chance < 0.6 and not is_observer and self.kinds[k] not in ("using", "finally_action"):
+                    elif chance < 0.6 and not is_observer and self.kinds[k] not in ("release", "finally_action"):
                         deed = ["raise"]
-                    elif chance < 0.8 or self.kinds[k] in ("using", "finally_action"):
+                    elif self.kinds[k] in ("release", "finally_action"):
+                        continue
+                    elif chance < 0.9:
                         deed = ["dispose", rand.choice(names)]
                     else:
                         deed = ["subscribe", 0, next(self.callbacks)]
@@ -223,6 +230,13 @@ class Maker:
             found = [name, found, *self.fill(name, depth)]
         return found
 
+    def one_of(self, place, many):
+        """A subject, or what is shared; where RxPY is asked, mostly one that the pipeline has not yet: by two ways items may come otherwise."""
+        free = [i for i in range(many) if (place, i) not in self.used] or list(range(many))
+        i = self.random.choice(free if self.manner == "beside" and self.random.random() < 0.9 else range(many))
+        self.used.add((place, i))
+        return i
+
     def is_rare(self, form):
         return self.manner == "beside" and form in ROWED and self.random.random() < 0.95
 
@@ -237,7 +251,7 @@ class Maker:
                 found.append(next(self.callbacks))
                 self.kinds[found[-1]] = form
                 if it == "K":
-                    self.kinds[next(self.callbacks)] = form
+                    self.kinds[next(self.callbacks)] = "release"
             elif it == "n":
                 found.append(rand.randrange(1, 4))
             elif it == "z":
@@ -246,10 +260,8 @@ class Maker:
                 found.append(rand.choice([0.5, 1.0, 1.5]))
             elif it == "v":
                 found.append(next(self.values))
-            elif it == "u":
-                found.append(rand.randrange(self.many))
-            elif it == "l":
-                found.append(rand.randrange(self.many_shared))
+            elif it in "ul":
+                found.append(self.one_of(it, self.many if it == "u" else self.many_shared))
         return found
 
 

@@ -13,7 +13,28 @@ def connected_for_nobody(program, ours, theirs):
         and ours["notes"] == theirs["notes"] and ours["made"] < theirs["made"]
 
 
+def by_two_ways(program, *_):
+    """One subject, or what is shared, stands in one pipeline more than once."""
+    def places(it):
+        if it[0] in ("subject", "shared", "lasting"):
+            yield ("subject", 0) if it[0] == "lasting" else tuple(it)
+        for part in it[1:]:
+            if isinstance(part, list):
+                yield from places(part)
+    return any(len(found) > len(set(found)) for found in map(list, map(places, program["pipelines"])))
+
+
+def waits(program, ours, theirs):
+    """What a replay tells at once waits where the operator that subscribes is at work, and no release does."""
+    def plain(notes):
+        return [[name, [[it.replace("!", "") for it in note] for note in heard]] for name, heard in notes]
+    return plain(ours["notes"]) == plain(theirs["notes"]) and (has("shared", "replay", "replay_counted")(program) or len(set(program["subjects"])) > 1)
+
+
 ROWS = [
+    ("by two ways to one operator", by_two_ways),
+    ("an item that waits is told behind the release", waits),
+    ("expand of observables that tell at once", has("expand")),
     ("skip_until ends with its source", has("skip_until")),
     ("zip pairs what waits", has("zip", "zip_of", "publish_value")),
     ("sample ends with its source", has("sample", "sample_time")),

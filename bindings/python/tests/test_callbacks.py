@@ -8,6 +8,7 @@ import weakref
 
 from cellarcliff import rx
 from cellarcliff.rx import operators as ops
+from cellarcliff.rx.core.notification import OnCompleted, OnNext
 from cellarcliff.rx.disposable import Disposable
 from cellarcliff.rx.internal import SequenceContainsNoElementsError
 from cellarcliff.rx.subject import AsyncSubject, BehaviorSubject, ReplaySubject, Subject
@@ -194,6 +195,14 @@ class Releases(Case):
         source.pipe(ops.take_until(notifier)).subscribe(log.append)
         source.on_next(1)
         self.assertEqual(log, ["released", 1])
+
+    def test_what_comes_behind_a_note_of_the_end(self):
+        log = []
+        source = rx.create(lambda observer, _: (observer.on_next(OnNext(1)), observer.on_next(OnCompleted()), observer.on_completed())[2])
+        made = rx.using(lambda: Disposable(lambda: log.append("released")), lambda _: source.pipe(
+            ops.dematerialize(), ops.all(lambda it: it), ops.map(lambda it: log.append("mapped") or it)))
+        made.subscribe(log.append)
+        self.assertEqual(log, ["mapped", True, "released"])
 
     def test_a_factory_that_fails_is_heard_by_functions_behind_it(self):
         def fails():

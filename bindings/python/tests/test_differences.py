@@ -150,6 +150,10 @@ def two_ways_to_one_operator(k, told):
     subject.on_next(2)
 
 
+def expand_of_what_tells_at_once(k, told):
+    k.rx.repeat_value(1, 2).pipe(k.ops.expand(lambda it: k.rx.of((it,)) if it == 1 else k.rx.empty())).subscribe(told.append)
+
+
 def filter_indexed_without_a_predicate(k, told):
     k.rx.of(1).pipe(k.ops.filter_indexed()).subscribe(told.append, lambda error: told.append("error"))
 
@@ -178,6 +182,7 @@ ROWS = {
     a_composition_completes: ([1, "completed", "released"], [1, "released", "completed"]),
     a_subject_is_dropped: ([], ["released"]),
     two_ways_to_one_operator: ([(1, 1), (2, 1), (2, 2)], [(1, 1), (1, 2), (2, 2)]),
+    expand_of_what_tells_at_once: ([1, 1, (1,), (1,)], [1, (1,), 1, (1,)]),
     filter_indexed_without_a_predicate: (["error"], [1]),
     one_of_a_group_raises: (["a", "raised"], ["a", "b", "raised"]),
 }

@@ -188,10 +188,23 @@ class _Materialize(Stage):
 
 
 class _Dematerialize(Stage):
-    __slots__ = ()
+    __slots__ = ("_is_over",)
+
+    def __init__(self, down: Any):
+        self.down, self._is_over = down, False
 
     def on_next(self, value: Any) -> None:
-        value.accept(self.down)
+        if not self._is_over:
+            self._is_over = value.kind != "N"
+            value.accept(self.down)
+
+    def on_error(self, error: Exception) -> None:
+        if not self._is_over:
+            self.down.on_error(error)
+
+    def on_completed(self) -> None:
+        if not self._is_over:  # or else the note of the end was the end
+            self.down.on_completed()
 
 
 class _DefaultIfEmpty(Stage):
@@ -225,7 +238,7 @@ def map(mapper: Optional[Callable[[Any], B]] = None) -> Operator[B]:
     return lambda source: Fn(source, make, PLAIN)
 
 
-class _Each(Function):
+class Each(Function):
     """Maps by a function of its own for each subscription."""
 
     __slots__ = ()
@@ -255,7 +268,7 @@ class _Those(Function):
 def map_indexed(mapper_indexed: Optional[Callable[[Any, int], B]] = None) -> Operator[B]:
     """The same, of an item and its index, from 0."""
     make = Indexed(mapper_indexed or _itself)
-    return lambda source: Fn(source, lambda down: _Each(down, make()), PLAIN)
+    return lambda source: Fn(source, lambda down: Each(down, make()), PLAIN)
 
 
 @same
@@ -282,7 +295,7 @@ def scan(accumulator: Callable[[Any, Any], B], seed: Any = NOTHING) -> Operator[
             so_far = value if so_far is NOTHING else accumulator(so_far, value)
             return so_far
         return call
-    return lambda source: Fn(source, lambda down: _Each(down, make()), PLAIN)
+    return lambda source: Fn(source, lambda down: Each(down, make()), PLAIN)
 
 
 @same

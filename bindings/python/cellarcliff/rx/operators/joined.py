@@ -367,14 +367,18 @@ def expand(mapper: Callable[[Any], Any]) -> Operator[Any]:
                     return
                 many += 1
                 waiting.append(inner)
-                start(link, work)
+                go_on()
 
             def on_completed() -> None:
                 nonlocal many
                 many -= 1
                 if not many:
                     link.on_completed()
-            start(link, work)
+
+            def go_on() -> None:
+                """At once, or by the scheduler that the subscription has."""
+                work() if link.scheduler is None else start(link, work)
+            go_on()
         return Linked(run, source, name="expand")
     return operate
 

@@ -6,14 +6,15 @@ from datetime import datetime, timedelta
 from typing import Any, Callable, Deque, List, NamedTuple, Optional
 
 from .._engine import C
-from .._functions import HEARING, Fn, Stage
+from .._functions import HEARING, PLAIN, Fn, Stage
 from .._link import Link, Linked
 from .._observable import Observable, to_observable
 from .._typing import Due, Operator, Scheduler, Span, same
 from ..disposable import SerialDisposable
 from ..scheduler import TimeoutScheduler
 from ..sources import Throw, Timer
-from .items import NOTHING
+from ..nodes import Defer
+from .items import NOTHING, Each
 from .joined import sampled
 
 
@@ -373,11 +374,12 @@ class Timestamp(NamedTuple):
 
 
 def _timed(make: Callable[[Any], Callable[[Any], Any]], scheduler: Any) -> Operator[Any]:
+    """A function on items that each subscription makes of its clock."""
     def operate(source: Any) -> Observable[Any]:
-        def run(link: Link) -> None:
-            function = make(clock(link, scheduler))
-            link.subscribe(source, lambda value: link.on_next(function(value)))
-        return Linked(run, source)
+        def of(given: Any) -> Observable[Any]:
+            clk = scheduler or given or TimeoutScheduler.singleton()
+            return Fn(source, lambda down: Each(down, make(clk)), PLAIN)
+        return Defer(of)
     return operate
 
 
