@@ -35,7 +35,7 @@ OPERATORS = {
     "replay_counted": "ops.replay(buffer_size=1), ops.ref_count()", "multicast_counted": "ops.multicast(w.kinds_of_subject.Subject()), ops.ref_count()",
     "multicast_mapper": "ops.multicast(subject_factory=lambda _: w.kinds_of_subject.Subject(), mapper=lambda it: it.pipe(ops.map(w.item({k}))))",
     "notes": "ops.materialize(), ops.dematerialize()", "windows": "ops.window_with_count({n}), ops.flat_map(lambda it: it)",
-    "groups": "ops.group_by(lambda it: str(it)[-1:]), ops.flat_map(lambda it: it)", "buffers": "ops.buffer_with_count(1), ops.flat_map(lambda it: it)",
+    "groups": "ops.group_by(lambda it: str(it)[-1:]), ops.flat_map(lambda it: it)", "buffers": "ops.buffer_with_count(1), ops.map(lambda it: it[0])",
     "take_until_never": "ops.take_until(rx.never())", "default_if_empty": "ops.default_if_empty(None)", "expand_none": "ops.expand(lambda _: rx.empty())",
     "starmap": "ops.map(lambda it: (it, it)), ops.starmap(lambda a, b: b)", "pluck": "ops.map(lambda it: [it]), ops.pluck(0)",
     "timestamp": "ops.timestamp(scheduler=w.clock), ops.map(lambda it: it.value)", "time_interval": "ops.time_interval(scheduler=w.clock), ops.map(lambda it: it.value)",
@@ -100,8 +100,10 @@ TIMED = [it for it, text in FORMS.items() if "w.clock" in text]
 TRANSPARENT = list(itertools.takewhile(lambda it: it != "flat_map", OPERATORS))
 KINDS = "Subject Subject Subject BehaviorSubject ReplaySubject AsyncSubject".split()
 LEAVES = "subject subject subject subject shared of of from_iterable range just empty never throw repeat_value generate from_callable timer interval".split()
+#: Whose inner sources an interrupt ends in the midst of their items.
+COLD = {"concat_map_just", "merge_2_just", "flat_map_just", "flat_map_indexed"}
 #: Of which the page of differences has a row: rarely asked of RxPY.
-ROWED = ("expand zip_of zip publish_value skip_until sample sample_time publish_of publish_counted share share_of partition replay_counted multicast_counted "
+ROWED = ("expand time_interval zip_of zip publish_value skip_until sample sample_time publish_of publish_counted share share_of partition replay_counted multicast_counted "
          "publish_value_counted").split()
 JOINS = "using using using defer merge_of concat_of zip_of combine_latest_of amb_of fork_join_of catch_of resume_of if_then case for_in create".split()
 
@@ -163,7 +165,7 @@ class Maker:
         """What callbacks do from within."""
         rand, found = self.random, {}
         beside = self.manner == "beside"
-        is_interrupted = not {"concat_map_just", "merge_2_just"} & set(self.kinds.values())  # their inner sources would never end
+        is_interrupted = not COLD & set(self.kinds.values())
         for k in sorted(self.kinds):
             if rand.random() > (0.35 if beside else 0.5):
                 continue

@@ -35,6 +35,7 @@ ROWS = [
     ("by two ways to one operator", by_two_ways),
     ("an item that waits is told behind the release", waits),
     ("expand of observables that tell at once", has("expand")),
+    ("time_interval hands the subscription's scheduler on", has("time_interval")),
     ("skip_until ends with its source", has("skip_until")),
     ("zip pairs what waits", has("zip", "zip_of", "publish_value")),
     ("sample ends with its source", has("sample", "sample_time")),

@@ -255,6 +255,10 @@ class World:
     def do_schedule(self, seconds, k):
         self.clock.schedule_relative(seconds, lambda *_: self.called(k, "scheduler"))
 
+    def do_serve(self):
+        """What an interrupt left is told with the next call."""
+        self.rx.empty().subscribe_()
+
     def do_raise(self):
         raise Failure("raised")
 
@@ -303,7 +307,7 @@ class World:
             self.close()
 
     def close(self):
-        self.rx.empty().subscribe_()  # what an interrupt left is told with the next call
+        self.step("close", ("serve",))
         self.heard_before_the_end = [list(it.heard) for it in self.observers]
         for _ in range(3):
             try:

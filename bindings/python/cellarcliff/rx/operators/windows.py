@@ -90,6 +90,9 @@ class GroupedObservable(Observable[Any]):
     _is_hot = True
 
 
+Part = Callable[[Parted], Any]
+
+
 class Window:
     """A part that is an observable."""
 
@@ -139,9 +142,6 @@ class SomeBuffer(Buffer):
             super().on_completed()
 
 
-Part = Callable[[Parted], Any]
-
-
 class _Open:
     """The parts that are open, and what ends them all."""
 
@@ -166,17 +166,21 @@ class _Open:
     def close_first(self) -> None:
         self.parts.pop(0).on_completed()
 
+    def exchange(self, part: Part) -> None:
+        """Closes the first and opens another, also where an observer of the first is interrupted."""
+        try:
+            self.close_first()
+        finally:
+            self.parts.append(part(self.link))
+
 
 def _by_boundaries(source: Any, boundaries: Any, part: Part) -> Observable[Any]:
     def run(link: Any) -> None:
         parts = _Open(link)
 
-        def exchange(_: Any) -> None:
-            parts.close_first()
-            parts.parts.append(part(link))
         parts.parts.append(part(link))
         link.subscribe(source, parts.on_next, parts.on_error, parts.on_completed)
-        link.subscribe(boundaries, exchange, parts.on_error, parts.on_completed)
+        link.subscribe(boundaries, lambda _: parts.exchange(part), parts.on_error, parts.on_completed)
     return PartedBy(run, source, boundaries)
 
 
@@ -207,9 +211,10 @@ def _by_closing(source: Any, closing: Callable[[], Any], part: Part) -> Observab
 
         def follow() -> None:
             if parts.parts:
-                parts.close_first()
-                parts.parts.append(part(link))
-                wait()
+                try:
+                    parts.exchange(part)
+                finally:
+                    wait()
         parts.parts.append(part(link))
         link.subscribe(source, parts.on_next, parts.on_error, parts.on_completed)
         wait()
@@ -268,11 +273,13 @@ def _by_count(source: Any, count: int, skip: Optional[int], part: Part) -> Obser
         def on_next(value: Any) -> None:
             parts.on_next(value)
             at = n[0] - count + 1
-            if at >= 0 and at % every == 0:
-                parts.close_first()
             n[0] += 1
-            if n[0] % every == 0:
-                parts.parts.append(part(link))
+            try:
+                if at >= 0 and at % every == 0:
+                    parts.close_first()
+            finally:
+                if n[0] % every == 0:
+                    parts.parts.append(part(link))
         parts.parts.append(part(link))
         link.subscribe(source, on_next, parts.on_error, parts.on_completed)
     return PartedBy(run, source)
@@ -328,9 +335,10 @@ def _by_time_or_count(source: Any, timespan: Any, count: int, scheduler: Any, pa
         def exchange() -> None:
             turn[0] += 1
             n[0] = 0
-            parts.close_first()
-            parts.parts.append(part(link))
-            wait()
+            try:
+                parts.exchange(part)
+            finally:
+                wait()
 
         def on_next(value: Any) -> None:
             parts.on_next(value)
