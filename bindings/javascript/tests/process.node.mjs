@@ -18,33 +18,25 @@ export const only_ours = {
   'and when it exits by itself': { of: () => program(`
     rx.NEVER.pipe(rx.finalize(() => console.log('final'))).subscribe();
     process.exit(0);`), is: ['final'] },
-  'an engine that is trapped is dead, and says so': { of: () => {
-    const said = [], trap = () => { throw new WebAssembly.RuntimeError('unreachable'); };
-    const module = { memory: new WebAssembly.Memory({ initial: 1 }), place: () => 1024n, cellar_abi: () => 0x10001, cellar_new: () => 0, cellar_make: trap,
-      cellar_make_behind: trap, cellar_take: () => 0, cellar_give_up: () => 0, cellar_totals: () => 0 };
-    const engine = new Crossing(module, new WebAssembly.Module(glue()), {}), thing = new Thing(null, null);
-    engine.totals();
-    for (const act of [() => engine.open(0, 0, 0, thing, thing), () => engine.next(thing, 1), () => engine.totals(), () => engine.room()]) {
-      try { act(); said.push('nothing'); } catch (error) { said.push(error.message); }
-    }
-    return said;
-  }, is: Array(4).fill('cellarcliff: the engine stopped within a call and is dead: unreachable') },
-  'what an engine held that has died is released once, in a turn of its own': { of: async () => {
-    const said = [];
-    let commands = 0;
-    const make = () => { if (++commands === 4) throw new WebAssembly.RuntimeError('unreachable'); return 0; };
-    const module = { memory: new WebAssembly.Memory({ initial: 1 }), place: () => 1024n, cellar_abi: () => 0x10001, cellar_new: () => 0, cellar_take: () => 0, cellar_give_up: () => 0,
-      cellar_totals: () => 0, cellar_make: make, cellar_make_behind: make };
-    const engine = new Crossing(module, new WebAssembly.Module(glue()), { report: (error) => said.push(`reported ${error.message}`) }), thing = new Thing(null, null);
-    engine.open(0, 0, 0, thing, thing);
-    engine.hold(thing, new Tag(() => { engine.room(); said.push('first released'); throw new Error('no'); }));
-    engine.hold(thing, new Tag(() => said.push('second released')));
-    try { engine.next(thing, 1); } catch { said.push('dead'); }
-    await null;
-    await null;
-    try { engine.room(); } catch { said.push('dead'); }
-    return said;
-  }, is: ['dead', 'first released', 'reported no', 'second released', 'dead'] },
+  'an engine that stops within a call is dead: what it held is released, who heard is told, and what comes has another one': { of: () => program(`
+    const { readFileSync } = await import('node:fs'), { Crossing } = await import(${JSON.stringify(new URL('../src/engine/crossing.mjs', import.meta.url).href)});
+    const { glue } = await import(${JSON.stringify(new URL('../src/engine/glue.mjs', import.meta.url).href)});
+    const realm = globalThis[Symbol.for('cellarcliff.realm.1')], { exports } = new WebAssembly.Instance(new WebAssembly.Module(readFileSync(new URL('engine.wasm', ${JSON.stringify(INDEX)}))));
+    let stops = false;
+    const stopping = (call) => (...words) => { if (stops) throw new WebAssembly.RuntimeError('unreachable'); return call(...words); };
+    realm.engine = new Crossing({ ...exports, cellar_make: stopping(exports.cellar_make), cellar_make_behind: stopping(exports.cellar_make_behind) }, new WebAssembly.Module(glue()), realm);
+    const source = new rx.Subject(), held = (name, it) => rx.using(() => ({ unsubscribe: () => console.log('released', name) }), () => it);
+    held('a', source).pipe(rx.finalize(() => { console.log('final'); throw new Error('no'); })).subscribe({ error: (e) => console.log('heard', e.message.split(':')[1].trim()) });
+    held('b', rx.NEVER).pipe(rx.switchMap(() => source)).subscribe({ error: () => console.log('heard') });
+    rx.config.onUnhandledError = (e) => console.log('reported', e.message);
+    stops = true;
+    try { source.next(1); console.log('nothing'); } catch (error) { console.log(error.message); }
+    held('c', rx.of(1)).subscribe((it) => console.log('told', it));
+    setTimeout(() => { console.log(source.observed, rx.counts().nodes, realm.engine.dead); source.next(2); }, 5);
+  `), is: [
+    'cellarcliff: the engine stopped within a call (unreachable): what it held is released, and what is subscribed to from now on has a new one', 'told 1', 'released c',
+    'final', 'released a', 'released b', 'heard the engine stopped within a call (unreachable)', 'heard', 'reported no', 'false 0 null',
+  ] },
   'a worker has an engine of its own, and closes what is open as it ends': { of: () => program(`
     const { Worker } = await import('node:worker_threads'), released = new Int32Array(new SharedArrayBuffer(4));
     const text = \`Promise.all([import('node:worker_threads'), import(${JSON.stringify(INDEX)})]).then(([{ parentPort, workerData }, rx]) => {

@@ -18,9 +18,22 @@ export const TERMINAL = {
   },
   complete(leaf) {
     leaf.isStopped = true;
+    if (leaf._inner !== null) releases(leaf);
     realm.engine.complete(leaf);
   },
 };
+
+/** What is released, innermost first, before the end of an inner observable is counted: the resources from its end up to where it is merged. */
+export class Inner {
+  constructor(tag, above) {
+    this.tag = tag;
+    this.above = above;
+  }
+}
+function releases(leaf) {
+  if (leaf._tag !== null) realm.engine.remove(leaf._tag);
+  for (let it = leaf._inner; it.tag !== null; it = it.above) realm.engine.remove(it.tag);
+}
 
 /** A function on items, or several ends: it passes on to the one above it. `hooked` if it ends by itself or does something at an end. */
 export class Stage {
@@ -38,14 +51,16 @@ export function failing(to, error) { realm.engine.surely(() => to.error(error));
 
 /** What the function of a source is given, and what the engine has for its node (a Thing). */
 export class Leaf extends Subscriber {
-  constructor(way, hears, leaves) {
+  constructor(way, hears, leaves, inner) {
     super();
     this._way = way;
     this._used = true;
     this.slot = this.top = this.lo = this.hi = -1;
     this.owed = 0;
+    this.engine = null;
     this.alone = NOT_ALONE;
     this.leaves = leaves;
+    this._inner = inner;
     this.hears = hears; // where this leaf is the whole tree, else null
     this._subject = this._before = this._after = null; // whose list it is on, and between which
     this._many = false; // whether its source tells items in one go
@@ -90,12 +105,11 @@ export class Leaf extends Subscriber {
     else super.remove(teardown);
   }
   /** Leaves quietly: its resources are released, and nothing comes of it any more. */
-  unsubscribe() {
-    if (this.hears !== null) return this.hears.unsubscribe();
-    if (this.closed) return;
+  unsubscribe() { if (this.hears !== null) this.hears.unsubscribe(); else super.unsubscribe(); }
+  _leave() {
     realm.engine.room();
     this.shut();
-    const errors = this._tag ? collecting(this._tag) : this._finalized(null);
+    const errors = this._tag ? collecting(() => realm.engine.remove(this._tag)) : this._finalized(null);
     if (errors !== null) throw new UnsubscriptionError(errors);
   }
 }

@@ -1,4 +1,3 @@
-import { realm } from '../engine/realm.mjs';
 import { failing } from './leaf.mjs';
 import { Subscriber } from './subscriber.mjs';
 import { finalizeOne } from './subscription.mjs';
@@ -14,12 +13,11 @@ export class Link extends Subscriber {
   }
   get _isInner() { return true; }
 
-  /** Leaves what has ended: what that held is released now, before another one is subscribed to. */
-  leave() {
-    if (this._heard) realm.engine.goOn();
+  // What it does once it has left comes behind all that it held.
+  _over() {
+    if (this._onFinalize === undefined) this._lane = null;
     this.unsubscribe();
   }
-  // What it does once it has left comes behind all that it held.
   _finalized(errors) {
     errors = super._finalized(errors);
     const { _onFinalize } = this;
@@ -36,12 +34,12 @@ export class Link extends Subscriber {
     const { destination, _onError } = this;
     try {
       if (_onError) _onError(error); else destination.error(error);
-    } catch (why) { failing(destination, why); } finally { this.unsubscribe(); }
+    } catch (why) { failing(destination, why); } finally { this._over(); }
   }
   _complete() {
     const { destination, _onComplete } = this;
     try {
       if (_onComplete) _onComplete(); else destination.complete();
-    } catch (error) { failing(destination, error); } finally { this.unsubscribe(); }
+    } catch (error) { failing(destination, error); } finally { this._over(); }
   }
 }

@@ -7,9 +7,10 @@ import { isFunction } from './util.mjs';
 
 /** An operator by what it opens at a place. */
 export class Operator {
-  constructor(opens, is_share = false) {
+  constructor(opens, is_share = false, is_stage = false) {
     this.opens = opens;
     this.is_share = is_share;
+    this.is_stage = is_stage;
   }
 
   /** As another library calls it. */
@@ -21,8 +22,8 @@ export class Operator {
   }
 }
 
-export const operator = (opens, is_share) => {
-  const made = new Operator(opens, is_share);
+export const operator = (opens, is_share, is_stage) => {
+  const made = new Operator(opens, is_share, is_stage);
   return (source) => {
     if (isOurs(source)) return source.lift(made);
     if (!source || !isFunction(source.lift)) throw new TypeError('Unable to lift unknown Observable type');
@@ -31,7 +32,7 @@ export const operator = (opens, is_share) => {
 };
 
 /** A function on items, or what does something at an end: a stage before the book. `make(up)` is called for each subscription. */
-export const staged = (make) => operator((at, source) => source._open(at._through(make(at._way))));
+export const staged = (make) => operator((at, source) => source._open(at._through(make(at._way))), false, true);
 
 /** What listens by links, and tells a leaf: `init(source, leaf)`. */
 export const operate = (init) => operator((at, source) => {

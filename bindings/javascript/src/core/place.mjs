@@ -4,23 +4,26 @@ import { NOWHERE } from '../engine/crossing.mjs';
 import { realm } from '../engine/realm.mjs';
 import { Thing } from '../engine/thing.mjs';
 import { traced } from '../engine/tracing.mjs';
-import { Leaf, TERMINAL } from './leaf.mjs';
+import { Inner, Leaf, TERMINAL } from './leaf.mjs';
 import { Link } from './link.mjs';
 import { Subscriber } from './subscriber.mjs';
 
 /** A place in a tree: below which node, who hears (of a root), and the functions that items go through. */
 export class Place {
-  constructor(place, above, hears = null, way = TERMINAL, leaves = null) {
+  constructor(place, above, hears = null, way = TERMINAL, leaves = null, inner = null) {
     this._place = place;
     this._above = above;
     this._hears = hears;
     this._way = way;
     this._leaves = leaves; // what is called once the node there has closed
+    this._inner = inner; // of what is merged: the resources from here up to where that is
   }
-  _through(way) { return new Place(this._place, this._above, this._hears, way, this._leaves); }
+  _through(way) { return new Place(this._place, this._above, this._hears, way, this._leaves, this._inner); }
 }
+/** Where an observable is merged. */
+export const MERGED = new Inner(null, null);
 // Who hears a root stands for the place of that.
-Object.assign(Subscriber.prototype, { _place: ROOT, _above: NOWHERE, _way: TERMINAL, _leaves: null, _through(way) { return new Place(ROOT, NOWHERE, this, way, null); } });
+Object.assign(Subscriber.prototype, { _place: ROOT, _above: NOWHERE, _way: TERMINAL, _leaves: null, _inner: null, _through(way) { return new Place(ROOT, NOWHERE, this, way, null); } });
 Object.defineProperty(Subscriber.prototype, '_hears', { get() { return this; } });
 
 /** Whether a line of the program asks for it, and not an operator: what it is called then, if it is no subscription, is `asked`. */
@@ -80,7 +83,7 @@ export function openShare(root, share) {
 
 /** Opens a leaf there: what tells it, or null. */
 export function openLeaf(at) {
-  const leaf = new Leaf(at._way, at._place === ROOT ? at._hears : null, at._leaves), how = opens(at, LEAF, leaf, WISHES, null, null);
+  const leaf = new Leaf(at._way, at._place === ROOT ? at._hears : null, at._leaves, at._inner), how = opens(at, LEAF, leaf, WISHES, null, null);
   if (how === CLOSED) return null;
   if (how === BEHIND) leaf.closed = leaf.isStopped = true;
   else if (leaf.hears === null) leaf._thing = leaf;
@@ -92,18 +95,19 @@ export const isLeft = (leaf) => leaf.slot === -1;
 /** Opens a node that passes everything, with a resource; the place below it, or null. Below LEFT the resource is to be released behind what is opened. */
 export function openUsing(at, tag) {
   const thing = openNode(at, PASS, null, tag);
-  return thing && new Place(SOURCE, thing, null, at._way);
+  return thing && new Place(SOURCE, thing, null, at._way, null, at._inner && new Inner(tag, at._inner));
 }
 
 /** Opens a node that passes everything: the place below it, or null. */
 export function openPass(at) {
   const thing = openNode(at, PASS);
-  return thing && new Place(SOURCE, thing, null, at._way);
+  return thing && new Place(SOURCE, thing, null, at._way, null, at._inner);
 }
 /** A resource for the node above a place; released at once where that has closed. */
 export function holdAt(below, tag) {
   let status = 1;
   try { status = realm.engine.hold(below._above, tag); } finally { if (status) tag.release(); }
+  if (below._inner !== null) below._inner = new Inner(tag, below._inner);
 }
 
 /** A tree of its own that tells a leaf at this place: the place of its root, or null. */

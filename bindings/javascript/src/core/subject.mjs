@@ -1,5 +1,6 @@
 import { realm } from '../engine/realm.mjs';
 import { ROOT } from '../engine/codes.mjs';
+import { config, inContext } from './config.mjs';
 import { ObjectUnsubscribedError } from './errors.mjs';
 import { Leaf, TERMINAL } from './leaf.mjs';
 import { Observable } from './observable.mjs';
@@ -55,6 +56,9 @@ export class Subject extends Observable {
   }
   next(value) {
     this._throwIfClosed();
+    if (config.useDeprecatedSynchronousErrorHandling) inContext(() => this._next(value)); else this._next(value);
+  }
+  _next(value) {
     if (!this._tells()) return;
     if (this._size > 1) {
       this._telling = { value, leaves: this._all(), at: 0 };
@@ -70,6 +74,9 @@ export class Subject extends Observable {
   }
   error(error) {
     this._throwIfClosed();
+    inContext(() => this._error(error));
+  }
+  _error(error) {
     if (!this._tells()) return;
     this.hasError = this.isStopped = true;
     this.thrownError = error;
@@ -77,6 +84,9 @@ export class Subject extends Observable {
   }
   complete() {
     this._throwIfClosed();
+    inContext(() => this._complete());
+  }
+  _complete() {
     if (!this._tells()) return;
     this.isStopped = true;
     for (const leaf of this._emptied()) leaf.complete();

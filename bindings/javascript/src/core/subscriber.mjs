@@ -5,7 +5,7 @@ import { Tag } from '../engine/thing.mjs';
 import { traced } from '../engine/tracing.mjs';
 import { reportUnhandledError, stopped, unheard } from './config.mjs';
 import { UnsubscriptionError } from './errors.mjs';
-import { Subscription, isSubscription } from './subscription.mjs';
+import { Subscription, finalizeOne, isSubscription } from './subscription.mjs';
 import { isFunction, noop } from './util.mjs';
 
 const SILENT = { closed: true, next: noop, error(error) { throw error; }, complete: noop };
@@ -21,22 +21,31 @@ export function thrown(errors) {
   else collected.push(...errors);
 }
 
-/** Releases a resource; or of a root does the rest of what `disposeFirst` answered. Answers what finalizers threw meanwhile, null if nothing. */
-export function collecting(thing, how = null) {
+/** Does it; answers what finalizers threw meanwhile, null if nothing. */
+export function collecting(act) {
   const outer = collected, was = is_collected;
   let mine;
   collected = null;
   is_collected = true;
-  try {
-    if (how === null) realm.engine.remove(thing);
-    else if (how === WAITS) realm.engine.actOn();
-    else realm.engine.dispose(thing);
-  } finally {
+  try { act(); } finally {
     mine = collected;
     collected = outer;
     is_collected = was;
   }
   return mine;
+}
+/** Leaves a root, as `disposeFirst` answered. */
+const leftRoot = (thing, how) => collecting(() => { if (how === WAITS) realm.engine.actOn(); else realm.engine.dispose(thing); });
+/** What a program releases something by: what that throws goes to who unsubscribes, or else is reported. */
+export class Resource extends Tag {
+  constructor(finalizer) {
+    super();
+    this.finalizer = finalizer;
+  }
+  release() {
+    const { finalizer } = this, errors = finalizer ? finalizeOne(finalizer, null) : null;
+    if (errors !== null) thrown(errors);
+  }
 }
 /** A subscriber's finalizers, as one resource of its node. */
 class Finalizers extends Tag {
@@ -45,8 +54,10 @@ class Finalizers extends Tag {
     this.of = of;
   }
   release() {
-    this.of._tag = null;
-    const errors = this.of._finalized(null);
+    const { of } = this;
+    of._tag = null;
+    if (!of.closed && !of.isStopped) return; // it has not heard its end, which was told from within: they come with that
+    const errors = of._finalized(null);
     if (errors !== null) thrown(errors);
   }
 }
@@ -59,7 +70,7 @@ export class Subscriber extends Subscription {
     this._thing = null; // the root that it hears
     this._tag = null; // what its finalizers are held by
     this._used = false;
-    this._heard = false; // the end
+    this._lane = null; // in which it is hearing its end
     this.destination = destination ?? SILENT;
     if (destination && isSubscription(destination)) destination.add(this);
   }
@@ -82,20 +93,25 @@ export class Subscriber extends Subscription {
   }
 
   _next(value) { this.destination.next(value); }
-  _error(error) { try { this.destination.error(error); } finally { this.unsubscribe(); } }
-  _complete() { try { this.destination.complete(); } finally { this.unsubscribe(); } }
+  _error(error) { try { this.destination.error(error); } finally { this._over(); } }
+  _complete() { try { this.destination.complete(); } finally { this._over(); } }
+  /** Leaves behind its end: what it held is released as its lane is served on. */
+  _over() {
+    this._lane = null;
+    this.unsubscribe();
+  }
 
   // what the engine tells of the root
   hear(value) { if (!this.isStopped) this.next(value); }
-  heardError(error) {
+  heardError(error, lane) {
     this._thing = null;
-    this._heard = true;
-    if (!this.isStopped) this.error(error); else this.unsubscribe();
+    this._lane = lane;
+    if (!this.isStopped) this.error(error); else this._over();
   }
-  heardEnd() {
+  heardEnd(lane) {
     this._thing = null;
-    this._heard = true;
-    if (!this.isStopped) this.complete(); else this.unsubscribe();
+    this._lane = lane;
+    if (!this.isStopped) this.complete(); else this._over();
   }
   heardGone() {
     this._thing = null;
@@ -123,13 +139,14 @@ export class Subscriber extends Subscription {
     }
   }
 
-  unsubscribe() {
-    if (this.closed) return;
-    const thing = this._thing;
+  _leave() {
+    const thing = this._thing, lane = this._lane;
     const how = thing === null ? OVER : realm.engine.disposeFirst(thing); // where that throws nothing has been changed
     this.closed = this.isStopped = true;
-    this._thing = null;
-    let errors = how === OVER ? null : collecting(thing, how);
+    this._thing = this._lane = null;
+    let errors = how === OVER ? null : leftRoot(thing, how);
+    // left while it hears its end: what stands behind that is released now
+    if (lane !== null) errors = collecting(() => realm.engine.goOn(lane));
     if (this._tag === null) errors = this._finalized(errors);
     if (errors === null) return;
     if (is_collected) thrown(errors);
@@ -156,14 +173,11 @@ class Consumer {
   error(error) {
     const { observer } = this;
     if (!observer.error) return unheard(error);
-    const ends = realm.engine.apart();
-    try { observer.error(error); } catch (why) { unheard(why); } finally { realm.engine.together(ends); }
+    try { observer.error(error); } catch (why) { unheard(why); }
   }
   complete() {
     const { observer } = this;
-    if (!observer.complete) return;
-    const ends = realm.engine.apart();
-    try { observer.complete(); } catch (error) { unheard(error); } finally { realm.engine.together(ends); }
+    if (observer.complete) try { observer.complete(); } catch (error) { unheard(error); }
   }
 }
 

@@ -25,8 +25,8 @@ export class Subscription {
     this.initialTeardown = initialTeardown;
   }
 
-  unsubscribe() {
-    if (this.closed) return;
+  unsubscribe() { if (!this.closed) this._leave(); }
+  _leave() {
     realm.engine.room(); // where there is none nothing has been changed
     this._ends();
   }
@@ -59,7 +59,7 @@ export class Subscription {
         continue;
       }
       const it = list[at++];
-      if (typeof it === 'function' || it.unsubscribe !== Subscription.prototype.unsubscribe) errors = finalizeOne(it, errors);
+      if (typeof it === 'function' || it.unsubscribe !== PLAIN.unsubscribe || it._leave !== PLAIN._leave) errors = finalizeOne(it, errors);
       else if (!it.closed) {
         it.closed = true;
         (lists ??= []).push(list, at);
@@ -128,5 +128,6 @@ export class Subscription {
   })();
 }
 
+const { unsubscribe, _leave } = Subscription.prototype, PLAIN = { unsubscribe, _leave }; // as they are unless a program puts others in their place
 export const isSubscription = (value) => value instanceof Subscription
   || (!!value && typeof value === 'object' && 'closed' in value && isFunction(value.remove) && isFunction(value.add) && isFunction(value.unsubscribe));

@@ -4,6 +4,6 @@ export const OPEN = 0, USING = 1, HOLD = 2, NEXT = 3, COMPLETE = 4, ERROR = 5, F
 export const ROOT = 0, SOURCE = 1, INNER = 2, NOTIFIER = 3;
 export const LEAF = 0, PASS = 1, FLAT = 2, SWITCH = 3, UNTIL = 4, SHARED = 5, PUBLISHED = 6;
 export const WISHES = 1, LANE_OF_NODE = 2, OF_PROJECTIONS = 4, QUEUES = 8;
-export const DONE = 0, NO_MEMORY = 4, FULL = 16, GONE = 17, NO_HUB = 22, HUB_ORDER = 23;
+export const DONE = 0, NO_MEMORY = 4, UNTAKEN = 6, FULL = 16, GONE = 17, NO_HUB = 22, HUB_ORDER = 23;
 /** Of what disposes of a root: whether its effects are to be told, or nothing was done. */
 export const OVER = 0, WAITS = 1, NOT_YET = 2;

@@ -6,18 +6,23 @@
 // The stack has three marks. An item is made, and an effect taken, where there is room to tell it and for what that leads to; an end is told and
 // a node opened where two thirds of that are left; any other command where a third is. What a command hands out is told later
 // where there is no room for that. So what an effect leads to always finds room, and RangeError means that nothing was done.
-import { COMPLETE, DECLINE, DISPOSE, DONE, ERROR, FAIL, FLAT, HOLD, LEAF, NEXT, NOT_YET, OPEN, OVER, PUT, REMOVE, ROOT, SHARED, SHUT, SWITCH, USING, WAITS, WISHES } from './codes.mjs';
-import { LAYOUT } from './glue.mjs';
+import {
+  COMPLETE, DECLINE, DISPOSE, DONE, ERROR, FAIL, FLAT, GONE, HOLD, LEAF, NEXT, NOT_YET, OPEN, OVER, PUT, REMOVE, ROOT, SHARED, SHUT, SWITCH, UNTAKEN, USING, WAITS, WISHES,
+} from './codes.mjs';
+import { LAYOUT, OF_ANOTHER } from './glue.mjs';
 import { Table } from './table.mjs';
 import { BARE, GONE_WITH_ONE, Lane, NOT_ALONE, Tag, WITH_ONE } from './thing.mjs';
 
+const STOPPED = 'cellarcliff: the engine stopped within a call';
+const MOST = 100000; // items from within one command, each because of the one before: what goes on behind that never ends
+const THE_NEXT = -1; // of a value: the word that the next one has
 const REFUSED = { 4: 'no memory is left', 16: 'too much is open', 29: 'a node holds too many resources' };
 
 export class Crossing {
   #realm; #wasm; #glue; #base; #places; #c; #a; #e; #left; #words;
   #things = new Table(); #values = new Table();
   #postponed = null; #depth = 0; #made = 0;
-  #ending = []; // lanes in which an end is being told, each because of the one before
+  #level = 0; #ofLevel = 0; #queued = 0; // how many items so far came each of the one before; what is left of the last of them; what waits behind that
   #lastNode = null; #lastHears = null; #lastMade = -1; // what told the last item, to which observer alone, behind how many commands
   dead = null; // why no command can be made any more
   tracing = false;
@@ -26,7 +31,7 @@ export class Crossing {
   constructor(wasm, glue, realm) {
     this.#realm = realm;
     this.#wasm = wasm;
-    this.#base = Number(wasm.place(1024n));
+    this.#base = Number(wasm.place(BigInt(1024)));
     this.#places = Object.fromEntries(Object.entries(LAYOUT).map(([name, at]) => [name, BigInt(this.#base + at)]));
     new Uint8Array(wasm.memory.buffer, this.#base, 1024).fill(0);
     const abi = wasm.cellar_abi(); // the lower half counts what was added: here `cellar_make_behind`
@@ -49,25 +54,32 @@ export class Crossing {
     this.#words = new Int32Array(buffer, at('words'), 2 * LAYOUT.room);
   }
 
-  // What a call threw: for want of stack nothing was done; a trap leaves the engine dead.
+  // What a call threw: for want of stack nothing was done; a trap has left the engine in the midst of a call, so it is never called again.
   #failed(error) {
     if (this.dead !== null || this.#glue.entered.value === 0) return error;
-    this.dead = error instanceof Error ? error : new Error(String(error));
-    const dies = () => { throw new Error(`cellarcliff: the engine stopped within a call and is dead: ${this.dead.message}`, { cause: this.dead }); };
+    this.dead = new Error(`${STOPPED} (${error?.message ?? error}): what it held is released, and what is subscribed to from now on has a new one`, { cause: error });
+    const dies = () => {
+      this.#renews();
+      throw this.dead;
+    };
     this.#glue = { room: dies, make: dies, open: dies, next: dies, take: dies, takeOn: dies, giveUp: dies, end: dies, dispose: dies, all: dies, entered: { value: 1 } };
     this.#wasm = { ...this.#wasm, cellar_totals: dies, cellar_dump: dies, cellar_rest: dies };
-    queueMicrotask(() => this.#releaseAll());
-    try { return dies(); } catch (why) { return why; }
+    const things = this.#things.all();
+    for (const it of things) it.slot = it.top = it.lo = it.hi = -1; // a key that names nothing, in any engine
+    this.#renews();
+    queueMicrotask(() => this.#ends_all(things));
+    return this.dead;
   }
 
-  // What a dead engine held is known by its tags: each is released once, in a turn of its own, where the stack has room. Meanwhile nothing asks for room.
-  #releaseAll() {
-    const glue = this.#glue;
-    this.#glue = { ...glue, room: () => {}, all: () => {} };
-    for (const it of this.#things.all()) {
-      if (it instanceof Tag) try { it.release(); } catch (error) { this.#report(error); }
-    }
-    this.#glue = glue;
+  // Where no other engine can be made, for want of stack or memory, one is made later.
+  #renews() { try { this.#realm.renews(this); } catch { /* each call says that this one is dead */ } }
+
+  // What a dead engine held is known by its tags, and who heard by the roots: each is released once, and each is told, in a turn of its own.
+  #ends_all(things) {
+    const surely = (act) => { try { act(); } catch (error) { this.#report(error); } };
+    for (const it of things) if (!(it instanceof Tag)) surely(() => it.shut?.());
+    for (const it of things) if (it instanceof Tag) surely(() => it.release());
+    for (const it of things) if (it.hears) surely(() => it.hears.heardError(this.dead, null));
   }
 
   /** Throws RangeError where the stack has no room for a command and for what leads to it. */
@@ -83,18 +95,49 @@ export class Crossing {
   /** Does what was put off, before somebody looks whether a place is open. */
   begins() { this.#begins(); }
 
-  #make(what, node, user, value, opens = false) {
-    if (this.#c.length === 0) this.#look();
-    const c = this.#c;
-    c[0] = what;
-    c[4] = node.slot, c[5] = node.top, c[6] = node.lo, c[7] = node.hi;
-    c[8] = user, c[10] = value;
-    let status;
-    // an opening wants more room, so that a resource can be held behind it
-    try { status = opens ? this.#glue.open() : this.#glue.make(); } catch (error) { throw this.#failed(error); }
-    this.#made++;
-    if (this.#a.length === 0) this.#look();
-    return status;
+  #make(what, node, user, value, opens = false, share = null) {
+    for (;;) {
+      if (this.#c.length === 0) this.#look();
+      const c = this.#c;
+      c[0] = what;
+      c[1] = share === null ? 0 : share.level, c[2] = share === null ? 0 : share.hub, c[3] = share === null ? 0 : share.hubHigh;
+      c[4] = node.slot, c[5] = node.top, c[6] = node.lo, c[7] = node.hi;
+      c[8] = user, c[10] = value === THE_NEXT ? this.#values.next() : value;
+      let status;
+      // an opening wants more room, so that a resource can be held behind it
+      try { status = opens ? this.#glue.open() : this.#glue.make(); } catch (error) { throw this.#failed(error); }
+      this.#made++;
+      if (this.#a.length === 0) this.#look();
+      if (status !== UNTAKEN) return status;
+      this.#untaken();
+    }
+  }
+
+  // The lane that was to be left with this command has an effect: nothing was done but that it was handed out. It is told, and the lane served on, before
+  // the command is made.
+  #untaken() {
+    const a = this.#a;
+    this.#tellOn(a[52], a[58], a[59] !== 0 ? this.#values.give(a[54]) : undefined);
+  }
+  #tellOn(user, kind, value) {
+    const low = this.#left[0], high = this.#left[1];
+    this.#lastMade = -1;
+    const act = () => {
+      this.#tell(user, kind, value, low, high);
+      this.#serve(low, high);
+    };
+    this.#depth++;
+    try { this.surely(act); } finally { this.#depth--; }
+  }
+  // A lane: how many effects were taken, behind what stands in the lane that is left with this.
+  #taken(low, high, is_first) {
+    for (;;) {
+      const count = is_first ? this.#glue.take(low, high) : this.#glue.takeOn(low, high);
+      if (this.#e.length === 0) this.#look();
+      if (count !== OF_ANOTHER) return count;
+      const e = this.#e;
+      this.#tellOn(e[0], e[6], e[7] ? this.#values.give(e[2]) : undefined);
+    }
   }
 
   #refused(status) {
@@ -106,14 +149,10 @@ export class Crossing {
   open(place, kind, flags, above, thing, tag = null, share = null) {
     const owed = (place === ROOT ? 1 : 0) + (kind === FLAT || kind === SWITCH ? 1 : 0) + (flags & WISHES);
     const user = owed ? this.#things.take(thing) : 0, tagWord = tag === null ? 0 : this.#things.take(tag);
-    if (this.#c.length === 0) this.#look();
-    const c = this.#c;
-    c[1] = share === null ? 0 : share.level;
-    c[2] = share === null ? 0 : share.hub, c[3] = share === null ? 0 : share.hubHigh;
     let status = -1;
     try {
-      status = this.#make((tag === null ? OPEN : USING) | place << 8 | kind << 16 | flags << 24, above, user,
-        tag !== null ? tagWord : share !== null ? share.word : 0, true);
+      status = place !== ROOT && above.engine !== this ? GONE : this.#make((tag === null ? OPEN : USING) | place << 8 | kind << 16 | flags << 24, above, user,
+        tag !== null ? tagWord : share !== null ? share.word : 0, true, share);
     } finally {
       if (status !== DONE) {
         if (tag !== null) this.#things.free(tagWord);
@@ -122,6 +161,7 @@ export class Crossing {
     }
     if (status !== DONE) return this.#refused(status);
     const a = this.#a;
+    thing.engine = this;
     thing.owed = owed;
     thing.alone = place === ROOT && (kind === LEAF || kind === SHARED) ? BARE : NOT_ALONE;
     thing.slot = a[0], thing.top = a[1], thing.lo = a[2], thing.hi = a[3];
@@ -133,7 +173,7 @@ export class Crossing {
   #joined(share) {
     const a = this.#a;
     share.hub = a[10], share.hubHigh = a[11];
-    share.connection = a[8] !== 0 ? this.#named(share.make()) : null;
+    share.connection = a[8] !== 0 ? this.#named(share.make(this)) : null;
   }
 
   /** The same of a subscriber of a share that is a root, where nothing was put off. */
@@ -149,8 +189,13 @@ export class Crossing {
     try { status = this.#glue.open(); } catch (error) { throw this.#failed(error); } finally { if (status !== DONE) this.#things.free(user); }
     this.#made++;
     if (this.#a.length === 0) this.#look();
+    if (status === UNTAKEN) {
+      this.#untaken();
+      return this.openShare(thing, share);
+    }
     if (status !== DONE) return this.#refused(status);
     const a = this.#a;
+    thing.engine = this;
     thing.owed = 1;
     thing.alone = BARE;
     thing.slot = a[0], thing.top = a[1], thing.lo = a[2], thing.hi = a[3];
@@ -189,6 +234,7 @@ export class Crossing {
 
   /** An item. */
   next(node, value) {
+    if (this.#level > MOST) throw new RangeError(`cellarcliff: ${MOST} items came each from within the one before`);
     this.line = null;
     this.#begins();
     const word = this.#values.next();
@@ -196,7 +242,11 @@ export class Crossing {
     try { status = this.#glue.next(NEXT, node.slot, node.top, node.lo, node.hi, word); } catch (error) { throw this.#failed(error); }
     const made = ++this.#made;
     if (this.#a.length === 0) this.#look();
-    if (status !== DONE) return status;
+    if (status !== DONE) {
+      if (status !== UNTAKEN) return status;
+      this.#untaken();
+      return this.next(node, value);
+    }
     const a = this.#a;
     if (a[18] === 0 || a[14] !== 0 || a[58] !== 0 || a[54] !== word) return this.#act(value);
     // the usual case: one observer, who is told now
@@ -227,8 +277,8 @@ export class Crossing {
     return DONE;
   }
 
-  complete(node) { return this.#isRoomy() ? this.#endsNow(COMPLETE, node, 0, undefined) : this.#ends(COMPLETE, node); }
-  error(node, error) { return this.#isRoomy() ? this.#endsNow(ERROR, node, this.#values.next(), error) : this.#fails(ERROR, node, error); }
+  complete(node) { return this.#isRoomy() ? this.#endsNow(COMPLETE, node, undefined) : this.#ends(COMPLETE, node); }
+  error(node, error) { return this.#isRoomy() ? this.#endsNow(ERROR, node, error) : this.#fails(ERROR, node, error); }
   fail(node, error) { return this.#fails(FAIL, node, error); }
   decline(node) { return this.#ends(DECLINE, node); }
   dispose(node) { return this.#ends(DISPOSE, node); }
@@ -244,6 +294,10 @@ export class Crossing {
     this.line = null;
     this.#made++;
     if (this.#a.length === 0) this.#look();
+    if (status === UNTAKEN) {
+      this.#untaken();
+      return this.disposeFirst(node);
+    }
     if (status !== DONE) return OVER;
     const a = this.#a, e = this.#e;
     if (e[8] === 0 || e[6] !== 4 || node.alone !== BARE || a[14] > 1) return WAITS;
@@ -273,14 +327,18 @@ export class Crossing {
     return true;
   }
   // The same in one crossing with the first effect, where there is room for all.
-  #endsNow(what, node, word, value) {
+  #endsNow(what, node, value) {
     this.line = null;
     this.#begins();
     let status;
-    try { status = this.#glue.end(what, node.slot, node.top, node.lo, node.hi, word); } catch (error) { throw this.#failed(error); }
+    try { status = this.#glue.end(what, node.slot, node.top, node.lo, node.hi, what === ERROR ? this.#values.next() : 0); } catch (error) { throw this.#failed(error); }
     this.#made++;
     if (this.#a.length === 0) this.#look();
-    if (status !== DONE) return status;
+    if (status !== DONE) {
+      if (status !== UNTAKEN) return status;
+      this.#untaken();
+      return this.#endsNow(what, node, value);
+    }
     return this.#e[8] === 0 ? this.#act(value) : this.#ended(value);
   }
   // All of the answer and of the effect is read before anything is called.
@@ -298,7 +356,7 @@ export class Crossing {
   #fails(what, node, error) {
     this.line = null;
     this.#begins();
-    return this.#make(what, node, 0, this.#values.next()) || this.#act(error);
+    return this.#make(what, node, 0, THE_NEXT) || this.#act(error);
   }
 
   /** Something of the package's own that is done behind whatever the node's lane has. */
@@ -306,7 +364,7 @@ export class Crossing {
     this.#begins();
     const word = this.#things.take(new Errand(act));
     let status = -1;
-    try { status = this.#make(PUT, node, word, this.#values.next()); } finally { if (status !== DONE) this.#things.free(word); }
+    try { status = this.#make(PUT, node, word, THE_NEXT); } finally { if (status !== DONE) this.#things.free(word); }
     if (status === DONE) this.#act(undefined);
     return status;
   }
@@ -316,7 +374,10 @@ export class Crossing {
   #act(value) {
     const a = this.#a, copies = a[12], closed = a[14], due = a[16];
     if (a[18] !== 0) return this.#handed(value);
-    if (copies !== 0) this.#values.keep(value, copies);
+    if (copies !== 0) {
+      this.#values.keep(value, copies);
+      this.#queued += copies;
+    }
     if (closed === 0 && due === 0) return DONE;
     if (due <= 1) {
       const low = a[36], high = a[37];
@@ -346,11 +407,8 @@ export class Crossing {
       });
       return DONE;
     }
-    const made = this.#made, is_left = this.#tell(user, kind, value, low, high);
     // a projection that has let its lane go leaves nothing to serve
-    if (kind !== 1 || is_left !== true) {
-      if (this.#made === made) this.#leave(low, high); else this.#serve(low, high);
-    }
+    if (this.#tell(user, kind, value, low, high) !== true || kind !== 1) this.#serve(low, high);
     this.#end();
     return DONE;
   }
@@ -368,7 +426,18 @@ export class Crossing {
     this.#end();
   }
   #end() {
-    if (--this.#depth === 0 && this.#postponed !== null) this.#resume();
+    if (--this.#depth > 0) return;
+    this.#level = this.#ofLevel = this.#queued = 0;
+    if (this.#postponed !== null) this.#resume();
+  }
+  // An item that had to wait: those that wait behind the last of its level came of that level.
+  #toldOne() {
+    if (this.#ofLevel === 0) {
+      this.#level++;
+      this.#ofLevel = this.#queued;
+      this.#queued = 0;
+    }
+    this.#ofLevel--;
   }
 
   /** Serves each of the lanes (a list of their halves), until it has nothing. */
@@ -413,14 +482,14 @@ export class Crossing {
     this.#lastMade = -1;
     for (let is_first = true; ; is_first = false) {
       let count;
-      try { count = is_first ? this.#glue.take(low, high) : this.#glue.takeOn(low, high); } catch (error) {
+      try { count = this.#taken(low, high, is_first); } catch (error) {
         const why = this.#failed(error);
         if (this.dead !== null) throw why;
         return this.#postpone(() => this.#serve(low, high));
       }
       if (count === 0) return;
-      if (this.#e.length === 0) this.#look();
       const e = this.#e, kind = e[6], made = this.#made;
+      if (kind === 0) this.#toldOne();
       const it = this.#tell(e[0], kind, e[7] ? this.#values.give(e[2]) : undefined, low, high);
       // a root alone is told nothing more in its lane once it is gone and what it held is released
       if (it === true && (kind === 4 || kind === 5) && this.#made === made) return this.#leave(low, high);
@@ -478,40 +547,35 @@ export class Crossing {
   }
   #tellEnd(user, thing, kind, value, lane) {
     this.#drop(user, thing);
-    this.#ending.push(lane);
-    try {
-      if (kind === 2) thing.hears.heardEnd(); else thing.hears.heardError(value);
-    } finally { this.#ending.pop(); }
+    if (kind === 2) thing.hears.heardEnd(lane); else thing.hears.heardError(value, lane);
   }
 
   #report(error) {
     try { (this.#realm.report ?? later)(error); } catch { this.#postpone(() => (this.#realm.report ?? later)(error)); }
   }
 
-  /** Lets a lane go in the midst of serving it, so that a projection from within an inner observable comes at once. */
+  /** Lets a lane go in the midst of serving it, so that a projection from within an inner observable comes at once. Whether it has something. */
   giveUp({ low, high }) {
     this.#made++;
-    try { return this.#glue.giveUp(low, high) !== 0; } catch (error) { throw this.#failed(error); }
+    for (;;) {
+      let count;
+      try { count = this.#glue.giveUp(low, high); } catch (error) { throw this.#failed(error); }
+      if (count !== OF_ANOTHER) return count !== 0;
+      const e = this.#e;
+      this.#tellOn(e[0], e[6], e[7] ? this.#values.give(e[2]) : undefined);
+    }
   }
-
-  /** Its lane may have more. */
-  stir() { this.#made++; }
-  /** Serves what stands behind the end that is being told, and behind those that it comes of: what they held is released now. */
-  goOn() {
-    for (const it of [...this.#ending]) if (this.giveUp(it)) this.#serve(it.low, it.high);
+  /** Serves what stands behind the end that is being told in a lane: what was held is released now. Where there is no room it is once that has been told. */
+  goOn(lane) {
+    let is_left = false;
+    try { is_left = this.giveUp(lane); } catch (error) { if (this.dead !== null) throw error; }
+    if (is_left) this.#serve(lane.low, lane.high);
   }
-  /** What a program does as it hears an end does not come of that end: answers what `together` takes. */
-  apart() {
-    const ends = this.#ending;
-    this.#ending = [];
-    return ends;
-  }
-  together(ends) { this.#ending = ends; }
 
   // What the engine can say of itself.
 
   totals() {
-    this.#glue.take(-1, -1); // leaves the lane that is left with the next call
+    this.#taken(-1, -1, true); // leaves the lane that is left with the next call
     this.#wasm.cellar_totals(this.#places.engine, this.#places.words);
     if (this.#c.length === 0) this.#look();
     const words = new BigUint64Array(this.#wasm.memory.buffer, Number(this.#places.words), 8);
@@ -529,7 +593,7 @@ export class Crossing {
     let size = 65536;
     for (;;) {
       const at = this.#wasm.place(BigInt(size));
-      if (at === 0n) throw new Error('cellarcliff: no memory is left');
+      if (!at) throw new Error('cellarcliff: no memory is left');
       const status = this.#wasm.cellar_dump(engine, at, BigInt(size), count);
       this.#look();
       const told = Number(new BigUint64Array(this.#wasm.memory.buffer, Number(count), 1)[0]);

@@ -14,13 +14,13 @@ const list = (items) => [...unsigned(items.length), ...items.flat()];
 const sized = (body) => [...unsigned(body.length), ...body];
 const section = (number, items) => [number, ...sized(list(items))];
 
-const I32 = 0x7f, I64 = 0x7e, FUNCTION = 0, MEMORY = 2, GLOBAL = 3, IF = [0x04, 0x40], END = [0x0b], DROP = [0x1a], TRAP = [0x00];
+const I32 = 0x7f, I64 = 0x7e, FUNCTION = 0, MEMORY = 2, GLOBAL = 3, IF = [0x04, 0x40], END = [0x0b], DROP = [0x1a], RETURN = [0x0f];
 const LOAD_WIDE = [0xfd, 0, 4], STORE_WIDE = [0xfd, 11, 4, 0], ADD_WIDE = [0xfd, 0xce, 1];
 const ELSE = [0x05], MORE = [0x4a], LESS_ONE = [0x41, 1, 0x6b], SHIFT = [0x86], OR = [0x84], LONG = [0xad];
 const type = (from, to) => [0x60, ...list(from.map((it) => [it])), ...list(to.map((it) => [it]))];
 const get = (n) => [0x20, ...unsigned(n)], call = (n) => [0x10, ...unsigned(n)];
 const constant = (n) => [0x41, ...signed(n)], long = (n) => [0x42, ...signed(n)];
-const set = (n) => [0x21, ...unsigned(n)], isNone = [0x45], isSameNumber = [0x46], isSameLong = [0x51], isAtMostLong = [0x58], BOTH = [0x71];
+const set = (n) => [0x21, ...unsigned(n)], isNone = [0x45], isSameLong = [0x51], isAtMostLong = [0x58], BOTH = [0x71];
 const global = (n) => [0x23, ...unsigned(n)], setGlobal = (n) => [0x24, ...unsigned(n)];
 const load64 = (at) => [0x29, 3, ...unsigned(at)];
 const load32 = (at) => [0x28, 2, ...unsigned(at)], store32 = (at) => [0x36, 2, ...unsigned(at)];
@@ -28,19 +28,21 @@ const code = (locals, ...body) => sized([...list(locals), ...body.flat(), ...END
 
 // Numbers of functions and of globals, and of a command's fields.
 const MAKE = 0, TAKE = 1, GIVE_UP = 2, MAKE_BEHIND = 3, ROOM = 4, TAKES = 5, TAKES_ON = 10, MAKE_NEXT = 14, ALL = 15;
-const STILL_UNTAKEN = 6; // what is answered where the lane that is left has something
 const CLOSED_AT = 56, DUE_AT = 64, LANES_AT = 144, SHOWN = 8; // bytes within an answer, and how many of a list stand in it
 const BASE = 0, ENGINE = 1, COMMAND = 2, ANSWER = 3, EFFECT = 4, COUNT = 5, ENTERED = 6;
 /** Bytes behind the base at which the engine's handle, a command, an answer, an effect, a count and the lane that is left stand. */
 export const LAYOUT = { engine: 0, command: 64, answer: 128, effect: 384, count: 416, left: 432, words: 448, room: 64 };
 const field = (at, value) => [...global(BASE), ...value, ...store32(LAYOUT.command + at)];
-const entering = (...it) => [...global(ENTERED), ...IF, ...TRAP, ...END, ...constant(1), ...setGlobal(ENTERED), ...it.flat(), ...constant(0), ...setGlobal(ENTERED)];
+const left_engine = [...constant(0), ...setGlobal(ENTERED)], entering = (...it) => [...constant(1), ...setGlobal(ENTERED), ...it.flat(), ...left_engine];
 const lane = [...get(1), ...LONG, ...long(32), ...SHIFT, ...get(0), ...LONG, ...OR]; // of its two halves
 const left = (at) => [...global(BASE), ...load32(LAYOUT.left + at)];
-// The lane that was told all is left with the next command, or before anything else is taken or given up. If something were in it, that is a trap.
+// The lane that was told all is left with the next command, or before anything else is taken or given up. If something is in it, nothing else is done:
+// what stands first is answered with OF_ANOTHER, or by a command with its own status.
 const forgetLeft = [...global(BASE), ...constant(0), ...store32(LAYOUT.left + 8)];
 const leftLane = [...left(4), ...LONG, ...long(32), ...SHIFT, ...left(0), ...LONG, ...OR];
-const leaving = [...left(8), ...IF, ...left(0), ...left(4), ...call(TAKES), ...IF, ...TRAP, ...END, ...forgetLeft, ...END];
+/** What a taking answers that has found an effect in the lane that it leaves. */
+export const OF_ANOTHER = 2;
+const leaving = [...left(8), ...IF, ...forgetLeft, ...left(0), ...left(4), ...call(TAKES), ...IF, ...left_engine, ...constant(OF_ANOTHER), ...RETURN, ...END, ...END];
 const roomy = (n) => [...constant(n), ...call(n === 2 ? ALL : ROOM)];
 
 /** A function with a frame of so many bytes, which does what is `next` with a number that is not too large. */
@@ -96,7 +98,7 @@ const small = () => [
     code([[1, I32]], field(0, get(0)), nodeFields, field(32, constant(0)), field(40, get(5)), makesAndTakes(6), get(6)),
     code([[1, I32]], roomy(2), field(0, get(0)), nodeFields, makesAndTakes(5), get(5)), // a disposal, where there is room for all that it leads to
     // a command, and with it the lane is left that was told all
-    code([[1, I32]], left(8), IF, forgetLeft, global(ENGINE), leftLane, global(COMMAND), global(ANSWER), call(MAKE_BEHIND), set(0), get(0), constant(STILL_UNTAKEN), isSameNumber, IF, TRAP, END,
+    code([[1, I32]], left(8), IF, forgetLeft, global(ENGINE), leftLane, global(COMMAND), global(ANSWER), call(MAKE_BEHIND), set(0),
       ELSE, global(ENGINE), global(COMMAND), global(ANSWER), call(MAKE), set(0), END, get(0)),
 ];
 /** The bytes of the module. */

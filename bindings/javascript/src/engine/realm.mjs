@@ -9,8 +9,16 @@ export const realm = globalThis[KEY] ??= {
   /** Makes the engine of its module and of the one between, unless another copy of the package has made it. */
   start(module, glue) {
     if (this.engine) return;
-    this.engine = new Crossing(new WebAssembly.Instance(module).exports, glue, this);
+    this.make = () => new Crossing(new WebAssembly.Instance(module).exports, glue, this);
+    this.engine = this.make();
     atTheEnd(() => { if (this.engine.dead === null) this.engine.shut(); });
+  },
+  /** Has another engine in the place of this one, which is dead. */
+  renews(dead) {
+    if (this.engine !== dead) return;
+    const made = this.make();
+    made.tracing = dead.tracing;
+    this.engine = made;
   },
 };
 

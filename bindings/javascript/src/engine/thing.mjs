@@ -9,6 +9,7 @@ export class Thing {
   constructor(hears, body) {
     this.slot = this.top = this.lo = this.hi = -1; // a key that names nothing, until it is open
     this.owed = 0; // how many last effects its word is owed
+    this.engine = null; // in which it is open
     this.alone = NOT_ALONE;
     this.leaves = null; // what is called once it has closed, behind its body
     this.hears = hears;

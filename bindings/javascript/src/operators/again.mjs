@@ -24,13 +24,18 @@ function looping(start) {
 
 export const catchError = (selector) => operate((source, to) => {
   const caught = catchError(selector)(source);
-  let inner = null, other = null;
-  inner = new Link(to, undefined, undefined, (error) => {
+  let is_subscribing = true, other = null;
+  const inner = new Link(to, undefined, undefined, (error) => {
     other = innerFrom(selector(error, caught));
-    inner.leave();
-    other.subscribe(to);
+    if (!is_subscribing) goesOn();
   });
+  const goesOn = () => {
+    inner.unsubscribe();
+    other.subscribe(to);
+  };
   source.subscribe(inner);
+  is_subscribing = false;
+  if (other !== null) goesOn(); // a source that fails at once is torn down first
 });
 
 export function repeat(countOrConfig) {
@@ -44,10 +49,12 @@ export function repeat(countOrConfig) {
     let so_far = 0;
     const again = looping(() => {
       const inner = new Link(to, undefined, () => {
-        if (++so_far >= count) return to.complete();
-        inner.leave();
-        waits(delay, so_far, to, again);
+        if (++so_far >= count) to.complete(); else waits(delay, so_far, to, next);
       });
+      const next = () => {
+        inner.unsubscribe();
+        again();
+      };
       source.subscribe(inner);
     });
     again();
@@ -64,10 +71,13 @@ export function retry(configOrCount = Infinity) {
         if (resetOnSuccess) so_far = 0;
         to.next(value);
       }, undefined, (error) => {
-        if (so_far++ >= count) return to.error(error);
-        inner.leave();
-        waits(typeof delay === 'function' ? (many) => delay(error, many) : delay, so_far, to, again);
+        if (so_far++ >= count) to.error(error);
+        else waits(typeof delay === 'function' ? (many) => delay(error, many) : delay, so_far, to, next);
       });
+      const next = () => {
+        inner.unsubscribe();
+        again();
+      };
       source.subscribe(inner);
     });
     again();
@@ -101,15 +111,12 @@ const when = (of_error) => (notifier) => operate((source, to) => {
   let is_asked = false;
   const again = looping(() => {
     is_source_over = is_asked = false;
-    const it = inner = new Link(to, undefined, of_error ? undefined : () => {
+    inner?.unsubscribe();
+    inner = new Link(to, undefined, of_error ? undefined : () => {
       is_source_over = true;
-      it.leave();
       if (!done()) told().next(undefined);
-    }, of_error ? (error) => {
-      it.leave();
-      told().next(error);
-    } : undefined);
-    source.subscribe(it);
+    }, of_error ? (error) => told().next(error) : undefined);
+    source.subscribe(inner);
     if (is_asked) again();
   });
   again();
@@ -125,7 +132,7 @@ export function onErrorResumeNextWith(source, others) {
       if (all_left.length === 0) return to.complete();
       let next;
       try { next = innerFrom(all_left.shift()); } catch { return again(); }
-      const inner = new Link(to, undefined, () => inner.leave(), () => inner.leave(), () => again());
+      const inner = new Link(to, undefined, () => inner.unsubscribe(), () => inner.unsubscribe(), () => again());
       next.subscribe(inner);
     });
     const all_left = [...all];

@@ -98,7 +98,7 @@ export const bufferToggle = (openings, closingSelector) => operate((source, to) 
 export const bufferWhen = (closingSelector) => operate((source, to) => {
   let items = null, closes = null;
   const opens = () => {
-    closes?.leave();
+    closes?.unsubscribe();
     const told = items;
     items = [];
     if (told) to.next(told);

@@ -58,10 +58,10 @@ export class ConnectableObservable extends Observable {
     const connection = this._connection = new Subscription(), subject = this.getSubject(), ends = () => this._ended(connection);
     // the source is released before its end is told
     const link = new Link(subject, undefined, () => {
-      link.leave();
+      link.unsubscribe();
       subject.complete();
     }, (error) => {
-      link.leave();
+      link.unsubscribe();
       subject.error(error);
     }, ends);
     link.asked = 'connection';

@@ -2,8 +2,9 @@
 import { FLAT, INNER, SOURCE, SWITCH } from '../engine/codes.mjs';
 import { realm } from '../engine/realm.mjs';
 import { TERMINAL } from '../core/leaf.mjs';
-import { Place, openAt, openNode, settled } from '../core/place.mjs';
+import { MERGED, Place, failAt, openAt, openNode, openPass, settled } from '../core/place.mjs';
 import { operator } from '../core/operator.mjs';
+import { Subject } from '../core/subject.mjs';
 import { identity, isFunction } from '../core/util.mjs';
 import { innerFrom } from '../sources/from.mjs';
 import { map } from './items.mjs';
@@ -16,7 +17,9 @@ class Projects {
     this.call = call;
     this.way = way;
   }
-  opened(thing) { this.place = new Place(INNER, thing, null, this.way); }
+  opened(thing, inner) { this.place = new Place(INNER, thing, null, this.way, null, this.innerOf(inner)); }
+  /** What is released before an end within it is counted: all up to here. */
+  innerOf() { return MERGED; }
 
   // The lane of projections is let go before the inner observable is opened, so that what that tells from within comes at once.
   start(thing, value, lane) {
@@ -33,6 +36,31 @@ class Projects {
   shut() {}
 }
 
+/** The latest alone. The one before is released before the function is called: by a node that takes its place, in which the next one is opened. Where
+ *  that has nothing to release it is left as the next one is opened. */
+class Switches extends Projects {
+  holds = false;
+  innerOf(inner) { return inner; }
+  start(thing, value, lane) {
+    const at = this.holds ? openPass(this.place) : this.place;
+    if (at === null) return false;
+    let inner;
+    try { inner = innerFrom(this.call(value, this.index++)); } catch (error) {
+      if (at === this.place) realm.engine.fail(thing, error); else failAt(at, error);
+      return false;
+    }
+    this.holds = !isBare(inner);
+    const is_left = realm.engine.giveUp(lane);
+    openAt(inner, at);
+    return !is_left;
+  }
+}
+/** Whether it is a subject, through functions on items alone: who hears that holds nothing. */
+function isBare(it) {
+  while (it.operator?.is_stage && it.source) it = it.source;
+  return !it.operator && !it.source && it._open === Subject.prototype._open && it._subscribe === Subject.prototype._subscribe;
+}
+
 /** So many at a time; items that wait are owed to the engine, which so keeps the node open. */
 class Bounded extends Projects {
   wishes = true;
@@ -43,16 +71,15 @@ class Bounded extends Projects {
     super(call, way);
     this.bound = bound;
   }
-  opened(thing) {
+  opened(thing, inner) {
     this.place = new Place(INNER, thing, null, this.way, () => {
       this.active--;
       if (this.waiting.length && !this.is_over) realm.engine.surely(() => realm.engine.put(thing, (lane) => this.goOn(thing, lane)));
-    });
+    }, this.innerOf(inner));
   }
   project(thing, value, lane) {
     if (this.active < this.bound) return this.start(thing, value, lane);
     this.waiting.push(value);
-    realm.engine.stir();
     return false;
   }
   start(thing, value, lane) {
@@ -71,6 +98,7 @@ class Bounded extends Projects {
 
 /** One at a time; what comes meanwhile is left out. */
 class Exhausts extends Bounded {
+  innerOf(inner) { return inner; }
   project(thing, value, lane) {
     if (this.active === 0) return this.start(thing, value, lane);
     realm.engine.decline(thing);
@@ -83,8 +111,9 @@ const projecting = (kind, make) => operator((at, source) => {
   if (place === null) return;
   const body = make(place._way), thing = openNode(place, kind, body);
   if (thing === null) return;
-  body.opened(thing);
-  openAt(source, new Place(SOURCE, thing, null, TERMINAL));
+  const inner = place._inner && MERGED; // an end here need not be one above
+  body.opened(thing, inner);
+  openAt(source, new Place(SOURCE, thing, null, TERMINAL, null, inner));
 });
 
 const selecting = (project, resultSelector) => (a, i) => map((b, ii) => resultSelector(a, b, i, ii))(innerFrom(project(a, i)));
@@ -106,7 +135,7 @@ export const mergeAll = (concurrent = Infinity) => mergeMap(identity, concurrent
 export const concatAll = () => mergeAll(1);
 
 export const switchMap = (project, resultSelector) =>
-  projecting(SWITCH, (way) => new Projects(isFunction(resultSelector) ? selecting(project, resultSelector) : project, way));
+  projecting(SWITCH, (way) => new Switches(isFunction(resultSelector) ? selecting(project, resultSelector) : project, way));
 export const switchMapTo = (inner, resultSelector) =>
   (isFunction(resultSelector) ? switchMap(() => inner, resultSelector) : switchMap(() => inner));
 export const switchAll = () => switchMap(identity);
@@ -114,4 +143,4 @@ export const switchAll = () => switchMap(identity);
 export const exhaustMap = (project, resultSelector) =>
   projecting(FLAT, (way) => new Exhausts(isFunction(resultSelector) ? selecting(project, resultSelector) : project, way, 1));
 export const exhaustAll = () => exhaustMap(identity);
-export { exhaustAll as exhaust, projecting, Projects, Bounded };
+export { exhaustAll as exhaust, projecting, Projects, Bounded, Switches };

@@ -18,7 +18,11 @@ class Share {
   connection = null;
   status = DONE; // of the last command
   constructor(level) { this.level = level; }
-  make() { return new Thing(null, null); }
+  make(engine) {
+    const made = new Thing(null, null);
+    made.engine = engine;
+    return made;
+  }
 }
 
 /** How many shares stand one below another in an observable, as far as can be seen. */

@@ -23,7 +23,7 @@ function notifies(other, place) {
   if (isLeaf(other)) return openAt(other, place);
   const leaf = openLeaf(place);
   if (leaf === null) return;
-  const link = new Link(leaf, undefined, () => link.leave());
+  const link = new Link(leaf, undefined, () => link.unsubscribe());
   try { other.subscribe(link); } catch (error) { failing(leaf, error); }
 }
 
@@ -32,7 +32,7 @@ export function takeUntil(notifier) {
     const other = innerFrom(notifier), place = settled(at), body = { over: false, shut() { this.over = true; } }, thing = place && openNode(place, UNTIL, body);
     if (!thing) return;
     notifies(other, new Place(NOTIFIER, thing, null, new Notifies(TERMINAL)));
-    if (thing !== LEFT && !body.over) openAt(source, new Place(SOURCE, thing, null, place._way));
+    if (thing !== LEFT && !body.over) openAt(source, new Place(SOURCE, thing, null, place._way, null, place._inner));
   });
 }
 

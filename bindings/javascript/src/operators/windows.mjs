@@ -128,7 +128,7 @@ export const windowWhen = (closingSelector) => operate((source, to) => {
     to.error(error);
   };
   const opens = () => {
-    closes?.leave();
+    closes?.unsubscribe();
     now?.complete();
     now = new Subject();
     to.next(now.asObservable());

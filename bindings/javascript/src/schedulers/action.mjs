@@ -53,8 +53,7 @@ export class AsyncAction extends Subscription {
     return undefined;
   }
 
-  unsubscribe() {
-    if (this.closed) return;
+  _leave() {
     realm.engine.room();
     const { id, scheduler } = this, { actions } = scheduler, at = actions.indexOf(this);
     this.work = this.state = this.scheduler = null;

@@ -67,7 +67,7 @@ export function forkJoin(...words) {
         values[i] = value;
       }, () => {
         active--;
-        link.leave();
+        link.unsubscribe();
       }, undefined, () => {
         if (active && has) return;
         if (with_none === 0) to.next(keys ? objectOf(keys, values) : values);
@@ -100,7 +100,7 @@ export function zip(...words) {
   });
 }
 
-/** The first input that tells goes on; the others are left. */
+/** The first input that tells an item goes on, and the others are left; an end before that is the end. */
 export const raceInit = (inputs) => (to) => {
   const links = [];
   let winner = null;
@@ -110,16 +110,10 @@ export const raceInit = (inputs) => (to) => {
       winner = link;
       for (const it of links) if (it !== link) it.unsubscribe();
     };
-    const link = new Link(to, (value) => {
+    const isLosing = () => winner !== null && winner !== link, link = new Link(to, (value) => {
       wins();
-      if (winner === link) to.next(value);
-    }, () => {
-      wins();
-      if (winner === link) to.complete();
-    }, (error) => {
-      wins();
-      if (winner === link) to.error(error);
-    });
+      if (!isLosing()) to.next(value);
+    }, () => { if (!isLosing()) to.complete(); }, (error) => { if (!isLosing()) to.error(error); });
     links.push(link);
     innerFrom(inputs[i]).subscribe(link);
   }

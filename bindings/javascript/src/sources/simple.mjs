@@ -1,7 +1,7 @@
 // Sources that tell at once, or nothing, or what a function answers.
 import { Observable } from '../core/observable.mjs';
+import { Resource } from '../core/subscriber.mjs';
 import { LEFT, failAt, holdAt, openAt, openPass } from '../core/place.mjs';
-import { Tag } from '../engine/thing.mjs';
 import { traced } from '../engine/tracing.mjs';
 import { isFunction, isScheduler, noop, popScheduler } from '../core/util.mjs';
 import { fromArray, inOneGo, innerFrom } from './from.mjs';
@@ -45,9 +45,9 @@ export const using = (resourceFactory, observableFactory) => opened((at) => {
   // The node is open before the resource is made: so what an exchange releases is released before.
   const below = openPass(at);
   if (below === null) return;
-  const is_left = below._above === LEFT, tag = traced(new Tag(() => resource && resource.unsubscribe()), 'resource');
+  const is_left = below._above === LEFT, tag = traced(new Resource(null), 'resource');
   let resource, source = null;
-  try { resource = resourceFactory(); } catch (error) { return failAt(below, error); }
+  try { resource = tag.finalizer = resourceFactory(); } catch (error) { return failAt(below, error); }
   if (!is_left) holdAt(below, tag);
   try {
     const made = observableFactory(resource);

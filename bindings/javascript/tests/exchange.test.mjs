@@ -1,0 +1,183 @@
+// What comes next comes behind what was before: an inner observable, whatever operators it passes through, is released before the next one is projected,
+// subscribed to or counted.
+const INNERS = {
+  plain: () => (x) => x,
+  finalize: (rx) => rx.finalize(() => {}),
+  takeUntil: (rx) => rx.takeUntil(rx.NEVER),
+  retry: (rx) => rx.retry(1),
+  catchError: (rx) => rx.catchError((error) => rx.of(error)),
+  'tap of ends': (rx) => rx.tap({ complete() {} }),
+  timeout: (rx) => rx.timeout(1000),
+  withLatestFrom: (rx) => rx.pipe(rx.withLatestFrom(rx.of(1)), rx.map(([x]) => x)),
+  combineLatest: (rx) => (x) => rx.combineLatest([x, rx.of(1)]).pipe(rx.map(([it]) => it)),
+  forkJoin: (rx) => (x) => rx.forkJoin([x]).pipe(rx.map(([it]) => it)),
+  'an observable of its own': (rx) => (x) => new rx.Observable((to) => x.subscribe(to)),
+  'an observer of its own': (rx) => (x) => new rx.Observable((to) => x.subscribe({ next: (it) => to.next(it), error: (it) => to.error(it), complete: () => to.complete() })),
+  debounceTime: (rx) => rx.debounceTime(1),
+  switchMap: (rx) => rx.switchMap((x) => rx.of(x)),
+  mergeMap: (rx) => rx.mergeMap((x) => rx.of(x)),
+  first: (rx) => rx.first(),
+  defer: (rx) => (x) => rx.defer(() => x),
+  'several of them': (rx) => rx.pipe(rx.catchError(() => rx.EMPTY), rx.finalize(() => {}), rx.tap({ complete() {} }), rx.map((x) => x)),
+};
+const EXCHANGES = {
+  concatMap: ({ rx, job }) => rx.from([1, 2, 3]).pipe(rx.concatMap(job)),
+  'mergeMap, one at a time': ({ rx, job }) => rx.from([1, 2, 3]).pipe(rx.mergeMap(job, 1)),
+  concat: ({ rx, job }) => rx.concat(job(1), job(2), job(3)),
+  'expand, one at a time': ({ rx, job }) => rx.of(0).pipe(rx.expand((n) => (n < 3 ? job(n + 1) : rx.EMPTY), 1)),
+};
+
+function told(rx, wrap, make) {
+  const list = [], due = [], over = wrap(rx);
+  const job = (n) => over(new rx.Observable((to) => {
+    list.push(`made ${n}`);
+    due.push(() => {
+      to.next(n);
+      to.complete();
+    });
+    return () => list.push(`released ${n}`);
+  }));
+  make({ rx, job }).subscribe();
+  while (due.length) due.shift()();
+  return list;
+}
+const IN_TURN = ['made 1', 'released 1', 'made 2', 'released 2', 'made 3', 'released 3'];
+const test = (of, is) => ({ of: async (rx) => {
+  const list = [];
+  await of(rx, (it) => list.push(it));
+  return list;
+}, is });
+
+export const tests = {
+  'switchMap releases the inner observable before it calls the function': test((rx, say) => {
+    const words = new rx.Subject();
+    words.pipe(rx.switchMap((word) => {
+      say(`called ${word}`);
+      return rx.NEVER.pipe(rx.finalize(() => say(`released ${word}`)));
+    })).subscribe();
+    words.next('a');
+    words.next('ab');
+  }, ['called a', 'released a', 'called ab']),
+  'switchMap whose function throws has released the one before': test((rx, say) => {
+    const words = new rx.Subject();
+    words.pipe(rx.switchMap((word) => {
+      if (word === 'ab') throw new Error('no');
+      return rx.NEVER.pipe(rx.finalize(() => say('released')));
+    })).subscribe({ error: (error) => say(error.message) });
+    words.next('a');
+    words.next('ab');
+  }, ['released', 'no']),
+  'finalizers are called from the inner one outwards, with operators that listen by themselves between': test((rx, say) => {
+    const source = new rx.Subject(), last = (it) => rx.finalize(() => say(it));
+    source.pipe(last('a'), rx.tap({ complete() {} }), last('b'), rx.catchError(() => rx.EMPTY), last('c'), rx.withLatestFrom(rx.of(1)), last('d')).subscribe({ complete: () => say('end') });
+    source.complete();
+  }, ['end', 'a', 'b', 'c', 'd']),
+  'who leaves as it hears the end has released all': test((rx, say) => {
+    const source = new rx.Subject(), whole = new rx.Subscriber({ complete: () => {
+      whole.unsubscribe();
+      say('left');
+    } });
+    source.pipe(rx.finalize(() => say('a')), rx.tap({ complete() {} }), rx.finalize(() => say('b'))).subscribe(whole);
+    source.complete();
+  }, ['a', 'b', 'left']),
+  'catchError tears down a source that failed at once before it goes on': test((rx, say) => {
+    new rx.Observable((to) => {
+      to.error('no');
+      return () => say('torn down');
+    }).pipe(rx.catchError(() => rx.of('other'))).subscribe(say);
+  }, ['torn down', 'other']),
+  'the last of a merge is released before the end is told': test((rx, say) => {
+    const inner = new rx.Subject();
+    rx.of(1).pipe(rx.mergeMap(() => inner.pipe(rx.finalize(() => say('released'))))).subscribe({ complete: () => say('end') });
+    inner.complete();
+  }, ['released', 'end']),
+  'what stands around an operator that merges is not released before that has ended': { ...test((rx, say) => {
+    for (const flat of [rx.mergeMap, rx.switchMap, rx.exhaustMap]) {
+      const [source, first, last] = [new rx.Subject(), new rx.Subject(), new rx.Subject()];
+      rx.of(1).pipe(rx.concatMap(() => source.pipe(flat((it) => it), rx.finalize(() => say('released'))))).subscribe({ next: say, complete: () => say('end') });
+      source.next(first);
+      first.complete();
+      source.next(last);
+      source.complete();
+      last.next('item');
+      last.complete();
+    }
+  }, Array(3).fill(['item', 'end', 'released']).flat()), rxjs: Array(3).fill(['item', 'released', 'end']).flat() },
+  'expand goes by depth': test((rx, say) => {
+    rx.of(1).pipe(rx.expand((x) => (x < 6 ? rx.of(2 * x, 2 * x + 1) : rx.EMPTY))).subscribe(say);
+  }, [1, 2, 4, 8, 9, 5, 10, 11, 3, 6, 7]),
+  'expand whose inner observable fails behind its item has expanded that': test((rx, say) => {
+    rx.of(1).pipe(rx.expand((x) => (x < 4 ? rx.concat(rx.of(x + 1), rx.throwError(() => 'no')) : rx.EMPTY))).subscribe({ next: say, error: say });
+  }, [1, 2, 3, 4, 'no']),
+  'groupBy with a duration: a completion from within next': test((rx, say) => {
+    const source = new rx.Subject();
+    source.pipe(rx.groupBy((x) => x, { duration: () => rx.NEVER }), rx.mergeAll()).subscribe({ next: (x) => {
+      say(x);
+      source.complete();
+    }, complete: () => say('end') });
+    source.next(1);
+  }, [1, 'end']),
+  'what finalize or a resource throws goes to who unsubscribes': test((rx, say) => {
+    const fails = (it) => () => { throw new Error(it); };
+    for (const source of [rx.NEVER.pipe(rx.finalize(fails('a')), rx.finalize(fails('b'))), rx.using(() => ({ unsubscribe: fails('c') }), () => rx.NEVER)]) {
+      try { source.subscribe().unsubscribe(); } catch (error) { say([error.name, ...error.errors.map((it) => it.message)]); }
+    }
+  }, [['UnsubscriptionError', 'a', 'b'], ['UnsubscriptionError', 'c']]),
+  'a subject throws at once what its observer throws, where a program wants that': test((rx, say) => {
+    const subject = new rx.Subject();
+    rx.config.useDeprecatedSynchronousErrorHandling = true;
+    try {
+      subject.subscribe(() => { throw new Error('no'); });
+      subject.next(1);
+      say('nothing');
+    } catch (error) { say(error.message); } finally { rx.config.useDeprecatedSynchronousErrorHandling = false; }
+  }, ['no']),
+  'an unsubscribe that a program puts in the place of ours is called': test((rx, say) => {
+    const { prototype } = rx.Subscription, { unsubscribe } = prototype, whole = new rx.Subscription();
+    prototype.unsubscribe = function patched() {
+      say('called');
+      return unsubscribe.call(this);
+    };
+    try { whole.unsubscribe(); } finally { prototype.unsubscribe = unsubscribe; }
+  }, ['called']),
+};
+for (const [name, make] of Object.entries(EXCHANGES)) {
+  for (const [inner, wrap] of Object.entries(INNERS)) {
+    tests[`${name} of ${inner}: one behind the other`] = { of: (rx) => told(rx, wrap, make), is: IN_TURN };
+  }
+}
+
+export const only_ours = {
+  'two subjects that feed each other end with an error, and nothing is lost': test(async (rx, say) => {
+    const a = new rx.Subject(), b = new rx.Subject();
+    let heard = 0;
+    const reported = new Promise((resolve) => { rx.config.onUnhandledError = (error) => resolve(`${error.name} ${heard > 99000 && heard < 200000}`); });
+    a.subscribe((x) => {
+      heard++;
+      b.next(x);
+    });
+    b.subscribe((x) => a.next(x));
+    a.next(1);
+    say(await reported);
+    rx.config.onUnhandledError = null;
+    heard = 0;
+    a.subscribe(() => { if (heard < 3) return; a.complete(); });
+    a.next(2);
+    say(a.observed);
+  }, ['RangeError true', false]),
+  'a loop of 50,000 items, each from within the one before, ends by itself; so does one item with 200,000 from within': test((rx, say) => {
+    const subject = new rx.Subject(), many = new rx.Subject();
+    let last = 0, heard = 0;
+    subject.subscribe((x) => {
+      last = x;
+      if (x < 50000) subject.next(x + 1);
+    });
+    subject.next(1);
+    many.subscribe((x) => {
+      heard++;
+      if (x === 0) for (let i = 1; i <= 200000; i++) many.next(i);
+    });
+    many.next(0);
+    say([last, heard]);
+  }, [[50000, 200001]]),
+};
