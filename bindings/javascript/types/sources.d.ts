@@ -39,6 +39,8 @@ export declare function lastValueFrom<T, D>(source: Observable<T>, config: First
 export declare function of(): Observable<never>;
 /** @deprecated Use `scheduled`. */
 export declare function of<A extends readonly unknown[]>(...itemsAndScheduler: [...A, SchedulerLike]): Observable<A[number]>;
+export declare function of<T>(): Observable<T>;
+export declare function of<T>(item: T): Observable<T>;
 export declare function of<A extends readonly unknown[]>(...items: A): Observable<A[number]>;
 export declare function from<O extends ObservableInput<any>>(input: O): Observable<ObservedValueOf<O>>;
 /** @deprecated Use `scheduled`. */

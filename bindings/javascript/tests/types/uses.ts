@@ -114,3 +114,8 @@ new TestScheduler((a, b) => a === b).run(({ cold, hot, expectObservable, expectS
   expectSubscriptions(a.subscriptions).toBe('^-!');
 });
 must(is<number>()(rx.counts().nodes));
+
+interface User { id: number; name: string }
+export const of_a_type: [rx.Observable<User[]>, rx.Observable<string>, rx.Observable<User | null>, rx.Observable<number | string>, rx.Observable<[number, string]>, rx.Observable<never>, rx.Observable<User>] =
+  [rx.of<User[]>([]), rx.of<string>('x'), rx.of<User | null>(null), rx.of<number | string>(1), rx.of<[number, string]>([1, 'a']), rx.of(), rx.of<User>()];
+export const of_literals: rx.Observable<'a' | 'b'> = rx.of('a' as const, 'b' as const);
