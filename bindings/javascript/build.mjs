@@ -1,8 +1,11 @@
-// Makes the CommonJS form of the package of its ES modules: all of them in one function, in the order in which they need each other.
+// Makes the other forms of the package of its ES modules.
 //
-// Usage: node build.mjs [FOLDER]; writes FOLDER/cellarcliff.cjs and, over it, index.cjs, operators.cjs, testing.cjs. Without a folder it is
-// dist/, and the licence comes beside the package, for an archive. A name at the top of
-// a module is the only one of that name in all modules; this fails where two have the same.
+// - For Node, CommonJS: all modules in one, in the order in which they need each other. What is imported there are the names of that, so that a process has
+//   one library. A name at the top of a module is the only one of that name in all modules; this fails where two have the same.
+// - For bundlers and pages: the ES modules, and the engine within a module, as text, so that nothing has to be found or awaited.
+//
+// Usage: node build.mjs [FOLDER]; writes there cellarcliff.cjs and, over it, NAME.cjs and NAME.mjs of index, operators and testing. Without a folder it
+// is dist/, with inlined/ for bundlers, and the licence comes beside the package, for an archive.
 import { copyFileSync, existsSync, mkdirSync, readFileSync, writeFileSync } from 'node:fs';
 import { dirname, join, resolve } from 'node:path';
 import { fileURLToPath } from 'node:url';
@@ -66,5 +69,18 @@ mkdirSync(to, { recursive: true });
 writeFileSync(join(to, 'cellarcliff.cjs'), [`'use strict';`, text(order.filter(is_engine)), readFileSync(join(top, 'src/engine/load.cjs'), 'utf8'),
   text(order.filter((it) => !is_engine(it))), ...tables, ''].join('\n'));
 for (const it of ENTRIES) writeFileSync(join(to, `${it}.cjs`), `'use strict';\nmodule.exports = require('./cellarcliff.cjs').${it};\n`);
+const names = (entry) => [...exportsOf(join(top, `src/${entry}.mjs`)).keys()].filter((it) => it !== 'default');
+for (const it of ENTRIES) writeFileSync(join(to, `${it}.mjs`), `import library from './${it}.cjs';\nexport const { ${names(it).join(', ')} } = library;\n`);
+if (!process.argv[2]) {
+  const inlined = join(to, 'inlined'), wasm = process.env.CELLARCLIFF_WASM || join(top, 'engine.wasm');
+  mkdirSync(inlined, { recursive: true });
+  writeFileSync(join(inlined, 'engine.mjs'), `import { glue } from '../../src/engine/glue.mjs';\nimport { realm } from '../../src/engine/realm.mjs';\n
+if (!realm.engine) {
+  const text = atob('${readFileSync(wasm).toString('base64')}'), bytes = new Uint8Array(text.length);
+  for (let i = 0; i < text.length; i++) bytes[i] = text.charCodeAt(i);
+  realm.start(new WebAssembly.Module(bytes), new WebAssembly.Module(glue()));
+}\n`);
+  for (const it of ENTRIES) writeFileSync(join(inlined, `${it}.mjs`), `import './engine.mjs';\nexport * from '../../src/${it}.mjs';\n`);
+}
 const licence = join(top, '../../LICENSE.md');
 if (!process.argv[2] && existsSync(licence)) copyFileSync(licence, join(top, 'LICENSE'));

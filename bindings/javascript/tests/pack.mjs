@@ -1,11 +1,13 @@
-// Makes the archive of the package, installs it without a network, and runs programs over it: ES modules, CommonJS, both at once, types.
+// Makes the archive of the package, installs it without a network, and runs programs over it: ES modules, CommonJS, both at once, types, bundles.
 //
-// Usage: node pack.mjs, with engine.wasm beside the package, or named by CELLARCLIFF_WASM. It needs npm, and Debian's node-typescript for types.
+// Usage: node pack.mjs, with engine.wasm beside the package, or named by CELLARCLIFF_WASM. It needs npm, and Debian's node-typescript for types,
+// esbuild for bundles, and chromium for pages.
 import { execFileSync } from 'node:child_process';
 import { copyFileSync, existsSync, mkdirSync, mkdtempSync, readFileSync, rmSync, statSync, writeFileSync } from 'node:fs';
 import { tmpdir } from 'node:os';
 import { dirname, join } from 'node:path';
 import { fileURLToPath } from 'node:url';
+import { bundles } from './bundles.mjs';
 
 const top = dirname(dirname(fileURLToPath(import.meta.url))), work = mkdtempSync(join(tmpdir(), 'pack.'));
 const { CELLARCLIFF_WASM: given, ...rest } = process.env, env = { ...rest, npm_config_cache: join(work, 'cache'), npm_config_offline: 'true', npm_config_update_notifier: 'false' };
@@ -38,7 +40,7 @@ const other = createRequire(import.meta.url)('cellarcliff'), subject = new other
 const sub = rx.merge(subject, new rx.Subject()).subscribe((x) => console.log(x));
 subject.next(rx.counts().nodes === other.counts().nodes && rx.counts().nodes > 0);
 sub.unsubscribe();
-console.log(rx.counts().nodes, subject.observed, other.isObservable(rx.NEVER));`);
+console.log(rx.counts().nodes, subject.observed, Object.keys(other).every((it) => other[it] === rx[it]));`);
   is('as ES modules', run(['node', 'a.mjs'], home), SAID);
   is('as CommonJS', run(['node', 'b.cjs'], home), SAID);
   is('both in one realm', run(['node', 'both.mjs'], home), 'true\n0 false true');
@@ -48,6 +50,11 @@ import { TestScheduler } from 'cellarcliff/testing';\nexport const it: Observabl
     run(['tsc', '--strict', '--noEmit', '--target', 'es2020', '--module', 'node16', '--moduleResolution', 'node16', file], home);
     console.log(`types, ${type}: as they are to be`);
   }
+  writeFileSync(join(home, 'tsconfig.json'), '{ "compilerOptions": { "strict": true, "noEmit": true, "target": "es2020", "module": "commonjs", "moduleResolution": "node" }, "files": ["v.ts"] }');
+  writeFileSync(join(home, 'v.ts'), "import { of } from 'cellarcliff';\nimport { map } from 'cellarcliff/operators';\nimport { TestScheduler } from 'cellarcliff/testing';\nexport const it = of(1).pipe(map(String)), made = TestScheduler;\n");
+  run(['tsc', '-p', '.'], home);
+  console.log('types, moduleResolution node: as they are to be');
+  await bundles(home, run, is);
   console.log(`a page needs ${statSync(join(home, 'node_modules/cellarcliff/engine.wasm')).size} bytes of WebAssembly`);
 } catch (error) {
   console.log(error.stdout ?? '', error.stderr ?? '', error.message);

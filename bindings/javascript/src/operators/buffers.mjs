@@ -69,6 +69,7 @@ export function bufferTime(span, ...words) {
         subs.unsubscribe();
         to.next(items);
       }
+      link.unsubscribe();
       to.complete();
     }, undefined, () => { records = []; });
     source.subscribe(link);
