@@ -1,10 +1,9 @@
-// The installed package in bundles: by esbuild and, where its plugin is there, rollup (both as Debian has them), in each form, for old and new platforms; run in Node, and
-// one of each kind in headless Chromium.
+// The installed package in bundles: by esbuild and rollup, as Debian has them, in each form, for old and new platforms; run in Node, and some in headless
+// Chromium.
 import { execFileSync } from 'node:child_process';
-import { existsSync, mkdirSync, statSync, writeFileSync } from 'node:fs';
+import { mkdirSync, readFileSync, statSync, writeFileSync } from 'node:fs';
 import { join } from 'node:path';
 import { gzipSync } from 'node:zlib';
-import { readFileSync } from 'node:fs';
 import { inChromium } from './chromium.mjs';
 
 const PROGRAM = `const told = [], source = new Subject();
@@ -40,12 +39,11 @@ export async function bundles(home, run, is) {
       if (form.includes('minified')) console.log(`  ${statSync(join(home, to)).size} bytes, ${gzipSync(readFileSync(join(home, to)), { level: 9 }).length} by gzip`);
     }
   }
-  const plugins = '/usr/share/nodejs/@rollup';
-  if (existsSync(`${plugins}/plugin-node-resolve`)) {
-    writeFileSync(join(home, 'rollup.config.mjs'), `import { createRequire } from 'node:module';\nconst { nodeResolve } = createRequire('/usr/share/nodejs/')('@rollup/plugin-node-resolve');
-export default ['es', 'iife', 'cjs'].map((format) => ({ input: 'what-it-needs.mjs', plugins: [nodeResolve({ browser: true })], output: { format, file: \`out/rollup-\${format}.\${format === 'es' ? 'mjs' : 'cjs'}\` } }));\n`);
-    run(['rollup', '--silent', '-c', 'rollup.config.mjs'], home);
-    for (const it of ['es.mjs', 'iife.cjs', 'cjs.cjs']) is(`rollup, ${it.split('.')[0]}`, run(['node', `out/rollup-${it}`], home), SAID);
+  // by its path, since Debian's rollup has no plugin that looks in node_modules
+  writeFileSync(join(home, 'by-path.mjs'), PROGRAMS['what it needs'].replace("'cellarcliff'", "'./node_modules/cellarcliff/dist/inlined/index.mjs'"));
+  for (const [format, kind] of [['es', 'mjs'], ['iife', 'cjs'], ['cjs', 'cjs']]) {
+    run(['rollup', '--silent', 'by-path.mjs', '--format', format, '--file', `out/rollup-${format}.${kind}`], home);
+    is(`rollup, ${format}`, run(['node', `out/rollup-${format}.${kind}`], home), SAID);
   }
   for (const [it, is_module] of pages) {
     const also = (request, response, path) => {

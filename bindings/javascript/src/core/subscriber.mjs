@@ -101,17 +101,17 @@ export class Subscriber extends Subscription {
     this.unsubscribe();
   }
 
-  // what the engine tells of the root
+  // What the engine tells of the root. It is left behind its end, whatever a class of a program makes of that.
   hear(value) { if (!this.isStopped) this.next(value); }
   heardError(error, lane) {
     this._thing = null;
     this._lane = lane;
-    if (!this.isStopped) this.error(error); else this._over();
+    try { if (!this.isStopped) this.error(error); } finally { this._over(); }
   }
   heardEnd(lane) {
     this._thing = null;
     this._lane = lane;
-    if (!this.isStopped) this.complete(); else this._over();
+    try { if (!this.isStopped) this.complete(); } finally { this._over(); }
   }
   heardGone() {
     this._thing = null;

@@ -432,7 +432,7 @@ export class Crossing {
   }
   // An item that had to wait: those that wait behind the last of its level came of that level.
   #toldOne() {
-    if (this.#ofLevel === 0) {
+    if (this.#ofLevel <= 0) {
       this.#level++;
       this.#ofLevel = this.#queued;
       this.#queued = 0;

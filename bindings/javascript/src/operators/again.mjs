@@ -49,12 +49,10 @@ export function repeat(countOrConfig) {
     let so_far = 0;
     const again = looping(() => {
       const inner = new Link(to, undefined, () => {
-        if (++so_far >= count) to.complete(); else waits(delay, so_far, to, next);
-      });
-      const next = () => {
+        if (++so_far >= count) return to.complete();
         inner.unsubscribe();
-        again();
-      };
+        waits(delay, so_far, to, again);
+      });
       source.subscribe(inner);
     });
     again();

@@ -56,12 +56,12 @@ export class ConnectableObservable extends Observable {
   connect() {
     if (this._connection) return this._connection;
     const connection = this._connection = new Subscription(), subject = this.getSubject(), ends = () => this._ended(connection);
-    // the source is released before its end is told
+    // the source is released before its end is told, unless it ends as it is subscribed to
     const link = new Link(subject, undefined, () => {
-      link.unsubscribe();
+      ends();
       subject.complete();
     }, (error) => {
-      link.unsubscribe();
+      ends();
       subject.error(error);
     }, ends);
     link.asked = 'connection';

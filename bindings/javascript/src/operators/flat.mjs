@@ -42,10 +42,12 @@ class Switches extends Projects {
   holds = false;
   innerOf(inner) { return inner; }
   start(thing, value, lane) {
-    const at = this.holds ? openPass(this.place) : this.place;
-    if (at === null) return false;
-    let inner;
-    try { inner = innerFrom(this.call(value, this.index++)); } catch (error) {
+    let at = this.place, inner;
+    try {
+      if (this.holds) at = openPass(at);
+      if (at === null) return false;
+      inner = innerFrom(this.call(value, this.index++));
+    } catch (error) {
       if (at === this.place) realm.engine.fail(thing, error); else failAt(at, error);
       return false;
     }
