@@ -1,0 +1,63 @@
+/* What the header leaves open, and who decides it: a row for each choice, chance, or another engine that is followed. */
+#ifndef NASTY_CHOICES_H
+#define NASTY_CHOICES_H
+
+#include <stdbool.h>
+
+#include "cellarcliff.h"
+
+/* A name, how often of a thousand times it is not as the library has it, and what leaves it open. */
+#define CHOICES(ROW)                                                                                                                  \
+  ROW(LANES, "lanes", 500, "`lanes`: names of lanes (of their order nothing is said)")                                                \
+  ROW(CLOSINGS, "closings", 500, "`closings`: words of nodes. Read them all before the first is acted on")                            \
+  ROW(NAMES, "names", 900, "`lanes`: names of lanes. Pass the name as the answer had it")                                             \
+  ROW(SLOTS, "slots", 900, "Plain values, which may be copied, kept. `number` is never given twice (of `slot` nothing is said)")      \
+  ROW(HUBS, "hubs", 500, "A share gets a hub; CELLAR_NO_HUB: each hub of the mode serves another share (which one is not said)")      \
+  ROW(HUB_WORDS, "hub-words", 900, "A hub in a command is a hint: any number may stand there, and none changes an answer")            \
+  ROW(MAKING, "making", 20, "the engine may have made a checkpoint, or hubs for shares, which its events tell")                       \
+  ROW(FORCED, "forced", 500, "cellar_event: one event of the history (of what a command forces no order is said)")                    \
+  ROW(RELEASES, "releases", 500, "A tag is owed one CELLAR_E_RELEASE (among those of one command no order is said)")                  \
+  ROW(ORDER, "order", 0, "Behind that no effect has its word for that role (where releases stand among the others is not said)")      \
+  ROW(OTHERS, "others", 900, "cellar_event: what `other` of a holding says is open")                                                   \
+  ROW(HANDED, "handed", 0, "`handed`: 1 if all that comes of it is the item `effect` (see the README)")                               \
+  ROW(PARTS, "parts", 500, "cellar_rest: *count (that as many come as there is room for is not said)")                                \
+  ROW(FORGETS, "forgets", 500, "The rest of the answer of the last command: before any other command or taking")                      \
+  ROW(LEFT, "left", 500, "cellar_left: from this place on (0 at first), *next where to go on")                                        \
+  ROW(VALUES, "values", 900, "CELLAR_E_COMPLETED: user (what its `value` is, which it does not carry, is not said)")                  \
+  ROW(CHECKPOINTS, "checkpoints", 100, "but for a checkpoint, which may be refused and is then made by a later command")              \
+  ROW(MEMORY, "memory", 0, "Only CELLAR_OPEN .. and cellar_dump may answer CELLAR_NO_MEMORY")                                         \
+  ROW(BEFORE, "before", 0, "An opening may answer it before a cause of its own")
+
+enum choice {
+#define ROW(id, name, often, open) id,
+  CHOICES(ROW)
+#undef ROW
+      MANY_CHOICES
+};
+
+/* What an engine that is followed came to. */
+struct told {
+  const struct cellar_event *events; /* all of its history */
+  uint64_t many_events;
+  uint8_t status;
+  uint64_t handed;
+  const char *differs; /* why no choice explains it */
+};
+
+struct chooser {
+  uint64_t state;
+  struct told *told; /* none where chance decides */
+};
+
+/* One of so many, where 0 is what the library does. */
+uint64_t choose(struct chooser *chooser, enum choice which, uint64_t many);
+/* An odd number: of 64 bits, small, or near a power of two. */
+uint64_t odd_number(struct chooser *chooser, enum choice which, uint64_t plain);
+/* Puts the list into some order. */
+void shuffle(struct chooser *chooser, enum choice which, uint64_t *words, uint64_t many);
+/* The next engine's own chance. */
+struct chooser new_chooser(void);
+/* No choice explains what is followed. */
+void differs(struct chooser *chooser, const char *why);
+
+#endif
