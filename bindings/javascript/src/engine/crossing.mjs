@@ -34,8 +34,9 @@ export class Crossing {
     this.#base = Number(wasm.place(BigInt(1024)));
     this.#places = Object.fromEntries(Object.entries(LAYOUT).map(([name, at]) => [name, BigInt(this.#base + at)]));
     new Uint8Array(wasm.memory.buffer, this.#base, 1024).fill(0);
-    const abi = wasm.cellar_abi(); // the lower half counts what was added: here `cellar_make_behind`
-    if (abi >>> 16 !== 1 || (abi & 0xffff) < 1) throw new Error('cellarcliff: the module has another interface');
+    // 1.1 added `cellar_make_behind`; 2.0 took calls away that are not made here
+    const abi = wasm.cellar_abi();
+    if (abi < 0x10001 || abi >>> 16 > 2) throw new Error('cellarcliff: the module has another interface');
     const status = wasm.cellar_new(this.#places.engine, 0);
     if (status) throw new Error(`cellarcliff: no engine was made (${status})`);
     const globals = ['engine', 'command', 'answer', 'effect', 'count'].map((it) => [it, new WebAssembly.Global({ value: 'i64' }, this.#places[it])]);
