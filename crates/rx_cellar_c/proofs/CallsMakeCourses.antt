@@ -27,11 +27,11 @@ use Rattle.rx_cellar.specs.Serving.{IsTakenIf, IsTakeTold, Gives, GivesBackIf, I
 use Rattle.rx_cellar.specs.Words.{is_inside}
 use Rattle.rx_cellar_c.specs.Calls.{IsCalled, calls, has_none, IsLooked, looks, looks_at_none}
 use Rattle.rx_cellar_c.specs.Calls.{IsMade, makes, is_starved, is_held, finishes, is_untaken, is_absent}
-use Rattle.rx_cellar_c.specs.Courses.{Sight, was_told, came_back, tag_asked, acts_made, acts_taken, acts_behind, had_back, all_back}
+use Rattle.rx_cellar_c.specs.Courses.{Seen, was_told, came_back, tag_asked, acts_made, acts_taken, acts_behind, had_back, all_back}
 use Rattle.rx_cellar_c.specs.Courses.{acts_given_up, lane_of_word}
 use Rattle.rx_cellar_c.specs.Courses.{IsCellarCall, cellar_make, cellar_make_behind, cellar_take, cellar_give_up, cellar_left, cellar_rest, cellar_totals}
 use Rattle.rx_cellar_c.specs.Courses.{cellar_event, cellar_dump, cellar_new, cellar_finish, CellarCourse, no_export, exports}
-use Rattle.rx_cellar_c.specs.Courses.{sight_of_taken, given_back_of, IsEngineCourse, AreCallsCourses}
+use Rattle.rx_cellar_c.specs.Courses.{seen_told, seen_back, IsEngineCourse, AreCallsCourses}
 use Rattle.rx_cellar_c.proofs.EngineCourses.{unchanged, by_take, by_giving_up, and_then}
 use Rattle.rx_cellar_c.proofs.CommandsMakeCourses.{told_due, tidy, tried}
 
@@ -70,12 +70,12 @@ asked_made g asked by s t a b status kept (is_done o u v tidies made counts tell
     let before = tidy g (is_due s) s u kept tidies in
     subst (λ (x : State). IsEngineCourse g s.engine x (acts_made (Some asked) 0 x.parts.lanes.due b)) (sym (ap (λ (c : Cellar). c.engine) counts))
     (subst (λ (y : Answer). IsEngineCourse g s.engine v.engine (acts_made (Some asked) 0 v.engine.parts.lanes.due y)) (sym tells)
-    (subst (λ (xs : List Sight). IsEngineCourse g s.engine v.engine xs) (sym (done_acts asked v.engine.parts.lanes.due o.made o.given v.engine a))
+    (subst (λ (xs : List Seen). IsEngineCourse g s.engine v.engine xs) (sym (done_acts asked v.engine.parts.lanes.due o.made o.given v.engine a))
     (and_then before.0 (tried g asked by u v (Ok o) before.1 made))))
 asked_made g asked by s t a b status kept (is_not_done why u tidies made same) =
     let before = tidy g (is_due s) s u kept tidies in
     subst (λ (y : Answer). IsEngineCourse g s.engine t.engine (acts_made (Some asked) (refusal_status why) t.engine.parts.lanes.due y)) (sym same)
-    (subst (λ (xs : List Sight). IsEngineCourse g s.engine t.engine xs)
+    (subst (λ (xs : List Seen). IsEngineCourse g s.engine t.engine xs)
     (sym (refused_acts (Some asked) (refusal_status why) t.engine.parts.lanes.due a (refusals_differ why).0))
     (and_then before.0 (tried g asked by u t (Err why) before.1 made)))
 
@@ -83,7 +83,7 @@ made : (g : Ghosts Token) (asked : Option Asked) (by : ℕ) (s t : Cellar) (a b 
     IsMadeIf g asked by s t (no_answer a) b status → IsEngineCourse g s.engine t.engine (acts_made asked status t.engine.parts.lanes.due b)
 made g None by s t a b status kept (five, same, none) =
     subst (λ (y : Answer). IsEngineCourse g s.engine t.engine (acts_made None status t.engine.parts.lanes.due y)) (sym none)
-    (subst (λ (xs : List Sight). IsEngineCourse g s.engine t.engine xs)
+    (subst (λ (xs : List Seen). IsEngineCourse g s.engine t.engine xs)
     (sym (refused_acts None status t.engine.parts.lanes.due a (ap (λ (n : ℕ). n == 0) five)))
     (unchanged g s.engine t.engine (ap (λ (c : Cellar). c.engine) same)))
 made g (Some asked) by s t a b status kept is = asked_made g asked by s t a b status kept is
@@ -101,7 +101,7 @@ made_not_six g (Some asked) by s t a b status is = asked_not_six g asked by s t 
 
 -- serving ------------------------------------------------------------------------------------------------
 
-abbrev given_acts : Option LaneName → Option Effect → List Sight
+abbrev given_acts : Option LaneName → Option Effect → List Seen
 given_acts None given = []
 given_acts (Some name) None = []
 given_acts (Some name) (Some e) = was_told name e ∷ []
@@ -111,7 +111,7 @@ taken : (g : Ghosts Token) (o : Option LaneName) (inside : Bool) (by : ℕ) (s t
 taken g None inside by s t given kept (same, none) = unchanged g s.engine t.engine (ap (λ (c : Cellar). c.engine) same)
 taken g (Some name) inside by s t given kept k =
     by_given k.given (by_take g s.engine t.engine name inside by k.given kept k.take) k.is_shown where
-      by_given : (o : Option Sent) → IsEngineCourse g s.engine t.engine (sight_of_taken name o) → given ≡ option_map effect_of o →
+      by_given : (o : Option Sent) → IsEngineCourse g s.engine t.engine (seen_told name o) → given ≡ option_map effect_of o →
           IsEngineCourse g s.engine t.engine (given_acts (Some name) given)
       by_given None p same = subst (λ (x : Option Effect). IsEngineCourse g s.engine t.engine (given_acts (Some name) x)) (sym same) p
       by_given (Some sent) p same = subst (λ (x : Option Effect). IsEngineCourse g s.engine t.engine (given_acts (Some name) x)) (sym same) p
@@ -133,11 +133,11 @@ take_told g word by s t effect effect' count status kept k =
           count ≡ count_of o → IsEngineCourse g s.engine t.engine (acts_taken (lane_of_word s word) count effect')
       by_given None p written told =
           subst (λ (n : ℕ). IsEngineCourse g s.engine t.engine (acts_taken (lane_of_word s word) n effect')) (sym told)
-          (subst (λ (xs : List Sight). IsEngineCourse g s.engine t.engine xs) (sym (uncounted_acts (lane_of_word s word) effect')) p)
+          (subst (λ (xs : List Seen). IsEngineCourse g s.engine t.engine xs) (sym (uncounted_acts (lane_of_word s word) effect')) p)
       by_given (Some e) p written told =
           subst (λ (n : ℕ). IsEngineCourse g s.engine t.engine (acts_taken (lane_of_word s word) n effect')) (sym told)
           (subst (λ (x : Effect). IsEngineCourse g s.engine t.engine (acts_taken (lane_of_word s word) 1 x)) (sym written)
-          (subst (λ (xs : List Sight). IsEngineCourse g s.engine t.engine xs) (sym (counted_acts (lane_of_word s word) e)) p))
+          (subst (λ (xs : List Seen). IsEngineCourse g s.engine t.engine xs) (sym (counted_acts (lane_of_word s word) e)) p))
 
 none_given : (o : Option LaneName) → given_acts o None ≡ []
 none_given None = refl
@@ -150,14 +150,14 @@ made_or_found g word c s t a b status kept (made_behind u n none stands is) =
     subst (λ (six : Bool). IsEngineCourse g s.engine t.engine
     (if six then acts_taken (lane_of_word s word) b.handed b.effect else acts_made (asked_of c) n t.engine.parts.lanes.due b))
     (sym (made_not_six g (asked_of c) c.by u t (no_answer a) b n is))
-    (and_then (subst (λ (xs : List Sight). IsEngineCourse g s.engine u.engine xs) (none_given (lane_of_word s word))
+    (and_then (subst (λ (xs : List Seen). IsEngineCourse g s.engine u.engine xs) (none_given (lane_of_word s word))
     (taken g (lane_of_word s word) (is_inside word) c.by s u None kept none)) (made g (asked_of c) c.by u t a b n stands is))
 made_or_found g word c s t a b status kept (found_one given one only) =
     subst (λ (y : Answer). IsEngineCourse g s.engine t.engine (acts_taken (lane_of_word s word) y.handed y.effect)) (sym only)
-    (subst (λ (xs : List Sight). IsEngineCourse g s.engine t.engine xs) (sym (counted_acts (lane_of_word s word) given))
+    (subst (λ (xs : List Seen). IsEngineCourse g s.engine t.engine xs) (sym (counted_acts (lane_of_word s word) given))
     (taken g (lane_of_word s word) (is_inside word) c.by s t (Some given) kept one))
 
-abbrev sent_back : LaneName → Option Sent → List Sight
+abbrev sent_back : LaneName → Option Sent → List Seen
 sent_back name None = []
 sent_back name (Some sent) = came_back name (effect_of sent) ∷ []
 
@@ -165,7 +165,7 @@ gives : (g : Ghosts Token) (name : LaneName) (by : ℕ) (sent : Option Sent) (s 
     Gives name by sent s t is_left status → IsEngineCourse g s.engine t.engine (if status == 0 then sent_back name sent else [])
 gives g name by sent s t is_left status kept k =
     by_answer k.answer sent (by_giving_up g s.engine t.engine name by sent k.answer kept k.give) k.status_is where
-      by_answer : (o : Option Bool) (x : Option Sent) → IsEngineCourse g s.engine t.engine (given_back_of name o x) → status ≡ given_up_status o →
+      by_answer : (o : Option Bool) (x : Option Sent) → IsEngineCourse g s.engine t.engine (seen_back name o x) → status ≡ given_up_status o →
           IsEngineCourse g s.engine t.engine (if status == 0 then sent_back name x else [])
       by_answer None x p is = subst (λ (n : ℕ). IsEngineCourse g s.engine t.engine (if n == 0 then sent_back name x else [])) (sym is) p
       by_answer (Some left) None p is = subst (λ (n : ℕ). IsEngineCourse g s.engine t.engine (if n == 0 then [] else [])) (sym is) p
@@ -173,7 +173,7 @@ gives g name by sent s t is_left status kept k =
           subst (λ (n : ℕ). IsEngineCourse g s.engine t.engine (if n == 0 then came_back name (effect_of e) ∷ [] else [])) (sym is) p
 
 -- nothing was given up
-not_given_up : (g : Ghosts Token) (s t : Cellar) (status : ℕ) (acts : List Sight) → t ≡ s → (status == 0) ≡ false →
+not_given_up : (g : Ghosts Token) (s t : Cellar) (status : ℕ) (acts : List Seen) → t ≡ s → (status == 0) ≡ false →
     IsEngineCourse g s.engine t.engine (if status == 0 then acts else [])
 not_given_up g s t status acts same not_done =
     subst (λ (b : Bool). IsEngineCourse g s.engine t.engine (if b then acts else [])) (sym not_done)
@@ -219,7 +219,7 @@ said {Says} s t status (calls {s = a} {t = b} was is kept says) =
     )
 said s t status (has_none was is blank done) = absurd (cc)
 
-abbrev Goes : Ghosts Token → Cellar → Cellar → List Sight → Type 0
+abbrev Goes : Ghosts Token → Cellar → Cellar → List Seen → Type 0
 Goes g s t acts = IsEngineCourse g s.engine t.engine acts × IsPromised t.engine
 
 stays : (g : Ghosts Token) (s t : Cellar) → IsPromised s.engine → t ≡ s → Goes g s t []
@@ -231,33 +231,33 @@ looked : {Says : Cellar → ℕ → Type 0} {IsBlank : Type 0} (g : Ghosts Token
 looked g s t status kept (looks {s = a} was is says) = stays g s t kept (same_Some t a is ∙ sym (same_Some s a was))
 looked g s t status kept (looks_at_none was is blank done) = absurd (cc)
 
-by_export : {g : Ghosts Token} {s t : Cellar} {acts : List Sight} → IsPromised s.engine → IsCellarCall g s acts t → Goes g s t acts
-by_export {g} {s} {t} kept (cellar_make {status = status} command a b c) =
+by_call : {g : Ghosts Token} {s t : Cellar} {acts : List Seen} → IsPromised s.engine → IsCellarCall g s acts t → Goes g s t acts
+by_call {g} {s} {t} kept (cellar_make {status = status} command a b c) =
     let p = said s t status c in (made g (asked_of command) command.by s t a b status kept p.0, p.1)
-by_export {g} {s} {t} kept (cellar_make_behind {status = status} lane command a b c) =
+by_call {g} {s} {t} kept (cellar_make_behind {status = status} lane command a b c) =
     let p = said s t status c in (made_or_found g lane command s t a b status kept p.0, p.1)
-by_export {g} {s} {t} kept (cellar_take {effect = e} {effect' = f} {count = count} {status = status} lane by c) =
+by_call {g} {s} {t} kept (cellar_take {effect = e} {effect' = f} {count = count} {status = status} lane by c) =
     let p = said s t status c in (take_told g lane by s t e f count status kept p.0, p.1)
-by_export {g} {s} {t} kept (cellar_give_up {is_left = is_left} {status = status} lane by untold c) =
+by_call {g} {s} {t} kept (cellar_give_up {is_left = is_left} {status = status} lane by untold c) =
     let p = said s t status c in (given_up g lane by untold s t is_left status kept p.0, p.1)
-by_export {g} {s} {t} kept (cellar_left {status = status} from c) = looked g s t status kept c
-by_export {g} {s} {t} kept (cellar_rest {status = status} which from c) = looked g s t status kept c
-by_export {g} {s} {t} kept (cellar_totals {status = status} c) = looked g s t status kept c
-by_export {g} {s} {t} kept (cellar_event {status = status} place c) = looked g s t status kept c
-by_export {g} {s} {t} kept (cellar_dump {status = status} c) = looked g s t status kept c
-by_export {g} {s} {t} kept (cellar_new max_events (makes was is new stands done)) = absurd (cc)
-by_export {g} {s} {t} kept (cellar_new max_events (is_starved was is done)) = absurd (cc)
-by_export {g} {s} {t} kept (cellar_new max_events (is_held was same done)) = stays g s t kept (same_Some t s same)
-by_export {g} {s} {t} kept (cellar_finish (finishes was is over done)) = absurd (cc)
-by_export {g} {s} {t} kept (cellar_finish (is_untaken was same over done)) = stays g s t kept (same_Some t s same)
-by_export {g} {s} {t} kept (cellar_finish (is_absent was is done)) = absurd (cc)
+by_call {g} {s} {t} kept (cellar_left {status = status} from c) = looked g s t status kept c
+by_call {g} {s} {t} kept (cellar_rest {status = status} which from c) = looked g s t status kept c
+by_call {g} {s} {t} kept (cellar_totals {status = status} c) = looked g s t status kept c
+by_call {g} {s} {t} kept (cellar_event {status = status} place c) = looked g s t status kept c
+by_call {g} {s} {t} kept (cellar_dump {status = status} c) = looked g s t status kept c
+by_call {g} {s} {t} kept (cellar_new max_events (makes was is new stands done)) = absurd (cc)
+by_call {g} {s} {t} kept (cellar_new max_events (is_starved was is done)) = absurd (cc)
+by_call {g} {s} {t} kept (cellar_new max_events (is_held was same done)) = stays g s t kept (same_Some t s same)
+by_call {g} {s} {t} kept (cellar_finish (finishes was is over done)) = absurd (cc)
+by_call {g} {s} {t} kept (cellar_finish (is_untaken was same over done)) = stays g s t kept (same_Some t s same)
+by_call {g} {s} {t} kept (cellar_finish (is_absent was is done)) = absurd (cc)
 
 -- calls, one after another
-pub by_calls : {g : Ghosts Token} {s t : Cellar} {acts : List Sight} → IsPromised s.engine → CellarCourse g s acts t → Goes g s t acts
+pub by_calls : {g : Ghosts Token} {s t : Cellar} {acts : List Seen} → IsPromised s.engine → CellarCourse g s acts t → Goes g s t acts
 by_calls {g} {s} kept no_export = stays g s s kept refl
 by_calls kept (exports before export) =
     let p = by_calls kept before in
-    let q = by_export p.1 export in
+    let q = by_call p.1 export in
     (and_then p.0 q.0, q.1)
 
 pub promised_new : (max_events made : ℕ) (first : Cellar) → IsMade max_events None (Some first) made → IsPromised first.engine

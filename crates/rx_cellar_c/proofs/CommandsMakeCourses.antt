@@ -40,13 +40,13 @@ use Rattle.rx_cellar.specs.Cellars.{Tidies, IsTidyIf, IsTried, at_once, once_mor
 use Rattle.rx_cellar.specs.Crossings.{effect_of}
 use Rattle.rx_cellar.specs.Makings.{shown, Shows, WithHubs, found_one as found_hub, made_none, made_all, IsPerformed, Outcome, of_made, of_given, ComesTo}
 use Rattle.rx_cellar_c.specs.Calls.{makes}
-use Rattle.rx_cellar_c.specs.Courses.{Sight, handed_in, tag_asked, told_first}
+use Rattle.rx_cellar_c.specs.Courses.{Seen, handed_in, tag_asked, told_first}
 use Rattle.rx_cellar_c.specs.Courses.{IsEngineCourse}
 use Rattle.rx_cellar_c.proofs.EngineCourses.{unchanged, by_command, by_take, and_then}
 
 -- commands -----------------------------------------------------------------------------------------------
 
-abbrev if_ok : {A : Type 0} → List Sight → Result A Refusal → List Sight
+abbrev if_ok : {A : Type 0} → List Seen → Result A Refusal → List Seen
 if_ok acts (Ok a) = acts
 if_ok acts (Err why) = []
 
@@ -88,7 +88,7 @@ with_hubs g by is once s t a kept (made_all u v ok first stands hubs still again
     and_then (once s u (Err NoHub) kept first) (and_then (by_command g u v stands (has_made_hubs by hubs.makes)) (once v t a still again))
 
 -- of a command that hands in a tag
-with_tag : {A : Type 0} (is : Result A Refusal → Type 0) (made : A → Made) (g : Ghosts Token) (s t : State) (acts : List Sight) (a : Result Made Refusal) →
+with_tag : {A : Type 0} (is : Result A Refusal → Type 0) (made : A → Made) (g : Ghosts Token) (s t : State) (acts : List Seen) (a : Result Made Refusal) →
     Shows is made a → ((x : A) → is (Ok x) → IsEngineCourse g s t acts) → ((why : Refusal) → is (Err why) → IsEngineCourse g s t []) →
     IsEngineCourse g s t (if_ok acts a)
 with_tag {A} is made g s t acts a sh done kept = by_answer sh.engine_answer sh.made_so sh.is_shown where
@@ -137,11 +137,11 @@ performed g (GiveBack lease) by s t a kept sh = no_tag g s t a (plain g _ _ by 0
 -- what is handed out -------------------------------------------------------------------------------------
 
 -- of the first lane that is due
-abbrev pub told_due : List Due → Option Sent → List Sight
+abbrev pub told_due : List Due → Option Sent → List Seen
 told_due due None = []
 told_due due (Some sent) = told_first due (effect_of sent)
 
-abbrev told_if : List Due → Result (Option Sent) Refusal → List Sight
+abbrev told_if : List Due → Result (Option Sent) Refusal → List Seen
 told_if due (Ok given) = told_due due given
 told_if due (Err why) = []
 
@@ -164,7 +164,7 @@ handed_out g leaf by value s t (Ok (Some e)) kept made =
     (by_take g made.done.between t e.lane false by (Some e) made.done.promised made.done.hands.1))
 handed_out g leaf by value s t (Err why) kept made = by_command g s t kept (is_refused made.kept)
 
-abbrev acts_come : Asked → List Due → Result Outcome Refusal → List Sight
+abbrev acts_come : Asked → List Due → Result Outcome Refusal → List Seen
 acts_come asked due (Ok o) = tag_asked (Some asked) ++ told_due due o.given
 acts_come asked due (Err why) = []
 
@@ -175,7 +175,7 @@ none_handed g asked by s t o kept sh = by_answer sh.engine_answer (performed g a
       IsEngineCourse g s t (acts_come asked t.parts.lanes.due o)
   by_answer (Ok made) p same =
       subst (λ (y : Result Outcome Refusal). IsEngineCourse g s t (acts_come asked t.parts.lanes.due y)) (sym same)
-      (subst (λ (xs : List Sight). IsEngineCourse g s t xs) (sym (append-nil (tag_asked (Some asked)))) p)
+      (subst (λ (xs : List Seen). IsEngineCourse g s t xs) (sym (append-nil (tag_asked (Some asked)))) p)
   by_answer (Err why) p same = subst (λ (y : Result Outcome Refusal). IsEngineCourse g s t (acts_come asked t.parts.lanes.due y)) (sym same) p
 
 one_handed : (g : Ghosts Token) (leaf : Key) (value by : ℕ) (s t : State) (o : Result Outcome Refusal) → IsPromised s →

@@ -19,20 +19,20 @@ use Rattle.rx_cellar.specs.Cellars.{IsMadeIf}
 use Rattle.rx_cellar.specs.Crossings.{no_answer}
 use Rattle.rx_cellar.specs.Makings.{shown, Shows, WithHubs, found_one, made_none, made_all, IsPerformed, Outcome, ComesTo}
 use Rattle.rx_cellar_c.specs.Calls.{calls, has_none}
-use Rattle.rx_cellar_c.specs.Refusals.{IsSeenUnchanged, is_as_before, got_room, made_checkpoint, made_hubs, IsRefusedCall, RefusedCallsChangeNothing}
+use Rattle.rx_cellar_c.specs.Refusals.{KeepsAllElse, is_as_before, got_room, made_checkpoint, made_hubs, IsRefusedCall, RefusedCallsChangeNothing}
 
 -- one after another --------------------------------------------------------------------------------------
 
-and_then : {g : Ghosts Token} {s t u : State} → IsSeenUnchanged g s t → IsSeenUnchanged g t u → IsSeenUnchanged g s u
+and_then : {g : Ghosts Token} {s t u : State} → KeepsAllElse g s t → KeepsAllElse g t u → KeepsAllElse g s u
 and_then first is_as_before = first
 and_then first (got_room more seen) = got_room (and_then first more) seen
 and_then first (made_checkpoint more made) = made_checkpoint (and_then first more) made
 and_then first (made_hubs by more made) = made_hubs by (and_then first more) made
 
-same_state : (g : Ghosts Token) (s t : State) → t ≡ s → IsSeenUnchanged g s t
-same_state g s t same = subst (λ (x : State). IsSeenUnchanged g s x) (sym same) is_as_before
+same_state : (g : Ghosts Token) (s t : State) → t ≡ s → KeepsAllElse g s t
+same_state g s t same = subst (λ (x : State). KeepsAllElse g s x) (sym same) is_as_before
 
-by_room : (g : Ghosts Token) (s t : State) → IsSeenAs s t → IsSeenUnchanged g s t
+by_room : (g : Ghosts Token) (s t : State) → IsSeenAs s t → KeepsAllElse g s t
 by_room g s t seen = got_room is_as_before seen
 
 -- commands -----------------------------------------------------------------------------------------------
@@ -46,23 +46,23 @@ shown_refused {A} {B} {R} is made why sh refuses = by_answer sh.engine_answer sh
   by_answer (Err w) so same = refuses w so
 
 disconnected : {A : Type 0} (g : Ghosts Token) (word by : ℕ) (s t : State) (why : Refusal) → IsDisconnectMade {A = A} g word by s t (Err why) →
-    IsSeenUnchanged g s t
+    KeepsAllElse g s t
 disconnected {A} g word by s t why made = by_made (Err why) made refl where
-  by_made : (r : Result A Refusal) → IsDisconnectMade g word by s t r → r ≡ Err why → IsSeenUnchanged g s t
+  by_made : (r : Result A Refusal) → IsDisconnectMade g word by s t r → r ≡ Err why → KeepsAllElse g s t
   by_made r (none_serves none seen) is = by_room g s t seen
   by_made (Ok a) (one_serves place hub last there made) is = absurd (cc)
   by_made (Err w) (one_serves place hub last there made) is = by_room g s t made.kept
 
 with_hubs : (g : Ghosts Token) (by : ℕ) (is : State → State → Result Made Refusal → Type 0) →
-    ((s t : State) (why : Refusal) → is s t (Err why) → IsSeenUnchanged g s t) → (s t : State) (a : Result Made Refusal) (why : Refusal) →
-    WithHubs g by is s t a → a ≡ Err why → IsSeenUnchanged g s t
+    ((s t : State) (why : Refusal) → is s t (Err why) → KeepsAllElse g s t) → (s t : State) (a : Result Made Refusal) (why : Refusal) →
+    WithHubs g by is s t a → a ≡ Err why → KeepsAllElse g s t
 with_hubs g by is refuses s t a why (found_one other says) same =
     refuses s t why (subst (λ (r : Result Made Refusal). is s t r) same says)
 with_hubs g by is refuses s t a why (made_none u first stands hubs) same = made_hubs by (refuses s u NoHub first) hubs.makes
 with_hubs g by is refuses s t a why (made_all u v ok first stands hubs still again) same =
     and_then (made_hubs by (refuses s u NoHub first) hubs.makes) (refuses v t why (subst (λ (r : Result Made Refusal). is v t r) same again))
 
-performed : (g : Ghosts Token) (asked : Asked) (by : ℕ) (s t : State) (why : Refusal) → IsPerformed g asked by s t (Err why) → IsSeenUnchanged g s t
+performed : (g : Ghosts Token) (asked : Asked) (by : ℕ) (s t : State) (why : Refusal) → IsPerformed g asked by s t (Err why) → KeepsAllElse g s t
 performed g (Open at kind user) by s t why sh = shown_refused _ _ why sh (λ w so. by_room g s t so.kept)
 performed g (Subscribe at share hint user) by s t why hubs =
     with_hubs g by _ (λ s' t' w' sh. shown_refused _ _ w' sh (λ w so. by_room g s' t' so.kept)) s t (Err why) why hubs refl
@@ -85,7 +85,7 @@ performed g (Remove res) by s t why sh = shown_refused _ _ why sh (λ w so. by_r
 performed g (Lease res) by s t why sh = shown_refused _ _ why sh (λ w so. by_room g s t so.0.kept)
 performed g (GiveBack lease) by s t why sh = shown_refused _ _ why sh (λ w so. by_room g s t so.kept)
 
-comes : (g : Ghosts Token) (asked : Asked) (by : ℕ) (s t : State) (why : Refusal) → ComesTo g asked by s t (Err why) → IsSeenUnchanged g s t
+comes : (g : Ghosts Token) (asked : Asked) (by : ℕ) (s t : State) (why : Refusal) → ComesTo g asked by s t (Err why) → KeepsAllElse g s t
 comes g (Next leaf value true) by s t why c = shown_refused _ _ why c (λ w so. by_room g s t so.kept)
 comes g (Next leaf value false) by s t why c = shown_refused _ _ why c (λ w so. performed g (Next leaf value false) by s t w so)
 comes g asked by s t why c = shown_refused _ _ why c (λ w so. performed g asked by s t w so)
@@ -94,7 +94,7 @@ comes g asked by s t why c = shown_refused _ _ why c (λ w so. performed g asked
 
 -- the releases that were told are counted as before
 pub record Leaves (g : Ghosts Token) (s t : Cellar) : Type 0 where
-  pub engine : IsSeenUnchanged g s.engine t.engine
+  pub engine : KeepsAllElse g s.engine t.engine
   pub released : t.released ≡ s.released
 
 leaves_on : {g : Ghosts Token} {s t u : Cellar} → Leaves g s t → Leaves g t u → Leaves g s u

@@ -1,10 +1,14 @@
 //! Laws of the calls on a handle, which no call needs and a caller may cite.
 
-ghost use Rattle.rx_cellar_c.specs.Courses.{AreCallsCourses, AreEffectsToldInOrder, AreEffectsToldOnce, AreTagsReleasedOnce};
+ghost use Rattle.rx_cellar_c.specs.Courses.{AreCallsCourses, AreEffectsToldOnce, AreTagsReleasedOnce};
+ghost use Rattle.rx_cellar_c.specs.LanesServed.{AreEffectsToldInOrder, AreRootsTold, AreLanesServedOneByOne};
 ghost use Rattle.rx_cellar_c.specs.Refusals.{RefusedCallsChangeNothing};
 
 use rx_book::Resource;
-use rx_courses::{each_is_told_once, tags_once, tells_in_order};
+use rx_courses::{
+    each_is_told_once, lanes_are_served_one_at_a_time, nothing_is_stuck, roots_are_told_in_order,
+    tags_once, tells_in_order,
+};
 use rx_resource::Token;
 
 /// Any calls on one handle, from `cellar_new` on and without `cellar_drop`, are a course of its engine, in which the
@@ -24,11 +28,29 @@ pub fn effects_are_told_once()
 
 /// Of any calls on one handle, from `cellar_new` on and without `cellar_drop`, where who gives an effect back gives what
 /// was told last of that lane: of each lane all but releases, which may come before their turn, was told, or waits
-/// there, in the order in which the commands put it there.
+/// there, in the order in which the commands put it there; and a lane that has something, and that nobody serves, was
+/// named by an answer.
 pub fn effects_are_told_in_order()
     ensures { AreEffectsToldInOrder ⟦<Token as Resource>⟧ }
 {
     tells_in_order();
+    nothing_is_stuck();
+}
+
+/// Of the same calls, for each root that alone has its word in its lane: what was told there under this word, and then
+/// what waits, are its notes, in order: items, then at most one end, then nothing.
+pub fn roots_hear_in_order()
+    ensures { AreRootsTold ⟦<Token as Resource>⟧ }
+{
+    roots_are_told_in_order();
+}
+
+/// Of any calls on one handle, from whenever on: who serves a lane serves it alone, and nobody else is given anything of
+/// it, until that caller gives it up, or asks for more and is given nothing.
+pub fn lanes_are_served_one_by_one()
+    ensures { AreLanesServedOneByOne ⟦<Token as Resource>⟧ }
+{
+    lanes_are_served_one_at_a_time();
 }
 
 /// Of any calls on one handle, from `cellar_new` until `cellar_finish` is done and without `cellar_drop`: for each tag,

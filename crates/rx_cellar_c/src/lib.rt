@@ -10,8 +10,8 @@
 //! - A handle owns what it keeps. Otherwise no pointer is kept: all that a call uses is the caller's, or given back
 //!   before it answers.
 //! - Any calls on one handle are a course of its engine ([`calls_are_courses`], `specs/Courses.antt`): each tag is
-//!   released once, each effect told once, and in order in its lane. A refused command changes nothing
-//!   ([`refused_calls_change_nothing`]).
+//!   released once, each effect told once, by one caller at a time and in order in its lane, and a root hears
+//!   nothing behind its end. A refused command changes nothing ([`refused_calls_change_nothing`]).
 //! - What a C caller must ensure is in the header: no clause can say it.
 #![tactic(auto)]
 
@@ -28,7 +28,8 @@ mod tests;
 pub use handle::CellarHandle;
 pub use laws::{
     calls_are_courses, effects_are_told_in_order, effects_are_told_once,
-    refused_calls_change_nothing, tags_are_released_once,
+    lanes_are_served_one_by_one, refused_calls_change_nothing, roots_hear_in_order,
+    tags_are_released_once,
 };
 pub use making::{
     cellar_abi, cellar_drop, cellar_finish, cellar_make, cellar_make_behind, cellar_new,
