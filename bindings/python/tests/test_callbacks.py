@@ -235,6 +235,9 @@ class InSteps(Case):
         twice = rx.repeat_value(1, 2)
         self.assertEqual([self.told(twice), self.told(twice)], [[1, 1, "end"]] * 2)
 
+    def test_from_callable_calls_when_its_turn_has_come(self):
+        self.assertEqual(self.told(rx.amb(rx.from_callable(lambda: 1 / 0), rx.range(2))), [0, 1, "end"])
+
     def test_a_function_of_generate_fails(self):
         self.assertEqual(self.told(rx.generate(1, lambda _: True, lambda _: 1 / 0)), [1, "ZeroDivisionError('division by zero')"])
 

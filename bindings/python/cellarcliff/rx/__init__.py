@@ -23,7 +23,7 @@ from .nodes import Defer, Merging, Using
 from .operators.faults import caught, repeat
 from .operators.joined import Concat, combined, first_of, joined_last, latest_from, resumed, zipped
 from .sharing import ConnectableObservable
-from .sources import Created, Empty, FromFuture, FromIterable, Just, Never, Stepwise, Throw, Timer
+from .sources import Called, Created, Empty, FromFuture, FromIterable, Just, Never, Stepwise, Throw, Timer
 
 __all__ = ["ConnectableObservable", "Observable", "Observer", "amb", "case", "catch", "catch_with_iterable", "combine_latest", "concat",
            "concat_with_iterable", "create", "current", "defer", "empty", "for_in", "fork_join", "from_", "from_callable", "from_future",
@@ -155,7 +155,7 @@ def from_future(future: "Future[A]") -> Observable[A]:
 
 def from_callable(supplier: Callable[[], A], scheduler: Optional[Scheduler] = None) -> Observable[A]:
     """What a function answers, for each subscription."""
-    return Defer(lambda _: Just(supplier(), scheduler))
+    return Called(supplier, scheduler)
 
 
 def repeat_value(value: Any = None, repeat_count: Optional[int] = None) -> Observable[Any]:

@@ -7,10 +7,10 @@ from typing import Any
 from .._observable import Observable
 from .created import Created, Foreign, FromFuture, is_future
 from .ends import Empty, Never, Throw
-from .items import FromIterable, Just, Stepwise
+from .items import Called, FromIterable, Just, Stepwise
 from .time import Timer
 
-__all__ = ["Created", "Empty", "Foreign", "FromFuture", "FromIterable", "Just", "Never", "Stepwise", "Throw", "Timer", "is_future", "wrapped"]
+__all__ = ["Called", "Created", "Empty", "Foreign", "FromFuture", "FromIterable", "Just", "Never", "Stepwise", "Throw", "Timer", "is_future", "wrapped"]
 
 
 def wrapped(value: Any) -> Observable[Any]:

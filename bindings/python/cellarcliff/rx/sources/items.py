@@ -93,6 +93,22 @@ class Stepwise(Observable[Any]):
         return True
 
 
+class Called(Scheduled):
+    """from_callable()."""
+
+    def __init__(self, supplier: Callable[[], Any], scheduler: Any):
+        self._supplier, self.scheduler = supplier, scheduler
+
+    def _emit(self, up: Any, leaf: Any) -> None:
+        try:
+            value = self._supplier()
+        except Exception as error:
+            up.on_error(error)
+        else:
+            up.on_next(value)
+            up.on_completed()
+
+
 class Just(Scheduled):
     """return_value()."""
 
