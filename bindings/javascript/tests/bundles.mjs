@@ -42,7 +42,7 @@ export async function bundles(home, run, is) {
   // by its path, since Debian's rollup has no plugin that looks in node_modules
   writeFileSync(join(home, 'by-path.mjs'), PROGRAMS['what it needs'].replace("'cellarcliff'", "'./node_modules/cellarcliff/dist/inlined/index.mjs'"));
   for (const [format, kind] of [['es', 'mjs'], ['iife', 'cjs'], ['cjs', 'cjs']]) {
-    run(['rollup', '--silent', 'by-path.mjs', '--format', format, '--file', `out/rollup-${format}.${kind}`], home);
+    run(['rollup', 'by-path.mjs', '--silent', '--format', format, '--file', `out/rollup-${format}.${kind}`], home);
     is(`rollup, ${format}`, run(['node', `out/rollup-${format}.${kind}`], home), SAID);
   }
   for (const [it, is_module] of pages) {

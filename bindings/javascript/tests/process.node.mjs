@@ -28,11 +28,14 @@ export const only_ours = {
     const source = new rx.Subject(), held = (name, it) => rx.using(() => ({ unsubscribe: () => console.log('released', name) }), () => it);
     held('a', source).pipe(rx.finalize(() => { console.log('final'); throw new Error('no'); })).subscribe({ error: (e) => console.log('heard', e.message.split(':')[1].trim()) });
     held('b', rx.NEVER).pipe(rx.switchMap(() => source)).subscribe({ error: () => console.log('heard') });
-    rx.config.onUnhandledError = (e) => console.log('reported', e.message);
+    rx.config.onUnhandledError = (e) => {
+      console.log('reported', e.message);
+      console.log(source.observed, rx.counts().nodes, realm.engine.dead);
+      source.next(2);
+    };
     stops = true;
     try { source.next(1); console.log('nothing'); } catch (error) { console.log(error.message); }
     held('c', rx.of(1)).subscribe((it) => console.log('told', it));
-    setTimeout(() => { console.log(source.observed, rx.counts().nodes, realm.engine.dead); source.next(2); }, 300);
   `), is: [
     'cellarcliff: the engine stopped within a call (unreachable): what it held is released, and what is subscribed to from now on has a new one', 'told 1', 'released c',
     'final', 'released a', 'released b', 'heard the engine stopped within a call (unreachable)', 'heard', 'reported no', 'false 0 null',

@@ -56,9 +56,9 @@ export class Subject extends Observable {
   }
   next(value) {
     this._throwIfClosed();
-    if (config.useDeprecatedSynchronousErrorHandling) inContext(() => this._next(value)); else this._next(value);
+    if (config.useDeprecatedSynchronousErrorHandling) inContext(() => this._tellsItem(value)); else this._tellsItem(value);
   }
-  _next(value) {
+  _tellsItem(value) {
     if (!this._tells()) return;
     if (this._size > 1) {
       this._telling = { value, leaves: this._all(), at: 0 };
@@ -74,9 +74,9 @@ export class Subject extends Observable {
   }
   error(error) {
     this._throwIfClosed();
-    inContext(() => this._error(error));
+    inContext(() => this._tellsError(error));
   }
-  _error(error) {
+  _tellsError(error) {
     if (!this._tells()) return;
     this.hasError = this.isStopped = true;
     this.thrownError = error;
@@ -84,9 +84,9 @@ export class Subject extends Observable {
   }
   complete() {
     this._throwIfClosed();
-    inContext(() => this._complete());
+    inContext(() => this._tellsEnd());
   }
-  _complete() {
+  _tellsEnd() {
     if (!this._tells()) return;
     this.isStopped = true;
     for (const leaf of this._emptied()) leaf.complete();

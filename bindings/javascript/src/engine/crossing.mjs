@@ -68,7 +68,7 @@ export class Crossing {
     const things = this.#things.all();
     for (const it of things) it.slot = it.top = it.lo = it.hi = -1; // a key that names nothing, in any engine
     this.#renews();
-    queueMicrotask(() => this.#ends_all(things));
+    queueMicrotask(() => this.#endsAll(things));
     return this.dead;
   }
 
@@ -76,7 +76,7 @@ export class Crossing {
   #renews() { try { this.#realm.renews(this); } catch { /* each call says that this one is dead */ } }
 
   // What a dead engine held is known by its tags, and who heard by the roots: each is released once, and each is told, in a turn of its own.
-  #ends_all(things) {
+  #endsAll(things) {
     const surely = (act) => { try { act(); } catch (error) { this.#report(error); } };
     for (const it of things) if (!(it instanceof Tag)) surely(() => it.shut?.());
     for (const it of things) if (it instanceof Tag) surely(() => it.release());

@@ -33,7 +33,7 @@ const BASE = 0, ENGINE = 1, COMMAND = 2, ANSWER = 3, EFFECT = 4, COUNT = 5, ENTE
 /** Bytes behind the base at which the engine's handle, a command, an answer, an effect, a count and the lane that is left stand. */
 export const LAYOUT = { engine: 0, command: 64, answer: 128, effect: 384, count: 416, left: 432, words: 448, room: 64 };
 const field = (at, value) => [...global(BASE), ...value, ...store32(LAYOUT.command + at)];
-const left_engine = [...constant(0), ...setGlobal(ENTERED)], entering = (...it) => [...constant(1), ...setGlobal(ENTERED), ...it.flat(), ...left_engine];
+const leftEngine = [...constant(0), ...setGlobal(ENTERED)], entering = (...it) => [...constant(1), ...setGlobal(ENTERED), ...it.flat(), ...leftEngine];
 const lane = [...get(1), ...LONG, ...long(32), ...SHIFT, ...get(0), ...LONG, ...OR]; // of its two halves
 const left = (at) => [...global(BASE), ...load32(LAYOUT.left + at)];
 // The lane that was told all is left with the next command, or before anything else is taken or given up. If something is in it, nothing else is done:
@@ -42,7 +42,7 @@ const forgetLeft = [...global(BASE), ...constant(0), ...store32(LAYOUT.left + 8)
 const leftLane = [...left(4), ...LONG, ...long(32), ...SHIFT, ...left(0), ...LONG, ...OR];
 /** What a taking answers that has found an effect in the lane that it leaves. */
 export const OF_ANOTHER = 2;
-const leaving = [...left(8), ...IF, ...forgetLeft, ...left(0), ...left(4), ...call(TAKES), ...IF, ...left_engine, ...constant(OF_ANOTHER), ...RETURN, ...END, ...END];
+const leaving = [...left(8), ...IF, ...forgetLeft, ...left(0), ...left(4), ...call(TAKES), ...IF, ...leftEngine, ...constant(OF_ANOTHER), ...RETURN, ...END, ...END];
 const roomy = (n) => [...constant(n), ...call(n === 2 ? ALL : ROOM)];
 
 /** A function with a frame of so many bytes, which does what is `next` with a number that is not too large. */

@@ -48,12 +48,19 @@ export function repeat(countOrConfig) {
   return operate((source, to) => {
     let so_far = 0;
     const again = looping(() => {
-      const inner = new Link(to, undefined, () => {
-        if (++so_far >= count) return to.complete();
+      let is_subscribing = true, is_over = false;
+      const goesOn = () => {
         inner.unsubscribe();
         waits(delay, so_far, to, again);
+      };
+      const inner = new Link(to, undefined, () => {
+        if (++so_far >= count) to.complete();
+        else if (is_subscribing) is_over = true;
+        else goesOn();
       });
       source.subscribe(inner);
+      is_subscribing = false;
+      if (is_over) goesOn();
     });
     again();
   });
