@@ -1,66 +1,104 @@
-// Random pipelines over RxJS and over the package. What they are made of stands in random/drawing.mjs and random/mix.mjs; what is compared, in
-// random/running.mjs; why two runs differ, in random/differences.mjs.
+// Random programs over RxJS and over the package. What they are made of stands in random/drawing.mjs and random/mix.mjs; what is compared, all that happens in
+// each step in its order, in random/running.mjs; why two runs may differ, in random/differences.mjs.
 //
-// Usage: node random.mjs [MANY] [SEED] [--show NAME] [--deep] [--chains]. With --chains they are chains of functions on items. With --deep each step is done where the stack is almost full, over the package
-// alone: then only what stays open is looked at. It fails where a difference has no name, more than one in a hundred differ, or a resource is not
-// released once: what a share or a connection was told to keep is closed at the end.
+// Usage: node random.mjs [MANY] [SEED] [OPTION ..]
+//    --seeds N,N     these alone
+//    --busy          each program is of one operator, and some callback does something from within; then more than two in a hundred may differ by the manner
+//    --over FOLDER   over another copy of the package
+//    --show NAME     prints the programs of a difference; --shrink: prints the smallest program that goes wrong, or differs, in the same way
+//    --chains        chains of functions on items in their place
+//    --deep          each step where the stack is almost full, over the package alone: then only what stays open is looked at
+// It fails where the engine dies, a resource is not released once (what a share or a connection was told to keep is closed at the end), a difference has
+// no name, or more than two in a hundred differ by the manner of the package.
 import { createRequire } from 'node:module';
+import { resolve } from 'node:path';
+import { pathToFileURL } from 'node:url';
 import { chains } from './random/chains.mjs';
 import { deeply } from './random/deep.mjs';
-import { OF_RXJS, isHeardSame, nameOf } from './random/differences.mjs';
+import { FAULTS, isHeardSame, nameOf } from './random/differences.mjs';
 import { drawn } from './random/drawing.mjs';
-import { Run, compared } from './random/running.mjs';
+import { OPERATORS, SOURCES } from './random/mix.mjs';
+import { Run, inOrder } from './random/running.mjs';
+import { shrunk } from './random/shrinking.mjs';
 
-const require = createRequire(import.meta.url), home = '/usr/share/nodejs/rxjs/dist/cjs';
-const peer = [require(home), require(`${home}/operators`)], ours = [await import('../index.mjs'), await import('../operators.mjs')];
-const words = process.argv.slice(2), show = words.includes('--show') ? words.splice(words.indexOf('--show'), 2)[1] : null;
-const is_chains = words.includes('--chains') && words.splice(words.indexOf('--chains'), 1).length === 1;
-const is_deep = words.includes('--deep') && words.splice(words.indexOf('--deep'), 1).length === 1;
-const [many = 10000, first = 1] = words.map(Number);
+const words = process.argv.slice(2), take = (name, many) => (words.includes(name) ? words.splice(words.indexOf(name), many) : null);
+const given = take('--seeds', 2)?.[1].split(',').map(Number) ?? null;
+const show = take('--show', 2)?.[1], [is_chains, is_deep, is_busy, is_shrunk] = ['--chains', '--deep', '--busy', '--shrink'].map((it) => take(it, 1) !== null);
+const folder = resolve(take('--over', 2)?.[1] ?? `${import.meta.dirname ?? new URL('.', import.meta.url).pathname}/..`), [many = 10000, first = 1] = words.map(Number);
+const require = createRequire(import.meta.url), home = '/usr/share/nodejs/rxjs/dist/cjs', load = (name) => import(pathToFileURL(`${folder}/${name}.mjs`).href);
+const peer = [require(home), require(`${home}/operators`)], ours = [await load('index'), await load('operators')];
 const over = ([rx, ops], it, puts_off = false, mends = false) => new Run(rx, ops, it, puts_off, mends).all();
 
-/** Runs it over the package; what is wrong with its resources, if anything. */
+// A dead engine is put out of the way, so that the next program has one of its own.
+const { glue } = await load('src/engine/glue'), module = new WebAssembly.Module(require('node:fs').readFileSync(process.env.CELLARCLIFF_WASM ?? `${folder}/engine.wasm`));
+function renew() {
+  const realm = globalThis[Symbol.for('cellarcliff.realm.1')];
+  realm.engine = null;
+  realm.start(module, new WebAssembly.Module(glue()));
+}
+
+/** Runs it over the package; what is wrong with its engine, or its resources, if anything. */
 function kept(it) {
-  const [rx] = ours, before = rx.counts(), run = over(ours, it);
-  rx.close();
-  const after = rx.counts(), left = run.kept();
-  const is_wrong = left > 0 || run.twice > 0 || after.nodes !== before.nodes || after.held !== before.held;
-  return { run, wrong: is_wrong && `${left} of ${run.resources} left, ${run.twice} twice, ${after.nodes - before.nodes} nodes and ${after.held - before.held} held stay` };
+  const [rx] = ours;
+  try {
+    const before = rx.counts(), run = over(ours, it);
+    const is_dead = run.lines.some((line) => /the engine stopped within a call/.test(line));
+    rx.close();
+    const after = rx.counts(), left = run.kept(), count = `${run.resources} resources`;
+    if (is_dead) return { run, wrong: 'the engine dies' };
+    if (run.twice > 0) return { run, wrong: 'a resource is released twice', count };
+    if (left > 0) return { run, wrong: 'a resource is never released', count };
+    return { run, wrong: after.nodes !== before.nodes || after.held !== before.held ? 'something stays open' : null };
+  } catch (error) {
+    if (!/the engine stopped within a call/.test(error.message)) throw error;
+    renew();
+    return { run: { lines: [], left: 0, resources: 0, reached: [] }, wrong: 'the engine dies' };
+  }
+}
+/** Runs it over both: what is wrong, if anything; and the name of what differs. */
+function tried(it) {
+  const a = over(peer, it);
+  if (a.raised?.message === 'runs on' || a.lines.some((line) => line.includes('Maximum call stack'))) return { a, is_on: true };
+  const { run: b, wrong } = kept(it);
+  if (wrong !== null) return { a, b, wrong };
+  if (inOrder(a.lines) === inOrder(b.lines)) return { a, b, wrong };
+  const name = nameOf(it, a, b, (puts_off, mends) => [over(peer, it, puts_off, mends), over(ours, it, puts_off, mends)]) ?? 'NO NAME';
+  ours[0].close();
+  return { a, b, name, wrong: name === 'NO NAME' ? 'it differs, and no row says why' : null };
 }
 
 if (is_chains) process.exit(chains(peer, ours, many, first));
 if (is_deep) process.exit(await deeply(ours, many, first));
 
-const total = { pipelines: 0, 'run on': 0, 'with an act from within': 0, items: 0, resources: 0, differ: 0, 'of those with an act from within': 0, heard: 0, ours: 0, wrong: 0 };
-const by = new Map();
-for (let seed = first; seed < first + many; seed++) {
-  const it = drawn(seed), a = over(peer, it);
-  if (a.raised?.message === 'runs on' || a.raised instanceof RangeError) {
-    total['run on']++;
+const total = { programs: 0, on: 0, within: 0, items: 0, resources: 0, heard: 0, of_rxjs: 0, rows: 0, wrong: 0 }, by = new Map(), reached = new Map(), used = new Set();
+const words_of = (it) => (Array.isArray(it) ? [...(typeof it[0] === 'string' ? [it[0]] : []), ...it.flatMap(words_of)] : it && typeof it === 'object' ? Object.values(it).flatMap(words_of) : []);
+const shown = (seed, it, { a, b }) => console.log(`seed ${seed}\n ${JSON.stringify(it)}\n RxJS ${a.lines.join(', ')}\n ours ${b.lines.join(', ')}`);
+const seeds = given ?? Array.from({ length: many }, (_, i) => first + i);
+for (const seed of seeds) {
+  const it = drawn(seed, is_busy), found = tried(it), { a, b, name, wrong, is_on } = found;
+  if (is_on) {
+    total.on++;
     continue;
   }
-  const { run: b, wrong } = kept(it);
-  total.pipelines++;
+  total.programs++;
   total.resources += b.resources;
   total.items += a.lines.filter((line) => / [xyz] next /.test(line)).length;
-  if (it.within) total['with an act from within']++;
-  if (wrong) {
-    total.wrong++;
-    console.log(`seed ${seed}: ${wrong}`);
-  }
-  if (compared(a.lines) === compared(b.lines)) continue;
-  total.differ++;
-  if (it.within) total['of those with an act from within']++;
-  if (!isHeardSame(a, b)) total.heard++;
-  const name = nameOf(a, b, (puts_off, mends) => [over(peer, it, puts_off, mends), over(ours, it, puts_off, mends)]) ?? 'NO NAME';
-  ours[0].close();
-  by.set(name, [...by.get(name) ?? [], seed]);
-  if (!OF_RXJS.includes(name)) total.ours++;
-  if (name === show) console.log(`seed ${seed}\n ${JSON.stringify(it)}\n RxJS ${a.lines.join(', ')}\n ours ${b.lines.join(', ')}`);
+  for (const one of words_of(it.whole)) used.add(one);
+  if (it.within.length) total.within++;
+  for (const one of b.reached) reached.set(one, (reached.get(one) ?? 0) + 1);
+  if (!wrong && !name) continue;
+  const what = wrong ?? name;
+  by.set(what, [...by.get(what) ?? [], seed]);
+  if (name && !isHeardSame(a, b)) total.heard++;
+  if (wrong) total.wrong++; else if (name in FAULTS) total.of_rxjs++; else total.rows++;
+  if (!(show ? what.includes(show) : wrong && is_shrunk)) continue;
+  const least = is_shrunk ? shrunk(it, (one) => (({ name: is, wrong: goes }) => goes === wrong && is === name)(tried(one))) : it;
+  console.log(what);
+  shown(seed, least, tried(least));
 }
-console.log(`${total.pipelines} pipelines (${total['with an act from within']} with an act from within; ${total['run on']} more run on), ${total.items} items heard, ${total.resources} resources`);
-const percent = (it) => `${it} (${(100 * it / total.pipelines).toFixed(2)} %)`;
-console.log(`${percent(total.differ)} differ: ${percent(total.differ - total.ours)} by a fault of RxJS, ${percent(total.ours)} otherwise; ${percent(total.heard)} in what an observer hears`);
-console.log(`${total['of those with an act from within']} of those that differ have an act from within; ${total.wrong} release something twice, or never`);
+const percent = (it) => `${it} (${(100 * it / total.programs).toFixed(2)} %)`, known = [...Object.keys(SOURCES), ...Object.keys(OPERATORS)];
+console.log(`${total.programs} programs (${total.within} do something from within; ${total.on} more run on), ${total.items} items heard, ${total.resources} resources`);
+console.log(`reached: ${known.filter((one) => used.has(one)).length} of ${known.length} operators and sources; ${reached.size} kinds of acts from within, the rarest ${Math.min(...reached.values())} times`);
+console.log(`${total.wrong} go wrong; ${percent(total.of_rxjs)} differ by a fault of RxJS, ${percent(total.rows)} by the manner of the package; ${percent(total.heard)} in what an observer hears`);
 for (const [name, seeds] of by) console.log(`- ${name}: ${seeds.length} (${seeds.slice(0, 8).join(', ')})`);
-process.exit(total.wrong || by.has('NO NAME') || total.differ > total.pipelines / 100 ? 1 : 0);
+process.exit(total.wrong || (!is_busy && total.rows > total.programs / 50) ? 1 : 0);

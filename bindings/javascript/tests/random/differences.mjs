@@ -1,6 +1,7 @@
-// Why two runs of one pipeline differ: each name with a predicate on what happened in both. What is compared has no order within a step but that in which
-// an observer hears, so neither has a name.
-import { compared, isHeard } from './running.mjs';
+// Why two runs of one program differ. A fault of RxJS has a name, with a predicate on what happened in both runs; it looks at how often
+// things happen, since what comes of a fault comes in some order. The manner of the package is a row: a predicate on the program alone.
+import { OPERATORS, SOURCES } from './mix.mjs';
+import { compared, inOrderButReleases, isHeard, isReleasedEarlier } from './running.mjs';
 
 const parts = (line) => {
   const [step, who, ...rest] = line.split(' ');
@@ -75,17 +76,12 @@ function areMadeBehindNobody(more, lines) {
   const at = lines.indexOf(more[0]), last = lines.slice(0, Math.max(at, 0)).findLastIndex((it) => it.includes(' begins subscribe '));
   return more.length > 0 && more.every((it) => parts(it).who === 'made' || isHeard(parts(it).who)) && last >= 0 && stepOf(lines[last]) === stepOf(more[0]) && hearing(lines.slice(0, last)).size === 0;
 }
-/** Who has heard the end before something was done within a release, in that step; null where nothing was. */
-function endedBeforeRelease(lines) {
-  const at = lines.findIndex(isActOfRelease);
-  return at < 0 ? null : lines.slice(0, at).filter((it) => stepOf(it) === stepOf(lines[at]) && /^(error|completed)/.test(parts(it).what)).map((it) => parts(it).who);
-}
-
 /** Whether RxJS does the same where the notifier for a reset of a share tells in place of its error. */
 const isKeptByError = (lines, runs) => runs !== undefined && compared(runs(false, true)[0].lines) === compared(lines);
 
-// `runs` makes both runs again: where what is done from within is put off until the command has returned, or notifiers for a reset do not fail.
-export const NAMES = {
+// `runs` makes both runs again, where what callbacks tell is put off until the step has returned, or notifiers for a reset do not fail.
+/** What RxJS 7.5.7 does and the package is to be without. */
+export const FAULTS = {
   'RxJS leaves a resource open': ({ lines: a, left: open }, { lines: b, left }) => {
     const more = beyond(wanted(b), wanted(a));
     return (areReleases(more) || more.length === 0) && open - left >= Math.max(more.length, 1) && ofOwnResources(beyond(wanted(a), wanted(b))) && compared(a, isHeard) === compared(b, isHeard);
@@ -103,17 +99,38 @@ export const NAMES = {
     const more = beyond(wanted(upToWithin(a)), wanted(b));
     return a.some(isActOfRelease) && more.some((it) => parts(it).who === 'released') && ofOwnResources(more);
   },
-  'an end and a release stand in another order': (a, b, runs) => {
-    const [theirs, ours] = [endedBeforeRelease(a.lines), endedBeforeRelease(b.lines)];
-    return theirs !== null && ours !== null && (ours.some((it) => !theirs.includes(it)) || theirs.some((it) => !ours.includes(it))) && isSame(...runs(true));
+  'RxJS has more of one at a time': ({ lines: a }, { lines: b }) => {
+    const [theirs, ours] = [a, b].map(mostAtATime);
+    return Object.keys(theirs).some((it) => theirs[it] > (ours[it] ?? 0)) && Object.keys(ours).every((it) => ours[it] <= (theirs[it] ?? 0));
   },
-  'what is told from within comes as soon as the callback returns': (a, b, runs) => isBehindTelling(a.lines, b.lines) && isSame(...runs(true)),
 };
-/** What RxJS 7.5.7 does and the package is to be without; the others are the package's own manner. */
-export const OF_RXJS = Object.keys(NAMES).slice(0, 4);
-const isSame = (a, b) => compared(a.lines) === compared(b.lines) || OF_RXJS.slice(0, 3).some((it) => NAMES[it](a, b));
-/** Whether an item or an end was told from within before the end of the first step that differs. */
-function isBehindTelling(lines, others) {
-  return upTo(lines, firstUnlike(lines, others)).some((it, at, all) => it.includes(' begins within ') && /^\d+ begins (next|error|complete) /.test(all[at + 1] ?? ''));
+const TELLS = ['next', 'complete', 'error'];
+/** How many resources of one label are open at a time, at most: of each label. */
+function mostAtATime(lines) {
+  const open = {}, most = {};
+  for (const { who, what } of lines.map(parts)) {
+    if (who === 'made') most[what] = Math.max(most[what] ?? 0, (open[what] = (open[what] ?? 0) + 1));
+    else if (who === 'released' || who === 'unmade') open[what]--;
+  }
+  return most;
 }
-export const nameOf = (a, b, runs) => Object.keys(NAMES).find((one) => NAMES[one](a, b, runs)) ?? null;
+/** Who hears an end, in the whole run. */
+const endsOf = (lines) => ['x', 'y', 'z'].map((who) => lines.filter((it) => parts(it).who === who && /^(error|completed)/.test(parts(it).what)).length).join();
+const hasWord = (it, isIt) => (Array.isArray(it) ? (typeof it[0] === 'string' && isIt(it[0])) || it.some((one) => hasWord(one, isIt)) : it !== null && typeof it === 'object' && hasWord(Object.values(it), isIt));
+const AT_ONCE = ['of', 'from', 'range', 'generate', 'EMPTY', 'throwError', 'pairs', 'bindCallback', 'bindNodeCallback', 'hot'];
+const isOfSeveral = (name) => /[oiO]/.test((OPERATORS[name] ?? SOURCES[name] ?? [''])[0]);
+/** What the package does in its own manner, by the programs in which that can be seen; where nothing but an order may differ, that is looked at too. */
+export const ROWS = {
+  'one end releases several observables in the order of the tree': ({ whole }, a, b) => hasWord(whole, isOfSeveral) && inOrderButReleases(a.lines) === inOrderButReleases(b.lines),
+  'a source that ends, or is left, as it is subscribed to is torn down behind the tree': ({ whole, within }, a, b) => compared(a.lines) === compared(b.lines)
+    && (within.some(({ where }) => where === 'make') || hasWord(whole, (name) => name === 'at once')
+      || (hasWord(whole, (name) => AT_ONCE.includes(name)) && (inOrderButReleases(a.lines) === inOrderButReleases(b.lines) || isReleasedEarlier(a.lines, b.lines)))),
+  'what comes next comes behind the release of what was before': ({ whole }, a, b) =>
+    hasWord(whole, (name) => isOfSeveral(name) || /^(endWith|startWith|repeat|retry)/.test(name)) && isReleasedEarlier(a.lines, b.lines),
+  // and where one observer hears nobody hears an end of which RxJS does not tell, or the other way
+  'what a callback tells from within comes as soon as it has returned': ({ within, steps }, a, b) => within.some(({ act }) => TELLS.includes(act[0]))
+    && (endsOf(a.lines) === endsOf(b.lines) || within.some(({ where }) => where === 'call') || new Set(steps.filter(([act]) => act === 'subscribe').map(([, who]) => who)).size > 1),
+  'what a release throws at an end is reported': ({ within }) => within.some(({ where, act }) => where === 'release' && act[0] === 'throw'),
+};
+const isFault = (name, a, b, runs) => compared(a.lines) !== compared(b.lines) && FAULTS[name](a, b, runs);
+export const nameOf = (it, a, b, runs) => Object.keys(FAULTS).find((one) => isFault(one, a, b, runs)) ?? Object.keys(ROWS).find((one) => ROWS[one](it, a, b)) ?? null;

@@ -62,6 +62,10 @@ const ITEMS = {
     next: f(() => say('tapped', l)), error: () => say('tapped', l, 'error'), complete: () => say('tapped', l, 'completed'), unsubscribe: () => say('tapped', l, 'left'),
     finalize: () => say('tapped', l, 'finalized'), subscribe: () => say('tapped', l, 'subscribed'),
   })],
+  'finalize of a resource': ['l', ({ rx, resource }, l) => (source) => rx.defer(() => {
+    const made = resource(l);
+    return source.pipe(rx.finalize(() => made.unsubscribe()));
+  })],
   finalize: ['l', ({ rx, say }, l) => rx.finalize(() => say('finalized', l))],
 };
 

@@ -1,5 +1,5 @@
 // What comes of a pipeline over a library: all that happens, in its order, each line with the step in which it happened.
-import { HOTS } from './drawing.mjs';
+import { HOTS, WHERE } from './drawing.mjs';
 import { OPERATORS, SOURCES } from './mix.mjs';
 
 const MOST = 400; // lines; beyond it a pipeline runs on, and is left out
@@ -12,17 +12,23 @@ function shown(it) {
   return it;
 }
 
+const TELLS = ['next', 'complete', 'error'];
+
 export class Run {
-  /** With `puts_off` what is done from within is done as soon as the command has returned; with `mends` a notifier for a reset tells in place of its error. */
+  /** With `puts_off` what callbacks tell is told as soon as the step has returned; with `mends` a notifier for a reset tells in place of its error. */
   constructor(rx, ops, it, puts_off = false, mends = false) {
-    Object.assign(this, { rx, ops, it, puts_off, mends, put_off: null, lines: [], step: 0, resources: 0, open: new Map(), twice: 0, subscriptions: {}, connectables: [], frame: 0 });
-    this.counted = { item: 0, call: 0, release: 0 };
+    Object.assign(this, { rx, ops, it, puts_off, mends, put_off: [], lines: [], step: 0, resources: 0, functions: 0, open: new Map(), twice: 0, is_on: false, subscriptions: {}, connectables: [], frame: 0 });
+    this.counted = Object.fromEntries(WHERE.map((where) => [where, 0]));
+    this.reached = new Set();
     this.hots = Array.from({ length: HOTS }, (_, i) => this.hot(i));
     this.clock = new rx.VirtualTimeScheduler(undefined, Infinity);
     this.handlers = new Map();
     this.at = {
-      rx, ops, mends, clock: this.clock, say: (...of) => this.say(...of), resource: (l) => this.resource(l), emitter: (n) => this.emitter(n),
-      connects: (it) => (this.connectables.push(it), it),
+      rx, ops, mends, clock: this.clock, resource: (l) => this.resource(l), emitter: (n) => this.emitter(n), connects: (it) => (this.connectables.push(it), it),
+      say: (...of) => {
+        this.say(...of);
+        this.within(/finalized|left/.test(of.join(' ')) ? 'release' : 'call');
+      },
     };
   }
   hot(i) {
@@ -31,31 +37,45 @@ export class Run {
     return made;
   }
   say(...of) {
-    if (this.lines.length > MOST) throw new Error('runs on');
+    if (this.lines.length > MOST) {
+      this.is_on = true;
+      for (const it of Object.values(this.subscriptions)) it.unsubscribe(); // since an observer's error is reported, and stops nobody
+      throw new Error('runs on');
+    }
     this.lines.push(`${this.step} ${of.join(' ')}`);
   }
-  /** What is done from within, where its turn has come. */
+  /** What a callback does from within, where its turn has come. */
   within(where) {
-    const { within } = this.it;
-    if (within === null || within.where !== where || this.counted[where]++ !== within.at) return;
-    if (this.puts_off) {
-      this.put_off = within.act;
-      return;
+    const at = this.counted[where]++;
+    for (const it of this.it.within) {
+      if (it.where !== where || it.at !== at) continue;
+      this.reached.add(`${it.act[0]} within ${where}`);
+      if (this.puts_off && TELLS.includes(it.act[0])) {
+        this.put_off.push(it.act);
+        continue;
+      }
+      this.say('begins', 'within', where);
+      if (it.act[0] === 'throw') throw new Error(`within ${where}`);
+      this.act(it.act);
+      this.say('ends', 'within', where);
     }
-    this.say('begins', 'within', where);
-    this.act(within.act);
-    this.say('ends', 'within', where);
   }
   resource(label) {
     const n = this.resources++;
     this.open.set(n, 1);
     this.say('made', label);
-    return { unsubscribe: () => {
+    const resource = { unsubscribe: () => {
       if (this.open.get(n) !== 1) this.twice++;
       this.open.set(n, 0);
       this.say('released', label);
       this.within('release');
     } };
+    try { this.within('make'); } catch (error) { // as whoever makes a resource and fails
+      this.open.set(n, 0);
+      this.say('unmade', label);
+      throw error;
+    }
+    return resource;
   }
   emitter(n) {
     return {
@@ -70,6 +90,7 @@ export class Run {
   source([name, ...words]) {
     if (name === 'hot') return this.hots[words[0]];
     if (name === 'cold') return this.cold(...words);
+    if (name === 'at once') return this.atOnce(...words);
     const [kinds, make] = SOURCES[name];
     return make(this.at, ...this.words(kinds, words));
   }
@@ -89,7 +110,9 @@ export class Run {
     });
   }
   function(fails, act) {
+    const label = this.functions++;
     return (it) => {
+      this.say('called', label);
       this.within('call');
       if (fails && number(it) === 3) throw new Error('called');
       return act(number(it));
@@ -100,10 +123,28 @@ export class Run {
     const { rx, clock } = this;
     return new rx.Observable((to) => {
       const resource = this.resource(label), whole = new rx.Subscription(() => resource.unsubscribe());
-      items.forEach((value, i) => whole.add(clock.schedule(() => to.next(value), 3 * (i + 1))));
+      items.forEach((value, i) => whole.add(clock.schedule(() => this.tells(to, value), 3 * (i + 1))));
       if (end) whole.add(clock.schedule(() => (end === 1 ? to.complete() : to.error(new Error('cold'))), 3 * (items.length + 1)));
       return whole;
     });
+  }
+  /** Tells these items, and an end, or none, as it is subscribed to. */
+  atOnce(label, items, end) {
+    return new this.rx.Observable((to) => {
+      const resource = this.resource(label);
+      try {
+        for (const it of items) to.next(it);
+        if (end) if (end === 1) to.complete(); else to.error(new Error('at once'));
+      } catch (error) { // where the stack is almost full
+        resource.unsubscribe();
+        throw error;
+      }
+      return resource;
+    });
+  }
+  tells(to, value) {
+    this.within('action');
+    to.next(value);
   }
   observer(who) {
     return {
@@ -111,8 +152,14 @@ export class Run {
         this.say(who, 'next', shown(it));
         this.within('item');
       },
-      error: (error) => this.say(who, 'error', shown(error)),
-      complete: () => this.say(who, 'completed'),
+      error: (error) => {
+        this.say(who, 'error', shown(error));
+        this.within('end');
+      },
+      complete: () => {
+        this.say(who, 'completed');
+        this.within('end');
+      },
     };
   }
   act([what, ...of]) {
@@ -121,7 +168,7 @@ export class Run {
     if (what.endsWith('subscribe')) this.say('begins', what, who);
     if (what === 'subscribe') {
       // known before it tells anything, so that it can be left from within
-      const whole = this.subscriptions[who] = new this.rx.Subscriber(this.observer(who));
+      const { next, error, complete } = this.observer(who), whole = this.subscriptions[who] = this.rx.Subscriber.create(next, error, complete);
       this.pipe.subscribe(whole);
     } else if (what === 'unsubscribe') this.subscriptions[who]?.unsubscribe();
     else if (what === 'connect') this.connections = this.connectables.map((it) => it.connect());
@@ -139,20 +186,27 @@ export class Run {
   }
   /** How many resources are not released. */
   kept() { return [...this.open.values()].filter((it) => it === 1).length; }
+  /** Does a step; what it throws is said, and the next step is done. */
+  does(act) {
+    try { act(); } catch (error) {
+      if (error.message === 'runs on') throw error;
+      this.say('raised', error.errors ? error.errors.map((it) => it.message).join(' and ') : error.message);
+    }
+  }
   all() {
     this.rx.config.onUnhandledError = () => {};
     try {
       this.pipe = this.build(this.it.whole);
       for (const it of this.it.steps) {
+        if (this.is_on) throw new Error('runs on');
         this.step++;
-        this.act(it);
-        const late = this.put_off;
-        this.put_off = null;
-        if (late !== null) this.act(late);
+        this.does(() => this.act(it));
+        for (const late of this.put_off.splice(0)) this.does(() => this.act(late));
       }
       this.step = 99;
-      for (const it of [...Object.values(this.subscriptions), ...this.connections ?? []]) it.unsubscribe();
+      for (const it of [...Object.values(this.subscriptions), ...this.connections ?? []]) this.does(() => it.unsubscribe());
       this.step = 100;
+      if (this.is_on) throw new Error('runs on');
     } catch (error) {
       this.raised = error;
       this.lines.push(`${this.step} raised ${error.message}`);
@@ -163,12 +217,39 @@ export class Run {
 }
 
 const MARKS = ['begins', 'ends'];
-/** What is compared: in each step what each observer hears in its order, and how often each thing was made, released, tapped and finalized. */
+const isMark = (line) => MARKS.includes(line.split(' ')[1]) || line.startsWith('100 ');
+/** All that happens, in its order: what is compared. */
+export const inOrder = (lines) => lines.filter((it) => !isMark(it)).join(', ');
+const isRelease = (line) => /^\d+ (released|finalized|tapped \d+ (left|finalized))/.test(line);
+/** The same, where releases that stand behind each other have no order. */
+export function inOrderButReleases(lines) {
+  const told = [];
+  let run = [];
+  for (const it of [...lines.filter((one) => !isMark(one)), null]) {
+    if (it !== null && isRelease(it)) run.push(it);
+    else {
+      told.push(...run.sort(), it);
+      run = [];
+    }
+  }
+  return told.join(', ');
+}
+/** Whether nothing but releases stand elsewhere, and in the second none stands later. */
+export function isReleasedEarlier(lines, others) {
+  const [theirs, ours] = [lines, others].map((all) => {
+    const rest = [], at = {};
+    for (const it of all) if (!isMark(it)) if (isRelease(it)) (at[it] ??= []).push(rest.length); else rest.push(it);
+    return { rest: rest.join(), at };
+  });
+  return theirs.rest === ours.rest && Object.keys({ ...theirs.at, ...ours.at })
+    .every((it) => theirs.at[it]?.length === ours.at[it]?.length && theirs.at[it].every((place, k) => ours.at[it][k] <= place));
+}
+/** In each step what each observer hears in its order, and how often everything else happens. */
 export function compared(lines, of = () => true) {
   const by = new Map();
   for (const it of lines) {
     const [step, who, ...rest] = it.split(' ');
-    if (MARKS.includes(who) || step === '100' || !of(who)) continue;
+    if (isMark(it) || !of(who)) continue;
     const key = `${step.padStart(2, '0')} ${who}`;
     by.set(key, [...by.get(key) ?? [], rest.join(' ')]);
   }
