@@ -11,10 +11,11 @@ use crate::Refusal;
 use crate::rx::atomic::AtomicU8;
 use std::sync::atomic::Ordering::{Relaxed, SeqCst};
 
-// What a leaf is: open, and it may be that things stand in its list; or closed.
+// What a leaf is: open, and it may be that things stand in its list; or closed, and it may be that these are still to be told.
 const OPEN: u8 = 0;
 const LISTED: u8 = 1;
-const CLOSED: u8 = 2;
+const CLOSING: u8 = 2;
+const CLOSED: u8 = 3;
 
 pub(crate) struct Leaf<'a, T, E> {
     pub way: Ref<AWay<'a, T, E>>,
@@ -31,7 +32,7 @@ impl<'a, T, E> Leaf<'a, T, E> {
 
     #[inline]
     pub fn is_closed(&self) -> bool {
-        self.state.load(Relaxed) == CLOSED
+        self.state.load(Relaxed) >= CLOSING
     }
 
     /// Is told when the leaf closes; at once, if it is closed.
@@ -56,8 +57,12 @@ impl<'a, T, E> Rooted<'a> for Leaf<'a, T, E> {
 }
 
 impl<T, E> Thing for Leaf<'_, T, E> {
+    fn closing(&self) {
+        let _ = self.state.compare_exchange(OPEN, CLOSED, SeqCst, SeqCst).or_else(|_| self.state.compare_exchange(LISTED, CLOSING, SeqCst, SeqCst));
+    }
+
     fn closed(&self) {
-        if self.state.swap(CLOSED, SeqCst) == LISTED {
+        if matches!(self.state.swap(CLOSED, SeqCst), LISTED | CLOSING) {
             let all = self.closes.with(std::mem::take);
             all.into_iter().for_each(|it| it.closed());
         }

@@ -149,6 +149,11 @@ impl<'a, T, U, E, F: Fn(T) -> Result<Observable<'a, U, E>, E>> Thing for Merging
 pub(crate) struct Both<A: ?Sized, B: ?Sized>(pub Ref<A>, pub Ref<B>);
 
 impl<A: Thing + ?Sized, B: Thing + ?Sized> Thing for Both<A, B> {
+    fn closing(&self) {
+        self.0.closing();
+        self.1.closing();
+    }
+
     fn closed(&self) {
         self.0.closed();
         self.1.closed();

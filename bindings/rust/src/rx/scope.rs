@@ -11,7 +11,9 @@ use std::sync::atomic::Ordering::Relaxed;
 pub(crate) trait Thing {
     /// An effect, outside the lock.
     fn tell(&self, _kind: u32, _value: u64) {}
-    /// The node has closed.
+    /// The node has closed: what others ask of it is answered so. Nothing is done yet, since others have closed with it.
+    fn closing(&self) {}
+    /// The node has closed, and all that closed with it knows that.
     fn closed(&self) {}
     /// `tell` panicked.
     fn panicked(&self) {}
@@ -263,6 +265,7 @@ impl<'a> Engine<'a> {
             self.close(it, panics);
         }
         if let Some(more) = &mut more {
+            more.closed.iter().for_each(|it| it.closing()); // what one of them does may release what another had
             more.closed.drain(..).for_each(|it| self.close(it, panics));
         }
         for told in &mut due.first {
