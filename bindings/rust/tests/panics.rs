@@ -127,6 +127,22 @@ fn what_is_disposed_of_as_a_panic_unwinds_is_released_and_that_panic_goes_on() {
 }
 
 #[test]
+fn a_panic_of_one_subscriber_of_a_share_keeps_nothing_from_a_root_of_an_operators_own() {
+    let ways: [fn(&Observable<'static, i32>) -> Observable<'static, i32>; 3] =
+        [|it| it.tap(|_| ()), |it| it.retry(3), |it| it.materialize().dematerialize()];
+    for way in ways {
+        let (subject, heard) = (Subject::<i32>::new(), Rc::new(RefCell::new(vec![])));
+        let (shared, notes) = (way(&subject.observable()).share(), heard.clone());
+        let bad = shared.map(|it| if it == 2 { panic_any("broken") }).each(drop);
+        let _good = shared.each(move |it| notes.borrow_mut().push(it));
+        subject.next(1);
+        assert_eq!(panics(|| subject.next(2)), "broken");
+        subject.next(3);
+        assert_eq!((bad.is_closed(), heard.borrow().as_slice()), (true, [1, 2, 3].as_slice()));
+    }
+}
+
+#[test]
 fn a_panic_of_one_subscriber_of_a_share_keeps_nothing_from_the_other() {
     let (dropped, heard) = (Rc::new(Cell::new(0)), Rc::new(RefCell::new(vec![])));
     let (subject, notes) = (Subject::<i32>::new(), heard.clone());

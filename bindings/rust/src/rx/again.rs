@@ -64,7 +64,7 @@ impl<'a, T: Moves + 'a, E: Moves + 'a, F: FnMut(Option<E>) -> Then<'a, T, E> + M
 
     fn hear(self: &Ref<Self>, note: Note<T, E>) {
         let end = match note {
-            Note::Next(item) => return self.to.next(item),
+            Note::Next(item) => return self.to.pass(item),
             Note::Error(error) => Some(error),
             Note::Completed => None,
         };

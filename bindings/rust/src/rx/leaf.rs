@@ -109,6 +109,11 @@ impl<'a, T: 'a, E: 'a> Emitter<'a, T, E> {
 }
 
 impl<'a, T, E> Emitter<'a, T, E> {
+    /// Tells an item that a root of an operator's own was told. Who panics then is another, and keeps nothing from that root.
+    pub(crate) fn pass(&self, item: T) {
+        self.leaf.way.root().engine.pass_on(|| self.try_next(item)).into_iter().for_each(or_panic)
+    }
+
     /// Tells an item. What is due is told before it returns, but for what stands behind an observer that is being told.
     ///
     /// # Panics

@@ -198,7 +198,7 @@ impl<'a, T: Moves + 'a, E: Moves + 'a> Observable<'a, T, E> {
         let to = Emitter::open(at)?;
         let leaf = to.leaf.clone();
         self.open_to(&leaf, move |note| match note {
-            Note::Next(item) => to.next(item),
+            Note::Next(item) => to.pass(item),
             Note::Error(error) => to.error(error),
             Note::Completed => to.completed(),
         })

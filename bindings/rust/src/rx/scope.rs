@@ -5,6 +5,8 @@ use crate::engine::{effect, what, Answer, Command, Crossing, Effect, Key, NOTHIN
 use crate::rx::{by, panics::Panics, slab::Slab};
 use crate::Refusal;
 use crate::rx::atomic::AtomicU64;
+use std::any::Any;
+use std::panic::{catch_unwind, resume_unwind, AssertUnwindSafe};
 use std::sync::atomic::Ordering::Relaxed;
 
 /// What a word stands for.
@@ -131,6 +133,17 @@ struct Behind<'a> {
     thing: Option<Ref<AThing<'a>>>,
 }
 
+/// A panic that goes on later.
+struct Passed(Lock<Option<Box<dyn Any + Send>>>);
+
+impl Thing for Passed {
+    fn tell(&self, _: u32, _: u64) {
+        if let Some(why) = self.0.with(Option::take) {
+            resume_unwind(why)
+        }
+    }
+}
+
 /// What a command came to.
 #[derive(Clone, Copy)]
 pub(crate) struct Made {
@@ -215,6 +228,18 @@ impl<'a> Engine<'a> {
     /// For a thing that is being told: another is told once all is served that is due by now.
     pub fn tell_behind(&self, thing: Ref<AThing<'a>>) {
         self.put_behind(by(), None, Some(thing))
+    }
+
+    /// For a thing that is being told, which tells others in its turn: a panic of theirs has closed what it had to, and goes on once all
+    /// is served that is due by now, not through the thing.
+    pub fn pass_on<R>(&self, work: impl FnOnce() -> R) -> Option<R> {
+        match catch_unwind(AssertUnwindSafe(work)) {
+            Ok(done) => Some(done),
+            Err(why) => {
+                self.tell_behind(Ref::new(Passed(Lock::new(Some(why)))));
+                None
+            }
+        }
     }
 
     fn put_behind(&self, by: u64, due: Option<Due<'a>>, thing: Option<Ref<AThing<'a>>>) {

@@ -45,7 +45,7 @@ impl<'a, T: Moves + 'a, E: Moves + 'a> Out<'a, T, E> {
     }
 
     pub fn next(&self, item: T) {
-        self.to.next(item)
+        self.to.pass(item)
     }
 
     /// It completes, or fails, and hears nothing more. Only who is being told calls this.
