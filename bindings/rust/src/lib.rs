@@ -75,6 +75,9 @@
 #![deny(unsafe_code)]
 #![deny(unsafe_op_in_unsafe_fn)]
 
+#[cfg(test)]
+extern crate self as cellarcliff; // as the programs of the tests name it
+
 mod book;
 pub mod engine;
 pub mod local;

@@ -8,6 +8,9 @@ use std::rc::Rc;
 use std::sync::atomic::{AtomicI64, Ordering::SeqCst};
 use std::sync::{Mutex, PoisonError};
 
+#[path = "../../tests/programs/mod.rs"]
+mod programs;
+
 /// How many engines were made and freed while this ran alone, and what words of theirs were never told.
 fn counting(work: impl FnOnce()) -> (u64, u64, u64) {
     static ALONE: Mutex<()> = Mutex::new(());
@@ -127,6 +130,16 @@ fn each_item_is_told_once_whatever_is_handed_out_in_its_place() {
         });
         assert_eq!((heard.into_inner(), counts), ([('B', 2), ('B', 1), ('A', 1), ('A', 3), ('B', 3)].map(|(name, it)| (name, Note::Next(it))).to_vec(), (1, 1, 0)));
     }
+}
+
+#[test]
+fn random_programs_hear_and_release_all_whatever_is_handed_out() {
+    let counts = counting(|| {
+        for (seeds, room) in [(0..200, 0), (200..400, STRICT)] {
+            programs::run_all(seeds, room).unwrap_or_else(|why| panic!("{why}"));
+        }
+    });
+    assert_eq!(counts, (400, 400, 0));
 }
 
 #[test]

@@ -1,0 +1,106 @@
+//! Random programs: pipelines over all operators, whose functions, observers and resources emit, end, subscribe, dispose, connect and panic
+//! from within, in one thread or in four. Each program says for each observer what it has to hear, so a run needs nothing to compare with.
+pub mod program;
+
+#[path = "."]
+mod local {
+    use super::program::Program;
+    use cellarcliff::local as form;
+    #[path = "run.rs"]
+    mod run;
+    pub use run::run;
+
+    fn perform(world: &std::sync::Arc<run::World>, it: &Program) {
+        for act in &it.acts {
+            world.top(act);
+            world.check();
+        }
+    }
+}
+
+#[path = "."]
+mod sync {
+    use super::program::{Act, Program};
+    use cellarcliff::sync as form;
+    #[path = "run.rs"]
+    mod run;
+    pub use run::run;
+
+    /// By several threads it first subscribes, and looks behind all.
+    fn perform(world: &std::sync::Arc<run::World>, it: &Program) {
+        let at_first = if it.threads == 1 { it.acts.len() } else { it.acts.iter().take_while(|it| matches!(it, Act::Subscribe(_))).count() };
+        let (first, others) = it.acts.split_at(at_first);
+        for act in first {
+            world.top(act);
+            world.check();
+        }
+        std::thread::scope(|scope| {
+            for thread in 0..it.threads {
+                scope.spawn(move || others.iter().skip(thread).step_by(it.threads).for_each(|act| world.top(act)));
+            }
+        });
+        world.check();
+    }
+}
+
+use cellarcliff::Refusal;
+use program::Program;
+use std::collections::BTreeMap;
+use std::sync::atomic::{AtomicU64, Ordering::SeqCst};
+use std::sync::Mutex;
+use std::time::Duration;
+
+/// What programs came to, by name.
+pub type Counts = BTreeMap<String, u64>;
+
+/// Which form, and how many events its engine is made for, which the test engine takes for its own switches.
+fn run(it: &Program, counts: &Mutex<Counts>, room: u32) -> Result<(), String> {
+    if it.threads > 1 || it.is_sync { sync::run(it, counts, room) } else { local::run(it, counts, room) }
+}
+
+/// The smallest program that still goes wrong, by leaving out one thing after another.
+fn shrink(mut least: Program, mut why: String, room: u32) -> (Program, String) {
+    let tries = if least.threads > 1 { 40 } else { 1 };
+    while let Some(found) = least.smaller().into_iter().find_map(|it| {
+        (0..tries).find_map(|_| run(&it, &Mutex::default(), room).err()).map(|why| (it, why))
+    }) {
+        (least, why) = found;
+    }
+    (least, why)
+}
+
+/// Runs the programs of these seeds; says what the first comes to that goes wrong, as small as it gets.
+pub fn run_all(seeds: std::ops::Range<u64>, room: u32) -> Result<Counts, String> {
+    static AT: AtomicU64 = AtomicU64::new(0);
+    let counts = Mutex::new(Counts::new());
+    let (stop, stopped) = std::sync::mpsc::channel::<()>();
+    let watch = std::thread::spawn(move || loop {
+        let before = AT.load(SeqCst);
+        match stopped.recv_timeout(Duration::from_secs(300)) {
+            Err(std::sync::mpsc::RecvTimeoutError::Timeout) if AT.load(SeqCst) == before => {
+                eprintln!("the program of the seed {before} stands");
+                std::process::abort()
+            }
+            Err(std::sync::mpsc::RecvTimeoutError::Timeout) => (),
+            _ => return,
+        }
+    });
+    let mut done = Ok(());
+    for seed in seeds {
+        AT.store(seed, SeqCst);
+        let program = Program::new(seed);
+        if let Err(why) = run(&program, &counts, room) {
+            let (least, least_why) = shrink(program, why.clone(), room);
+            done = Err(format!("seed {seed}: {why}\nat least: {least_why}\n{least:?}"));
+            break;
+        }
+    }
+    drop(stop);
+    watch.join().unwrap();
+    done.map(|()| counts.into_inner().unwrap())
+}
+
+/// What an engine may refuse to a share, for want of hubs in that order, is no fault of a program.
+pub fn is_order(why: &Refusal) -> bool {
+    matches!(why, Refusal::HubOrder | Refusal::NoHub)
+}
