@@ -9,6 +9,7 @@ import select
 import signal
 import subprocess
 import sys
+import tempfile
 import time
 
 from . import programs
@@ -80,9 +81,8 @@ class Runner:
         self.at_work, self.process, self.deaths = collections.deque(), None, 0
 
     def start(self):
-        self.errors = open(f"/tmp/pipelines-{os.getpid()}-{id(self)}", "w+")
+        self.errors = tempfile.TemporaryFile("w+")
         self.process = subprocess.Popen(self.words, stdin=subprocess.PIPE, stdout=subprocess.PIPE, stderr=self.errors, env=self.env, bufsize=0)
-        os.unlink(self.errors.name)
         self.buffer = b""
 
     def send(self, what):
