@@ -1,7 +1,7 @@
 //! What is due to whom.
 
-ghost use Rattle.std.specs.Prelude.{◌≡◌, ◌<◌, ◌≤◌, ◌++◌, ◌∷◌, ◌==◌, ◌+◌, [], cond, true, false, length, OnOk, OnErr, IfSome, Some, None, slice_set, slice_index_or, vec_capacity};
-ghost use Rattle.rx_slots.specs.Lists.{list_at, take_out, head_of, is_in};
+ghost use Rattle.std.specs.Prelude.{◌≡◌, ◌<◌, ◌≤◌, ◌==◌, ◌+◌, [], true, false, length, OnOk, IfSome, Some, None, slice_index_or, vec_capacity};
+ghost use Rattle.rx_slots.specs.Lists.{list_at, head_of};
 ghost use Rattle.rx_turns.specs.Rows.{is_of, own_line, row_on, HaveOneRowEach, KeepsRows, HasLine, Grows};
 ghost use Rattle.rx_turns.specs.Agendas.{IsAgenda};
 
