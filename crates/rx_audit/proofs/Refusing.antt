@@ -15,8 +15,8 @@ use Rattle.rx_event.specs.Allowed.{most_nodes, most_hubs}
 use Rattle.rx_event.specs.Totals.{open_count}
 use Rattle.rx_event.specs.Calls.{Call, Emitting, Ending, Aborting, Failing, Disposing, Disconnecting}
 use Rattle.rx_event.specs.Causes.{connects_up_to, is_gone, is_crowded, has_connection}
-use Rattle.rx_rules.specs.Behind.{may_fail, hub_disconnected, refusal_against, refusal_of}
-use Rattle.rx_rules.proofs.Laws.Behind.{failing_leaf as ends_leaf, failing_other, connected_by}
+use Rattle.rx_register.specs.CallBehind.{may_fail, hub_disconnected, refusal_against, refusal_of}
+use Rattle.rx_register.proofs.Laws.CallBehindAdds.{failing_leaf as ends_leaf, failing_other, connected_by}
 use Rattle.rx_audit.specs.Rules.{refused_simply}
 use Rattle.rx_audit.proofs.TestsDecideRules.{connected_key, connection_at}
 use Rattle.std.proofs.Common.{rules}

@@ -16,8 +16,8 @@ use Rattle.rx_audit.specs.Rules.{opens_pass, opened_with}
 use Rattle.rx_event.specs.declared.refusal.Refusal.{Refusal}
 use Rattle.rx_audit.proofs.Common.{none-some}
 use Rattle.std.specs.Prelude.{is_none, Option}
-use Rattle.rx_rules.specs.Behind.{refusal_of, takes_waiting}
-use Rattle.rx_rules.proofs.Laws.Decided.{allowed_unrefused}
+use Rattle.rx_register.specs.CallBehind.{refusal_of, takes_waiting}
+use Rattle.rx_register.proofs.Laws.AllowedWhereUnrefused.{allowed_unrefused}
 use Rattle.std.proofs.Common.{rules}
 
 -- callers ----------------------------------------------------------------------------------------------

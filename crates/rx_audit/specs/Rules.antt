@@ -6,7 +6,7 @@ use Rattle.rx_audit.specs.Imports.{ancestors, if_less, makes_node, parent_named,
 use Rattle.rx_audit.specs.Imports.{hub_subscribed, is_auto_hub}
 use Rattle.rx_event.specs.declared.event.Kind.TheVariants.{Pass}
 use Rattle.rx_event.specs.declared.refusal.Refusal.{Refusal}
-use Rattle.rx_rules.specs.Behind.{refusal_of}
+use Rattle.rx_register.specs.CallBehind.{refusal_of}
 
 -- the number is the one that was named, if one was
 abbrev pub names_number : Option ℕ → ℕ → Bool

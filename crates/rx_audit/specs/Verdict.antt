@@ -7,7 +7,7 @@ use Rattle.rx_event.specs.Resources.{held_resources, waiting_resources}
 use Rattle.rx_event.specs.Forced.{IsSettled}
 use Rattle.rx_event.specs.Lawful.{IsLawful, MayFollow}
 use Rattle.rx_event.specs.declared.refusal.Refusal.{Refusal}
-use Rattle.rx_rules.specs.Behind.{refusal_of}
+use Rattle.rx_register.specs.CallBehind.{refusal_of}
 use Rattle.rx_audit.specs.declared.verdict.Verdict.{Verdict}
 use Rattle.rx_audit.specs.declared.verdict.Verdict.TheVariants.{Lawful, Unlawful, Unsettled}
 

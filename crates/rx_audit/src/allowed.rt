@@ -14,7 +14,7 @@ ghost use Rattle.rx_event.specs.Calls.{Opening, Emitting, Ending, Aborting, Remo
 ghost use Rattle.rx_event.specs.Refusals.{first_cause};
 ghost use Rattle.rx_event.specs.Causes.{connects_up_to, is_without_hub, is_out_of_order, is_gone, is_wrong_place, is_taken_place};
 ghost use Rattle.rx_event.specs.Causes.{is_unowed_place, is_crowded, forces_connect, nodes_opened, has_connection, projecting_causes};
-ghost use Rattle.rx_rules.specs.Behind.{may_fail, refusal_against, refusal_of, takes_waiting};
+ghost use Rattle.rx_register.specs.CallBehind.{may_fail, refusal_against, refusal_of, takes_waiting};
 ghost use Rattle.rx_audit.specs.Found.{IsFoundHere, IsClimbed};
 ghost use Rattle.rx_audit.specs.Standing.{IsKnown};
 ghost use Rattle.rx_audit.specs.Marking.{IsKept};

@@ -21,7 +21,7 @@
 //! the node whose marks it changes, the subscribers that it cuts off, and the connection of the hub of
 //! each subscriber that it closes. By these it is decided what operators owe (`forced`) and what
 //! callers may do (`allowed`): a caller's event is allowed where the table of refusals has nothing but want of
-//! room against the call behind it (`rx_rules`). `advance` keeps all of them up to date.
+//! room against the call behind it (`rx_register`). `advance` keeps all of them up to date.
 //!
 //! Cost: an event costs what it changes, however many events there are. A closing costs the nodes that
 //! it closes and the children that these ever had, the end of a connection its open subscribers, the

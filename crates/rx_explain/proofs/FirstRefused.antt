@@ -11,8 +11,8 @@ use Rattle.rx_event.specs.Kept.{nothing_kept}
 use Rattle.rx_event.specs.Forced.{IsSettled}
 use Rattle.rx_event.specs.Allowed.{IsAllowed, accepted}
 use Rattle.rx_event.specs.Lawful.{IsLawful, MayFollow, forced, allowed, opened_with}
-use Rattle.rx_rules.specs.Behind.{refusal_of, takes_waiting}
-use Rattle.rx_rules.proofs.Laws.Decided.{allowed_unrefused}
+use Rattle.rx_register.specs.CallBehind.{refusal_of, takes_waiting}
+use Rattle.rx_register.proofs.Laws.AllowedWhereUnrefused.{allowed_unrefused}
 use Rattle.rx_audit.specs.declared.verdict.Verdict.{Verdict}
 use Rattle.rx_audit.specs.declared.verdict.Verdict.TheVariants.{Lawful, Unlawful, Unsettled}
 use Rattle.rx_audit.specs.Verdict.{IsVerdict}

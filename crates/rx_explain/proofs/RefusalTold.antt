@@ -15,7 +15,7 @@ use Rattle.rx_event.specs.declared.event.Event.{Event}
 use Rattle.rx_event.specs.declared.refusal.Refusal.{Refusal}
 use Rattle.rx_event.specs.Kept.{nothing_kept}
 use Rattle.rx_event.specs.Lawful.{IsLawful}
-use Rattle.rx_rules.specs.Behind.{refusal_of}
+use Rattle.rx_register.specs.CallBehind.{refusal_of}
 use Rattle.rx_audit.specs.declared.verdict.Verdict.{Verdict}
 use Rattle.rx_audit.specs.declared.verdict.Verdict.TheVariants.{Lawful, Unlawful, Unsettled}
 use Rattle.rx_audit.specs.Verdict.{IsVerdict}

@@ -14,7 +14,7 @@ use Rattle.rx_event.specs.Events.{named_by}
 use Rattle.rx_event.specs.Kept.{nothing_kept}
 use Rattle.rx_event.specs.Forced.{IsSettled}
 use Rattle.rx_event.specs.Lawful.{IsLawful}
-use Rattle.rx_rules.specs.Behind.{refusal_of}
+use Rattle.rx_register.specs.CallBehind.{refusal_of}
 use Rattle.rx_device.specs.Input.{IsJsonOf, most_bytes}
 use Rattle.rx_dump.specs.History.{history_of}
 use Rattle.rx_names.specs.Names.{dump_in, names_in, name_in_object}

@@ -6,3 +6,9 @@ pub mod Paid
 pub mod Calls
 pub mod Empty
 pub mod SameCauses
+pub mod CausesWithoutLimit
+pub mod ClearIsAllowed
+pub mod CallBehindAdds
+pub mod HubWaitsAfterOpening
+pub mod AllowedIsClear
+pub mod AllowedWhereUnrefused

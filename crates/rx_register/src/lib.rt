@@ -7,7 +7,9 @@
 //!
 //! Vocabulary: a `Register` shows a `State`; [`Register::tell`] queues a note of the event that
 //! comes next, [`Register::write`] writes that event, [`Register::take_mail`] hands the oldest note
-//! out. `specs/Causes` is the table of refusals: which causes stand against each call.
+//! out. `specs/Causes` of `rx_event` is the table of refusals: which causes stand against each call;
+//! `call_behind` is the call of which a caller's event comes, and `refusal_of` the first cause that
+//! stands against it, but for room (`specs/CallBehind`).
 //!
 //! # Promised, and not
 //!
@@ -16,6 +18,8 @@
 //!   closing everything fits; that is for whoever keeps one, by the laws in `proofs/Laws`.
 //! - Writing takes no memory: room for events and notes is reserved before. No call goes over the
 //!   history.
+//! - The table and `IsAllowed` of `rx_event` say the same of every event, but for room
+//!   ([`causes_decide_events`]). So who asks the table need not test an event by rules of its own.
 #![tactic(auto)]
 
 mod load;
@@ -24,4 +28,4 @@ mod theorems;
 
 pub use load::Load;
 pub use register::Register;
-pub use theorems::{calls_without_cause_follow, room_is_kept};
+pub use theorems::{calls_without_cause_follow, causes_decide_events, room_is_kept};

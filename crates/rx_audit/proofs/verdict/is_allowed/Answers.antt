@@ -1,5 +1,5 @@
 use Rattle.rx_audit.proofs.Common.{Bool, ◌&&◌, not, sym, ap, ◌∙◌}
-use Rattle.rx_rules.specs.Behind.{takes_waiting}
+use Rattle.rx_register.specs.CallBehind.{takes_waiting}
 use Rattle.rx_audit.proofs.TestsToVerdict.{decided}
 use Rattle.rx_audit.proofs.verdict.is_allowed.Goals as goal
 

@@ -1,6 +1,6 @@
 use Rattle.rx_audit.proofs.Common.{◌≡◌, IfOk-weaker, nothing_kept}
 use Rattle.rx_audit.specs.Verdict.{IsRefusedAfter}
-use Rattle.rx_rules.specs.Behind.{refusal_of}
+use Rattle.rx_register.specs.CallBehind.{refusal_of}
 use Rattle.rx_audit.proofs.verdict.refused_after.Goals as goal
 
 pub returns : goal.returns

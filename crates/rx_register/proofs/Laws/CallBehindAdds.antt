@@ -18,7 +18,7 @@ use Rattle.rx_event.proofs.Laws.Lists.{first_passes, filter_nonempty}
 use Rattle.rx_event.proofs.Laws.Openness.{is_open_within}
 use Rattle.rx_event.proofs.Laws.Hubs.{one_connection, one_open_connection}
 use Rattle.rx_register.proofs.Laws.OpeningForcesConnection.{connects_none, connects_one}
-use Rattle.rx_rules.specs.Behind.{call_behind, call_failing, may_fail, hub_disconnected}
+use Rattle.rx_register.specs.CallBehind.{call_behind, call_failing, may_fail, hub_disconnected}
 
 -- closings ----------------------------------------------------------------------------------------
 

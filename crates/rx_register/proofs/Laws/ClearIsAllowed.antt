@@ -11,7 +11,7 @@ use Rattle.rx_event.specs.Refusals.{first_cause}
 use Rattle.rx_event.specs.Causes.{causes, unlimited}
 use Rattle.rx_register.specs.Claims.{IsReady, MayFollowInTurn}
 use Rattle.rx_register.proofs.Laws.Calls.{call_follows}
-use Rattle.rx_rules.proofs.Laws.CausesWithoutLimit.{any_limit, limit_for, has_room, first_cause-same, unlimited_room}
+use Rattle.rx_register.proofs.Laws.CausesWithoutLimit.{any_limit, limit_for, has_room, first_cause-same, unlimited_room}
 
 -- in a settled history only what callers may do may follow
 pub follows_allowed : (base : Kept) → (h : List Event) (e : Event) → IsSettled base h → MayFollow base h e → IsAllowed base h e

@@ -37,9 +37,9 @@ use Rattle.rx_event.proofs.Laws.Searches.{list_any_found, list_any_holds}
 use Rattle.rx_event.proofs.Laws.Resources.{owned_held}
 use Rattle.rx_event.proofs.Laws.Hubs.{manual_made}
 use Rattle.rx_register.specs.Claims.{IsReady}
-use Rattle.rx_rules.specs.Behind.{call_behind, call_failing, may_fail, hub_disconnected}
-use Rattle.rx_rules.proofs.Laws.Behind.{is_disconnected, root_disconnects, connected_by, failing_leaf, failing_other}
-use Rattle.rx_rules.proofs.Laws.OpeningForces.{opening_waits_for}
+use Rattle.rx_register.specs.CallBehind.{call_behind, call_failing, may_fail, hub_disconnected}
+use Rattle.rx_register.proofs.Laws.CallBehindAdds.{is_disconnected, root_disconnects, connected_by, failing_leaf, failing_other}
+use Rattle.rx_register.proofs.Laws.HubWaitsAfterOpening.{opening_waits_for}
 
 -- but for room no cause stands against the call, and what it takes waits
 pub record IsQuiet (base : Kept) (h : List Event) (limit : ℕ) (call : Call) : Type 0 where

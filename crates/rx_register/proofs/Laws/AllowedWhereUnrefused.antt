@@ -16,13 +16,12 @@ use Rattle.rx_event.specs.Lawful.{IsLawful}
 use Rattle.rx_event.specs.Calls.{Call, Ending, Aborting, Failing, Disposing, Disconnecting, outside_of}
 use Rattle.rx_event.specs.Refusals.{first_cause}
 use Rattle.rx_event.specs.Causes.{causes, unlimited}
-use Rattle.rx_register.specs.Claims.{IsReady}
-use Rattle.rx_rules.specs.Clear.{IsClear}
-use Rattle.rx_rules.specs.Behind.{call_behind, refusal_of, takes_waiting, may_fail, hub_disconnected}
-use Rattle.rx_rules.proofs.Laws.CausesWithoutLimit.{never_NoMemory, none_first}
-use Rattle.rx_rules.proofs.Laws.ClearIsAllowed.{clear_allowed}
-use Rattle.rx_rules.proofs.Laws.Behind.{behind_adds}
-use Rattle.rx_rules.proofs.Laws.AllowedIsClear.{IsQuiet, allowed_quiet}
+use Rattle.rx_register.specs.Claims.{IsReady, IsClear}
+use Rattle.rx_register.specs.CallBehind.{call_behind, refusal_of, takes_waiting, may_fail, hub_disconnected}
+use Rattle.rx_register.proofs.Laws.CausesWithoutLimit.{never_NoMemory, none_first}
+use Rattle.rx_register.proofs.Laws.ClearIsAllowed.{clear_allowed}
+use Rattle.rx_register.proofs.Laws.CallBehindAdds.{behind_adds}
+use Rattle.rx_register.proofs.Laws.AllowedIsClear.{IsQuiet, allowed_quiet}
 
 -- the two causes that no event shows
 is_room : Refusal → Bool

@@ -1,3 +1,0 @@
-pub mod Behind
-pub mod Clear
-pub mod Claims
