@@ -1,7 +1,7 @@
 -- A run, an audit or a storm that was not begun.
 use Rattle.rx_cli.proofs.Common.{List, Err, refl, ap, true≢false, Bool, true, false, Result, Memory, Watched, Bytes}
 use Rattle.rx_device.specs.declared.fault.ScriptError.{ScriptError}
-use Rattle.rx_names.specs.declared.judging.Labels.{Labels}
+use Rattle.rx_dump.specs.declared.judging.Labels.{Labels}
 use Rattle.rx_script.specs.declared.Form.{Form}
 use Rattle.rx_script.specs.Stage.{Ware}
 use Rattle.rx_storm.specs.declared.StormFault.{StormFault}

@@ -10,8 +10,8 @@ use Rattle.rx_device.specs.declared.watched.Watched.{Watched}
 use Rattle.rx_device.specs.Device.{device_of, has_failed, has_stopped, HasReadFault, HasWriteFault, AppendsPrefix}
 use Rattle.rx_device.specs.Input.{GivesTooMuch, GivesNoJson}
 use Rattle.rx_dump.specs.Verdict.{is_lawful}
-use Rattle.rx_names.specs.declared.judging.Labels.{Labels}
-use Rattle.rx_names.specs.Judged.{JudgesNamed, GivesNoHistory}
+use Rattle.rx_dump.specs.declared.judging.Labels.{Labels}
+use Rattle.rx_dump.specs.Judged.{JudgesNamed, GivesNoHistory}
 use Rattle.rx_script.specs.declared.Form.{Form}
 use Rattle.rx_script.specs.declared.Form.TheVariants.{Report}
 use Rattle.rx_script.specs.Stage.{Ware}

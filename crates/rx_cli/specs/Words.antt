@@ -11,8 +11,8 @@ use Rattle.clap.specs.declared.error.kind.ErrorKind.TheVariants.{DisplayHelp, Di
 use Rattle.clap.specs.declared.error.kind.ErrorKind.TheVariants.{InvalidSubcommand, UnknownArgument}
 use Rattle.rx_cli.specs.declared.request.Order.{Order}
 use Rattle.rx_cli.specs.declared.request.Order.TheVariants.{Run, Trace, Audit, Storm}
-use Rattle.rx_names.specs.declared.judging.Labels.{Labels}
-use Rattle.rx_names.specs.declared.judging.Labels.TheVariants.{Numbers, Names}
+use Rattle.rx_dump.specs.declared.judging.Labels.{Labels}
+use Rattle.rx_dump.specs.declared.judging.Labels.TheVariants.{Numbers, Names}
 use Rattle.rx_script.specs.declared.Form.{Form}
 use Rattle.rx_script.specs.declared.Form.TheVariants.{Report, Dump, NamedDump}
 

@@ -9,8 +9,7 @@
 //! - The stock is the list of resources that a scenario may hold; [`stock`] of `rx_script` makes it.
 //! - A [`Watched`] input or output notes whether the stream behind it failed, so that the contract of
 //!   [`serve`] can say when a stream is at fault.
-//! - A dump is a history in JSON, and a verdict what the audit says of it, both of `rx_dump`; `rx_names` has both with
-//!   names.
+//! - A dump is a history in JSON, and a verdict what the audit says of it, both of `rx_dump`, with names or without.
 //! - A storm is of `rx_storm`: threads that emit and threads that release, at one book.
 //! - [`serve`] does what the words order, and answers the exit status:
 //!
@@ -61,7 +60,7 @@ mod words;
 
 pub use program::serve;
 pub use request::Order;
-pub use rx_names::{Labels, judge};
+pub use rx_dump::{Labels, judge};
 pub use rx_script::{Closed, Form, ScriptError, Watched, close, run, stock};
 pub use statuses::{out_of_memory, weathered};
 pub use usage::refuse_bytes;

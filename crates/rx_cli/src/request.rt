@@ -1,6 +1,6 @@
 //! What the program is asked to do.
 
-use rx_names::Labels;
+use rx_dump::Labels;
 use rx_script::Form;
 
 /// What the words of a command line order.

@@ -3,7 +3,7 @@
 ghost use Rattle.std.specs.Prelude.{◌≡◌, [], ◌∷◌, map, codes};
 ghost use Rattle.clap.specs.Words.{fault_of};
 ghost use Rattle.clap.specs.declared.error.kind.ErrorKind.{ErrorKind};
-ghost use Rattle.rx_names.specs.declared.judging.Labels.{Labels};
+ghost use Rattle.rx_dump.specs.declared.judging.Labels.{Labels};
 ghost use Rattle.rx_script.specs.declared.Form.{Form};
 ghost use Rattle.rx_cli.specs.declared.request.Order.{Order};
 ghost use Rattle.rx_cli.specs.Words.{Orders, rxbook, greatest_storm, storms_beyond};

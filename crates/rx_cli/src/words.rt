@@ -8,7 +8,7 @@ ghost use Rattle.rx_cli.specs.Words.{storm_by, order_of_subcommand, IsInRange};
 use crate::request::Order;
 use clap::builder::ValueParser;
 use clap::{Arg, ArgAction, ArgMatches, Command, Error};
-use rx_names::Labels;
+use rx_dump::Labels;
 use rx_script::Form;
 use std::alloc::{AllocError, Global};
 use std::convert::AsStr;

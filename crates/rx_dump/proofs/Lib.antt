@@ -7,3 +7,5 @@ pub mod Histories
 pub mod Openings
 pub mod ReadBack
 pub mod Compact
+pub mod VerdictWithoutNames
+pub mod JudgedAsGiven

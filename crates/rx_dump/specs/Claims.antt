@@ -1,2 +1,3 @@
--- What is proved of dumps as definitions.
+-- What is proved of dumps and names as definitions.
 pub mod Dumps
+pub mod NoNames

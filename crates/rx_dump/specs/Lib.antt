@@ -5,4 +5,7 @@ pub mod Tokens
 pub mod Verdict
 pub mod Checking
 pub mod Inputs
+pub mod Names
+pub mod NamedVerdict
+pub mod Judged
 pub mod Claims

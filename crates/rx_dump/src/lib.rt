@@ -1,4 +1,4 @@
-//! Dumps: histories as JSON, and the audit's verdict on one.
+//! Dumps: histories as JSON, alone or beside names for their numbers, and the audit's verdict on one.
 //!
 //! # Vocabulary
 //!
@@ -8,6 +8,13 @@
 //! - A **verdict** is what `rx_audit` says of a history; `specs/Verdict.antt` defines its text.
 //! - [`history_of`] gives the history of which a JSON value is a dump.
 //! - [`check`] reads a dump from a device and writes the verdict on its history (`specs/Checking.antt`).
+//! - An **input** is a dump, or an object with a dump as its member `dump` and, if there are some, names as its member
+//!   `names`: an object that leads from numbers, written as decimals, to texts (`specs/Names.antt`).
+//!   `rxbook run --names` writes one, and so does a live book.
+//! - [`Names`] are those of one value; [`name_of`] finds that of a number, [`label`] writes both.
+//! - A verdict **tells names** where behind each number of something that is open, held or waiting stands its name as
+//!   a JSON string (`specs/NamedVerdict.antt`). [`judge`] reads an input and writes its verdict, with
+//!   [`Labels::Names`] so (`specs/Judged.antt`).
 //!
 //! # How a dump is read
 //!
@@ -23,6 +30,10 @@
 //!   and the answer is true for a lawful history whose operators have nothing left to do, and for no
 //!   other. Each error comes only for its cause, and a cause of `Syntax` or `Shape` is never passed
 //!   over. With an error nothing was written, but for a front of the verdict with `Write`.
+//! - [`judge`] promises of an input what [`check`] promises of a dump; with [`Labels::Numbers`] it writes the text of
+//!   the verdict alone, with [`Labels::Names`] the same with names.
+//! - [`a_dump_alone_has_no_names`]: a dump is an input without names, whose verdict is the same with either.
+//! - A number has at most one name, and nothing says that the names of two numbers differ.
 //! - [`a_dump_is_read_back`]: the dump of a history is the compact text of a JSON value and a newline,
 //!   and that value is read as the history. That `serde_json` reads its own text back is its promise;
 //!   that the newline changes nothing is tested.
@@ -32,11 +43,18 @@
 mod checking;
 mod dump;
 mod history;
+mod input;
+mod judging;
 mod laws;
+mod named_verdict;
+mod names;
 mod reading;
 mod verdict;
 
 pub use checking::check;
 pub use dump::push_dump;
 pub use history::history_of;
-pub use laws::a_dump_is_read_back;
+pub use input::{dump_in, names_or};
+pub use judging::{Labels, judge};
+pub use laws::{a_dump_alone_has_no_names, a_dump_is_read_back};
+pub use names::{Names, label, name_of, name_text};

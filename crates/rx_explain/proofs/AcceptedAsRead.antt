@@ -27,7 +27,7 @@ use Rattle.rx_scenario.specs.Scenario.{Script}
 use Rattle.rx_scenario.specs.Reading.{scenario_of, has_only, is_one_of, keys}
 use Rattle.rx_dump.specs.History.{history_of}
 use Rattle.rx_dump.specs.Verdict.{is_lawful}
-use Rattle.rx_names.specs.Names.{dump_in}
+use Rattle.rx_dump.specs.Names.{dump_in}
 use Rattle.rx_explain.specs.Accepted.{IsScenario, IsLawfulDump, IsTaken, IsAccepted, SaysNothingWhere}
 
 -- one verdict -------------------------------------------------------------------------------------

@@ -21,7 +21,7 @@ use Rattle.rx_audit.specs.declared.verdict.Verdict.TheVariants.{Lawful, Unlawful
 use Rattle.rx_audit.specs.Verdict.{IsVerdict}
 use Rattle.rx_device.specs.Input.{IsJsonOf, most_bytes}
 use Rattle.rx_dump.specs.History.{history_of}
-use Rattle.rx_names.specs.Names.{dump_in, names_in}
+use Rattle.rx_dump.specs.Names.{dump_in, names_in}
 use Rattle.rx_explain.specs.Worded.{IsWorded, WordsRefusal, TellsRefusal, TellsFirst, TellsFirstIn, TellsFirstOf}
 use Rattle.rx_explain.proofs.AcceptedAsRead.{lawful_alone, itself, one_value}
 use Rattle.rx_explain.proofs.FirstRefused.{place_told}

@@ -7,7 +7,7 @@ use Rattle.rx_scenario.specs.Scenario.{Script}
 use Rattle.rx_scenario.specs.Reading.{scenario_of}
 use Rattle.rx_dump.specs.Checking.{IsVerdictOn}
 use Rattle.rx_dump.specs.Verdict.{is_lawful}
-use Rattle.rx_names.specs.Names.{dump_in}
+use Rattle.rx_dump.specs.Names.{dump_in}
 
 -- the JSON value is a scenario
 pub record IsScenario (d : Data) : Type 0 where

@@ -17,8 +17,8 @@ use Rattle.rx_event.specs.Lawful.{IsLawful}
 use Rattle.rx_register.specs.CallBehind.{refusal_of}
 use Rattle.rx_device.specs.Input.{IsJsonOf, most_bytes}
 use Rattle.rx_dump.specs.History.{history_of}
-use Rattle.rx_names.specs.Names.{dump_in, names_in, name_in_object}
-use Rattle.rx_names.specs.NamedVerdict.{label_text}
+use Rattle.rx_dump.specs.Names.{dump_in, names_in, name_in_object}
+use Rattle.rx_dump.specs.NamedVerdict.{label_text}
 
 -- the number of what the event is about, and of an opening that of the node that its place names
 abbrev pub number_named : Event → ℕ

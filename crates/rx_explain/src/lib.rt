@@ -6,7 +6,7 @@
 //!   lawful, alone or in an object beside names (`specs/Accepted.antt`).
 //! - [`explain`] says nothing of an input that is accepted, and of every other one where it goes wrong.
 //!   An input whose JSON is an array, or an object with a member `dump`, is taken for a dump, and every other
-//!   one for a scenario. What is said of a history names its numbers by the names beside the dump (`rx_names`).
+//!   one for a scenario. What is said of a history names its numbers by the names beside the dump (`rx_dump`).
 //! - A place in a scenario is told as `jq` writes it, `.steps[2].then[0].node`, and one in a dump by the
 //!   number of the event and of its element, both from 0.
 //!

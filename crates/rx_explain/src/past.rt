@@ -1,7 +1,7 @@
 //! A settled history, what is open at its end, and the event that is to come next.
 
+use rx_dump::{Names, label};
 use rx_event::{Event, Place};
-use rx_names::{Names, label};
 use std::alloc::{AllocError, Global};
 use std::collections::HashSet;
 

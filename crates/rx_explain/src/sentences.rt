@@ -8,8 +8,8 @@ ghost use Rattle.rx_event.specs.declared.refusal.Refusal.TheVariants.{WrongKind}
 ghost use Rattle.rx_explain.specs.Worded.{number_named, hub_number, labels, IsBeginning, Words};
 
 use crate::past::Past;
+use rx_dump::label;
 use rx_event::{Event, Kind, Refusal};
-use rx_names::label;
 use std::alloc::AllocError;
 
 /// A sentence, where memory was given for it.

@@ -19,7 +19,7 @@ mod program;
 mod stopped;
 
 use program::{Asked, answer};
-use rx_names::Labels;
+use rx_dump::Labels;
 use rx_script::Form;
 use std::fs::DirEntry;
 use std::rt::Files;

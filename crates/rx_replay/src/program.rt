@@ -1,8 +1,8 @@
 //! What the program `rxbook` makes of a text.
 
 use rx_device::ShapeError;
+use rx_dump::{Labels, judge};
 use rx_explain::explain;
-use rx_names::{Labels, judge};
 use rx_script::{Form, ScriptError, Watched, run, stock};
 use rx_svg::picture_of;
 use serde_json::Value;

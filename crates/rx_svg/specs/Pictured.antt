@@ -3,8 +3,8 @@ use Rattle.std.specs.Prelude.{◌≡◌, ℕ, Some, List}
 use Rattle.serde_json.specs.Data.{Data}
 use Rattle.rx_event.specs.declared.event.Event.{Event}
 use Rattle.rx_dump.specs.History.{history_of}
-pub use Rattle.rx_names.specs.Names.{dump_in, names_in}
-use Rattle.rx_names.specs.Names.{name_in_object}
+pub use Rattle.rx_dump.specs.Names.{dump_in, names_in}
+use Rattle.rx_dump.specs.Names.{name_in_object}
 use Rattle.rx_svg.specs.Page.{IsPicture}
 
 -- the JSON value has the dump of a history, and the text is a picture of that, with its names

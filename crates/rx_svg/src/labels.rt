@@ -3,13 +3,13 @@
 ghost use Rattle.std.specs.Fmt.{decimal};
 ghost use Rattle.std.specs.Prelude.{◌≡◌, ◌++◌, string_bytes, OnOk};
 ghost use Rattle.serde_json.specs.View.{view};
-ghost use Rattle.rx_names.specs.Names.{name_in_object};
+ghost use Rattle.rx_dump.specs.Names.{name_in_object};
 ghost use Rattle.rx_svg.specs.Label.{kind_label, place_label, terminal_label, event_label, called_text};
 ghost use Rattle.rx_svg.specs.Said.{said_label};
 
 use crate::names::push_named;
+use rx_dump::Names;
 use rx_event::{Event, Kind, Mode, Place, Terminal};
-use rx_names::Names;
 use rx_note::Note;
 use std::alloc::AllocError;
 

@@ -4,7 +4,7 @@ ghost use Rattle.std.specs.Prelude.{◌≡◌, ◌++◌, ◌≤◌, string_bytes
 ghost use Rattle.rx_picture.specs.Rows.{lane_of};
 ghost use Rattle.rx_picture.specs.Leaks.{is_leaking};
 ghost use Rattle.serde_json.specs.View.{view};
-ghost use Rattle.rx_names.specs.Names.{name_in_object};
+ghost use Rattle.rx_dump.specs.Names.{name_in_object};
 ghost use Rattle.rx_svg.specs.Lane.{x_of, y_of, has_lane, is_root_point, is_root_of, label_element, ending_text, life_text};
 ghost use Rattle.rx_svg.specs.Lane.{stretch_text, held_class, wait_class, owned_text, loan_text, wait_text, release_text};
 ghost use Rattle.rx_svg.specs.Lane.{shape_text, row_label, row_text, in_lane_text, emitted_text, done_text, tick_text, note_marble};
@@ -14,8 +14,8 @@ use crate::pieces::put;
 use crate::strokes::{
     push_above, push_bar, push_code, push_leak, push_line, push_marble, push_mark,
 };
+use rx_dump::Names;
 use rx_event::{Event, Mail, Place, Terminal};
-use rx_names::Names;
 use rx_picture::{Drawing, Ending, Point, Row, Shape};
 use std::alloc::AllocError;
 

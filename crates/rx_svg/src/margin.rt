@@ -2,12 +2,12 @@
 
 ghost use Rattle.std.specs.Prelude.{◌≡◌, ◌≤◌, IfOk};
 ghost use Rattle.serde_json.specs.View.{view};
-ghost use Rattle.rx_names.specs.Names.{name_in_object};
+ghost use Rattle.rx_dump.specs.Names.{name_in_object};
 ghost use Rattle.rx_svg.specs.Lane.{label_start, margin};
 
 use crate::labels::push_called;
 use crate::lanes::x_of;
-use rx_names::Names;
+use rx_dump::Names;
 use rx_picture::{Drawing, Row};
 use std::alloc::AllocError;
 

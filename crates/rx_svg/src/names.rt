@@ -3,11 +3,11 @@
 ghost use Rattle.std.specs.Prelude.{◌≡◌, ◌<◌, ◌==◌, ◌∷◌, [], ◌++◌, codes, string_bytes, OnOk, flat_map, option_map};
 ghost use Rattle.std.specs.List.{list_any};
 ghost use Rattle.serde_json.specs.View.{view};
-ghost use Rattle.rx_names.specs.Names.{name_in_object};
+ghost use Rattle.rx_dump.specs.Names.{name_in_object};
 ghost use Rattle.rx_svg.specs.WellFormed.{is_plain_character};
 ghost use Rattle.rx_svg.specs.Name.{escape, byte_text, shown_name, name_label};
 
-use rx_names::{Names, name_of};
+use rx_dump::{Names, name_of};
 use std::alloc::AllocError;
 
 /// Whether markup is made of the byte.

@@ -4,13 +4,12 @@ ghost use Rattle.std.specs.Prelude.{◌≡◌, None, IfOk, IsErrOf, string_bytes
 ghost use Rattle.serde_json.specs.View.{view};
 ghost use Rattle.rx_device.specs.declared.shape.ShapeError.{ShapeError};
 ghost use Rattle.rx_dump.specs.History.{history_of};
-ghost use Rattle.rx_names.specs.Names.{dump_in};
+ghost use Rattle.rx_dump.specs.Names.{dump_in};
 ghost use Rattle.rx_svg.specs.Pictured.{IsPictureOn};
 
 use crate::svg::named_picture;
 use rx_device::ShapeError;
-use rx_dump::history_of;
-use rx_names::{dump_in, names_or};
+use rx_dump::{dump_in, history_of, names_or};
 use serde_json::Value;
 use std::alloc::Global;
 

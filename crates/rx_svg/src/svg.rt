@@ -3,7 +3,7 @@
 ghost use Rattle.std.specs.Prelude.{◌≡◌, ◌+◌, ◌++◌, ◌≤◌, string_bytes, OnOk, IfOk, flat_map};
 ghost use Rattle.serde_json.specs.Data.{null};
 ghost use Rattle.serde_json.specs.View.{view};
-ghost use Rattle.rx_names.specs.Names.{name_in_object};
+ghost use Rattle.rx_dump.specs.Names.{name_in_object};
 ghost use Rattle.rx_svg.specs.Lane.{row_text, tick_text, note_marble};
 ghost use Rattle.rx_svg.specs.Page.{lanes_shown, places_shown, width_of, head_text, point_text, legend_front, listed_text, list_text, lawful_text};
 ghost use Rattle.rx_svg.specs.Page.{verdict_label, leak_words, leak_entry, leaking_text, leaks_text, leaks_class};
@@ -16,8 +16,8 @@ use crate::names::push_named;
 use crate::pieces::put;
 use crate::strokes::{push_broken, push_column};
 use rx_audit::{Verdict, audit};
+use rx_dump::Names;
 use rx_event::{Event, Mail};
-use rx_names::Names;
 use rx_picture::{Drawing, Point, Row, draw};
 use serde_json::Value;
 use std::alloc::{AllocError, Global};

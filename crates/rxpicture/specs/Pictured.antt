@@ -3,7 +3,7 @@ use Rattle.std.specs.Prelude.{◌≡◌, ℕ, None, Option, List}
 use Rattle.serde_json.specs.Data.{Data}
 use Rattle.rx_device.specs.Input.{GivesJson}
 use Rattle.rx_dump.specs.History.{history_of}
-use Rattle.rx_names.specs.Names.{dump_in}
+use Rattle.rx_dump.specs.Names.{dump_in}
 use Rattle.rx_svg.specs.Pictured.{IsPictureOn}
 
 -- the reader gave a dump, and a picture of its history was written in this way: whole, or a front of it

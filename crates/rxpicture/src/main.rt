@@ -13,7 +13,7 @@ ghost use Rattle.rx_device.specs.declared.fault.ScriptError.{ScriptError};
 ghost use Rattle.rx_device.specs.Device.{device_of, HasReadFault, HasWriteFault, IsUnasked, AppendsPrefix};
 ghost use Rattle.rx_device.specs.Input.{GivesTooMuch, GivesNoJson};
 ghost use Rattle.rx_dump.specs.History.{history_of};
-ghost use Rattle.rx_names.specs.Names.{dump_in};
+ghost use Rattle.rx_dump.specs.Names.{dump_in};
 ghost use Rattle.rx_svg.specs.Pictured.{IsPictureOn};
 ghost use Rattle.rxpicture.specs.Pictured.{Draws, GivesNothingToDraw};
 ghost use Rattle.rxpicture.specs.Status.{drawing_status};

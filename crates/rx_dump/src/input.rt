@@ -3,7 +3,7 @@
 ghost use Rattle.std.specs.Prelude.{◌≡◌};
 ghost use Rattle.serde_json.specs.Data.{null};
 ghost use Rattle.serde_json.specs.View.{view};
-ghost use Rattle.rx_names.specs.Names.{dump_in, names_in};
+ghost use Rattle.rx_dump.specs.Names.{dump_in, names_in};
 
 use serde_json::Value;
 

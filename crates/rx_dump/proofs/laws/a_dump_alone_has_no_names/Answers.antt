@@ -1,6 +1,6 @@
-use Rattle.rx_names.proofs.Inputs.{itself}
-use Rattle.rx_names.proofs.Texts.{alone}
-use Rattle.rx_names.proofs.laws.a_dump_alone_has_no_names.Goals as goal
+use Rattle.rx_dump.proofs.JudgedAsGiven.{itself}
+use Rattle.rx_dump.proofs.VerdictWithoutNames.{alone}
+use Rattle.rx_dump.proofs.laws.a_dump_alone_has_no_names.Goals as goal
 
 pub returns-clause-no_names : goal.returns-clause-no_names
 returns-clause-no_names c = itself

@@ -1,9 +1,9 @@
 -- The numbers so far.
 use Rattle.std.proofs.Common.{◌≡◌, ◌++◌, take, string_bytes, flat_map}
 use Rattle.serde_json.specs.View.{view}
-use Rattle.rx_names.specs.Names.{name_in_object}
-use Rattle.rx_names.specs.NamedVerdict.{entry_text}
-use Rattle.rx_names.proofs.verdict.push_each.Given as goal
+use Rattle.rx_dump.specs.Names.{name_in_object}
+use Rattle.rx_dump.specs.NamedVerdict.{entry_text}
+use Rattle.rx_dump.proofs.named_verdict.push_each.Given as goal
 
 abbrev pub invariant-loop-number : goal.invariant-loop-number
 invariant-loop-number l =

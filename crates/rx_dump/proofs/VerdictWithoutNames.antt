@@ -4,7 +4,7 @@ use Rattle.std.specs.Prelude.{None}
 use Rattle.rx_audit.specs.declared.verdict.Verdict.{Verdict}
 use Rattle.rx_audit.specs.declared.verdict.Verdict.TheVariants.{Lawful, Unlawful, Unsettled}
 use Rattle.rx_dump.specs.Verdict.{number_text, numbers_line, verdict_text}
-use Rattle.rx_names.specs.NamedVerdict.{label_text, entry_text, named_line, named_verdict}
+use Rattle.rx_dump.specs.NamedVerdict.{label_text, entry_text, named_line, named_verdict}
 
 entry_alone : (n : ℕ) → entry_text (λ _. None) n ≡ number_text n
 unfolding label_text

@@ -2,8 +2,8 @@ use Rattle.std.proofs.Common.{rules, arith, IsErrOf}
 use Rattle.std.specs.Io.KnownBytes.{Appends}
 use Rattle.rx_device.specs.Device.{device_of, AppendsPrefix}
 use Rattle.rx_device.specs.declared.fault.ScriptError.TheVariants.{Syntax, Shape}
-use Rattle.rx_names.proofs.Inputs.{judges_by, no_json_by, no_history_by}
-use Rattle.rx_names.proofs.judging.judge.Goals as goal
+use Rattle.rx_dump.proofs.JudgedAsGiven.{judges_by, no_json_by, no_history_by}
+use Rattle.rx_dump.proofs.judging.judge.Goals as goal
 
 pub returns-in_err-judgement-clause-syntax : goal.returns-in_err-judgement-clause-syntax
 returns-in_err-judgement-clause-syntax g c is =

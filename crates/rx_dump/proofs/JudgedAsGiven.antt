@@ -10,12 +10,12 @@ use Rattle.rx_dump.specs.History.{history_of}
 use Rattle.rx_dump.specs.Checking.{IsVerdictOn, Judges}
 use Rattle.rx_dump.specs.Inputs.{IsVerdictOf}
 use Rattle.rx_dump.specs.Verdict.{verdict_text}
-use Rattle.rx_names.specs.declared.judging.Labels.{Labels}
-use Rattle.rx_names.specs.declared.judging.Labels.TheVariants.{Numbers, Names}
-use Rattle.rx_names.specs.Names.{dump_in, names_in, name_in_object}
-use Rattle.rx_names.specs.NamedVerdict.{named_verdict}
-use Rattle.rx_names.specs.Judged.{names_for, IsJudgedSo, IsNoHistory, JudgesNamed, GivesNoHistory}
-use Rattle.rx_names.proofs.Texts.{alone}
+use Rattle.rx_dump.specs.declared.judging.Labels.{Labels}
+use Rattle.rx_dump.specs.declared.judging.Labels.TheVariants.{Numbers, Names}
+use Rattle.rx_dump.specs.Names.{dump_in, names_in, name_in_object}
+use Rattle.rx_dump.specs.NamedVerdict.{named_verdict}
+use Rattle.rx_dump.specs.Judged.{names_for, IsJudgedSo, IsNoHistory, JudgesNamed, GivesNoHistory}
+use Rattle.rx_dump.proofs.VerdictWithoutNames.{alone}
 use Rattle.std.proofs.lemmas.Option.{none-some}
 
 -- all bytes that there were

@@ -6,10 +6,10 @@ use Rattle.rx_device.specs.Input.{IsJsonOf, GivesJson}
 use Rattle.rx_dump.specs.History.{history_of}
 use Rattle.rx_dump.specs.Checking.{IsVerdictOn}
 use Rattle.rx_dump.specs.Verdict.{is_lawful}
-use Rattle.rx_names.specs.declared.judging.Labels.{Labels}
-use Rattle.rx_names.specs.declared.judging.Labels.TheVariants.{Numbers, Names}
-use Rattle.rx_names.specs.Names.{dump_in, names_in, name_in_object}
-use Rattle.rx_names.specs.NamedVerdict.{named_verdict}
+use Rattle.rx_dump.specs.declared.judging.Labels.{Labels}
+use Rattle.rx_dump.specs.declared.judging.Labels.TheVariants.{Numbers, Names}
+use Rattle.rx_dump.specs.Names.{dump_in, names_in, name_in_object}
+use Rattle.rx_dump.specs.NamedVerdict.{named_verdict}
 
 -- the names that a verdict on the value tells
 abbrev pub names_for : Labels → Data → Data

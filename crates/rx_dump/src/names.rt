@@ -5,8 +5,8 @@ ghost use Rattle.serde_json.specs.Data.{string};
 ghost use Rattle.serde_json.specs.Find.{get, as_str};
 ghost use Rattle.serde_json.specs.View.{view};
 ghost use Rattle.serde_json.specs.Written.{compact_text};
-ghost use Rattle.rx_names.specs.Names.{name_in_object};
-ghost use Rattle.rx_names.specs.NamedVerdict.{name_after_number, label_text};
+ghost use Rattle.rx_dump.specs.Names.{name_in_object};
+ghost use Rattle.rx_dump.specs.NamedVerdict.{name_after_number, label_text};
 
 use serde_json::Value;
 use std::alloc::{AllocError, Global};

@@ -2,8 +2,8 @@
 
 ghost use Rattle.std.specs.Prelude.{◌≡◌, ◌++◌, flat_map, string_bytes, OnOk, IfOk};
 ghost use Rattle.serde_json.specs.View.{view};
-ghost use Rattle.rx_names.specs.Names.{name_in_object};
-ghost use Rattle.rx_names.specs.NamedVerdict.{entry_text, named_line, named_verdict};
+ghost use Rattle.rx_dump.specs.Names.{name_in_object};
+ghost use Rattle.rx_dump.specs.NamedVerdict.{entry_text, named_line, named_verdict};
 
 use crate::names::{Names, label};
 use rx_audit::Verdict;
@@ -39,7 +39,7 @@ fn push_line(
 
 /// The text of a verdict, in which the name of each number stands behind it.
 #[tactic(auto, unfolding(crate::specs::NamedVerdict::named_verdict))]
-pub fn verdict_text(names: Names<'_>, verdict: &Verdict) -> Result<String, AllocError>
+pub fn named_verdict_text(names: Names<'_>, verdict: &Verdict) -> Result<String, AllocError>
     ensures { IfOk result (λ s. string_bytes s ≡ named_verdict (name_in_object (view names.entry.object.now)) verdict.now) }
 {
     let mut text = String::new(names.alloc);

@@ -12,15 +12,17 @@ ghost use Rattle.rx_dump.specs.History.{history_of};
 ghost use Rattle.rx_dump.specs.Checking.{IsVerdictOn};
 ghost use Rattle.rx_dump.specs.Inputs.{IsVerdictOf};
 ghost use Rattle.rx_dump.specs.Verdict.{is_lawful, verdict_text};
-ghost use Rattle.rx_names.specs.Names.{dump_in};
-ghost use Rattle.rx_names.specs.Judged.{names_for, IsJudgement, IsNoHistory, JudgesNamed, GivesNoHistory};
+ghost use Rattle.rx_dump.specs.Names.{dump_in};
+ghost use Rattle.rx_dump.specs.Judged.{names_for, IsJudgement, IsNoHistory, JudgesNamed, GivesNoHistory};
 
+use crate::checking::check;
+use crate::history::history_of;
 use crate::input::{dump_in, names_or};
+use crate::named_verdict::named_verdict_text;
 use crate::names::Names;
-use crate::verdict::verdict_text;
+use crate::verdict::is_lawful;
 use rx_audit::{Verdict, audit};
 use rx_device::{ScriptError, ShapeError, Watched, read_all, value_of, write_text};
-use rx_dump::{check, history_of};
 use serde_json::Value;
 use std::alloc::Global;
 use std::io::{Read, Write};
@@ -39,16 +41,6 @@ pub enum Labels {
 struct Judgement {
     text: Vec<u8>,
     is_lawful: bool,
-}
-
-// Whether the verdict is that the history is lawful, with nothing left to do.
-fn is_lawful(verdict: &Verdict) -> bool
-    ensures { result ≡ is_lawful verdict.now }
-{
-    match verdict {
-        Verdict::Lawful { .. } => true,
-        Verdict::Unlawful { .. } | Verdict::Unsettled => false,
-    }
 }
 
 // The verdict on the history of which the value has the dump.
@@ -91,7 +83,7 @@ fn judge_value(alloc: Global, input: &[u8], labels: Labels) -> Result<Judgement,
     let verdict = verdict_on(alloc, &value)?;
     let none = Value::Null;
     let object = names_for(labels, &value, &none);
-    let Ok(text) = verdict_text(Names { alloc, object }, &verdict) else {
+    let Ok(text) = named_verdict_text(Names { alloc, object }, &verdict) else {
         return Err(ScriptError::Memory);
     };
     Ok(Judgement {
@@ -102,7 +94,7 @@ fn judge_value(alloc: Global, input: &[u8], labels: Labels) -> Result<Judgement,
 
 // Writes the text of the verdict on the history of which the input is itself the dump, and answers whether it is
 // `lawful`. A fault of the streams, which are memory, is want of memory.
-#[tactic(auto, using(crate::proofs::Inputs::verdict_given, crate::proofs::Inputs::no_syntax))]
+#[tactic(auto, using(crate::proofs::JudgedAsGiven::verdict_given, crate::proofs::JudgedAsGiven::no_syntax))]
 fn check_dump(alloc: Global, dump: &[u8], text: &mut Vec<u8>) -> Result<bool, ScriptError>
     requires short { length dump.now ≤ most_bytes }
     requires empty { text.old.items ≡ [] }
@@ -123,7 +115,7 @@ fn check_dump(alloc: Global, dump: &[u8], text: &mut Vec<u8>) -> Result<bool, Sc
 
 // The text of the verdict on the history of which the input is itself the dump, read event by event. None says no more
 // than that it was not read so.
-#[tactic(auto, using(crate::proofs::Inputs::judged_alone))]
+#[tactic(auto, using(crate::proofs::JudgedAsGiven::judged_alone))]
 fn judge_dump(alloc: Global, input: &[u8], labels: Labels) -> Result<Option<Judgement>, ScriptError>
     requires { length input.now ≤ most_bytes }
     ensures ok { IfOk result (λ found. IfSome found (λ j. IsJudgement labels input.now j.is_lawful j.text.items)) }

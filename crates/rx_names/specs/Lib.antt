@@ -1,4 +1,0 @@
-pub mod Names
-pub mod NamedVerdict
-pub mod Judged
-pub mod Claims
