@@ -9,6 +9,7 @@ ghost use Rattle.rx_audit.specs.Found.{IsClimbed};
 ghost use Rattle.rx_audit.specs.Marking.{leaf_of};
 ghost use Rattle.rx_audit.specs.HubTables.{AreHubs, AreLinked, AreOpenListed};
 ghost use Rattle.rx_audit.specs.Standing.{IsFollowed, AreNodesRemarked};
+ghost use Rattle.rx_audit.specs.Verdict.{most_judged};
 
 use crate::children::{Children, link_child, no_children};
 use crate::closing::{mark_open, shut_top};
@@ -157,7 +158,7 @@ fn relink(
     requires listed { AreOpenListed past.now subs.old }
     requires hubs { AreHubs past.now (length children.old.youngest.items) hubs.old }
     requires room { length past.now < length children.old.youngest.items }
-    requires short { length past.now < 4294967295 }
+    requires short { length past.now < most_judged }
     ensures children { AreChildren (past.now ++ event ∷ []) (length children.old.youngest.items) children.new }
     ensures linked { AreLinked (past.now ++ event ∷ []) (length children.old.youngest.items) subs.new }
     ensures listed { AreOpenListed (past.now ++ event ∷ []) subs.new }
@@ -185,7 +186,7 @@ pub fn advance(
     requires live { IsMarked live.old (is_open past.now) }
     requires live_count { live_count.old ≡ mark_count live.old }
     requires room { length past.now < length live.old }
-    requires short { length past.now < 4294967295 }
+    requires short { length past.now < most_judged }
     requires followed { IsFollowed past.now (length live.old) nodes.old }
     ensures live { OnOk result (IsMarked live.new (is_open (past.now ++ event ∷ []))) }
     ensures live_count { OnOk result (live_count.new ≡ mark_count live.new) }

@@ -2,6 +2,7 @@
 
 ghost use Rattle.std.specs.Prelude.{◌≡◌, ◌+◌, ◌<◌, [], ◌∷◌, ◌++◌, IfOk, length, slice_index_or, replicate};
 ghost use Rattle.rx_audit.specs.Latest.{AreChildren, table_with, link_with};
+ghost use Rattle.rx_audit.specs.Verdict.{most_judged};
 
 use crate::openness::parent_of_new;
 use rx_event::Event;
@@ -77,7 +78,7 @@ pub fn value_at(table: &Vec<u32>, p: u64) -> usize
 
 /// One more than a number of an event.
 pub fn one_more(n: usize) -> u32
-    requires { n < 4294967295 }
+    requires { n < most_judged }
     ensures { result ≡ n + 1 }
 {
     n as u32 + 1
@@ -97,7 +98,7 @@ fn put_link(next: &mut Vec<u32>, last: &Vec<u32>, key: Option<u64>, n: usize)
 pub fn link_child(past: &[Event], event: Event, children: &mut Children)
     requires children { AreChildren past.now (length children.old.youngest.items) children.old }
     requires room { length past.now < length children.old.youngest.items }
-    requires short { length past.now < 4294967295 }
+    requires short { length past.now < most_judged }
     ensures { AreChildren (past.now ++ event ∷ []) (length children.old.youngest.items) children.new }
 {
     let n = past.len();

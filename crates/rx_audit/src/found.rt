@@ -6,6 +6,7 @@ ghost use Rattle.rx_audit.specs.Found.{AreListsFound, IsClimbed};
 ghost use Rattle.rx_audit.specs.Rules.{resource_of};
 ghost use Rattle.rx_audit.specs.Standing.{IsFollowed};
 ghost use Rattle.rx_audit.specs.Tables.{IsTally};
+ghost use Rattle.rx_audit.specs.Verdict.{most_judged};
 
 use crate::advance::{Nodes, advance};
 use crate::children::zeros;
@@ -82,7 +83,7 @@ fn find_leases(past: &[Event], event: Event, leases: &mut [u32])
     requires leases { IsTally leases.old (leases_of past.now) }
     requires few { (n : ℕ) → slice_index_or leases.old n 0 ≤ length past.now }
     requires room { length past.now < length leases.old }
-    requires short { length past.now < 4294967295 }
+    requires short { length past.now < most_judged }
     ensures leases { IsTally leases.new (leases_of (past.now ++ event ∷ [])) }
     ensures len { length leases.new ≡ length leases.old }
     ensures few { (n : ℕ) → slice_index_or leases.new n 0 ≤ length past.now + 1 }
@@ -104,7 +105,7 @@ pub fn follow(
     requires followed { IsFollowed past.now (length found.old.live.items) nodes.old }
     requires found { AreListsFound past.now (length found.old.live.items) found.old }
     requires room { length past.now < length found.old.live.items }
-    requires short { length past.now < 4294967295 }
+    requires short { length past.now < most_judged }
     requires climbed { IsClimbed past.now event log.now }
     ensures found { OnOk result (AreListsFound (past.now ++ event ∷ []) (length found.old.live.items) found.new) }
     ensures followed { OnOk result (IsFollowed (past.now ++ event ∷ []) (length found.old.live.items) nodes.new) }

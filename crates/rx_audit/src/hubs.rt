@@ -4,6 +4,7 @@ ghost use Rattle.std.specs.Prelude.{◌≡◌, ◌<◌, ◌∷◌, ◌++◌, IfO
 ghost use Rattle.rx_audit.specs.Imports.{nothing_kept, [], length, IsLawful, MayFollow};
 ghost use Rattle.rx_audit.specs.HubTables.{AreHubs};
 ghost use Rattle.rx_audit.specs.Rules.{hub_ended};
+ghost use Rattle.rx_audit.specs.Verdict.{most_judged};
 
 use crate::children::{one_more, put, zeros};
 use crate::marks::one_if;
@@ -64,7 +65,7 @@ pub fn note_hubs(past: &[Event], event: Event, known: &mut Hubs)
     requires next { MayFollow nothing_kept past.now event }
     requires known { AreHubs past.now (length known.old.connection.items) known.old }
     requires room { length past.now < length known.old.connection.items }
-    requires short { length past.now < 4294967295 }
+    requires short { length past.now < most_judged }
     ensures { AreHubs (past.now ++ event ∷ []) (length known.old.connection.items) known.new }
 {
     let next = one_more(past.len());

@@ -5,6 +5,7 @@ ghost use Rattle.rx_audit.specs.Imports.{ℕ, true, false, Some, None, [], lengt
 ghost use Rattle.rx_audit.specs.Latest.{table_with};
 ghost use Rattle.rx_audit.specs.Rules.{hub_subscribed_at, hub_connected_at};
 ghost use Rattle.rx_audit.specs.HubTables.{number_by_word, hub_if_last, listed_hub, AreLinked, AreOpenListed, AreLetGo};
+ghost use Rattle.rx_audit.specs.Verdict.{most_judged};
 
 use crate::children::{one_more, put, value_at, word_at, zeros};
 use crate::event_tests::event_at;
@@ -146,7 +147,7 @@ pub fn let_go(past: &[Event], closed: &[usize], subs: &mut Subscribers)
 
 /// Puts node `n` on the list of hub `g`, as the last.
 fn put_last(subs: &mut Subscribers, g: u64, n: usize)
-    requires { n < 4294967295 }
+    requires { n < most_judged }
     ensures last { subs.new.last.items ≡ table_with subs.old.last.items (Some g) (n + 1) }
     ensures before { subs.new.before.items ≡ table_with subs.old.before.items (Some n) (slice_index_or subs.old.last.items g 0) }
     ensures after { subs.new.after.items ≡ table_with (table_with subs.old.after.items (Some n) 0)
@@ -166,7 +167,7 @@ fn put_last(subs: &mut Subscribers, g: u64, n: usize)
 pub fn list_new(past: &[Event], event: Event, subs: &mut Subscribers)
     requires linked { AreLinked past.now (length subs.old.listed.items) subs.old }
     requires room { length past.now < length subs.old.listed.items }
-    requires short { length past.now < 4294967295 }
+    requires short { length past.now < most_judged }
     requires hubbed { (g : ℕ) → is_subscriber_of g event ≡ true → g < length subs.old.listed.items }
     ensures linked { AreLinked (past.now ++ event ∷ []) (length subs.old.listed.items) subs.new }
     ensures others { (k : ℕ) → k < length past.now → slice_index_or subs.new.listed.items k false ≡ slice_index_or subs.old.listed.items k false }

@@ -74,6 +74,7 @@ beginnings label e NotHeld = (codes "there is no resource " ++ label (number_nam
     ∷ (codes "resource " ++ label (number_named e) ++ codes " is not held") ∷ []
 beginnings label e Leased = (codes "only leases hold resource " ++ label (number_named e) ++ codes ": ") ∷ []
 beginnings label e HasChild = (codes "a node below node " ++ label (number_named e) ++ codes " is open") ∷ []
+-- the texts have the figures of `most_nodes`, `most_hubs` and `most_visits`
 beginnings label e TooMany = codes "it would take more than 1048576 open nodes" ∷ codes "there are 1024 hubs already"
     ∷ codes "the item would make more than 1048576 visits" ∷ []
 beginnings label e _ = codes "it may not follow the events before it" ∷ []
