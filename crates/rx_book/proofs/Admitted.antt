@@ -2,7 +2,7 @@
 use Rattle.rx_book.proofs.Common.{◌≡◌, ◌+◌, ◌≤◌, cond, length, List, [], Bool, true, Option, Some, None, IfSome, refl, sym, ap, subst, ◌∙◌, arith}
 use Rattle.rx_book.proofs.Common.{ℤ, Ghosts, Refusal, Full, Kind, Event, Emitting, first_cause, debt, causes, added_by, is_over, Wanted}
 use Rattle.rx_book.proofs.Common.{nodes_opened, HasRoomFor, notes_added, Reach, cost_of, IsReach, Ground, IsStanding, IsRoomier, HasRoomBeside, State, stands}
-use Rattle.rx_book.proofs.Common.{Request, IsRefusalOf, state_of, IsLetIn, IsAdmitted, IsWithin, Admits, HasRoomToTell}
+use Rattle.rx_book.proofs.Common.{Request, IsRefusalOf, state_of, IsLetIn, IsAdmitted, IsWithin, Admits, HasRoomToTell, most_notes}
 use Rattle.rx_slots.specs.declared.Key.{Key}
 use Rattle.rx_register.specs.Claims.{IsReady as IsReadyFor}
 use Rattle.rx_register.specs.State.{State as Register, IsPromised}
@@ -23,7 +23,7 @@ refused_for stand x1 first = search rules
 -- the cost of what is asked is within the limit
 pub within_limit : {T : Type 0} (g : Ghosts T) (b : Ground T) (asked : Request) (cost : Wanted) → (let h = b.register.history in let base = b.register.base in
     causes base h b.register.limit asked.is_fresh asked.call Full ≡ is_over base h b.register.limit (added_by h asked.call) →
-    first_cause (stands (state_of g b) asked) ≡ None → cost ≡ cost_of h asked.call → notes_added h asked.call ≤ 4294967295 → IsWithin b cost)
+    first_cause (stands (state_of g b) asked) ≡ None → cost ≡ cost_of h asked.call → notes_added h asked.call ≤ most_notes → IsWithin b cost)
 within_limit g b asked cost full none is few = search (rules, within_full)
 
 -- room ---------------------------------------------------------------------------------------------

@@ -57,6 +57,7 @@ pub use Rattle.rx_ground.proofs.Laws.{JustOpenHeldWaiting.just_waiting, JustOpen
 pub use Rattle.rx_ground.proofs.Laws.KeysKept.{leases_stay, keeps_held, keeps_opened, keeps_on, KeepsKeys, keeps_closed, keeps_same, keeps_settled}
 pub use Rattle.rx_ground.proofs.Laws.{Members.Contains-from_map, Members.Contains-map, Members.All-members, Ranges.find_first, Ranges.find_nothing}
 pub use Rattle.rx_ground.specs.{Checkpoints.IsCheckpoint, Costs.cost_of, Gone.Closes, Gone.Gathers, Gone.GoesFirst, Gone.numbers_of, Leases.lease_key, Leases.is_out_at}
+pub use Rattle.rx_ground.specs.Costs.{most_notes}
 pub use Rattle.rx_ground.specs.{Memory.TakesNoMemory, Reached.IsReach, Reached.MakesOnly, Told.is_connected_manual, declared.base.Wanted.Wanted}
 pub use Rattle.rx_ground.specs.{Shown.Ground, Shown.held_in, Shown.label_in, Shown.waiting_in, Shown.list_room, declared.route.Reach.Reach}
 pub use Rattle.rx_register.proofs.Laws.{Calls.call_fits, Calls.call_follows, Calls.called_paid, NoCause.no_cause}

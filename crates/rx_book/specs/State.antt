@@ -17,6 +17,7 @@ use Rattle.rx_event.specs.Lawful.{IsLawful}
 use Rattle.rx_event.specs.Gone.{AreJust}
 use Rattle.rx_event.specs.Forced.{IsSettled}
 use Rattle.rx_event.specs.Causes.{has_connection}
+use Rattle.rx_register.specs.State.{greatest_limit}
 use Rattle.rx_ground.specs.Shown.{Label}
 use Rattle.rx_slots.specs.declared.Key.{Key}
 use Rattle.rx_tree.specs.declared.node.ResKey.{ResKey}
@@ -88,7 +89,7 @@ pub record IsPromised (s : State) : Type 0 where
   pub begun : s.base.at_length ≤ length s.history
   pub placed : s.base.at_length ≤ 9223372036854775807
   pub room : length s.history + debt s.base s.history ≤ s.base.at_length + s.limit
-  pub limited : s.limit ≤ 4294967295
+  pub limited : s.limit ≤ greatest_limit
   pub given : s.given ≤ length (notes s.history)
   pub in_order : (n : ℕ) → IsGrammatical (notes_to s.history n)
 

@@ -9,7 +9,7 @@ use Rattle.rx_register.specs.State.{IsPromised}
 use Rattle.rx_register.specs.Paid.{HasRoomFor}
 use Rattle.rx_register.specs.Claims.{MayCall}
 use Rattle.rx_ground.specs.declared.base.Wanted.{Wanted}
-use Rattle.rx_ground.specs.Costs.{cost_of}
+use Rattle.rx_ground.specs.Costs.{cost_of, most_notes}
 use Rattle.rx_ground.specs.Shown.{Ground}
 use Rattle.rx_ground.specs.Ties.{IsStanding, IsRoomier, HasRoomBeside}
 use Rattle.rx_ground.specs.Wrote.{Wrote}
@@ -20,7 +20,7 @@ module _ {T : Type 0} where
   -- what a call costs is within the limit on the events, and its notes are few
   pub record IsWithin (b : Ground T) (cost : Wanted) : Type 0 where
     pub events : length b.register.history + debt b.register.base b.register.history + cost.events ≤ b.register.base.at_length + b.register.limit
-    pub notes : cost.notes ≤ 4294967295
+    pub notes : cost.notes ≤ most_notes
 
   -- nothing stood against a call, the room that it costs was gotten, the list of what is closed was begun, and nothing else changed
   pub record Admits (g : Ghosts T) (old : Ground T) (cause : Option Refusal) (cost : Option Wanted) (new : Ground T) : Type 0 where

@@ -11,6 +11,7 @@ ghost use Rattle.rx_event.specs.Notes.{notes};
 ghost use Rattle.rx_event.specs.Totals.{open_count as open_count_in, held_count, waiting_count, lease_count};
 ghost use Rattle.rx_event.specs.Totals.{accepted_count, taken_count, item_count};
 ghost use Rattle.rx_event.specs.Resources.{is_out};
+ghost use Rattle.rx_register.specs.State.{greatest_limit};
 ghost use Rattle.rx_book.specs.State.{IsPromised, has_key, has_res_key, has_lease_key};
 ghost use Rattle.rx_event.specs.Claims.Closing.{is_open_root};
 
@@ -55,7 +56,7 @@ impl<R: Resource> Book<R> {
     /// With no events, and of at most `max_events`, which is at most 4,294,967,295. It takes no
     /// memory.
     pub fn new(alloc: Global, max_events: u64) -> Self
-        requires { max_events ≤ 4294967295 }
+        requires { max_events ≤ greatest_limit }
         ensures { result ≡ record {
           base = nothing_kept;
           history = [];

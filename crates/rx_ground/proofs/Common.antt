@@ -81,6 +81,7 @@ pub use Rattle.rx_hub.specs.declared.stop.Stop.TheVariants.{Connection, Delivery
 pub use Rattle.rx_slots.specs.Lists.{Lists, is_in, list_at, take_out, head_of}
 pub use Rattle.rx_note.specs.declared.note.Terminal.{Terminal}
 pub use Rattle.rx_register.{proofs.Laws.Fits.told_by_end, specs.Paid.IsPaid, specs.State.Writes, specs.State.State, specs.State.IsPromised}
+pub use Rattle.rx_register.specs.State.{greatest_limit}
 pub use Rattle.rx_resource.specs.declared.{Life.TheVariants.Live, Resource.Ghosts}
 pub use Rattle.rx_slots.specs.Slots.{Slots, find, entry_at, with_number, KeepsOthers, entry_of, Changes}
 pub use Rattle.rx_slots.specs.declared.{Entry.Entry, Key.Key}

@@ -1,7 +1,7 @@
 -- What closing everything needs, counted from what is there.
 use Rattle.rx_ground.proofs.Common.{◌≡◌, ℕ, ◌+◌, ◌-◌, ◌*◌, ◌≤◌, Bool, true, false, List, [], ◌∷◌, cond, count_by, refl, arith, not, ◌&&◌, false≢true, Kept}
 use Rattle.rx_ground.proofs.Common.{sum_by-cons, Event, places, open_count, owned_count, held_count, lease_count, waiting_count, accepted_count, taken_count}
-use Rattle.rx_ground.proofs.Common.{owed_count, debt, IsLawful, debt-counts, accepted_count-parts, owned_held, State, IsPromised, IsPaid}
+use Rattle.rx_ground.proofs.Common.{owed_count, debt, IsLawful, debt-counts, accepted_count-parts, owned_held, State, IsPromised, IsPaid, greatest_limit}
 use Rattle.rx_event.specs.Resources.{is_owned, is_held}
 use Rattle.rx_ground.proofs.TreeAgreesOnResource.{is_alone}
 use Rattle.std.proofs.Common.{rules}
@@ -35,7 +35,7 @@ pub debt_counted : {base : Kept} {h : List Event} {nodes waiting accepted taken 
 debt_counted {base} {h} law o w a t k l p = search (rules, accepted_count-parts, debt-counts, held_counted)
 
 -- a register that is paid for has room for it
-pub debt_bounded : (s : State) → IsPromised s → IsPaid s → debt s.base s.history ≤ 4294967295
+pub debt_bounded : (s : State) → IsPromised s → IsPaid s → debt s.base s.history ≤ greatest_limit
 debt_bounded s promised paid = search rules
 
 -- each open node takes a part of it
@@ -43,7 +43,7 @@ pub open_count_in_debt : (base : Kept) → (h : List Event) → open_count h ≤
 open_count_in_debt base h = let counts = debt-counts base h in omega arith
 
 -- and so they are few
-pub open_bounded : (s : State) → IsPromised s → IsPaid s → open_count s.history ≤ 4294967295
+pub open_bounded : (s : State) → IsPromised s → IsPaid s → open_count s.history ≤ greatest_limit
 open_bounded s promised paid =
     let most = debt_bounded s promised paid in
     let part = open_count_in_debt s.base s.history in omega arith

@@ -6,6 +6,10 @@ use Rattle.rx_event.specs.Causes.{nodes_opened, added_by}
 use Rattle.rx_register.specs.Paid.{notes_added}
 use Rattle.rx_ground.specs.declared.base.Wanted.{Wanted}
 
+-- the most notes that a call may want room for: with the open nodes they are counted in 64 bits
+abbrev pub most_notes : ℕ
+most_notes = 4294967295
+
 -- the nodes that a call makes
 abbrev pub nodes_added : List Event → Call → ℕ
 nodes_added h (Opening place kind) = nodes_opened h kind

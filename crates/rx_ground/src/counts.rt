@@ -10,8 +10,9 @@ ghost use Rattle.rx_slots.specs.Slots.{find};
 ghost use Rattle.rx_tree.specs.Tree.{IsFirst, IsRoot, HasNone};
 ghost use Rattle.rx_tree.specs.Resources.{is_held_at, is_owned_at};
 ghost use Rattle.rx_ground.specs.Leases.{IsOut, is_out_at, lease_key};
-ghost use Rattle.rx_register.specs.State.{IsLoadOf};
+ghost use Rattle.rx_register.specs.State.{IsLoadOf, greatest_limit};
 ghost use Rattle.rx_ground.specs.Ties.{IsStanding, IsRoomier, HasRoomBeside, HasRoomToTell, SetsAside};
+ghost use Rattle.rx_ground.specs.Costs.{most_notes};
 ghost use Rattle.rx_ground.specs.Memory.{HasNoRoom};
 
 use crate::base::{Ground, Wanted};
@@ -27,7 +28,7 @@ impl<R: Resource> Ground<R> {
     /// With no events, and of at most `limit` since the base, which is at most 4,294,967,295. It takes no
     /// memory.
     pub fn new(alloc: Global, limit: u64) -> Self
-        requires limited { limit ≤ 4294967295 }
+        requires limited { limit ≤ greatest_limit }
         ensures standing { IsStanding R.Resource result }
         ensures base { result.register.base ≡ nothing_kept }
         ensures history { result.register.history ≡ [] }
@@ -175,7 +176,7 @@ impl<R: Resource> Ground<R> {
     pub(crate) fn load(&self) -> Load
         requires standing { IsStanding R.Resource self.now }
         ensures load { IsLoadOf self.now.register.base self.now.register.history result }
-        ensures bound { result.debt ≤ 4294967295 }
+        ensures bound { result.debt ≤ greatest_limit }
     {
         self.promise();
         let open = self.open_count();
@@ -199,7 +200,7 @@ impl<R: Resource> Ground<R> {
         requires standing { IsStanding R.Resource self.old }
         requires within { length self.old.register.history + debt self.old.register.base self.old.register.history + wanted.events ≤
             self.old.register.base.at_length + self.old.register.limit }
-        requires notes { wanted.notes ≤ 4294967295 }
+        requires notes { wanted.notes ≤ most_notes }
         ensures ok { OnOk result (HasRoomBeside self.new wanted) }
         ensures err { IfErr result (λ why. why ≡ Refusal.NoMemory) }
         ensures kept { IsRoomier self.old self.new }
@@ -220,7 +221,7 @@ impl<R: Resource> Ground<R> {
         requires standing { IsStanding R.Resource self.old }
         requires within { length self.old.register.history + debt self.old.register.base self.old.register.history + events ≤
             self.old.register.base.at_length + self.old.register.limit }
-        requires notes { notes ≤ 4294967295 }
+        requires notes { notes ≤ most_notes }
         ensures ok { OnOk result (HasRoomToTell self.new events notes) }
         ensures err { IfErr result (λ why. why ≡ Refusal.NoMemory) }
         ensures kept { IsRoomier self.old self.new }

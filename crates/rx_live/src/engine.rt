@@ -1,6 +1,7 @@
 //! A session: its book, and what names stand for.
 
 ghost use Rattle.std.specs.Prelude.{◌≡◌, ◌+◌, ◌≤◌, length};
+ghost use Rattle.rx_register.specs.State.{greatest_limit};
 ghost use Rattle.rx_book.specs.State.{IsPromised};
 ghost use Rattle.rx_live.specs.Lines.{IsNewSession};
 ghost use Rattle.rx_live.specs.Session.{session_of, node_by_name, resource_by_name, lease_by_name, hub_by_name, has_resource, IsSound};
@@ -47,7 +48,7 @@ impl Drop for Engine {
 impl Engine {
     /// Nothing is open, and no name is bound.
     pub fn new(alloc: Global, max_events: u64) -> Self
-        requires { max_events ≤ 4294967295 }
+        requires { max_events ≤ greatest_limit }
         ensures sound { IsSound (session_of result) }
         ensures fresh { IsNewSession (session_of result) }
         ensures limit { result.book.limit ≡ max_events }

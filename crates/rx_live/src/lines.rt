@@ -2,6 +2,7 @@
 
 ghost use Rattle.std.specs.Prelude.{◌≡◌, ◌≤◌, None, Some, [], string_bytes, IsUtf8, IfOk, IfSome, IfNone, OnOk, OnErr};
 ghost use Rattle.rx_line.specs.FreeCommands.{free_in};
+ghost use Rattle.rx_register.specs.State.{greatest_limit};
 ghost use Rattle.rx_live.specs.Session.{IsSound};
 ghost use Rattle.rx_live.specs.Live.{session, answer};
 ghost use Rattle.rx_live.specs.Lines.{IsPutOff, Sends, EndsSession, IsNewSession};
@@ -32,7 +33,7 @@ impl Live {
     ///
     /// Where memory is refused.
     pub fn new(alloc: Global, max_events: u64) -> Result<Self, AllocError>
-        requires { max_events ≤ 4294967295 }
+        requires { max_events ≤ greatest_limit }
         ensures fresh { IfOk result (λ live. IsNewSession (session live)) }
         ensures limit { IfOk result (λ live. (session live).book.limit ≡ max_events) }
     {

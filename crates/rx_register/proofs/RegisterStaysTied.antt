@@ -25,7 +25,7 @@ use Rattle.rx_event.proofs.Laws.Begin.{shown_nothing, IsLawful_nothing}
 use Rattle.rx_event.proofs.Laws.Lawful.{IsLawful-push}
 use Rattle.rx_event.proofs.Laws.Totals.{item_count-push, accepted_count-push, taken_count-push}
 use Rattle.rx_register.specs.declared.register.Register.TheInside.{Inside}
-use Rattle.rx_register.specs.State.{State, Rebases}
+use Rattle.rx_register.specs.State.{State, Rebases, greatest_limit}
 use Rattle.rx_register.specs.Ties.{state_of, IsTied}
 use Rattle.rx_register.proofs.Laws.Empty.{debt_empty}
 
@@ -190,7 +190,7 @@ popped_inside a mail r p some = record {
 debt_nothing : debt nothing_kept (shown nothing_kept) ≡ 0
 debt_nothing = ap (debt nothing_kept) shown_nothing ∙ debt_empty nothing_kept
 
-pub tied_empty : {a : Inside} → a.history.limit ≤ 4294967295 → a.limit ≡ a.history.limit → a.history.base ≡ nothing_kept → a.history.events ≡ [] →
+pub tied_empty : {a : Inside} → a.history.limit ≤ greatest_limit → a.limit ≡ a.history.limit → a.history.base ≡ nothing_kept → a.history.events ≡ [] →
     a.history.room ≡ 0 → a.item_total ≡ 0 → a.accepted_total ≡ 0 → a.taken_total ≡ 0 → a.spare ≡ 0 → a.told ≡ 0 → IsTied a
 unfolding shown
 tied_empty {a} few own base events room i r t spare told = record {

@@ -9,6 +9,10 @@ use Rattle.rx_event.specs.Lawful.{IsLawful}
 use Rattle.rx_event.specs.Totals.{debt, open_count, item_count, accepted_count, taken_count}
 use Rattle.rx_register.specs.declared.load.Load.{Load}
 
+-- the greatest limit on the events since a base
+abbrev pub greatest_limit : ℕ
+greatest_limit = 4294967295
+
 -- what a checkpoint kept of the events before it; all that happened, as one list with that, and how much may since; for how many
 -- more events memory is set aside; how many notes were handed out; the notes of the event that comes next, as far as they were told;
 -- and for how many more notes memory is there
@@ -25,7 +29,7 @@ pub record State : Type 0 where
 -- shows may need; and no total is more than the number of events
 pub record IsPromised (s : State) : Type 0 where
   pub lawful : IsLawful s.base s.history
-  pub limited : s.limit ≤ 4294967295
+  pub limited : s.limit ≤ greatest_limit
   pub begun : s.base.at_length ≤ length s.history
   pub placed : s.base.at_length ≤ 9223372036854775807
   pub closing : debt s.base (shown s.base) ≤ s.limit

@@ -6,7 +6,7 @@ use Rattle.rx_event.specs.Notes.{notes}
 use Rattle.rx_event.specs.Totals.{item_count, accepted_count, taken_count, debt}
 use Rattle.rx_event.specs.Lawful.{IsLawful}
 use Rattle.rx_register.specs.declared.register.Register.TheInside.{Inside}
-use Rattle.rx_register.specs.State.{State}
+use Rattle.rx_register.specs.State.{State, greatest_limit}
 
 -- what callers see
 abbrev pub state_of : Inside → State
@@ -22,7 +22,7 @@ state_of a = record {
 
 pub record IsTied (a : Inside) : Type 0 where
   pub lawful : IsLawful a.history.base a.history.events
-  pub limited : a.history.limit ≤ 4294967295
+  pub limited : a.history.limit ≤ greatest_limit
   pub begun : a.history.base.at_length ≤ length a.history.events
   pub placed : a.history.base.at_length ≤ 9223372036854775807
   pub closing : debt a.history.base (shown a.history.base) ≤ a.history.limit

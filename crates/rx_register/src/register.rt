@@ -9,7 +9,7 @@ mod write;
 ghost use Rattle.std.specs.Prelude.{◌≡◌, ◌+◌, ◌<◌, ◌≤◌, [], length, OnOk, OnErr};
 ghost use Rattle.rx_event.specs.Kept.{nothing_kept, event_since};
 ghost use Rattle.rx_event.specs.Totals.{item_count, accepted_count, taken_count};
-ghost use Rattle.rx_register.specs.State.{IsPromised};
+ghost use Rattle.rx_register.specs.State.{IsPromised, greatest_limit};
 
 use rx_event::{Event, History, Mail};
 use std::alloc::{AllocError, Global};
@@ -47,7 +47,7 @@ impl Register {
     /// With no events, and of at most `limit` since the base, which is at most 4,294,967,295. It takes no
     /// memory.
     pub fn new(alloc: Global, limit: u64) -> Self
-        requires { limit ≤ 4294967295 }
+        requires { limit ≤ greatest_limit }
         ensures base { result.base ≡ nothing_kept }
         ensures history { result.history ≡ [] }
         ensures limit { result.limit ≡ limit }

@@ -2,6 +2,7 @@
 
 ghost use Rattle.std.specs.Prelude.{◌≡◌, ◌≢◌, ◌≤◌, [], map, string_bytes, IfOk, OnErr};
 ghost use Rattle.rx_event.specs.declared.refusal.Refusal.{Refusal};
+ghost use Rattle.rx_register.specs.State.{greatest_limit};
 ghost use Rattle.rx_agenda.specs.declared.answer.Answer.{Answer};
 ghost use Rattle.rx_agenda.specs.declared.answer.Cause.{Cause};
 ghost use Rattle.rx_scenario.specs.Scenario.{site_of, using, hold as holding, drain as draining, checkpoint as checkpointing};
@@ -50,7 +51,7 @@ impl<R: Resource> Drop for Engine<R> {
 
 /// Before the first step: an empty book of so many events at most, and this stock.
 pub fn begin<R: Resource>(alloc: Global, max_events: u64, stock: Vec<R>) -> Engine<R>
-    requires { max_events ≤ 4294967295 }
+    requires { max_events ≤ greatest_limit }
     ensures sound { IsSound result }
     ensures stage { stage_of result [] ≡ start (map (ware_of R.Resource) stock.items) }
     ensures history { IsHistoryOf [] result.tallies result.book }

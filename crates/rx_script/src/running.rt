@@ -6,6 +6,7 @@ ghost use Rattle.std.specs.Prelude.{◌≡◌, ◌≢◌, ◌≤◌, ◌⊎◌, 
 ghost use Rattle.std.specs.Io.KnownBytes.{Appends};
 ghost use Rattle.serde_json.specs.Data.{Data};
 ghost use Rattle.rx_event.specs.Totals.{accepted_count};
+ghost use Rattle.rx_register.specs.State.{greatest_limit};
 ghost use Rattle.rx_device.specs.Device.{device_of, KeepsDevice, has_failed, has_stopped, HasReadFault, HasWriteFault, IsUnasked, AppendsPrefix};
 ghost use Rattle.rx_device.specs.Input.{IsJsonOf, GivesTooMuch, GivesNoJson};
 ghost use Rattle.rx_device.specs.Part.{part_data};
@@ -140,7 +141,7 @@ fn text_of<S: Resource>(
     stock: Vec<S>,
     form: Form,
 ) -> Result<String, AllocError>
-    requires limited { scenario.events ≤ 4294967295 }
+    requires limited { scenario.events ≤ greatest_limit }
     requires ends { scenario.until ≤ 1000000000000000 }
     requires has_form { lacks_form form (steps_of (script_of scenario).steps) ≡ false }
     ensures { IfOk result (λ s. (c : Course) × (faults : ℕ) × IsCourseOf (script_of scenario) (map (ware_of S.Resource) stock.items) c

@@ -13,6 +13,7 @@ ghost use Rattle.rx_script.specs.Stage.{ware_of};
 ghost use Rattle.rx_event.specs.declared.event.Event.{Event};
 ghost use Rattle.rx_event.specs.Kept.{nothing_kept};
 ghost use Rattle.rx_event.specs.Lawful.{IsLawful};
+ghost use Rattle.rx_register.specs.State.{greatest_limit};
 ghost use Rattle.rx_script.specs.Engine.{stage_of};
 ghost use Rattle.rx_trace.specs.Line.{closing_text};
 ghost use Rattle.rx_trace.specs.Taken.{AreHandedOut};
@@ -53,7 +54,7 @@ fn text_of<S: Resource>(
     scenario: Scenario,
     stock: Vec<S>,
 ) -> Result<String, AllocError>
-    requires limited { scenario.events ≤ 4294967295 }
+    requires limited { scenario.events ≤ greatest_limit }
     requires ends { scenario.until ≤ 1000000000000000 }
     ensures { IfOk result (λ s. IsTraceOf (script_of scenario) (map (ware_of S.Resource) stock.items) (string_bytes s)) }
 {

@@ -1,4 +1,4 @@
-use Rattle.rx_ground.proofs.Common.{◌≤◌, arith, IsPromised, IsStanding}
+use Rattle.rx_ground.proofs.Common.{◌≤◌, arith, IsPromised, IsStanding, greatest_limit}
 use Rattle.rx_ground.proofs.Loads.{open_bounded}
 use Rattle.rx_ground.proofs.StandsWithMoreRoom.{standing_aside, standing_mail, roomier_aside, roomier_after_aside, roomier_mail}
 use Rattle.rx_ground.proofs.base.Ground.make_room_to_tell.Goals as goal
@@ -26,7 +26,7 @@ overflow_add-open g c =
     let promised : IsPromised b.register = rw (← c.self.view_is) c.promise.ensures in
     let few = open_bounded b.register promised s.paid in
     let is = c.open_count-open.ensures in
-    let small : c.open_count-open.result ≤ 4294967295 = omega arith in
+    let small : c.open_count-open.result ≤ greatest_limit = omega arith in
     search rules
 
 pub returns-clause-kept : goal.returns-clause-kept
