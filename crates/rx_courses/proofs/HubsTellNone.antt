@@ -26,9 +26,9 @@ use Rattle.rx_roles.specs.declared.roles.Role.{Role}
 use Rattle.rx_roles.specs.declared.effect.Effect.{Effect}
 use Rattle.rx_roles.specs.Roles.{is_among, without_all}
 use Rattle.rx_roles.specs.Effects.{after_all, all_told, all_last}
-use Rattle.rx_steps.proofs.Laws.JustThose.{just_among, just_none}
-use Rattle.rx_steps.proofs.Laws.NodesAfterStep.{first_follows, forces_none, StepMakes, makes_none_more, is_new_none}
-use Rattle.rx_steps.proofs.Laws.NodesGone.{goes_is}
+use Rattle.rx_roles.proofs.Laws.JustThose.{just_among, just_none}
+use Rattle.rx_roles.proofs.Laws.NodesAfterStep.{first_follows, forces_none, StepMakes, makes_none_more, is_new_none}
+use Rattle.rx_roles.proofs.Laws.NodesGone.{goes_is}
 use Rattle.rx_engine.specs.declared.parts.Parts.{Parts}
 use Rattle.rx_engine.specs.Deliveries.{Delivers, none_delivered, one_delivered}
 use Rattle.rx_engine.specs.Hubs.{IsHubDone, MakesHubs, none_made, one_made, room_gotten}

@@ -25,7 +25,7 @@ use Rattle.rx_roles.specs.declared.roles.Role.{Role}
 use Rattle.rx_roles.specs.declared.effect.Effect.{Effect}
 use Rattle.rx_roles.specs.Roles.{without_all}
 use Rattle.rx_roles.specs.Effects.{all_told, all_last, after_all}
-use Rattle.rx_shares.specs.Places.{places_left}
+use Rattle.rx_pool.specs.Places.{places_left}
 use Rattle.rx_engine.specs.declared.homes.Home.{Home}
 use Rattle.rx_engine.specs.declared.homes.LaneOf.{LaneOf}
 use Rattle.rx_engine.specs.declared.homes.LaneOf.TheVariants.{Node, Projections}

@@ -12,7 +12,7 @@ use Rattle.rx_lanes.specs.State.{State as LanesState}
 use Rattle.rx_roles.specs.declared.effect.Effect.{Effect}
 use Rattle.rx_roles.specs.Roles.{AreRolesOf}
 use Rattle.rx_pool.specs.Ties.{IsPlain}
-use Rattle.rx_shares.specs.Places.{AreShared}
+use Rattle.rx_pool.specs.Places.{AreShared}
 use Rattle.rx_engine.specs.declared.parts.Parts.{Parts}
 use Rattle.rx_engine.specs.Rooms.{IsReady, IsRoomier}
 use Rattle.rx_engine.specs.Settlements.{Settles}

@@ -34,7 +34,7 @@ use Rattle.rx_engine.specs.Holdings.{held_request}
 use Rattle.rx_engine.specs.States.{State, IsTied}
 use Rattle.rx_engine.proofs.NamedLanes.{role_named}
 use Rattle.rx_engine.proofs.Laws.EffectsInLanes.{found_lane}
-use Rattle.rx_steps.proofs.Laws.JustThose.{among_all}
+use Rattle.rx_roles.proofs.Laws.JustThose.{among_all}
 
 -- keys -----------------------------------------------------------------------------------------------
 

@@ -21,7 +21,7 @@ use Rattle.rx_ground.specs.declared.leases.LeaseKey.{LeaseKey}
 use Rattle.rx_book.specs.State.{State as BookState, IsPromised as IsBookPromised, has_key}
 use Rattle.rx_book.specs.Answers.{AnswersHanded}
 use Rattle.rx_book.proofs.Laws.LastsThroughSteps.{out_same}
-use Rattle.rx_steps.proofs.Laws.NodesAfterStep.{first_follows, taken_forces_none, open_past_taking}
+use Rattle.rx_roles.proofs.Laws.NodesAfterStep.{first_follows, taken_forces_none, open_past_taking}
 use Rattle.rx_engine.specs.Settlements.{KeepsKeys}
 
 -- keys of one sort, each of a slot and a number

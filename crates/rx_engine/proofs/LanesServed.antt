@@ -18,7 +18,7 @@ use Rattle.rx_roles.specs.Effects.{after_all, all_told, all_last}
 use Rattle.rx_engine.specs.Deliveries.{Delivers, none_delivered, one_delivered, Leaves, none_left, one_left}
 use Rattle.rx_engine.specs.Rooms.{IsRoomier}
 use Rattle.rx_pool.specs.Moves.{left_all}
-use Rattle.rx_shares.specs.Places.{places_left}
+use Rattle.rx_pool.specs.Places.{places_left}
 use Rattle.rx_engine.specs.Settlements.{mail_left, all_given, closed_of, effects_told, taken_out, Releases, Settles}
 use Rattle.rx_engine.specs.States.{State as EngineState, IsTied}
 use Rattle.rx_engine.proofs.Laws.EffectsInLanes.{same_name, other_name}

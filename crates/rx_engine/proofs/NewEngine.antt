@@ -8,7 +8,7 @@ use Rattle.rx_event.proofs.Laws.Openness.{is_open_past}
 use Rattle.rx_book.specs.State.{is_kept}
 use Rattle.rx_book.proofs.Laws.LastsThroughSteps.{kept_past}
 use Rattle.rx_pool.proofs.Laws.CountsAfterStep.{stays_the_pool}
-use Rattle.rx_shares.specs.Places.{names_hub, AreShared}
+use Rattle.rx_pool.specs.Places.{names_hub, AreShared}
 use Rattle.rx_roles.specs.declared.roles.Role.{Role}
 use Rattle.rx_roles.specs.Roles.{AreRolesOf}
 use Rattle.rx_lanes.specs.State.{Opened, with_turn}

@@ -5,7 +5,7 @@ use Rattle.rx_roles.specs.declared.roles.Role.{Role}
 use Rattle.rx_roles.specs.Roles.{without, without_all}
 use Rattle.rx_roles.specs.Effects.{names_of, last_of, all_last}
 use Rattle.rx_pool.specs.Moves.{left_all}
-use Rattle.rx_shares.specs.Places.{place_in, places_left}
+use Rattle.rx_pool.specs.Places.{place_in, places_left}
 use Rattle.rx_engine.specs.declared.parts.Parts.{Parts}
 use Rattle.rx_engine.specs.Deliveries.{Leaves}
 use Rattle.rx_engine.specs.Settlements.{taken_out}

@@ -12,15 +12,15 @@ use Rattle.rx_book.specs.State.{State as BookState, IsPromised as IsBookPromised
 use Rattle.rx_book.specs.Requests.{Request, next_request}
 use Rattle.rx_book.specs.Answers.{Accepts}
 use Rattle.rx_roles.specs.Effects.{items_in}
-use Rattle.rx_steps.proofs.Laws.NotesOfStep.{end_items}
+use Rattle.rx_roles.proofs.Laws.NotesOfStep.{end_items}
 use Rattle.rx_engine.specs.States.{State, IsTied}
 use Rattle.rx_engine.specs.Rooms.{IsReady}
 use Rattle.rx_engine.specs.Settlements.{mail_left, closed_of, Settles}
 use Rattle.rx_engine.specs.Closings.{Closes}
 use Rattle.rx_engine.specs.Plain.{IsPlain, emits}
 use Rattle.rx_pool.specs.Moves.{MayLeaveAll}
-use Rattle.rx_shares.specs.Places.{places_left}
-use Rattle.rx_shares.proofs.Laws.SharesAfterStep.{may_leave}
+use Rattle.rx_pool.specs.Places.{places_left}
+use Rattle.rx_pool.proofs.Laws.SharesAfterStep.{may_leave}
 use Rattle.rx_engine.proofs.Laws.PlainCalls.{left_few, is_emitting, plain_call}
 use Rattle.rx_engine.proofs.TiedAfterCall.{shared_mid, tied_after}
 

@@ -17,8 +17,8 @@ use Rattle.rx_pool.specs.Ties.{IsPlain, MayJoin}
 use Rattle.rx_pool.proofs.Laws.Choices.{chooses_admissible}
 use Rattle.rx_roles.specs.declared.roles.Role.{Role}
 use Rattle.rx_roles.specs.Roles.{AreBelow}
-use Rattle.rx_shares.proofs.Laws.JoinsAllowed.{first_may, few_many}
-use Rattle.rx_shares.proofs.Laws.SharesAfterStep.{none_placed}
+use Rattle.rx_pool.proofs.Laws.JoinsAllowed.{first_may, few_many}
+use Rattle.rx_pool.proofs.Laws.SharesAfterStep.{none_placed}
 use Rattle.rx_engine.specs.declared.parts.Parts.{Parts}
 use Rattle.rx_engine.specs.declared.homes.Home.{Home}
 use Rattle.rx_engine.specs.States.{State, IsTied, IsSeenAs}

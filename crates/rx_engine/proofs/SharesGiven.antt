@@ -6,7 +6,7 @@ use Rattle.rx_pool.specs.Pool.{changed, joined}
 use Rattle.rx_roles.specs.declared.roles.Role.{Role}
 use Rattle.rx_roles.specs.Roles.{AreBelow}
 use Rattle.rx_roles.proofs.Laws.RolesTaken.{role_of-append}
-use Rattle.rx_shares.specs.Places.{place_role}
+use Rattle.rx_pool.specs.Places.{place_role}
 use Rattle.rx_engine.specs.declared.parts.Parts.{Parts}
 use Rattle.rx_engine.specs.declared.homes.Home.{Home}
 use Rattle.rx_engine.specs.Deliveries.{many_at}

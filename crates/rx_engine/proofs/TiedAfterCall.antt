@@ -21,16 +21,16 @@ use Rattle.rx_roles.specs.Roles.{without_all, AreRolesOf}
 use Rattle.rx_engine.specs.declared.parts.Parts.{Parts}
 use Rattle.rx_roles.specs.Effects.{after_all, ends_of}
 use Rattle.rx_roles.proofs.Laws.RolesTaken.{roles_same, roles_taken, roles_taken_all, after_all_ends, without_all-append}
-use Rattle.rx_steps.proofs.Laws.NodesAfterStep.{first_follows, taken_forces_none, open_past_taking, StepMakes, is_new, is_new_none, makes_none_more, grows_on, same_sort as node_still, open_node}
+use Rattle.rx_roles.proofs.Laws.NodesAfterStep.{first_follows, taken_forces_none, open_past_taking, StepMakes, is_new, is_new_none, makes_none_more, grows_on, same_sort as node_still, open_node}
 use Rattle.rx_event.specs.Gone.{goes}
-use Rattle.rx_steps.proofs.Laws.NodesGone.{goes_is as node_goes}
-use Rattle.rx_steps.proofs.Laws.JustThose.{just_none, just_among}
+use Rattle.rx_roles.proofs.Laws.NodesGone.{goes_is as node_goes}
+use Rattle.rx_roles.proofs.Laws.JustThose.{just_none, just_among}
 use Rattle.rx_pool.specs.declared.search.PooledHub.{PooledHub}
 use Rattle.rx_pool.specs.Moves.{left_all}
-use Rattle.rx_shares.specs.Places.{places_left, AreShared}
-use Rattle.rx_shares.proofs.Laws.SharesAfterStep.{IsShareStep, shares_plain, shared_after}
-use Rattle.rx_steps.proofs.Laws.NotesOfStep.{of_sort}
-use Rattle.rx_steps.proofs.Laws.RolesAfterStep.{AreClosed, are_closed, hears_after, merges_after}
+use Rattle.rx_pool.specs.Places.{places_left, AreShared}
+use Rattle.rx_pool.proofs.Laws.SharesAfterStep.{IsShareStep, shares_plain, shared_after}
+use Rattle.rx_roles.proofs.Laws.NotesOfStep.{of_sort}
+use Rattle.rx_roles.proofs.Laws.RolesAfterStep.{AreClosed, are_closed, hears_after, merges_after}
 use Rattle.rx_engine.specs.States.{State, IsTied, hears_in, merges_in}
 use Rattle.rx_engine.specs.Closings.{AreWishes, Closes}
 use Rattle.rx_engine.proofs.Laws.PlainCalls.{IsPlainCall, tells, left_is}

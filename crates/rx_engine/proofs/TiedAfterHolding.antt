@@ -23,11 +23,11 @@ use Rattle.rx_roles.specs.declared.roles.Role.{Role}
 use Rattle.rx_roles.specs.Roles.{without_all, AreRolesOf, AreBelow}
 use Rattle.rx_roles.specs.Effects.{after_all, items_in}
 use Rattle.rx_roles.proofs.Laws.RolesTaken.{roles_same, roles_put, roles_end}
-use Rattle.rx_steps.proofs.Laws.NodesAfterStep.{first_follows, StepMakes, makes_none_more}
+use Rattle.rx_roles.proofs.Laws.NodesAfterStep.{first_follows, StepMakes, makes_none_more}
 use Rattle.rx_pool.specs.declared.search.PooledHub.{PooledHub}
 use Rattle.rx_pool.specs.Moves.{left_all, MayLeaveAll}
-use Rattle.rx_shares.specs.Places.{places_left, AreShared}
-use Rattle.rx_steps.proofs.Laws.OpenedAlone.{accepted_alone}
+use Rattle.rx_pool.specs.Places.{places_left, AreShared}
+use Rattle.rx_roles.proofs.Laws.OpenedAlone.{accepted_alone}
 use Rattle.rx_engine.specs.declared.parts.Parts.{Parts}
 use Rattle.rx_engine.specs.States.{State, IsTied, hears_in, merges_in}
 use Rattle.rx_engine.specs.Closings.{AreWishes, Closes}

@@ -18,10 +18,10 @@ use Rattle.rx_pool.specs.Moves.{left_all, MayLeaveAll}
 use Rattle.rx_roles.specs.declared.roles.Role.{Role}
 use Rattle.rx_roles.specs.Roles.{without_all}
 use Rattle.rx_roles.specs.Effects.{items_in}
-use Rattle.rx_shares.specs.Places.{places_left, AreShared}
-use Rattle.rx_shares.proofs.Laws.SharesAfterStep.{shares_added, length_left}
-use Rattle.rx_steps.proofs.Laws.NodesAfterStep.{first_follows, forces_none}
-use Rattle.rx_steps.proofs.Laws.NodesGone.{goes_is}
+use Rattle.rx_pool.specs.Places.{places_left, AreShared}
+use Rattle.rx_pool.proofs.Laws.SharesAfterStep.{shares_added, length_left}
+use Rattle.rx_roles.proofs.Laws.NodesAfterStep.{first_follows, forces_none}
+use Rattle.rx_roles.proofs.Laws.NodesGone.{goes_is}
 use Rattle.rx_engine.specs.declared.parts.Parts.{Parts}
 use Rattle.rx_engine.specs.States.{State, IsTied, IsSeenAs}
 use Rattle.rx_engine.specs.Rooms.{IsReady}

@@ -26,12 +26,12 @@ use Rattle.rx_roles.specs.declared.roles.Role.{Role}
 use Rattle.rx_roles.specs.Roles.{is_among, without_all, AreRolesOf, AreBelow}
 use Rattle.rx_roles.specs.Effects.{after_all, items_in}
 use Rattle.rx_roles.proofs.Laws.RolesTaken.{roles_same, roles_end}
-use Rattle.rx_shares.specs.Places.{places_left, names_hub, AreShared}
-use Rattle.rx_shares.proofs.Laws.SharesAfterStep.{IsShareStep, shares_opened, joins_none, none_second, shared_after, may_leave}
-use Rattle.rx_steps.proofs.Laws.NodesAfterStep.{first_follows}
-use Rattle.rx_steps.proofs.Laws.NodesMade.{IsMaking, made_by, made_silent, step_makes}
-use Rattle.rx_steps.proofs.Laws.NotesOfStep.{of_sort}
-use Rattle.rx_steps.proofs.Laws.RolesAfterStep.{are_closed, roles_opened, roles_made}
+use Rattle.rx_pool.specs.Places.{places_left, names_hub, AreShared}
+use Rattle.rx_pool.proofs.Laws.SharesAfterStep.{IsShareStep, shares_opened, joins_none, none_second, shared_after, may_leave}
+use Rattle.rx_roles.proofs.Laws.NodesAfterStep.{first_follows}
+use Rattle.rx_roles.proofs.Laws.NodesMade.{IsMaking, made_by, made_silent, step_makes}
+use Rattle.rx_roles.proofs.Laws.NotesOfStep.{of_sort}
+use Rattle.rx_roles.proofs.Laws.RolesAfterStep.{are_closed, roles_opened, roles_made}
 use Rattle.rx_engine.specs.declared.parts.Parts.{Parts}
 use Rattle.rx_engine.specs.declared.parts.User.{User}
 use Rattle.rx_engine.specs.declared.homes.Home.{Home}

@@ -9,7 +9,7 @@ use Rattle.rx_roles.specs.Roles.{AreRolesOf}
 use Rattle.rx_roles.specs.Effects.{names_of}
 use Rattle.rx_event.specs.Tree.{is_open}
 use Rattle.rx_pool.specs.declared.search.PooledHub.{PooledHub}
-use Rattle.rx_shares.specs.Places.{AreShared}
+use Rattle.rx_pool.specs.Places.{AreShared}
 use Rattle.rx_book.specs.State.{is_kept}
 use Rattle.rx_engine.specs.declared.parts.Parts.{Parts}
 use Rattle.rx_engine.specs.Deliveries.{many_at, Delivers, none_delivered, one_delivered}

@@ -18,9 +18,9 @@ use Rattle.rx_pool.specs.Ties.{IsPlain}
 use Rattle.rx_roles.specs.declared.roles.Role.{Role}
 use Rattle.rx_roles.specs.Roles.{without_all, AreRolesOf}
 use Rattle.rx_roles.specs.Effects.{after_all, items_in}
-use Rattle.rx_shares.specs.Places.{places_left, AreShared, hub_named}
-use Rattle.rx_shares.proofs.Laws.SharesAfterStep.{JoinsOwn, joined_list, shares_joined, joins_own, shared_after, may_leave}
-use Rattle.rx_steps.proofs.Laws.FirstSubscriberConnects.{second_just}
+use Rattle.rx_pool.specs.Places.{places_left, AreShared, hub_named}
+use Rattle.rx_pool.proofs.Laws.SharesAfterStep.{JoinsOwn, joined_list, shares_joined, joins_own, shared_after, may_leave}
+use Rattle.rx_roles.proofs.Laws.FirstSubscriberConnects.{second_just}
 use Rattle.rx_engine.specs.declared.parts.Parts.{Parts}
 use Rattle.rx_engine.specs.declared.parts.User.{User}
 use Rattle.rx_engine.specs.declared.homes.Home.{Home}

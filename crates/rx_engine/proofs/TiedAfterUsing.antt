@@ -22,10 +22,10 @@ use Rattle.rx_roles.specs.declared.roles.Role.{Role}
 use Rattle.rx_roles.specs.Roles.{without_all, AreRolesOf}
 use Rattle.rx_roles.specs.Effects.{after_all, items_in}
 use Rattle.rx_roles.proofs.Laws.RolesTaken.{roles_same}
-use Rattle.rx_shares.specs.Places.{places_left}
-use Rattle.rx_steps.proofs.Laws.JustThose.{just_among}
-use Rattle.rx_steps.proofs.Laws.NodesAfterStep.{StepMakes, same_sort as still_sort}
-use Rattle.rx_steps.proofs.Laws.NodesMade.{made_silent, step_makes}
+use Rattle.rx_pool.specs.Places.{places_left}
+use Rattle.rx_roles.proofs.Laws.JustThose.{just_among}
+use Rattle.rx_roles.proofs.Laws.NodesAfterStep.{StepMakes, same_sort as still_sort}
+use Rattle.rx_roles.proofs.Laws.NodesMade.{made_silent, step_makes}
 use Rattle.rx_engine.specs.declared.parts.Parts.{Parts}
 use Rattle.rx_engine.specs.declared.parts.User.{User}
 use Rattle.rx_engine.specs.declared.homes.Home.{Home}

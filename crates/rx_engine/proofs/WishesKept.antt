@@ -11,7 +11,7 @@ use Rattle.rx_event.proofs.Laws.Openness.{is_open_past}
 use Rattle.rx_roles.specs.declared.roles.Role.{Role}
 use Rattle.rx_roles.specs.Roles.{AreBelow, role_of, without_all, is_among, AreRolesOf}
 use Rattle.rx_roles.proofs.Laws.RolesTaken.{roles_taken_all, roles_put}
-use Rattle.rx_steps.proofs.Laws.RolesAfterStep.{AreClosed}
+use Rattle.rx_roles.proofs.Laws.RolesAfterStep.{AreClosed}
 use Rattle.rx_engine.specs.declared.parts.User.{User}
 use Rattle.rx_engine.specs.Closings.{AreWishes, nowhere, with_wish}
 

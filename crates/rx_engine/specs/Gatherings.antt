@@ -9,7 +9,7 @@ use Rattle.rx_roles.specs.declared.effect.Effect.{Effect}
 use Rattle.rx_roles.specs.Roles.{without_all}
 use Rattle.rx_roles.specs.Effects.{after_all, all_last, copies_in, lasts_at, names_of}
 use Rattle.rx_pool.specs.Moves.{left_all}
-use Rattle.rx_shares.specs.Places.{places_left}
+use Rattle.rx_pool.specs.Places.{places_left}
 use Rattle.rx_engine.specs.declared.parts.Parts.{Parts}
 use Rattle.rx_engine.specs.Deliveries.{many_at, AreNamed, Delivers, Leaves, settled}
 use Rattle.rx_engine.specs.Rooms.{role_count, named}

@@ -16,7 +16,7 @@ use Rattle.rx_roles.specs.Roles.{role_of, without, without_all}
 use Rattle.rx_roles.specs.Effects.{released, all_told, all_last, after_all, copies_in}
 use Rattle.rx_lanes.specs.State.{State as LanesState}
 use Rattle.rx_pool.specs.Moves.{left_all}
-use Rattle.rx_shares.specs.Places.{places_left}
+use Rattle.rx_pool.specs.Places.{places_left}
 use Rattle.rx_engine.specs.Deliveries.{Delivers, Leaves, settled}
 use Rattle.rx_engine.specs.declared.parts.Parts.{Parts}
 

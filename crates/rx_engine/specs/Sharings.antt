@@ -17,7 +17,7 @@ use Rattle.rx_pool.specs.declared.search.PooledHub.{PooledHub}
 use Rattle.rx_pool.specs.declared.search.Share.{Share}
 use Rattle.rx_pool.specs.Pool.{is_own}
 use Rattle.rx_pool.specs.Choice.{choice, last_before}
-use Rattle.rx_shares.specs.Places.{Joins}
+use Rattle.rx_pool.specs.Places.{Joins}
 use Rattle.rx_engine.specs.declared.parts.Parts.{Parts}
 use Rattle.rx_engine.specs.declared.parts.User.{User}
 use Rattle.rx_engine.specs.declared.sharing.Subscribed.{Subscribed}

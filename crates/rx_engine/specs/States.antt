@@ -8,7 +8,7 @@ use Rattle.rx_book.specs.State.{State as BookState, IsPromised as IsBookPromised
 use Rattle.rx_lanes.specs.State.{IsPromised as AreLanesPromised}
 use Rattle.rx_roles.specs.Roles.{AreRolesOf}
 use Rattle.rx_pool.specs.Ties.{IsPlain}
-use Rattle.rx_shares.specs.Places.{AreShared}
+use Rattle.rx_pool.specs.Places.{AreShared}
 use Rattle.rx_engine.specs.declared.parts.Parts.{Parts}
 use Rattle.rx_engine.specs.Rooms.{IsReady, IsRoomier}
 use Rattle.rx_engine.specs.Closings.{WishState, AreWishes}

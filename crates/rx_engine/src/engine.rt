@@ -9,9 +9,9 @@ use crate::parts::Parts;
 use crate::wishes::Wishes;
 use rx_book::Book;
 use rx_lanes::{LaneName, Lanes};
+use rx_pool::Shares;
 use rx_resource::Token;
 use rx_roles::{Effect, Effects, Roles, What};
-use rx_shares::Shares;
 use std::alloc::Global;
 use std::marker::Model;
 

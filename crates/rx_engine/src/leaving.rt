@@ -8,7 +8,7 @@ ghost use Rattle.rx_roles.specs.declared.roles.Role.{Role};
 ghost use Rattle.rx_roles.specs.Roles.{role_of, without};
 ghost use Rattle.rx_roles.specs.Effects.{names_of};
 ghost use Rattle.rx_pool.specs.Moves.{MayLeaveAll};
-ghost use Rattle.rx_shares.specs.Places.{places_left};
+ghost use Rattle.rx_pool.specs.Places.{places_left};
 ghost use Rattle.rx_engine.specs.Deliveries.{many_at};
 ghost use Rattle.rx_engine.specs.Settlements.{closed_of};
 ghost use Rattle.rx_engine.specs.Gatherings.{EndsClosed};

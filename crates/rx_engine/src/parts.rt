@@ -6,8 +6,8 @@ ghost use Rattle.rx_engine.specs.Rooms.{role_count, name_count, IsReady, IsRoomi
 use crate::homes::LaneOf;
 use rx_book::{Key, ResKey};
 use rx_lanes::Lanes;
+use rx_pool::Shares;
 use rx_roles::{Effect, Effects, Roles};
-use rx_shares::Shares;
 
 /// What the face says of a node that it opens.
 #[derive(Clone, Copy)]

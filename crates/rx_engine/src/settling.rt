@@ -7,7 +7,7 @@ ghost use Rattle.rx_roles.specs.Effects.{items_in, names_of};
 ghost use Rattle.rx_engine.specs.Deliveries.{many_at};
 ghost use Rattle.rx_engine.specs.Rooms.{IsReady};
 ghost use Rattle.rx_pool.specs.Moves.{MayLeaveAll};
-ghost use Rattle.rx_shares.specs.Places.{places_left};
+ghost use Rattle.rx_pool.specs.Places.{places_left};
 ghost use Rattle.rx_engine.specs.Settlements.{mail_left, closed_of, Settles, KeepsKeys};
 ghost use Rattle.rx_engine.specs.Gatherings.{Gathers, EndsClosed, Spreads, IsLoaded};
 ghost use Rattle.rx_engine.specs.Closings.{Closes};

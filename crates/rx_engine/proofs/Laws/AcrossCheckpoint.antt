@@ -23,8 +23,8 @@ use Rattle.rx_pool.specs.Counts.{names, is_made}
 use Rattle.rx_pool.specs.Moves.{is_place}
 use Rattle.rx_roles.specs.declared.roles.Role.{Role}
 use Rattle.rx_roles.proofs.Laws.RolesTaken.{roles_same}
-use Rattle.rx_shares.specs.Places.{names_hub, place_in, AreShared}
-use Rattle.rx_steps.proofs.Laws.NodesAfterStep.{is_new_none}
+use Rattle.rx_pool.specs.Places.{names_hub, place_in, AreShared}
+use Rattle.rx_roles.proofs.Laws.NodesAfterStep.{is_new_none}
 use Rattle.rx_engine.specs.States.{State, IsTied}
 use Rattle.rx_engine.proofs.WishesKept.{wishes_same}
 

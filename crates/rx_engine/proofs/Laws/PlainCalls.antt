@@ -13,8 +13,8 @@ use Rattle.rx_book.specs.Requests.{Request}
 use Rattle.rx_book.specs.Answers.{Accepts}
 use Rattle.rx_book.proofs.Laws.LastsThroughSteps.{keeps_resources}
 use Rattle.rx_roles.specs.Effects.{items_in}
-use Rattle.rx_steps.proofs.Laws.NodesAfterStep.{first_follows}
-use Rattle.rx_steps.proofs.Laws.NotesOfStep.{StepTells, step_tells}
+use Rattle.rx_roles.proofs.Laws.NodesAfterStep.{first_follows}
+use Rattle.rx_roles.proofs.Laws.NotesOfStep.{StepTells, step_tells}
 use Rattle.rx_engine.specs.Settlements.{mail_left}
 use Rattle.std.proofs.Common.{◌≡◌, ℕ, length, ◌≤◌, Bool, true, false, List, map, refl, ap}
 use Rattle.rx_event.specs.declared.event.Event.TheVariants.{Item, End, Decline, Close, Use, Remove, Lease, Return, Hub}

@@ -7,7 +7,7 @@ use Rattle.rx_roles.specs.Effects.{names_of}
 use Rattle.rx_roles.proofs.Laws.RolesTaken.{fewer}
 use Rattle.rx_pool.specs.declared.search.PooledHub.{PooledHub}
 use Rattle.rx_pool.specs.Moves.{MayLeaveAll}
-use Rattle.rx_shares.specs.Places.{place_in, places_left}
+use Rattle.rx_pool.specs.Places.{place_in, places_left}
 use Rattle.rx_engine.specs.Settlements.{closed_of}
 use Rattle.rx_engine.specs.Gatherings.{EndsClosed}
 use Rattle.rx_engine.proofs.MailLeft.{closed_more, closed_none, get_within}

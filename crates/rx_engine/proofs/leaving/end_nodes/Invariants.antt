@@ -3,7 +3,7 @@ use Rattle.std.proofs.Common.{◌≤◌, ◌+◌, ◌-◌, length, drop}
 use Rattle.rx_lanes.specs.declared.names.LaneName.{LaneName}
 use Rattle.rx_roles.specs.Effects.{names_of}
 use Rattle.rx_pool.specs.Moves.{MayLeaveAll}
-use Rattle.rx_shares.specs.Places.{places_left}
+use Rattle.rx_pool.specs.Places.{places_left}
 use Rattle.rx_engine.specs.declared.parts.Parts.{Parts}
 use Rattle.rx_engine.specs.Deliveries.{many_at}
 use Rattle.rx_engine.specs.Settlements.{closed_of}

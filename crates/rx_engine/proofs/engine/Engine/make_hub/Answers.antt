@@ -2,8 +2,8 @@ use Rattle.std.proofs.Common.{◌<◌, ◌++◌, ◌∷◌, [], ℕ, sym, ap, �
 use Rattle.rx_resource.specs.contracts.token.TokenResource.TheImpl.{ghosts}
 use Rattle.rx_event.proofs.Laws.Common.{slice_get}
 use Rattle.rx_pool.specs.Pool.{new_hub}
-use Rattle.rx_shares.specs.Places.{State as SharesState}
-use Rattle.rx_shares.proofs.Laws.SharesAfterStep.{hub_made}
+use Rattle.rx_pool.specs.Places.{State as SharesState}
+use Rattle.rx_pool.proofs.Laws.SharesAfterStep.{hub_made}
 use Rattle.rx_engine.specs.Ties.{state_of}
 use Rattle.rx_engine.proofs.TiedAfterHub.{IsAdding, leave_added, ready_added, tied_added}
 use Rattle.rx_engine.proofs.engine.Engine.make_hub.Goals as goal

@@ -2,14 +2,14 @@ use Rattle.std.proofs.Common.{pos, sym, arith, subst, List, Ok}
 use Rattle.rx_pool.specs.declared.search.PooledHub.{PooledHub}
 use Rattle.rx_pool.specs.Moves.{MayLeaveAll}
 use Rattle.rx_roles.specs.declared.roles.Role.{Role}
-use Rattle.rx_shares.specs.Places.{places_left}
+use Rattle.rx_pool.specs.Places.{places_left}
 use Rattle.rx_engine.specs.Settlements.{closed_of}
 use Rattle.rx_resource.specs.contracts.token.TokenResource.TheImpl.{ghosts}
 use Rattle.rx_event.specs.declared.event.Event.TheVariants.{Item}
 use Rattle.rx_event.specs.Notes.{mail_of}
 use Rattle.rx_book.specs.State.{State as BookState}
 use Rattle.rx_book.specs.Requests.{next_request}
-use Rattle.rx_steps.proofs.Laws.NotesOfStep.{items_few}
+use Rattle.rx_roles.proofs.Laws.NotesOfStep.{items_few}
 use Rattle.rx_engine.specs.States.{State}
 use Rattle.rx_engine.specs.Commands.{IsCostlyMade}
 use Rattle.rx_engine.specs.Plain.{emits}

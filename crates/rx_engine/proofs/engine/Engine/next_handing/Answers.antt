@@ -2,7 +2,7 @@ use Rattle.std.proofs.Common.{pos, sym, arith, subst, List, Option, Result}
 use Rattle.rx_pool.specs.declared.search.PooledHub.{PooledHub}
 use Rattle.rx_pool.specs.Moves.{MayLeaveAll}
 use Rattle.rx_roles.specs.declared.roles.Role.{Role}
-use Rattle.rx_shares.specs.Places.{places_left}
+use Rattle.rx_pool.specs.Places.{places_left}
 use Rattle.rx_roles.specs.declared.effect.Effect.{Effect}
 use Rattle.rx_event.specs.declared.refusal.Refusal.{Refusal}
 use Rattle.rx_engine.specs.Settlements.{Settles, closed_of}
@@ -10,7 +10,7 @@ use Rattle.rx_resource.specs.contracts.token.TokenResource.TheImpl.{ghosts}
 use Rattle.rx_event.specs.declared.event.Event.TheVariants.{Item}
 use Rattle.rx_event.specs.Notes.{mail_of}
 use Rattle.rx_book.specs.State.{State as BookState}
-use Rattle.rx_steps.proofs.Laws.NotesOfStep.{items_few}
+use Rattle.rx_roles.proofs.Laws.NotesOfStep.{items_few}
 use Rattle.rx_engine.specs.declared.parts.Parts.{Parts}
 use Rattle.rx_engine.specs.Rooms.{IsReady}
 use Rattle.rx_engine.specs.States.{State, IsTied}

@@ -5,9 +5,9 @@ use Rattle.rx_pool.specs.declared.search.PooledHub.{PooledHub}
 use Rattle.rx_pool.specs.Ties.{IsPlain, MayJoin}
 use Rattle.rx_roles.specs.declared.roles.Role.{Role}
 use Rattle.rx_roles.specs.Roles.{AreBelow}
-use Rattle.rx_shares.specs.Places.{State, place_role}
+use Rattle.rx_pool.specs.Places.{State, place_role}
 use Rattle.rx_engine.specs.declared.parts.Parts.{Parts}
-use Rattle.rx_shares.proofs.Laws.JoinsAllowed.{second_may}
+use Rattle.rx_pool.proofs.Laws.JoinsAllowed.{second_may}
 use Rattle.rx_engine.proofs.SharesGiven.{below_more}
 use Rattle.rx_engine.proofs.parts.Parts.enter_subscriber.Goals as goal
 

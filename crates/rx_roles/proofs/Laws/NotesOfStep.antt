@@ -16,8 +16,8 @@ use Rattle.std.proofs.lemmas.Bool.{eqb-true, or_cases, false≢true}
 use Rattle.std.proofs.lemmas.List.Folds.{list_any-append}
 use Rattle.rx_event.proofs.Laws.Common.{◌⊎◌, inl, inr}
 use Rattle.rx_event.proofs.Laws.Dues.{IsDueOn, none_more, one_more, IsClosing, by_end, by_close, closing_of, connected_on, lawful_on, forced_due_on}
-use Rattle.rx_steps.proofs.Laws.JustThose.{just_none}
-use Rattle.rx_steps.proofs.Laws.NodesAfterStep.{StepMakes, older, is_new_none, makes_none_more, connected_after}
+use Rattle.rx_roles.proofs.Laws.JustThose.{just_none}
+use Rattle.rx_roles.proofs.Laws.NodesAfterStep.{StepMakes, older, is_new_none, makes_none_more, connected_after}
 use Rattle.rx_event.proofs.Laws.Common.{IsConnected, IsSettled, makes_node}
 use Rattle.rx_event.specs.Allowed.{IsAllowed}
 use Rattle.rx_event.specs.Lawful.{allowed}

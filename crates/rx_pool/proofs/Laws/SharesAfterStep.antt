@@ -27,13 +27,13 @@ use Rattle.rx_pool.specs.Moves.{joined_all, left_all, MayLeaveAll, is_place, Are
 use Rattle.rx_pool.specs.Ties.{IsPlain}
 use Rattle.rx_pool.proofs.Laws.MovesOfStep.{moves_follow}
 use Rattle.rx_pool.proofs.Laws.CountsAfterStep.{stays_the_pool, free_serves_nobody}
-use Rattle.rx_steps.proofs.Laws.JustThose.{just_among}
-use Rattle.rx_steps.proofs.Laws.NodesAfterStep.{StepMakes, is_new_none, same_sort, older}
-use Rattle.rx_steps.proofs.Laws.NodesMade.{IsMaking, made_by, made_with, step_makes, own_event, second_event}
-use Rattle.rx_steps.proofs.Laws.FirstSubscriberConnects.{second_just}
-use Rattle.rx_steps.proofs.Laws.NotesOfStep.{of_sort}
-use Rattle.rx_steps.proofs.Laws.RolesAfterStep.{are_closed, roles_after, roles_made}
-use Rattle.rx_shares.specs.Places.{place_in, places_left, place_role, hub_named, names_hub, AreShared}
+use Rattle.rx_roles.proofs.Laws.JustThose.{just_among}
+use Rattle.rx_roles.proofs.Laws.NodesAfterStep.{StepMakes, is_new_none, same_sort, older}
+use Rattle.rx_roles.proofs.Laws.NodesMade.{IsMaking, made_by, made_with, step_makes, own_event, second_event}
+use Rattle.rx_roles.proofs.Laws.FirstSubscriberConnects.{second_just}
+use Rattle.rx_roles.proofs.Laws.NotesOfStep.{of_sort}
+use Rattle.rx_roles.proofs.Laws.RolesAfterStep.{are_closed, roles_after, roles_made}
+use Rattle.rx_pool.specs.Places.{place_in, places_left, place_role, hub_named, names_hub, AreShared}
 
 -- places of numbers ----------------------------------------------------------------------------------
 

@@ -8,8 +8,8 @@ use Rattle.rx_event.proofs.Laws.Starts.{lawful_begun, lawful_front, lawful_last}
 use Rattle.rx_event.proofs.Laws.Steps.{by_pushes}
 use Rattle.rx_event.proofs.Laws.Openness.{stays_closed_after}
 use Rattle.rx_event.proofs.Laws.Notes.{notes_silent}
-use Rattle.rx_steps.specs.Told.{TellsWhoWasThere}
-use Rattle.rx_steps.proofs.Laws.NodesAfterStep.{forced_grows}
+use Rattle.rx_roles.specs.Told.{TellsWhoWasThere}
+use Rattle.rx_roles.proofs.Laws.NodesAfterStep.{forced_grows}
 
 -- events that a caller adds
 by_outside : (base : Kept) (h : List Event) (n : ℕ) → length (shown base) ≤ length h → n < length h → is_open h n ≡ false → (es : List Event) →

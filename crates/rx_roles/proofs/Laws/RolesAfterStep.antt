@@ -14,11 +14,11 @@ use Rattle.rx_roles.specs.declared.roles.Role.{Role}
 use Rattle.rx_roles.specs.Roles.{is_among, without_all, AreRolesOf}
 use Rattle.rx_roles.specs.Effects.{ends_of}
 use Rattle.rx_roles.proofs.Laws.RolesTaken.{roles_same, roles_put, roles_taken_all}
-use Rattle.rx_steps.proofs.Laws.JustThose.{just_among}
-use Rattle.rx_steps.proofs.Laws.NodesAfterStep.{StepMakes, same_sort, older}
-use Rattle.rx_steps.proofs.Laws.NodesGone.{goes_is}
-use Rattle.rx_steps.proofs.Laws.NodesMade.{IsMaking, made_by, step_makes, own_event, second_event, made_with}
-use Rattle.rx_steps.proofs.Laws.NotesOfStep.{StepTells, of_sort}
+use Rattle.rx_roles.proofs.Laws.JustThose.{just_among}
+use Rattle.rx_roles.proofs.Laws.NodesAfterStep.{StepMakes, same_sort, older}
+use Rattle.rx_roles.proofs.Laws.NodesGone.{goes_is}
+use Rattle.rx_roles.proofs.Laws.NodesMade.{IsMaking, made_by, step_makes, own_event, second_event, made_with}
+use Rattle.rx_roles.proofs.Laws.NotesOfStep.{StepTells, of_sort}
 
 -- these are the nodes that the step closed
 pub record AreClosed (h k : List Event) (closed : List ℕ) : Type 0 where

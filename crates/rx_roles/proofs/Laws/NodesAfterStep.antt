@@ -21,7 +21,7 @@ use Rattle.rx_event.proofs.Laws.Starts.{begins_with, BeginsWith, lawful_begun, l
 use Rattle.rx_event.proofs.Laws.Waits.{waits_after, settled_connected, connected_first}
 use Rattle.std.proofs.Common.{rules}
 use Rattle.rx_roles.specs.Roles.{is_among}
-use Rattle.rx_steps.proofs.Laws.JustThose.{just_among, just_none}
+use Rattle.rx_roles.proofs.Laws.JustThose.{just_among, just_none}
 
 -- what a step adds ----------------------------------------------------------------------------------
 

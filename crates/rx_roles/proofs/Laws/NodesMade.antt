@@ -27,8 +27,8 @@ use Rattle.rx_event.proofs.Laws.Projections.{owed-push, owed_kept}
 use Rattle.rx_event.proofs.Laws.StaysOpen.{opened_stays, connected_stays}
 use Rattle.rx_event.proofs.Laws.Waits.{settled_connected}
 use Rattle.rx_roles.specs.Roles.{is_among}
-use Rattle.rx_steps.proofs.Laws.JustThose.{just_none, just_more}
-use Rattle.rx_steps.proofs.Laws.NodesAfterStep.{step_grows, StepMakes, is_new, is_new-push, is_new_one, is_new_on, Begun, at_once, connects_first, begun}
+use Rattle.rx_roles.proofs.Laws.JustThose.{just_none, just_more}
+use Rattle.rx_roles.proofs.Laws.NodesAfterStep.{step_grows, StepMakes, is_new, is_new-push, is_new_one, is_new_on, Begun, at_once, connects_first, begun}
 
 -- from h a step came to k whose event makes a node
 pub record IsMaking (base : Kept) (h : List Event) (e : Event) (k : List Event) : Type 0 where

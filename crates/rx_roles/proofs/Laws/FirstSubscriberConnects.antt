@@ -17,8 +17,8 @@ use Rattle.rx_event.proofs.Laws.Openness.{is_open_within, is_open_cut, open_old}
 use Rattle.rx_event.proofs.Laws.Places.{slice_get_last, at-append, at_within}
 use Rattle.rx_event.proofs.Laws.Totals.{is_open_new}
 use Rattle.rx_event.proofs.Laws.Waits.{closes_none, spares, cut_alone, at_before}
-use Rattle.rx_steps.proofs.Laws.NodesAfterStep.{Begun, at_once, connects_first, begun}
-use Rattle.rx_steps.proofs.Laws.NodesMade.{IsMaking, law_b, own_hub, ends_none, subscribes_to, second_there, none_second}
+use Rattle.rx_roles.proofs.Laws.NodesAfterStep.{Begun, at_once, connects_first, begun}
+use Rattle.rx_roles.proofs.Laws.NodesMade.{IsMaking, law_b, own_hub, ends_none, subscribes_to, second_there, none_second}
 
 closes_none_made : (e : Event) → makes_node e ≡ true → closes_none e ≡ true
 closes_none_made (Open place kind) is = refl

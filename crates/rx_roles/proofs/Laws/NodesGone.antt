@@ -20,9 +20,9 @@ use Rattle.rx_event.proofs.Laws.Openness.{is_cut, is_open_cut, is_open_kept, is_
 use Rattle.rx_event.proofs.Laws.Parents.{ancestors_step}
 use Rattle.rx_event.proofs.Laws.Starts.{begins_with, BeginsWith}
 use Rattle.rx_event.proofs.Laws.Switches.{is_open-inner_flat, is_open-inner_first, is_cut-inner_switch}
-use Rattle.rx_steps.proofs.Laws.JustThose.{just_among}
-use Rattle.rx_steps.proofs.Laws.NodesAfterStep.{step_grows, same_sort, open_node, StepMakes, Begun, at_once, connects_first, begun, forces_none}
-use Rattle.rx_steps.proofs.Laws.NodesMade.{IsMaking, calm, unfired, ends_none, step_makes}
+use Rattle.rx_roles.proofs.Laws.JustThose.{just_among}
+use Rattle.rx_roles.proofs.Laws.NodesAfterStep.{step_grows, same_sort, open_node, StepMakes, Begun, at_once, connects_first, begun, forces_none}
+use Rattle.rx_roles.proofs.Laws.NodesMade.{IsMaking, calm, unfired, ends_none, step_makes}
 
 -- what was made in the step is open, so what has gone was open before, and is no more
 pub goes_is : {h k : List Event} {made : List ℕ} → StepMakes h k made → (n : ℕ) → goes h k n ≡ (is_open h n && not (is_open k n))

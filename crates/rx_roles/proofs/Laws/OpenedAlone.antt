@@ -12,8 +12,8 @@ use Rattle.rx_event.proofs.Laws.Counts.{notes-push}
 use Rattle.rx_event.proofs.Laws.Openness.{shuts_none, is_open_kept, is_open_past}
 use Rattle.rx_event.proofs.Laws.Places.{at-append, slice_get_last}
 use Rattle.rx_event.proofs.Laws.Totals.{is_open_new}
-use Rattle.rx_steps.proofs.Laws.NodesAfterStep.{forces_none}
-use Rattle.rx_steps.proofs.Laws.NotesOfStep.{of_sort}
+use Rattle.rx_roles.proofs.Laws.NodesAfterStep.{forces_none}
+use Rattle.rx_roles.proofs.Laws.NotesOfStep.{of_sort}
 
 pub opened_alone : (base : Kept) (h : List Event) (place : Place) (kind : Kind) (k : List Event) → IsLawful base h → IsSettled base h →
     MayFollow base h (Open place kind) → shuts_none (Open place kind) ≡ true → hub_subscribed (Open place kind) ≡ None →

@@ -1,4 +1,4 @@
-//! The table of shares.
+//! A pool of hubs, and which of them each open node names.
 
 ghost use Rattle.std.specs.Prelude.{◌≡◌, ◌+◌, ◌<◌, ◌≤◌, ◌++◌, ◌∷◌, [], true, length, slice_get, Some, OnOk};
 ghost use Rattle.std.specs.Option.{option_to_list};
@@ -9,11 +9,12 @@ ghost use Rattle.rx_pool.specs.Pool.{is_used, is_own, new_hub};
 ghost use Rattle.rx_pool.specs.Choice.{choice, last_before, passes};
 ghost use Rattle.rx_pool.specs.Moves.{left_all};
 ghost use Rattle.rx_pool.specs.Ties.{IsPlain, MayJoin};
-ghost use Rattle.rx_shares.specs.Places.{place_in, Joins};
+ghost use Rattle.rx_pool.specs.Places.{place_in, Joins};
 
+use crate::pool::Pool;
+use crate::search::{PooledHub, Share};
 use rx_event::{Mode, Refusal};
 use rx_lanes::LaneName;
-use rx_pool::{Pool, PooledHub, Share};
 use rx_roles::{Role, Roles};
 use std::alloc::{AllocError, Global};
 use std::marker::Model;
@@ -26,7 +27,7 @@ pub struct Shares {
 }
 
 impl Model for Shares {
-    ghost use Rattle.rx_shares.specs.Places.{State};
+    ghost use Rattle.rx_pool.specs.Places.{State};
 
     ghost Value = { State };
 

@@ -1,2 +1,0 @@
-pub mod JoinsAllowed
-pub mod SharesAfterStep
