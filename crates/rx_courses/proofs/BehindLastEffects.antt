@@ -17,7 +17,7 @@ use Rattle.rx_roles.proofs.Laws.LastEffects.{finals-append, told_finals, closed_
 use Rattle.rx_engine.specs.declared.parts.Parts.{Parts}
 use Rattle.rx_engine.specs.Settlements.{mail_left, all_given, closed_of, effects_told, Releases, none_released, one_released, Settles}
 use Rattle.rx_engine.specs.States.{State}
-use Rattle.rx_courses.specs.Courses.{IsCommand, is_refused, has_done, has_held, has_used, has_opened, has_put, has_subscribed, has_connected, has_made_hubs, has_checkpointed, begins, commands, takes, gives_up, claims, effects_of, words_in, given_to}
+use Rattle.rx_courses.specs.Courses.{IsCommand, is_refused, has_done, has_held, has_used, has_opened, has_put, has_subscribed, has_connected, has_made_hubs, has_checkpointed, begins, commands, takes, gives_up, effects_of, words_in, given_to}
 use Rattle.rx_courses.specs.NothingBehind.{ends_one, FindRoles, NothingBehind}
 use Rattle.rx_courses.proofs.LawsOfCourses.{releases_finals, entered_words, kept_words, connects_words, subscribes_words, course_finals}
 
@@ -146,4 +146,3 @@ nothing_behind g word s t none (commands {t = m} before kept c) =
     )
 nothing_behind g word s t none (takes {t = m} name inside by before kept taken) = nothing_behind g word s m none before
 nothing_behind g word s t none (gives_up {t = m} name by _ before kept given) = nothing_behind g word s m none before
-nothing_behind g word s t none (claims {t = m} name by before kept there claimed) = nothing_behind g word s m none before

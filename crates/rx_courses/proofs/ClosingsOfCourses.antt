@@ -13,7 +13,7 @@ use Rattle.rx_engine.specs.States.{State, IsPromised}
 use Rattle.rx_engine.specs.Rooms.{role_if}
 use Rattle.rx_engine.specs.Settlements.{closed_of}
 use Rattle.rx_engine.specs.Closings.{WishState, nowhere, with_wish, words_taken, Closes}
-use Rattle.rx_courses.specs.Courses.{IsCommand, is_refused, has_done, has_held, has_used, has_opened, has_put, has_subscribed, has_connected, has_made_hubs, has_checkpointed, Course, begins, commands, takes, gives_up, claims}
+use Rattle.rx_courses.specs.Courses.{IsCommand, is_refused, has_done, has_held, has_used, has_opened, has_put, has_subscribed, has_connected, has_made_hubs, has_checkpointed, Course, begins, commands, takes, gives_up}
 use Rattle.rx_courses.specs.Courses.{times, wish_of, closed_for, wished_for, all_closed_for, all_wished_for, ClosingsOnce}
 use Rattle.rx_courses.proofs.HubsTellNone.{calm, quiet_hubs}
 use Rattle.rx_courses.proofs.LawsOfCourses.{role_if_words}
@@ -83,8 +83,6 @@ course_closes word g s t (takes {t = m} name inside by before kept taken) =
     let rest = course_closes word g s m before in let same = ap (λ (x : State). words_of word x.wishes.roles.list) taken.same in omega (arith, rest, same)
 course_closes word g s t (gives_up {t = m} name by _ before kept given) =
     let rest = course_closes word g s m before in let same = ap (λ (x : State). words_of word x.wishes.roles.list) given.same in omega (arith, rest, same)
-course_closes word g s t (claims {t = m} name by before kept there claimed) =
-    let rest = course_closes word g s m before in let same = ap (λ (x : State). words_of word x.wishes.roles.list) claimed.same in omega (arith, rest, same)
 
 pub closings_once : (g : Ghosts Token) → ClosingsOnce g
 closings_once g word s t none course =

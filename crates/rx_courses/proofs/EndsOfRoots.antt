@@ -29,7 +29,7 @@ use Rattle.rx_engine.specs.Openings.{Gives, Enters}
 use Rattle.rx_engine.specs.Settlements.{mail_left, all_given, closed_of, effects_told, Releases, none_released, one_released, Settles}
 use Rattle.rx_engine.specs.Sharings.{Connects, ConnectsIf, Subscribes}
 use Rattle.rx_engine.specs.States.{State, IsPromised, IsLanesOnly}
-use Rattle.rx_courses.specs.Courses.{IsCommand, is_refused, has_done, has_held, has_used, has_opened, has_put, has_subscribed, has_connected, has_made_hubs, has_checkpointed, Course, begins, commands, takes, gives_up, claims}
+use Rattle.rx_courses.specs.Courses.{IsCommand, is_refused, has_done, has_held, has_used, has_opened, has_put, has_subscribed, has_connected, has_made_hubs, has_checkpointed, Course, begins, commands, takes, gives_up}
 use Rattle.rx_courses.specs.NotesTold.{notes_added}
 use Rattle.rx_courses.specs.RootsTold.{is_for_who_hears, notes_of, all_added, is_ending, ends_last}
 use Rattle.rx_courses.proofs.HubsTellNone.{calm, quiet_hubs}
@@ -352,7 +352,6 @@ course_ends n g s t (commands {t = m} before kept c) =
     (command_ends n g m t (notes_of n (all_added before)) kept c (course_ends n g s m before))
 course_ends n g s t (takes {t = m} from inside by before kept take) = lanes_ends n m t (notes_of n (all_added before)) take.same (course_ends n g s m before)
 course_ends n g s t (gives_up {t = m} from by _ before kept give) = lanes_ends n m t (notes_of n (all_added before)) give.same (course_ends n g s m before)
-course_ends n g s t (claims {t = m} from by before kept there claim) = lanes_ends n m t (notes_of n (all_added before)) claim.same (course_ends n g s m before)
 
 pub ordered_notes : (n : ℕ) (g : Ghosts Token) (s t : State) (course : Course g s t) → ends_last (notes_of n (all_added course)) ≡ true
 ordered_notes n g s t course = (course_ends n g s t course).ordered

@@ -19,7 +19,7 @@ use Rattle.rx_engine.specs.Settlements.{mail_left, closed_of, effects_told, Rele
 use Rattle.rx_engine.specs.Openings.{Enters}
 use Rattle.rx_engine.specs.Holdings.{Keeps}
 use Rattle.rx_engine.specs.Sharings.{Connects, ConnectsIf, Subscribes}
-use Rattle.rx_courses.specs.Courses.{IsCommand, is_refused, has_done, has_held, has_used, has_opened, has_put, has_subscribed, has_connected, has_made_hubs, has_checkpointed, Course, begins, commands, takes, gives_up, claims, effects_of, all_effects}
+use Rattle.rx_courses.specs.Courses.{IsCommand, is_refused, has_done, has_held, has_used, has_opened, has_put, has_subscribed, has_connected, has_made_hubs, has_checkpointed, Course, begins, commands, takes, gives_up, effects_of, all_effects}
 use Rattle.rx_courses.specs.Courses.{handed_in, all_handed_in, TagsOnce, words_in, given_to, all_given_to, WordsEndOnce, AreNotesTold, NoNoteIsLost}
 use Rattle.rx_courses.proofs.HubsTellNone.{calm, quiet_hubs}
 use Rattle.rx_engine.proofs.Laws.PlainCalls.{IsPlainCall, left_is, tells}
@@ -123,8 +123,6 @@ course_tagged tag g s t (takes {t = m} name inside by before kept taken) =
     let rest = course_tagged tag g s m before in let same = ap (λ (x : State). words_of tag x.parts.holds.list) taken.same in omega (arith, rest, same)
 course_tagged tag g s t (gives_up {t = m} name by _ before kept given) =
     let rest = course_tagged tag g s m before in let same = ap (λ (x : State). words_of tag x.parts.holds.list) given.same in omega (arith, rest, same)
-course_tagged tag g s t (claims {t = m} name by before kept there claimed) =
-    let rest = course_tagged tag g s m before in let same = ap (λ (x : State). words_of tag x.parts.holds.list) claimed.same in omega (arith, rest, same)
 
 pub tags_once : (g : Ghosts Token) → TagsOnce g
 tags_once g tag s t empty course =
@@ -262,8 +260,6 @@ course_finals word g s t (takes {t = m} name inside by before kept taken) =
     let rest = course_finals word g s m before in let same = ap (λ (x : State). words_in word x.parts) taken.same in omega (arith, rest, same)
 course_finals word g s t (gives_up {t = m} name by _ before kept given) =
     let rest = course_finals word g s m before in let same = ap (λ (x : State). words_in word x.parts) given.same in omega (arith, rest, same)
-course_finals word g s t (claims {t = m} name by before kept there claimed) =
-    let rest = course_finals word g s m before in let same = ap (λ (x : State). words_in word x.parts) claimed.same in omega (arith, rest, same)
 
 pub words_end_once : (g : Ghosts Token) → WordsEndOnce g
 words_end_once g word s t empty course =

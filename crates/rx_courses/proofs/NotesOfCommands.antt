@@ -31,7 +31,7 @@ use Rattle.rx_roles.specs.Roles.{role_of, without}
 use Rattle.rx_roles.specs.Effects.{effects_for, end_told, what_told, role_told, told, after, all_told, after_all, last_of, all_last, released, AllListened}
 use Rattle.rx_roles.proofs.Laws.NodesAfterStep.{first_follows, taken_forces_none}
 use Rattle.rx_roles.proofs.Laws.NodesMade.{IsMaking, made_silent}
-use Rattle.rx_roles.proofs.Laws.OpenedAlone.{accepted_alone}
+use Rattle.rx_roles.proofs.Laws.AcceptedAlone.{accepted_alone}
 use Rattle.rx_pool.specs.declared.search.Share.{Share}
 use Rattle.rx_engine.specs.declared.parts.Parts.{Parts}
 use Rattle.rx_engine.specs.declared.parts.User.{User}

@@ -26,7 +26,7 @@ use Rattle.rx_engine.specs.Openings.{Gives, Enters}
 use Rattle.rx_engine.specs.Sharings.{Connects, ConnectsIf, Subscribes}
 use Rattle.rx_engine.specs.Settlements.{mail_left, closed_of, Settles}
 use Rattle.rx_engine.specs.States.{State, IsPromised}
-use Rattle.rx_courses.specs.Courses.{IsCommand, is_refused, has_done, has_held, has_used, has_opened, has_put, has_subscribed, has_connected, has_made_hubs, has_checkpointed, Course, begins, commands, takes, gives_up, claims, effects_of, all_effects}
+use Rattle.rx_courses.specs.Courses.{IsCommand, is_refused, has_done, has_held, has_used, has_opened, has_put, has_subscribed, has_connected, has_made_hubs, has_checkpointed, Course, begins, commands, takes, gives_up, effects_of, all_effects}
 use Rattle.rx_courses.specs.Serving.{maker}
 use Rattle.rx_courses.specs.Tellings.{those_there, but_releases, line_at, told_there}
 use Rattle.rx_courses.specs.NotesTold.{tells, notes_only, notes_added, value_of}
@@ -271,8 +271,6 @@ module _ (n word : ℕ) (name : LaneName) where
       subst (λ (x : State). AreVoices x.parts.hears.list) (sym take.same) (course_voices g s m before only all)
   course_voices g s t (gives_up {t = m} from by _ before kept give) only all =
       subst (λ (x : State). AreVoices x.parts.hears.list) (sym give.same) (course_voices g s m before only all)
-  course_voices g s t (claims {t = m} from by before kept there claim) only all =
-      subst (λ (x : State). AreVoices x.parts.hears.list) (sym claim.same) (course_voices g s m before only all)
 
   course_heard : (g : Ghosts Token) (s t : State) (course : Course g s t) → AllOpenOnly n word name course → AreVoices s.parts.hears.list →
       heard_there word name (all_effects course) ≡ notes_of n (all_added course)
@@ -287,7 +285,6 @@ module _ (n word : ℕ) (name : LaneName) where
       ∙ sym (notes_of-append n (all_added before) (notes_added m t))
   course_heard g s t (takes {t = m} from inside by before kept take) only all = course_heard g s m before only all
   course_heard g s t (gives_up {t = m} from by _ before kept give) only all = course_heard g s m before only all
-  course_heard g s t (claims {t = m} from by before kept there claim) only all = course_heard g s m before only all
 
 -- the history has them
 course_noted : (g : Ghosts Token) (s t : State) (course : Course g s t) → HasNoCheckpoint course →
@@ -298,7 +295,6 @@ course_noted g s t (commands {t = m} before kept c) none =
     ∙ append_assoc (notes s.book.history) (all_added before) (notes_added m t)
 course_noted g s t (takes {t = m} from inside by before kept take) none = ap (λ (x : State). notes x.book.history) take.same ∙ course_noted g s m before none
 course_noted g s t (gives_up {t = m} from by _ before kept give) none = ap (λ (x : State). notes x.book.history) give.same ∙ course_noted g s m before none
-course_noted g s t (claims {t = m} from by before kept there claim) none = ap (λ (x : State). notes x.book.history) claim.same ∙ course_noted g s m before none
 
 pub tells_each_root : (g : Ghosts Token) → TellsEachRoot g
 tells_each_root g n word name s t empty nobody course honest only = record {

@@ -5,7 +5,7 @@ use Rattle.rx_resource.specs.declared.Resource.{Ghosts}
 use Rattle.rx_resource.specs.declared.token.Token.{Token}
 use Rattle.rx_lanes.specs.declared.names.LaneName.{LaneName}
 use Rattle.rx_lanes.specs.declared.names.Due.{Due}
-use Rattle.rx_lanes.specs.Courses.{LaneCall, putting, freeing, taking, claiming, giving_up, joining, parting, IsLaneCall, ends, is_name, Goes, goes_none, goes_own, goes_other, goes_open, goes_settled, goes_kept}
+use Rattle.rx_lanes.specs.Courses.{LaneCall, putting, freeing, taking, giving_up, joining, parting, IsLaneCall, ends, is_name, Goes, goes_none, goes_own, goes_other, goes_open, goes_settled, goes_kept}
 use Rattle.rx_lanes.specs.Lane.{Lane, Taken, put, freed, is_empty, has_any, first_back, first_front, first_given, first_of_lane, served, may_take, taken}
 use Rattle.rx_lanes.specs.State.{State as LanesState, lane, Gets}
 use Rattle.rx_lanes.proofs.Laws.Courses.{one_at_a_time}
@@ -13,8 +13,8 @@ use Rattle.rx_roles.specs.declared.effect.Effect.{Effect}
 use Rattle.rx_roles.specs.Effects.{is_last, is_release}
 use Rattle.rx_engine.specs.Deliveries.{put_by, PartsIf, Arrives, Delivers, none_delivered, one_delivered}
 use Rattle.rx_engine.specs.States.{State}
-use Rattle.rx_engine.proofs.Laws.EffectsInLanes.{same_name, other_name, some_lane}
-use Rattle.rx_courses.specs.Courses.{Course, begins, commands, takes, gives_up, claims, effects_of}
+use Rattle.rx_engine.proofs.Laws.EffectsInLanes.{same_name, other_name}
+use Rattle.rx_courses.specs.Courses.{Course, begins, commands, takes, gives_up, effects_of}
 use Rattle.rx_courses.specs.Serving.{maker, answered, ends_serving, ServesOneAtATime}
 use Rattle.rx_courses.proofs.MovesOfLanes.{Moves, moves_none, moves_kept, moves_joined, moves_opened, moves_left, Rests, rests_none, rests_kept, rests_settled, Runs, runs_resting, runs_settled}
 use Rattle.rx_courses.proofs.RunsOfCommands.{command_runs}
@@ -124,10 +124,6 @@ course_goes by name g s t (gives_up {t = m} from word undone before kept give) g
       by_lane (Some l) is goes still =
           goes_call by name s.parts.lanes m.parts.lanes t.parts.lanes (giving_up word undone) from l goes is
           (λ same. sym (ap (λ (b : Bool). b && word == by) same) ∙ still) (give.gives_up l is)
-course_goes by name g s t (claims {t = m} from word before kept there claim) goes_on =
-    let found = some_lane (lane m.parts.lanes from) there in
-    goes_call by name s.parts.lanes m.parts.lanes t.parts.lanes (claiming word) from found.0 (course_goes by name g s m before goes_on) found.1 (λ same. refl)
-    (claim.claims found.0 found.1)
 
 pub serves_one_at_a_time : (g : Ghosts Token) → ServesOneAtATime g
 serves_one_at_a_time g s t course by name l found serves goes_on =

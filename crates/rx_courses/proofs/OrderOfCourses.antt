@@ -1,5 +1,5 @@
 -- Of each lane, all but releases is told in the order in which it was put there.
-use Rattle.std.proofs.Common.{◌≡◌, ℕ, ◌&&◌, ◌||◌, not, Bool, true, false, cond, List, [], ◌∷◌, ◌++◌, Option, Some, None, is_some, IsSome, slice_index_or, refl, sym, ap, ◌∙◌, subst, if◌then◌else◌, append_assoc, append-nil}
+use Rattle.std.proofs.Common.{◌≡◌, ℕ, ◌&&◌, ◌||◌, not, Bool, true, false, cond, List, [], ◌∷◌, ◌++◌, Option, Some, None, is_some, slice_index_or, refl, sym, ap, ◌∙◌, subst, if◌then◌else◌, append_assoc, append-nil}
 use Rattle.std.proofs.Common.{ltb as nat_lt}
 use Rattle.std.proofs.lemmas.Bool.{false≢true, and_parts}
 use Rattle.std.specs.Option.{option_to_list}
@@ -8,18 +8,17 @@ use Rattle.rx_resource.specs.declared.token.Token.{Token}
 use Rattle.rx_lanes.specs.declared.names.LaneName.{LaneName}
 use Rattle.rx_lanes.specs.declared.names.Due.{Due}
 use Rattle.rx_lanes.specs.Courses.{is_name, all_but_last}
-use Rattle.rx_lanes.specs.Lane.{Lane, line, listed, kept, serves, is_word, is_empty, is_served, has_any, is_needed, may_take, first_of_lane, served_by, served, taken, given_up, left_by, claimed, is_idle, with_server, put, freed, parted}
+use Rattle.rx_lanes.specs.Lane.{Lane, line, listed, kept, serves, is_word, is_empty, is_served, has_any, is_needed, may_take, first_of_lane, served_by, served, taken, given_up, left_by, put, freed, parted}
 use Rattle.rx_lanes.specs.State.{State as LanesState, Opened, with_turn, lane, Turns}
 use Rattle.rx_roles.specs.declared.effect.Effect.{Effect}
 use Rattle.rx_roles.specs.Effects.{is_last, is_release}
 use Rattle.rx_engine.specs.Deliveries.{Joins, put_by, Delivers, none_delivered, one_delivered}
-use Rattle.rx_engine.specs.Servings.{IsTake, IsGiveUp, IsClaim}
+use Rattle.rx_engine.specs.Servings.{IsTake, IsGiveUp}
 use Rattle.rx_engine.specs.States.{State, IsPromised}
-use Rattle.rx_courses.specs.Courses.{IsCommand, Course, begins, commands, takes, gives_up, claims, effects_of, all_effects}
+use Rattle.rx_courses.specs.Courses.{IsCommand, Course, begins, commands, takes, gives_up, effects_of, all_effects}
 use Rattle.rx_courses.specs.Serving.{maker, answered}
 use Rattle.rx_courses.specs.Tellings.{those_there, but_releases, line_in, line_at, told_there, IsHonest, TellsInOrder}
 use Rattle.rx_engine.proofs.Laws.EffectsInLanes.{same_name, other_name, delivered, arrives_gets}
-use Rattle.rx_engine.proofs.Laws.EffectsInLanes.{some_lane}
 use Rattle.rx_courses.proofs.MovesOfLanes.{Moves, moves_none, moves_kept, moves_joined, moves_opened, moves_left, Rests, rests_none, rests_kept, rests_settled, Runs, runs_resting, runs_settled}
 use Rattle.rx_courses.proofs.RunsOfCommands.{command_runs}
 
@@ -97,12 +96,6 @@ taken_line by inside l = by_leave (may_take by inside l) where
       (same_line (first_of_lane inside l).effect inside (first_of_lane inside l).lane)
       ∙ first_line inside l.returned l.front l.back l.server l.many
   by_leave false = refl
-
-claimed_line : (by : ℕ) (l : Lane Effect) → line (claimed by l) ≡ line l
-claimed_line by l = by_idle (is_idle l) where
-  by_idle : (b : Bool) → line (cond b (with_server (Some by) l) l) ≡ line l
-  by_idle true = refl
-  by_idle false = refl
 
 given_up_line : (by : ℕ) (undone : Option Effect) (l : Lane Effect) → (is_served l ≡ true → l.returned ≡ None) →
     line (given_up by undone l) ≡ (if is_some (left_by by undone l) then option_to_list undone else []) ++ line l
@@ -257,14 +250,6 @@ take_line other s t name inside by answer take = by_lane (lane s.parts.lanes nam
       (sym (kept_line (taken by inside l).lane)))
       ∙ ap (λ (o : Option Effect). (if is_name name other then option_to_list o else []) ++ line_at other t.parts.lanes) (sym (take.result l is))
 
-pub claim_line : (other : LaneName) (s t : State) (name : LaneName) (by : ℕ) (answer : Bool) → IsSome (lane s.parts.lanes name) → IsClaim name by s t answer →
-    line_at other t.parts.lanes ≡ line_at other s.parts.lanes
-claim_line other s t name by answer there claim =
-    let found = some_lane (lane s.parts.lanes name) there in
-    let turns = claim.claims found.0 found.1 in
-    line_kept s.parts.lanes t.parts.lanes name other (ap line_in turns.found ∙ claimed_line by found.0 ∙ sym (ap line_in found.1))
-    (λ n differs. turns.others n (other_name name n differs))
-
 pub give_up_line : (other : LaneName) (s t : State) (name : LaneName) (by : ℕ) (undone : Option Effect) (answer : Option Bool) → IsPromised s →
     IsGiveUp name by undone s t answer →
     line_at other t.parts.lanes ≡ (if (is_name name other && is_some answer) then option_to_list undone else []) ++ line_at other s.parts.lanes
@@ -328,9 +313,6 @@ course_line name g s t (gives_up {t = m} {answer = answer} from by undone before
     subst (λ (n : LaneName). (es : List Effect) × (told_there n before ≡ es ++ e ∷ [])) (same_name from name parts.0) (honest.1 e parts.1 is)))
     (give_up_line name m t from by undone answer kept give))
     ∙ course_line name g s m before honest.0 empty
-course_line name g s t (claims {t = m} {answer = answer} from by before kept there claim) honest empty =
-    ap (λ (zs : List Effect). but_releases (told_there name before ++ zs)) (claim_line name m t from by answer there claim) ∙ course_line name g s m before
-    honest empty
 
 pub tells_in_order : (g : Ghosts Token) → TellsInOrder g
 tells_in_order g name s t empty course honest =

@@ -41,7 +41,7 @@ use Rattle.rx_engine.specs.Openings.{IsLaneFor, Gives, Enters}
 use Rattle.rx_engine.specs.Plain.{IsPlain}
 use Rattle.rx_engine.specs.Puttings.{PutsOwn}
 use Rattle.rx_engine.specs.Rooms.{role_if}
-use Rattle.rx_engine.specs.Servings.{IsTake, IsGiveUp, IsClaim}
+use Rattle.rx_engine.specs.Servings.{IsTake, IsGiveUp}
 use Rattle.rx_engine.specs.Settlements.{mail_left, all_given, closed_of, taken_out, Releases, Settles}
 use Rattle.rx_engine.specs.Sharings.{Connects, Subscribes, IsChosen, limit_for}
 use Rattle.rx_engine.specs.States.{State, IsSeenAs, IsLanesOnly}
@@ -568,23 +568,11 @@ module _ {s t : State} (seen : AreStatesAlike s t) where
       lanes_seen u give.same,
     )
 
-  claim_from : (name : LaneName) (by : ℕ) (u : State) (answer : Bool) → IsClaim name by t u answer → (v : State) × IsClaim name by s v answer × AreStatesAlike v u
-  claim_from name by u answer claim = (
-    with_lanes u,
-    record {
-      result = λ l found. claim.result l (found_there name (Some l) found);
-      claims = λ l found. turns_from seen.parts.lanes name _ (claim.claims l (found_there name (Some l) found));
-      same = refl;
-    },
-    lanes_seen u claim.same,
-  )
-
 follows : (g : Ghosts Token) (s t : State) → AreStatesAlike s t → FollowsAlike g s t
 follows g s t seen = record {
   commands = λ u c. command_from seen g u c;
   takes = λ name inside by u answer take. take_from seen name inside by u answer take;
   gives_up = λ name by undone u answer give. give_up_from seen name by undone u answer give;
-  claims = λ name by u answer claim. claim_from seen name by u answer claim;
 }
 
 pub refused_is_unchanged : (g : Ghosts Token) → RefusedIsUnchanged g

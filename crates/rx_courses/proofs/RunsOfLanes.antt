@@ -8,22 +8,22 @@ use Rattle.rx_event.proofs.Laws.Common.{and_true, and_false}
 use Rattle.rx_slots.specs.Lists.{is_in, take_out}
 use Rattle.rx_lanes.specs.declared.names.LaneName.{LaneName}
 use Rattle.rx_lanes.specs.declared.names.Due.{Due}
-use Rattle.rx_lanes.specs.Courses.{Log, LaneCall, putting, freeing, taking, claiming, giving_up, joining, parting, IsLaneCall, IsHonest as IsHonestCall, logged, with_log, is_name, is_named, is_named_inside, is_true, all_but_last, no_log, settled as log_settled}
+use Rattle.rx_lanes.specs.Courses.{Log, LaneCall, putting, freeing, taking, giving_up, joining, parting, IsLaneCall, IsHonest as IsHonestCall, logged, with_log, is_name, is_named, is_named_inside, is_true, all_but_last, no_log, settled as log_settled}
 use Rattle.rx_lanes.specs.Courses.{Course as LanesCourse, begins as begins_lanes, lane_call, opening, settling, keeping}
 use Rattle.rx_lanes.specs.Lane.{Lane, put, freed, kept, parted, serves, is_served, is_empty, given_up, left_by, has_any, taken, listed}
 use Rattle.rx_lanes.specs.State.{State as LanesState, Opened, lane, opened_at, Turns, KeepsLanes, Gets, due_of, fresh_with, IsPromised as AreLanesPromised}
 use Rattle.rx_roles.specs.declared.effect.Effect.{Effect}
 use Rattle.rx_roles.specs.Effects.{is_last, is_release}
 use Rattle.rx_engine.specs.Deliveries.{put_by, PartsIf, Arrives, Delivers, none_delivered, one_delivered, settled}
-use Rattle.rx_engine.specs.Servings.{IsTake, IsGiveUp, IsClaim}
+use Rattle.rx_engine.specs.Servings.{IsTake, IsGiveUp}
 use Rattle.rx_engine.specs.States.{State, IsPromised}
-use Rattle.rx_courses.specs.Courses.{Course, begins, commands, takes, gives_up, claims, effects_of}
+use Rattle.rx_courses.specs.Courses.{Course, begins, commands, takes, gives_up, effects_of}
 use Rattle.rx_courses.specs.Serving.{maker, answered, gets_any, IsAtOnce, nobody_serves, another_serves, maker_serves, NamesAtOnce, named_there, NothingIsStuck}
 use Rattle.rx_courses.specs.Tellings.{told_there, IsHonest}
 use Rattle.rx_courses.specs.Runs.{LanesRun}
 use Rattle.rx_lanes.proofs.Laws.LaneSteps.{Named}
 use Rattle.rx_lanes.proofs.Laws.Courses.{nothing_stuck, named_at_once}
-use Rattle.rx_engine.proofs.Laws.EffectsInLanes.{same_name, is_itself, other_name, some_lane, delivered, arrives_gets}
+use Rattle.rx_engine.proofs.Laws.EffectsInLanes.{same_name, is_itself, other_name, delivered, arrives_gets}
 use Rattle.rx_courses.proofs.MovesOfLanes.{Moves, moves_none, moves_kept, moves_joined, moves_opened, moves_left, Rests, rests_none, rests_kept, rests_settled, Runs, runs_resting, runs_settled}
 use Rattle.rx_courses.proofs.RunsOfCommands.{command_runs}
 
@@ -485,14 +485,6 @@ ran_give_up told named s t name by undone answer kept_all r give honest = by_lan
       (subst (λ (x : State). Ran (quiet told named) x.parts.lanes) (sym (give.gone is)) r)
   by_lane (Some l) is = by_back l is undone refl (give.gives_up l is)
 
-ran_claim : (told : LaneName → List Effect) (named : LaneName → Bool) (s t : State) (name : LaneName) (by : ℕ) (answer : Bool) →
-    Ran (quiet told named) s.parts.lanes → IsSome (lane s.parts.lanes name) → IsClaim name by s t answer →
-    Ran (quiet told named) t.parts.lanes
-ran_claim told named s t name by answer r there claim =
-    let found = some_lane (lane s.parts.lanes name) there in
-    let turns = claim.claims found.0 found.1 in
-    ran_silent (quiet told named) s.parts.lanes t.parts.lanes (claiming by) name found.0 r found.1 tt turns refl turns.next_turn
-
 -- courses --------------------------------------------------------------------------------------------
 
 -- where a command begins no lane is fresh
@@ -518,9 +510,6 @@ course_fresh g s t (takes {t = m} {answer = answer} from inside by before kept_a
     take_fresh m t from inside by answer take (course_fresh g s m before empty kept_all)
 course_fresh g s t (gives_up {t = m} {answer = answer} from by undone before kept_all give) empty now =
     give_up_fresh m t from by undone answer give (course_fresh g s m before empty kept_all)
-course_fresh g s t (claims {t = m} from by before kept_all there claim) empty now =
-    let found = some_lane (lane m.parts.lanes from) there in
-    turns_fresh m.parts.lanes t.parts.lanes from _ (claim.claims found.0 found.1) (course_fresh g s m before empty kept_all)
 
 abbrev marks_of : {g : Ghosts Token} {s t : State} → Course g s t → Marks
 marks_of course = quiet (λ name. told_there name course) (λ name. named_there name course)
@@ -540,8 +529,6 @@ ran_course g s t (takes {t = m} {answer = answer} from inside by before kept_all
 ran_course g s t (gives_up {t = m} {answer = answer} from by undone before kept_all give) honest empty =
     ran_give_up (λ name. told_there name before) (λ name. named_there name before) m t from by undone answer kept_all
     (ran_course g s m before honest.0 empty) give honest.1
-ran_course g s t (claims {t = m} {answer = answer} from by before kept_all there claim) honest empty =
-    ran_claim (λ name. told_there name before) (λ name. named_there name before) m t from by answer (ran_course g s m before honest empty) there claim
 
 -- the laws -------------------------------------------------------------------------------------------
 

@@ -12,13 +12,13 @@ use Rattle.rx_roles.specs.declared.effect.Effect.{Effect}
 use Rattle.rx_roles.specs.Effects.{is_last, is_release}
 use Rattle.rx_engine.specs.Deliveries.{put_by, Delivers, none_delivered, one_delivered}
 use Rattle.rx_engine.specs.States.{State, IsPromised}
-use Rattle.rx_courses.specs.Courses.{IsCommand, Course, begins, commands, takes, gives_up, claims, effects_of}
+use Rattle.rx_courses.specs.Courses.{IsCommand, Course, begins, commands, takes, gives_up, effects_of}
 use Rattle.rx_courses.specs.Serving.{maker, answered}
 use Rattle.rx_courses.specs.Tellings.{line_in, line_at, counted, goes_there, put_there, taken_there, returned_there, EachIsToldOnce}
 use Rattle.rx_engine.proofs.Laws.EffectsInLanes.{same_name, other_name, delivered, arrives_gets}
 use Rattle.rx_courses.proofs.MovesOfLanes.{Runs, runs_resting, runs_settled}
 use Rattle.rx_courses.proofs.RunsOfCommands.{command_runs}
-use Rattle.rx_courses.proofs.OrderOfCourses.{moves_line, rests_line, take_line, give_up_line, claim_line}
+use Rattle.rx_courses.proofs.OrderOfCourses.{moves_line, rests_line, take_line, give_up_line}
 
 pub counted-append : (test : Effect → Bool) (xs ys : List Effect) → counted test (xs ++ ys) ≡ counted test xs + counted test ys
 counted-append test [] ys = omega arith
@@ -108,9 +108,6 @@ course_counted test name g s t (gives_up {t = m} {answer = answer} from by undon
     let both = counted-append test (if (is_name from name && is_some answer) then option_to_list undone else []) (line_at name m.parts.lanes) in
     let here = counted_if test (is_name from name && is_some answer) (option_to_list undone) in
     omega (arith, rest, one, both, here)
-course_counted test name g s t (claims {t = m} {answer = answer} from by before kept there claim) =
-    let rest = course_counted test name g s m before in
-    let same = ap (counted test) (claim_line name m t from by answer there claim) in omega (arith, rest, same)
 
 pub each_is_told_once : (g : Ghosts Token) → EachIsToldOnce g
 each_is_told_once g test name s t empty course =

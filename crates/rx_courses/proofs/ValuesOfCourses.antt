@@ -13,7 +13,7 @@ use Rattle.rx_roles.specs.Effects.{carries, copies_in, effects_for, what_told, r
 use Rattle.rx_engine.specs.declared.parts.Parts.{Parts}
 use Rattle.rx_engine.specs.Settlements.{mail_left, all_given, closed_of, effects_told, Releases, none_released, one_released, Settles}
 use Rattle.rx_engine.specs.States.{State}
-use Rattle.rx_courses.specs.Courses.{IsCommand, is_refused, has_done, has_held, has_used, has_opened, has_put, has_subscribed, has_connected, has_made_hubs, has_checkpointed, begins, commands, takes, gives_up, claims, effects_of, all_effects}
+use Rattle.rx_courses.specs.Courses.{IsCommand, is_refused, has_done, has_held, has_used, has_opened, has_put, has_subscribed, has_connected, has_made_hubs, has_checkpointed, begins, commands, takes, gives_up, effects_of, all_effects}
 use Rattle.rx_courses.specs.Tellings.{counted}
 use Rattle.rx_courses.specs.NotesTold.{value_of}
 use Rattle.rx_courses.specs.Values.{is_carrying, copies_of, ValuesOnce}
@@ -114,4 +114,3 @@ values_once g x s t (commands {t = m} before kept c) =
     omega (arith, rest, one, both)
 values_once g x s t (takes {t = m} name inside by before kept taken) = values_once g x s m before
 values_once g x s t (gives_up {t = m} name by _ before kept given) = values_once g x s m before
-values_once g x s t (claims {t = m} name by before kept there claimed) = values_once g x s m before

@@ -1,5 +1,5 @@
 -- What commands come to, one after another, and who takes of lanes between them.
-use Rattle.std.specs.Prelude.{◌≡◌, ◌==◌, ℕ, ◌+◌, Bool, true, List, [], ◌∷◌, ◌++◌, length, drop, Option, IsSome, if◌then◌else◌}
+use Rattle.std.specs.Prelude.{◌≡◌, ◌==◌, ℕ, ◌+◌, Bool, true, List, [], ◌∷◌, ◌++◌, length, drop, Option, if◌then◌else◌}
 use Rattle.rx_resource.specs.declared.Resource.{Ghosts}
 use Rattle.rx_resource.specs.declared.token.Token.{Token}
 use Rattle.rx_event.specs.declared.event.Event.TheVariants.{Open}
@@ -12,7 +12,6 @@ use Rattle.rx_book.specs.declared.answer.At.{At}
 use Rattle.rx_book.specs.Requests.{Request, place_of}
 use Rattle.rx_book.specs.State.{State as BookState}
 use Rattle.rx_lanes.specs.declared.names.LaneName.{LaneName}
-use Rattle.rx_lanes.specs.State.{lane}
 use Rattle.rx_pool.specs.declared.search.Share.{Share}
 use Rattle.rx_roles.specs.declared.effect.Effect.{Effect}
 use Rattle.rx_roles.specs.Effects.{tagged, finals, words_of, AllListened}
@@ -27,7 +26,7 @@ use Rattle.rx_engine.specs.Openings.{connects_none, IsOpenDone}
 use Rattle.rx_engine.specs.Holdings.{IsHoldDone}
 use Rattle.rx_engine.specs.Usings.{IsUsingDone}
 use Rattle.rx_engine.specs.Puttings.{own, IsPutDone}
-use Rattle.rx_engine.specs.Servings.{IsTake, IsGiveUp, IsClaim}
+use Rattle.rx_engine.specs.Servings.{IsTake, IsGiveUp}
 use Rattle.rx_engine.specs.Sharings.{IsSubscribeDone, IsConnectDone}
 use Rattle.rx_engine.specs.Hubs.{MakesHubs}
 use Rattle.rx_engine.specs.Checkpoints.{IsCheckpointed}
@@ -58,8 +57,6 @@ pub data Course (g : Ghosts Token) (s : State) : State → Type 0 where
   gives_up : {t u : State} {answer : Option Bool} (name : LaneName) (by : ℕ) (undone : Option Effect) → Course g s t →
       IsPromised t →
       IsGiveUp name by undone t u answer → Course g s u
-  claims : {t u : State} {answer : Bool} (name : LaneName) (by : ℕ) → Course g s t → IsPromised t →
-      IsSome (lane t.parts.lanes name) → IsClaim name by t u answer → Course g s u
 
 -- the effects that a command put into lanes, in order, and those of a course: making hubs puts none, nor does a
 -- checkpoint
@@ -80,7 +77,6 @@ all_effects begins = []
 all_effects (commands before kept command) = all_effects before ++ effects_of command
 all_effects (takes name inside by before kept taken) = all_effects before
 all_effects (gives_up name by _ before kept given) = all_effects before
-all_effects (claims name by before kept there claimed) = all_effects before
 
 -- tags -----------------------------------------------------------------------------------------------
 
@@ -95,7 +91,6 @@ all_handed_in tag begins = 0
 all_handed_in tag (commands before kept command) = all_handed_in tag before + handed_in tag command
 all_handed_in tag (takes name inside by before kept taken) = all_handed_in tag before
 all_handed_in tag (gives_up name by _ before kept given) = all_handed_in tag before
-all_handed_in tag (claims name by before kept there claimed) = all_handed_in tag before
 
 -- tags once: as many releases of a tag were put, or are still to come, as it was handed in
 abbrev pub TagsOnce : Ghosts Token → Type 0
@@ -127,7 +122,6 @@ all_given_to word begins = 0
 all_given_to word (commands before kept command) = all_given_to word before + given_to word command
 all_given_to word (takes name inside by before kept taken) = all_given_to word before
 all_given_to word (gives_up name by _ before kept given) = all_given_to word before
-all_given_to word (claims name by before kept there claimed) = all_given_to word before
 
 -- last effects: for each word as many were put, or are still to come, as roles were given to it
 abbrev pub WordsEndOnce : Ghosts Token → Type 0
@@ -156,7 +150,6 @@ all_closed_for word begins = 0
 all_closed_for word (commands before kept command) = all_closed_for word before + closed_for word command
 all_closed_for word (takes name inside by before kept taken) = all_closed_for word before
 all_closed_for word (gives_up name by _ before kept given) = all_closed_for word before
-all_closed_for word (claims name by before kept there claimed) = all_closed_for word before
 
 -- whether a user wished with this word; how many nodes that did a command opened, and a course
 abbrev pub wish_of : ℕ → User → ℕ
@@ -174,7 +167,6 @@ all_wished_for word begins = 0
 all_wished_for word (commands before kept command) = all_wished_for word before + wished_for word command
 all_wished_for word (takes name inside by before kept taken) = all_wished_for word before
 all_wished_for word (gives_up name by _ before kept given) = all_wished_for word before
-all_wished_for word (claims name by before kept there claimed) = all_wished_for word before
 
 -- closings: for each word, as many stood in an answer, or are still to come, as wishes were made
 abbrev pub ClosingsOnce : Ghosts Token → Type 0

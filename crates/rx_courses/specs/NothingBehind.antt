@@ -8,7 +8,7 @@ use Rattle.rx_roles.specs.declared.effect.What.{What}
 use Rattle.rx_roles.specs.declared.effect.What.TheVariants.{Put}
 use Rattle.rx_roles.specs.Effects.{is_last, finals}
 use Rattle.rx_engine.specs.States.{State}
-use Rattle.rx_courses.specs.Courses.{Course, begins, commands, takes, gives_up, claims, effects_of, all_effects, words_in, given_to, all_given_to}
+use Rattle.rx_courses.specs.Courses.{Course, begins, commands, takes, gives_up, effects_of, all_effects, words_in, given_to, all_given_to}
 
 -- a face put it itself, for no role
 abbrev pub is_own : What → Bool
@@ -35,7 +35,6 @@ AllFindRoles word (commands before kept command) = AllFindRoles word before ×
     command)
 AllFindRoles word (takes name inside by before kept taken) = AllFindRoles word before
 AllFindRoles word (gives_up name by _ before kept given) = AllFindRoles word before
-AllFindRoles word (claims name by before kept there claimed) = AllFindRoles word before
 
 -- so of a word that was given to one role nothing comes behind the last effect
 abbrev pub NothingBehind : Ghosts Token → Type 0

@@ -7,7 +7,7 @@ use Rattle.rx_lanes.specs.State.{KeepsLanes}
 use Rattle.rx_roles.specs.declared.effect.Effect.{Effect}
 use Rattle.rx_engine.specs.declared.parts.Parts.{Parts}
 use Rattle.rx_engine.specs.States.{State, IsSeenAs}
-use Rattle.rx_engine.specs.Servings.{IsTake, IsGiveUp, IsClaim}
+use Rattle.rx_engine.specs.Servings.{IsTake, IsGiveUp}
 use Rattle.rx_courses.specs.Courses.{IsCommand, effects_of}
 
 -- the same but for room
@@ -37,8 +37,6 @@ pub record FollowsAlike (g : Ghosts Token) (s t : State) : Type 0 where
       IsTake name inside by t u answer → (v : State) × IsTake name inside by s v answer × AreStatesAlike v u
   pub gives_up : (name : LaneName) (by : ℕ) (undone : Option Effect) (u : State) (answer : Option Bool) →
       IsGiveUp name by undone t u answer → (v : State) × IsGiveUp name by undone s v answer × AreStatesAlike v u
-  pub claims : (name : LaneName) (by : ℕ) (u : State) (answer : Bool) → IsClaim name by t u answer →
-      (v : State) × IsClaim name by s v answer × AreStatesAlike v u
 
 -- refused is unchanged: a command that is refused leaves a state that is seen as the one before it, and whatever may follow one of these may
 -- follow the other

@@ -18,7 +18,7 @@ use Rattle.rx_roles.specs.declared.effect.What.{What}
 use Rattle.rx_roles.specs.declared.effect.What.TheVariants.{Next, Completed, Failed}
 use Rattle.rx_roles.specs.Effects.{what_told}
 use Rattle.rx_engine.specs.States.{State}
-use Rattle.rx_courses.specs.Courses.{IsCommand, has_used, has_opened, has_subscribed, has_checkpointed, Course, begins, commands, takes, gives_up, claims}
+use Rattle.rx_courses.specs.Courses.{IsCommand, has_used, has_opened, has_subscribed, has_checkpointed, Course, begins, commands, takes, gives_up}
 use Rattle.rx_courses.specs.Tellings.{line_at, told_there, IsHonest}
 use Rattle.rx_courses.specs.NotesTold.{notes_added}
 
@@ -49,7 +49,6 @@ all_added begins = []
 all_added (commands {t = t} {u = u} before kept command) = all_added before ++ notes_added t u
 all_added (takes name inside by before kept taken) = all_added before
 all_added (gives_up name by _ before kept given) = all_added before
-all_added (claims name by before kept there claimed) = all_added before
 
 -- if a root was opened with this number, word and lane, it is this one, or it has another word or another lane
 abbrev pub IsOther : (is_root_there : Bool) → (number own : ℕ) (lane : LaneName) → (n word : ℕ) → LaneName → Type 0
@@ -72,7 +71,6 @@ AllOpenOnly n word name begins = ⊤
 AllOpenOnly n word name (commands before kept command) = AllOpenOnly n word name before × OpensOnly n word name command
 AllOpenOnly n word name (takes from inside by before kept taken) = AllOpenOnly n word name before
 AllOpenOnly n word name (gives_up from by _ before kept given) = AllOpenOnly n word name before
-AllOpenOnly n word name (claims from by before kept there claimed) = AllOpenOnly n word name before
 
 -- and there was no checkpoint, behind which notes count anew
 abbrev pub is_checkpoint : {g : Ghosts Token} {s t : State} → IsCommand g s t → Bool
@@ -84,7 +82,6 @@ HasNoCheckpoint begins = ⊤
 HasNoCheckpoint (commands before kept command) = HasNoCheckpoint before × (is_checkpoint command ≡ false)
 HasNoCheckpoint (takes name inside by before kept taken) = HasNoCheckpoint before
 HasNoCheckpoint (gives_up name by _ before kept given) = HasNoCheckpoint before
-HasNoCheckpoint (claims name by before kept there claimed) = HasNoCheckpoint before
 
 -- no end but as the last
 abbrev pub is_ending : What → Bool

@@ -12,7 +12,7 @@ use Rattle.rx_roles.specs.declared.effect.Effect.{Effect}
 use Rattle.rx_engine.specs.States.{State, IsPromised}
 use Rattle.rx_engine.specs.Servings.{IsTake}
 use Rattle.rx_courses.specs.Courses.{IsCommand, is_refused, has_done, has_held, has_used, has_opened, has_put, has_subscribed, has_connected, has_made_hubs, has_checkpointed}
-use Rattle.rx_courses.specs.Courses.{Course, begins, commands, takes, gives_up, claims, effects_of}
+use Rattle.rx_courses.specs.Courses.{Course, begins, commands, takes, gives_up, effects_of}
 use Rattle.rx_courses.specs.Tellings.{IsHonest}
 
 -- who made a command, where that is known: a checkpoint is nobody's
@@ -67,7 +67,6 @@ ends_serving by name (takes {answer = answer} from inside word before kept taken
     ends_serving by name before || (is_name from name && (word == by && (not inside && not (is_some answer))))
 ends_serving by name (gives_up from word _ before kept given) = ends_serving by name before || (is_name from name &&
     word == by)
-ends_serving by name (claims from word before kept there claimed) = ends_serving by name before
 
 -- this word serves the lane, and no other is given anything of it
 pub record ServesAlone (by : ℕ) (name : LaneName) (t : State) : Type 0 where
@@ -94,7 +93,6 @@ named_there name (takes {answer = answer} from inside by before kept taken) = no
     && named_there name before
 named_there name (gives_up {answer = answer} from by _ before kept given) = named_there name before || (is_name from
     name && is_true answer)
-named_there name (claims from by before kept there claimed) = named_there name before
 
 -- nothing is stuck: a lane that has something, and that nobody serves, was named by an answer
 abbrev pub NothingIsStuck : Ghosts Token → Type 0

@@ -10,7 +10,7 @@ use Rattle.rx_lanes.specs.State.{State as LanesState, lane}
 use Rattle.rx_roles.specs.declared.effect.Effect.{Effect}
 use Rattle.rx_roles.specs.Effects.{is_release}
 use Rattle.rx_engine.specs.States.{State}
-use Rattle.rx_courses.specs.Courses.{Course, begins, commands, takes, gives_up, claims, effects_of, all_effects}
+use Rattle.rx_courses.specs.Courses.{Course, begins, commands, takes, gives_up, effects_of, all_effects}
 
 -- what waits in a lane, and in that of a name, in the order in which it will be taken
 abbrev pub line_in : Option (Lane Effect) → List Effect
@@ -41,7 +41,6 @@ told_there name (takes {answer = answer} from inside by before kept taken) = tol
 told_there name (gives_up {answer = answer} from by undone before kept given) =
     if (is_name from name && (is_some answer && is_some undone)) then all_but_last (told_there name before) else
     told_there name before
-told_there name (claims from by before kept there claimed) = told_there name before
 
 -- who gives something back gives what was told last there
 abbrev pub IsHonest : {g : Ghosts Token} {s t : State} → Course g s t → Type 0
@@ -51,7 +50,6 @@ IsHonest (takes from inside by before kept taken) = IsHonest before
 IsHonest (gives_up {answer = answer} from by undone before kept given) =
     IsHonest before × ((e : Effect) → is_some answer ≡ true → undone ≡ Some e →
     (es : List Effect) × (told_there from before ≡ es ++ e ∷ []))
-IsHonest (claims from by before kept there claimed) = IsHonest before
 
 -- all but releases, which may come before their turn, is told of each lane in the order in which it was put there
 abbrev pub TellsInOrder : Ghosts Token → Type 0
@@ -78,7 +76,6 @@ put_there test name (commands before kept command) = put_there test name before 
     (effects_of command)
 put_there test name (takes from inside by before kept taken) = put_there test name before
 put_there test name (gives_up from by _ before kept given) = put_there test name before
-put_there test name (claims from by before kept there claimed) = put_there test name before
 
 -- how many were taken there
 abbrev pub taken_there : {g : Ghosts Token} {s t : State} → (Effect → Bool) → LaneName → Course g s t → ℕ
@@ -87,7 +84,6 @@ taken_there test name (commands before kept command) = taken_there test name bef
 taken_there test name (takes {answer = answer} from inside by before kept taken) =
     taken_there test name before + (if is_name from name then counted test (option_to_list answer) else 0)
 taken_there test name (gives_up from by _ before kept given) = taken_there test name before
-taken_there test name (claims from by before kept there claimed) = taken_there test name before
 
 -- how many were given back there, by who served it
 abbrev pub returned_there : {g : Ghosts Token} {s t : State} → (Effect → Bool) → LaneName → Course g s t → ℕ
@@ -97,7 +93,6 @@ returned_there test name (takes from inside by before kept taken) = returned_the
 returned_there test name (gives_up {answer = answer} from by undone before kept given) =
     returned_there test name before + (if (is_name from name && is_some answer) then counted test
     (option_to_list undone) else 0)
-returned_there test name (claims from by before kept there claimed) = returned_there test name before
 
 -- each is told once: of each lane, and by whatever test, as many were taken, or wait there, as were put there or
 -- given back

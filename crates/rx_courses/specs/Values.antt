@@ -5,7 +5,7 @@ use Rattle.rx_resource.specs.declared.token.Token.{Token}
 use Rattle.rx_roles.specs.declared.effect.Effect.{Effect}
 use Rattle.rx_roles.specs.Effects.{carries}
 use Rattle.rx_engine.specs.States.{State}
-use Rattle.rx_courses.specs.Courses.{IsCommand, is_refused, has_made_hubs, has_checkpointed, Course, begins, commands, takes, gives_up, claims, all_effects}
+use Rattle.rx_courses.specs.Courses.{IsCommand, is_refused, has_made_hubs, has_checkpointed, Course, begins, commands, takes, gives_up, all_effects}
 use Rattle.rx_courses.specs.Tellings.{counted}
 use Rattle.rx_courses.specs.NotesTold.{value_of}
 
@@ -27,7 +27,6 @@ all_copies_of value (commands before kept command) = all_copies_of value before 
     copies_of command else 0)
 all_copies_of value (takes name inside by before kept taken) = all_copies_of value before
 all_copies_of value (gives_up name by _ before kept given) = all_copies_of value before
-all_copies_of value (claims name by before kept there claimed) = all_copies_of value before
 
 -- values: as many effects that carry a value were put into lanes as the answers of its commands counted
 abbrev pub ValuesOnce : Ghosts Token → Type 0

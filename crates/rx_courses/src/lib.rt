@@ -3,7 +3,7 @@
 //! # Vocabulary
 //!
 //! - A **course** (`Course`, specs/Courses) is what an engine went through: each command with what it came to, each
-//!   taking, giving-up and claim of a lane, one after another. Each call that changes an engine is one of these
+//!   taking and giving-up of a lane, one after another. Each call that changes an engine is one of these
 //!   (`calls_are_commands`).
 //! - **Told** (`told_there`) is what was taken of a lane and not given back; what **waits** there is `line_at`.
 //! - A lane is **named** by the answer of a command that put something there, and by the answer to who gives it up.

@@ -1,4 +1,3 @@
 pub mod EffectsInLanes
 pub mod PlainCalls
 pub mod AcrossCheckpoint
-pub mod ClosingEnds

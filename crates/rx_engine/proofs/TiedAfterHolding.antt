@@ -27,7 +27,7 @@ use Rattle.rx_roles.proofs.Laws.NodesAfterStep.{first_follows, StepMakes, makes_
 use Rattle.rx_pool.specs.declared.search.PooledHub.{PooledHub}
 use Rattle.rx_pool.specs.Moves.{left_all, MayLeaveAll}
 use Rattle.rx_pool.specs.Places.{places_left, AreShared}
-use Rattle.rx_roles.proofs.Laws.OpenedAlone.{accepted_alone}
+use Rattle.rx_roles.proofs.Laws.AcceptedAlone.{accepted_alone}
 use Rattle.rx_engine.specs.declared.parts.Parts.{Parts}
 use Rattle.rx_engine.specs.States.{State, IsTied, hears_in, merges_in}
 use Rattle.rx_engine.specs.Closings.{AreWishes, Closes}

@@ -42,28 +42,6 @@ wishes_closed {h} {k} {ws} {closed} c wishes = record { opens = opens; once = le
       let parts = and_parts (is_some (role_of ws n)) (not (is_among n closed)) (sym (left.there n) ∙ is) in
       by_open n (wishes.opens n parts.0) parts.1 (is_open k n) refl
 
--- a new node comes in, where it wished
-pub wishes_opened : {h k : List Event} {ws : List Role} (user : User) → ((n : ℕ) → is_open h n ≡ true → is_open k n ≡ true) → is_open k (length h) ≡ true →
-    AreWishes h ws → AreWishes k (with_wish ws (length h) user)
-wishes_opened {h} {k} {ws} user stays new wishes = by_wish user.wished where
-  role : Role
-  role = record { number = length h; word = user.word; lane = nowhere }
-
-  free : (b : Bool) → is_some (role_of ws (length h)) ≡ b → b ≡ false
-  free true is = absurd (both_ways (is_open h (length h)) (is_open_past h (length h) (omega arith)) (wishes.opens (length h) is))
-  free false is = refl
-
-  put : AreRolesOf (λ n. is_some (role_of ws n) || (length h == n)) (ws ++ role ∷ [])
-  put = roles_put role (as_roles wishes) (free (is_some (role_of ws (length h))) refl)
-
-  by_part : (n : ℕ) → (is_some (role_of ws n) ≡ true) ⊎ ((length h == n) ≡ true) → is_open k n ≡ true
-  by_part n (inl old) = stays n (wishes.opens n old)
-  by_part n (inr here) = subst (λ (m : ℕ). is_open k m ≡ true) (eqb-true (length h) n here) new
-
-  by_wish : (b : Bool) → AreWishes k (ws ++ role_if b role)
-  by_wish true = record { opens = λ n is. by_part n (or_cases (is_some (role_of ws n)) (length h == n) (sym (put.there n) ∙ is)); once = put.once }
-  by_wish false = subst (AreWishes k) (sym (append-nil ws)) (wishes_same wishes stays)
-
 -- no node from the next on has a wish
 pub none_wished_beyond : {h : List Event} {ws : List Role} → AreWishes h ws → AreBelow ws (length h)
 none_wished_beyond {h} {ws} wishes n l = by_role (role_of ws n) refl where

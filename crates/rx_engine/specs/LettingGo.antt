@@ -1,5 +1,5 @@
 -- Letting go of one thing after another: leases that are out, open roots, hubs that were connected by hand.
-use Rattle.std.specs.Prelude.{◌≡◌, ℕ, ◌+◌, ◌-◌, ◌==◌, ◌&&◌, Bool, length, Some, None, Result, IfErr, OnOk, OnErr, IsTrue}
+use Rattle.std.specs.Prelude.{◌≡◌, ℕ, ◌==◌, ◌&&◌, Bool, Some, None, Result, IfErr, OnOk, OnErr, IsTrue}
 use Rattle.std.specs.List.{find}
 use Rattle.rx_resource.specs.declared.Resource.{Ghosts}
 use Rattle.rx_resource.specs.declared.token.Token.{Token}
@@ -39,10 +39,6 @@ pub record IsNothingLeft (b : BookState) : Type 0 where
   pub none_open : open_count b.history ≡ 0
   pub none_held : held_count b.history ≡ 0
   pub none_out : lease_count b.history ≡ 0
-
--- for how many events a book has room
-abbrev pub room_left : BookState → ℕ
-room_left b = b.base.at_length + b.limit - length b.history
 
 -- done; or refused, where there is nothing to let go of
 pub record IsClosingMade {A : Type 0} (g : Ghosts Token) (by : ℕ) (s t : State) (answer : Result A Refusal) : Type 0 where

@@ -1,7 +1,7 @@
--- Serving a lane: taking of it, giving it up, claiming it. Nothing but lanes changes.
+-- Serving a lane: taking of it and giving it up. Nothing but lanes changes.
 use Rattle.std.specs.Prelude.{◌≡◌, ℕ, Bool, Option, Some, None}
 use Rattle.rx_lanes.specs.declared.names.LaneName.{LaneName}
-use Rattle.rx_lanes.specs.Lane.{Lane, is_idle, claimed, taken, kept, left_by, given_up}
+use Rattle.rx_lanes.specs.Lane.{Lane, taken, kept, left_by, given_up}
 use Rattle.rx_lanes.specs.State.{lane, Turns}
 use Rattle.rx_roles.specs.declared.effect.Effect.{Effect}
 use Rattle.rx_engine.specs.States.{State, IsLanesOnly}
@@ -24,11 +24,4 @@ pub record IsGiveUp (name : LaneName) (by : ℕ) (undone : Option Effect) (s t :
       Turns s.parts.lanes t.parts.lanes name (kept (given_up by undone l))
   pub absent : lane s.parts.lanes name ≡ None → answer ≡ None
   pub gone : lane s.parts.lanes name ≡ None → t ≡ s
-  pub same : IsLanesOnly s t
-
--- a lane with nothing in it, that nobody served, is served
-pub record IsClaim (name : LaneName) (by : ℕ) (s t : State) (answer : Bool) : Type 0 where
-  pub result : (l : Lane Effect) → lane s.parts.lanes name ≡ Some l → answer ≡ is_idle l
-  pub claims : (l : Lane Effect) → lane s.parts.lanes name ≡ Some l →
-      Turns s.parts.lanes t.parts.lanes name (Some (claimed by l))
   pub same : IsLanesOnly s t

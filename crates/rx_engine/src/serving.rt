@@ -1,9 +1,9 @@
 //! Who serves a lane takes the effects that wait there.
 
-ghost use Rattle.std.specs.Prelude.{◌≡◌, ◌<◌, ◌≤◌, IsSome, IfSome, IfNone};
+ghost use Rattle.std.specs.Prelude.{◌≡◌, ◌<◌, ◌≤◌, IfSome, IfNone};
 ghost use Rattle.rx_lanes.specs.declared.names.LaneName.{LaneName};
-ghost use Rattle.rx_lanes.specs.State.{lane, IsLeft};
-ghost use Rattle.rx_engine.specs.Servings.{IsTake, IsGiveUp, IsClaim};
+ghost use Rattle.rx_lanes.specs.State.{IsLeft};
+ghost use Rattle.rx_engine.specs.Servings.{IsTake, IsGiveUp};
 
 use crate::engine::Engine;
 use rx_lanes::{Due, LaneName};
@@ -24,14 +24,6 @@ impl Engine {
         ensures { IsGiveUp name by undone self.old self.new result }
     {
         self.parts.lanes.give_up(name, by, undone)
-    }
-
-    /// Serves a lane with nothing in it, that nobody serves; whether that is so.
-    pub fn claim(&mut self, name: LaneName, by: u64) -> bool
-        requires { IsSome (lane self.old.parts.lanes name) }
-        ensures { IsClaim name by self.old self.new result }
-    {
-        self.parts.lanes.claim(name, by)
     }
 
     /// The lanes that the last command's caller is to serve.

@@ -1,16 +1,11 @@
 -- What an engine promises holds behind a checkpoint: the history and what stands in its place agree.
-use Rattle.std.proofs.Common.{◌≡◌, ℕ, ◌+◌, ◌<◌, ◌≤◌, ◌&&◌, ◌||◌, ◌⊎◌, inl, inr, not, nat_lt, Bool, true, false, List, [], length, slice_get, Some, None, refl, sym, ap, ◌∙◌, arith, if◌then◌else◌}
-use Rattle.std.proofs.lemmas.Bool.{false≢true, le-ltb, ltb-true, ltb-false}
-use Rattle.std.proofs.lemmas.Option.{same_Some}
+use Rattle.std.proofs.Common.{◌≡◌, ℕ, ◌+◌, ◌&&◌, ◌||◌, ◌⊎◌, inl, inr, not, Bool, true, false, List, [], length, slice_get, Some, refl, sym, ap, ◌∙◌}
+use Rattle.std.proofs.lemmas.Bool.{false≢true}
 use Rattle.rx_event.specs.declared.event.Event.{Event}
-use Rattle.rx_event.specs.declared.refusal.Refusal.{Refusal}
-use Rattle.rx_event.specs.declared.refusal.Refusal.TheVariants.{MailLeft, NoMemory, TooMany}
-use Rattle.rx_event.specs.Causes.{most_places, checkpoint_causes}
 use Rattle.rx_event.specs.Events.{makes_resource, is_root, is_merging}
 use Rattle.rx_event.specs.Kept.{Kept, shown}
 use Rattle.rx_event.specs.Lawful.{IsLawful}
 use Rattle.rx_event.specs.Notes.{notes}
-use Rattle.rx_event.specs.Refusals.{IsRefusal}
 use Rattle.rx_event.specs.Resources.{is_held, is_waiting, is_taken}
 use Rattle.rx_event.specs.Tree.{at, is_open}
 use Rattle.rx_event.proofs.Laws.CheckpointMarks.{base_untold}
@@ -83,18 +78,3 @@ tied_checkpointed s b tied was still c = record {
 } where
   alike : Alike s.book.history b.history
   alike = alike_of c.agree
-
--- no note is ever left to be handed out
-pub refused_checkpoint : (h : List Event) (given : ℕ) (why : Refusal) → given ≡ length (notes h) → IsRefusal (checkpoint_causes h given) why →
-    ((most_places < length h) × (why ≡ TooMany)) ⊎ ((length h ≤ most_places) × (why ≡ NoMemory))
-refused_checkpoint h given why all is = shape (nat_lt given (length (notes h))) (nat_lt most_places (length h))
-    (ap (λ (n : ℕ). nat_lt n (length (notes h))) all ∙ le-ltb (length (notes h)) (length (notes h)) (omega arith)) refl is where
-      shape : (a b : Bool) → a ≡ false → nat_lt most_places (length h) ≡ b →
-          ((if a then Some MailLeft else (if b then Some TooMany else None)) ≡ Some why) ⊎
-          (((if a then Some MailLeft else (if b then Some TooMany else None)) ≡ None) × (why ≡ NoMemory)) →
-          ((most_places < length h) × (why ≡ TooMany)) ⊎ ((length h ≤ most_places) × (why ≡ NoMemory))
-      shape true b none past cause = absurd (false≢true (sym none))
-      shape false true none past (inl cause) = inl (ltb-true most_places (length h) past, sym (same_Some TooMany why cause))
-      shape false true none past (inr want) = absurd (cc)
-      shape false false none past (inl cause) = absurd (cc)
-      shape false false none past (inr want) = inr (ltb-false most_places (length h) past, want.1)

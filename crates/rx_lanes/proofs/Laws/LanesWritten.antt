@@ -1,9 +1,9 @@
 -- A store of lanes in which the lane of one name is another.
-use Rattle.std.proofs.Common.{◌≡◌, ◌≢◌, ℕ, List, Some, None, is_some, IsSome, get_or, set, refl, sym, ◌∙◌, ap, length-set}
+use Rattle.std.proofs.Common.{◌≡◌, ◌≢◌, ℕ, List, Some, None, is_some, IsSome, get_or, set, sym, ◌∙◌, ap, length-set}
 use Rattle.std.proofs.Common.{get_or-set_same, get_or-set_other}
 use Rattle.rx_lanes.specs.declared.names.LaneName.{LaneName}
 use Rattle.rx_lanes.specs.Lane.{Lane}
-use Rattle.rx_lanes.specs.State.{State, Becomes, lane, with_turn}
+use Rattle.rx_lanes.specs.State.{State, lane, with_turn}
 use Rattle.rx_lanes.proofs.LaneTurns.{some_below, found_opened, with_turn-own, Puts, others_find}
 
 module _ {E : Type 0} where
@@ -32,12 +32,3 @@ module _ {E : Type 0} where
     pub others_as_before : (l : Lane E) (fresh : List ℕ) (other : LaneName) → other ≢ name → lane (written s name l fresh) other ≡ lane s other
     others_as_before l fresh other apart = others_find {t0 = record { places = s.places; spare = s.spare }}
         {t1 = record { places = (written s name l fresh).places; spare = s.spare }} name was found (Some l) (puts l fresh) other apart
-
-    pub next_written : (l l' : Lane E) (fresh fresh' : List ℕ) → Becomes (written s name l fresh) (written s name l' fresh') name (Some l') fresh'
-    next_written l l' fresh fresh' = record {
-      found = found_here l' fresh';
-      others = λ other apart. others_as_before l' fresh' other apart ∙ sym (others_as_before l fresh other apart);
-      fresh_is = refl;
-      next_turn = refl;
-      due = refl;
-    }

@@ -62,9 +62,6 @@ closed_lasts by hears merges (n ∷ ns) =
     let both = lasts-append (last_of by hears merges n) (all_last by (without hears n) (without merges n) ns) in
     omega (arith, heard, merged, pair, f, g, rest, both)
 
-pub released_lasts : (by : ℕ) (holds : List Role) (n : ℕ) → lasts (released by holds n) + length (without holds n) ≡ length holds
-released_lasts by holds n = let z = for_last by 0 Release refl (role_of holds n) in let f = fewer holds n in omega (arith, z, f)
-
 -- releases, by tag ---------------------------------------------------------------------------------
 
 pub tagged-append : (tag : ℕ) (xs ys : List Effect) → tagged tag (xs ++ ys) ≡ tagged tag xs + tagged tag ys

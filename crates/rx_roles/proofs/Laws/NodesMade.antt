@@ -6,8 +6,8 @@ use Rattle.rx_event.proofs.Laws.Common.{and_parts, both_ways, false≢true, or_c
 use Rattle.rx_event.proofs.Laws.Common.{Kept, at, is_open, makes_node, hub_subscribed, is_auto_hub, is_connect_of, is_subscriber_of, open_subscribers}
 use Rattle.rx_event.proofs.Laws.Common.{open_connections}
 use Rattle.rx_event.proofs.Laws.Common.{MayFollow, IsLawful, IsForcedOn, IsConnected, IsConnectDue, IsSettled, forced, connecting, notes, mail_of}
-use Rattle.rx_event.proofs.Laws.Common.{stops_of, owed, pays}
-use Rattle.rx_event.proofs.Laws.Common.{is_projection_to, count_by, places, is_firing_of}
+use Rattle.rx_event.proofs.Laws.Common.{stops_of}
+use Rattle.rx_event.proofs.Laws.Common.{places, is_firing_of}
 use Rattle.rx_event.specs.declared.event.Event.{Event}
 use Rattle.rx_event.specs.declared.event.Event.TheVariants.{Open, Connect, Close}
 use Rattle.rx_event.specs.declared.event.Kind.TheVariants.{Sub}
@@ -18,12 +18,11 @@ use Rattle.rx_event.proofs.Laws.Calm.{EndsNone, ends_none_on, settled_ends_none,
 use Rattle.rx_event.proofs.Laws.Connections.{last_connection, waited_or_now}
 use Rattle.rx_event.proofs.Laws.Counts.{notes-push}
 use Rattle.rx_event.proofs.Laws.Dues.{IsDueOn, none_more, one_more, IsClosing, by_end, by_close, closing_of, Fails, at_on, kept_on, lawful_on}
-use Rattle.rx_event.proofs.Laws.Dues.{begun_on, owed_on}
+use Rattle.rx_event.proofs.Laws.Dues.{begun_on}
 use Rattle.rx_event.proofs.Laws.Hubs.{one_where_subscribed}
 use Rattle.rx_event.proofs.Laws.Lawful.{IsLawful-push}
 use Rattle.rx_event.proofs.Laws.Lists.{first_passes}
 use Rattle.rx_event.proofs.Laws.Places.{slice_get-append, slice_get_last, at-append, at_within}
-use Rattle.rx_event.proofs.Laws.Projections.{owed-push, owed_kept}
 use Rattle.rx_event.proofs.Laws.StaysOpen.{opened_stays, connected_stays}
 use Rattle.rx_event.proofs.Laws.Waits.{settled_connected}
 use Rattle.rx_roles.specs.Roles.{is_among}
@@ -140,18 +139,6 @@ module _ {base : Kept} {h : List Event} {e : Event} {k : List Event} (w : IsMaki
         let next = forced (connecting d) in
         silent_on base on (IsLawful-push base b (Connect g) law_b next) whole (ends_none_on base b (Connect g) law_b next refl (λ u. refl) ends_none) ∙
         silent_push b (Connect g) refl
-
-  -- what it owed, and what the event pays
-  pub made_owed : (f : ℕ) → owed base k f + cond (pays f e) 1 0 ≡ owed base h f
-  made_owed f =
-      let since : owed base k f ≡ owed base b f = by_begun (begun base law_b w.steps w.settled) in
-      let now = owed-push base h e w.law w.next f in
-      let none : count_by (is_projection_to f) (stops_of h e) ≡ 0 = ap (count_by (is_projection_to f)) (no_stops h e w.node) in
-      omega arith
-    where
-      by_begun : Begun base b k → owed base k f ≡ owed base b f
-      by_begun (at_once whole on) = owed_on base on f
-      by_begun (connects_first {g = g} d whole on) = owed_on base on f ∙ owed_kept base b (Connect g) f refl refl
 
   -- the connection stays open, since its subscriber does
   module _ {g : ℕ} (d : IsConnectDue b g) (on : IsDueOn base (b ++ Connect g ∷ []) k) where
