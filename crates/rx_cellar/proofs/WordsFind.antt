@@ -6,28 +6,28 @@ use Rattle.rx_lanes.specs.declared.names.LaneName.{LaneName}
 use Rattle.rx_lanes.specs.Lane.{Lane}
 use Rattle.rx_lanes.specs.Reports.{name_of}
 use Rattle.rx_lanes.specs.State.{State, Opened, opened_at, with_turn, lane}
-use Rattle.rx_cellar.specs.Words.{word_of, word_for, place_in, is_inside, is_named, named}
+use Rattle.rx_cellar.specs.Words.{all_places, all_turns, inside_bit, word_of, word_for, place_in, is_inside, is_named, named}
 
 same : (a b : ℕ) → a ≡ b → (a == b) ≡ true
 same a b e = grind (arith, nat_tests, e)
 
 -- the numbers alone: t is the turn's part, p the place
-in_word : (t p : ℕ) → t < 17179869184 → p < 536870912 → (t * 536870912 + p) % 536870912 ≡ p
+in_word : (t p : ℕ) → t < all_turns → p < all_places → (t * all_places + p) % all_places ≡ p
 in_word t p h k = omega (arith, h, k)
 
-in_word_inside : (t p : ℕ) → t < 17179869184 → p < 536870912 → (t * 536870912 + p + 9223372036854775808) % 536870912 ≡ p
+in_word_inside : (t p : ℕ) → t < all_turns → p < all_places → (t * all_places + p + inside_bit) % all_places ≡ p
 in_word_inside t p h k = omega (arith, h, k)
 
-whole_word : (t p : ℕ) → t < 17179869184 → p < 536870912 → (t * 536870912 + p) % 9223372036854775808 ≡ t * 536870912 + p
+whole_word : (t p : ℕ) → t < all_turns → p < all_places → (t * all_places + p) % inside_bit ≡ t * all_places + p
 whole_word t p h k = omega (arith, h, k)
 
-whole_word_inside : (t p : ℕ) → t < 17179869184 → p < 536870912 → (t * 536870912 + p + 9223372036854775808) % 9223372036854775808 ≡ t * 536870912 + p
+whole_word_inside : (t p : ℕ) → t < all_turns → p < all_places → (t * all_places + p + inside_bit) % inside_bit ≡ t * all_places + p
 whole_word_inside t p h k = omega (arith, h, k)
 
-turn_below : (t : ℕ) → t % 17179869184 < 17179869184
+turn_below : (t : ℕ) → t % all_turns < all_turns
 turn_below t = omega arith
 
-place_stays : (p : ℕ) → p < 536870912 → p % 536870912 ≡ p
+place_stays : (p : ℕ) → p < all_places → p % all_places ≡ p
 place_stays p h = omega (arith, h)
 
 module _ {E : Type 0} where
@@ -48,20 +48,20 @@ module _ {E : Type 0} where
   pub words_find : (s : State E) (name : LaneName) (l : Lane E) (inside : Bool) → lane s name ≡ Some l → name.place < 2 ^ 29 →
       (named s (word_for name inside) ≡ Some name) × (is_inside (word_for name inside) ≡ inside)
   words_find s name l false found below =
-      let t = name.turn % 17179869184 in
-      let p = name.place % 536870912 in
+      let t = name.turn % all_turns in
+      let p = name.place % all_places in
       let h = turn_below name.turn in
       let stays = place_stays name.place below in
-      let k : p < 536870912 = omega (arith, stays, below) in (
-        found_by s name l (word_of name) found (in_word t p h k ∙ stays) (same (word_of name % 9223372036854775808) (word_of name) (whole_word t p h k)),
+      let k : p < all_places = omega (arith, stays, below) in (
+        found_by s name l (word_of name) found (in_word t p h k ∙ stays) (same (word_of name % inside_bit) (word_of name) (whole_word t p h k)),
         grind (arith, nat_tests, h, k),
       )
   words_find s name l true found below =
-      let t = name.turn % 17179869184 in
-      let p = name.place % 536870912 in
+      let t = name.turn % all_turns in
+      let p = name.place % all_places in
       let h = turn_below name.turn in
       let stays = place_stays name.place below in
-      let k : p < 536870912 = omega (arith, stays, below) in (
-        found_by s name l (word_for name true) found (in_word_inside t p h k ∙ stays) (same (word_for name true % 9223372036854775808) (word_of name) (whole_word_inside t p h k)),
+      let k : p < all_places = omega (arith, stays, below) in (
+        found_by s name l (word_for name true) found (in_word_inside t p h k ∙ stays) (same (word_for name true % inside_bit) (word_of name) (whole_word_inside t p h k)),
         grind (arith, nat_tests, h, k),
       )

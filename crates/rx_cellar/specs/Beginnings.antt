@@ -1,15 +1,16 @@
 -- How an engine begins.
 use Rattle.std.specs.Prelude.{◌≡◌, ℕ, ◌==◌, [], Option, Some, None, if◌then◌else◌}
 use Rattle.rx_event.specs.Kept.{nothing_kept}
-use Rattle.rx_engine.specs.States.{State}
+use Rattle.rx_engine.specs.States.{State, greatest_limit}
 use Rattle.rx_engine.specs.Rooms.{name_count}
+use Rattle.rx_cellar.specs.Cellars.{few_events}
 
 -- the limit on the events of its book, and where it makes a checkpoint first: 0 lets it choose
 abbrev pub limit_of : ℕ → ℕ
-limit_of max_events = if max_events == 0 then 4294967295 else max_events
+limit_of max_events = if max_events == 0 then greatest_limit else max_events
 
 abbrev pub first_until : ℕ → Option ℕ
-first_until max_events = if max_events == 0 then Some 4000 else None
+first_until max_events = if max_events == 0 then Some few_events else None
 
 -- nothing is in it
 pub record IsFresh (limit : ℕ) (s : State) : Type 0 where

@@ -25,9 +25,12 @@ use Rattle.rx_cellar.specs.Words.{word_of_due}
 abbrev pub most : ℕ
 most = 2 ^ 64 - 1
 
--- where the engine chooses: 4,000 events, and four times what is open and held where that is more
+-- where the engine chooses: so many events, and four times what is open and held where that is more
+abbrev pub few_events : ℕ
+few_events = 4000
+
 abbrev pub most_since : State → ℕ
-most_since s = max (min (min (open_count s.book.history + held_count s.book.history) most * 4) most) 4000
+most_since s = max (min (min (open_count s.book.history + held_count s.book.history) most * 4) most) few_events
 
 abbrev pub is_past : (at count : ℕ) → Option ℕ → Bool
 is_past at count None = false

@@ -9,22 +9,32 @@ use Rattle.rx_lanes.specs.Reports.{name_of}
 use Rattle.rx_lanes.specs.Lane.{Lane}
 use Rattle.rx_lanes.specs.State.{State, IsPromised, opened_at, lane}
 
--- of a lane's name: its place, and above it the last 34 bits of its turn
+-- a lane's place is below 2^29, the last bits of its turn are below 2^34, and at the top it says whether the caller is inside
+abbrev pub all_places : ℕ
+all_places = 536870912
+
+abbrev pub all_turns : ℕ
+all_turns = 17179869184
+
+abbrev pub inside_bit : ℕ
+inside_bit = 9223372036854775808
+
+-- of a lane's name: its place, and above it the last bits of its turn
 abbrev pub word_of : LaneName → ℕ
-word_of name = name.turn % 17179869184 * 536870912 + name.place % 536870912
+word_of name = name.turn % all_turns * all_places + name.place % all_places
 
 -- and of one that is due: at the top whether the caller serves it already
 abbrev pub word_of_due : Due → ℕ
-word_of_due due = if due.inside then word_of due.lane + 9223372036854775808 else word_of due.lane
+word_of_due due = if due.inside then word_of due.lane + inside_bit else word_of due.lane
 
 abbrev pub place_in : ℕ → ℕ
-place_in word = word % 536870912
+place_in word = word % all_places
 
 abbrev pub is_inside : ℕ → Bool
-is_inside word = not (nat_lt word 9223372036854775808)
+is_inside word = not (nat_lt word inside_bit)
 
 abbrev pub is_named : ℕ → LaneName → Bool
-is_named word name = word % 9223372036854775808 == word_of name
+is_named word name = word % inside_bit == word_of name
 
 -- what a word names: the lane that stands at its place now, where the turn's last bits are those of the word
 abbrev pub named : {E : Type 0} → State E → ℕ → Option LaneName

@@ -4,18 +4,15 @@ ghost use Rattle.std.specs.Prelude.{◌≡◌};
 ghost use Rattle.rx_cellar.specs.Beginnings.{limit_of, first_until, IsFresh};
 
 use crate::cellar::{Cellar, FEW};
-use rx_engine::Engine;
+use rx_engine::{Engine, GREATEST_LIMIT};
 use std::alloc::Global;
-
-// How many events a history may have where the engine chooses.
-const MANY: u64 = 4_294_967_295;
 
 // The limit on the events of the book.
 fn limit_of(max_events: u32) -> u64
     ensures { result ≡ limit_of max_events }
 {
     if max_events == 0 {
-        MANY
+        GREATEST_LIMIT
     } else {
         max_events as u64
     }

@@ -5,9 +5,10 @@ ghost use Rattle.std.specs.Prelude.{◌≡◌};
 ghost use Rattle.rx_cellar.specs.Words.{word_of, word_of_due, place_in, is_inside, is_named};
 
 use rx_lanes::{Due, LaneName};
+use rx_slots::MOST_SLOTS;
 
 // A place is below this, as the lanes promise.
-const PLACES: u64 = 536_870_912;
+const PLACES: u64 = MOST_SLOTS as u64;
 
 // So many turns differ in their low bits.
 const TURNS: u64 = 17_179_869_184;

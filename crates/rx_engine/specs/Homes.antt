@@ -7,6 +7,7 @@ use Rattle.rx_book.specs.declared.answer.At.{At}
 use Rattle.rx_book.specs.declared.answer.At.TheVariants.{Root, Source, Inner, Notifier}
 use Rattle.rx_book.specs.State.{State as BookState, has_key}
 use Rattle.rx_lanes.specs.declared.names.LaneName.{LaneName}
+use Rattle.rx_pool.specs.Pool.{pool_size}
 use Rattle.rx_roles.specs.declared.roles.Role.{Role}
 use Rattle.rx_roles.specs.Roles.{role_of}
 use Rattle.rx_engine.specs.declared.parts.Parts.{Parts}
@@ -41,9 +42,9 @@ abbrev pub is_housed : BookState → Option LaneOf → Bool
 is_housed b None = true
 is_housed b (Some of) = is_there b of
 
--- the pool of hubs has so many places: no share is kept out of it
+-- each place in the pool of hubs is below it: no share is kept out of one
 abbrev pub no_limit : ℕ
-no_limit = 1024
+no_limit = pool_size
 
 -- before which place in the pool a share has to stand: as below the node above it
 abbrev pub limit_in : List Role → ℕ → ℕ

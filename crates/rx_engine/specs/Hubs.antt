@@ -10,7 +10,7 @@ use Rattle.rx_event.specs.declared.refusal.Refusal.TheVariants.{NoMemory}
 use Rattle.rx_book.specs.State.{State as BookState}
 use Rattle.rx_book.specs.Requests.{hub_request}
 use Rattle.rx_book.specs.Answers.{Accepts, IsCauseOrWant}
-use Rattle.rx_pool.specs.Pool.{new_hub}
+use Rattle.rx_pool.specs.Pool.{pool_size, new_hub}
 use Rattle.rx_engine.specs.declared.parts.Parts.{Parts}
 use Rattle.rx_engine.specs.States.{State, IsSeenAs}
 use Rattle.rx_engine.specs.Settlements.{Settles}
@@ -49,5 +49,5 @@ pub data MakesHubs (g : Ghosts Token) (by : ℕ) (s : State) : State → Type 0 
 -- all are there; or one was refused, and those before it are there
 pub record AreHubsMade {A : Type 0} (g : Ghosts Token) (by : ℕ) (s t : State) (answer : Result A Refusal) : Type 0 where
   pub makes : MakesHubs g by s t
-  pub all : OnOk answer (1024 ≤ length t.parts.shares.hubs)
+  pub all : OnOk answer (pool_size ≤ length t.parts.shares.hubs)
   pub refused : IfErr answer (λ why. (why ≡ NoMemory) ⊎ IsCauseOrWant t.book (hub_request (mode_at (length t.parts.shares.hubs))) why)

@@ -2,7 +2,7 @@
 
 ghost use Rattle.std.specs.Prelude.{◌≡◌, ◌≤◌, []};
 ghost use Rattle.rx_event.specs.Kept.{nothing_kept};
-ghost use Rattle.rx_engine.specs.States.{IsPromised};
+ghost use Rattle.rx_engine.specs.States.{greatest_limit, IsPromised};
 ghost use Rattle.rx_engine.specs.Rooms.{name_count};
 
 use crate::parts::Parts;
@@ -14,6 +14,9 @@ use rx_resource::Token;
 use rx_roles::{Effect, Effects, Roles, What};
 use std::alloc::Global;
 use std::marker::Model;
+
+/// No engine may have more events at a time.
+pub const GREATEST_LIMIT: u64 = 4_294_967_295;
 
 /// An engine.
 #[derive(Drop)]
@@ -35,9 +38,9 @@ impl Model for Engine {
 }
 
 impl Engine {
-    /// With no node, and of at most so many events. It takes no memory.
+    /// With no node, and of at most so many events at a time. It takes no memory.
     pub fn new(alloc: Global, max_events: u64) -> Engine
-        requires { max_events ≤ 4294967295 }
+        requires { max_events ≤ greatest_limit }
         ensures book { result.book ≡ record {
           base = nothing_kept;
           history = [];

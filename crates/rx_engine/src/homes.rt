@@ -10,10 +10,11 @@ ghost use Rattle.rx_engine.specs.Homes.{lane_in, limit_in, lane_of, is_there, wh
 use crate::engine::Engine;
 use rx_book::{At, Key};
 use rx_lanes::LaneName;
+use rx_pool::MOST;
 use rx_roles::Roles;
 
-// So many places the pool of hubs has.
-pub(crate) const NO_LIMIT: u64 = 1024;
+// Each place in the pool of hubs is below it.
+pub(crate) const NO_LIMIT: u64 = MOST as u64;
 
 /// Whose lane.
 #[derive(Clone, Copy)]

@@ -2,6 +2,7 @@
 
 ghost use Rattle.std.specs.Prelude.{◌≡◌, ◌<◌, length, slice_get, Some};
 ghost use Rattle.rx_pool.specs.declared.search.PooledHub.{PooledHub};
+ghost use Rattle.rx_pool.specs.Pool.{pool_size};
 ghost use Rattle.rx_engine.specs.Hubs.{AddsHub, IsHubMade, mode_at, AreHubsMade};
 
 use crate::engine::Engine;
@@ -26,7 +27,7 @@ impl Parts {
     // Adds a hub of the book to the pool.
     fn add_hub(&mut self, number: u64, mode: Mode)
         requires room { 0 < self.old.shares.hub_room }
-        requires few { length self.old.shares.hubs < 1024 }
+        requires few { length self.old.shares.hubs < pool_size }
         requires newest { (i : _) (hub : PooledHub) → slice_get self.old.shares.hubs i ≡ Some hub → hub.number < number }
         ensures adds { AddsHub self.old number mode self.new }
     {
@@ -37,7 +38,7 @@ impl Parts {
 impl Engine {
     // Makes one hub, which stands behind the others of the pool.
     fn make_hub(&mut self, mode: Mode, by: u64) -> Result<(), Refusal>
-        requires { length self.old.parts.shares.hubs < 1024 }
+        requires { length self.old.parts.shares.hubs < pool_size }
         ensures { IsHubMade ⟦<Token as Resource>⟧ mode by self.old self.new result }
     {
         self.book.promise();

@@ -47,7 +47,7 @@ mod telling;
 mod using;
 mod wishes;
 
-pub use engine::Engine;
+pub use engine::{Engine, GREATEST_LIMIT};
 pub use homes::LaneOf;
 pub use parts::{Parts, Used, User};
 pub use sharing::{Connected, Subscribed};

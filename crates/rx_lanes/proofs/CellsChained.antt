@@ -3,7 +3,7 @@ use Rattle.std.proofs.Common.{◌≡◌, ◌≢◌, ℕ, zero, suc, ◌<◌, ◌
 use Rattle.std.proofs.Common.{sym, ◌∙◌, ap, subst, arith, inl, inr, ◌⊎◌, true≢false}
 use Rattle.std.proofs.lemmas.Bool.{cases_eq}
 use Rattle.rx_slots.specs.Lists.{is_in, AreApart}
-use Rattle.rx_lanes.specs.Chains.{no_cell, next_at, LeadsThrough, walk_cells, EndsIn, AreChained}
+use Rattle.rx_lanes.specs.Chains.{most_slots, no_cell, next_at, LeadsThrough, walk_cells, EndsIn, AreChained}
 use Rattle.rx_lanes.proofs.NumbersOnLists.{eq_self, eq_not, few_apart, is_in-last, AreApart-last}
 
 -- a test of two numbers, by cases
@@ -69,7 +69,7 @@ walk_none zero next = refl
 walk_none (suc steps) next = ap (λ b. cond b [] (no_cell ∷ walk_cells steps next (next_at next no_cell))) (eq_self no_cell)
 
 -- a walk finds the cells that are led over
-pub walk_is : (steps : ℕ) (next : List ℕ) (first : ℕ) (xs : List ℕ) → length next ≤ 536870912 → length xs ≤ steps → LeadsThrough next first xs →
+pub walk_is : (steps : ℕ) (next : List ℕ) (first : ℕ) (xs : List ℕ) → length next ≤ most_slots → length xs ≤ steps → LeadsThrough next first xs →
     walk_cells steps next first ≡ xs
 walk_is steps next first [] few fits l = ap (walk_cells steps next) l ∙ walk_none steps next
 walk_is zero next first (x ∷ xs) few fits l = absurd (omega (arith, fits))

@@ -2,7 +2,7 @@
 use Rattle.std.proofs.Common.{◌≡◌, ◌≢◌, ℕ, suc, ◌+◌, ◌^◌, ◌<◌, ◌≤◌, Some, List, [], ◌∷◌, length, refl, sym, ◌∙◌, ap, subst, arith}
 use Rattle.rx_lanes.specs.declared.queues.Ends.{Ends}
 use Rattle.rx_lanes.specs.Reports.{at_most_all}
-use Rattle.rx_lanes.specs.Chains.{no_cell, next_at, ends_at, LeadsThrough, walk_cells, AreCells, read_all}
+use Rattle.rx_lanes.specs.Chains.{most_slots, no_cell, next_at, ends_at, LeadsThrough, walk_cells, AreCells, read_all}
 use Rattle.rx_lanes.proofs.CellsChained.{walk_is, leads_few}
 use Rattle.rx_lanes.proofs.QueuesShown.{queue_of, shows}
 
@@ -73,7 +73,7 @@ walk_steps {next} {cell} {many} many' w some more =
       sum_is = ap (λ n. at_most_all (n + length s.cs)) more ∙ capped (many + 1) (length s.cs) ∙ ap at_most_all (omega arith) ∙ s.sum_is;
     }
 
-pub walk_shorter : {next : List ℕ} {cell many sum : ℕ} → length next ≤ 536870912 → WalksTo next cell many sum → cell ≢ no_cell →
+pub walk_shorter : {next : List ℕ} {cell many sum : ℕ} → length next ≤ most_slots → WalksTo next cell many sum → cell ≢ no_cell →
     to_go next (next_at next cell) < to_go next cell
 walk_shorter {next} {cell} few w some =
     let s = step_of w some in
@@ -82,7 +82,7 @@ walk_shorter {next} {cell} few w some =
     let now = ap length (walk_is (length next) next (next_at next cell) s.cs few (omega (arith, f)) s.leads.2) in
     omega (arith, was, now)
 
-pub walk_ends : {next : List ℕ} {cell many sum : ℕ} → length next ≤ 536870912 → WalksTo next cell many sum → cell ≡ no_cell → many ≡ at_most_all sum
+pub walk_ends : {next : List ℕ} {cell many sum : ℕ} → length next ≤ most_slots → WalksTo next cell many sum → cell ≡ no_cell → many ≡ at_most_all sum
 walk_ends {next} {cell} {many} {sum} few w none = of w.rest w.leads w.sum_is where
   of : (rest : List ℕ) → LeadsThrough next cell rest → at_most_all (many + length rest) ≡ at_most_all sum → many ≡ at_most_all sum
   of [] l s = let small = w.small in omega (arith, small, s)

@@ -5,7 +5,7 @@ ghost use Rattle.std.specs.Option.{option_to_list};
 ghost use Rattle.rx_roles.specs.declared.roles.Role.{Role};
 ghost use Rattle.rx_roles.specs.Roles.{role_of, without, AreBelow};
 ghost use Rattle.rx_pool.specs.declared.search.PooledHub.{PooledHub};
-ghost use Rattle.rx_pool.specs.Pool.{is_used, is_own, new_hub};
+ghost use Rattle.rx_pool.specs.Pool.{pool_size, is_used, is_own, new_hub};
 ghost use Rattle.rx_pool.specs.Choice.{choice, last_before, passes};
 ghost use Rattle.rx_pool.specs.Moves.{left_all};
 ghost use Rattle.rx_pool.specs.Ties.{IsPlain, MayJoin};
@@ -78,7 +78,7 @@ impl Shares {
     /// Adds a hub of the book, as [`Pool::add`] does. It takes no memory.
     pub fn add_hub(&mut self, number: u64, mode: Mode)
         requires room { 0 < self.old.hub_room }
-        requires few { length self.old.hubs < 1024 }
+        requires few { length self.old.hubs < pool_size }
         requires newest { (i : _) (hub : PooledHub) → slice_get self.old.hubs i ≡ Some hub → hub.number < number }
         ensures list { self.new.list ≡ self.old.list }
         ensures hubs { self.new.hubs ≡ self.old.hubs ++ new_hub number mode ∷ [] }
