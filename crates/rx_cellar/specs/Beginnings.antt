@@ -1,7 +1,8 @@
 -- How an engine begins.
 use Rattle.std.specs.Prelude.{◌≡◌, ℕ, ◌==◌, [], Option, Some, None, if◌then◌else◌}
 use Rattle.rx_event.specs.Kept.{nothing_kept}
-use Rattle.rx_engine.specs.States.{State, greatest_limit}
+use Rattle.rx_register.specs.State.{greatest_limit}
+use Rattle.rx_engine.specs.States.{State}
 use Rattle.rx_engine.specs.Rooms.{name_count}
 use Rattle.rx_cellar.specs.Cellars.{few_events}
 

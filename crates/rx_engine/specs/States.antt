@@ -13,10 +13,6 @@ use Rattle.rx_engine.specs.declared.parts.Parts.{Parts}
 use Rattle.rx_engine.specs.Rooms.{IsReady, IsRoomier}
 use Rattle.rx_engine.specs.Closings.{WishState, AreWishes}
 
--- no book may have more events at a time
-abbrev pub greatest_limit : ℕ
-greatest_limit = 4294967295
-
 -- a book, what is kept beside it, and the wishes
 pub record State : Type 0 where
   pub book : BookState

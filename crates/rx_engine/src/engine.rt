@@ -2,7 +2,8 @@
 
 ghost use Rattle.std.specs.Prelude.{◌≡◌, ◌≤◌, []};
 ghost use Rattle.rx_event.specs.Kept.{nothing_kept};
-ghost use Rattle.rx_engine.specs.States.{greatest_limit, IsPromised};
+ghost use Rattle.rx_register.specs.State.{greatest_limit};
+ghost use Rattle.rx_engine.specs.States.{IsPromised};
 ghost use Rattle.rx_engine.specs.Rooms.{name_count};
 
 use crate::parts::Parts;
