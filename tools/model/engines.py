@@ -1,4 +1,4 @@
-"""The programs, and the library, whose answers are compared: each takes a text and gives a status and a text."""
+"""The program, and the library, whose answers are compared: each takes a text and gives a status and a text."""
 from __future__ import annotations
 
 import ctypes
@@ -16,46 +16,46 @@ from . import handle
 DONE, TOO_SMALL, FAULTY_INPUT, SAYS = 0, 1, 3, 5
 
 
-class Programs:
+class Program:
     """A process for each text; its input and output are files in memory."""
 
     answers_cut = True  # a last line that has no newline is answered
 
-    def __init__(self, rxbook: str, rxlive: str, rxexplain: str | None = None, rxpicture: str | None = None):
-        self.rxbook, self.rxlive, self.rxexplain, self.rxpicture = rxbook, rxlive, rxexplain, rxpicture
+    def __init__(self, path: str):
+        self.path = path
         folder = '/dev/shm' if os.path.isdir('/dev/shm') else None
         self.files = [tempfile.TemporaryFile(dir=folder) for _ in range(2)]
         self.input, self.output = (file.fileno() for file in self.files)
 
-    def _ask(self, words: list[str], text: bytes) -> tuple[int, bytes]:
+    def _ask(self, text: bytes, *words: str) -> tuple[int, bytes]:
         for descriptor in (self.input, self.output):
             os.ftruncate(descriptor, 0)
             os.lseek(descriptor, 0, os.SEEK_SET)
         os.write(self.input, text)
         os.lseek(self.input, 0, os.SEEK_SET)
-        child = os.posix_spawn(words[0], words, {}, file_actions=[
+        child = os.posix_spawn(self.path, [self.path, *words], {}, file_actions=[
             (os.POSIX_SPAWN_DUP2, self.input, 0), (os.POSIX_SPAWN_DUP2, self.output, 1), (os.POSIX_SPAWN_OPEN, 2, '/dev/null', os.O_WRONLY, 0)])
         status = os.waitstatus_to_exitcode(os.waitpid(child, 0)[1])
         os.lseek(self.output, 0, os.SEEK_SET)
         return status, os.read(self.output, 1 << 26)
 
     def run(self, text: bytes) -> tuple[int, bytes]:
-        return self._ask([self.rxbook, 'run'], text)
+        return self._ask(text, 'run')
 
     def dump(self, text: bytes) -> tuple[int, bytes]:
-        return self._ask([self.rxbook, 'run', '--dump'], text)
+        return self._ask(text, 'run', '--dump')
 
     def audit(self, text: bytes) -> tuple[int, bytes]:
-        return self._ask([self.rxbook, 'audit'], text)
+        return self._ask(text, 'audit')
 
-    def explain(self, text: bytes) -> tuple[int, bytes] | None:
-        return self._ask([self.rxexplain], text) if self.rxexplain else None
+    def explain(self, text: bytes) -> tuple[int, bytes]:
+        return self._ask(text, 'explain')
 
-    def picture(self, text: bytes) -> tuple[int, bytes] | None:
-        return self._ask([self.rxpicture], text) if self.rxpicture else None
+    def picture(self, text: bytes) -> tuple[int, bytes]:
+        return self._ask(text, 'picture')
 
     def live(self, lines: list[bytes], limit: int | None = None, cut: bytes = b'') -> list[str]:
-        status, text = self._ask([self.rxlive], b''.join(line + b'\n' for line in lines) + cut)
+        status, text = self._ask(b''.join(line + b'\n' for line in lines) + cut, 'live')
         return [*text.decode().splitlines(), *([f'status {status}'] if status else [])]
 
 
@@ -103,7 +103,7 @@ class Library:
         return self._ask('cellar_picture', text)
 
     def explain(self, text: bytes) -> tuple[int, bytes]:
-        """As the program rxexplain has it: 3 and a line where there is something to say."""
+        """As `rxbook explain` has it: 3 and a line where there is something to say."""
         status, told = self._ask('cellar_explain', text)
         return (FAULTY_INPUT, told + b'\n') if status == SAYS else (status, told)
 

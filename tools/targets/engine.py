@@ -128,7 +128,7 @@ class Module:
         return self.text('cellar_picture', text)
 
     def explain(self, text: bytes) -> tuple[int, bytes]:
-        """As the program rxexplain has it: 3 and a line where there is something to say."""
+        """As `rxbook explain` has it: 3 and a line where there is something to say."""
         status, told = self.text('cellar_explain', text)
         return (FAULTY_INPUT, told + b'\n') if status == SAYS else (status, told)
 

@@ -1,4 +1,4 @@
-"""A live book by lines in Python, over the book of fake_book: what the program rxlive does, as far as the tests need it.
+"""A live book by lines in Python, over the book of fake_book: what `rxbook live` does, as far as the tests need it.
 
 A line with a member "slow" is answered so many seconds late; one with "die" ends the program without an answer.
 """

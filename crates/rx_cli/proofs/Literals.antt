@@ -3,7 +3,7 @@ use Rattle.rx_cli.proofs.Common.{◌≡◌, [], ◌∷◌, map, codes, refl, fau
 use Rattle.clap.specs.declared.error.kind.ErrorKind.TheVariants.{ValueValidation}
 use Rattle.rx_dump.specs.declared.judging.Labels.TheVariants.{Numbers, Names}
 use Rattle.rx_script.specs.declared.Form.TheVariants.{Report, Dump, NamedDump}
-use Rattle.rx_cli.specs.declared.request.Order.TheVariants.{Run, Trace, Audit, Storm}
+use Rattle.rx_cli.specs.declared.request.Order.TheVariants.{Run, Trace, Audit, Explain, Picture, Live, Storm}
 use Rattle.rx_cli.specs.Words.{Orders, greatest_storm, storms_beyond, questions, answers, file_words, refusals_of_files}
 
 pub alone : Orders (codes "rxbook" ∷ []) (Run Report)
@@ -44,6 +44,18 @@ with_audit = record { taken = refl; named = refl }
 pub with_audit_names : Orders (codes "rxbook" ∷ codes "audit" ∷ codes "--names" ∷ []) (Audit Names)
 unfolding clap_on_literals
 with_audit_names = record { taken = refl; named = refl }
+
+pub with_explain : Orders (codes "rxbook" ∷ codes "explain" ∷ []) Explain
+unfolding clap_on_literals
+with_explain = record { taken = refl; named = refl }
+
+pub with_picture : Orders (codes "rxbook" ∷ codes "picture" ∷ []) Picture
+unfolding clap_on_literals
+with_picture = record { taken = refl; named = refl }
+
+pub with_live : Orders (codes "rxbook" ∷ codes "live" ∷ []) Live
+unfolding clap_on_literals
+with_live = record { taken = refl; named = refl }
 
 pub with_storm : Orders (codes "rxbook" ∷ codes "storm" ∷ []) (Storm 4 3 100)
 unfolding clap_on_literals

@@ -20,7 +20,9 @@ use Rattle.rx_trace.specs.Running.{IsTraced}
 use Rattle.rx_storm.specs.declared.StormFault.{StormFault}
 use Rattle.rx_storm.specs.declared.StormFault.TheVariants.{Memory as NoMemory, Thread as NoThread, Write as NoWrite}
 use Rattle.rx_storm.specs.Storms.{Tells as TellsFigures, TellsFront}
-use Rattle.rx_cli.specs.Status.{line_of, status_of, audit_status_of, storm_status_of, storm_line_of}
+use Rattle.rx_cli.specs.Explained.{Says}
+use Rattle.rx_cli.specs.Pictured.{Draws, GivesNothingToDraw}
+use Rattle.rx_cli.specs.Status.{line_of, status_of, audit_status_of, said_status_of, storm_status_of, storm_line_of}
 use Rattle.rx_cli.specs.Told.{Bytes, IsTextWritten}
 
 -- ---- a run
@@ -97,6 +99,43 @@ pub record TellsAudit {E : Type 0} (contents : E → Bytes) (errors errors' : Wa
     (outcome : Result Bool ScriptError) (status : ℕ) : Type 0 where
   pub says : status ≡ audit_status_of outcome
   pub line : IsTextWritten contents errors errors' (line_of outcome)
+
+-- ---- an explanation
+
+-- the input was read, and a sentence on it is written where it is one that the program does not accept, which the outcome
+-- is where it is Ok; every fault but a write fault comes with nothing written, and none is that the input is faulty
+pub record Explained {I O : Type 0} (remaining : I → Bytes) (contents : O → Bytes)
+    (input input' : Watched I) (output output' : Watched O) (outcome : Result Bool ScriptError) : Type 0 where
+  pub ok : IfOk outcome (λ said. Says said (remaining (device_of input)) (remaining (device_of input'))
+      (contents (device_of output)) (contents (device_of output')))
+  pub unsaid : IfOk outcome (λ said. said ≡ false → output' ≡ output)
+  pub silent : IfErr outcome (λ e. e ≢ Write → output' ≡ output)
+  pub read : IsErrOf outcome Read → HasReadFault input'
+  pub write : IsErrOf outcome Write → HasWriteFault output'
+  pub never : IfErr outcome (λ e. (e ≢ Syntax) × (e ≢ Shape))
+
+-- the status and the line tell this outcome
+pub record TellsSaid {E : Type 0} (contents : E → Bytes) (errors errors' : Watched E)
+    (outcome : Result Bool ScriptError) (status : ℕ) : Type 0 where
+  pub says : status ≡ said_status_of outcome
+  pub line : IsTextWritten contents errors errors' (line_of outcome)
+
+-- ---- a picture
+
+-- the dump, alone or beside names, was read from the input, and the picture of its history is written where the outcome
+-- is Ok, and a front of it with a write fault; every other fault comes for its cause, with nothing written
+pub record Drawn {I O : Type 0} (remaining : I → Bytes) (contents : O → Bytes)
+    (input input' : Watched I) (output output' : Watched O) (outcome : Result (Unit {0}) ScriptError) : Type 0 where
+  pub ok : OnOk outcome (Draws (remaining (device_of input)) (remaining (device_of input'))
+      (Appends (contents (device_of output)) (contents (device_of output'))))
+  pub front : IsErrOf outcome Write → Draws (remaining (device_of input)) (remaining (device_of input'))
+      (AppendsPrefix (contents (device_of output)) (contents (device_of output')))
+  pub silent : IfErr outcome (λ e. e ≢ Write → output' ≡ output)
+  pub read : IsErrOf outcome Read → HasReadFault input'
+  pub write : IsErrOf outcome Write → HasWriteFault output'
+  pub syntax : IsErrOf outcome Syntax → GivesTooMuch (remaining (device_of input)) (remaining (device_of input'))
+      ⊎ GivesNoJson (remaining (device_of input)) (remaining (device_of input'))
+  pub shape : IsErrOf outcome Shape → GivesNothingToDraw (remaining (device_of input)) (remaining (device_of input'))
 
 -- ---- a storm
 

@@ -1,4 +1,4 @@
--- The exit status of a run, an audit or a storm, and the line on standard error that goes with it.
+-- The exit status of each thing that the program does, and the line on standard error that goes with it.
 use Rattle.std.specs.Prelude.{ℕ, Bool, true, false, List, [], codes, Result, Ok, Err}
 use Rattle.rx_device.specs.declared.fault.ScriptError.{ScriptError}
 use Rattle.rx_device.specs.declared.fault.ScriptError.TheVariants.{Read, Write, Syntax, Shape, Memory}
@@ -32,6 +32,12 @@ audit_status_of (Err e) = fault_status e
 abbrev pub line_of : {T : Type 0} → Result T ScriptError → List ℕ
 line_of (Ok x) = []
 line_of (Err e) = fault_line e
+
+-- of an explanation, which answers whether there was something to say
+abbrev pub said_status_of : Result Bool ScriptError → ℕ
+said_status_of (Ok true) = 3
+said_status_of (Ok false) = 0
+said_status_of (Err e) = fault_status e
 
 -- of a storm, which answers whether the threads agree with the book
 abbrev pub storm_status_of : Result Bool StormFault → ℕ

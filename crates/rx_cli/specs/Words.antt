@@ -10,7 +10,7 @@ use Rattle.clap.specs.declared.error.kind.ErrorKind.{ErrorKind}
 use Rattle.clap.specs.declared.error.kind.ErrorKind.TheVariants.{DisplayHelp, DisplayVersion}
 use Rattle.clap.specs.declared.error.kind.ErrorKind.TheVariants.{InvalidSubcommand, UnknownArgument}
 use Rattle.rx_cli.specs.declared.request.Order.{Order}
-use Rattle.rx_cli.specs.declared.request.Order.TheVariants.{Run, Trace, Audit, Storm}
+use Rattle.rx_cli.specs.declared.request.Order.TheVariants.{Run, Trace, Audit, Explain, Picture, Live, Storm}
 use Rattle.rx_dump.specs.declared.judging.Labels.{Labels}
 use Rattle.rx_dump.specs.declared.judging.Labels.TheVariants.{Numbers, Names}
 use Rattle.rx_script.specs.declared.Form.{Form}
@@ -42,15 +42,26 @@ storm_app =
     with_rule (with_rule (with_rule (new_app (codes "storm")) (number_rule (codes "sources") (codes "4") 1 64))
     (number_rule (codes "workers") (codes "3") 1 16)) (number_rule (codes "items") (codes "100") 0 10000)
 
+-- the commands that have no option
+abbrev pub explain_app : App
+explain_app = new_app (codes "explain")
+
+abbrev pub picture_app : App
+picture_app = new_app (codes "picture")
+
+abbrev pub live_app : App
+live_app = new_app (codes "live")
+
 -- a command that tells its version
 abbrev pub with_version : App → App
 with_version a = record a { top = record a.top { has_version = true } }
 
--- the program's command: `rxbook`, which tells its version, with the subcommands `run`, `audit` and `storm`
+-- the program's command: `rxbook`, which tells its version, with its subcommands
 abbrev pub rxbook : App
 rxbook =
-    with_subcommand (with_subcommand (with_subcommand (with_version (new_app (codes "rxbook"))) run_app.top)
-    audit_app.top) storm_app.top
+    with_subcommand (with_subcommand (with_subcommand (with_subcommand (with_subcommand (with_subcommand
+    (with_version (new_app (codes "rxbook"))) run_app.top) audit_app.top) explain_app.top) picture_app.top) live_app.top)
+    storm_app.top
 
 -- the value of a flag says that it is set
 abbrev pub is_set : Option Text → Bool
@@ -90,13 +101,16 @@ storm_by rows =
     Storm (number_by 1 64 (first_of (codes "sources") rows)) (number_by 1 16 (first_of (codes "workers") rows))
     (number_by 0 10000 (first_of (codes "items") rows))
 
--- the order of the subcommand that was matched, with its options: an audit, a storm, or else a run;
--- without one a report
+-- the order of the subcommand that was matched, with its options: of one of these, or else a run; without one a report
 abbrev pub order_of_subcommand : Option (Text × List Row) → Order
 order_of_subcommand None = Run Report
 order_of_subcommand (Some p) =
     if bytes_eq p.0 (codes "audit") then Audit (audit_labels p.1)
-    else (if bytes_eq p.0 (codes "storm") then storm_by p.1 else run_of p.1)
+    else if bytes_eq p.0 (codes "explain") then Explain
+    else if bytes_eq p.0 (codes "picture") then Picture
+    else if bytes_eq p.0 (codes "live") then Live
+    else if bytes_eq p.0 (codes "storm") then storm_by p.1
+    else run_of p.1
 
 -- the numbers of a storm are those that there may be
 abbrev pub IsInRange : Order → Type 0

@@ -11,14 +11,16 @@
 //!   [`serve`] can say when a stream is at fault.
 //! - A dump is a history in JSON, and a verdict what the audit says of it, both of `rx_dump`, with names or without.
 //! - A storm is of `rx_storm`: threads that emit and threads that release, at one book.
+//! - A live book is of `rx_live`; [`keep`] keeps one over streams: a line in, a line out.
 //! - [`serve`] does what the words order, and answers the exit status:
 //!
 //! | Status | Cause | Line on the error stream |
 //! |---|---|---|
-//! | 0 | a run or a storm is done, the verdict on a dump is lawful, or help or the version was shown | none |
+//! | 0 | a run, a picture, a live book or a storm is done, the verdict on a dump is lawful, an explanation has nothing to say, or help or the version was shown | none |
 //! | 1 | a stream failed, or no thread could be started | `rxbook: read fault`, `rxbook: write fault`, `rxbook: thread fault` |
 //! | 2 | the command line is invalid | the text of `clap` |
 //! | 3 | the input is not a scenario, or not a dump | `rxbook: faulty input` |
+//! | 3 | an explanation says what is wrong with the input | none |
 //! | 4 | memory was refused | `rxbook: out of memory` |
 //! | 5 | the history is unlawful or unsettled | none |
 //! | 5 | the threads of a storm do not agree with the book | `rxbook: mismatch` |
@@ -28,7 +30,7 @@
 //! - The order is the one that `clap` matches in the words, a report where they name no subcommand; it is
 //!   refused only where `clap` refuses the words or memory is. What `clap` matches in the words `rxbook`,
 //!   `rxbook run`, `rxbook run --dump`, `rxbook run --names`, `rxbook run --trace`, `rxbook audit`,
-//!   `rxbook audit --names` and `rxbook storm` is proved too, and what it makes of `--help`, of `--version` and of a file's name
+//!   `rxbook audit --names`, `rxbook explain`, `rxbook picture`, `rxbook live` and `rxbook storm` is proved too, and what it makes of `--help`, of `--version` and of a file's name
 //!   ([`words_have_their_orders`]). The numbers of a storm lie in their ranges.
 //! - Where the words order a run that is done, no call of a stream failed, each write took a byte, and the
 //!   output got the report of a course of the scenario that the input is, with this stock, or the dump of its
@@ -39,6 +41,9 @@
 //!   names, the output got the text of the verdict on its history and nothing else, with the names of its
 //!   numbers where the words ask for them, and the status is 0 where the verdict is `lawful`, and 5 where it is
 //!   `unlawful` or `unsettled`. Faults are as those of a run.
+//! - Where the words order an explanation that ends without a fault, the output got a line on the input exactly where
+//!   it is one that the program does not accept; where they order a picture, the input was a dump, alone or beside
+//!   names, and the output got the picture of its history. What a live book reads and writes is tested alone.
 //! - Where the words order a storm, nothing is read, and what is written are the figures that `rx_storm`
 //!   promises, or a front of them with a write fault, or nothing. That a storm has so many threads and items
 //!   as ordered is tested alone.
@@ -50,6 +55,9 @@
 //!   and the status stays.
 #![tactic(auto)]
 
+mod drawing;
+mod explaining;
+mod lines;
 mod program;
 mod request;
 mod statuses;
@@ -58,6 +66,7 @@ mod usage;
 mod word_laws;
 mod words;
 
+pub use lines::keep;
 pub use program::serve;
 pub use request::Order;
 pub use rx_dump::{Labels, judge};

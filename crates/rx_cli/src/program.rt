@@ -1,5 +1,5 @@
 //! The program over any streams.
-ghost use Rattle.std.specs.Prelude.{◌≡◌, ◌≢◌, ◌≤◌, ◌⊎◌, ℕ, [], Bool, map, vec_len, Result};
+ghost use Rattle.std.specs.Prelude.{◌≡◌, ◌≢◌, ◌≤◌, ◌⊎◌, ℕ, [], Bool, None, IsSomeAnd, map, vec_len, Result};
 ghost use Rattle.std.specs.List.{All};
 ghost use Rattle.clap.specs.Words.{IsAmong, fault_of};
 ghost use Rattle.clap.specs.declared.error.kind.ErrorKind.{ErrorKind};
@@ -12,10 +12,13 @@ ghost use Rattle.rx_cli.specs.declared.request.Order.{Order};
 ghost use Rattle.rx_cli.specs.Words.{rxbook, Orders};
 ghost use Rattle.rx_device.specs.Device.{IsUnasked, KeepsDevice};
 ghost use Rattle.rx_script.specs.Stage.{ware_of};
-ghost use Rattle.rx_cli.specs.Served.{Ran, Traced, TellsOutcome, Audited, TellsAudit, Stormed, TellsStorm, RefusedBy};
+ghost use Rattle.rx_cli.specs.Served.{Ran, Traced, TellsOutcome, Audited, TellsAudit, Explained, TellsSaid, Drawn};
+ghost use Rattle.rx_cli.specs.Served.{Stormed, TellsStorm, LacksMemory, RefusedBy};
 
+use crate::drawing::draw;
+use crate::explaining::say;
 use crate::request::Order;
-use crate::statuses::{ended, judged, out_of_memory, weathered};
+use crate::statuses::{ended, explained, judged, out_of_memory, weathered};
 use crate::usage::refuse;
 use crate::words::order;
 use clap::error::ErrorKind;
@@ -41,23 +44,29 @@ impl Gate for Open {
 }
 
 /// Does what the words order, over these streams and with this stock, and answers the exit status. The
-/// first word is the program's name.
+/// first word is the program's name. None comes where they order a live book: then nothing is done, and [`keep`] keeps it
+/// over streams of its own.
 ///
 /// A run writes to `output` the report of the scenario that `input` has left, or its dump, alone or with its
 /// names, or a front of it where `output` fails, or nothing. An audit writes the verdict on the history of which
 /// `input` has a dump left, alone or beside names, or a front of it, or nothing; it tells the names where the words
-/// ask for them. A storm writes its figures, or a front of them, or nothing, and reads nothing. Neither stream was
-/// used through its watch before.
+/// ask for them. An explanation writes a sentence on an input that the program does not accept, or a front of it, or
+/// nothing. A picture is drawn of the history of which `input` has a dump left, alone or beside names, and is written, or a
+/// front of it, or nothing. A storm writes its figures, or a front of them, or nothing, and reads nothing. Neither stream
+/// was used through its watch before.
 ///
 /// A run's status is 0 where it is done, 1 where a stream failed, 3 where the input is no scenario, 4
 /// where memory was refused. An audit's is 0 where the verdict is lawful and 5 where it is another,
-/// and else as a run's, with 3 where the input is no dump. A storm's is 0 where its threads agree with the
+/// and else as a run's, with 3 where the input is no dump; so is a picture's. An explanation's is 0 where the program
+/// accepts the input and 3 where it does not, and else as a run's. A storm's is 0 where its threads agree with the
 /// book, 5 where they do not, 4 where memory was refused, and else 1 where the output failed or a thread could
 /// not be started. Words that `clap` refuses give 2, and a request for help or for the version 0, or 1 where the
 /// output refuses its text, or 4 where memory is refused for it; then nothing is read. Each status but 0, and 5
-/// of an audit, comes with its line on `errors`; what `errors` refuses is lost, and the status stays.
+/// of an audit, and 3 of an explanation, comes with its line on `errors`; what `errors` refuses is lost, and the status stays.
 ///
 /// A storm may wait for its threads; nothing else does.
+///
+/// [`keep`]: crate::keep
 pub fn serve<T: Threads + Wait + Sync, S: AsStr, R: Resource, I: Read, O: Write, E: Write>(
     rt: &T,
     alloc: Global,
@@ -66,7 +75,7 @@ pub fn serve<T: Threads + Wait + Sync, S: AsStr, R: Resource, I: Read, O: Write,
     input: &mut Watched<'_, I>,
     output: &mut Watched<'_, O>,
     errors: &mut Watched<'_, E>,
-) -> u8
+) -> Option<u8>
     requires input { IsUnasked input.old }
     requires output { IsUnasked output.old }
     requires stock { 64 ≤ vec_len stock }
@@ -77,20 +86,31 @@ pub fn serve<T: Threads + Wait + Sync, S: AsStr, R: Resource, I: Read, O: Write,
         → (outcome : Result (Unit {0}) ScriptError)
         × Ran I.remaining O.contents (map (ware_of R.Resource) stock.items) form
         input.old input.new output.old output.new outcome
-        × TellsOutcome E.contents errors.old errors.new outcome result }
+        × IsSomeAnd result (TellsOutcome E.contents errors.old errors.new outcome) }
     ensures traced { Orders (map S.text words.now) Order.Trace
         → (outcome : Result (Unit {0}) ScriptError)
         × Traced I.remaining O.contents (map (ware_of R.Resource) stock.items)
         input.old input.new output.old output.new outcome
-        × TellsOutcome E.contents errors.old errors.new outcome result }
+        × IsSomeAnd result (TellsOutcome E.contents errors.old errors.new outcome) }
     ensures audited { (labels : Label) → Orders (map S.text words.now) (Order.Audit labels)
         → (outcome : Result Bool ScriptError)
         × Audited I.remaining O.contents labels input.old input.new output.old output.new outcome
-        × TellsAudit E.contents errors.old errors.new outcome result }
+        × IsSomeAnd result (TellsAudit E.contents errors.old errors.new outcome) }
+    ensures explained { Orders (map S.text words.now) Order.Explain
+        → (outcome : Result Bool ScriptError)
+        × Explained I.remaining O.contents input.old input.new output.old output.new outcome
+        × IsSomeAnd result (TellsSaid E.contents errors.old errors.new outcome) }
+    ensures drawn { Orders (map S.text words.now) Order.Picture
+        → (outcome : Result (Unit {0}) ScriptError)
+        × Drawn I.remaining O.contents input.old input.new output.old output.new outcome
+        × IsSomeAnd result (TellsOutcome E.contents errors.old errors.new outcome) }
+    ensures left { Orders (map S.text words.now) Order.Live
+        → (input.new ≡ input.old) × (output.new ≡ output.old) × (((result ≡ None) × (errors.new ≡ errors.old))
+        ⊎ IsSomeAnd result (LacksMemory O.contents E.contents output.old output.new errors.old errors.new)) }
     ensures stormed { (sources workers items : ℕ) → Orders (map S.text words.now) (Order.Storm sources workers items)
         → (outcome : Result Bool StormFault)
         × Stormed O.contents output.old output.new outcome
-        × TellsStorm E.contents errors.old errors.new outcome result }
+        × IsSomeAnd result (TellsStorm E.contents errors.old errors.new outcome) }
     ensures needs_no_input { (sources workers items : ℕ)
         → Orders (map S.text words.now) (Order.Storm sources workers items)
         → input.new ≡ input.old }
@@ -98,7 +118,8 @@ pub fn serve<T: Threads + Wait + Sync, S: AsStr, R: Resource, I: Read, O: Write,
     ensures refused { fault_of rxbook (map S.text words.now) ≢ []
         → (k : ErrorKind)
         × ((k ≡ ErrorKind.OutOfMemory) ⊎ IsAmong k (fault_of rxbook (map S.text words.now)))
-        × RefusedBy O.contents E.contents output.old output.new errors.old errors.new result k }
+        × IsSomeAnd result (λ status.
+        RefusedBy O.contents E.contents output.old output.new errors.old errors.new status k) }
     ensures unread { fault_of rxbook (map S.text words.now) ≢ [] → input.new ≡ input.old }
 
     ensures same_input { KeepsDevice input.old input.new }
@@ -106,9 +127,12 @@ pub fn serve<T: Threads + Wait + Sync, S: AsStr, R: Resource, I: Read, O: Write,
     ensures same_errors { KeepsDevice errors.old errors.new }
 {
     match order(alloc, words) {
-        Ok(Order::Run(form)) => ended(errors, run(alloc, input, output, stock, form)),
-        Ok(Order::Trace) => ended(errors, trace(alloc, input, output, stock)),
-        Ok(Order::Audit(labels)) => judged(errors, judge(alloc, input, output, labels)),
+        Ok(Order::Run(form)) => Some(ended(errors, run(alloc, input, output, stock, form))),
+        Ok(Order::Trace) => Some(ended(errors, trace(alloc, input, output, stock))),
+        Ok(Order::Audit(labels)) => Some(judged(errors, judge(alloc, input, output, labels))),
+        Ok(Order::Explain) => Some(explained(errors, say(alloc, input, output))),
+        Ok(Order::Picture) => Some(ended(errors, draw(alloc, input, output))),
+        Ok(Order::Live) => None,
         Ok(
             Order::Storm {
                 sources,
@@ -117,13 +141,13 @@ pub fn serve<T: Threads + Wait + Sync, S: AsStr, R: Resource, I: Read, O: Write,
             },
         ) => {
             let outcome = storm(rt, alloc, sources, workers, items, stock, &Open, output);
-            weathered(errors, outcome)
+            Some(weathered(errors, outcome))
         }
         Err(error) => {
             if error.kind() == ErrorKind::OutOfMemory {
-                return out_of_memory(errors);
+                return Some(out_of_memory(errors));
             }
-            refuse(alloc, &error, output, errors)
+            Some(refuse(alloc, &error, output, errors))
         }
     }
 }

@@ -13,6 +13,12 @@ pub enum Order {
     /// Read a dump from standard input, alone or beside names, judge its history, and write the verdict with these
     /// labels.
     Audit(Labels),
+    /// Read an input, and write what is wrong with it.
+    Explain,
+    /// Read a dump, alone or beside names, and write the picture of its history.
+    Picture,
+    /// Keep a live book: a line in, a line out.
+    Live,
     /// Run a storm of threads at one book, and write its figures.
     Storm {
         /// How many threads subscribe and emit, 1 to 64.

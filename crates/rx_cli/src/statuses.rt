@@ -1,6 +1,6 @@
 //! The exit statuses, and the lines on standard error that go with them.
 ghost use Rattle.std.specs.Prelude.{◌≡◌, codes};
-ghost use Rattle.rx_cli.specs.Status.{fault_line, fault_status, status_of, audit_status_of, line_of, storm_status_of, storm_line_of};
+ghost use Rattle.rx_cli.specs.Status.{fault_line, fault_status, status_of, audit_status_of, said_status_of, line_of, storm_status_of, storm_line_of};
 ghost use Rattle.rx_device.specs.Device.{KeepsDevice};
 ghost use Rattle.rx_cli.specs.Told.{IsTextWritten};
 
@@ -82,6 +82,20 @@ pub fn judged<E: Write>(errors: &mut Watched<'_, E>, outcome: Result<bool, Scrip
     match outcome {
         Ok(true) => 0,
         Ok(false) => 5,
+        Err(error) => ended(errors, Err(error)),
+    }
+}
+
+/// The exit status of an explanation that ended so: 3 where there was something to say, 0 where there was not. Where it
+/// failed, the status and the line are those of its fault.
+pub fn explained<E: Write>(errors: &mut Watched<'_, E>, outcome: Result<bool, ScriptError>) -> u8
+    ensures status { result ≡ said_status_of outcome }
+    ensures line { IsTextWritten E.contents errors.old errors.new (line_of outcome) }
+    ensures same_errors { KeepsDevice errors.old errors.new }
+{
+    match outcome {
+        Ok(true) => 3,
+        Ok(false) => 0,
         Err(error) => ended(errors, Err(error)),
     }
 }

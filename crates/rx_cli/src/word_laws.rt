@@ -11,8 +11,8 @@ ghost use Rattle.rx_cli.specs.Words.{questions, answers, file_words, refusals_of
 
 /// The program's name alone orders a report, and so it does with the word `run`; with `run --dump` it
 /// orders a dump, with `run --names` and with both flags the dump with its names, with `run --trace`, with or without
-/// `--names`, a trace, and with the word `audit` an audit, which tells names with `audit --names`. With the word
-/// `storm` it orders a storm of 4 sources, 3 workers and 100 items, or of the numbers that its options give; one
+/// `--names`, a trace, and with the word `audit` an audit, which tells names with `audit --names`. The words `explain`,
+/// `picture` and `live` order what they say. With the word `storm` it orders a storm of 4 sources, 3 workers and 100 items, or of the numbers that its options give; one
 /// beyond its range is refused. The words `--help` and `--version` ask for help and for the version, and the name of
 /// a file is refused.
 pub fn words_have_their_orders()
@@ -28,6 +28,9 @@ pub fn words_have_their_orders()
     ensures with_audit { Orders (codes "rxbook" ∷ codes "audit" ∷ []) (Order.Audit Labels.Numbers) }
     ensures with_audit_names { Orders (codes "rxbook" ∷ codes "audit" ∷ codes "--names" ∷ [])
         (Order.Audit Labels.Names) }
+    ensures with_explain { Orders (codes "rxbook" ∷ codes "explain" ∷ []) Order.Explain }
+    ensures with_picture { Orders (codes "rxbook" ∷ codes "picture" ∷ []) Order.Picture }
+    ensures with_live { Orders (codes "rxbook" ∷ codes "live" ∷ []) Order.Live }
     ensures with_storm { Orders (codes "rxbook" ∷ codes "storm" ∷ []) (Order.Storm 4 3 100) }
     ensures with_greatest { Orders greatest_storm (Order.Storm 64 16 10000) }
     ensures beyond { map (fault_of rxbook) storms_beyond ≡ map (λ _. ErrorKind.ValueValidation ∷ []) storms_beyond }

@@ -1,7 +1,7 @@
 //! The reading of the words, by `clap`.
 ghost use Rattle.std.specs.Prelude.{◌≡◌, ◌≤◌, false, map, option_map, codes, IfOk};
 ghost use Rattle.clap.specs.Words.{app_of, new_app, rule_of, subcommand_of, subcommand_rows_of, fault_of, found_of, rows_of, FailsBy};
-ghost use Rattle.rx_cli.specs.Words.{rxbook, run_app, audit_app, storm_app, with_version, flag_rule, number_rule};
+ghost use Rattle.rx_cli.specs.Words.{rxbook, run_app, audit_app, explain_app, picture_app, live_app, storm_app, with_version, flag_rule, number_rule};
 ghost use Rattle.rx_cli.specs.Words.{is_set, form_by, form_of, run_by, run_of, labels_by, audit_labels, number_by};
 ghost use Rattle.rx_cli.specs.Words.{storm_by, order_of_subcommand, IsInRange};
 
@@ -29,25 +29,22 @@ Input is standard input, at most 16777216 bytes; a storm reads nothing. No file 
   rxbook audit < dispose-twice.dump
 
 The exit status is
-  0  success: for an audit, the history is lawful and settled
+  0  success: for an audit, the history is lawful and settled; for explain, nothing is wrong
   1  reading or writing failed, or a thread could not be started
   2  bad command line
-  3  invalid input
+  3  invalid input, of which rxbook explain says what is wrong; so does explain end then
   4  out of memory
   5  the history is unlawful or unsettled, or the threads of a storm disagree with the book
-
-Another program says what is wrong with an input that ends with 3 or 5:
-  rxexplain < FILE
 
 docs/reference has scenarios, reports, histories, verdicts and statuses in full.";
 
 const RUN_NOTES: &str = "\
 A scenario is one JSON object, with its steps, of at most 16777216 bytes; as in
   rxbook run < first-run.json
-  rxbook run --names < first-run.json | rxpicture > first-run.svg
+  rxbook run --names < first-run.json | rxbook picture > first-run.svg
 
 The exit status is 0 on success, 1 if reading or writing failed, 3 if the input is not a scenario
-(rxexplain says why), 4 if out of memory. docs/reference/scenario.md and report.md have it in full.";
+(rxbook explain says why), 4 if out of memory. docs/reference/scenario.md and report.md have it in full.";
 
 const AUDIT_NOTES: &str = "\
 A dump is one JSON array of events, oldest first, of at most 16777216 bytes, or an object that has it beside names, as
@@ -56,7 +53,7 @@ run --names writes; as in
   rxbook run --names < first-run.json | rxbook audit --names
 
 The exit status is 0 if the history is lawful and settled, otherwise 5; 1 if reading or writing failed,
-3 if the input is not a dump (rxexplain says why), 4 if out of memory. docs/reference/history.md and
+3 if the input is not a dump (rxbook explain says why), 4 if out of memory. docs/reference/history.md and
 verdict.md have it in full.";
 
 const STORM_NOTES: &str = "\
@@ -140,6 +137,32 @@ fn audit_command<'a>(alloc: Global) -> Result<Command<'a>, AllocError>
     bare.arg(flag(alloc, "names", help))
 }
 
+// The command `explain`.
+fn explain_command<'a>(alloc: Global) -> Command<'a>
+    ensures { app_of result ≡ explain_app }
+{
+    Command::new(alloc, "explain")
+        .about("Say what is wrong with the scenario or the dump on standard input")
+        .override_usage("rxbook explain < FILE")
+}
+
+// The command `picture`.
+fn picture_command<'a>(alloc: Global) -> Command<'a>
+    ensures { app_of result ≡ picture_app }
+{
+    Command::new(alloc, "picture")
+        .about("Draw the history whose dump is on standard input, as SVG")
+        .override_usage("rxbook picture < FILE > PICTURE.svg")
+}
+
+// The command `live`.
+fn live_command<'a>(alloc: Global) -> Command<'a>
+    ensures { app_of result ≡ live_app }
+{
+    Command::new(alloc, "live")
+        .about("Keep a book for the program at the other ends: a line in, a line out")
+}
+
 // The program's command without its subcommands.
 fn top_command<'a>(alloc: Global) -> Command<'a>
     ensures { app_of result ≡ with_version (new_app (codes "rxbook")) }
@@ -159,6 +182,9 @@ fn program<'a>(alloc: Global) -> Result<Command<'a>, AllocError>
     let command = top_command(alloc).subcommand(run)?;
     let audit = audit_command(alloc)?;
     let command = command.subcommand(audit)?;
+    let command = command.subcommand(explain_command(alloc))?;
+    let command = command.subcommand(picture_command(alloc))?;
+    let command = command.subcommand(live_command(alloc))?;
     let storm = storm_command(alloc)?;
     command.subcommand(storm)
 }
@@ -264,6 +290,9 @@ fn order_in(matches: &ArgMatches<'_>) -> Order
     match matches.subcommand() {
         None => Order::Run(Form::Report),
         Some(("audit", options)) => Order::Audit(labels_in(options)),
+        Some(("explain", _)) => Order::Explain,
+        Some(("picture", _)) => Order::Picture,
+        Some(("live", _)) => Order::Live,
         Some(("storm", options)) => storm_in(options),
         Some((_, options)) => run_in(options),
     }

@@ -5,8 +5,9 @@
 //! names `NAME.named-dump`; where `NAME.no-dump` is there, which is empty, it has none. Of `NAME.dump` the verdict is
 //! `NAME.verdict`, and the picture of its history `NAME.svg`, which is that of `NAME.named-dump` too, with the names.
 //! Of `NAME.named-dump` the verdict is `NAME.verdict`, and with the names `NAME.named-verdict`.
-//! Of `NAME.input` what is said of it, which is faulty, is `NAME.told`. The folders are the current one,
-//! with the examples, and below it `cases`, `histories`, `mistakes` and `pictures`. What is stored and is not
+//! Of `NAME.input` what is said of it, which is faulty, is `NAME.told`. Of `NAME.lines` what a live book answers is
+//! `NAME.answers`. The folders are the current one, with the examples, and below it `cases`, `histories`, `lines`,
+//! `mistakes` and `pictures`. What is stored and is not
 //! written, or differs, is a line with `DIFFERS`.
 //!
 //! Then the program takes each line of the texts in `schemas` that end in `taken.txt`, and refuses each of those that
@@ -28,7 +29,7 @@ use stopped::Stopped;
 
 /// How the name of a file ends in which something is stored, what is asked of the program, and how the name of the
 /// file ends that it is asked of.
-static STORED: [(&str, Asked, &str); 10] = [
+static STORED: [(&str, Asked, &str); 11] = [
     (".report", Asked::Of(Form::Report), ".json"),
     (".dump", Asked::Of(Form::Dump), ".json"),
     (".no-dump", Asked::Of(Form::Dump), ".json"),
@@ -41,6 +42,7 @@ static STORED: [(&str, Asked, &str); 10] = [
         ".named-dump",
     ),
     (".told", Asked::Fault, ".input"),
+    (".answers", Asked::Lines, ".lines"),
     (".svg", Asked::Picture, ".dump"),
     (".svg", Asked::Picture, ".named-dump"),
 ];
@@ -145,7 +147,7 @@ fn list_all<R: Files + AllocGlobal + Clone + Drop>(
     rt: &R,
     paths: &mut Vec<String>,
 ) -> io::Result<()> {
-    for folder in [".", "cases", "histories", "mistakes", "pictures"] {
+    for folder in [".", "cases", "histories", "lines", "mistakes", "pictures"] {
         list(rt, folder, paths)?;
     }
     paths.sort()?;

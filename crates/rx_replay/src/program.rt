@@ -1,5 +1,6 @@
 //! What the program `rxbook` makes of a text.
 
+use rx_cli::keep;
 use rx_device::ShapeError;
 use rx_dump::{Labels, judge};
 use rx_explain::explain;
@@ -19,6 +20,8 @@ pub enum Asked {
     Fault,
     /// The picture of the history of a dump, with the names beside it.
     Picture,
+    /// What a live book answers to lines.
+    Lines,
 }
 
 // Writes what is said of the input, if something is.
@@ -45,6 +48,17 @@ fn push_picture(alloc: Global, input: &[u8], output: &mut Vec<u8>) -> Result<boo
     }
 }
 
+// Writes what a live book answers to the lines.
+fn push_answers(alloc: Global, lines: &[u8], output: &mut Vec<u8>) -> Result<bool, AllocError> {
+    let mut left = lines;
+    let mut said = Vec::new(alloc);
+    match keep(alloc, &mut left, output, &mut Watched::new(&mut said)) {
+        0 => Ok(true),
+        4 => Err(AllocError),
+        _ => Ok(false),
+    }
+}
+
 /// Writes what the program makes of the input, and tells whether the program takes it.
 pub fn answer(
     alloc: Global,
@@ -58,13 +72,16 @@ pub fn answer(
     if matches!(asked, Asked::Picture) {
         return push_picture(alloc, input, output);
     }
+    if matches!(asked, Asked::Lines) {
+        return push_answers(alloc, input, output);
+    }
     let mut left = input;
     let mut reader = Watched::new(&mut left);
     let mut writer = Watched::new(output);
     let fault = match asked {
         Asked::Of(form) => run(alloc, &mut reader, &mut writer, stock(alloc)?, form).err(),
         Asked::Verdict(labels) => judge(alloc, &mut reader, &mut writer, labels).err(),
-        Asked::Fault | Asked::Picture => None,
+        Asked::Fault | Asked::Picture | Asked::Lines => None,
     };
     match fault {
         None => Ok(true),

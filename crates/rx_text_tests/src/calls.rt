@@ -36,6 +36,9 @@ const A_SHARED_LIFE: &str =
 
 const A_SHARED_LIFE_LEFT: &str = "lawful\nlive: 1 2 3 4 8\nheld: 5\nwaiting: 6\n";
 
+// What stands here for the status where a live book is ordered, which is left to another call.
+const LEFT: u8 = 255;
+
 // Does what the words order, with the program's stock.
 fn serve_into<T: Threads + Wait + Sync, R: Read, W: Write, E: Write>(
     rt: &T,
@@ -46,7 +49,7 @@ fn serve_into<T: Threads + Wait + Sync, R: Read, W: Write, E: Write>(
     errors: &mut E,
 ) -> Result<u8, AllocError> {
     let stock = stock(alloc)?;
-    Ok(serve(
+    let status = serve(
         rt,
         alloc,
         words,
@@ -54,7 +57,8 @@ fn serve_into<T: Threads + Wait + Sync, R: Read, W: Write, E: Write>(
         &mut Watched::new(reader),
         &mut Watched::new(output),
         &mut Watched::new(errors),
-    ))
+    );
+    Ok(status.unwrap_or(LEFT))
 }
 
 // How the streams of a call fail.
@@ -178,7 +182,7 @@ const TRACE: &str = "\
 {\"closed\":true,\"release\":[\"q\"]}
 ";
 
-static OUTCOMES: [Row; 27] = [
+static OUTCOMES: [Row; 32] = [
     (&["rxbook"], EMPTY, 0, NOTHING_DONE, ""),
     (&["rxbook", "run"], EMPTY, 0, NOTHING_DONE, ""),
     (&["rxbook", "run", "--dump"], EMPTY, 0, "[]\n", ""),
@@ -228,6 +232,17 @@ static OUTCOMES: [Row; 27] = [
     (&["rxbook", "audit", "--names"], "[7]", 3, "", FAULTY),
     (&["rxbook", "audit"], "[[", 3, "", FAULTY),
     (&["rxbook", "audit"], EMPTY, 3, "", FAULTY),
+    (&["rxbook", "explain"], EMPTY, 0, "", ""),
+    (
+        &["rxbook", "explain"],
+        NOT_CONNECTED,
+        3,
+        "at the end the rules force another event, such as [\"connect\",0]\n",
+        "",
+    ),
+    (&["rxbook", "picture"], "{\"dump\":7}", 3, "", FAULTY),
+    (&["rxbook", "picture"], "[[", 3, "", FAULTY),
+    (&["rxbook", "live"], UNREAD, LEFT, "", ""),
     (
         &["rxbook", "bad"],
         EMPTY,
@@ -343,10 +358,13 @@ Runs scenarios of subscriptions and reports what they did
 Usage: rxbook [COMMAND] < FILE
 
 Commands:
-  run    Run the scenario on standard input (the default)
-  audit  Judge the dump on standard input
-  storm  Run many threads at one book, and compare what they counted with it
-  help   Print this message or the help of the given subcommand(s)
+  run      Run the scenario on standard input (the default)
+  audit    Judge the dump on standard input
+  explain  Say what is wrong with the scenario or the dump on standard input
+  picture  Draw the history whose dump is on standard input, as SVG
+  live     Keep a book for the program at the other ends: a line in, a line out
+  storm    Run many threads at one book, and compare what they counted with it
+  help     Print this message or the help of the given subcommand(s)
 
 Options:
   -h, --help     Print help
@@ -358,15 +376,12 @@ Input is standard input, at most 16777216 bytes; a storm reads nothing. No file 
   rxbook audit < dispose-twice.dump
 
 The exit status is
-  0  success: for an audit, the history is lawful and settled
+  0  success: for an audit, the history is lawful and settled; for explain, nothing is wrong
   1  reading or writing failed, or a thread could not be started
   2  bad command line
-  3  invalid input
+  3  invalid input, of which rxbook explain says what is wrong; so does explain end then
   4  out of memory
   5  the history is unlawful or unsettled, or the threads of a storm disagree with the book
-
-Another program says what is wrong with an input that ends with 3 or 5:
-  rxexplain < FILE
 
 docs/reference has scenarios, reports, histories, verdicts and statuses in full.
 ";
@@ -384,10 +399,10 @@ Options:
 
 A scenario is one JSON object, with its steps, of at most 16777216 bytes; as in
   rxbook run < first-run.json
-  rxbook run --names < first-run.json | rxpicture > first-run.svg
+  rxbook run --names < first-run.json | rxbook picture > first-run.svg
 
 The exit status is 0 on success, 1 if reading or writing failed, 3 if the input is not a scenario
-(rxexplain says why), 4 if out of memory. docs/reference/scenario.md and report.md have it in full.
+(rxbook explain says why), 4 if out of memory. docs/reference/scenario.md and report.md have it in full.
 ";
 
 const AUDIT_HELP: &str = "\
@@ -405,7 +420,7 @@ run --names writes; as in
   rxbook run --names < first-run.json | rxbook audit --names
 
 The exit status is 0 if the history is lawful and settled, otherwise 5; 1 if reading or writing failed,
-3 if the input is not a dump (rxexplain says why), 4 if out of memory. docs/reference/history.md and
+3 if the input is not a dump (rxbook explain says why), 4 if out of memory. docs/reference/history.md and
 verdict.md have it in full.
 ";
 

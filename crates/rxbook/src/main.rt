@@ -1,10 +1,12 @@
 //! The program `rxbook` over the standard streams.
 //!
-//! It gathers the words, makes the stock of resources, and leaves the rest to `rx_cli::serve`.
+//! It gathers the words, makes the stock of resources, and leaves the rest to `rx_cli::serve`, and a live book, whose
+//! answers it buffers, to `rx_cli::keep`.
 #![tactic(auto)]
 
-use rx_cli::{Watched, out_of_memory, refuse_bytes, serve, stock};
+use rx_cli::{Watched, keep, out_of_memory, refuse_bytes, serve, stock};
 use std::env::Env;
+use std::io::BufWriter;
 use std::process::ExitCode;
 use std::{env, io};
 
@@ -31,7 +33,7 @@ fn main(rt: HostRuntime) -> ExitCode {
         return ExitCode::from(out_of_memory(&mut errors));
     };
     let mut output = io::writer(&rt);
-    ExitCode::from(serve(
+    let status = serve(
         &rt,
         alloc,
         words.as_slice(),
@@ -39,5 +41,14 @@ fn main(rt: HostRuntime) -> ExitCode {
         &mut Watched::new(&mut rt.reader()),
         &mut Watched::new(&mut output),
         &mut errors,
-    ))
+    );
+    ExitCode::from(match status {
+        Some(status) => status,
+        None => {
+            let Ok(mut output) = BufWriter::new(alloc, output) else {
+                return ExitCode::from(out_of_memory(&mut errors));
+            };
+            keep(alloc, &mut rt.reader(), &mut output, &mut errors)
+        }
+    })
 }

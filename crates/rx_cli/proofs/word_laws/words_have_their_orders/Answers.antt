@@ -1,5 +1,5 @@
 use Rattle.rx_cli.proofs.Literals.{alone, with_run, with_dump, with_names, with_both, with_trace, with_trace_and_names}
-use Rattle.rx_cli.proofs.Literals.{with_audit, with_audit_names, with_storm, with_greatest, beyond, with_help, with_files}
+use Rattle.rx_cli.proofs.Literals.{with_explain, with_picture, with_live, with_audit, with_audit_names, with_storm, with_greatest, beyond, with_help, with_files}
 use Rattle.rx_cli.proofs.word_laws.words_have_their_orders.Goals as goal
 
 pub returns-clause-alone : goal.returns-clause-alone
@@ -28,6 +28,15 @@ returns-clause-with_audit c = with_audit
 
 pub returns-clause-with_audit_names : goal.returns-clause-with_audit_names
 returns-clause-with_audit_names c = with_audit_names
+
+pub returns-clause-with_explain : goal.returns-clause-with_explain
+returns-clause-with_explain c = with_explain
+
+pub returns-clause-with_picture : goal.returns-clause-with_picture
+returns-clause-with_picture c = with_picture
+
+pub returns-clause-with_live : goal.returns-clause-with_live
+returns-clause-with_live c = with_live
 
 pub returns-clause-with_storm : goal.returns-clause-with_storm
 returns-clause-with_storm c = with_storm

@@ -19,7 +19,13 @@ returns c =
     let run_is = c.in_ok-run.ensures in
     let audit_is = c.in_ok-audit.ensures in
     let storm_is = c.in_ok-storm.ensures in
+    let explain_is = c.explain_command.ensures in
+    let picture_is = c.picture_command.ensures in
+    let live_is = c.live_command.ensures in
     let one = c.in_ok-command.ensures.shape (no_globals _ _ _ _ (plain_is run_is)) ∙ ap₂ with_subcommand c.top_command.ensures (top_is run_is) in
     let two = c.in_ok-command-2.ensures.shape (no_globals _ _ _ _ (plain_is audit_is)) ∙ ap₂ with_subcommand one (top_is audit_is) in
-    IfOk-weaker c.subcommand-3.result _ _
-    (λ r h. h.shape (no_globals _ _ _ _ (plain_is storm_is)) ∙ ap₂ with_subcommand two (top_is storm_is)) c.subcommand-3.ensures
+    let three = c.in_ok-command-3.ensures.shape (no_globals _ _ _ _ (plain_is explain_is)) ∙ ap₂ with_subcommand two (top_is explain_is) in
+    let four = c.in_ok-command-4.ensures.shape (no_globals _ _ _ _ (plain_is picture_is)) ∙ ap₂ with_subcommand three (top_is picture_is) in
+    let five = c.in_ok-command-5.ensures.shape (no_globals _ _ _ _ (plain_is live_is)) ∙ ap₂ with_subcommand four (top_is live_is) in
+    IfOk-weaker c.subcommand-6.result _ _
+    (λ r h. h.shape (no_globals _ _ _ _ (plain_is storm_is)) ∙ ap₂ with_subcommand five (top_is storm_is)) c.subcommand-6.ensures

@@ -1,7 +1,7 @@
 use Rattle.std.proofs.Common.{◌≡◌, suc, ap, length, arith}
 use Rattle.rx_live.specs.Live.{session}
 use Rattle.rx_live.specs.Answers.{to_tell}
-use Rattle.rxlive.proofs.serve.write_notes.Goals as goal
+use Rattle.rx_cli.proofs.lines.write_notes.Goals as goal
 
 pub loop-output-smaller : goal.loop-output-smaller
 loop-output-smaller g c =

@@ -1,7 +1,13 @@
-//! Lines in, lines out.
+//! A live book: lines in, lines out.
+ghost use Rattle.std.specs.Prelude.{Result};
+ghost use Rattle.rx_device.specs.declared.fault.ScriptError.{ScriptError};
+ghost use Rattle.rx_device.specs.Device.{KeepsDevice};
+ghost use Rattle.rx_cli.specs.Served.{TellsOutcome};
 
+use crate::statuses::ended;
 use memchr::memchr;
 use rx_live::{Live, faulty_text};
+use rx_script::{ScriptError, Watched};
 use std::alloc::{AllocError, Global};
 use std::io::{Read, Result as IoResult, Write};
 
@@ -115,7 +121,21 @@ fn answer_all<W: Write>(
     Ok(())
 }
 
-// Answers what one read of the input brings, and flushes it. False at the end of the input.
+// Answers each line that ends in this piece of the input, and flushes the answers.
+fn answer_piece<W: Write>(
+    alloc: Global,
+    live: &mut Live,
+    line: &mut Line,
+    output: &mut W,
+    piece: &[u8],
+) -> Result<(), ScriptError> {
+    if answer_all(alloc, live, line, output, piece).is_err() || output.flush().is_err() {
+        return Err(ScriptError::Write);
+    }
+    Ok(())
+}
+
+// Answers what one read of the input brings. False at the end of the input.
 fn answer_some<R: Read, W: Write>(
     alloc: Global,
     live: &mut Live,
@@ -123,13 +143,14 @@ fn answer_some<R: Read, W: Write>(
     piece: &mut [u8],
     input: &mut R,
     output: &mut W,
-) -> IoResult<bool> {
-    let count = input.read(piece)?;
+) -> Result<bool, ScriptError> {
+    let Ok(count) = input.read(piece) else {
+        return Err(ScriptError::Read);
+    };
     if count == 0 {
         return Ok(false);
     }
-    answer_all(alloc, live, line, output, &piece[..count])?;
-    output.flush()?;
+    answer_piece(alloc, live, line, output, &piece[..count])?;
     Ok(true)
 }
 
@@ -141,7 +162,7 @@ fn answer_input<R: Read, W: Write>(
     piece: &mut [u8],
     input: &mut R,
     output: &mut W,
-) -> IoResult<()> {
+) -> Result<(), ScriptError> {
     for _turn in 0..u64::MAX {
         if !answer_some(alloc, live, line, piece, input, output)? {
             break;
@@ -149,7 +170,9 @@ fn answer_input<R: Read, W: Write>(
     }
     if !line.is_empty() {
         let told = "the input ends before this line does, so it was not carried out";
-        write_faulty(alloc, output, told)?;
+        if write_faulty(alloc, output, told).is_err() {
+            return Err(ScriptError::Write);
+        }
     }
     Ok(())
 }
@@ -196,24 +219,43 @@ fn end<W: Write>(live: &mut Live, output: &mut W) -> IoResult<()> {
     output.flush()
 }
 
-/// Serves a live book: a line in and a line out, and at the end of the input the line that closes it.
-/// Answers the exit status: 0, or 1 where the input or the output failed, or 4 where there was no memory to
-/// begin with. All is closed in every outcome.
-pub fn serve<R: Read, W: Write>(alloc: Global, input: &mut R, output: &mut W) -> u8 {
+// Answers the lines of the input, and at its end, or where a stream fails, closes the book and writes its last line.
+fn serve_lines<R: Read, W: Write>(
+    alloc: Global,
+    input: &mut R,
+    output: &mut W,
+) -> Result<(), ScriptError> {
     let Ok(mut line) = Line::new(alloc) else {
-        return 4;
+        return Err(ScriptError::Memory);
     };
     let Ok(mut piece) = vec![in alloc; 0u8; MOST_BYTES] else {
-        return 4;
+        return Err(ScriptError::Memory);
     };
     let Ok(mut live) = Live::new(alloc, MOST_EVENTS) else {
-        return 4;
+        return Err(ScriptError::Memory);
     };
     let piece = piece.as_mut_slice();
     let served = answer_input(alloc, &mut live, &mut line, piece, input, output);
-    if end(&mut live, output).is_ok() && served.is_ok() {
-        0
-    } else {
-        1
+    let closed = end(&mut live, output);
+    served?;
+    match closed {
+        Ok(()) => Ok(()),
+        Err(_) => Err(ScriptError::Write),
     }
+}
+
+/// Keeps a live book: a line in and a line out, and at the end of the input the line that closes it. All is closed in
+/// every outcome. Answers the exit status: 0, or 1 where the input or the output failed, or 4 where there was no memory to
+/// begin with. Each but 0 has a line, which is written to `errors`; what `errors` refuses is lost.
+pub fn keep<R: Read, W: Write, E: Write>(
+    alloc: Global,
+    input: &mut R,
+    output: &mut W,
+    errors: &mut Watched<'_, E>,
+) -> u8
+    ensures told { (outcome : Result (Unit {0}) ScriptError)
+        × TellsOutcome E.contents errors.old errors.new outcome result }
+    ensures same_errors { KeepsDevice errors.old errors.new }
+{
+    ended(errors, serve_lines(alloc, input, output))
 }

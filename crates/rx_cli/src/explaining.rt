@@ -1,20 +1,14 @@
-//! The program `rxexplain`: what is wrong with the input on standard input, which `rxbook` refuses.
-//!
-//! Its exit status is 0 where there is nothing to say, 3 where there is, 4 where memory was refused, and 1
-//! with any other fault.
-#![tactic(auto)]
+//! What is wrong with an input, which the program refuses.
 
 ghost use Rattle.std.specs.Prelude.{◌≡◌, ◌≢◌, false, IfOk, IfErr, IsErrOf};
 ghost use Rattle.rx_device.specs.declared.fault.ScriptError.{ScriptError};
 ghost use Rattle.rx_device.specs.Device.{device_of, HasReadFault, HasWriteFault, IsUnasked};
-ghost use Rattle.rxexplain.specs.Explained.{IsOn, Says, explaining_status};
+ghost use Rattle.rx_cli.specs.Explained.{IsOn, Says};
 
 use rx_device::{ScriptError, Watched, read_all, write_text};
 use rx_explain::{explain, too_long};
 use std::alloc::Global;
-use std::io;
 use std::io::{Read, Write};
-use std::process::ExitCode;
 
 // What there is to say of the input that the reader has left.
 fn told_of<R: Read>(
@@ -41,7 +35,7 @@ fn told_of<R: Read>(
 
 // Writes what there is to say of the input that the reader has left, as a line, and answers whether there
 // is something. With any fault but one of the writer nothing is written.
-fn serve<R: Read, W: Write>(
+pub fn say<R: Read, W: Write>(
     alloc: Global,
     reader: &mut Watched<'_, R>,
     writer: &mut Watched<'_, W>,
@@ -66,29 +60,4 @@ fn serve<R: Read, W: Write>(
         Ok(()) => Ok(true),
         Err(_) => Err(ScriptError::Write),
     }
-}
-
-// The exit status of what was done.
-fn explaining_status(outcome: &Result<bool, ScriptError>) -> u8
-    ensures { result ≡ explaining_status outcome.now }
-{
-    match outcome {
-        Ok(said) => { if *said { 3 } else { 0 } }
-        Err(ScriptError::Memory) => 4,
-        Err(_) => 1,
-    }
-}
-
-fn main(rt: HostRuntime) -> ExitCode {
-    let mut input = rt.reader();
-    let mut output = io::writer(&rt);
-    let outcome = serve(
-        rt.alloc(),
-        &mut Watched::new(&mut input),
-        &mut Watched::new(&mut output),
-    );
-    if let Err(error) = &outcome {
-        let _ = eprintln!(rt; "rxbook: {error}");
-    }
-    ExitCode::from(explaining_status(&outcome))
 }

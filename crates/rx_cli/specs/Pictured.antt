@@ -1,4 +1,4 @@
--- What the program draws.
+-- What the program draws of an input.
 use Rattle.std.specs.Prelude.{◌≡◌, ℕ, None, Option, List}
 use Rattle.serde_json.specs.Data.{Data}
 use Rattle.rx_device.specs.Input.{GivesJson}

@@ -1,10 +1,4 @@
-//! The program `rxpicture`: the picture of a history, whose dump is on standard input, as an SVG
-//! document. The input may also be an object with the dump as its member `dump`, and with names of
-//! numbers as its member `names`.
-//!
-//! Its exit status is 0 where the picture is written, 1 where a stream failed, 3 where the input has no
-//! dump, and 4 where memory was refused.
-#![tactic(auto)]
+//! The picture of a history.
 
 ghost use Rattle.std.specs.Prelude.{◌≡◌, ◌≢◌, ◌⊎◌, None, IfOk, IfErr, OnOk, IsErrOf, string_bytes};
 ghost use Rattle.std.specs.Io.KnownBytes.{Appends};
@@ -15,16 +9,13 @@ ghost use Rattle.rx_device.specs.Input.{GivesTooMuch, GivesNoJson};
 ghost use Rattle.rx_dump.specs.History.{history_of};
 ghost use Rattle.rx_dump.specs.Names.{dump_in};
 ghost use Rattle.rx_svg.specs.Pictured.{IsPictureOn};
-ghost use Rattle.rxpicture.specs.Pictured.{Draws, GivesNothingToDraw};
-ghost use Rattle.rxpicture.specs.Status.{drawing_status};
+ghost use Rattle.rx_cli.specs.Pictured.{Draws, GivesNothingToDraw};
 
 use rx_device::{ScriptError, ShapeError, Watched, read_value, write_text};
 use rx_svg::picture_of;
 use serde_json::Value;
 use std::alloc::Global;
-use std::io;
 use std::io::{Read, Write};
-use std::process::ExitCode;
 
 // The picture of the history whose dump is in the value, with the names in it.
 fn picture_on(alloc: Global, value: &Value) -> Result<String, ScriptError>
@@ -41,7 +32,7 @@ fn picture_on(alloc: Global, value: &Value) -> Result<String, ScriptError>
 
 // Writes the picture of the history whose dump the reader has left. With any fault but one of the
 // writer nothing is written.
-fn draw<R: Read, W: Write>(
+pub fn draw<R: Read, W: Write>(
     alloc: Global,
     reader: &mut Watched<'_, R>,
     writer: &mut Watched<'_, W>,
@@ -67,30 +58,4 @@ fn draw<R: Read, W: Write>(
         Ok(()) => Ok(()),
         Err(_) => Err(ScriptError::Write),
     }
-}
-
-// The exit status of what was done, as `rxbook` has it.
-fn drawing_status(outcome: &Result<(), ScriptError>) -> u8
-    ensures { result ≡ drawing_status outcome.now }
-{
-    match outcome {
-        Ok(()) => 0,
-        Err(ScriptError::Read | ScriptError::Write) => 1,
-        Err(ScriptError::Syntax | ScriptError::Shape) => 3,
-        Err(ScriptError::Memory) => 4,
-    }
-}
-
-fn main(rt: HostRuntime) -> ExitCode {
-    let mut input = rt.reader();
-    let mut output = io::writer(&rt);
-    let outcome = draw(
-        rt.alloc(),
-        &mut Watched::new(&mut input),
-        &mut Watched::new(&mut output),
-    );
-    if let Err(error) = &outcome {
-        let _ = eprintln!(rt; "rxbook: {error}");
-    }
-    ExitCode::from(drawing_status(&outcome))
 }

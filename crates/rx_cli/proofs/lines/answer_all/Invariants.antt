@@ -1,4 +1,4 @@
-use Rattle.rxlive.proofs.serve.answer_all.Given as goal
+use Rattle.rx_cli.proofs.lines.answer_all.Given as goal
 use Rattle.std.proofs.Common.{length}
 
 abbrev pub decreases-loop-length : goal.decreases-loop-length

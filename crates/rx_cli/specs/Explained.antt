@@ -1,8 +1,6 @@
--- What the program says of its input, and its exit status.
-use Rattle.std.specs.Prelude.{ℕ, ◌⊎◌, Bool, true, false, Option, None, Some, List, ◌++◌, codes, Result, Ok, Err}
+-- What the program says of an input.
+use Rattle.std.specs.Prelude.{ℕ, ◌⊎◌, Bool, true, false, Option, None, Some, List, ◌++◌, codes}
 use Rattle.std.specs.Io.KnownBytes.{Appends}
-use Rattle.rx_device.specs.declared.fault.ScriptError.{ScriptError}
-use Rattle.rx_device.specs.declared.fault.ScriptError.TheVariants.{Memory}
 use Rattle.rx_device.specs.Input.{GivesWhole, GivesTooMuch}
 use Rattle.rx_explain.specs.Accepted.{IsAccepted}
 
@@ -33,14 +31,3 @@ pub record TellsOfInput (given left written written' : Option (List ℕ)) : Type
 abbrev pub Says : (said : Bool) (given left written written' : Option (List ℕ)) → Type 0
 Says false given left written written' = GivesAccepted given left
 Says true given left written written' = TellsOfInput given left written written'
-
--- the exit status: 0 where there was nothing to say, 3 where there was, 4 where memory was refused, and 1 with any
--- other fault
-abbrev pub explaining_fault_status : ScriptError → ℕ
-explaining_fault_status Memory = 4
-explaining_fault_status _ = 1
-
-abbrev pub explaining_status : Result Bool ScriptError → ℕ
-explaining_status (Ok false) = 0
-explaining_status (Ok true) = 3
-explaining_status (Err e) = explaining_fault_status e

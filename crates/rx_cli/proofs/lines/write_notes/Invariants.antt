@@ -3,7 +3,7 @@ use Rattle.rx_live.specs.Live.{session}
 use Rattle.rx_live.specs.Answers.{to_tell}
 use denote.Text.{Utf8}
 use denote.Shadow.{shadow}
-use Rattle.rxlive.proofs.serve.write_notes.Given as goal
+use Rattle.rx_cli.proofs.lines.write_notes.Given as goal
 
 abbrev pub invariant-loop-output : goal.invariant-loop-output
 invariant-loop-output g l = shadow (Utf8 l.lead)

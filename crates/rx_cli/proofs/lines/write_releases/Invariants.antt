@@ -2,7 +2,7 @@ use Rattle.rx_live.specs.Live.{session}
 use Rattle.rx_live.specs.Steps.{names_left}
 use denote.Text.{Utf8}
 use denote.Shadow.{shadow}
-use Rattle.rxlive.proofs.serve.write_releases.Given as goal
+use Rattle.rx_cli.proofs.lines.write_releases.Given as goal
 
 abbrev pub invariant-loop-name : goal.invariant-loop-name
 invariant-loop-name g l = shadow (Utf8 l.lead)

@@ -1,2 +1,0 @@
-pub mod Pictured
-pub mod Status
