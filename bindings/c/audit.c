@@ -2,7 +2,7 @@
 #include <stdio.h>
 #include <stdlib.h>
 
-#include <rx.h>
+#include <cellarcliff.h>
 
 typedef uint8_t call(const uint8_t *, size_t, uint8_t *, size_t, size_t *);
 
@@ -18,10 +18,10 @@ static uint8_t answer(call *made, struct text input, struct text *output) {
   for (;;) {
     size_t told = 0;
     output->bytes = calloc(capacity, 1);
-    if (output->bytes == NULL) return RX_OUT_OF_MEMORY;
+    if (output->bytes == NULL) return CELLAR_TEXT_NO_MEMORY;
     uint8_t status = made(input.bytes, input.length, output->bytes, capacity, &told);
     output->length = told;
-    if (status != RX_TOO_SMALL || told <= capacity) return status;
+    if (status != CELLAR_TEXT_SMALL || told <= capacity) return status;
     free(output->bytes);
     capacity = told;
   }
@@ -38,21 +38,21 @@ static int fail(uint8_t status, const char *why) {
 
 /* Says so by the status of a call. */
 static int fail_by(uint8_t status) {
-  return fail(status, status == RX_FAULTY_INPUT ? "faulty input" : "out of memory");
+  return fail(status, status == CELLAR_TEXT_FAULTY ? "faulty input" : "out of memory");
 }
 
 int main(void) {
   /* One byte more than an input may have, so that one that is too long is seen to be faulty. */
   const size_t most = 16777216 + 1;
   struct text scenario = {calloc(most, 1), 0}, dump, verdict;
-  if (scenario.bytes == NULL) return fail_by(RX_OUT_OF_MEMORY);
+  if (scenario.bytes == NULL) return fail_by(CELLAR_TEXT_NO_MEMORY);
   scenario.length = fread(scenario.bytes, 1, most, stdin);
   if (ferror(stdin)) return fail(STREAM_FAULT, "read fault");
 
-  uint8_t status = answer(rx_run_dump, scenario, &dump);
-  if (status != RX_DONE) return fail_by(status);
-  status = answer(rx_audit, dump, &verdict);
-  if (status != RX_DONE && status != RX_NOT_LAWFUL) return fail_by(status);
+  uint8_t status = answer(cellar_run_dump, scenario, &dump);
+  if (status != CELLAR_TEXT_DONE) return fail_by(status);
+  status = answer(cellar_audit, dump, &verdict);
+  if (status != CELLAR_TEXT_DONE && status != CELLAR_TEXT_SAYS) return fail_by(status);
   if (fwrite(verdict.bytes, 1, verdict.length, stdout) != verdict.length || fflush(stdout) != 0)
     return fail(STREAM_FAULT, "write fault");
   return status;

@@ -1,10 +1,8 @@
-/* Measures the engine beside the book's calls that tell: nanoseconds of processor time, the median of nine rounds with the least and
- * the greatest, and bytes. Both do the same work: of a book, what is told stands in the answer; of an engine, it is taken of its lane.
- * The lane of an item that was handed out is given back with the command that follows.
+/* Measures the engine: nanoseconds of processor time, the median of nine rounds with the least and the greatest, and bytes. The lane of an
+ * item that was handed out is given back with the command that follows.
  * What crosses lies at another place of a page each round, so that no figure hangs on where it happens to lie. */
 #define _POSIX_C_SOURCE 200809L
 #include <cellarcliff.h>
-#include <rx_book.h>
 #include <malloc.h>
 #include <stdlib.h>
 #include <string.h>
@@ -12,15 +10,13 @@
 
 #include "must.h"
 
-enum { N = 200000, ROUNDS = 9, EVENTS = 4000 };
+enum { N = 200000, ROUNDS = 9 };
 static struct crossing {
   struct cellar_command c;
   struct cellar_answer a;
   struct cellar_effect effect;
-  struct rx_told told;
 } *at;
 static uint64_t done = UINT64_MAX; /* a lane of which all that was taken is done, and which the next command gives back */
-static const struct rx_node none = {0, 0};
 
 static double now(void) {
   struct timespec t;
@@ -52,15 +48,6 @@ static void items(struct cellar *e) {
     emit(e);
   }
 }
-static void items_told(struct rx_book *book) {
-  struct rx_opened leaf;
-  uint64_t place;
-  MUST(rx_book_open(book, RX_ROOT, none, RX_LEAF, 0, &leaf) == 0);
-  for (uint64_t i = 0; i < N; i++) {
-    MUST(rx_book_next_told(book, leaf.node, (int64_t)i, &at->told) == 0 && at->told.mails == 1);
-    if (i % EVENTS == 0) MUST(rx_book_checkpoint(book, &place) == 0);
-  }
-}
 /* A Using with a leaf whose closing is heard of: one item, disposed of, its resource taken. */
 static void cycles(struct cellar *e) {
   uint64_t count, told;
@@ -76,20 +63,6 @@ static void cycles(struct cellar *e) {
     MUST(at->a.closed == 1 && at->a.due == 1);
     for (told = 0; cellar_take(e, at->a.lanes[0], at->c.by, &at->effect, &count) == 0 && count; told++) continue;
     MUST(told == 2);
-  }
-}
-static void cycles_told(struct rx_book *book) {
-  for (uint64_t i = 0; i < N / 4; i++) {
-    struct rx_using used;
-    struct rx_opened leaf;
-    struct rx_res res;
-    uint64_t place;
-    MUST(rx_book_using_told(book, RX_ROOT, none, i, &used, &at->told) == 0);
-    MUST(rx_book_open_told(book, RX_SOURCE, used.node, RX_LEAF, 0, &leaf, &at->told) == 0);
-    MUST(rx_book_hold(book, leaf.node, i, &res) == 0); /* to hear of its closing */
-    MUST(rx_book_next_told(book, leaf.node, (int64_t)i, &at->told) == 0 && at->told.mails == 1);
-    MUST(rx_book_dispose_told(book, used.node, &at->told) == 0 && at->told.resources == 2);
-    if (i % (EVENTS / 8) == 0) MUST(rx_book_checkpoint(book, &place) == 0);
   }
 }
 /* An item through a FlatMap, whose inner tells one and completes. */
@@ -111,53 +84,30 @@ static void inners(struct cellar *e) {
     done = lane;
   }
 }
-static void inners_told(struct rx_book *book) {
-  struct rx_opened flat, leaf, inner;
-  struct rx_res res;
-  uint64_t place;
-  MUST(rx_book_open(book, RX_ROOT, none, RX_FLAT, 0, &flat) == 0 && rx_book_open(book, RX_SOURCE, flat.node, RX_LEAF, 0, &leaf) == 0);
-  for (uint64_t i = 0; i < N / 4; i++) {
-    MUST(rx_book_next_told(book, leaf.node, (int64_t)i, &at->told) == 0 && at->told.mails == 1);
-    MUST(rx_book_open_told(book, RX_INNER, flat.node, RX_LEAF, 0, &inner, &at->told) == 0);
-    MUST(rx_book_hold(book, inner.node, i, &res) == 0);
-    MUST(rx_book_next_told(book, inner.node, (int64_t)i, &at->told) == 0 && at->told.mails == 1);
-    MUST(rx_book_end_told(book, inner.node, 0, 0, &at->told) == 0 && at->told.resources == 1);
-    if (i % (EVENTS / 8) == 0) MUST(rx_book_checkpoint(book, &place) == 0);
-  }
-}
 
 static const struct {
   const char *name;
   int many;
-  void (*engine)(struct cellar *);
-  void (*book)(struct rx_book *);
-} works[] = {{"an item, told and taken", N, items, items_told}, {"a Using, an item, disposed of", N / 4, cycles, cycles_told},
-             {"an item through a FlatMap", N / 4, inners, inners_told}};
+  void (*work)(struct cellar *);
+} works[] = {{"an item, told and taken", N, items}, {"a Using, an item, disposed of", N / 4, cycles}, {"an item through a FlatMap", N / 4, inners}};
 enum { WORKS = sizeof works / sizeof works[0] };
 
 static int by_number(const void *x, const void *y) { return (*(const double *)x > *(const double *)y) - (*(const double *)x < *(const double *)y); }
 
 /* What is asked of malloc for so many open leaves at roots, each with a closing that is to be heard, as lists that grow by parts have it. */
-static double bytes(int of_engine) {
+static double bytes(void) {
   struct cellar engine = {0};
-  struct rx_book book = {0};
-  struct rx_opened leaf;
-  struct rx_res res;
-  MUST(cellar_new(&engine, 0) == 0 && rx_book_new(&book, UINT32_MAX) == 0);
+  MUST(cellar_new(&engine, 0) == 0);
   struct mallinfo2 before = mallinfo2();
-  for (uint64_t i = 0; i < N; i++)
-    if (of_engine)
-      open_node(&engine, CELLAR_ROOT, CELLAR_LEAF, (struct cellar_node){0, 0}, CELLAR_WISHES);
-    else
-      MUST(rx_book_open(&book, RX_ROOT, none, RX_LEAF, 0, &leaf) == 0 && rx_book_hold(&book, leaf.node, i, &res) == 0);
+  for (uint64_t i = 0; i < N; i++) open_node(&engine, CELLAR_ROOT, CELLAR_LEAF, (struct cellar_node){0, 0}, CELLAR_WISHES);
   struct mallinfo2 after = mallinfo2();
-  cellar_drop(&engine), rx_book_drop(&book);
+  cellar_drop(&engine);
   return (double)(after.uordblks + after.hblkhd - before.uordblks - before.hblkhd) / N;
 }
 
 int main(void) {
   enum { STEP = 7 * 64 }; /* from round to round, which nine times are a page */
-  static double took[WORKS][2][ROUNDS];
+  static double took[WORKS][ROUNDS];
   static _Alignas(4096) unsigned char space[ROUNDS * STEP + sizeof *at];
   for (int round = 0; round < ROUNDS; round++)
     for (int i = 0; i < WORKS; i++) {
@@ -165,21 +115,16 @@ int main(void) {
       memset(at, 0, sizeof *at);
       at->c.by = 1;
       struct cellar engine = {0};
-      struct rx_book book = {0};
-      MUST(cellar_new(&engine, 0) == 0 && rx_book_new(&book, UINT32_MAX) == 0);
-      double begin = now();
-      works[i].book(&book);
-      double between = now();
+      MUST(cellar_new(&engine, 0) == 0);
       done = UINT64_MAX;
-      works[i].engine(&engine);
-      took[i][0][round] = (between - begin) / works[i].many, took[i][1][round] = (now() - between) / works[i].many;
-      cellar_drop(&engine), rx_book_drop(&book);
+      double begin = now();
+      works[i].work(&engine);
+      took[i][round] = (now() - begin) / works[i].many;
+      cellar_drop(&engine);
     }
   for (int i = 0; i < WORKS; i++) {
-    for (int k = 0; k < 2; k++) qsort(took[i][k], ROUNDS, sizeof(double), by_number);
-    printf("%-30s book %.0f ns (%.0f to %.0f), engine %.0f (%.0f to %.0f), %.2f times (least %.2f)\n", works[i].name, took[i][0][ROUNDS / 2], took[i][0][0],
-           took[i][0][ROUNDS - 1], took[i][1][ROUNDS / 2], took[i][1][0], took[i][1][ROUNDS - 1], took[i][1][ROUNDS / 2] / took[i][0][ROUNDS / 2],
-           took[i][1][0] / took[i][0][0]);
+    qsort(took[i], ROUNDS, sizeof(double), by_number);
+    printf("%-30s %.0f ns (%.0f to %.0f)\n", works[i].name, took[i][ROUNDS / 2], took[i][0], took[i][ROUNDS - 1]);
   }
-  printf("%-30s book %.0f bytes, engine %.0f\n", "an open leaf at a root", bytes(0), bytes(1));
+  printf("%-30s %.0f bytes\n", "an open leaf at a root", bytes());
 }

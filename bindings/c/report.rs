@@ -4,7 +4,7 @@ use std::io::{self, Read, Write};
 use std::process::ExitCode;
 
 unsafe extern "C" {
-    fn rx_run(
+    fn cellar_run(
         scenario: *const u8,
         length: usize,
         buffer: *mut u8,
@@ -23,7 +23,7 @@ fn report(scenario: &[u8]) -> Result<Vec<u8>, u8> {
         let mut told = 0;
         // The slices and the number are live, initialized and apart for as long as the call lasts.
         let status = unsafe {
-            rx_run(
+            cellar_run(
                 scenario.as_ptr(),
                 scenario.len(),
                 buffer.as_mut_ptr(),

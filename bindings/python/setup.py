@@ -18,5 +18,5 @@ def extension(name):
 
 
 setup(version=found("VERSION", "../../VERSION").read_text().strip(),
-      ext_modules=[extension(it) for it in ("calls", "engine")] if sys.version_info >= (3, 10) else [],
+      ext_modules=[extension("engine")] if sys.version_info >= (3, 10) else [],
       options={"bdist_wheel": {"py_limited_api": "cp310"}} if sys.version_info >= (3, 10) else {})

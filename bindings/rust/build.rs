@@ -1,8 +1,5 @@
-//! Where the libraries are, rx with the book and cellarcliff with the engine: in the folder that RX_LIB_DIR names (for the engine
-//! CELLARCLIFF_LIB_DIR, if it is set), or where pkg-config says. A folder without the second has its calls in the first. With RX_STATIC
-//! they are linked in.
+//! Where the library is: in the folder that CELLAR_LIB_DIR names, or where pkg-config says. With CELLAR_STATIC it is linked in.
 use std::env;
-use std::path::Path;
 use std::process::Command;
 
 fn from_pkg_config(name: &str) -> Option<String> {
@@ -12,7 +9,7 @@ fn from_pkg_config(name: &str) -> Option<String> {
 }
 
 fn link(name: &str, folder: &Option<String>) {
-    let is_static = env::var_os("RX_STATIC").is_some();
+    let is_static = env::var_os("CELLAR_STATIC").is_some();
     if let Some(folder) = folder {
         println!("cargo:rustc-link-search=native={folder}");
         if !is_static {
@@ -24,18 +21,12 @@ fn link(name: &str, folder: &Option<String>) {
 
 fn main() {
     println!("cargo:rustc-check-cfg=cfg(cellarcliff_helgrind)");
-    for name in ["RX_LIB_DIR", "CELLARCLIFF_LIB_DIR", "RX_STATIC", "PKG_CONFIG_PATH"] {
+    for name in ["CELLAR_LIB_DIR", "CELLAR_STATIC", "PKG_CONFIG_PATH"] {
         println!("cargo:rerun-if-env-changed={name}");
     }
-    let named = |name| env::var(name).ok();
-    let book = named("RX_LIB_DIR").or_else(|| from_pkg_config("rx"));
-    let engine = named("CELLARCLIFF_LIB_DIR").or_else(|| named("RX_LIB_DIR")).or_else(|| from_pkg_config("cellarcliff")).or_else(|| book.clone());
-    if book.is_none() {
-        println!("cargo:warning=pkg-config names no folder of the library rx: unless the linker finds it, install it, and set PKG_CONFIG_PATH or RX_LIB_DIR");
+    let folder = env::var("CELLAR_LIB_DIR").ok().or_else(|| from_pkg_config("cellarcliff"));
+    if folder.is_none() {
+        println!("cargo:warning=pkg-config names no folder of the library: unless the linker finds it, install it, and set PKG_CONFIG_PATH or CELLAR_LIB_DIR");
     }
-    link("rx", &book);
-    let is_there = |folder: &String| ["so", "a"].iter().any(|kind| Path::new(folder).join(format!("libcellarcliff.{kind}")).exists());
-    if engine.as_ref().map_or(true, is_there) {
-        link("cellarcliff", &engine);
-    }
+    link("cellarcliff", &folder);
 }

@@ -1,5 +1,5 @@
-/* Names of statuses, for what a program prints: those of cellarcliff.h and of rx_book.h, which are the same numbers. The names are the
- * ones that reports and pages have (docs/reference/refusals.md). Nothing of this is in a library. */
+/* Names of statuses, for what a program prints: those that reports and pages have (docs/reference/refusals.md). Nothing of this is in a
+ * library. */
 #ifndef CELLARCLIFF_NAMES_H
 #define CELLARCLIFF_NAMES_H
 
@@ -26,13 +26,11 @@ static inline const char *cellar_status_name(unsigned status) {
     case 23: return "HubOrder";
     case 24: return "Connected";
     case 25: return "NotConnected";
-    case 26: return "NotFresh";
     case 27: return "NotHeld";
     case 28: return "HasChild";
     case 29: return "TooMany";
     case 30: return "NoLease";
     case 31: return "Leased";
-    case 32: return "MailLeft";
     default: return "a status of a newer version";
   }
 }

@@ -109,10 +109,10 @@ function judge(texts, bytes, tell) {
     first.set(bytes.subarray(0, cut + 1));
     first[cut + 1] = 93;
     const began = performance.now();
-    texts.ask('rx_audit', first);
+    texts.ask('cellar_audit', first);
     tell('Judging', (performance.now() - began) / 1000 * bytes.length / PIECE);
   }
-  return texts.ask('rx_audit', bytes);
+  return texts.ask('cellar_audit', bytes);
 }
 
 /** The picture of what is to be drawn, and where it begins. */
@@ -142,7 +142,7 @@ function history(texts, bytes, text, tell) {
 
 function scenario(texts, bytes, tell) {
   tell('Running');
-  const { status, text: told } = texts.ask('rx_run', bytes);
+  const { status, text: told } = texts.ask('cellar_run', bytes);
   if (status === FAULTY) return;
   const [held = 0, waiting = 0] = (/ held=(\d+) waiting=(\d+)/.exec(told) ?? []).slice(1).map(Number);
   const names = texts.ask('cellar_run_names', bytes);
@@ -161,7 +161,7 @@ async function run({ bytes }, tell) {
 async function place({ at }) {
   const its = await texts;
   for (let end = at + 1; end <= shown.events.length; end++) {
-    const { status, text } = its.ask('rx_audit', encoder.encode(`[${shown.events.slice(0, end).join(',')}]`));
+    const { status, text } = its.ask('cellar_audit', encoder.encode(`[${shown.events.slice(0, end).join(',')}]`));
     if (status === DONE) return { event: shown.events[at], until: end - 1, told: text };
     if (text.startsWith('unlawful')) return { event: shown.events[at], broken: Number(text.split(' ')[1]) };
   }

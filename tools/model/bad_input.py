@@ -19,7 +19,7 @@ from .engine import (ABORT, APPLY, COMPLETE, CONNECT, DECLINE, DISPOSE, ERROR, F
                      NOTHING_KEPT, OPEN, PUT, REMOVE, UNTAKEN, USING, Command, is_known)
 from .history import forget
 from .scenario import Differs
-from .typed import CUT, HELD, NOTHING_WAITS, REFUSED, SMALL
+from .crossing import CUT, HELD, NOTHING_WAITS, REFUSED, SMALL
 
 MAKE, TAKE, GIVE_UP, LEFT, REST, TOTALS, EVENT, DUMP, FINISH, NEW, DROP, MAKE_BEHIND = range(12)
 CALLS = ('make', 'take', 'give up', 'left', 'rest', 'totals', 'event', 'dump', 'finish', 'new', 'drop', 'make behind')

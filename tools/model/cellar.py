@@ -6,7 +6,7 @@ from ctypes import addressof, c_size_t, c_uint8, c_uint32, c_uint64, c_void_p, m
 from typing import Any, NamedTuple
 
 from .engine import NOTHING, UNTAKEN, Command, Effect
-from .typed import Differs, event_of
+from .crossing import Differs, event_of
 from .definitions import Accept, Event
 
 ABI, ROOM, INSIDE, NO_LANE = 0x20000, 8, 2**63, 2**64 - 1

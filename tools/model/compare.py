@@ -10,7 +10,6 @@ from .definitions import (Accept, Close, Connect, Decline, End, Event, Item, Lea
 from .live import follow
 from .scenario import Canonical, Course, Differs, Following, Last, Longest
 from .texts import Faulty, dump_of, events_of, has_checkpoint, scenario_of
-from .typed import follow as follow_calls, moved
 
 FAULTY_INPUT, NOT_LAWFUL = 3, 5
 
@@ -94,15 +93,8 @@ def compare_session(engine: Any, text: bytes) -> None:
     follow(lines, answers, limit or 4_194_304)
 
 
-def compare_calls(engine: Any, text: bytes) -> None:
-    """Each answer to the calls by numbers."""
-    calls = [json.loads(line) for line in text.splitlines()]
-    follow_calls(calls, engine.numbers(calls))
-
-
 COMPARE: dict[str, Callable[[Any, bytes], None]] = {
-    'json': compare_scenario, 'dump': compare_history, 'lines': compare_session, 'calls': compare_calls,
-    'input': compare_input}
+    'json': compare_scenario, 'dump': compare_history, 'lines': compare_session, 'input': compare_input}
 
 
 def difference(suffix: str, engine: Any, text: bytes) -> str | None:
@@ -181,12 +173,6 @@ def smaller(suffix: str, text: bytes) -> Iterator[bytes]:
         elif suffix == 'lines':
             for lines in parts_left_out(text.split(b'\n')):
                 yield b'\n'.join(lines)
-        elif suffix == 'calls':
-            calls = [json.loads(line) for line in text.splitlines()]
-            for n in range(len(calls) - 1, -1, -1):
-                yield b''.join(json.dumps(call).encode() + b'\n' for call in moved(calls, n))
-            for lines in parts_left_out(text.splitlines(True)):
-                yield b''.join(lines)
         else:
             for n in range(len(text)):
                 yield text[:n] + text[n + 1:]

@@ -11,7 +11,7 @@ from .engine import (ABORT, AT, APPLY, COMPLETE, CONNECT, DECLINE, DISCONNECT, D
                      NOTHING, OPEN, PUT, REMOVE, SHUT, UNTAKEN, USING, BLOCK, MOST, Answer, Command, Effect, Engine, PooledHub, choice)
 from .scenario import Differs, Following
 from .texts import events_of
-from .typed import REFUSED
+from .crossing import REFUSED
 
 OFTEN = {OPEN: 40, USING: 7, HOLD: 7, NEXT: 40, COMPLETE: 8, ERROR: 4, FAIL: 3, DECLINE: 4, DISPOSE: 3, CONNECT: 3, DISCONNECT: 2, PUT: 4,
          SHUT: 0.3, ABORT: 2, APPLY: 2, REMOVE: 3, LEASE: 4, GIVE_BACK: 4}

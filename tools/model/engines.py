@@ -11,8 +11,6 @@ import tempfile
 from types import ModuleType
 from typing import Any
 
-from . import handle
-
 DONE, TOO_SMALL, FAULTY_INPUT, SAYS = 0, 1, 3, 5
 
 
@@ -64,12 +62,12 @@ class LiveHandle(ctypes.Structure):
 
 
 class Library:
-    """The calls of crates/rx_c/rx.h and cellarcliff.h in this process."""
+    """The calls of crates/rx_c/cellarcliff.h in this process."""
 
     def __init__(self, path: str):
         self.calls = ctypes.CDLL(os.path.abspath(path))
-        for name in ('rx_audit', 'rx_run', 'rx_run_dump', 'cellar_run_names', 'cellar_picture', 'cellar_explain', 'rx_live_new', 'rx_live_send', 'rx_live_end',
-                     'rx_live_read'):
+        for name in ('cellar_audit', 'cellar_run', 'cellar_run_dump', 'cellar_run_names', 'cellar_picture', 'cellar_explain', 'cellar_live_new', 'cellar_live_send', 'cellar_live_end',
+                     'cellar_live_read'):
             getattr(self.calls, name).restype = ctypes.c_uint8
         self.capacity = 1 << 16
         self.buffer = ctypes.create_string_buffer(self.capacity)
@@ -88,13 +86,13 @@ class Library:
         self.buffer = ctypes.create_string_buffer(self.capacity)
 
     def run(self, text: bytes) -> tuple[int, bytes]:
-        return self._ask('rx_run', text)
+        return self._ask('cellar_run', text)
 
     def dump(self, text: bytes) -> tuple[int, bytes]:
-        return self._ask('rx_run_dump', text)
+        return self._ask('cellar_run_dump', text)
 
     def audit(self, text: bytes) -> tuple[int, bytes]:
-        return self._ask('rx_audit', text)
+        return self._ask('cellar_audit', text)
 
     def names(self, text: bytes) -> tuple[int, bytes]:
         return self._ask('cellar_run_names', text)
@@ -107,24 +105,21 @@ class Library:
         status, told = self._ask('cellar_explain', text)
         return (FAULTY_INPUT, told + b'\n') if status == SAYS else (status, told)
 
-    def numbers(self, calls: list[list[Any]]) -> list[tuple[list[Any], list[list[int]]]]:
-        return handle.Handle(self.calls).session(calls)
-
     def live(self, lines: list[bytes], limit: int | None = None, cut: bytes = b'') -> list[str]:
         book, answers = LiveHandle(), []
-        if self.calls.rx_live_new(ctypes.byref(book), ctypes.c_uint32(limit or 4_194_304)) != DONE:
+        if self.calls.cellar_live_new(ctypes.byref(book), ctypes.c_uint32(limit or 4_194_304)) != DONE:
             return ['no book']
 
         def answer(status: int) -> None:
             if status == TOO_SMALL:
                 self._grow()
-                status = self.calls.rx_live_read(ctypes.byref(book), self.buffer, ctypes.c_size_t(self.capacity), ctypes.byref(self.told))
+                status = self.calls.cellar_live_read(ctypes.byref(book), self.buffer, ctypes.c_size_t(self.capacity), ctypes.byref(self.told))
             answers.append(ctypes.string_at(self.buffer, self.told.value).decode() if status == DONE else f'status {status}')
         room = ctypes.c_size_t
         for line in lines:
-            answer(self.calls.rx_live_send(ctypes.byref(book), line, room(len(line)), self.buffer, room(self.capacity),
+            answer(self.calls.cellar_live_send(ctypes.byref(book), line, room(len(line)), self.buffer, room(self.capacity),
                                            ctypes.byref(self.told)))
-        answer(self.calls.rx_live_end(ctypes.byref(book), self.buffer, room(self.capacity), ctypes.byref(self.told)))
+        answer(self.calls.cellar_live_end(ctypes.byref(book), self.buffer, room(self.capacity), ctypes.byref(self.told)))
         return answers
 
 
@@ -137,7 +132,7 @@ def copy_of_the_model(name: str) -> ModuleType:
     package = importlib.util.module_from_spec(spec)
     sys.modules[name] = package
     spec.loader.exec_module(package)
-    for module in ('events', 'definitions', 'texts', 'calls', 'scenario', 'live', 'typed'):
+    for module in ('events', 'definitions', 'texts', 'calls', 'scenario', 'live'):
         importlib.import_module(f'{name}.{module}')
     return package
 
@@ -169,15 +164,6 @@ class Model:
         events = self._faulty(self.of.texts.events_of, text)
         verdict = None if events is None else self.of.definitions.verdict(events)
         return (3, b'') if verdict is None else (0 if verdict.startswith('lawful') else 5, verdict.encode())
-
-    def numbers(self, calls: list[list[Any]]) -> list[tuple[list[Any], list[list[int]]]]:
-        self.of.history.forget()
-        book, answers = self.of.typed.Typed(self.way()), []
-        for call in calls:
-            seen = len(book.h) if book.keeps else 0
-            answer = book.answer(call)
-            answers.append((answer, [self.of.typed.numbers_of(e) for e in book.h.behind(seen - 1)] if book.keeps else []))
-        return answers
 
     def live(self, lines: list[bytes], limit: int | None = None, cut: bytes = b'') -> list[str]:
         self.of.history.forget()

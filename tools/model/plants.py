@@ -232,7 +232,7 @@ def wrong(name: str, *kinds: str, **functions: Callable[[Any], Callable]) -> Non
         for function, make in functions.items():
             old = getattr(package.definitions, function, None) or getattr(package.calls, function)
             new = make(package.definitions, old)
-            for module in (package.definitions, package.calls, package.scenario, package.live, package.typed):
+            for module in (package.definitions, package.calls, package.scenario, package.live):
                 if getattr(module, function, None) is old:
                     setattr(module, function, new)
             package.definitions.RULES = tuple(new if rule is old else rule for rule in package.definitions.RULES)

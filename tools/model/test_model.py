@@ -9,17 +9,16 @@ import random
 import re
 import unittest
 
-from . import cases, numbered, try_pages, typed
+from . import cases, try_pages
 from .compare import difference, smallest
+from .crossing import REFUSED, event_of, numbers_of
 from .definitions import *
 from .engines import Model, copy_of_the_model
 from .explain import explain
-from .handle import WORDS
 from .history import History
-from .plants_typed import PLANTS
+from .plants import PLANTS
 from .scenario import Canonical, Course, Differs, Longest
 from .texts import Faulty, command_of, dump_of, events_of, json_of, scenario_of
-from .typed import TELLS, Typed, event_of, moved, numbers_of
 
 data = pathlib.Path(__file__).resolve().parents[2] / 'crates/rx_replay/data'
 FEW = 120  # events or steps of a stored case: what searches a longer history takes too long
@@ -134,8 +133,7 @@ class Comparing(unittest.TestCase):
         engine = Model(copy_of_the_model('other'), 'Last')
         for seed in range(60):
             limit = [b'{"limit":%d}' % seed] * (seed % 2)  # of the events since a checkpoint, which a live book makes by itself
-            for kind, make in (('json', cases.scenario), ('lines', lambda rng: b''.join(it + b'\n' for it in limit + cases.session(rng))),
-                               ('calls', numbered.session)):
+            for kind, make in (('json', cases.scenario), ('lines', lambda rng: b''.join(it + b'\n' for it in limit + cases.session(rng)))):
                 self.assertIsNone(difference(kind, engine, make(random.Random(seed))), (kind, seed))
 
     def test_what_only_some_order_fills_is_left_open(self):
@@ -150,13 +148,6 @@ class Comparing(unittest.TestCase):
         text = next(it for it in (cases.scenario(random.Random(seed)) for seed in range(99)) if difference('json', engine, it))
         self.assertEqual(smallest('json', engine, text).count(b'"do"'), 2)
 
-    def test_calls_are_made_smaller_with_their_numbers(self):
-        calls = [['new', 9], ['hub', 0], ['open', 0, 0, 1, 0], ['open', 1, 1, 0, 0], ['next', [2, 1], 7], ['next_told', 2, 7]]
-        self.assertEqual(moved(calls, 1), [['new', 9], ['open', 0, 0, 1, 0], ['open', 1, 0, 0, 0], ['next', [1, 1], 7], ['next_told', 1, 7]])
-        engine = PLANTS['calls: next_told: a note is not told'][1](Model(copy_of_the_model('other')))
-        text = next(it for it in (numbered.session(random.Random(seed)) for seed in range(99)) if difference('calls', engine, it))
-        self.assertLess(smallest('calls', engine, text).count(b'\n'), 9)
-
     def test_a_claim_of_the_page_can_fail(self):
         section, sentence, holds = try_pages.CLAIMS[0]
         self.assertFalse(holds(history([Open('root', None, 'leaf')]), None))
@@ -166,38 +157,13 @@ class Comparing(unittest.TestCase):
         for command in COMMANDS:
             self.assertTrue(any(command in name.split() for name in PLANTS), command)
 
-    def test_each_call_by_numbers_has_a_fault_planted(self):
-        for call in [*WORDS, *(f'{it}_told' for it in TELLS)]:
-            self.assertTrue(any(name.startswith(f'calls: {call}: ') for name in PLANTS), call)
-
 
 class Numbers(unittest.TestCase):
-    def answers(self, *calls):
-        book = Typed(Canonical())
-        return [book.answer(list(call)) for call in calls]
-
     def test_the_header_is_followed(self):
-        header = (pathlib.Path(__file__).resolve().parents[2] / 'crates/rx_c/rx_book.h').read_text(encoding='utf-8')
-        declared = set(re.findall(r'^(?:uint8_t|void) rx_book_(\w+)\(', header, re.M))
-        self.assertEqual(declared, {*WORDS, *(f'{it}_told' for it in TELLS)})
-        statuses = {int(n): name for name, n in re.findall(r'^  RX_(\w+) = (\d+)', header.partition('enum rx_book_status')[2].partition('};')[0], re.M)}
+        header = (pathlib.Path(__file__).resolve().parents[2] / 'crates/rx_c/cellarcliff.h').read_text(encoding='utf-8')
+        statuses = {int(n): name for name, n in re.findall(r'\bCELLAR_(\w+) = (\d+)', header.partition('enum cellar_status {')[2].partition('};')[0])}
         self.assertEqual({n: name.replace('_', '').lower() for n, name in statuses.items() if n > 15},
-                         {n: name.lower() for name, n in typed.REFUSED.items()})
-
-    def test_a_first_program(self):
-        self.assertEqual(self.answers(
-            ['new', 100], ['using', 0, 0, 7], ['open', 1, 0, 0, 0], ['next', 2, 5], ['take_mail'], ['take_mail'], ['dispose_told', 0],
-            ['finish'], ['next_told', 2, 6]),
-            [[0], [0, 0, 1], [0, 2, 0, 0], [0, 3], [0, [3, 0, 5, 0]], [2, [0] * 4], [0, 4, [], [[1, 7]]], [0], [1, 0, [], []]])
-
-    def test_codes_keys_and_what_a_checkpoint_leaves(self):
-        self.assertEqual(self.answers(
-            ['new', 9], ['new', 9], ['open', 4, 0, 0, 0], ['hub', 2], ['open', 0, 0, 1, 0], ['is_open', 0], ['is_open', [0, 1]],
-            ['dispose', [0, 1]], ['hold', 0, 3], ['lease', 1], ['dispose', 0], ['event', 1], ['dump', 9], ['checkpoint'], ['event', 1],
-            ['dump', 99], ['finish'], ['give_back_told', 2], ['counts'], ['finish']),
-            [[0], [3], [5, 0, 0, 0], [5, 0], [0, 0, 0, 0], [0, 1], [0, 0], [17, 0], [0, 1], [0, 2], [0, 3],
-             [0, [3, 0, 0, 0, 0, 3, 0]], [7, 64, ''], [0, 4], [2, [0] * 7], [8, 0, ''], [6], [0, 4, [], [[1, 3]]],
-             [0, 0, 0, 0, 0, 1, 1, 6], [0]])
+                         {n: name.lower() for name, n in REFUSED.items() if n not in (26, 32)})
 
     def test_an_event_is_read_as_it_was_written(self):
         for seed in range(40):

@@ -12,7 +12,8 @@ import sys
 
 sys.dont_write_bytecode = True
 sys.path.insert(0, str(pathlib.Path(__file__).resolve().parents[1]))
-from model import calls, definitions, scenario, typed
+import model.events
+from model import calls, definitions, scenario
 from model.calls import Call, first_cause
 from model.definitions import *
 from model.scenario import Canonical, Course
@@ -170,7 +171,7 @@ def main():
             if not {name, re.sub('(?<!^)(?=[A-Z])', '_', name).lower(), name.upper()} & (here | others):
                 faults.append(f'{OURS.name} has nothing beside {name} of section {section}')
     faults += [f'{OURS.name}: the model has no {name}' for name in sorted(names)
-               if not any(hasattr(it, name) for it in (definitions, calls, scenario, typed, Course))]
+               if not any(hasattr(it, name) for it in (definitions, calls, model.events, scenario, Course))]
     for fault in faults:
         print(fault)
     print(f'{len(CLAIMS)} claims and {len(names)} names, {len(faults)} faults')

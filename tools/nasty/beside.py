@@ -21,7 +21,7 @@ from model.engine import (APPLY, CONNECT, DONE, HOLD, LEASE, NEXT, OPEN, PUT, RE
 from model.engine import MOST
 from model.history import forget
 from model.scenario import Differs
-from model.typed import numbers_of
+from model.crossing import numbers_of
 
 NO_MEMORY = REFUSED['NoMemory']
 ASKS = (OPEN, USING, HOLD, APPLY, LEASE, CONNECT, NEXT, PUT)  # what may be refused memory

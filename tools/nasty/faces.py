@@ -50,17 +50,16 @@ def ran(what: str, words: list[str], cwd: pathlib.Path, log: pathlib.Path, passe
 
 def try_all(folder: pathlib.Path, scratch: pathlib.Path, settings: str) -> int:
     nasty, package, failed = scratch / 'libcellarcliff.so', scratch / 'package', 0
-    over = dict(CELLARCLIFF_LIBRARY='1', CELLARCLIFF_EXAMPLES=str(top / 'crates/rx_replay/data'), RX_LIBRARY=str(folder / 'librx.so'),
-                CELLAR_LIBRARY=str(nasty), CELLAR_NASTY=settings)
+    over = dict(CELLARCLIFF_LIBRARY='1', CELLARCLIFF_EXAMPLES=str(top / 'crates/rx_replay/data'), CELLAR_LIBRARY=str(nasty), CELLAR_NASTY=settings)
     shutil.copytree(top / 'bindings/python', package, ignore=shutil.ignore_patterns('__pycache__', '*.abi3.so'))
     python = '/usr/bin/python3' if subprocess.run(['/usr/bin/python3', '-c', 'import rx'], capture_output=True).returncode == 0 else sys.executable
     tests = [python, '-B', '-m', 'unittest']
     failed += ran('Python, by ctypes', tests, package, folder / 'python-ctypes.log', r'^Ran (\d+) tests?', CELLARCLIFF_CTYPES='1', **over)
-    subprocess.run([top / 'tools/build-extension', *(package / f'cellarcliff/{it}.abi3.so' for it in ('_calls', '_engine'))], check=True)
+    subprocess.run([top / 'tools/build-extension', package / 'cellarcliff/_engine.abi3.so'], check=True)
     failed += ran('Python, by the extension', tests, package, folder / 'python.log', r'^Ran (\d+) tests?', **over)
     if shutil.which('cargo'):
-        failed += ran('Rust', ['cargo', 'test', '--offline'], top / 'bindings/rust', folder / 'rust.log', r'(\d+) passed', RX_LIB_DIR=str(folder),
-                      CELLARCLIFF_LIB_DIR=str(scratch), LD_LIBRARY_PATH=f'{scratch}:{folder}', CARGO_TARGET_DIR=str(scratch / 'target'), CELLAR_NASTY=settings)
+        failed += ran('Rust', ['cargo', 'test', '--offline'], top / 'bindings/rust', folder / 'rust.log', r'(\d+) passed', CELLAR_LIB_DIR=str(scratch),
+                      LD_LIBRARY_PATH=str(scratch), CARGO_TARGET_DIR=str(scratch / 'target'), CELLAR_NASTY=settings)
     if all(map(shutil.which, ('node', 'clang', 'wasm-ld', 'wasm-opt'))):
         module = scratch / 'engine.wasm'
         build_wasm(module, settings)

@@ -6,7 +6,6 @@ same module, gets the requests that the first got, and has to answer them as the
 from __future__ import annotations
 
 import collections
-import json
 import multiprocessing
 import pathlib
 import queue
@@ -15,7 +14,7 @@ import time
 from collections.abc import Callable
 from typing import Any
 
-from model import cases, numbered
+from model import cases
 from model.compare import difference, smallest
 from model.history import forget
 
@@ -23,9 +22,8 @@ from .crates import TOP
 from .engine import Gone, Module
 
 data = TOP / 'crates/rx_replay/data'
-KINDS = {'json': 'scenarios', 'dump': 'histories', 'lines': 'sessions of a live book', 'calls': 'sessions of typed calls',
-         'desk': 'sessions of typed calls by the desk', 'input': 'faulty inputs'}
-PARTS = {'lines': 'lines', 'calls': 'calls', 'desk': 'calls'}  # what a session is made of
+KINDS = {'json': 'scenarios', 'dump': 'histories', 'lines': 'sessions of a live book', 'input': 'faulty inputs'}
+PARTS = {'lines': 'lines'}  # what a session is made of
 STORED = [('.json', '.report', 'run'), ('.json', '.dump', 'dump'), ('.json', '.named-dump', 'names'), ('.dump', '.verdict', 'audit'),
           ('.dump', '.svg', 'picture'), ('.named-dump', '.svg', 'picture'), ('.input', '.told', 'explain')]
 TOLD, SO_FAR = 5, 60  # after how many seconds a process tells what it did, and all together is printed
@@ -38,16 +36,7 @@ def tell(*what: Any) -> None:
     print('DIFFERS', *what, flush=True)
 
 
-def small(it: Any) -> Any:
-    """Numbers that a double has, for the desk."""
-    return [small(one) for one in it] if isinstance(it, list) else max(-2**53, min(it, 2**53)) if type(it) is int else it
-
-
 def make(kind: str, rng: random.Random) -> bytes:
-    if kind == 'calls':
-        return numbered.session(rng)
-    if kind == 'desk':
-        return b'\n'.join(json.dumps(small(json.loads(line))).encode() for line in numbered.session(rng).splitlines())
     if kind == 'lines':
         limit = [b'{"limit":%d}' % rng.randrange(1, 40)] if rng.random() < 0.25 else []
         return b''.join(it + b'\n' for it in [*limit, *cases.session(rng)])
@@ -67,9 +56,8 @@ class Heard:
 
 def compared(kind: str, module: Module, text: bytes, heard: Heard | None = None) -> str | None:
     """What differs from the definitions, and the smallest case of it."""
-    suffix = 'calls' if kind == 'desk' else kind
-    if said := difference(suffix, Module(heard, module.has) if heard else module, text):
-        return f'{said} {smallest(suffix, module, text).decode(errors="replace")}'
+    if said := difference(kind, Module(heard, module.has) if heard else module, text):
+        return f'{said} {smallest(kind, module, text).decode(errors="replace")}'
     return None
 
 
@@ -154,7 +142,7 @@ def compare(engines: dict[str, Callable[[], Any]], counts: dict[str, int], seed:
 
 
 def told_of(done: collections.Counter, engine: str, counts: dict[str, int]) -> str:
-    """How many cases of each kind, and how many lines or calls they have."""
+    """How many cases of each kind, and how many lines they have."""
     parts = lambda kind: f' ({done[engine, kind, "parts"]} {PARTS[kind]})' if kind in PARTS else ''
     return ', '.join(f'{done[engine, kind]} {KINDS[kind]}{parts(kind)}' for kind in counts)
 

@@ -15,7 +15,6 @@ from typing import Any
 from .browser import Browser, serve
 
 HERE = pathlib.Path(__file__).resolve().parent
-SAFE = 2 ** 53
 FAULTY_INPUT, SAYS = 3, 5
 
 
@@ -23,18 +22,11 @@ class Gone(BaseException):
     """The engine ended, or does not answer: no case more is compared with it."""
 
 
-def large(it: Any) -> Any:
-    """Numbers that JavaScript has none for, written."""
-    if isinstance(it, (list, tuple)):
-        return [large(one) for one in it]
-    return {'n': str(it)} if type(it) is int and abs(it) > SAFE else it
-
-
 class Node:
     """A process of Node with a module."""
 
-    def __init__(self, module: pathlib.Path, desk: bool = False):
-        words = [os.environ.get('NODE', 'node'), str(HERE / 'node.mjs'), str(module), *(['--desk'] if desk else [])]
+    def __init__(self, module: pathlib.Path):
+        words = [os.environ.get('NODE', 'node'), str(HERE / 'node.mjs'), str(module)]
         self.process = subprocess.Popen(words, stdin=subprocess.PIPE, stdout=subprocess.PIPE, text=True, bufsize=1)
 
     def answer(self, request: str) -> str:
@@ -58,14 +50,14 @@ class Node:
 class Chromium:
     """A page of a headless Chromium with a module."""
 
-    def __init__(self, module: pathlib.Path, desk: bool = False):
+    def __init__(self, module: pathlib.Path):
         self.folder = tempfile.TemporaryDirectory()
         scratch = pathlib.Path(self.folder.name)
         shutil.copy(HERE / 'engine.mjs', scratch)
         shutil.copy(module, scratch / 'it.wasm')
         (scratch / 'index.html').write_text(f'''<!doctype html><script type="module">
 import {{ answer, begin }} from './engine.mjs';
-begin((await WebAssembly.instantiateStreaming(fetch('it.wasm'))).instance.exports, {'true' if desk else 'false'});
+begin((await WebAssembly.instantiateStreaming(fetch('it.wasm'))).instance.exports);
 globalThis.answer = answer;
 </script>''')
         self.page = Browser()
@@ -99,30 +91,30 @@ class Emulated:
 
 
 class Module:
-    """The calls of rx.h, cellarcliff.h and rx_book.h in a module, by a channel to it."""
+    """The calls of cellarcliff.h that take a text in a module, by a channel to it."""
 
     def __init__(self, channel: Any, has: list[str] | None = None):
         self.channel = channel
         self.has = has or self.ask(exports=True)
 
     def ask(self, **words: Any) -> Any:
-        return json.loads(self.channel.answer(json.dumps(words)), object_hook=lambda it: int(it['n']))
+        return json.loads(self.channel.answer(json.dumps(words)))
 
     def text(self, call: str, text: bytes) -> tuple[int, bytes]:
         status, told = self.ask(call=call, text=base64.b64encode(text).decode())
         return status, base64.b64decode(told)
 
     def run(self, text: bytes) -> tuple[int, bytes]:
-        return self.text('rx_run', text)
+        return self.text('cellar_run', text)
 
     def dump(self, text: bytes) -> tuple[int, bytes]:
-        return self.text('rx_run_dump', text)
+        return self.text('cellar_run_dump', text)
 
     def names(self, text: bytes) -> tuple[int, bytes]:
         return self.text('cellar_run_names', text)
 
     def audit(self, text: bytes) -> tuple[int, bytes]:
-        return self.text('rx_audit', text)
+        return self.text('cellar_audit', text)
 
     def picture(self, text: bytes) -> tuple[int, bytes]:
         return self.text('cellar_picture', text)
@@ -134,9 +126,6 @@ class Module:
 
     def live(self, lines: list[bytes], limit: int | None = None, cut: bytes = b'') -> list[str]:
         return self.ask(lines=[base64.b64encode(it).decode() for it in lines], limit=limit or 4_194_304)
-
-    def numbers(self, calls: list[list[Any]]) -> list[tuple[list[Any], list[list[int]]]]:
-        return [(answer, events) for answer, events in self.ask(calls=large(calls))]
 
     def starve(self, call: str, text: bytes) -> list[int]:
         """Each request for memory of the call is refused in turn; how many there were, and how many of them were missed."""

@@ -12,11 +12,9 @@ from model.engines import Library
 
 library = Library(sys.argv[1])
 for line in sys.stdin:
-    asked = json.loads(line, object_hook=lambda it: int(it['n']) if 'n' in it else it)
+    asked = json.loads(line)
     if 'exports' in asked:
-        said = ['rx_run']
-    elif 'calls' in asked:
-        said = library.numbers(asked['calls'])
+        said = ['cellar_run']
     elif 'lines' in asked:
         said = library.live([base64.b64decode(it) for it in asked['lines']], asked['limit'])
     else:

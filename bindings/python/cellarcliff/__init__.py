@@ -1,11 +1,10 @@
 """Rx over a proved book of subscriptions.
 
     cellarcliff.rx      operators with the names and the manners of RxPY 3
-    cellarcliff.book    the book itself, by typed calls
     cellarcliff.live    a book by lines, over a pipe or in this process
     cellarcliff.audit   the verdict on a history, and its picture
 
-All of it stands on the standard library and, but for a book over a pipe, on the shared libraries librx and libcellarcliff.
+All of it stands on the standard library and, but for a book over a pipe, on the shared library libcellarcliff.
 """
 import sys
 

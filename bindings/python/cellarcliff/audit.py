@@ -1,4 +1,4 @@
-"""Judges, draws and explains a history of subscriptions, and runs a scenario of them, by the libraries librx and libcellarcliff.
+"""Judges, draws and explains a history of subscriptions, and runs a scenario of them, by the library libcellarcliff.
 
     from cellarcliff import audit
 
@@ -30,7 +30,7 @@ Named = Dict[str, Any]
 Scenario = Union[dict, str, bytes]
 
 DONE, TOO_SMALL, FAULTY_INPUT, OUT_OF_MEMORY, NOT_LAWFUL = 0, 1, 3, 4, 5
-_NO_HISTORY = ("rx_audit", "cellar_picture")
+_NO_HISTORY = ("cellar_audit", "cellar_picture")
 
 
 class FaultyInput(ValueError):
@@ -103,16 +103,16 @@ def _fault(name: str, text: bytes) -> str:
         return f"{what}: {told}"
     if first == b"[" and name not in _NO_HISTORY:
         return f"{what}: it is a history, which audit takes"
-    if first == b"{" and name == "rx_audit":
+    if first == b"{" and name == "cellar_audit":
         return f"{what}: it is a scenario, which run and run_names take"
-    if not told and name in ("rx_run_dump", "cellar_run_names"):
+    if not told and name in ("cellar_run_dump", "cellar_run_names"):
         return f"{what}: one that has a checkpoint has no history; run takes it"
     return f"{what}: {told}" if told else what
 
 
 def audit(history: History) -> Verdict:
     """The verdict on the history."""
-    first, *rest = _answer("rx_audit", history).decode().splitlines()
+    first, *rest = _answer("cellar_audit", history).decode().splitlines()
     word, *place = first.split()
     lists = [tuple(map(int, line.split(":")[1].split())) for line in rest]
     return Verdict(word, int(place[0]) if place else None, *lists)
@@ -120,12 +120,12 @@ def audit(history: History) -> Verdict:
 
 def run(scenario: Scenario) -> str:
     """The report of the scenario, which is run on a new book."""
-    return _answer("rx_run", scenario).decode()
+    return _answer("cellar_run", scenario).decode()
 
 
 def run_dump(scenario: Scenario) -> List[List[Any]]:
     """The history of the scenario, which `audit` judges."""
-    events: List[List[Any]] = json.loads(_answer("rx_run_dump", scenario))
+    events: List[List[Any]] = json.loads(_answer("cellar_run_dump", scenario))
     return events
 
 

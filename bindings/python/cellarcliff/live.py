@@ -1,6 +1,6 @@
 """A live book by lines: a program holds its resources by names, and each is released once, when the book says so.
 
-    with Book(["./rxbook", "live"]) as book:       # over a pipe; Book() is in this process, over librx
+    with Book(["./rxbook", "live"]) as book:       # over a pipe; Book() is in this process, over libcellarcliff
         book.using("log", print, open("log.txt").close)
         book.send("dispose", node="log")
 
@@ -133,11 +133,11 @@ class _InProcess:
     def __init__(self, max_events: int):
         self._library = _library.load()
         for name in "new", "send", "read", "end":
-            getattr(self._library, f"rx_live_{name}").restype = ctypes.c_uint8
+            getattr(self._library, f"cellar_live_{name}").restype = ctypes.c_uint8
         self._handle = _Handle()
         self._buffer = ctypes.create_string_buffer(4096)
         self._told = ctypes.c_size_t()
-        if self._library.rx_live_new(ctypes.byref(self._handle), ctypes.c_uint32(max_events)) != DONE:
+        if self._library.cellar_live_new(ctypes.byref(self._handle), ctypes.c_uint32(max_events)) != DONE:
             raise MemoryError
 
     def _text(self, asked: _Asked, call: Any, *words: Any) -> bytes:
@@ -148,20 +148,20 @@ class _InProcess:
         while asked.steps[-1] == TOO_SMALL:  # it was done, and its answer waits
             self._buffer = ctypes.create_string_buffer(max(self._told.value, len(self._buffer)))
             room = ctypes.c_size_t(len(self._buffer))
-            asked.steps.extend(map(self._library.rx_live_read, [book], [self._buffer], [room], [told]))
+            asked.steps.extend(map(self._library.cellar_live_read, [book], [self._buffer], [room], [told]))
         status = asked.steps[-1]
         if status not in (DONE, OUT_OF_MEMORY):
-            raise RuntimeError(f"librx: status {status}")
+            raise RuntimeError(f"libcellarcliff: status {status}")
         return self._buffer.raw[:self._told.value] if status == DONE else NO_MEMORY
 
     def answer(self, asked: _Asked) -> bytes:
-        return self._text(asked, self._library.rx_live_send, asked.line, ctypes.c_size_t(len(asked.line)))
+        return self._text(asked, self._library.cellar_live_send, asked.line, ctypes.c_size_t(len(asked.line)))
 
     def end(self, asked: _Asked) -> bytes:
         try:
-            return self._text(asked, self._library.rx_live_end)
+            return self._text(asked, self._library.cellar_live_end)
         finally:
-            self._library.rx_live_drop(ctypes.byref(self._handle))
+            self._library.cellar_live_drop(ctypes.byref(self._handle))
 
 
 class Book:

@@ -1,6 +1,6 @@
-"""A book in Python, which the package is tried over where the library is not: simple and searching, with the rules of the book.
+"""A book in Python, over which the lines of a live book are tried: simple and searching, with the rules of the book.
 
-It has the calls of `cellarcliff.book.Calls`, keeps every node that is open in a dictionary, and settles by recursion. It checks
+It keeps every node that is open in a dictionary, and settles by recursion. It checks
 of itself what a caller may see: that no tag is told twice, and that none is lost.
 """
 from __future__ import annotations
@@ -8,8 +8,12 @@ from __future__ import annotations
 from collections import deque
 from typing import Any, Deque, Dict, List, Optional, Set, Tuple
 
-from cellarcliff.book import (AUTO, FLAT, INNER, LEAF, NEXT, NOTIFIER, ON_COMPLETED, ON_ERROR, PASS, PROJECT, ROOT, SOURCE, SUB,
-                              SWITCH, UNTIL, Calls, Counts, Refused)
+from cellarcliff._refused import Refused
+
+ROOT, SOURCE, INNER, NOTIFIER = range(4)
+LEAF, PASS, FLAT, SWITCH, UNTIL, SUB = range(6)
+AUTO, MANUAL = range(2)
+NEXT, PROJECT, ON_COMPLETED, ON_ERROR = range(4)
 
 MOST_HUBS = 1024
 
@@ -45,7 +49,7 @@ class _Lease:
 CONNECTION = 9  # a kind of its own, which no caller opens
 
 
-class FakeBook(Calls):
+class FakeBook:
     def __init__(self) -> None:
         self.mail: Deque[Tuple[int, int, int]] = deque()
         self.tags: Deque[int] = deque()

@@ -10,9 +10,8 @@ import time
 sys.path.insert(0, str(pathlib.Path(__file__).resolve().parent.parent))
 sys.path.insert(0, str(pathlib.Path(__file__).resolve().parent))
 
+import fake_book as it  # noqa: E402
 from fake_book import FakeBook  # noqa: E402
-
-from cellarcliff import book as it  # noqa: E402
 
 PLACES = {"root": it.ROOT, "source": it.SOURCE, "inner": it.INNER, "notifier": it.NOTIFIER}
 KINDS = {"leaf": it.LEAF, "pass": it.PASS, "flat": it.FLAT, "switch": it.SWITCH, "until": it.UNTIL, "sub": it.SUB}

@@ -37,14 +37,6 @@ def fresh_engine(max_events=0):
     return _engine.Engine(max_events)
 
 
-def fresh_book():
-    if os.environ.get("CELLARCLIFF_LIBRARY"):
-        from cellarcliff.book import Book
-        return Book()
-    from tests.fake_book import FakeBook
-    return FakeBook()
-
-
 def _kit(name, package, testing, engine):
     of = lambda module: importlib.import_module(f"{package}.{module}")
     time = importlib.import_module(testing)

@@ -19,7 +19,7 @@ class Audit(unittest.TestCase):
         for file in EXAMPLES.glob("*.json"):
             self.assertEqual(audit.run(file.read_text()), file.with_suffix(".report").read_text())
             self.assertTrue(audit.audit(audit.run_dump(file.read_bytes())).is_lawful)
-        self.assertEqual(audit._answer("rx_run_dump", text("first-run.json")).decode(), text("first-run.dump"))
+        self.assertEqual(audit._answer("cellar_run_dump", text("first-run.json")).decode(), text("first-run.dump"))
 
     def test_verdicts(self):
         self.assertEqual(audit.audit(text("dispose-twice.dump")), audit.Verdict("unlawful", 4))

@@ -348,23 +348,5 @@ class Faults(unittest.TestCase):
         self.assertEqual(told, [1])
 
 
-class Numbers(unittest.TestCase):
-    # F14
-
-    def test_numbers_out_of_range_are_refused(self):
-        from cellarcliff.book import LEAF, ROOT, Book
-        try:
-            book = Book()
-        except OSError:
-            self.skipTest("librx is not there")
-        with book:
-            leaf, _ = book.open(ROOT, None, LEAF)
-            for call in (lambda: book.next(leaf, 2**63), lambda: book.next(leaf, -2**63 - 1), lambda: book.hold_tag(leaf, 2**64),
-                         lambda: book.hold_tag(leaf, -1), lambda: book.open(ROOT, None, 256)):
-                with self.assertRaises(OverflowError):
-                    call()
-            book.dispose(leaf)
-
-
 if __name__ == "__main__":
     unittest.main()

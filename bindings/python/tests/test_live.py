@@ -192,7 +192,7 @@ class Live(unittest.TestCase):
 
 @unittest.skipUnless(os.environ.get("CELLARCLIFF_LIBRARY"), "without the library")
 class InProcess(Live):
-    """The same over librx, but for what the program in Python alone can do."""
+    """The same over the library, but for what the program in Python alone can do."""
 
     def book(self):
         return Book()

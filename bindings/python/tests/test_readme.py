@@ -25,7 +25,7 @@ def printed_by(code, name):
 
 class Readme(unittest.TestCase):
     def test_its_examples(self):
-        self.assertEqual(len(EXAMPLES), 7)
+        self.assertEqual(len(EXAMPLES), 6)
         for number, (code, wanted) in enumerate(EXAMPLES, 1):
             if number > 5 and not os.environ.get("CELLARCLIFF_LIBRARY"):
                 continue

@@ -4,7 +4,7 @@ import sys
 import unittest
 
 from cellarcliff.watch.history import History, WrongOrder
-from tests.kits import fresh_book
+from tests import kits  # noqa: F401 (the model of the engine)
 
 
 def line():
@@ -14,7 +14,7 @@ def line():
 
 class WrittenByHand(unittest.TestCase):
     def setUp(self):
-        self.history = History(fresh_book())
+        self.history = History()
 
     def refused(self, rule, call, *words, about=None):
         """Refuses it by this rule; says the line of the call, and the one that made what it is about."""
@@ -37,7 +37,7 @@ class WrittenByHand(unittest.TestCase):
         view = self.history.opened(name="view")
         prices = self.history.opened("leaf", "source", view); made = line()
         socket = self.history.held(view, "socket"); held = line()
-        self.history.item(prices, 5)
+        self.history.item(prices)
         self.assertIn(f"the leaf, written down at {os.path.relpath(__file__)}:{made}", self.history.report())
         self.history.completed(prices)
         self.assertEqual(self.history.open_now(), [socket])
@@ -110,7 +110,7 @@ class WrittenByHand(unittest.TestCase):
         self.history.item(routes)
         self.history.declined(latest)
         self.history.item(routes)
-        self.history.failed(latest, 3)
+        self.history.failed(latest)
         self.is_empty()
 
     def test_only_a_root_is_closed_from_outside(self):
@@ -128,11 +128,6 @@ class WrittenByHand(unittest.TestCase):
         self.history.closed(first)
         self.history.closed(connection)
         self.refused("NotConnected", self.history.closed, connection)
-
-    def test_a_hub_stands_below_one_that_was_made_after_it(self):
-        first, second = self.history.hub("manual"), self.history.hub("manual")
-        connection = self.history.connected(first)
-        self.refused("HubOrder", self.history.opened, ("sub", second), "source", connection)
 
     def test_a_share_is_connected_while_it_has_a_subscriber(self):
         feed = self.history.hub("auto", "feed")

@@ -9,7 +9,7 @@ import unittest
 from unittest import mock
 
 import cellarcliff
-from cellarcliff import audit, book, live, rx
+from cellarcliff import _refused, audit, live, rx
 from cellarcliff.rx import operators as ops
 from tests.kits import fresh_engine
 from tests.test_live import PROGRAM
@@ -20,7 +20,7 @@ HEADER = pathlib.Path(__file__).resolve().parents[3] / "crates/rx_c/cellarcliff_
 NAMES = (("rx", "from_iterabel", "from_iterable"), ("rx", "combinelatest", "combine_latest"), ("rx.operators", "flatmap", "flat_map"),
          ("rx.operators", "distinct_until_change", "distinct_until_changed"), ("rx.subject", "BehaviourSubject", "BehaviorSubject"),
          ("rx.disposable", "Disposible", "Disposable"), ("rx.scheduler", "TimoutScheduler", "TimeoutScheduler"),
-         ("rx.testing", "ReactivTest", "ReactiveTest"), ("book", "SWICH", "SWITCH"), ("live", "Boook", "Book"), ("audit", "expalin", "explain"))
+         ("rx.testing", "ReactivTest", "ReactiveTest"), ("live", "Boook", "Book"), ("audit", "expalin", "explain"))
 
 
 class Words(unittest.TestCase):
@@ -62,16 +62,16 @@ class Words(unittest.TestCase):
         self.assertNotIn("did you mean", str(raised.exception).lower())
 
     def test_each_status_has_its_name(self):
-        self.assertEqual(book.REFUSALS[5], "NoSuchCode")
-        for refuse in book._refuse, rx._engine.refuse:
-            self.assertRaisesRegex(book.Refused, "^NoSuchCode$", refuse, 5)
-            self.assertRaisesRegex(book.Refused, "^status 200$", refuse, 200)
+        self.assertEqual(_refused.REFUSALS[5], "NoSuchCode")
+        for refuse in (rx._engine.refuse,):
+            self.assertRaisesRegex(_refused.Refused, "^NoSuchCode$", refuse, 5)
+            self.assertRaisesRegex(_refused.Refused, "^status 200$", refuse, 200)
 
     @unittest.skipUnless(HEADER.exists(), "the header is in a checkout")
     def test_the_names_are_those_of_the_header(self):
         names = {int(number): name for number, name in re.findall(r'case (\d+): return "(\w+)"', HEADER.read_text())}
         theirs = {number: name for number, name in names.items() if number not in (0, 1, 4)}  # done; a ValueError; a MemoryError
-        self.assertEqual(book.REFUSALS, theirs)
+        self.assertEqual(_refused.REFUSALS, theirs)
 
     def test_a_line_of_a_live_book(self):
         cases = (({"do": "opne", "name": "b"}, "do: ", "open"), ({"do": "open", "nmae": "b"}, "nmae: ", "name"),

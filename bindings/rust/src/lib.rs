@@ -1,4 +1,4 @@
-//! Observables over a proved engine, and the book of subscriptions below it: each resource that goes in is released exactly once.
+//! Observables over a proved engine: each resource that goes in is released exactly once.
 //!
 //! [`local`] has observables of one thread, [`sync`] those that threads share; both have the same names.
 //!
@@ -34,42 +34,6 @@
 //! - **Engines.** What borrows nothing uses one engine for each thread (`local`) or one for all (`sync`). A [`local::Scope`] is an engine
 //!   of its own, in which functions may borrow; dropping it closes all that is open in it.
 //!
-//! # The book
-//!
-//! A [`Book`] keeps what is open for a program that has operators of its own.
-//!
-//! ```
-//! use cellarcliff::{At, Book, Kind, Terminal, What};
-//!
-//! # fn main() -> Result<(), Box<dyn std::error::Error>> {
-//! let mut book: Book<&str, std::fs::File> = Book::new()?;
-//! let file = std::fs::File::open("Cargo.toml")?;
-//! let root = book.using(At::Root, file)?;                     // a node that holds the file
-//! let leaf = book.open(At::Source(root.node), Kind::Leaf)?;   // the source that it mirrors
-//! book.next(leaf.node, "an item")?;
-//! book.end(leaf.node, Terminal::Completed)?;
-//! let told = book.take_mail().unwrap();
-//! assert!(told.to == root.node.number() && told.what == What::Next("an item"));
-//! assert_eq!(book.take_mail().unwrap().what, What::End(Terminal::Completed));
-//! drop(book.take());                                          // the file comes back, and is closed here
-//! assert!(book.take().is_none());
-//! # Ok(())
-//! # }
-//! ```
-//!
-//! A `Book<T, R>` has items of the type `T` and resources of the type `R`. After you emit an item, [`Book::take_mail`] says which
-//! observers receive it. [`Book::take`] hands out what a closed node held; drop it to release it. A refused call changes nothing, and
-//! hands back what it was given. Dropping a book closes it and drops every resource that is left.
-//!
-//! Keys do not mix: the key of a resource or a lease is not one of a node, and a key of another book is refused.
-//!
-//! ```compile_fail
-//! # use cellarcliff::{Book, Refusal, Res};
-//! fn dispose(book: &mut Book<u8, u8>, res: Res) -> Result<(), Refusal> {
-//!     book.dispose(res)
-//! }
-//! ```
-//!
 //! This crate is tested, not proved; nor is proved what a caller does with a resource once it has it.
 #![deny(missing_docs)]
 #![deny(unsafe_code)]
@@ -78,7 +42,6 @@
 #[cfg(test)]
 extern crate self as cellarcliff; // as the programs of the tests name it
 
-mod book;
 pub mod engine;
 pub mod local;
 mod note;
@@ -86,6 +49,5 @@ mod refusal;
 mod rx;
 pub mod sync;
 
-pub use book::*;
 pub use note::Note;
 pub use refusal::Refusal;

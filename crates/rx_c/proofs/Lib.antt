@@ -7,5 +7,3 @@ mod WhatWaits
 mod AnswersHandedOut
 pub mod Values
 pub mod OwnedMayBeSent
-mod ExportsMakeCourses
-pub mod CallOnBook

@@ -1,8 +1,7 @@
--- The machine values of a `Loose` and of the two handles, and what each owns. Assumes `Logic`.
+-- The machine values of a `Loose` and of the handle, and what each owns. Assumes `Logic`.
 --     loose_out, loose_in      a `Loose` by value is [the box's memory and token; its allocator]
 --     pointer_out, pointer_in  a struct of one pointer by value is [what it owns beside it]
 --     handle_out, handle_in    a `Handle` by value is [what it owns]
---     book_out, book_in        a `BookHandle` by value is [what it owns]
 --     either                   what a handle owns: nothing at null, or a block whose pointer may be compared with null
 use Rattle.rx_c.proofs.Common.{◌≡◌, List, [], ◌∷◌, ◌++◌, Option, None, Some, refl, subst, lit<, dnil, Val, vptr, vstruct, vcons, vnil, of_list, fsep, ent}
 use Rattle.rx_c.proofs.Common.{never, fst∗, sem, ‵, ◌$◌, move, drop, use1, fsplit, fjoin, fpick, fpack, feq_i, feq_l, RattleType, RawPtr, Ptr, block_ptr}
@@ -34,8 +33,6 @@ use Rattle.std.specs.declared.alloc.Global.{Global}
 use Rattle.rx_c.specs.Ownership.{block_token, owns_unless_null}
 use Rattle.rx_c.specs.contracts.kept.Kept as kept
 use Rattle.rx_c.specs.contracts.handle.Handle as handle
-use Rattle.rx_typed.specs.contracts.typed.Typed as typed
-use Rattle.rx_c.specs.contracts.book.handle.BookHandle as book
 use Rattle.rx_c.specs.contracts.loose.Loose as loose
 
 abbrev pub both : Val → Val → Val
@@ -109,9 +106,6 @@ module _ (name : Sym) (args : List Lifetime) (types : List RattleType) where
 abbrev pub Handle : RattleType
 Handle = handle.the_row
 
-abbrev pub Book : RattleType
-Book = book.the_row
-
 module _ {M : Type 1} {𝓤 : Ura M} {𝓛 : Logic 𝓤} {K : Type 0} {Γ : List (Item 𝓤)} {G : Goal 𝓤 𝓛.H} where
   pub handle_out : K → (d : Handle.Denot) (vs : List Val)
       → (vs ≡ alone (ptr_val d.at) ∷ [] → Seq K 𝓛 (‵ (owns_unless_null kept.the_row d.at d.kept) ∷ Γ) G)
@@ -123,16 +117,6 @@ module _ {M : Type 1} {𝓤 : Ura M} {𝓛 : Logic 𝓤} {K : Type 0} {Γ : List
       → Step K 𝓛 (‵ (Handle.own_val (record { at = p; kept = k }) (alone (ptr_val p) ∷ [])) ∷ Γ) G (‵
       (owns_unless_null kept.the_row p k) ∷ Γ) G
   handle_in t p k = pointer_in handle.the_type.name handle.the_type.args handle.the_type.types t p (owns_unless_null kept.the_row p k)
-
-  pub book_out : K → (d : Book.Denot) (vs : List Val)
-      → (vs ≡ alone (ptr_val d.at) ∷ [] → Seq K 𝓛 (‵ (owns_unless_null typed.the_row d.at d.kept) ∷ Γ) G)
-      → Seq K 𝓛 (‵ (Book.own_val d vs) ∷ Γ) G
-  book_out t d vs k = pointer_out book.the_type.name book.the_type.args book.the_type.types t d.at (owns_unless_null typed.the_row d.at d.kept) vs k
-
-  pub book_in : K → (p : Ptr) (k : Option (typed.the_row).Denot)
-      → Step K 𝓛 (‵ (Book.own_val (record { at = p; kept = k }) (alone (ptr_val p) ∷ [])) ∷ Γ) G (‵
-      (owns_unless_null typed.the_row p k) ∷ Γ) G
-  book_in t p k = pointer_in book.the_type.name book.the_type.args book.the_type.types t p (owns_unless_null typed.the_row p k)
 
 module _ (R : RattleType) (a : Global) where
   pub tested : {M : Type 1} {𝓤 : Ura M} (𝓛 : Logic 𝓤) (p : Ptr) (x : R.Denot)

@@ -7,5 +7,3 @@ pub mod Ownership
 pub mod Ran
 pub mod Shown
 pub mod Stages
-pub mod Dumped
-pub mod BookCourses

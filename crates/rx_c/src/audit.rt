@@ -30,7 +30,12 @@ fn verdict_on(alloc: Global, dump: &[u8], text: &mut Vec<u8>) -> Result<u8, Scri
 /// The status is 0 where the verdict is `lawful`, 5 where it is another, 1 where the buffer is too
 /// small, 3 where the bytes are no dump, 4 where memory was refused.
 #[unsafe(no_mangle)]
-pub extern "C" fn rx_audit(alloc: Global, dump: &[u8], buffer: &mut [u8], told: &mut usize) -> u8
+pub extern "C" fn cellar_audit(
+    alloc: Global,
+    dump: &[u8],
+    buffer: &mut [u8],
+    told: &mut usize,
+) -> u8
     ensures { AnswersText (TellsVerdict dump.now) (HasNoHistory dump.now) buffer.old buffer.new told.new result }
 {
     let mut text = Vec::new(alloc);

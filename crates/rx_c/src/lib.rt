@@ -1,7 +1,6 @@
-//! For C: the audit of a dump, the run of a scenario, a picture, an explanation, a live book behind a handle, and a
-//! book by numbers behind another.
+//! For C: the audit of a dump, the run of a scenario, a picture, an explanation, and a live book behind a handle.
 //!
-//! All but the last have text in and text out. A call takes a text as a pointer and a length, writes its answer
+//! All have text in and text out. A call takes a text as a pointer and a length, writes its answer
 //! to the front of the caller's buffer, and answers a status. Those of the audit and the run are as the program
 //! `rxbook` has them:
 //!
@@ -30,9 +29,7 @@
 //! | 6 | no answer waits |
 //!
 //! A line is taken at most once: with 0 or 1 it was, with any other status it was not. Its answer is handed
-//! out by that call or, where it waits, by `rx_live_read`.
-//!
-//! A call on a book by numbers takes a [`BookHandle`] and numbers, and answers a status of `rx_typed`.
+//! out by that call or, where it waits, by `cellar_live_read`.
 //!
 //! # Promised, and not
 //!
@@ -47,19 +44,14 @@
 //! - Of all calls on one handle, from a new book to its end: the texts that were handed out are the answers to
 //!   the lines that were taken, in order and each once, and each resource's name is released once
 //!   ([`answers_are_handed_out_once`]).
-//! - Each call by numbers does what `rx_typed` says of the book's call of its name. Of all of them on one handle,
-//!   from a new book to its end: each tag that was taken in is told once ([`tags_are_told_once`]), and notes are
-//!   told in order and each once ([`notes_of_a_book_are_told_once`]).
 //! - A handle owns what it keeps. Otherwise no pointer is kept: all that a call uses is the caller's, or given
 //!   back before it answers.
 //! - That a call gives back what the handle no longer keeps, and that 4 comes for want of memory alone, is
 //!   tested and not proved.
-//! - What a C caller must ensure is in docs/reference/c-library.md and docs/reference/c-api.md: no clause can say
-//!   it.
+//! - What a C caller must ensure is in docs/reference/c-library.md: no clause can say it.
 #![tactic(auto)]
 
 mod audit;
-mod book;
 mod handing;
 mod handle;
 mod kept;
@@ -72,10 +64,11 @@ mod status;
 #[cfg(test)]
 mod tests;
 
-pub use audit::rx_audit;
-pub use book::handle::BookHandle;
+pub use audit::cellar_audit;
 pub use handle::Handle;
-pub use laws::{answers_are_handed_out_once, notes_of_a_book_are_told_once, tags_are_told_once};
-pub use live::{rx_live_drop, rx_live_end, rx_live_new, rx_live_read, rx_live_send};
-pub use running::{rx_run, rx_run_dump};
+pub use laws::answers_are_handed_out_once;
+pub use live::{
+    cellar_live_drop, cellar_live_end, cellar_live_new, cellar_live_read, cellar_live_send,
+};
+pub use running::{cellar_run, cellar_run_dump};
 pub use showing::{cellar_explain, cellar_picture, cellar_run_names};

@@ -16,7 +16,7 @@ use std::alloc::Global;
 /// The status is 0 where it is made, 4 where memory was refused, 5 where the handle keeps something
 /// already; with 4 and 5 nothing was made.
 #[unsafe(no_mangle)]
-pub extern "C" fn rx_live_new(alloc: Global, handle: &mut Handle, max_events: u32) -> u8
+pub extern "C" fn cellar_live_new(alloc: Global, handle: &mut Handle, max_events: u32) -> u8
     ensures { IsMade max_events (stage handle.old.kept) (stage handle.new.kept) result }
 {
     if let Some(kept) = handle.take(alloc) {
@@ -36,13 +36,13 @@ pub extern "C" fn rx_live_new(alloc: Global, handle: &mut Handle, max_events: u3
 }
 
 /// Sends a line, once, and writes its answer to the front of `buffer`; `told` gets its length. Where the
-/// buffer is too small the answer waits for [`rx_live_read`].
+/// buffer is too small the answer waits for [`cellar_live_read`].
 ///
 /// The status is 0 where the answer was written, 1 where it waits, 2 where the handle keeps nothing, 3
 /// where an answer waits already, 4 where memory was refused; with 2, 3 and 4 the line was not taken,
 /// but with 4 the book may have made a checkpoint.
 #[unsafe(no_mangle)]
-pub extern "C" fn rx_live_send(
+pub extern "C" fn cellar_live_send(
     alloc: Global,
     handle: &mut Handle,
     line: &[u8],
@@ -66,7 +66,7 @@ pub extern "C" fn rx_live_send(
 /// The status is 0 where it was written, 1 where the buffer is too small and it waits on, 2 where the
 /// handle keeps nothing, 6 where nothing waits.
 #[unsafe(no_mangle)]
-pub extern "C" fn rx_live_read(
+pub extern "C" fn cellar_live_read(
     alloc: Global,
     handle: &mut Handle,
     buffer: &mut [u8],
@@ -86,12 +86,12 @@ pub extern "C" fn rx_live_read(
 }
 
 /// Ends the book, and writes its last answer to the front of `buffer`; `told` gets its length. The handle
-/// keeps nothing afterwards, but where the buffer is too small that answer waits for [`rx_live_read`].
+/// keeps nothing afterwards, but where the buffer is too small that answer waits for [`cellar_live_read`].
 ///
 /// The status is 0 where the answer was written, 1 where it waits, 2 where the handle keeps nothing, 3
 /// where an answer waits already, 4 where memory was refused; with 2, 3 and 4 nothing was ended.
 #[unsafe(no_mangle)]
-pub extern "C" fn rx_live_end(
+pub extern "C" fn cellar_live_end(
     alloc: Global,
     handle: &mut Handle,
     buffer: &mut [u8],
@@ -113,7 +113,7 @@ pub extern "C" fn rx_live_end(
 /// Gives back the memory of all that the handle keeps, whatever it is. Nothing is told of it: what the
 /// book holds is for its caller to release.
 #[unsafe(no_mangle)]
-pub extern "C" fn rx_live_drop(alloc: Global, handle: &mut Handle)
+pub extern "C" fn cellar_live_drop(alloc: Global, handle: &mut Handle)
     ensures { stage handle.new.kept ≡ absent }
 {
     let _kept = handle.take(alloc);

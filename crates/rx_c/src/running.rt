@@ -60,18 +60,23 @@ pub fn run_in(alloc: Global, scenario: &[u8], form: Form, buffer: &mut [u8], tol
 /// The status is 0 where the run is done, 1 where the buffer is too small, 3 where the bytes are no
 /// scenario, 4 where memory was refused.
 #[unsafe(no_mangle)]
-pub extern "C" fn rx_run(alloc: Global, scenario: &[u8], buffer: &mut [u8], told: &mut usize) -> u8
+pub extern "C" fn cellar_run(
+    alloc: Global,
+    scenario: &[u8],
+    buffer: &mut [u8],
+    told: &mut usize,
+) -> u8
     ensures { AnswersText (TellsRun scenario.now Form.Report) (HasNothingToWrite Form.Report scenario.now)
         buffer.old buffer.new told.new result }
 {
     run_in(alloc, scenario, Form::Report, buffer, told)
 }
 
-/// Runs the scenario as [`rx_run`] does, and writes the dump of the history before the closing in place of the report, as
-/// `rxbook run --dump` does; [`rx_audit`](crate::rx_audit) judges it. The status is 3 also where the scenario has a
+/// Runs the scenario as [`cellar_run`] does, and writes the dump of the history before the closing in place of the report, as
+/// `rxbook run --dump` does; [`cellar_audit`](crate::cellar_audit) judges it. The status is 3 also where the scenario has a
 /// checkpoint, after which a dump is no whole history.
 #[unsafe(no_mangle)]
-pub extern "C" fn rx_run_dump(
+pub extern "C" fn cellar_run_dump(
     alloc: Global,
     scenario: &[u8],
     buffer: &mut [u8],

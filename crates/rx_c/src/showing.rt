@@ -18,7 +18,7 @@ use std::alloc::Global;
 /// Runs the scenario on a new book and writes its history before the closing with the names of its nodes, hubs and
 /// resources, as `rxbook run --dump --names` does: an object, of which [`cellar_picture`] draws the picture.
 ///
-/// The statuses are those of [`rx_run_dump`](crate::rx_run_dump).
+/// The statuses are those of [`cellar_run_dump`](crate::cellar_run_dump).
 #[unsafe(no_mangle)]
 pub extern "C" fn cellar_run_names(
     alloc: Global,
@@ -50,7 +50,7 @@ fn draw(alloc: Global, input: &[u8], text: &mut String) -> Result<u8, ScriptErro
     Ok(0)
 }
 
-/// Draws the history and writes the picture, an SVG document, to the front of `buffer`, as `rxpicture` does; `told`
+/// Draws the history and writes the picture, an SVG document, to the front of `buffer`, as `rxbook picture` does; `told`
 /// gets its length. The input is a dump, or an object with a dump and with names.
 ///
 /// The status is 0 where the picture is drawn, 1 where the buffer is too small, 3 where the bytes have no dump, 4
@@ -86,7 +86,7 @@ fn tell(alloc: Global, input: &[u8], text: &mut String) -> Result<u8, ScriptErro
     }
 }
 
-/// Says what is wrong with the input, a scenario or a dump, in a sentence, as `rxexplain` does: the sentence, without
+/// Says what is wrong with the input, a scenario or a dump, in a sentence, as `rxbook explain` does: the sentence, without
 /// a newline, goes to the front of `buffer`, and `told` gets its length.
 ///
 /// The status is 0 where nothing is wrong, with no text: the input is a scenario, or a dump whose verdict is `lawful`.

@@ -1,15 +1,10 @@
 //! What no clause says: that each call can succeed, with the texts of a worked example, and that a fault
 //! of the stock is told.
 
-mod asking;
-mod book;
 mod live;
-mod memory;
 mod showing;
-mod starved;
-mod telling;
 
-use crate::{rx_audit, rx_run, rx_run_dump};
+use crate::{cellar_audit, cellar_run, cellar_run_dump};
 use std::alloc::Global;
 
 // A subscription with a resource, from its beginning to its end.
@@ -89,9 +84,9 @@ fn is_answered(alloc: Global, step: Step) -> bool {
     let mut told = 0;
     let front = &mut buffer[..room.min(512)];
     let status = match call {
-        Call::Run => rx_run(alloc, input.as_bytes(), front, &mut told),
-        Call::Dump => rx_run_dump(alloc, input.as_bytes(), front, &mut told),
-        Call::Audit => rx_audit(alloc, input.as_bytes(), front, &mut told),
+        Call::Run => cellar_run(alloc, input.as_bytes(), front, &mut told),
+        Call::Dump => cellar_run_dump(alloc, input.as_bytes(), front, &mut told),
+        Call::Audit => cellar_audit(alloc, input.as_bytes(), front, &mut told),
     };
     status == wanted && handed.is_in(&buffer, told)
 }

@@ -4,7 +4,7 @@ use Rattle.rx_resource.specs.declared.Resource.{Ghosts}
 use Rattle.rx_resource.specs.declared.token.Token.{Token}
 use Rattle.rx_event.specs.declared.refusal.Refusal.{Refusal}
 use Rattle.rx_engine.specs.States.{State}
-use Rattle.rx_typed.specs.Codes.{refusal_status}
+use Rattle.rx_cellar.specs.Codes.{refusal_status}
 use Rattle.rx_cellar.specs.declared.shapes.Answer.{Answer}
 use Rattle.rx_cellar.specs.declared.making.Made.{Made}
 use Rattle.rx_cellar.specs.declared.asked.Asked.{Asked}

@@ -6,7 +6,7 @@ use Rattle.std.specs.Option.{option_and_then}
 use Rattle.rx_slots.specs.declared.Key.{Key}
 use Rattle.rx_book.specs.declared.answer.At.{At}
 use Rattle.rx_engine.specs.declared.parts.User.{User}
-use Rattle.rx_typed.specs.Codes.{key_of, place_at}
+use Rattle.rx_cellar.specs.Codes.{key_of, place_at}
 use Rattle.rx_cellar.specs.declared.shapes.Command.{Command}
 use Rattle.rx_cellar.specs.declared.asked.OpenedAs.{OpenedAs}
 use Rattle.rx_cellar.specs.declared.asked.OpenedAs.TheVariants.{Own, Of}

@@ -6,7 +6,7 @@ use Rattle.rx_event.specs.declared.refusal.Refusal.{Refusal}
 use Rattle.rx_roles.specs.declared.effect.Effect.{Effect as Sent}
 use Rattle.rx_engine.specs.States.{State}
 use Rattle.rx_engine.specs.Handings.{IsNextHanded}
-use Rattle.rx_typed.specs.Codes.{refusal_status}
+use Rattle.rx_cellar.specs.Codes.{refusal_status}
 use Rattle.rx_cellar.specs.declared.shapes.Answer.{Answer}
 use Rattle.rx_cellar.specs.declared.asked.Item.{Item}
 use Rattle.rx_cellar.specs.declared.cellar.Cellar.{Cellar}

@@ -14,8 +14,8 @@ use Rattle.rx_pool.specs.declared.search.Share.{Share}
 use Rattle.rx_engine.specs.declared.parts.User.{User}
 use Rattle.rx_engine.specs.declared.homes.LaneOf.{LaneOf}
 use Rattle.rx_engine.specs.declared.homes.LaneOf.TheVariants.{Node, Projections}
-use Rattle.rx_typed.specs.declared.shapes.RxNode.{RxNode}
-use Rattle.rx_typed.specs.Codes.{key_of, place_at}
+use Rattle.rx_cellar.specs.declared.shapes.NumberedKey.{NumberedKey}
+use Rattle.rx_cellar.specs.Codes.{key_of, place_at}
 use Rattle.rx_cellar.specs.declared.shapes.Command.{Command}
 use Rattle.rx_cellar.specs.declared.asked.OwnKind.{OwnKind}
 use Rattle.rx_cellar.specs.declared.asked.OwnKind.TheVariants.{Leaf as OwnLeaf, Pass as OwnPass, Flat as OwnFlat, Switch as OwnSwitch, Until as OwnUntil}
@@ -44,7 +44,7 @@ opened_as c = if c.kind == 0 then Some (Own OwnLeaf) else if c.kind == 1 then So
     else if c.kind == 5 then Some (Of (share_of c Auto)) else if c.kind == 6 then Some (Of (share_of c Manual)) else None
 
 -- whose lane a root has: by the flags 2 and 4, of which the second wants the first
-abbrev pub lane_asked : ℕ → RxNode → Option (Option LaneOf)
+abbrev pub lane_asked : ℕ → NumberedKey → Option (Option LaneOf)
 lane_asked code node = if code == 0 then Some None else if code == 1 then Some (Some (Node (key_of node)))
     else if code == 3 then Some (Some (Projections (key_of node))) else None
 
@@ -76,10 +76,10 @@ abbrev pub put_of : Command → Option Asked
 put_of c = if c.flags == 0 then Some (Put (Node (key_of c.node)) c.user c.value)
     else if c.flags == 4 then Some (Put (Projections (key_of c.node)) c.user c.value) else None
 
-abbrev pub res_of : RxNode → ResKey
+abbrev pub res_of : NumberedKey → ResKey
 res_of n = record { slot = n.slot; number = n.number }
 
-abbrev pub lease_of : RxNode → LeaseKey
+abbrev pub lease_of : NumberedKey → LeaseKey
 lease_of n = record { slot = n.slot; number = n.number }
 
 -- what has no flags

@@ -3,7 +3,7 @@ use Rattle.std.specs.Prelude.{◌≡◌, ℕ, Option, Some, None, Ok, Err}
 use Rattle.rx_resource.specs.declared.Resource.{Ghosts}
 use Rattle.rx_resource.specs.declared.token.Token.{Token}
 use Rattle.rx_event.specs.declared.refusal.Refusal.{Refusal}
-use Rattle.rx_typed.specs.Codes.{refusal_status}
+use Rattle.rx_cellar.specs.Codes.{refusal_status}
 use Rattle.rx_cellar.specs.declared.shapes.Command.{Command}
 use Rattle.rx_cellar.specs.declared.shapes.Answer.{Answer}
 use Rattle.rx_cellar.specs.Makings.{Outcome}

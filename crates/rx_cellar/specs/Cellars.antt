@@ -10,7 +10,7 @@ use Rattle.rx_roles.specs.declared.effect.What.{What}
 use Rattle.rx_roles.specs.declared.effect.What.TheVariants.{Release}
 use Rattle.rx_engine.specs.States.{State, IsPromised}
 use Rattle.rx_engine.specs.Checkpoints.{IsCheckpointMade}
-use Rattle.rx_typed.specs.Codes.{refusal_status}
+use Rattle.rx_cellar.specs.Codes.{refusal_status}
 use Rattle.rx_cellar.specs.declared.shapes.Command.{Command}
 use Rattle.rx_cellar.specs.declared.shapes.Answer.{Answer}
 use Rattle.rx_cellar.specs.declared.making.Made.{Made}

@@ -3,7 +3,7 @@ use Rattle.std.specs.Prelude.{◌≡◌, ℕ, ◌==◌, ◌&&◌, Bool, true, fa
 use Rattle.std.specs.Option.{option_and_then}
 use Rattle.rx_event.specs.declared.refusal.Refusal.{Refusal}
 use Rattle.rx_engine.specs.States.{State}
-use Rattle.rx_typed.specs.Codes.{key_of, place_at, refusal_status}
+use Rattle.rx_cellar.specs.Codes.{key_of, place_at, refusal_status}
 use Rattle.rx_cellar.specs.declared.shapes.Command.{Command}
 use Rattle.rx_cellar.specs.declared.shapes.Answer.{Answer}
 use Rattle.rx_cellar.specs.declared.making.Made.{Made}

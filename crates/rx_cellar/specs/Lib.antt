@@ -9,3 +9,5 @@ pub mod Serving
 pub mod Words
 pub mod Behind
 pub mod Frequent
+pub mod Codes
+pub mod EventsShown

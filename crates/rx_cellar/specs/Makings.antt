@@ -28,7 +28,7 @@ use Rattle.rx_engine.specs.Puttings.{IsPutMade}
 use Rattle.rx_engine.specs.Sharings.{IsSubscribeMade, IsConnectMade, IsDisconnectMade}
 use Rattle.rx_engine.specs.LettingGo.{IsClosingMade}
 use Rattle.rx_engine.specs.Hubs.{AreHubsMade}
-use Rattle.rx_typed.specs.Codes.{no_node, node_numbered}
+use Rattle.rx_cellar.specs.Codes.{no_node, key_numbered}
 use Rattle.rx_cellar.specs.declared.making.Made.{Made}
 use Rattle.rx_cellar.specs.declared.asked.OwnKind.TheVariants.{Pass}
 use Rattle.rx_cellar.specs.declared.asked.Item.{Item}
@@ -45,10 +45,10 @@ abbrev pub of_nothing : {A : Type 0} → A → Made
 of_nothing a = nothing_made
 
 abbrev pub of_node : Key → Made
-of_node k = record nothing_made { node = node_numbered k }
+of_node k = record nothing_made { node = key_numbered k }
 
 abbrev pub of_used : Used → Made
-of_used u = record nothing_made { node = node_numbered u.key; other = record { slot = u.res.slot; number = u.res.number } }
+of_used u = record nothing_made { node = key_numbered u.key; other = record { slot = u.res.slot; number = u.res.number } }
 
 abbrev pub of_held : ResKey → Made
 of_held r = record nothing_made { other = record { slot = r.slot; number = r.number } }
@@ -59,13 +59,13 @@ of_lease l = record nothing_made { other = record { slot = l.slot; number = l.nu
 -- a subscriber, with the connection that came with it
 abbrev pub with_connection : Option Key → Made → Made
 with_connection None m = m
-with_connection (Some k) m = record m { other = node_numbered k; is_connected = 1 }
+with_connection (Some k) m = record m { other = key_numbered k; is_connected = 1 }
 
 abbrev pub of_subscribed : Subscribed → Made
-of_subscribed s = with_connection s.connection (record nothing_made { node = node_numbered s.key; hub = s.place })
+of_subscribed s = with_connection s.connection (record nothing_made { node = key_numbered s.key; hub = s.place })
 
 abbrev pub of_connected : Connected → Made
-of_connected c = record nothing_made { other = node_numbered c.key; hub = c.place }
+of_connected c = record nothing_made { other = key_numbered c.key; hub = c.place }
 
 -- what is shown of an answer of the engine
 abbrev pub shown : {A B : Type 0} → (A → B) → Result A Refusal → Result B Refusal

@@ -4,8 +4,7 @@ use Rattle.rx_event.specs.declared.event.Event.{Event as BookEvent}
 use Rattle.rx_event.specs.Kept.{event_since}
 use Rattle.rx_event.specs.Totals.{open_count, held_count, lease_count, accepted_count, taken_count}
 use Rattle.rx_lanes.specs.Reports.{waiting, at_most_all}
-use Rattle.rx_typed.specs.declared.shapes.RxEvent.{RxEvent}
-use Rattle.rx_typed.specs.Events.{event_of, no_event}
+use Rattle.rx_cellar.specs.EventsShown.{event_of, no_event}
 use Rattle.rx_cellar.specs.declared.reading.Totals.{Totals}
 use Rattle.rx_cellar.specs.declared.reading.Event.{Event}
 use Rattle.rx_cellar.specs.declared.cellar.Cellar.{Cellar}
@@ -23,18 +22,12 @@ totals_of s = let b = s.engine.book in record {
   effects = at_most_all (waiting s.engine.parts.lanes);
 }
 
-abbrev pub shown_event : RxEvent → Event
-shown_event e = record { what = e.what; place = e.place; kind = e.kind; how = e.how; spare = 0; of = e.of; other = e.other; value = e.value }
-
-abbrev pub no_event_shown : Event
-no_event_shown = shown_event no_event
-
 abbrev pub no_totals : Totals
 no_totals = record { nodes = 0; held = 0; waiting = 0; leases = 0; accepted = 0; taken = 0; events = 0; effects = 0 }
 
 abbrev pub IsEventIf : Option BookEvent → Event → (status : ℕ) → Type 0
-IsEventIf None e status = (e ≡ no_event_shown) × (status ≡ 2)
-IsEventIf (Some there) e status = (e ≡ shown_event (event_of there)) × (status ≡ 0)
+IsEventIf None e status = (e ≡ no_event) × (status ≡ 2)
+IsEventIf (Some there) e status = (e ≡ event_of there) × (status ≡ 0)
 
 -- the event at a place since the last checkpoint
 abbrev pub IsEventTold : (place : ℕ) → Cellar → Event → (status : ℕ) → Type 0

@@ -4,13 +4,13 @@ ghost use Rattle.std.specs.Prelude.{◌≡◌, true};
 ghost use Rattle.rx_engine.specs.Openings.{connects_none};
 ghost use Rattle.rx_cellar.specs.Asking.{asked_of, kind_of, opened_as, user_of, lane_asked, share_of, res_of, lease_of};
 ghost use Rattle.rx_cellar.specs.Asking.{by_code, opening_of, using_of, connect_of, put_of, next_of, plain_of, is_emission};
+ghost use Rattle.rx_cellar.specs.Codes.{place_at};
 ghost use Rattle.rx_cellar.specs.Frequent.{opening_in, has_no_flags};
 
-use crate::shapes::Command;
+use crate::shapes::{Command, NumberedKey, key_of};
 use rx_book::{At, Key, Kind, LeaseKey, Mode, ResKey};
 use rx_engine::{LaneOf, User};
 use rx_pool::Share;
-use rx_typed::{RxNode, key_of, place_at};
 
 /// A kind that is no subscriber of a hub.
 #[derive(Clone, Copy)]
@@ -87,6 +87,19 @@ pub(crate) fn kind_of(kind: OwnKind) -> Kind
     }
 }
 
+// The place of this code: 0 root, 1 source, 2 inner, 3 notifier of that node.
+fn place_at(code: u8, above: NumberedKey) -> Option<At>
+    ensures { result ≡ place_at code above }
+{
+    match code {
+        0 => Some(At::Root),
+        1 => Some(At::Source(key_of(above))),
+        2 => Some(At::Inner(key_of(above))),
+        3 => Some(At::Notifier(key_of(above))),
+        _ => None,
+    }
+}
+
 // The share of a command.
 #[inline(always)]
 fn share_of(command: &Command, mode: Mode) -> Share
@@ -118,7 +131,7 @@ pub(crate) fn opened_as(command: &Command) -> Option<OpenedAs>
 
 // Whose lane a root has, by the flags for that.
 #[inline(always)]
-fn lane_asked(code: u8, node: RxNode) -> Option<Option<LaneOf>>
+fn lane_asked(code: u8, node: NumberedKey) -> Option<Option<LaneOf>>
     ensures { result ≡ lane_asked code node }
 {
     match code {
@@ -217,7 +230,7 @@ fn put_of(command: &Command) -> Option<Asked>
     }
 }
 
-fn res_of(node: RxNode) -> ResKey
+fn res_of(node: NumberedKey) -> ResKey
     ensures { result ≡ res_of node }
 {
     ResKey {
@@ -226,7 +239,7 @@ fn res_of(node: RxNode) -> ResKey
     }
 }
 
-fn lease_of(node: RxNode) -> LeaseKey
+fn lease_of(node: NumberedKey) -> LeaseKey
     ensures { result ≡ lease_of node }
 {
     LeaseKey {

@@ -5,9 +5,9 @@ ghost use Rattle.rx_cellar.specs.Behind.{only_handed, IsMadeBehind};
 
 use crate::cellar::Cellar;
 use crate::shapes::{Answer, Command, Effect};
+use crate::status::UNTAKEN;
 use rx_book::Resource;
 use rx_resource::Token;
-use rx_typed::UNTAKEN;
 
 impl Answer {
     /// All that is answered is this effect.

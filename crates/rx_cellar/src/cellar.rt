@@ -8,11 +8,11 @@ ghost use Rattle.rx_cellar.specs.Attempts.{IsTidyFor, IsTriedOnce, IsTriedBehind
 
 use crate::asked::{asked_of, is_emission};
 use crate::shapes::{Answer, Command};
+use crate::status::status_of;
 use crate::telling::refuse;
 use rx_book::{Refusal, Resource};
 use rx_engine::Engine;
 use rx_resource::Token;
-use rx_typed::status_of;
 
 // Where the engine chooses, it makes a checkpoint behind so many events at least. They and those of one command more
 // mostly fill one piece of the history, which stays in a cache, and whose memory malloc keeps.

@@ -13,11 +13,11 @@ use crate::asked::{
 };
 use crate::cellar::Cellar;
 use crate::making::{Made, nothing_made, perform};
-use crate::shapes::{Answer, Command};
+use crate::shapes::{Answer, Command, NumberedKey, key_of, node_of};
+use crate::status::DONE;
 use crate::telling::{refuse, refuse_unknown};
 use rx_book::{Resource, Terminal};
 use rx_resource::Token;
-use rx_typed::{DONE, RxNode, key_of, node_of};
 
 impl Cellar {
     /// Emits an item, and hands it out where it is all that comes of it, and nothing stands before it in its lane.
@@ -95,7 +95,7 @@ impl Cellar {
             Ok(used) => {
                 let made = Made {
                     node: node_of(used.key),
-                    other: RxNode {
+                    other: NumberedKey {
                         slot: used.res.slot,
                         number: used.res.number,
                     },

@@ -33,19 +33,25 @@ mod asked;
 mod beginning;
 mod behind;
 mod cellar;
+mod dumping;
 mod frequent;
 mod making;
 mod reading;
 mod rest;
 mod serving;
 mod shapes;
+mod status;
 mod telling;
 mod word_laws;
 mod words;
 
 pub use asked::{Asked, OpenedAs, OwnKind, asked_of};
 pub use cellar::Cellar;
+pub use dumping::no_event;
 pub use making::Made;
-pub use reading::{Event, Totals, no_event_shown, no_totals};
-pub use shapes::{Answer, Command, Effect};
+pub use reading::{Event, Totals, no_totals};
+pub use shapes::{Answer, Command, Effect, NumberedKey, no_node};
+pub use status::{
+    CUT, DONE, HELD, NO_MEMORY, NO_SUCH_CODE, NOTHING_KEPT, NOTHING_WAITS, SMALL, UNTAKEN,
+};
 pub use word_laws::words_find_their_lanes;

@@ -7,19 +7,19 @@ ghost use Rattle.rx_cellar.specs.Frequent.{is_rest};
 ghost use Rattle.rx_cellar.specs.Makings.{IsSubscribed, IsConnected, WithHubs, IsPerformed};
 
 use crate::asked::Asked;
+use crate::shapes::{NumberedKey, no_node, node_of};
 use rx_book::{At, LeaseKey, Refusal, ResKey, Resource, Terminal};
 use rx_engine::{Connected, Engine, Subscribed, User};
 use rx_pool::Share;
 use rx_resource::Token;
-use rx_typed::{RxNode, no_node, node_of};
 
 /// What a command made, as it crosses.
 #[derive(Clone, Copy)]
 pub struct Made {
     /// The node that was opened.
-    pub node: RxNode,
+    pub node: NumberedKey,
     /// The connection, the resource or the lease.
-    pub other: RxNode,
+    pub other: NumberedKey,
     /// 1 where a connection was opened with the node, else 0.
     pub is_connected: u64,
     /// Of a share: the place of its hub.
@@ -54,7 +54,7 @@ fn held(answer: Result<ResKey, Refusal>) -> Result<Made, Refusal>
 {
     match answer {
         Ok(res) => Ok(Made {
-            other: RxNode {
+            other: NumberedKey {
                 slot: res.slot,
                 number: res.number,
             },
@@ -70,7 +70,7 @@ fn leased(answer: Result<LeaseKey, Refusal>) -> Result<Made, Refusal>
 {
     match answer {
         Ok(lease) => Ok(Made {
-            other: RxNode {
+            other: NumberedKey {
                 slot: lease.slot,
                 number: lease.number,
             },

@@ -3,10 +3,11 @@
 ghost use Rattle.std.specs.Prelude.{◌≡◌, ◌≢◌, string_bytes, IfOk, MatchOption};
 ghost use Rattle.rx_dump.specs.Dump.{dump};
 ghost use Rattle.rx_engine.specs.LettingGo.{is_over};
-ghost use Rattle.rx_cellar.specs.Readings.{totals_of, IsEventTold, shown_event, no_event_shown, no_totals};
+ghost use Rattle.rx_cellar.specs.Readings.{totals_of, IsEventTold, no_totals};
 
 use crate::cellar::Cellar;
-use rx_typed::{DONE, NOTHING_WAITS, RxEvent, dump_of, event_of, no_event};
+use crate::dumping::{dump_of, event_of, no_event};
+use crate::status::{DONE, NOTHING_WAITS};
 use std::alloc::{AllocError, Global};
 
 /// What there is.
@@ -35,29 +36,6 @@ pub struct Event {
     pub of: u64,
     pub other: u64,
     pub value: i64,
-}
-
-// An event as it crosses.
-fn shown_event(event: RxEvent) -> Event
-    ensures { result ≡ shown_event event }
-{
-    Event {
-        what: event.what,
-        place: event.place,
-        kind: event.kind,
-        how: event.how,
-        spare: 0,
-        of: event.of,
-        other: event.other,
-        value: event.value,
-    }
-}
-
-/// No event.
-pub fn no_event_shown() -> Event
-    ensures { result ≡ no_event_shown }
-{
-    shown_event(no_event())
 }
 
 /// Nothing is there.
@@ -100,11 +78,11 @@ impl Cellar {
     {
         match self.engine.book().event(place) {
             Some(there) => {
-                *event = shown_event(event_of(there));
+                *event = event_of(there);
                 DONE
             }
             None => {
-                *event = no_event_shown();
+                *event = no_event();
                 NOTHING_WAITS
             }
         }

@@ -8,11 +8,11 @@ ghost use Rattle.rx_cellar.specs.Serving.{Gives, uncounted_where, IsTakeTold};
 use crate::cellar::Cellar;
 use crate::rest::{fill_closings, fill_lanes};
 use crate::shapes::{Effect, effect_of, inner_of, what_of};
+use crate::status::{DONE, NO_SUCH_CODE, status_of};
 use crate::words::{is_inside, is_named, place_in, word_of};
 use rx_book::Refusal;
 use rx_lanes::LaneName;
 use rx_roles::{Effect as Sent, What};
-use rx_typed::{DONE, NO_SUCH_CODE, status_of};
 
 // No lane.
 const NO_LANE: u64 = u64::MAX;

@@ -1,11 +1,47 @@
 //! What crosses: a command, what it answers, and what there is to do then.
 
 ghost use Rattle.std.specs.Prelude.{◌≡◌};
+ghost use Rattle.rx_cellar.specs.Codes.{key_of, key_numbered, no_node};
 ghost use Rattle.rx_cellar.specs.Crossings.{what_code, what_of, effect_of, inner_of, no_answer};
 
+use rx_book::Key;
 use rx_lanes::LaneName;
 use rx_roles::{Effect as Sent, What, carries};
-use rx_typed::RxNode;
+
+/// The key of a node, a resource or a lease.
+#[repr(C)]
+#[derive(Clone, Copy)]
+pub struct NumberedKey {
+    pub slot: u64,
+    pub number: u64,
+}
+
+/// The key of no node, where a call opened none.
+pub fn no_node() -> NumberedKey
+    ensures { result ≡ no_node }
+{
+    NumberedKey { slot: 0, number: 0 }
+}
+
+/// The book's key.
+pub(crate) fn key_of(node: NumberedKey) -> Key
+    ensures { result ≡ key_of node }
+{
+    Key {
+        slot: node.slot,
+        number: node.number,
+    }
+}
+
+/// The key for the caller.
+pub(crate) fn node_of(key: Key) -> NumberedKey
+    ensures { result ≡ key_numbered key }
+{
+    NumberedKey {
+        slot: key.slot,
+        number: key.number,
+    }
+}
 
 /// A command.
 #[repr(C)]
@@ -17,7 +53,7 @@ pub struct Command {
     pub flags: u8,
     pub level: u32,
     pub hub: u64,
-    pub node: RxNode,
+    pub node: NumberedKey,
     pub user: u64,
     pub value: u64,
     pub by: u64,
@@ -39,8 +75,8 @@ pub struct Effect {
 #[repr(C)]
 #[derive(Clone, Copy)]
 pub struct Answer {
-    pub node: RxNode,
-    pub other: RxNode,
+    pub node: NumberedKey,
+    pub other: NumberedKey,
     pub is_connected: u64,
     pub hub: u64,
     pub copies: u64,

@@ -1,7 +1,7 @@
 //! What a command came to is told.
 
 ghost use Rattle.std.specs.Prelude.{◌≡◌};
-ghost use Rattle.rx_typed.specs.Codes.{refusal_status};
+ghost use Rattle.rx_cellar.specs.Codes.{refusal_status};
 ghost use Rattle.rx_cellar.specs.Crossings.{no_answer};
 ghost use Rattle.rx_cellar.specs.Makings.{nothing_made, of_nothing, shown};
 ghost use Rattle.rx_cellar.specs.Cellars.{told, counted, counted_if, with_handed};
@@ -11,9 +11,9 @@ use crate::cellar::Cellar;
 use crate::making::{Made, nothing_made};
 use crate::rest::{fill_few_closings, fill_few_lanes};
 use crate::shapes::{Answer, effect_of};
+use crate::status::{DONE, NO_SUCH_CODE, status_of};
 use rx_book::Refusal;
 use rx_roles::{Effect as Sent, What};
-use rx_typed::{DONE, NO_SUCH_CODE, status_of};
 
 /// Nothing was done, for this cause. It is rare, and a call costs what is frequent no register.
 #[cold]

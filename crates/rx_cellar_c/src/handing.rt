@@ -3,8 +3,7 @@
 ghost use Rattle.std.specs.Prelude.{◌≡◌, true, false};
 ghost use Rattle.rx_cellar_c.specs.Dumps.{IsGiven, IsTooLong, IsHandedOver};
 
-use rx_cellar::Cellar;
-use rx_typed::{CUT, DONE, NO_MEMORY, SMALL};
+use rx_cellar::{CUT, Cellar, DONE, NO_MEMORY, SMALL};
 use std::alloc::Global;
 
 // Hands the text out if it fits: to the front of `buffer`. Its length is told in either case.

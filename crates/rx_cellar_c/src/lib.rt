@@ -1,6 +1,6 @@
 //! The calls of `cellarcliff.h`: an engine behind a handle.
 //!
-//! A call takes a [`CellarHandle`] and numbers, and answers a status of `rx_typed`. Each does what `rx_cellar` says
+//! A call takes a [`CellarHandle`] and numbers, and answers a status of `rx_cellar`. Each does what `rx_cellar` says
 //! of the call of its name, on the engine that the handle keeps; where it keeps none nothing is done, and the status
 //! is 1.
 //!

@@ -8,8 +8,7 @@ ghost use Rattle.rx_cellar.specs.Behind.{IsMadeBehind};
 ghost use Rattle.rx_cellar_c.specs.Calls.{IsCalled, IsMade, IsFinished, size_of};
 
 use crate::handle::CellarHandle;
-use rx_cellar::{Answer, Cellar, Command};
-use rx_typed::{DONE, HELD, NO_MEMORY, NOTHING_KEPT, UNTAKEN};
+use rx_cellar::{Answer, Cellar, Command, DONE, HELD, NO_MEMORY, NOTHING_KEPT, UNTAKEN};
 use std::alloc::Global;
 
 // The number of the header.

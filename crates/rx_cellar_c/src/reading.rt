@@ -1,14 +1,14 @@
 //! What an engine has, and its history.
 
 ghost use Rattle.std.specs.Prelude.{◌≡◌};
-ghost use Rattle.rx_cellar.specs.Readings.{no_totals, no_event_shown};
+ghost use Rattle.rx_cellar.specs.Readings.{no_totals};
+ghost use Rattle.rx_cellar.specs.EventsShown.{no_event};
 ghost use Rattle.rx_cellar_c.specs.Calls.{IsLooked, IsTotalled, IsEventAnswered};
 ghost use Rattle.rx_cellar_c.specs.Dumps.{IsHandedOver, IsSilent};
 
 use crate::handing::dump_to;
 use crate::handle::CellarHandle;
-use rx_cellar::{Event, Totals, no_event_shown, no_totals};
-use rx_typed::{DONE, NOTHING_KEPT};
+use rx_cellar::{DONE, Event, NOTHING_KEPT, Totals, no_event, no_totals};
 use std::alloc::Global;
 
 /// What there is.
@@ -33,10 +33,10 @@ pub extern "C" fn cellar_event(
     place: u64,
     event: &mut Event,
 ) -> u8
-    ensures { IsLooked (λ s n. IsEventAnswered place s event.new n) (event.new ≡ no_event_shown) handle.old.kept handle.new.kept result }
+    ensures { IsLooked (λ s n. IsEventAnswered place s event.new n) (event.new ≡ no_event) handle.old.kept handle.new.kept result }
 {
     let Some(kept) = handle.take(alloc) else {
-        *event = no_event_shown();
+        *event = no_event();
         return NOTHING_KEPT;
     };
     let status = kept.event(place, event);

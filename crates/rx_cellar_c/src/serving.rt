@@ -5,8 +5,7 @@ ghost use Rattle.rx_cellar.specs.Serving.{IsTakeTold, IsGivenUp};
 ghost use Rattle.rx_cellar_c.specs.Calls.{IsCalled, IsLooked, IsNoneTaken, IsNoneLeft, IsNoRest, IsLeftAnswered, IsRestAnswered};
 
 use crate::handle::CellarHandle;
-use rx_cellar::Effect;
-use rx_typed::NOTHING_KEPT;
+use rx_cellar::{Effect, NOTHING_KEPT};
 use std::alloc::Global;
 
 /// Takes the next effect of a lane, for who serves it.

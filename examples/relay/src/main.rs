@@ -1,196 +1,118 @@
-//! relay: a client connects, chooses a topic by a line, and gets its lines. See docs/explanation/relay.md.
-//!
-//! Usage: relay [--life SECONDS] [--dump FILE] [--checkpoint EVENTS] ADDRESS TOPIC=ADDRESS..
-mod desk;
-mod peer;
-mod system;
-
-use cellarcliff::{Record, Terminal};
-use desk::{After, Desk, Dial, Role, CUT, UNREACHED};
-use peer::{Input, Line, Peer};
-use std::fs::File;
-use std::net::{SocketAddr, TcpListener, TcpStream};
-use std::sync::atomic::Ordering::Relaxed;
-use std::sync::mpsc::{channel, Receiver, Sender};
-use std::sync::Mutex;
+//! The relay over the crate's operators: a thread for each socket that is read, and one for each client's writing.
+use cellarcliff::sync::{Emitter, Observable};
+use cellarcliff::Note;
+use std::collections::HashMap;
+use std::io::{BufRead, BufReader, Write};
+use std::net::{Shutdown, SocketAddr, TcpListener, TcpStream};
+use std::sync::mpsc::{sync_channel, Receiver, TrySendError};
+use std::sync::Arc;
 use std::thread;
 use std::time::{Duration, Instant};
-use system::{Poll, DUMP, LISTENER, SOCKET, STOP};
 
-type Failure = Box<dyn std::error::Error>;
+type Line = Arc<[u8]>;
+type Lines = Observable<'static, Line, &'static str>;
 
-const WORKERS: usize = 3;
-const NEW_CLIENT: u64 = u64::MAX; // the token of the listener
-const ROUNDS: usize = 16; // readings of one socket before others have their turn
+/// A socket as a resource. Whoever reads it finds its end when it is dropped; what is still to be written to it is written.
+struct Socket(Arc<TcpStream>);
 
-struct Relay {
-    desk: Mutex<Desk>,
-    poll: Poll,
-    listener: TcpListener,
-    dials: Sender<Dial>,
-    life: Duration,
-}
-
-impl Relay {
-    /// Makes a call at the book under the lock, and does outside of it what it leads to.
-    fn with<A>(&self, call: impl FnOnce(&mut Desk, &mut After) -> A) -> A {
-        let mut after = After::default();
-        let answer = self.locked(&mut after, call);
-        loop {
-            let flush = std::mem::take(&mut after.flush);
-            let gone: Vec<_> = flush.into_iter().filter(|it| it.flush().is_err()).collect();
-            after.released.clear(); // the release
-            after.dials.drain(..).for_each(|it| drop(self.dials.send(it)));
-            if gone.is_empty() {
-                return answer;
-            }
-            self.locked(&mut after, |desk, _| gone.iter().for_each(|it| desk.leave(it)));
-        }
-    }
-
-    fn locked<A>(&self, after: &mut After, call: impl FnOnce(&mut Desk, &mut After) -> A) -> A {
-        let mut desk = self.desk.lock().unwrap();
-        let answer = call(&mut desk, after);
-        desk.serve(after);
-        answer
-    }
-
-    fn work(&self) {
-        while !STOP.load(Relaxed) {
-            self.poll.wait(|token| if token == NEW_CLIENT { self.accept() } else { self.read(token) });
-        }
-    }
-
-    /// Then the listener rests until the next tick; so it does where no descriptor is left.
-    fn accept(&self) {
-        while let Ok((stream, _)) = self.listener.accept() {
-            let Ok(peer) = Peer::new(stream) else { continue };
-            if self.with(|desk, after| desk.join(&peer, Instant::now() + self.life, after)) && !self.watch(&peer) {
-                self.with(|desk, _| desk.leave(&peer));
-            }
-        }
-    }
-
-    fn watch(&self, peer: &Peer) -> bool {
-        self.poll.watch(&peer.stream, peer.number(), SOCKET).is_ok()
-    }
-
-    fn read(&self, token: u64) {
-        let Some((peer, role)) = self.desk.lock().unwrap().peer(token) else { return };
-        if peer.flush().is_err() {
-            return self.with(|desk, _| desk.leave(&peer));
-        }
-        let mut input = peer.input.lock().unwrap();
-        for _ in 0..ROUNDS {
-            match (peer.read(&mut input), role) {
-                (Input::Lines(lines), Role::Client { choices, .. }) => {
-                    lines.iter().for_each(|it| self.with(|desk, after| desk.choose(&peer, choices, it, after)))
-                }
-                // some at a time, so that queues are written in between
-                (Input::Lines(lines), Role::Upstream { leaf }) => {
-                    lines.chunks(64).for_each(|it: &[Line]| self.with(|desk, _| desk.emit(leaf, it)))
-                }
-                (Input::End { .. }, Role::Client { .. }) => return self.with(|desk, _| desk.leave(&peer)),
-                (Input::End { is_whole }, Role::Upstream { leaf }) => {
-                    let how = if is_whole { Terminal::Completed } else { Terminal::Error(CUT) };
-                    return self.with(|desk, _| desk.end(leaf, how));
-                }
-                (Input::Nothing, _) => return,
-            }
-        }
-        self.watch(&peer); // there may be more
-    }
-
-    /// Reaches upstreams, one after another, so that no worker waits for one.
-    fn dial(&self, dials: Receiver<Dial>) {
-        while !STOP.load(Relaxed) {
-            let Ok(dial) = dials.recv_timeout(Duration::from_millis(50)) else { continue };
-            let reached = TcpStream::connect_timeout(&dial.address, Duration::from_secs(1)).and_then(Peer::new);
-            if !reached.is_ok_and(|it| self.with(|desk, after| desk.attach(dial.leaf, &it, after)) && self.watch(&it)) {
-                self.with(|desk, _| desk.end(dial.leaf, Terminal::Error(UNREACHED))); // refused where nobody waits
-            }
-        }
-    }
-
-    /// Time, signals, checkpoints and the line of figures.
-    fn tick(&self, record: &mut Option<Record<File>>, checkpoint: u64) -> std::io::Result<()> {
-        let (mut shown, mut kept) = (Instant::now(), 0);
-        while !STOP.load(Relaxed) {
-            thread::sleep(Duration::from_millis(50));
-            let _ = self.poll.watch(&self.listener, NEW_CLIENT, LISTENER);
-            self.with(|desk, _| desk.expire(Instant::now()));
-            let mut desk = self.desk.lock().unwrap();
-            let events = desk.book.counts().events;
-            let is_due = events - kept >= checkpoint;
-            let record = record.as_mut().filter(|_| DUMP.swap(false, Relaxed) || is_due);
-            let copied = record.map(|it| (it.copy(&mut desk.book), it));
-            if is_due && desk.book.checkpoint() {
-                kept = events;
-            }
-            drop(desk);
-            copied.map_or(Ok(()), |(events, it)| it.write(&events))?;
-            if shown.elapsed() >= Duration::from_secs(10) {
-                (shown, _) = (Instant::now(), self.show());
-            }
-        }
-        Ok(())
-    }
-
-    fn show(&self) {
-        let mut desk = self.desk.lock().unwrap();
-        let (it, told, slow) = (desk.book.counts(), desk.told, desk.slow);
-        drop(desk);
-        print!("open {} held {} waiting {} events {} ", it.nodes, it.held, it.waiting, it.events);
-        println!("lines {told} slow {slow} descriptors {}", descriptors());
+impl Drop for Socket {
+    fn drop(&mut self) {
+        let _ = self.0.shutdown(Shutdown::Read);
     }
 }
 
-/// How many descriptors the system counts, but for that of the reading.
-fn descriptors() -> usize {
-    std::fs::read_dir("/proc/self/fd").map_or(0, |it| it.count() - 1)
+fn text(sign: &str, words: &str) -> Line {
+    Line::from(format!("{sign}{words}\n").as_bytes())
 }
 
-fn run() -> Result<(), Failure> {
-    let (mut life, mut dump, mut checkpoint, mut rest) = (600, None, 1_000_000, Vec::new());
+/// Tells the lines of a socket, and fails where it breaks off in the middle of one.
+fn read(socket: &TcpStream, to: &Emitter<'static, Line, &'static str>) {
+    let (mut input, mut line) = (BufReader::new(socket), Vec::new());
+    while !to.is_closed() && input.read_until(b'\n', &mut line).is_ok_and(|it| it > 0) {
+        match line.last() {
+            Some(b'\n') => to.next(Line::from(std::mem::take(&mut line))),
+            _ => return to.error("its upstream broke off"),
+        }
+    }
+    to.completed()
+}
+
+fn upstream(address: SocketAddr) -> Lines {
+    let dial = move |to: Emitter<'static, Line, &'static str>| match TcpStream::connect_timeout(&address, Duration::from_secs(1)) {
+        Ok(it) => {
+            let socket = Arc::new(it);
+            to.hold(Socket(socket.clone()));
+            read(&socket, &to)
+        }
+        Err(_) => to.error("its upstream is not reached"),
+    };
+    Observable::create(move |to| _ = thread::spawn(move || dial(to))).share()
+}
+
+fn choices(socket: Arc<TcpStream>) -> Lines {
+    Observable::create(move |to| {
+        let of = socket.clone();
+        thread::spawn(move || {
+            read(&of, &to);
+            to.error("it has left")
+        });
+        Socket(socket.clone())
+    })
+}
+
+fn write(mut socket: &TcpStream, lines: Receiver<Line>, over: Instant) {
+    let mut text = Vec::new();
+    while let Ok(line) = lines.recv_timeout(over.saturating_duration_since(Instant::now())) {
+        text.clear();
+        text.extend_from_slice(&line);
+        lines.try_iter().take(64).for_each(|it| text.extend_from_slice(&it));
+        if socket.write_all(&text).is_err() {
+            return;
+        }
+    }
+}
+
+fn serve(socket: Arc<TcpStream>, life: Duration, topics: Arc<HashMap<String, Lines>>) {
+    let (queue, lines) = sync_channel(512);
+    let told = choices(socket.clone()).switch_map(move |line| {
+        let name = String::from_utf8_lossy(&line);
+        match topics.get(name.trim()) {
+            Some(it) => Observable::of([text("= ", name.trim())]).merge_with(it),
+            None => Observable::of([text("? ", name.trim())]),
+        }
+    });
+    let out = socket.clone();
+    let subscription = told.observe(move |note| {
+        let sent = match note {
+            Note::Next(line) => queue.try_send(line),
+            Note::Error(why) => queue.try_send(text("! ", why)),
+            Note::Completed => Ok(()),
+        };
+        if let Err(TrySendError::Full(_)) = sent {
+            let _ = socket.shutdown(Shutdown::Both); // it is too slow
+        }
+    });
+    let _ = thread::Builder::new().spawn(move || {
+        write(&out, lines, Instant::now() + life);
+        drop(subscription) // and the socket with it
+    });
+}
+
+fn main() -> Result<(), Box<dyn std::error::Error>> {
+    let (mut life, mut address, mut topics) = (600, String::new(), HashMap::new());
     let mut words = std::env::args().skip(1);
     while let Some(word) = words.next() {
-        match word.as_str() {
-            "--life" => life = words.next().ok_or("--life SECONDS")?.parse()?,
-            "--dump" => dump = Some(words.next().ok_or("--dump FILE")?),
-            "--checkpoint" => checkpoint = words.next().ok_or("--checkpoint EVENTS")?.parse()?,
-            _ => rest.push(word),
+        match word.split_once('=') {
+            Some((name, at)) => _ = topics.insert(name.to_string(), upstream(at.parse()?)),
+            None if word == "--life" => life = words.next().ok_or("--life SECONDS")?.parse()?,
+            None => address = word,
         }
     }
-    let (address, topics) = rest.split_first().ok_or("an address is missing")?;
-    let topics = topics.iter().map(|it| it.split_once('=').ok_or("a topic is NAME=ADDRESS".into()));
-    let topics = topics.map(|it| it.and_then(|(name, at)| Ok((name.to_string(), at.parse()?))));
-    let desk = Desk::new(topics.collect::<Result<Vec<(String, SocketAddr)>, Failure>>()?)?;
-    let mut record = dump.map(File::create).transpose()?.map(Record::new).transpose()?;
-    let listener = TcpListener::bind(address)?;
-    listener.set_nonblocking(true)?;
-    let (dials, asked) = channel();
-    let relay = Relay { desk: Mutex::new(desk), poll: Poll::new()?, listener, dials, life: Duration::from_secs(life) };
-    println!("listening {}", relay.listener.local_addr()?);
-    let outcome = thread::scope(|all| {
-        (0..WORKERS).for_each(|_| drop(all.spawn(|| relay.work())));
-        all.spawn(|| relay.dial(asked));
-        let outcome = relay.tick(&mut record, checkpoint);
-        STOP.store(true, Relaxed);
-        outcome
-    });
-    relay.with(|desk, _| desk.book.close());
-    relay.show();
-    if let Some(it) = &mut record {
-        let copied = it.copy(&mut relay.desk.lock().unwrap().book);
-        it.write(&copied)?;
+    let (listener, topics) = (TcpListener::bind(address)?, Arc::new(topics));
+    println!("listening {}", listener.local_addr()?);
+    for socket in listener.incoming().flatten() {
+        let _ = socket.set_nodelay(true);
+        serve(Arc::new(socket), Duration::from_secs(life), topics.clone());
     }
-    Ok(outcome?)
-}
-
-fn main() -> Result<(), Failure> {
-    let before = descriptors();
-    system::hear_signals();
-    run()?;
-    println!("descriptors before {before} after {}", descriptors());
     Ok(())
 }

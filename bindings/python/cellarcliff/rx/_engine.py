@@ -11,7 +11,7 @@ import sys
 import threading
 from typing import Any, Callable, List, NamedTuple, Optional, Tuple
 
-from ..book import REFUSALS, Refused
+from .._refused import REFUSALS, Refused
 from ._cellar import (ABORT, CONNECT, CONNECTED, DECLINE, DISCONNECT, FAIL, FULL, GONE, HUB_ORDER, LANE_OF_NODE, LEAF, NO_HUB, NO_MEMORY,
                       NOT_CONNECTED, NOTHING_OWED, OF_PROJECTIONS, OPEN, PASS, PUT, ROOT, SHUT, SOURCE, USING, WISHES)
 from ._crossing import C, bind

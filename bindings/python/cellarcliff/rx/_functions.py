@@ -7,7 +7,7 @@ from __future__ import annotations
 
 from typing import Any, Callable, List, Sequence, Tuple
 
-from ..book import Refused
+from .._refused import Refused
 from ._cellar import FLAT, INNER, LEAF, NOTIFIER, PASS, ROOT, SOURCE, UNTIL
 from ._engine import At, C, Leaf, Root
 from ._observable import Observable, open_below, open_root, to_observable

@@ -9,7 +9,7 @@ import sys
 import threading
 from typing import TYPE_CHECKING, Any, Callable, Generator, Generic, List, Optional, Tuple, TypeVar, Union, overload
 
-from ..book import Refused
+from .._refused import Refused
 from ._cellar import LEAF, ROOT
 from ._engine import At, C, Engine, Leaf, Root, current
 from ._observer import Observer, default_error, noop

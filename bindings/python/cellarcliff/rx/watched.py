@@ -20,6 +20,7 @@ import time
 import weakref
 from typing import Any, Callable, Dict, FrozenSet, List, NamedTuple, Optional
 
+from .._refused import Refused
 from ._cellar import Lent
 from ._crossing import IS_EXTENSION
 from ._engine import At, Engine

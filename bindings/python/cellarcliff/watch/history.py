@@ -22,12 +22,14 @@ import json
 import os
 from typing import Any, Callable, Dict, List, Optional, Tuple, Union
 
-from .. import book as _book
+from .._refused import Refused
+from ..rx import _cellar as c
 from ..rx.watched import Place, here
+from .recorder import GIVE_BACK, REMOVE, Recorder
 
-PLACES = {"root": _book.ROOT, "source": _book.SOURCE, "inner": _book.INNER, "notifier": _book.NOTIFIER}
-KINDS = {"leaf": _book.LEAF, "pass": _book.PASS, "flat": _book.FLAT, "switch": _book.SWITCH, "until": _book.UNTIL}
-HUBS = {"auto": _book.AUTO, "manual": _book.MANUAL}
+PLACES = {"root": c.ROOT, "source": c.SOURCE, "inner": c.INNER, "notifier": c.NOTIFIER}
+KINDS = {"leaf": c.LEAF, "pass": c.PASS, "flat": c.FLAT, "switch": c.SWITCH, "until": c.UNTIL}
+HUBS = {"auto": c.SHARED, "manual": c.PUBLISHED}
 #: What each rule says of what may not come.
 RULES = {
     "Gone": "it is closed, or what it stands below is",
@@ -72,6 +74,8 @@ class Written:
     def __init__(self, what: str, name: Optional[str], place: Optional[Place], key: Any, above: "Optional[Written]"):
         self.what, self.name, self.place, self.key, self.above = what, name, place, key, above
         self.ended: Optional[Place] = None  # the line that said that it ended, closed or was released
+        self.is_open = True
+        self.hub: Optional[Written] = None  # of a subscriber
         self.lease: Any = None  # of a resource
         self.connection: Optional[Written] = None  # of a hub: its latest, below which its source is opened
 
@@ -82,8 +86,8 @@ class Written:
 class History:
     """A history that is written down by hand. One call at a time."""
 
-    def __init__(self, book: Optional[_book.Calls] = None):
-        self._book: Any = _book.Book() if book is None else book
+    def __init__(self) -> None:
+        self._engine = Recorder(self._closed)
         self._open: List[Written] = []
         self._names: Dict[str, str] = {}  # those given, by the places of what has them
 
@@ -97,60 +101,65 @@ class History:
         is_kind = what in KINDS if hub is None else what == "sub"
         if place not in PLACES or not is_kind or (below is None) != (place == "root"):
             raise ValueError(f"no such opening: {kind!r} at {place!r}{'' if below is None else ' below'}")
-        words = (KINDS[what], 0) if hub is None else (_book.SUB, hub.key)
-        key, connection = self._checked(f"a {what} that is opened", below, lambda: self._book.open(PLACES[place], below and below.key, *words))
+        made, words = Written(what, name, here(), None, below), () if hub is None else (hub.key,)
+        made.hub = hub
+        made.key, connection = self._checked(f"a {what} that is opened", below, lambda: self._engine.open(
+            PLACES[place], KINDS.get(what, 0), below and below.key, made, *words))
         if connection is not None and hub is not None:
-            hub.connection = self._made("connection", hub.name, connection, hub)
-        return self._made(what, name, key, below)
+            hub.connection = self._kept(Written("connection", hub.name, here(), connection, hub))
+        return self._kept(made)
 
-    def held(self, by: Written, name: Optional[str] = None, tag: int = 0) -> Written:
+    def held(self, by: Written, name: Optional[str] = None) -> Written:
         """A resource that it holds."""
-        key = self._checked("a resource that is held", by, lambda: self._book.hold(by.key, tag))
-        resource = self._made("resource", name, key, by)
-        resource.lease = self._book.lease(key)
+        key, lease = self._checked("a resource that is held", by, lambda: self._engine.hold(by.key))
+        resource = self._kept(Written("resource", name, here(), key, by))
+        resource.lease = lease
         return resource
 
     def hub(self, mode: str = "auto", name: Optional[str] = None) -> Written:
         """What subscribers share: `auto` is connected while it has one, `manual` by `connected`."""
-        return Written("hub", name, here(), self._checked("a hub", None, lambda: self._book.hub(HUBS[mode])), None)
+        return Written("hub", name, here(), self._engine.hub(HUBS[mode]), None)
 
     def connected(self, hub: Written) -> Written:
         """A hub is connected: the connection."""
-        hub.connection = self._made("connection", hub.name, self._checked("a connection", hub, lambda: self._book.connect(hub.key)), hub)
-        return hub.connection
+        if hub.key.kind != c.PUBLISHED:
+            raise WrongOrder("a connection", "WrongKind", here(), hub)
+        made = Written("connection", hub.name, here(), None, hub)
+        made.key = self._checked("a connection", hub, lambda: self._engine.connect(hub.key, made))
+        hub.connection = self._kept(made)
+        return made
 
     # what happens
 
-    def item(self, leaf: Written, value: int = 0) -> None:
+    def item(self, leaf: Written) -> None:
         """A source of the program's own emits."""
-        self._checked("an item", leaf, lambda: self._book.next(leaf.key, value))
+        self._checked("an item", leaf, lambda: self._engine.make(c.NEXT | c.QUEUES << 24, leaf.key))
 
     def completed(self, leaf: Written) -> None:
         """A source has completed."""
-        self._ended("an end", leaf, lambda: self._book.end(leaf.key))
+        self._ended("an end", leaf, lambda: self._engine.make(c.COMPLETE, leaf.key))
 
-    def failed(self, node: Written, error: int = 0) -> None:
+    def failed(self, node: Written) -> None:
         """A source has failed, or the mapper of a flat or switch."""
-        call = self._book.fail if node.what in ("flat", "switch") else self._book.end
-        self._ended("an error", node, lambda: call(node.key, error))
+        what = c.FAIL if node.what in ("flat", "switch") else c.ERROR
+        self._ended("an error", node, lambda: self._engine.make(what, node.key))
 
     def declined(self, merging: Written) -> None:
         """The mapper of a flat or switch answers nothing to subscribe to."""
-        self._checked("a declined projection", merging, lambda: self._book.decline(merging.key))
+        self._checked("a declined projection", merging, lambda: self._engine.make(c.DECLINE, merging.key))
 
     def closed(self, root: Written) -> None:
         """Unsubscribed from outside; of a connection: closed."""
         if root.what == "connection" and root.above is not None:
             hub = root.above.key
-            return self._ended("a closing", root, lambda: self._book.disconnect(hub))
-        self._ended("a closing", root, lambda: self._book.dispose(root.key))
+            return self._ended("a closing", root, lambda: self._engine.disconnect(hub))
+        self._ended("a closing", root, lambda: self._engine.make(c.DISPOSE, root.key))
 
     def released(self, resource: Written) -> None:
         """The program has released it."""
-        self._ended("a release", resource, lambda: self._book.give_back(resource.lease))
-        if self._book.is_held(resource.key):
-            self._book.remove(resource.key)  # before what holds it has ended
-        self._told()
+        self._ended("a release", resource, lambda: self._engine.make(GIVE_BACK, resource.lease))
+        if resource.above is not None and resource.above.is_open:
+            self._engine.make(REMOVE, resource.key)  # before what holds it has ended
 
     # what there is
 
@@ -170,11 +179,11 @@ class History:
 
     def dump(self) -> str:
         """The history, for `rxbook audit`."""
-        return str(self._book.dump())
+        return self._engine.dump()
 
     def named(self) -> Dict[str, Any]:
         """The history with names, for `rxbook picture`: those given, and the lines of what is open without one."""
-        lines = {str(it.key.number): f"{it.what} {os.path.basename(it.place.file)}:{it.place.line}" for it in self.open_now() if it.place}
+        lines = {str(it.key[1]): f"{it.what} {os.path.basename(it.place.file)}:{it.place.line}" for it in self.open_now() if it.place}
         return {"dump": json.loads(self.dump()), "names": {**lines, **self._names}}
 
     # how a call is made
@@ -182,26 +191,25 @@ class History:
     def _checked(self, event: str, about: Optional[Written], call: Callable[[], Any]) -> Any:
         try:
             answer = call()
-        except _book.Refused as why:
+        except Refused as why:
             raise WrongOrder(event, why.name, here(), about) from None
-        self._told()
         return answer
 
     def _ended(self, event: str, about: Written, call: Callable[[], Any]) -> None:
         self._checked(event, about, call)
         about.ended = here()
 
-    def _told(self) -> None:
+    def _closed(self, it: Written) -> None:
         """The program tells its observers and releases its resources itself."""
-        self._book.mail.clear()
-        self._book.tags.clear()
+        it.is_open = False
 
-    def _made(self, what: str, name: Optional[str], key: Any, above: Optional[Written]) -> Written:
-        made = Written(what, name, here(), key, above)
+    def _kept(self, made: Written) -> Written:
         self._open.append(made)
-        if name is not None:
-            self._names[str(key.number)] = name
+        if made.name is not None:
+            self._names[str(made.key[1])] = made.name
         return made
 
     def _is_open(self, it: Written) -> bool:
-        return it.ended is None if it.what == "resource" else bool(self._book.is_open(it.key))
+        if it.what == "connection" and it.above is not None and it.above.key.kind == c.SHARED:  # as long as it has a subscriber
+            return it is it.above.connection and any(one.is_open and one.hub is it.above for one in self._open)
+        return it.ended is None if it.what == "resource" else it.is_open

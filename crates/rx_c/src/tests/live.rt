@@ -2,7 +2,9 @@
 
 use super::{BLANK, Handed};
 use crate::handle::Handle;
-use crate::{rx_live_drop, rx_live_end, rx_live_new, rx_live_read, rx_live_send};
+use crate::{
+    cellar_live_drop, cellar_live_end, cellar_live_new, cellar_live_read, cellar_live_send,
+};
 use rx_scarce::{MOST_BLOCKS, Scarce};
 use std::alloc::Global;
 use std::process::Abort;
@@ -63,10 +65,10 @@ impl Client {
     fn ask(&mut self, asking: Asking, buffer: &mut [u8], told: &mut usize) -> u8 {
         let (alloc, handle) = (self.alloc, &mut self.handle);
         match asking {
-            Asking::Make => rx_live_new(alloc, handle, 1000),
-            Asking::Send(line) => rx_live_send(alloc, handle, line, buffer, told),
-            Asking::Read => rx_live_read(alloc, handle, buffer, told),
-            Asking::End => rx_live_end(alloc, handle, buffer, told),
+            Asking::Make => cellar_live_new(alloc, handle, 1000),
+            Asking::Send(line) => cellar_live_send(alloc, handle, line, buffer, told),
+            Asking::Read => cellar_live_read(alloc, handle, buffer, told),
+            Asking::End => cellar_live_end(alloc, handle, buffer, told),
         }
     }
 
@@ -118,7 +120,7 @@ impl Client {
     // Drops what the handle keeps, and says whether it keeps nothing then.
     fn close(self) -> bool {
         let Client { alloc, mut handle } = self;
-        rx_live_drop(alloc, &mut handle);
+        cellar_live_drop(alloc, &mut handle);
         match handle.into_loose(alloc) {
             Some(loose) => {
                 drop(loose.into_box());

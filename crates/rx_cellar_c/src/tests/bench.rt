@@ -4,8 +4,7 @@ use crate::{
     CellarHandle, cellar_drop, cellar_finish, cellar_make, cellar_new, cellar_rest, cellar_take,
     cellar_totals,
 };
-use rx_cellar::{Answer, Command, Effect, Totals, no_totals};
-use rx_typed::{RxNode, no_node};
+use rx_cellar::{Answer, Command, Effect, NumberedKey, Totals, no_node, no_totals};
 use std::alloc::{AllocError, Global};
 
 // The numbers of the header.
@@ -134,7 +133,7 @@ pub(super) struct Bench {
     pub(super) alloc: Global,
     pub(super) handle: CellarHandle,
     pub(super) answer: Answer,
-    pub(super) keys: Vec<RxNode>,
+    pub(super) keys: Vec<NumberedKey>,
 }
 
 impl Bench {
@@ -155,7 +154,7 @@ impl Bench {
     }
 
     // The key of this number among those so far; none is 0.
-    pub(super) fn key(&self, which: usize) -> RxNode {
+    pub(super) fn key(&self, which: usize) -> NumberedKey {
         match which {
             0 => no_node(),
             _ => self.keys.get(which - 1).copied().unwrap_or(no_node()),

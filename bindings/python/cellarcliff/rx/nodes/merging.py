@@ -3,7 +3,7 @@ from __future__ import annotations
 
 from typing import Any, Callable, Tuple
 
-from ...book import Refused
+from ..._refused import Refused
 from .._cellar import FLAT, INNER, PASS, SOURCE, SWITCH
 from .._engine import At, C, Leaf
 from .._functions import Around

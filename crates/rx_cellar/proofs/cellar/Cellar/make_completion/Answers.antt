@@ -2,7 +2,7 @@ use Rattle.std.proofs.Common.{rules, ◌≡◌, true, false, Bool, sym, ap, ◌�
 use Rattle.std.specs.Prelude.{if◌then◌else◌}
 use Rattle.rx_resource.specs.contracts.token.TokenResource.TheImpl.{ghosts}
 use Rattle.rx_slots.specs.declared.Key.{Key}
-use Rattle.rx_typed.specs.Codes.{key_of}
+use Rattle.rx_cellar.specs.Codes.{key_of}
 use Rattle.rx_cellar.specs.declared.asked.Asked.TheVariants.{Complete}
 use Rattle.rx_cellar.specs.Asking.{asked_of, asks_item}
 use Rattle.rx_cellar.specs.Crossings.{no_answer}

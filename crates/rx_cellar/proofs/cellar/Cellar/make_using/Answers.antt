@@ -3,7 +3,7 @@ use Rattle.std.specs.Prelude.{option_map}
 use Rattle.rx_resource.specs.contracts.token.TokenResource.TheImpl.{ghosts}
 use Rattle.rx_event.specs.declared.event.Kind.{Kind}
 use Rattle.rx_engine.specs.Usings.{IsUsingMade}
-use Rattle.rx_typed.specs.declared.shapes.RxNode.{RxNode}
+use Rattle.rx_cellar.specs.declared.shapes.NumberedKey.{NumberedKey}
 use Rattle.rx_cellar.specs.declared.asked.Opening.{Opening}
 use Rattle.rx_cellar.specs.declared.asked.Asked.TheVariants.{Using}
 use Rattle.rx_cellar.specs.declared.making.Made.{Made}
@@ -20,12 +20,12 @@ returns-in-Ok c =
     let o = c.in-Some.opening in
     let e = c.using.new.self in
     let a = no_answer c.args.answer.now in
-    let other : RxNode = record { slot = c.in-Ok.used.res.slot; number = c.in-Ok.used.res.number } in
+    let other : NumberedKey = record { slot = c.in-Ok.used.res.slot; number = c.in-Ok.used.res.number } in
     let is = using_asked command c.requires
     ∙ ap (λ (x : Option Opening). option_map (λ (o : Opening). Using o.at o.user command.value) x) (sym c.opening_in.ensures ∙ c.in-Some.is) in
     let made : Made = record c.nothing_made.result { node = c.node_of.result; other = other } in
     let made_is = ap (λ (m : Made). record m { node = c.node_of.result; other = other }) c.nothing_made.ensures
-    ∙ ap (λ (n : RxNode). record nothing_made { node = n; other = other }) c.node_of.ensures in
+    ∙ ap (λ (n : NumberedKey). record nothing_made { node = n; other = other }) c.node_of.ensures in
     answered_once ghosts (asked_of command) (Using o.at o.user command.value) command.by c.args.self.now e
     (shown of_used c.using.result) a c.tell.new.answer 0 is (ap asks_item is)
     (record {

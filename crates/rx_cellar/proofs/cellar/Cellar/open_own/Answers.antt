@@ -3,7 +3,7 @@ use Rattle.std.specs.Prelude.{option_map}
 use Rattle.rx_resource.specs.contracts.token.TokenResource.TheImpl.{ghosts}
 use Rattle.rx_event.specs.declared.event.Kind.{Kind}
 use Rattle.rx_engine.specs.Openings.{IsOpenMade}
-use Rattle.rx_typed.specs.declared.shapes.RxNode.{RxNode}
+use Rattle.rx_cellar.specs.declared.shapes.NumberedKey.{NumberedKey}
 use Rattle.rx_cellar.specs.declared.asked.Opening.{Opening}
 use Rattle.rx_cellar.specs.declared.asked.Asked.TheVariants.{Open}
 use Rattle.rx_cellar.specs.declared.making.Made.{Made}
@@ -25,7 +25,7 @@ returns-in-Ok c =
     ∙ ap (λ (x : Option Opening). option_map (λ (o : Opening). Open o.at kind o.user) x) (sym c.opening_in.ensures ∙ c.in-Some.is) in
     let made : Made = record c.nothing_made.result { node = c.node_of.result } in
     let made_is = ap (λ (m : Made). record m { node = c.node_of.result }) c.nothing_made.ensures
-    ∙ ap (λ (n : RxNode). record nothing_made { node = n }) c.node_of.ensures in
+    ∙ ap (λ (n : NumberedKey). record nothing_made { node = n }) c.node_of.ensures in
     answered_once ghosts (asked_of command) (Open o.at kind o.user) command.by c.args.self.now e
     (shown of_node c.open.result) a c.tell.new.answer 0 is (ap asks_item is)
     (record {

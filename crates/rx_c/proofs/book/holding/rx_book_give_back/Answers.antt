@@ -1,5 +1,0 @@
-use Rattle.rx_c.proofs.CallOnBook.{called}
-use Rattle.rx_c.proofs.book.holding.rx_book_give_back.Goals as goal
-
-pub returns : goal.returns
-returns c = called c.in-Some.ensures.taken c.put.ensures.kept c.deref_mut.ensures.value c.put.ensures.promised c.give_back-status.ensures

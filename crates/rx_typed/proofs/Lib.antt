@@ -1,5 +1,0 @@
-pub mod Common
-pub mod Laws
-mod EachIsTaken
-mod HandedBackOnce
-mod NotesToldOnce

@@ -1,7 +1,0 @@
-pub mod Calls
-pub mod Codes
-pub mod Courses
-pub mod Drained
-pub mod Events
-pub mod Told
-pub mod Tokens
