@@ -22,7 +22,8 @@ use Rattle.rx_cellar.specs.Asking.{asked_of}
 use Rattle.rx_cellar.specs.Behind.{IsMadeBehind}
 use Rattle.rx_cellar.specs.Cellars.{IsCommandMade}
 use Rattle.rx_cellar.specs.Crossings.{what_code, what_of, effect_of, no_answer}
-use Rattle.rx_cellar.specs.Readings.{no_totals, no_event_shown}
+use Rattle.rx_cellar.specs.Readings.{no_totals}
+use Rattle.rx_cellar.specs.EventsShown.{no_event}
 use Rattle.rx_cellar.specs.Serving.{IsTakeTold, IsGivenUp}
 use Rattle.rx_cellar.specs.Words.{named}
 use Rattle.rx_cellar_c.specs.Calls.{IsCalled, IsLooked, IsMade, IsFinished, IsNoneTaken, IsNoneLeft, IsNoRest, IsLeftAnswered, IsRestAnswered}
@@ -111,7 +112,7 @@ pub data IsCellarCall (g : Ghosts Token) (s : Cellar) : List Seen → Cellar →
   cellar_totals : {t : Cellar} {totals : Totals} {status : ℕ} → LooksAtEngine (λ s n. IsTotalled s totals n) (totals ≡ no_totals) s t status →
       IsCellarCall g s [] t
   cellar_event : {t : Cellar} {event : Event} {status : ℕ} (place : ℕ) →
-      LooksAtEngine (λ s n. IsEventAnswered place s event n) (event ≡ no_event_shown) s t status → IsCellarCall g s [] t
+      LooksAtEngine (λ s n. IsEventAnswered place s event n) (event ≡ no_event) s t status → IsCellarCall g s [] t
   cellar_dump : {t : Cellar} {buffer buffer' : List ℕ} {told status : ℕ} →
       LooksAtEngine (λ s n. IsHandedOver s.engine.book buffer buffer' told n) (IsSilent buffer buffer' told) s t status → IsCellarCall g s [] t
   -- calls that are refused because the handle keeps an engine, or that is not done

@@ -4,7 +4,7 @@ use super::bench::{
     Bench, DISPOSE, HOLD, LEAF, NEXT, OPEN, ROOT, SHARED, SOURCE, Told, nothing_told,
 };
 use crate::cellar_event;
-use rx_cellar::no_event_shown;
+use rx_cellar::no_event;
 use std::alloc::AllocError;
 
 // How many subscribe to one share.
@@ -68,7 +68,7 @@ fn a_small_history_is_begun_again_many_times(rt: HostRuntime) {
     let went_well = bench.emit_often(&mut told);
     let served = bench.serve(&mut told);
     let totals = bench.totals();
-    let mut event = no_event_shown();
+    let mut event = no_event();
     let first = cellar_event(bench.alloc, &mut bench.handle, 0, &mut event);
     let is_over = bench.finish(&mut told);
     bench.close();
