@@ -133,5 +133,5 @@ fn every_step_of_a_thousand_courses_is_answered_as_it_stands_there() {
             steps += 1;
         }
     }
-    assert_eq!((file.lines().count(), steps), (1000, 29_199));
+    assert_eq!((file.lines().count(), steps), (1000, 32_580));
 }
