@@ -13,7 +13,7 @@ def found(*places):
 
 
 def extension(name):
-    include = [os.environ.get("CELLAR_INCLUDE", ""), os.path.relpath(found("include", "../../crates/rx_c"), HERE)]
+    include = [os.environ.get("CELLAR_INCLUDE", ""), os.path.relpath(found("include", "../../crates/cellarcliff"), HERE)]
     return Extension(f"cellarcliff._{name}", [f"extension/{name}.c"], include_dirs=[it for it in include if it], py_limited_api=True, optional=True)
 
 

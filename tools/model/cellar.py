@@ -1,4 +1,4 @@
-"""A handle of the library libcellarcliff, and the calls of crates/rx_c/cellarcliff.h on it, in this process."""
+"""A handle of the library libcellarcliff, and the calls of crates/cellarcliff/cellarcliff.h on it, in this process."""
 from __future__ import annotations
 
 import ctypes

@@ -1,4 +1,4 @@
-"""What crosses to C (crates/rx_c/cellarcliff.h): the numbers of statuses, and an event as its members."""
+"""What crosses to C (crates/cellarcliff/cellarcliff.h): the numbers of statuses, and an event as its members."""
 from __future__ import annotations
 
 from .definitions import (COMPLETED, Accept, Close, Connect, Decline, End, Event, Hub, Item, Lease, Open, Remove, Return, Take,

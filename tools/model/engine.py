@@ -1,4 +1,4 @@
-"""The engine (crates/rx_c/cellarcliff.h) by its definitions: what a command is answered, which effects come of it, and in which lane.
+"""The engine (crates/cellarcliff/cellarcliff.h) by its definitions: what a command is answered, which effects come of it, and in which lane.
 
 A node, a resource and a lease go by their numbers, a lane by how many were opened before it. The history is that of the book; where
 its order is free it follows what is told. `Lane` and what is made of one are as in rx_lanes/specs/Lane, the choice of a hub as in

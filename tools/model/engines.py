@@ -62,7 +62,7 @@ class LiveHandle(ctypes.Structure):
 
 
 class Library:
-    """The calls of crates/rx_c/cellarcliff.h in this process."""
+    """The calls of crates/cellarcliff/cellarcliff.h in this process."""
 
     def __init__(self, path: str):
         self.calls = ctypes.CDLL(os.path.abspath(path))

@@ -1,6 +1,6 @@
 """Tests of the engine's definitions: `python3 -m unittest model.test_engine` in tools/, in some seconds.
 
-What they say of a few commands, as crates/rx_c/cellarcliff.h has it; and the laws of the engine on random courses, where the library's
+What they say of a few commands, as crates/cellarcliff/cellarcliff.h has it; and the laws of the engine on random courses, where the library's
 place is taken by the definitions themselves, in another order.
 """
 import random

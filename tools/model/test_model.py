@@ -160,7 +160,7 @@ class Comparing(unittest.TestCase):
 
 class Numbers(unittest.TestCase):
     def test_the_header_is_followed(self):
-        header = (pathlib.Path(__file__).resolve().parents[2] / 'crates/rx_c/cellarcliff.h').read_text(encoding='utf-8')
+        header = (pathlib.Path(__file__).resolve().parents[2] / 'crates/cellarcliff/cellarcliff.h').read_text(encoding='utf-8')
         statuses = {int(n): name for name, n in re.findall(r'\bCELLAR_(\w+) = (\d+)', header.partition('enum cellar_status {')[2].partition('};')[0])}
         self.assertEqual({n: name.replace('_', '').lower() for n, name in statuses.items() if n > 15},
                          {n: name.lower() for name, n in REFUSED.items() if n not in (26, 32)})

@@ -11,7 +11,7 @@ import time
 
 here = pathlib.Path(__file__).resolve().parent
 top = here.parent.parent
-HEADER = f'-I{top}/crates/rx_c'
+HEADER = f'-I{top}/crates/cellarcliff'
 WASM = ['--target=wasm64-unknown-unknown', '-mbulk-memory', '-ffreestanding', '-fno-builtin', f'-I{here}/alone']
 FEATURES = [f'--enable-{it}' for it in ('memory64', 'bulk-memory', 'sign-ext', 'nontrapping-float-to-int', 'multivalue', 'mutable-globals')]
 

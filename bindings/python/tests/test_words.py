@@ -15,7 +15,7 @@ from tests.kits import fresh_engine
 from tests.test_live import PROGRAM
 
 PACKAGE = pathlib.Path(cellarcliff.__file__).resolve().parent
-HEADER = pathlib.Path(__file__).resolve().parents[3] / "crates/rx_c/cellarcliff_names.h"
+HEADER = pathlib.Path(__file__).resolve().parents[3] / "crates/cellarcliff/cellarcliff_names.h"
 #: Of each module a name that is not there, and the one that is meant.
 NAMES = (("rx", "from_iterabel", "from_iterable"), ("rx", "combinelatest", "combine_latest"), ("rx.operators", "flatmap", "flat_map"),
          ("rx.operators", "distinct_until_change", "distinct_until_changed"), ("rx.subject", "BehaviourSubject", "BehaviorSubject"),

@@ -1,0 +1,5 @@
+use Rattle.cellarcliff.proofs.CallOnEngine.{looked}
+use Rattle.cellarcliff.proofs.reading.cellar_event.Goals as goal
+
+pub returns : goal.returns
+returns c = looked c.in-Some.ensures.taken c.put.ensures.kept c.deref.ensures c.event-status.ensures

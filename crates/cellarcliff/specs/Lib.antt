@@ -1,0 +1,14 @@
+pub mod Answers
+pub mod Audited
+pub mod Calls
+pub mod Courses
+pub mod Dumps
+pub mod Handing
+pub mod LanesServed
+pub mod LiveCalls
+pub mod LiveCourses
+pub mod Ownership
+pub mod Ran
+pub mod Refusals
+pub mod Shown
+pub mod Stages

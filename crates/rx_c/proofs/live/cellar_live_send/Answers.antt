@@ -1,4 +1,0 @@
-use Rattle.rx_c.proofs.live.cellar_live_send.Goals as goal
-
-pub returns : goal.returns
-returns c = rw (c.in-Some.ensures.taken, c.put.ensures, ← c.deref_mut.ensures.value) c.send-status.ensures

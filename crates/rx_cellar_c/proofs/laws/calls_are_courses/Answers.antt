@@ -1,6 +1,0 @@
-use Rattle.rx_resource.specs.contracts.token.TokenResource.TheImpl.{ghosts}
-use Rattle.rx_cellar_c.proofs.CallsMakeCourses.{calls_are_courses}
-use Rattle.rx_cellar_c.proofs.laws.calls_are_courses.Goals as goal
-
-pub returns : goal.returns
-returns c = calls_are_courses ghosts

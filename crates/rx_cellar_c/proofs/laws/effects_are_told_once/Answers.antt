@@ -1,6 +1,0 @@
-use Rattle.rx_resource.specs.contracts.token.TokenResource.TheImpl.{ghosts}
-use Rattle.rx_cellar_c.proofs.ReleasesTold.{effects_told_once}
-use Rattle.rx_cellar_c.proofs.laws.effects_are_told_once.Goals as goal
-
-pub returns : goal.returns
-returns c = effects_told_once ghosts c.each_is_told_once.ensures

@@ -1,6 +1,0 @@
-use Rattle.rx_resource.specs.contracts.token.TokenResource.TheImpl.{ghosts}
-use Rattle.rx_cellar_c.proofs.RefusalsChangeNothing.{refused_calls_change_nothing}
-use Rattle.rx_cellar_c.proofs.laws.refused_calls_change_nothing.Goals as goal
-
-pub returns : goal.returns
-returns c = refused_calls_change_nothing ghosts

@@ -1,6 +1,0 @@
-use Rattle.std.proofs.Common.{refl}
-use Rattle.rx_cellar_c.proofs.CallOnEngine.{looked}
-use Rattle.rx_cellar_c.proofs.reading.cellar_totals.Goals as goal
-
-pub returns : goal.returns
-returns c = looked c.in-Some.ensures.taken c.put.ensures.kept c.deref.ensures (record { told = c.totals.ensures; done = refl })
