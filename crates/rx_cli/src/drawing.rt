@@ -4,7 +4,7 @@ ghost use Rattle.std.specs.Prelude.{◌≡◌, ◌≢◌, ◌⊎◌, None, IfOk,
 ghost use Rattle.std.specs.Io.KnownBytes.{Appends};
 ghost use Rattle.serde_json.specs.View.{view};
 ghost use Rattle.rx_device.specs.declared.fault.ScriptError.{ScriptError};
-ghost use Rattle.rx_device.specs.Device.{device_of, HasReadFault, HasWriteFault, IsUnasked, AppendsPrefix};
+ghost use Rattle.rx_device.specs.Device.{device_of, HasReadFault, HasWriteFault, IsUnasked, KeepsDevice, AppendsPrefix};
 ghost use Rattle.rx_device.specs.Input.{GivesTooMuch, GivesNoJson};
 ghost use Rattle.rx_dump.specs.History.{history_of};
 ghost use Rattle.rx_dump.specs.Names.{dump_in};
@@ -51,6 +51,8 @@ pub fn draw<R: Read, W: Write>(
         ⊎ GivesNoJson (R.remaining (device_of reader.old)) (R.remaining (device_of reader.new)) }
     ensures shape { IsErrOf result ScriptError.Shape
         → GivesNothingToDraw (R.remaining (device_of reader.old)) (R.remaining (device_of reader.new)) }
+    ensures same_reader { KeepsDevice reader.old reader.new }
+    ensures same_writer { KeepsDevice writer.old writer.new }
 {
     let value = read_value(alloc, reader)?;
     let text = picture_on(alloc, &value)?;

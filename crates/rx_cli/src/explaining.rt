@@ -2,7 +2,7 @@
 
 ghost use Rattle.std.specs.Prelude.{◌≡◌, ◌≢◌, false, IfOk, IfErr, IsErrOf};
 ghost use Rattle.rx_device.specs.declared.fault.ScriptError.{ScriptError};
-ghost use Rattle.rx_device.specs.Device.{device_of, HasReadFault, HasWriteFault, IsUnasked};
+ghost use Rattle.rx_device.specs.Device.{device_of, HasReadFault, HasWriteFault, IsUnasked, KeepsDevice};
 ghost use Rattle.rx_cli.specs.Explained.{IsOn, Says};
 
 use rx_device::{ScriptError, Watched, read_all, write_text};
@@ -19,6 +19,7 @@ fn told_of<R: Read>(
     ensures ok { IfOk result (IsOn (R.remaining (device_of reader.old)) (R.remaining (device_of reader.new))) }
     ensures read { IsErrOf result ScriptError.Read → HasReadFault reader.new }
     ensures never { IfErr result (λ e. (e ≢ ScriptError.Write) × (e ≢ ScriptError.Syntax) × (e ≢ ScriptError.Shape)) }
+    ensures same_reader { KeepsDevice reader.old reader.new }
 {
     match read_all(alloc, reader) {
         Ok(input) => match explain(alloc, input.as_slice()) {
@@ -49,6 +50,8 @@ pub fn say<R: Read, W: Write>(
     ensures read { IsErrOf result ScriptError.Read → HasReadFault reader.new }
     ensures write { IsErrOf result ScriptError.Write → HasWriteFault writer.new }
     ensures never { IfErr result (λ e. (e ≢ ScriptError.Syntax) × (e ≢ ScriptError.Shape)) }
+    ensures same_reader { KeepsDevice reader.old reader.new }
+    ensures same_writer { KeepsDevice writer.old writer.new }
 {
     let Some(told) = told_of(alloc, reader)? else {
         return Ok(false);
