@@ -1,10 +1,9 @@
-//! What no clause says of a book, of its [`parts`], of [`desks`], and of an engine's [`lanes`] and [`pool`] of hubs, and
-//! no scenario shows.
+//! What no clause says of a book, of its [`parts`], of [`desks`] and of an engine's [`pool`] of hubs, and no scenario shows.
 //!
 //! Of a book: memory that is refused, just the memory that a call needs, closings where none is left, boxes of two kinds,
 //! many items, and what becomes of a book that is dropped. Of desks: that each call that may want memory can succeed,
-//! threads, and storms. Of lanes and of the pool: memory that is refused, and that is found. What operators do, over
-//! checkpoints too, and which calls are refused, stands in the scenarios that `rx_replay` compares.
+//! threads, and storms. Memory that is refused to lanes and hubs, and that comes back, stands in the tests of `rx_cellar_c`.
+//! What operators do, over checkpoints too, and which calls are refused, stands in the scenarios that `rx_replay` compares.
 //!
 //! Each test runs in a process of its own, so the memory that one test uses up is missing in no other.
 #![tactic(auto)]
@@ -16,17 +15,11 @@ mod caller;
 #[cfg(test)]
 mod calls_with_memory;
 #[cfg(test)]
-mod calls_without_memory;
-#[cfg(test)]
 mod desks;
 #[cfg(test)]
 mod dropped_book;
 #[cfg(test)]
 mod exact_memory;
-#[cfg(test)]
-mod given_back;
-#[cfg(test)]
-mod lanes;
 #[cfg(test)]
 mod load;
 #[cfg(test)]

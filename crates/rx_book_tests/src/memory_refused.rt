@@ -37,8 +37,6 @@ fn done_in_the_end(
 #[derive(Clone, Copy, Debug)]
 enum Made {
     Open(Kind),
-    OpenUsing,
-    OpenHolding,
     OpenBelow,
     OpenInner,
     OpenNotifier,
@@ -122,8 +120,6 @@ fn make_scene(book: &mut Probe<Sample>) -> Result<Scene, Fail> {
 fn first_of(scene: Scene, made: Made) -> Asking {
     match made {
         Made::Open(kind) => Asking::Open(At::Root, kind),
-        Made::OpenUsing => Asking::OpenUsing(At::Root),
-        Made::OpenHolding => Asking::OpenHolding(At::Root, Kind::Leaf),
         Made::OpenBelow => Asking::Open(At::Source(scene.root), Kind::Pass),
         Made::OpenInner => Asking::Open(At::Inner(scene.flat), Kind::Pass),
         Made::OpenNotifier => Asking::Open(At::Notifier(scene.until), Kind::Until),
@@ -254,15 +250,6 @@ fn are_refused_first<T: Abort>(rt: &T, alloc: Global, calls: &[Made]) -> Result<
         assert!(rt; is_refused_first(alloc, made)?, "{made:?}");
     }
     Ok(())
-}
-
-static WITH_A_RESOURCE: [Made; 2] = [Made::OpenUsing, Made::OpenHolding];
-
-#[test]
-fn an_opening_that_holds_and_is_refused_memory_changes_nothing(
-    rt: HostRuntime,
-) -> Result<(), Fail> {
-    are_refused_first(&rt, rt.alloc(), &WITH_A_RESOURCE)
 }
 
 static WITHOUT_INNERS: [Made; 2] = [Made::Open(Kind::Pass), Made::Open(Kind::Leaf)];

@@ -1,4 +1,4 @@
-//! Closings, and handing out, where no memory is left.
+//! Closings, and handing out, where no memory is left; and a book that is made, and one that ends, where one block is.
 
 use super::probe::Probe;
 use super::same::same;
@@ -12,7 +12,7 @@ use std::test::Fail;
 
 // A call that takes no memory, on what it is made.
 #[derive(Clone, Copy)]
-pub(super) enum Closing {
+enum Closing {
     Remove(ResKey),
     GiveBack(LeaseKey),
     Decline(Key),
@@ -28,10 +28,10 @@ pub(super) enum Closing {
 }
 
 // How many calls there are.
-pub(super) const CLOSINGS: usize = 12;
+const CLOSINGS: usize = 12;
 
 // Whether it is accepted, and does something.
-pub(super) fn is_done(book: &mut Probe<Sample>, closing: Closing) -> bool {
+fn is_done(book: &mut Probe<Sample>, closing: Closing) -> bool {
     match closing {
         Closing::Remove(res) => book.remove(res).is_ok(),
         Closing::GiveBack(lease) => book.give_back(lease).is_ok(),
@@ -55,7 +55,7 @@ fn has_memory(alloc: Global) -> bool {
 }
 
 // Whether the call is done with no memory left before it. What it gives back is taken before the next.
-pub(super) fn is_done_with_none(alloc: Global, book: &mut Probe<Sample>, closing: Closing) -> bool {
+fn is_done_with_none(alloc: Global, book: &mut Probe<Sample>, closing: Closing) -> bool {
     let Ok(_scarce) = Scarce::new(alloc) else {
         return false;
     };
@@ -71,16 +71,6 @@ fn fill(book: &mut Probe<Sample>, leaf: Key) -> Option<Refusal> {
         }
     }
     None
-}
-
-// Does so with no memory left.
-fn fill_memory(
-    alloc: Global,
-    book: &mut Probe<Sample>,
-    leaf: Key,
-) -> Result<Option<Refusal>, AllocError> {
-    let _scarce = Scarce::new(alloc)?;
-    Ok(fill(book, leaf))
 }
 
 // A FlatMap that owes two inner observables.
@@ -127,7 +117,7 @@ fn leased(book: &mut Probe<Sample>) -> Result<(Key, ResKey, LeaseKey), Fail> {
 }
 
 // Some of each kind of node, a resource that waits, and what is to be called, in turn or alone.
-pub(super) fn new_closings(book: &mut Probe<Sample>) -> Result<(Key, [Closing; CLOSINGS]), Fail> {
+fn new_closings(book: &mut Probe<Sample>) -> Result<(Key, [Closing; CLOSINGS]), Fail> {
     let flat = owing_two(book)?;
     let hub = connected_by_hand(book)?;
     let _ = connected_by_hand(book)?;
@@ -162,19 +152,14 @@ fn done_of(alloc: Global, book: &mut Probe<Sample>, closings: [Closing; CLOSINGS
     done
 }
 
-// Fills a book with items, with no memory left or up to its limit, and makes the calls: why an item was refused,
-// how many calls were done, and how many nodes are open then and resources were accepted and taken.
+// Fills a book up to its limit with items, and makes the calls: why an item was refused, how many calls were done, and how
+// many nodes are open then and resources were accepted and taken.
 fn closed_full(
     alloc: Global,
     book: &mut Probe<Sample>,
-    is_scarce: bool,
 ) -> Result<(Option<Refusal>, u32, [u64; 3]), Fail> {
     let (leaf, closings) = new_closings(book)?;
-    let why = if is_scarce {
-        fill_memory(alloc, book, leaf)?
-    } else {
-        fill(book, leaf)
-    };
+    let why = fill(book, leaf);
     let done = done_of(alloc, book, closings);
     let totals = book.totals();
     Ok((
@@ -185,17 +170,9 @@ fn closed_full(
 }
 
 #[test]
-fn closings_and_handing_out_take_no_memory(rt: HostRuntime) -> Result<(), Fail> {
-    let mut book = Probe::new(rt.alloc(), 1000);
-    let closed = closed_full(rt.alloc(), &mut book, true)?;
-    same(&rt, closed, (Some(Refusal::NoMemory), 12, [0, 4, 4]));
-    Ok(())
-}
-
-#[test]
 fn a_full_book_closes_and_hands_out_with_no_memory_left(rt: HostRuntime) -> Result<(), Fail> {
     let mut book = Probe::new(rt.alloc(), 64);
-    let closed = closed_full(rt.alloc(), &mut book, false)?;
+    let closed = closed_full(rt.alloc(), &mut book)?;
     same(&rt, closed, (Some(Refusal::Full), 12, [0, 4, 4]));
     Ok(())
 }
@@ -264,5 +241,62 @@ fn an_inner_that_fails_and_a_hub_that_completes_end_all_with_no_memory_left(
     let seen = seen_with_none(rt.alloc(), &mut book, closing)?;
     let end = Note::End(Terminal::Completed);
     same(&rt, seen, Some((0, 0, (1, Some(end)))));
+    Ok(())
+}
+
+// What the block has in bytes: more than any list here asks for as it grows.
+const BLOCK: usize = 100_000;
+
+// Whether a block of this many bytes can be had.
+fn is_had(alloc: Global, bytes: usize) -> bool {
+    let block: Result<Vec<u8>, AllocError> = Vec::with_capacity(alloc, bytes);
+    block.is_ok()
+}
+
+// Leaves one block of memory, until it is dropped.
+fn leave_one_block(alloc: Global) -> Result<Scarce, AllocError> {
+    let block: Vec<u8> = Vec::with_capacity(alloc, BLOCK)?;
+    let scarce = Scarce::new(alloc)?;
+    drop(block);
+    Ok(scarce)
+}
+
+// Whether a book is made, and asked for no memory: the block was never broken up, since it can be had, and no more once a
+// small piece was asked for.
+fn is_made_of_none(alloc: Global) -> Result<bool, Fail> {
+    let _scarce = leave_one_block(alloc)?;
+    let book: Probe<Sample> = Probe::new(alloc, 4000);
+    let is_whole = is_had(alloc, BLOCK) && is_had(alloc, 64) && !is_had(alloc, BLOCK);
+    Ok(is_whole && book.open_count() == 0)
+}
+
+// Does so where no memory is left.
+fn fill_memory(
+    alloc: Global,
+    book: &mut Probe<Sample>,
+    leaf: Key,
+) -> Result<Option<Refusal>, AllocError> {
+    let _scarce = Scarce::new(alloc)?;
+    Ok(fill(book, leaf))
+}
+
+// Whether a small book is ended where its events and notes have room for that alone, and asked for no memory: the allocator
+// keeps a piece of each list of that size that is given back, so that the block is not whole again.
+fn is_ended_with_none(alloc: Global) -> Result<bool, Fail> {
+    let mut book: Probe<Sample> = Probe::new(alloc, 100);
+    let root = book.open_using(At::Root, Sample::new(9))?.key;
+    let source = book.open(At::Source(root), Kind::Leaf)?.key;
+    fill_memory(alloc, &mut book, source)?;
+    let _scarce = leave_one_block(alloc)?;
+    Ok(book.finish().released > 0 && is_had(alloc, BLOCK))
+}
+
+#[test]
+fn a_book_asks_for_no_memory_as_it_is_made_and_as_it_ends(rt: HostRuntime) -> Result<(), Fail> {
+    let are_met = [
+        is_made_of_none(rt.alloc())?,
+        is_ended_with_none(rt.alloc())?,
+    ];
+    assert!(rt; are_met == [true, true]);
     Ok(())
 }
