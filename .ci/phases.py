@@ -8,9 +8,12 @@
 
 It looks twice a second at the programs that the command starts. A phase is the proof of a crate, the
 proof of its tests, its edits or its runs. The first table has a line for each crate, the second a line
-for each phase. The log of the command goes to the file gate.log, or to the one that the variable
-GATE_LOG names. An interrupt, or the signal TERM, stops the command; the tables then say what was seen.
-The exit status is the command's own. docs/dev/gate.md says how to read the tables. It needs Linux, for /proc.
+for each phase; the last line is the longest chain, of which each link waits for the one before. Behind
+a processor time stands how often it has that of the proof of rx_time, so that machines can be compared:
+as this run saw it, or of so many seconds as the variable RX_TIME says, of checks alone in the same hour.
+The log of the command goes to the file gate.log, or to the one that the variable GATE_LOG names. An
+interrupt, or the signal TERM, stops the command; the tables then say what was seen. The exit status is
+the command's own. docs/dev/gate.md says how to read the tables. It needs Linux, for /proc.
 """
 import os
 import re
@@ -142,6 +145,46 @@ def counts_of(log):
     return counts
 
 
+def unit_of(phases):
+    """The processor seconds of the proof of rx_time; None where nobody says them."""
+    known = float(os.environ.get("RX_TIME") or 0)
+    proof = phases.get(("rx_time", "proof"))
+    return known or (proof.seconds() if proof else 0.0) or None
+
+
+def times(seconds, unit):
+    """How often this is a unit, where there is one."""
+    return f"{seconds / unit:.1f}" if unit else ""
+
+
+def uses_of():
+    """Of each crate the crates that it uses, by crates.txt."""
+    rows = {}
+    with open("crates.txt", encoding="utf-8") as it:
+        for line in it:
+            head, _, uses = line.partition("#")[0].partition(":")
+            if head.split():
+                rows[head.split()[0]] = uses.split()
+    return {crate: [it for it in uses if it in rows] for crate, uses in rows.items()}
+
+
+def longest_chain(phases, uses):
+    """The proofs of which each waits for the one before, and what follows the last, that last longest together."""
+    lasted = {at: it.lasted for at, it in phases.items()}
+    chains = {}
+
+    def chain_to(crate):
+        if crate not in chains:
+            below = max((chain_to(it) for it in uses.get(crate, ())), default=(0.0, []))
+            proof = lasted.get((crate, "proof"), 0.0)
+            chains[crate] = below[0] + proof, [*below[1], (crate, "proof", proof)]
+        return chains[crate]
+
+    ends = [(chain_to(crate), kind, lasted.get((crate, kind), 0.0)) for crate in uses for kind in ("tests", "edits")]
+    (whole, links), kind, more = max(ends, key=lambda it: it[0][0] + it[2])
+    return whole + more, [it for it in [*links, (links[-1][0], kind, more)] if it[2]]
+
+
 def clock(seconds):
     return f"{int(seconds + 0.5) // 60}:{int(seconds + 0.5) % 60:02}"
 
@@ -152,19 +195,20 @@ def row(*cells):
 
 def by_crate(phases, counts, whole, spent):
     """A line for each crate, the dearest first: how long each phase lasted, and its processor time."""
-    row("Crate", "Functions", "Tests", "Edits", "Proof of the crate", "of its tests", "Its edits", "Its runs", "Processor time")
-    print("|---" * 9 + "|")
+    row("Crate", "Functions", "Tests", "Edits", "Proof of the crate", "of its tests", "Its edits", "Its runs", "Processor time", "rx_time")
+    print("|---" * 10 + "|")
+    unit = unit_of(phases)
     crates = {crate: [phases.get((crate, kind)) for kind in KINDS] for crate, _ in phases}
     cost = {crate: sum(it.seconds() for it in its if it) for crate, its in crates.items()}
     for crate in sorted(crates, key=lambda it: -cost[it]):
         said = counts.get(crate, {})
         cells = [f"{clock(it.lasted)} ({clock(it.seconds())})" if it else "" for it in crates[crate]]
-        row(crate, said.get("proof", ""), said.get("tests", ""), said.get("edits", ""), *cells, clock(cost[crate]))
+        row(crate, said.get("proof", ""), said.get("tests", ""), said.get("edits", ""), *cells, clock(cost[crate]), times(cost[crate], unit))
     spent = max(spent, sum(cost.values()))
-    row("no phase of these", *[""] * 7, clock(spent - sum(cost.values())))
+    row("no phase of these", *[""] * 7, clock(spent - sum(cost.values())), times(spent - sum(cost.values()), unit))
     sums = [sum(int(it.get(kind, 0)) for it in counts.values()) for kind in KINDS[:3]]
     kinds = [clock(sum(it.seconds() for (_, at), it in phases.items() if at == kind)) for kind in KINDS]
-    row(f"in all, {clock(whole)}", *sums, *(f"({it})" for it in kinds), clock(spent))
+    row(f"in all, {clock(whole)}", *sums, *(f"({it})" for it in kinds), clock(spent), times(spent, unit))
 
 
 def by_phase(phases):
@@ -174,6 +218,12 @@ def by_phase(phases):
     for (crate, kind), it in sorted(phases.items(), key=lambda p: (p[1].began, KINDS.index(p[0][1]))):
         cores = f"{it.seconds() / it.lasted:.1f}" if it.lasted else ""
         row(crate, kind, clock(it.began), clock(it.lasted), clock(it.seconds()), cores, f"{it.memory / 2**30:.1f} GiB")
+
+
+def print_chain(phases):
+    """The longest chain, link by link."""
+    whole, links = longest_chain(phases, uses_of())
+    print(f"\nThe longest chain, {clock(whole)}: {', '.join(f'{crate} {kind} {clock(it)}' for crate, kind, it in links)}")
 
 
 def stop(gate):
@@ -209,13 +259,15 @@ def with_times(line, phases, now):
     return f"{line} ({took}at {clock(now)})"
 
 
-def what_is_new(proved, now):
-    """What a run proved, of what its lines said."""
+def what_is_new(proved, phases, now):
+    """What a run proved, of what its lines said, and its processor time where that can be compared."""
     if not proved:
         return f"gate: proved nothing anew, in {clock(now)}"
     crates, tests = ([crate for crate, its_tests in proved if bool(its_tests) == of_tests] for of_tests in (False, True))
     parts = [*(["crates " + " ".join(crates)] if crates else []), *(["the tests of " + " ".join(tests)] if tests else [])]
-    return f"gate: proved anew, in {clock(now)}: {'; '.join(parts)}"
+    spent, unit = sum(it.seconds() for it in list(phases.values())), unit_of(phases)
+    compared = f", {clock(spent)} of a processor, {times(spent, unit)} times rx_time" if unit else ""
+    return f"gate: proved anew, in {clock(now)}{compared}: {'; '.join(parts)}"
 
 
 def aloud(command):
@@ -232,7 +284,7 @@ def aloud(command):
             if ended and said.endswith(" proved"):
                 proved.append(ended.groups())
             if LAST.match(said):
-                print(what_is_new(proved, time.monotonic() - start))
+                print(what_is_new(proved, phases, time.monotonic() - start))
             print(with_times(said, phases, time.monotonic() - start), flush=True)
     except KeyboardInterrupt:
         stop(gate)
@@ -268,6 +320,7 @@ def main():
     by_crate(phases, counts_of(log), whole, spent)
     print()
     by_phase(phases)
+    print_chain(phases)
     return gate.returncode
 
 
