@@ -237,7 +237,7 @@ static OUTCOMES: [Row; 32] = [
         &["rxbook", "explain"],
         NOT_CONNECTED,
         3,
-        "at the end the rules force another event, such as [\"connect\",0]\n",
+        "at the end the rules force another event, as [\"connect\",0]\n",
         "",
     ),
     (&["rxbook", "picture"], "{\"dump\":7}", 3, "", FAULTY),
