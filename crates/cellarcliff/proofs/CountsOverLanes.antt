@@ -9,7 +9,7 @@ use Rattle.rx_lanes.specs.Courses.{is_name}
 use Rattle.rx_roles.specs.declared.effect.Effect.{Effect}
 use Rattle.rx_engine.specs.States.{State}
 use Rattle.rx_engine.proofs.Laws.EffectsInLanes.{same_name, is_itself}
-use Rattle.rx_courses.specs.Courses.{Course, begins, commands, takes, gives_up, claims, effects_of, all_effects}
+use Rattle.rx_courses.specs.Courses.{Course, begins, commands, takes, gives_up, effects_of, all_effects}
 use Rattle.rx_courses.specs.Tellings.{counted, goes_there, put_there, taken_there, returned_there, line_at, EachIsToldOnce}
 
 -- names, each added up once --------------------------------------------------------------------------------
@@ -108,7 +108,6 @@ all_taken test begins = 0
 all_taken test (commands before kept command) = all_taken test before
 all_taken test (takes {answer = answer} from inside by before kept taken) = all_taken test before + counted test (option_to_list answer)
 all_taken test (gives_up from by _ before kept given) = all_taken test before
-all_taken test (claims from by before kept there claimed) = all_taken test before
 
 abbrev pub all_returned : {g : Ghosts Token} {s t : State} → (Effect → Bool) → Course g s t → ℕ
 all_returned test begins = 0
@@ -116,7 +115,6 @@ all_returned test (commands before kept command) = all_returned test before
 all_returned test (takes from inside by before kept taken) = all_returned test before
 all_returned test (gives_up {answer = answer} from by undone before kept given) =
     all_returned test before + (if is_some answer then counted test (option_to_list undone) else 0)
-all_returned test (claims from by before kept there claimed) = all_returned test before
 
 -- the lanes that it names
 abbrev lanes_in : {g : Ghosts Token} {s t : State} → Course g s t → List LaneName
@@ -124,7 +122,6 @@ lanes_in begins = []
 lanes_in (commands before kept command) = lanes_of (effects_of command) ++ lanes_in before
 lanes_in (takes from inside by before kept taken) = from ∷ lanes_in before
 lanes_in (gives_up from by _ before kept given) = from ∷ lanes_in before
-lanes_in (claims from by before kept there claimed) = lanes_in before
 
 module _ (test : Effect → Bool) (ns : List LaneName) where
   abbrev Within : {g : Ghosts Token} {s t : State} → Course g s t → Type 0
@@ -141,7 +138,6 @@ module _ (test : Effect → Bool) (ns : List LaneName) where
       omega (arith, both, first, more, all)
   over_put (takes from inside by before kept take) within = over_put before (λ n is. within n (or_right _ _ is))
   over_put (gives_up from by _ before kept give) within = over_put before (λ n is. within n (or_right _ _ is))
-  over_put (claims from by before kept there claim) within = over_put before within
 
   over_taken : {g : Ghosts Token} {s t : State} (course : Course g s t) → Within course →
       over (λ n. taken_there test n course) ns ≡ all_taken test course
@@ -153,7 +149,6 @@ module _ (test : Effect → Bool) (ns : List LaneName) where
       let one = over_there from (counted test (option_to_list answer)) ns (within from (or_left _ _ (is_itself from))) in
       omega (arith, both, first, one)
   over_taken (gives_up from by _ before kept give) within = over_taken before (λ n is. within n (or_right _ _ is))
-  over_taken (claims from by before kept there claim) within = over_taken before within
 
   over_returned : {g : Ghosts Token} {s t : State} (course : Course g s t) → Within course →
       over (λ n. returned_there test n course) ns ≡ all_returned test course
@@ -169,7 +164,6 @@ module _ (test : Effect → Bool) (ns : List LaneName) where
       λ i. over (λ n. many_if (is_name from n) (is_some answer) many i) ns in
       let one = over_there from (if is_some answer then many else 0) ns (within from (or_left _ _ (is_itself from))) in
       omega (arith, both, first, same, one)
-  over_returned (claims from by before kept there claim) within = over_returned before within
 
 -- of a course from an engine without lanes to one whose lanes are empty
 pub told_once : (g : Ghosts Token) → EachIsToldOnce g → (test : Effect → Bool) (s t : State) → s.parts.lanes.places ≡ [] →

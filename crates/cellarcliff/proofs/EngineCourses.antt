@@ -7,7 +7,7 @@ use Rattle.rx_roles.specs.declared.effect.Effect.{Effect as Sent}
 use Rattle.rx_engine.specs.States.{State, IsPromised}
 use Rattle.rx_engine.specs.Servings.{IsTake, IsGiveUp}
 use Rattle.rx_courses.specs.Courses.{IsCommand}
-use Rattle.rx_courses.specs.Courses.{Course, begins, commands, takes, gives_up, claims}
+use Rattle.rx_courses.specs.Courses.{Course, begins, commands, takes, gives_up}
 use Rattle.cellarcliff.specs.Courses.{Seen}
 use Rattle.cellarcliff.specs.Courses.{seen_tag, seen_told, seen_back, seen_of, IsEngineCourse}
 
@@ -45,8 +45,6 @@ course_on {acts = acts} p (gives_up {answer = answer} name by undone before kept
       course = gives_up name by undone o.course kept give;
       acts_are = ap (λ (xs : List Seen). xs ++ seen_back name answer undone) o.acts_are ∙ append_assoc acts (seen_of before) (seen_back name answer undone);
     }
-course_on p (claims name by before kept there claim) =
-    let o = course_on p before in record { course = claims name by o.course kept there claim; acts_are = o.acts_are }
 
 pub and_then : {g : Ghosts Token} {s t u : State} {xs ys : List Seen} → IsEngineCourse g s t xs → IsEngineCourse g t u ys → IsEngineCourse g s u (xs ++ ys)
 and_then {g} {s} {t} {u} {xs} p q = subst (λ (zs : List Seen). IsEngineCourse g s u (xs ++ zs)) q.acts_are (course_on p q.course)

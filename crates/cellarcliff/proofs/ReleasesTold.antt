@@ -13,7 +13,7 @@ use Rattle.rx_roles.specs.Effects.{is_release, tagged}
 use Rattle.rx_engine.specs.LettingGo.{is_over}
 use Rattle.rx_engine.specs.States.{State}
 use Rattle.rx_courses.specs.Courses.{IsCommand, is_refused, has_done, has_held, has_used, has_opened, has_put, has_subscribed, has_connected, has_made_hubs, has_checkpointed}
-use Rattle.rx_courses.specs.Courses.{Course, begins, commands, takes, gives_up, claims, all_effects, handed_in as tag_handed_in, all_handed_in, TagsOnce}
+use Rattle.rx_courses.specs.Courses.{Course, begins, commands, takes, gives_up, all_effects, handed_in as tag_handed_in, all_handed_in, TagsOnce}
 use Rattle.rx_courses.specs.Tellings.{counted, EachIsToldOnce}
 use Rattle.rx_cellar.specs.declared.shapes.Effect.{Effect}
 use Rattle.rx_cellar.specs.declared.cellar.Cellar.{Cellar}
@@ -129,7 +129,6 @@ told_all test (gives_up {answer = answer} name by undone before kept give) =
     let both = told-append test (seen_of before) (seen_back name answer undone) in let first = told_all test before in
     let none = told_given test name answer undone in
     omega (arith, both, first, none)
-told_all test (claims name by before kept there claim) = told_all test before
 
 back_all : (test : Effect → Bool) {g : Ghosts Token} {s t : State} (course : Course g s t) →
     back_among test (seen_of course) ≡ all_returned (λ sent. test (effect_of sent)) course
@@ -144,7 +143,6 @@ back_all test (gives_up {answer = answer} name by undone before kept give) =
     let both = back-append test (seen_of before) (seen_back name answer undone) in let first = back_all test before in
     let one = back_given test name answer undone in
     omega (arith, both, first, one)
-back_all test (claims name by before kept there claim) = back_all test before
 
 tags_all : (tag : ℕ) {g : Ghosts Token} {s t : State} (course : Course g s t) → tags_among tag (seen_of course) ≡ all_handed_in tag course
 tags_all tag begins = refl
@@ -158,7 +156,6 @@ tags_all tag (gives_up {answer = answer} name by undone before kept give) =
     let both = tags-append tag (seen_of before) (seen_back name answer undone) in let first = tags_all tag before in
     let none = tags_given tag name answer undone in
     omega (arith, both, first, none)
-tags_all tag (claims name by before kept there claim) = tags_all tag before
 
 -- releases ---------------------------------------------------------------------------------------------------
 

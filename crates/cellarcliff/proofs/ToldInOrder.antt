@@ -8,7 +8,7 @@ use Rattle.rx_lanes.specs.Courses.{is_name, all_but_last}
 use Rattle.rx_roles.specs.declared.effect.Effect.{Effect as Sent}
 use Rattle.rx_engine.specs.States.{State}
 use Rattle.rx_courses.specs.Courses.{IsCommand, is_refused, has_done, has_held, has_used, has_opened, has_put, has_subscribed, has_connected, has_made_hubs, has_checkpointed}
-use Rattle.rx_courses.specs.Courses.{Course, begins, commands, takes, gives_up, claims}
+use Rattle.rx_courses.specs.Courses.{Course, begins, commands, takes, gives_up}
 use Rattle.rx_courses.specs.RootsTold.{TellsEachRoot}
 use Rattle.rx_courses.specs.Serving.{NothingIsStuck, ServesOneAtATime}
 use Rattle.rx_courses.specs.Tellings.{told_there, TellsInOrder as CoursesTellInOrder}
@@ -85,7 +85,6 @@ told_all lane (gives_up {answer = answer} name by undone before kept give) =
     told-append lane [] (seen_of before) (seen_back name answer undone)
     ∙ ap (λ (es : List Effect). told_on lane es (seen_back name answer undone)) (told_all lane before)
     ∙ given_on lane name (told_there lane before) answer undone
-told_all lane (claims name by before kept there claim) = told_all lane before
 
 abbrev told_course : (g : Ghosts Token) (s t : State) (acts : List Seen) → IsEngineCourse g s t acts → IsToldCourse g s t acts
 told_course g s t acts is = record {

@@ -8,7 +8,7 @@ use Rattle.rx_roles.specs.declared.effect.Effect.{Effect as Sent}
 use Rattle.rx_roles.specs.declared.effect.What.{What}
 use Rattle.rx_roles.specs.Effects.{carries}
 use Rattle.rx_engine.specs.States.{State}
-use Rattle.rx_courses.specs.Courses.{IsCommand, has_held, has_used, Course, begins, commands, takes, gives_up, claims, all_effects}
+use Rattle.rx_courses.specs.Courses.{IsCommand, has_held, has_used, Course, begins, commands, takes, gives_up, all_effects}
 use Rattle.rx_courses.specs.Tellings.{counted}
 use Rattle.rx_cellar.specs.declared.shapes.Command.{Command}
 use Rattle.rx_cellar.specs.declared.shapes.Answer.{Answer}
@@ -147,7 +147,6 @@ seen_of begins = []
 seen_of (commands before kept command) = seen_of before ++ seen_tag command
 seen_of (takes {answer = answer} name inside by before kept taken) = seen_of before ++ seen_told name answer
 seen_of (gives_up {answer = answer} name by undone before kept given) = seen_of before ++ seen_back name answer undone
-seen_of (claims name by before kept there claimed) = seen_of before
 
 -- there is one in which a caller sees this
 pub record IsEngineCourse (g : Ghosts Token) (s t : State) (acts : List Seen) : Type 0 where
