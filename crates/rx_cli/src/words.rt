@@ -159,8 +159,9 @@ fn picture_command<'a>(alloc: Global) -> Command<'a>
 fn live_command<'a>(alloc: Global) -> Command<'a>
     ensures { app_of result ≡ live_app }
 {
-    Command::new(alloc, "live")
-        .about("Keep a book for the program at the other ends: a line in, a line out")
+    Command::new(alloc, "live").about(
+        "Keep a book for the program at the other ends: a line in, a line out",
+    )
 }
 
 // The program's command without its subcommands.
