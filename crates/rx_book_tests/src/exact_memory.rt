@@ -1,16 +1,42 @@
 //! Just the memory that a call needs where much is open, held or told already: one of its lists is full, and
 //! grows to twice its size.
 
-use super::calls_with_memory::{Asking, Outcome, ask};
 use super::probe::Probe;
-use rx_book::{At, Key};
-use rx_event::Kind;
+use rx_book::{At, Key, ResKey};
+use rx_event::{Kind, Refusal};
 use rx_ground::{Ground, Wanted};
 use rx_resource::Sample;
 use rx_scarce::Scarce;
 use std::alloc::{AllocError, Global};
 use std::process::Abort;
 use std::test::Fail;
+
+// A call, on what it asks.
+#[derive(Clone, Copy)]
+enum Asking {
+    Open,
+    OpenUsing,
+    Hold(Key),
+    Apply(ResKey),
+    Next(Key),
+}
+
+// Why it is refused, if it is.
+fn refusal(book: &mut Probe<Sample>, asking: Asking) -> Option<Refusal> {
+    match asking {
+        Asking::Open => book.open(At::Root, Kind::Pass).err(),
+        Asking::OpenUsing => match book.open_using(At::Root, Sample::new(7)) {
+            Ok(_) => None,
+            Err(back) => Some(back.why),
+        },
+        Asking::Hold(node) => match book.hold(node, Sample::new(7)) {
+            Ok(_) => None,
+            Err(back) => Some(back.why),
+        },
+        Asking::Apply(res) => book.apply(res, 1).err(),
+        Asking::Next(leaf) => book.next(leaf, 1).err(),
+    }
+}
 
 // For how much there is room in the memory that is left.
 #[derive(Clone, Copy)]
@@ -67,8 +93,8 @@ fn fill(book: &mut Probe<Sample>, full: Full) -> Result<Asking, Fail> {
     match full {
         Full::Events => fill_events(book),
         Full::Notes => fill_notes(book),
-        Full::Nodes => fill_nodes(book, Asking::Open(At::Root, Kind::Pass)),
-        Full::NodesUsing => fill_nodes(book, Asking::OpenUsing(At::Root)),
+        Full::Nodes => fill_nodes(book, Asking::Open),
+        Full::NodesUsing => fill_nodes(book, Asking::OpenUsing),
         Full::Resources => fill_resources(book),
     }
 }
@@ -125,11 +151,10 @@ fn is_done_with(alloc: Global, full: Full, room: Room) -> Result<bool, Fail> {
     let asking = fill(&mut book, full)?;
     let _scarce = Scarce::new(alloc)?;
     drop(memory);
-    match ask(&mut book, asking) {
-        Outcome::Done(_) => Ok(true),
-        Outcome::Opened(_) => Ok(true),
-        Outcome::NoMemory => Ok(false),
-        Outcome::Other => Err(Fail::from("it is refused for another cause")),
+    match refusal(&mut book, asking) {
+        None => Ok(true),
+        Some(Refusal::NoMemory) => Ok(false),
+        Some(_) => Err(Fail::from("it is refused for another cause")),
     }
 }
 

@@ -1,9 +1,9 @@
 //! What no clause says of a book, of its [`parts`], of [`desks`] and of an engine's [`pool`] of hubs, and no scenario shows.
 //!
-//! Of a book: memory that is refused, just the memory that a call needs, closings where none is left, boxes of two kinds,
-//! many items, and what becomes of a book that is dropped. Of desks: that each call that may want memory can succeed,
-//! threads, and storms. Memory that is refused to lanes and hubs, and that comes back, stands in the tests of `cellarcliff`.
-//! What operators do, over checkpoints too, and which calls are refused, stands in the scenarios that `rx_replay` compares.
+//! Of a book: a checkpoint that is refused memory, just the memory that a call needs, closings where none is left, boxes of
+//! two kinds, many items, and what becomes of a book that is dropped. Of desks: that each call that may want memory can
+//! succeed, threads, and storms. Memory that is refused to each command in turn stands in the tests of `cellarcliff`. What
+//! operators do, over checkpoints too, and which calls are refused, stands in the scenarios that `rx_replay` compares.
 //!
 //! Each test runs in a process of its own, so the memory that one test uses up is missing in no other.
 #![tactic(auto)]
@@ -13,7 +13,7 @@ mod boxed;
 #[cfg(test)]
 mod caller;
 #[cfg(test)]
-mod calls_with_memory;
+mod checkpoints;
 #[cfg(test)]
 mod desks;
 #[cfg(test)]
@@ -22,8 +22,6 @@ mod dropped_book;
 mod exact_memory;
 #[cfg(test)]
 mod load;
-#[cfg(test)]
-mod memory_refused;
 #[cfg(test)]
 mod no_memory_left;
 #[cfg(test)]

@@ -4,7 +4,6 @@ use super::probe::Probe;
 use super::same::same;
 use rx_book::{At, Key, LeaseKey, ResKey};
 use rx_event::{Kind, Mode, Refusal, Terminal};
-use rx_note::Note;
 use rx_resource::Sample;
 use rx_scarce::Scarce;
 use std::alloc::{AllocError, Global};
@@ -174,73 +173,6 @@ fn a_full_book_closes_and_hands_out_with_no_memory_left(rt: HostRuntime) -> Resu
     let mut book = Probe::new(rt.alloc(), 64);
     let closed = closed_full(rt.alloc(), &mut book)?;
     same(&rt, closed, (Some(Refusal::Full), 12, [0, 4, 4]));
-    Ok(())
-}
-
-// A FlatMap with three inner observables, each with a resource, of which the second fails.
-fn failing_inner(book: &mut Probe<Sample>) -> Result<Closing, Fail> {
-    let flat = book.open(At::Root, Kind::Flat)?.key;
-    let source = book.open(At::Source(flat), Kind::Leaf)?.key;
-    for value in 1..=3 {
-        book.next(source, value)?;
-    }
-    book.open_using(At::Inner(flat), Sample::new(21))?;
-    let second = book.open_using(At::Inner(flat), Sample::new(22))?.key;
-    book.open_using(At::Inner(flat), Sample::new(23))?;
-    Ok(Closing::Abort(second))
-}
-
-// A TakeUntil that has a hub as its source and as its notifier, and whose hub completes.
-fn completing_hub(book: &mut Probe<Sample>) -> Result<Closing, Fail> {
-    let hub = book.hub(Mode::Auto)?;
-    let until = book.open(At::Root, Kind::Until)?.key;
-    let first = book.open(At::Source(until), Kind::Sub(hub))?;
-    let connection = first.connected.ok_or("no connection")?;
-    book.open(At::Notifier(until), Kind::Sub(hub))?;
-    Ok(Closing::End(book.open(At::Source(connection), Kind::Leaf)?.key))
-}
-
-// Hands out all notes: how many there are, and the last.
-fn last_of_notes(book: &mut Probe<Sample>) -> (u32, Option<Note>) {
-    let mut last = None;
-    for count in 0..1_000 {
-        match book.take_mail() {
-            Some(mail) => last = Some(mail.note),
-            None => return (count, last),
-        }
-    }
-    (1_000, last)
-}
-
-// What is seen of a book where no memory is left from the call on: how many nodes are open then, how many resources were
-// released, and the notes. None where the call is refused.
-fn seen_with_none(
-    alloc: Global,
-    book: &mut Probe<Sample>,
-    closing: Closing,
-) -> Result<Option<(u64, u64, (u32, Option<Note>))>, AllocError> {
-    let _scarce = Scarce::new(alloc)?;
-    if !is_done(book, closing) {
-        return Ok(None);
-    }
-    let released = book.release_waiting().released;
-    Ok(Some((book.open_count(), released, last_of_notes(book))))
-}
-
-#[test]
-fn an_inner_that_fails_and_a_hub_that_completes_end_all_with_no_memory_left(
-    rt: HostRuntime,
-) -> Result<(), Fail> {
-    let mut book = Probe::new(rt.alloc(), 1_000);
-    let closing = failing_inner(&mut book)?;
-    let error = Note::End(Terminal::Error(9));
-    let seen = seen_with_none(rt.alloc(), &mut book, closing)?;
-    same(&rt, seen, Some((0, 3, (4, Some(error)))));
-    let mut book = Probe::new(rt.alloc(), 1_000);
-    let closing = completing_hub(&mut book)?;
-    let seen = seen_with_none(rt.alloc(), &mut book, closing)?;
-    let end = Note::End(Terminal::Completed);
-    same(&rt, seen, Some((0, 0, (1, Some(end)))));
     Ok(())
 }
 

@@ -1,10 +1,8 @@
 //! A book as the tests see it: its calls with answers that can be compared. They have no contract, as
 //! a test compares values when it runs.
 
-use rx_book::{
-    At, Book, Closed, Key, LeaseKey, Mail, Opened, OpenedHolding, OpenedUsing, Refused, ResKey,
-};
-use rx_event::{Event, Kind, Mode, Refusal, Terminal};
+use rx_book::{At, Book, Closed, Key, LeaseKey, Mail, Opened, OpenedUsing, Refused, ResKey};
+use rx_event::{Kind, Mode, Refusal, Terminal};
 use rx_resource::{Life, Resource};
 use std::alloc::Global;
 
@@ -63,18 +61,6 @@ impl<R: Resource> Probe<R> {
 
     pub(super) fn open_using(&mut self, at: At, resource: R) -> Result<OpenedUsing, Back> {
         match self.book.open_using(at, resource) {
-            Ok(opened) => Ok(opened),
-            Err(refused) => Err(back_of(refused)),
-        }
-    }
-
-    pub(super) fn open_holding(
-        &mut self,
-        at: At,
-        kind: Kind,
-        resource: R,
-    ) -> Result<OpenedHolding, Back> {
-        match self.book.open_holding(at, kind, resource) {
             Ok(opened) => Ok(opened),
             Err(refused) => Err(back_of(refused)),
         }
@@ -195,10 +181,6 @@ impl<R: Resource> Probe<R> {
 
     pub(super) fn open_count(&self) -> u64 {
         self.book.open_count()
-    }
-
-    pub(super) fn event(&self, place: u64) -> Option<Event> {
-        self.book.event(place)
     }
 }
 

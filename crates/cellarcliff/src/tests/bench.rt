@@ -185,7 +185,12 @@ impl Bench {
         let status = cellar_make(self.alloc, &mut self.handle, command, &mut self.answer);
         if status == 0 {
             match command.what {
-                OPEN => self.keys.push(self.answer.node)?,
+                OPEN => {
+                    self.keys.push(self.answer.node)?;
+                    if self.answer.is_connected == 1 {
+                        self.keys.push(self.answer.other)?;
+                    }
+                }
                 USING => {
                     self.keys.push(self.answer.node)?;
                     self.keys.push(self.answer.other)?;
