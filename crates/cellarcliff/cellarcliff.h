@@ -71,8 +71,8 @@ extern "C" {
  * Order of causes. As docs/reference/refusals.md has it; but whoever subscribes to a share is refused CELLAR_GONE, CELLAR_NO_HUB and
  *   CELLAR_HUB_ORDER, in this order, before all others.
  * Memory. Only CELLAR_OPEN, CELLAR_USING, CELLAR_HOLD, CELLAR_APPLY, CELLAR_LEASE, CELLAR_CONNECT, CELLAR_NEXT, CELLAR_PUT, cellar_new
- *   and cellar_dump may answer CELLAR_NO_MEMORY. An opening may answer it before a cause of its own. A command that finds the history
- *   full answers it where the checkpoint that would make room is refused memory.
+ *   and cellar_dump may answer CELLAR_NO_MEMORY. CELLAR_OPEN, CELLAR_USING, CELLAR_HOLD and CELLAR_CONNECT may answer it before a cause
+ *   of their own. A command that finds the history full answers it where the checkpoint that would make room is refused memory.
  *   Whatever ends or closes, and each call that serves, asks for none, but for a checkpoint, which may be refused and is then made
  *   by a later command.
  * Threads. There is no lock inside. Any thread may call, one call at a time on a handle: a face puts each handle behind one
@@ -111,8 +111,8 @@ struct cellar {
   uint64_t at; /* an address: 64 bits on every machine, so that no layout differs */
 };
 
-/* Plain values, which may be copied, kept, and passed after what they name is gone. `number` is never given twice. Zeros are the key of
- * the first node, so a key that is to name nothing is two times UINT64_MAX. */
+/* Plain values, which may be copied, kept, and passed after what they name is gone. `number` is never given twice. Zeros may be the
+ * key of a node, so a key that is to name nothing is two times UINT64_MAX. */
 struct cellar_node {
   uint64_t slot, number;
 };
@@ -226,8 +226,9 @@ struct cellar_answer {
                             the caller serves from now on; `due` counts it. Else 0, as with CELLAR_QUEUES: each effect stands in its
                             lane. (cellar_make_behind hands out something else, and says so by its status) */
   uint64_t closings[CELLAR_ROOM]; /* words of nodes. Read them all before the first is acted on */
-  uint64_t lanes[CELLAR_ROOM];    /* names of lanes that got something; CELLAR_INSIDE is set where the caller serves the lane already,
-                                     further out, and releases stand before the rest there, of this command or an earlier one */
+  uint64_t lanes[CELLAR_ROOM];    /* names of lanes, in the order in which the command first put something into each; CELLAR_INSIDE is
+                                     set where the caller serves the lane already, further out, and releases stand before the rest
+                                     there, of this command or an earlier one */
   struct cellar_effect effect;
   uint64_t spare[2];
 };
@@ -299,7 +300,8 @@ uint8_t cellar_give_up(struct cellar *engine, uint64_t lane, uint64_t by, const 
 uint8_t cellar_left(struct cellar *engine, uint64_t from, uint64_t *lane, uint64_t *next);
 
 /* The rest of the answer of the last command on this handle whose status was 0, from this place on: its closings (0) or its lanes (1).
- * Before any other command or taking, so under the lock under which the command was made: 0, 1 or 5. */
+ * Before any other command or taking, so under the lock under which the command was made: 0, 1 or 5. *count is the lesser of `room` and of
+ * how many there are from that place on; so many are written. */
 uint8_t cellar_rest(struct cellar *engine, uint8_t which, uint64_t from, uint64_t *words, size_t room, uint64_t *count);
 
 uint8_t cellar_totals(struct cellar *engine, struct cellar_totals *totals);

@@ -309,15 +309,7 @@ class OwnItem(Face):
         return made.handed._replace(value=c.value)
 
 
-@believes("the lane that is named first is the node's own", 'lanes')
-class OwnLane(Steady):
-    def serve_all(self, c, made):
-        for lane in made.lanes:
-            self.serve(lane, c.by)
-            check(c.what != DISPOSE or self.deep or not self.owed['end', self.disposed], f'{self.disposed} did not hear its end in the first lane')
-
-
-@believes('a lane has one effect', 'lanes')
+@believes('a lane has one effect', 'names')
 class OneEffect(Steady):
     is_false_anyway = True
 
@@ -327,21 +319,12 @@ class OneEffect(Steady):
             self.cellar.give_up(lane, by, None)
 
 
-@believes('an answer has at most eight lanes', 'parts')
+@believes('an answer has at most eight lanes', 'names')
 class EightLanes(Steady):
     is_false_anyway = True
 
     def serve_all(self, c, made):
         super().serve_all(c, made._replace(lanes=made.lanes[:ROOM]))
-
-
-@believes('the rest of an answer comes by one call', 'parts')
-class OneCall(Steady):
-    def made(self, c):
-        found = super().made(c)
-        words, count = (c_uint64 * 99)(), c_uint64()
-        self.cellar._rest(self.cellar.at, 1, ROOM, addressof(words), 99, addressof(count))
-        return found._replace(lanes=found.lanes[:ROOM] + tuple(words[:count.value])) if len(found.lanes) > ROOM else found
 
 
 @believes('the rest of an answer stays while its lanes are served', 'forgets')

@@ -55,7 +55,6 @@ static void name_lanes(struct kept *kept, uint64_t by) {
     else if (lane->server == by && lane->parts[FRONT].many)
       words_put(&kept->due, lane->name | CELLAR_INSIDE);
   }
-  shuffle(&kept->engine.book.chooser, LANES, kept->due.at, kept->due.many);
   shuffle(&kept->engine.book.chooser, CLOSINGS, kept->engine.closings.at, kept->engine.closings.many);
 }
 
@@ -203,8 +202,7 @@ uint8_t cellar_rest(struct cellar *handle, uint8_t which, uint64_t from, uint64_
     return CELLAR_NO_SUCH_CODE;
   const struct words *all = which ? &kept->due : &kept->engine.closings;
   uint64_t many = from < all->many ? all->many - from : 0;
-  many = many < room ? many : room;
-  *count = many - choose(&kept->engine.book.chooser, PARTS, many);
+  *count = many < room ? many : room;
   if (*count)
     memcpy(words, all->at + from, *count * sizeof *words);
   return CELLAR_DONE;

@@ -8,7 +8,6 @@
 
 /* A name, how often of a thousand times it is not as the library has it, and what leaves it open. */
 #define CHOICES(ROW)                                                                                                                  \
-  ROW(LANES, "lanes", 500, "`lanes`: names of lanes (of their order nothing is said)")                                                \
   ROW(CLOSINGS, "closings", 500, "`closings`: words of nodes. Read them all before the first is acted on")                            \
   ROW(NAMES, "names", 900, "`lanes`: names of lanes. Pass the name as the answer had it")                                             \
   ROW(SLOTS, "slots", 900, "Plain values, which may be copied, kept. `number` is never given twice (of `slot` nothing is said)")      \
@@ -20,7 +19,6 @@
   ROW(ORDER, "order", 0, "Behind that no effect has its word for that role (where releases stand among the others is not said)")      \
   ROW(OTHERS, "others", 900, "cellar_event: what `other` of a holding says is open")                                                   \
   ROW(HANDED, "handed", 0, "`handed`: 1 if all that comes of it is the item `effect` (see the README)")                               \
-  ROW(PARTS, "parts", 500, "cellar_rest: *count (that as many come as there is room for is not said)")                                \
   ROW(FORGETS, "forgets", 500, "The rest of the answer of the last command: before any other command or taking")                      \
   ROW(LEFT, "left", 500, "cellar_left: from this place on (0 at first), *next where to go on")                                        \
   ROW(VALUES, "values", 900, "CELLAR_E_COMPLETED: user (what its `value` is, which it does not carry, is not said)")                  \
