@@ -1,5 +1,5 @@
 /* The engine for cellarcliff/rx: commands, the serving of lanes, and the usual way of an item, with no bytecode between what has to
- * stand together. Without this file rx/_crossing.py does the same in Python, by ctypes.
+ * stand together. Without this file rx/_slow.py does the same in Python, by ctypes (rx/_crossing.py chooses).
  *
  * A word of the engine is the address of an object, to which the engine has one reference for each time that it will give the word
  * back. The GIL is the lock: nothing of Python runs between a command and the taking in of its answer, which stands on the stack of the
@@ -27,7 +27,7 @@ static inline PyObject *CALL1(PyObject *f, PyObject *it) {
 #define MANY PyTuple_Size
 #define FAST(f) ((PyCFunction)(void (*)(void))(f))
 
-/* The calls, in the order of `_CALLS` in _crossing.py. */
+/* The calls, in the order of `FAST` in rx/_cellar.py. */
 static struct {
   uint32_t (*abi)(void);
   uint32_t (*size)(uint32_t);
