@@ -5,7 +5,7 @@ use Rattle.std.proofs.lemmas.Bool.{cases_lt, false≢true}
 use Rattle.rx_slots.specs.Lists.{Lists, list_at, is_in, IsPlain}
 use Rattle.rx_turns.specs.declared.agenda.Row.{Row}
 use Rattle.rx_turns.specs.Rows.{row_on, own_line}
-use Rattle.rx_turns.specs.Promises.{IsDueOnce}
+use Rattle.rx_turns.specs.Agendas.{IsDueOnce}
 use Rattle.rx_turns.proofs.Lines.{row_is, one_turn}
 
 within_by : (lists : Lists) (line place : ℕ) → is_in place (list_at lists line) ≡ true → (line < length lists.lists) ⊎ (length lists.lists ≤ line) →

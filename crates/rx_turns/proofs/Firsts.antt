@@ -4,6 +4,7 @@ use Rattle.std.proofs.lemmas.List.{get_or_past}
 use Rattle.std.proofs.lemmas.Bool.{cases_lt, eq-eqb}
 use Rattle.rx_slots.specs.Lists.{Lists, list_at, is_in, head_of, IsPlain}
 use Rattle.rx_turns.specs.declared.agenda.Turn.{Turn}
+use Rattle.rx_turns.specs.declared.agenda.Task.{Task}
 use Rattle.rx_turns.specs.declared.agenda.Row.{Row}
 use Rattle.rx_turns.specs.Rows.{blank, row_on, own_line, HasLine}
 
@@ -23,7 +24,8 @@ pub first_below : (o : Option ℕ) (lists : Lists) (line : ℕ) → IsPlain list
 first_below None lists line plain is = tt
 first_below (Some m) lists line plain is = plain.below line m (first_is_in m (list_at lists line) is)
 
-there_by : (m line : ℕ) (lists : Lists) → Some m ≡ head_of (list_at lists line) → (line < length lists.lists) ⊎ (length lists.lists ≤ line) → line < length lists.lists
+there_by : (m line : ℕ) (lists : Lists) → Some m ≡ head_of (list_at lists line) → (line < length lists.lists) ⊎ (length lists.lists ≤ line) →
+    line < length lists.lists
 there_by m line lists is (inl within) = within
 there_by m line lists is (inr past) =
     let none : Some m ≡ None = is ∙ ap head_of (get_or_past lists.lists line [] past) in
@@ -36,13 +38,13 @@ first_line None lists rows line turn listed at is = tt
 first_line (Some m) lists rows line turn listed at is =
     let there = there_by m line lists is (cases_lt line (length lists.lists)) in omega (arith, there, listed, at)
 
-served_by : (word : ℕ) (rows : List Row) (line : ℕ) → Some word ≡ (row_on rows line).in_hand → (line < length rows) ⊎ (length rows ≤ line) → line < length rows
-served_by word rows line is (inl within) = within
-served_by word rows line is (inr past) =
-    let none : Some word ≡ None = is ∙ ap (λ (r : Row). r.in_hand) (get_or_past rows line blank past) in
+served_by : (h : Task) (rows : List Row) (line : ℕ) → Some h ≡ (row_on rows line).in_hand → (line < length rows) ⊎ (length rows ≤ line) → line < length rows
+served_by h rows line is (inl within) = within
+served_by h rows line is (inr past) =
+    let none : Some h ≡ None = is ∙ ap (λ (r : Row). r.in_hand) (get_or_past rows line blank past) in
     absurd (cc)
 
 -- and who serves a lane has one
-pub served_line : (o : Option ℕ) (rows : List Row) (turn : Turn) → o ≡ (row_on rows (own_line turn rows)).in_hand → IfSome o (λ _. HasLine turn rows)
+pub served_line : (o : Option Task) (rows : List Row) (turn : Turn) → o ≡ (row_on rows (own_line turn rows)).in_hand → IfSome o (λ _. HasLine turn rows)
 served_line None rows turn is = tt
-served_line (Some word) rows turn is = served_by word rows (own_line turn rows) is (cases_lt (own_line turn rows) (length rows))
+served_line (Some h) rows turn is = served_by h rows (own_line turn rows) is (cases_lt (own_line turn rows) (length rows))

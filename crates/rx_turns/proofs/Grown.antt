@@ -1,5 +1,6 @@
 -- A line more, which is blank.
-use Rattle.std.proofs.Common.{◌≡◌, ◌≢◌, ℕ, ◌+◌, ◌<◌, ◌≤◌, ◌==◌, Bool, true, false, cond, List, [], ◌∷◌, ◌++◌, length, refl, ap, sym, ◌∙◌, arith, ◌⊎◌, inl, inr, length-append}
+use Rattle.std.proofs.Common.{◌≡◌, ◌≢◌, ℕ, ◌+◌, ◌<◌, ◌≤◌, ◌==◌, Bool, true, false, cond, List, [], ◌∷◌, ◌++◌, length, refl, ap, sym, ◌∙◌, arith, ◌⊎◌, inl}
+use Rattle.std.proofs.Common.{inr, length-append}
 use Rattle.std.specs.Prelude.{slice_index_or}
 use Rattle.std.proofs.lemmas.List.Folds.{position_or_len_push}
 use Rattle.std.proofs.lemmas.List.{get_or_push, get_or_past, get_or_append_left}
@@ -63,28 +64,11 @@ module _ (rows : List Row) (lists lists' : Lists) (listed : length lists.lists �
 
   pub grows : Grows rows grown lists lists'
   grows = record {
+    read = read_pushed rows blank;
+    listed_so = lists_same;
     due = λ t. (same_by t (own_line t rows == length rows) refl).due;
     hands = λ t. (same_by t (own_line t rows == length rows) refl).hands;
     apart = λ t i j at_i at_j. apart t i j (sym (of_same t i) ∙ at_i) (sym (of_same t j) ∙ at_j);
     listed = ap length more ∙ (many_pushed lists.lists [] ∙ (ap (λ n. n + 1) listed ∙ sym (many_pushed rows blank)));
     members = members;
   }
-
-pub grows_on : (rows mid new : List Row) (lists lists_mid lists' : Lists) → Grows rows mid lists lists_mid → Grows mid new lists_mid lists' → Grows rows new lists lists'
-grows_on rows mid new lists lists_mid lists' a b = record {
-  due = λ t. b.due t ∙ a.due t;
-  hands = λ t. b.hands t ∙ a.hands t;
-  apart = b.apart;
-  listed = b.listed;
-  members = b.members ∙ a.members;
-}
-
-pub grown_none : (rows : List Row) (lists : Lists) → length lists.lists ≡ length rows → HaveOneRowEach rows → Grows rows rows lists lists
-grown_none rows lists listed apart = record { due = λ t. refl; hands = λ t. refl; apart = apart; listed = listed; members = refl }
-
--- so far there are so many lines, and there is room for more until there are enough
-pub record HaveGrown (first : List Row) (first_lists : Lists) (rows : List Row) (lists : Lists) (capacity so_far enough : ℕ) : Type 0 where
-  pub grown_so : Grows first rows first_lists lists
-  pub many : length rows ≡ so_far
-  pub rows_fit : enough ≤ capacity
-  pub lists_fit : enough ≤ so_far + lists.room

@@ -6,46 +6,47 @@ use Rattle.std.proofs.lemmas.List.{get_or-set_same, get_or-set_other}
 use Rattle.std.proofs.lemmas.Bool.{cases_eq, false≢true, eqb-true, eq-eqb}
 use Rattle.rx_slots.specs.Lists.{Lists, list_at}
 use Rattle.rx_turns.specs.declared.agenda.Turn.{Turn}
+use Rattle.rx_turns.specs.declared.agenda.Task.{Task}
 use Rattle.rx_turns.specs.declared.agenda.Row.{Row}
 use Rattle.rx_turns.specs.Rows.{is_same, is_of, blank, row_on, own_line, HaveOneRowEach}
 use Rattle.rx_turns.specs.Agendas.{Holds}
 use Rattle.rx_turns.proofs.Lines.{line_tells}
 
-abbrev pub with_hand : List Row → ℕ → Option ℕ → List Row
-with_hand rows line word = slice_set rows line (record (row_on rows line) { in_hand = word })
+abbrev pub with_hand : List Row → ℕ → Option Task → List Row
+with_hand rows line hand = slice_set rows line (record (row_on rows line) { in_hand = hand })
 
 -- nobody's line moves
-pub line_held : (rows : List Row) (line : ℕ) (word : Option ℕ) (t : Turn) → own_line t (with_hand rows line word) ≡ own_line t rows
-line_held rows line word t = position_or_len-set (is_of t) rows line (record (row_on rows line) { in_hand = word }) blank refl
+pub line_held : (rows : List Row) (line : ℕ) (hand : Option Task) (t : Turn) → own_line t (with_hand rows line hand) ≡ own_line t rows
+line_held rows line hand t = position_or_len-set (is_of t) rows line (record (row_on rows line) { in_hand = hand }) blank refl
 
-row_held : (rows : List Row) (line k : ℕ) (word : Option ℕ) → line < length rows → (b : Bool) → (line == k) ≡ b →
-    (row_on (with_hand rows line word) k).in_hand ≡ cond b word (row_on rows k).in_hand
-row_held rows line k word within true is =
-    ap (λ (n : ℕ). (row_on (with_hand rows line word) n).in_hand) (sym (eqb-true line k is))
-    ∙ ap (λ (r : Row). r.in_hand) (get_or-set_same rows line (record (row_on rows line) { in_hand = word }) blank within)
-row_held rows line k word within false is =
+row_held : (rows : List Row) (line k : ℕ) (hand : Option Task) → line < length rows → (b : Bool) → (line == k) ≡ b →
+    (row_on (with_hand rows line hand) k).in_hand ≡ cond b hand (row_on rows k).in_hand
+row_held rows line k hand within true is =
+    ap (λ (n : ℕ). (row_on (with_hand rows line hand) n).in_hand) (sym (eqb-true line k is))
+    ∙ ap (λ (r : Row). r.in_hand) (get_or-set_same rows line (record (row_on rows line) { in_hand = hand }) blank within)
+row_held rows line k hand within false is =
     ap (λ (r : Row). r.in_hand)
-    (get_or-set_other rows line k (record (row_on rows line) { in_hand = word }) blank (λ same. false≢true (sym is ∙ eq-eqb line k (sym same))))
+    (get_or-set_other rows line k (record (row_on rows line) { in_hand = hand }) blank (λ same. false≢true (sym is ∙ eq-eqb line k (sym same))))
 
-pub held : (turn : Turn) (word : Option ℕ) (line : ℕ) (rows : List Row) (lists : Lists) (words : List ℕ) → line ≡ own_line turn rows → line < length rows →
-    Holds turn word (record { rows = rows; lists = lists; words = words }) (record { rows = with_hand rows line word; lists = lists; words = words })
-held turn word line rows lists words is within = record {
-  due = λ t. ap (list_at lists) (line_held rows line word t);
+pub held : (turn : Turn) (hand : Option Task) (line : ℕ) (rows : List Row) (lists : Lists) (words : List ℕ) → line ≡ own_line turn rows → line < length rows →
+    Holds turn hand (record { rows = rows; lists = lists; words = words }) (record { rows = with_hand rows line hand; lists = lists; words = words })
+held turn hand line rows lists words is within = record {
+  due = λ t. ap (list_at lists) (line_held rows line hand t);
   hands = λ t.
-      ap (λ k. (row_on (with_hand rows line word) k).in_hand) (line_held rows line word t)
-      ∙ row_held rows line (own_line t rows) word within (is_same turn t) (line_tells turn t rows line is within (is_same turn t) refl);
+      ap (λ k. (row_on (with_hand rows line hand) k).in_hand) (line_held rows line hand t)
+      ∙ row_held rows line (own_line t rows) hand within (is_same turn t) (line_tells turn t rows line is within (is_same turn t) refl);
   words = λ p. refl;
   places_are = refl;
 }
 
-same_row : (rows : List Row) (line : ℕ) (word : Option ℕ) (t : Turn) (k : ℕ) → line < length rows → (k ≡ line) ⊎ (k ≢ line) →
-    is_of t (row_on (with_hand rows line word) k) ≡ is_of t (row_on rows k)
-same_row rows line word t k within (inl at_line) =
-    ap (λ (n : ℕ). is_of t (row_on (with_hand rows line word) n)) at_line
-    ∙ (ap (is_of t) (get_or-set_same rows line (record (row_on rows line) { in_hand = word }) blank within)
+same_row : (rows : List Row) (line : ℕ) (hand : Option Task) (t : Turn) (k : ℕ) → line < length rows → (k ≡ line) ⊎ (k ≢ line) →
+    is_of t (row_on (with_hand rows line hand) k) ≡ is_of t (row_on rows k)
+same_row rows line hand t k within (inl at_line) =
+    ap (λ (n : ℕ). is_of t (row_on (with_hand rows line hand) n)) at_line
+    ∙ (ap (is_of t) (get_or-set_same rows line (record (row_on rows line) { in_hand = hand }) blank within)
     ∙ ap (λ (n : ℕ). is_of t (row_on rows n)) (sym at_line))
-same_row rows line word t k within (inr apart) = ap (is_of t) (get_or-set_other rows line k (record (row_on rows line) { in_hand = word }) blank apart)
+same_row rows line hand t k within (inr apart) = ap (is_of t) (get_or-set_other rows line k (record (row_on rows line) { in_hand = hand }) blank apart)
 
-pub apart_held : (rows : List Row) (line : ℕ) (word : Option ℕ) → line < length rows → HaveOneRowEach rows → HaveOneRowEach (with_hand rows line word)
-apart_held rows line word within apart t i j at_i at_j =
-    apart t i j (sym (same_row rows line word t i within (cases_eq i line)) ∙ at_i) (sym (same_row rows line word t j within (cases_eq j line)) ∙ at_j)
+pub apart_held : (rows : List Row) (line : ℕ) (hand : Option Task) → line < length rows → HaveOneRowEach rows → HaveOneRowEach (with_hand rows line hand)
+apart_held rows line hand within apart t i j at_i at_j =
+    apart t i j (sym (same_row rows line hand t i within (cases_eq i line)) ∙ at_i) (sym (same_row rows line hand t j within (cases_eq j line)) ∙ at_j)

@@ -25,7 +25,8 @@ no_other t rows i k apart here before false is = is
 -- no row is of a turn before the one that is
 pub line_is : (t : Turn) (rows : List Row) (i : ℕ) → i < length rows → HaveOneRowEach rows → is_of t (row_on rows i) ≡ true → own_line t rows ≡ i
 line_is t rows i within apart here =
-    position_or_len_is (is_of t) rows i blank (omega (arith, within)) (λ k before. no_other t rows i k apart here before (is_of t (row_on rows k)) refl) (λ _. here)
+    position_or_len_is (is_of t) rows i blank (omega (arith, within)) (λ k before. no_other t rows i k apart here before (is_of t (row_on rows k)) refl)
+    (λ _. here)
 
 -- none is
 pub line_none : (t : Turn) (rows : List Row) → ((k : ℕ) → k < length rows → is_of t (row_on rows k) ≡ false) → own_line t rows ≡ length rows

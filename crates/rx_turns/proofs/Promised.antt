@@ -1,43 +1,50 @@
--- What holds of every serving.
-use Rattle.std.proofs.Common.{◌≡◌, cond, [], Option, Some, None, refl, ap, ◌∙◌}
-use Rattle.rx_cellar.specs.declared.shapes.Effect.{Effect}
-use Rattle.rx_cellar.specs.declared.cellar.Cellar.{Cellar}
+-- Whom a serving hands out nothing has nothing, and what it hands out is in hand.
+use Rattle.std.proofs.Common.{◌≡◌, ℕ, cond, Option, Some, None, IfSome, refl, ap, ◌∙◌}
 use Rattle.rx_turns.specs.declared.agenda.Turn.{Turn}
-use Rattle.rx_turns.specs.Agendas.{DueLists, due_to, in_hand, lane_word}
-use Rattle.rx_turns.specs.Serving.{TakesDue, nothing_due, has_one, has_none, Serves, goes_on, ends_lane, serves_none}
-use Rattle.rx_turns.specs.Promises.{AreTakes, no_take, take_before, ServesByTakes, NothingIsLeft}
+use Rattle.rx_turns.specs.declared.agenda.Task.{Task}
+use Rattle.rx_turns.specs.Agendas.{in_hand, HasNothing}
+use Rattle.rx_turns.specs.States.{TurnState}
+use Rattle.rx_turns.specs.Serving.{AsksLane, gives_one, gives_none, TakesDue, nothing_due, has_one, has_none, Serves, hands_again, goes_on, ends_lane}
+use Rattle.rx_turns.specs.Serving.{serves_none}
 use Rattle.rx_turns.proofs.Lines.{is_same-self}
 
-asked_by_takes : (turn : Turn) (b : DueLists) (t : Cellar) (a : DueLists) (s : Cellar) (answer : Option Effect) → TakesDue turn b t a s answer → AreTakes turn.by t s
-asked_by_takes turn b t _ _ _ (nothing_due none) = no_take
-asked_by_takes turn b t _ _ _ (has_one a s place places e due taken takes) = take_before s t (lane_word a place) (Some e) taken no_take
-asked_by_takes turn b t _ _ _ (has_none a c s u place places answer due taken gone rest) =
-    take_before s u (lane_word a place) None taken (asked_by_takes turn b t c u answer rest)
+-- a lane that gives nothing leaves the hand as it was
+asked_hand : (turn : Turn) (word : ℕ) (s t : TurnState) (answer : Option Task) → answer ≡ None → AsksLane turn word s t answer →
+    in_hand t.agenda turn ≡ in_hand s.agenda turn
+asked_hand turn word s t _ is (gives_one v e h kept taken out) = absurd (cc)
+asked_hand turn word s t _ is (gives_none v kept taken same) = ap (λ (x : TurnState). in_hand x.agenda turn) same
 
-pub by_takes : ServesByTakes
-by_takes turn _ b _ t _ (goes_on s word e hand taken) = take_before s t word (Some e) taken no_take
-by_takes turn _ b _ t _ (ends_lane a c s u word answer hand taken holds rest) = take_before s u word None taken (asked_by_takes turn b t c u answer rest)
-by_takes turn _ b _ t _ (serves_none a s answer hand rest) = asked_by_takes turn b t a s answer rest
+pub due_ended : (turn : Turn) (b a : TurnState) (answer : Option Task) → answer ≡ None → in_hand a.agenda turn ≡ None → TakesDue turn b a answer →
+    HasNothing b.agenda turn
+due_ended turn b _ _ is hand (nothing_due none) = (none, hand)
+due_ended turn b _ _ is hand (has_one a c place places h due gone asks) = absurd (cc)
+due_ended turn b _ _ is hand (has_none a c d place places answer due gone asks rest) =
+    due_ended turn b d answer is (asked_hand turn _ c d None refl asks ∙ (gone.gone.hands turn ∙ hand)) rest
 
--- where none is found
-pub record Ended (turn : Turn) (a b : DueLists) : Type 0 where
-  pub due : due_to b turn ≡ []
-  pub hand : in_hand b turn ≡ in_hand a turn
+nothing_by : (turn : Turn) (b a : TurnState) (answer : Option Task) → answer ≡ None → Serves turn b a answer → HasNothing b.agenda turn
+nothing_by turn b _ _ is (hands_again h hand fresh) = absurd (cc)
+nothing_by turn b _ _ is (goes_on a h g hand begun asks) = absurd (cc)
+nothing_by turn b _ _ is (ends_lane a c d h answer hand begun asks drops rest) =
+    due_ended turn b d answer is (drops.holds.hands turn ∙ ap (λ v. cond v None (in_hand c.agenda turn)) (is_same-self turn)) rest
+nothing_by turn b _ _ is (serves_none a answer hand rest) = due_ended turn b a answer is hand rest
 
-ended : (turn : Turn) (b : DueLists) (t : Cellar) (a : DueLists) (s : Cellar) (answer : Option Effect) → answer ≡ None → TakesDue turn b t a s answer → Ended turn a b
-ended turn b t _ _ _ is (nothing_due none) = record { due = none; hand = refl }
-ended turn b t _ _ _ is (has_one a s place places e due taken takes) = absurd (cc)
-ended turn b t _ _ _ is (has_none a c s u place places answer due taken gone rest) =
-    let then_ended = ended turn b t c u answer is rest in record { due = then_ended.due; hand = then_ended.hand ∙ gone.hands turn }
+pub nothing_left : (turn : Turn) (s t : TurnState) → Serves turn t s None → HasNothing t.agenda turn
+nothing_left turn s t serves = nothing_by turn t s None refl serves
 
-nothing_by : (turn : Turn) (a b : DueLists) (s t : Cellar) (answer : Option Effect) → answer ≡ None → Serves turn b t a s answer →
-    (due_to b turn ≡ []) × (in_hand b turn ≡ None)
-nothing_by turn _ b _ t _ is (goes_on s word e hand taken) = absurd (cc)
-nothing_by turn _ b _ t _ is (ends_lane a c s u word answer hand taken holds rest) =
-    let over = ended turn b t c u answer is rest in
-    (over.due, over.hand ∙ (holds.hands turn ∙ ap (λ b. cond b None (in_hand a turn)) (is_same-self turn)))
-nothing_by turn _ b _ t _ is (serves_none a s answer hand rest) =
-    let over = ended turn b t a s answer is rest in (over.due, over.hand ∙ hand)
+asked_held : (turn : Turn) (word : ℕ) (s t : TurnState) (answer : Option Task) → AsksLane turn word s t answer →
+    IfSome answer (λ h. in_hand t.agenda turn ≡ Some h)
+asked_held turn word s t _ (gives_one v e h kept taken out) =
+    out.holds.hands turn ∙ ap (λ b. cond b (Some h) (in_hand s.agenda turn)) (is_same-self turn)
+asked_held turn word s t _ (gives_none v kept taken same) = tt
 
-pub nothing_left : NothingIsLeft
-nothing_left turn a b s t serves = nothing_by turn a b s t None refl serves
+pub due_held : (turn : Turn) (b a : TurnState) (answer : Option Task) → TakesDue turn b a answer → IfSome answer (λ h. in_hand b.agenda turn ≡ Some h)
+due_held turn b _ _ (nothing_due none) = tt
+due_held turn b _ _ (has_one a c place places h due gone asks) = asked_held turn _ c b (Some h) asks
+due_held turn b _ _ (has_none a c d place places answer due gone asks rest) = due_held turn b d answer rest
+
+-- what is handed out is in hand
+pub served_held : (turn : Turn) (b a : TurnState) (answer : Option Task) → Serves turn b a answer → IfSome answer (λ h. in_hand b.agenda turn ≡ Some h)
+served_held turn b _ _ (hands_again h hand fresh) = hand
+served_held turn b _ _ (goes_on a h g hand begun asks) = asked_held turn _ a b (Some g) asks
+served_held turn b _ _ (ends_lane a c d h answer hand begun asks drops rest) = due_held turn b d answer rest
+served_held turn b _ _ (serves_none a answer hand rest) = due_held turn b a answer rest

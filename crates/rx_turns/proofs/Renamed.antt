@@ -97,7 +97,8 @@ module _ {rows : List Row} {lists : Lists} {line : ℕ} {u : Turn} (is : IsFree 
   tells_given : TellsSame u
   tells_given = tells_at u (length rows) line is.none line_given (is.nothing_due ∙ sym past_lists) (ap (λ (r : Row). r.in_hand) here ∙ sym past_rows)
 
-  gone_by : (t : Turn) → is_same t u ≡ false → is_of t (row_on rows line) ≡ true → (k : ℕ) → (k ≡ line) ⊎ (k ≢ line) → is_of t (row_on (given rows line u) k) ≡ false
+  gone_by : (t : Turn) → is_same t u ≡ false → is_of t (row_on rows line) ≡ true → (k : ℕ) → (k ≡ line) ⊎ (k ≢ line) →
+      is_of t (row_on (given rows line u) k) ≡ false
   gone_by t other was k (inl at_line) = ap (λ (n : ℕ). is_of t (row_on (given rows line u) n)) at_line ∙ (is_of_here t ∙ other)
   gone_by t other was k (inr apart) = is_of_elsewhere t k apart ∙ false_from_ne_true (is_of t (row_on rows k)) (λ found. apart (is.apart t k line found was))
 

@@ -1,9 +1,10 @@
--- What is due to whom: each turn has the lanes that it is to serve next, in order, and the one that it serves.
-use Rattle.std.specs.Prelude.{◌≡◌, ℕ, ◌≤◌, ◌==◌, cond, List, [], ◌∷◌, ◌++◌, length, Option, Some, slice_index_or}
-use Rattle.rx_slots.specs.Lists.{Lists, take_out}
+-- What is due to whom: each turn has the lanes that it is to serve next, in order, and what it was handed of the lane that it serves.
+use Rattle.std.specs.Prelude.{◌≡◌, ℕ, ◌<◌, ◌≤◌, ◌==◌, ◌&&◌, Bool, true, cond, List, [], ◌∷◌, ◌++◌, length, Option, None, is_none, slice_index_or}
+use Rattle.rx_slots.specs.Lists.{Lists, is_in, take_out, head_of}
 use Rattle.rx_turns.specs.declared.agenda.Turn.{Turn}
+use Rattle.rx_turns.specs.declared.agenda.Task.{Task}
 use Rattle.rx_turns.specs.declared.agenda.Row.{Row}
-use Rattle.rx_turns.specs.Rows.{is_same, due_on, hand_on, HaveOneRowEach}
+use Rattle.rx_turns.specs.Rows.{is_same, due_on, hand_on, begun_by, HaveOneRowEach, HasLine}
 
 -- the rows say whose each list is; a list has the places of lanes; and each place has the word under which its lane is due
 pub record DueLists : Type 0 where
@@ -15,8 +16,8 @@ pub record DueLists : Type 0 where
 abbrev pub due_to : DueLists → Turn → List ℕ
 due_to a t = due_on a.rows a.lists t
 
--- the word of the lane that a turn serves
-abbrev pub in_hand : DueLists → Turn → Option ℕ
+-- what a turn was handed last, of the lane that it serves
+abbrev pub in_hand : DueLists → Turn → Option Task
 in_hand a t = hand_on a.rows t
 
 -- the word under which the lane of a place is due
@@ -27,11 +28,26 @@ lane_word a place = slice_index_or a.words place 0
 abbrev pub lanes_fit : DueLists → ℕ
 lanes_fit a = a.lists.members
 
+-- a turn has nothing any more
+abbrev pub HasNothing : DueLists → Turn → Type 0
+HasNothing a t = (due_to a t ≡ []) × (in_hand a t ≡ None)
+
+abbrev pub has_nothing : DueLists → Turn → Bool
+has_nothing a t = is_none (in_hand a t) && is_none (head_of (due_to a t))
+
+-- the turn has a line, and the lane of this place may be due
+abbrev pub LaneHasRoom : DueLists → Turn → ℕ → Type 0
+LaneHasRoom a turn place = HasLine turn a.rows × (place < lanes_fit a)
+
 -- each line has a list and a row, no two rows are of one turn, and each place has a word
 pub record IsAgenda (rows : List Row) (lists : Lists) (words : List ℕ) : Type 0 where
   pub listed : length lists.lists ≡ length rows
   pub worded : lists.members ≤ length words
   pub apart : HaveOneRowEach rows
+
+-- no lane is due to two turns
+abbrev pub IsDueOnce : DueLists → Type 0
+IsDueOnce a = (t u : Turn) (place : ℕ) → is_in place (due_to a t) ≡ true → is_in place (due_to a u) ≡ true → t ≡ u
 
 -- whoever asks is told the same, and there is no less room
 pub record LosesNothing (a b : DueLists) : Type 0 where
@@ -45,7 +61,7 @@ pub record Claims (turn : Turn) (place word : ℕ) (a b : DueLists) : Type 0 whe
   pub due : (t : Turn) → due_to b t ≡ cond (is_same turn t) (take_out place (due_to a t) ++ place ∷ []) (take_out place (due_to a t))
   pub hands : (t : Turn) → in_hand b t ≡ in_hand a t
   pub words : (p : ℕ) → lane_word b p ≡ cond (place == p) word (lane_word a p)
-  pub places_are : lanes_fit b ≡ lanes_fit a
+  pub places_are : lanes_fit a ≤ lanes_fit b
 
 -- a lane is due to nobody
 pub record IsDueNoMore (place : ℕ) (a b : DueLists) : Type 0 where
@@ -54,16 +70,23 @@ pub record IsDueNoMore (place : ℕ) (a b : DueLists) : Type 0 where
   pub words : (p : ℕ) → lane_word b p ≡ lane_word a p
   pub places_are : lanes_fit b ≡ lanes_fit a
 
--- a turn serves this, or nothing
-pub record Holds (turn : Turn) (word : Option ℕ) (a b : DueLists) : Type 0 where
-  pub due : (t : Turn) → due_to b t ≡ due_to a t
-  pub hands : (t : Turn) → in_hand b t ≡ cond (is_same turn t) word (in_hand a t)
+-- nothing is due to this turn
+pub record IsEmptied (turn : Turn) (a b : DueLists) : Type 0 where
+  pub due : (t : Turn) → due_to b t ≡ cond (is_same turn t) [] (due_to a t)
+  pub hands : (t : Turn) → in_hand b t ≡ in_hand a t
   pub words : (p : ℕ) → lane_word b p ≡ lane_word a p
   pub places_are : lanes_fit b ≡ lanes_fit a
 
--- a turn serves a lane, which is due to nobody then
-pub record TakesUp (turn : Turn) (place : ℕ) (a b : DueLists) : Type 0 where
-  pub due : (t : Turn) → due_to b t ≡ take_out place (due_to a t)
-  pub hands : (t : Turn) → in_hand b t ≡ cond (is_same turn t) (Some (lane_word a place)) (in_hand a t)
+-- a turn has this in hand, or nothing
+pub record Holds (turn : Turn) (hand : Option Task) (a b : DueLists) : Type 0 where
+  pub due : (t : Turn) → due_to b t ≡ due_to a t
+  pub hands : (t : Turn) → in_hand b t ≡ cond (is_same turn t) hand (in_hand a t)
+  pub words : (p : ℕ) → lane_word b p ≡ lane_word a p
+  pub places_are : lanes_fit b ≡ lanes_fit a
+
+-- what a stack of calls was handed under this ticket is begun
+pub record NotesBegun (by ticket : ℕ) (a b : DueLists) : Type 0 where
+  pub due : (t : Turn) → due_to b t ≡ due_to a t
+  pub hands : (t : Turn) → in_hand b t ≡ cond (t.by == by) (begun_by ticket (in_hand a t)) (in_hand a t)
   pub words : (p : ℕ) → lane_word b p ≡ lane_word a p
   pub places_are : lanes_fit b ≡ lanes_fit a

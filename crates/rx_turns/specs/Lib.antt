@@ -1,6 +1,10 @@
 pub mod Rows
 pub mod Agendas
 pub mod Seen
+pub mod States
 pub mod Serving
-pub mod Promises
 pub mod Making
+pub mod Ending
+pub mod Calls
+pub mod Courses
+pub mod Promises

@@ -1,27 +1,73 @@
--- A command that a turn makes, and the lanes that are due to it then.
-use Rattle.std.specs.Prelude.{◌≡◌, ℕ, ◌==◌, ◌&&◌, Bool, true, false, List, [], ◌∷◌, map, if◌then◌else◌}
+-- A command that a turn makes, and what is due to it then.
+use Rattle.std.specs.Prelude.{◌≡◌, ℕ, ◌==◌, ◌&&◌, Bool, true, false, List, [], ◌∷◌, map, Option, Some, None, slice_get, if◌then◌else◌}
+use Rattle.std.proofs.Math.Bool.{not}
+use Rattle.rx_resource.specs.declared.Resource.{Ghosts}
+use Rattle.rx_resource.specs.declared.token.Token.{Token}
+use Rattle.rx_event.specs.declared.refusal.Refusal.TheVariants.{NoMemory}
+use Rattle.rx_engine.specs.States.{IsPromised}
+use Rattle.rx_cellar.specs.Codes.{refusal_status}
 use Rattle.rx_cellar.specs.declared.shapes.Command.{Command}
+use Rattle.rx_cellar.specs.declared.shapes.Answer.{Answer}
 use Rattle.rx_cellar.specs.declared.cellar.Cellar.{Cellar}
+use Rattle.rx_cellar.specs.Cellars.{IsCommandMade}
+use Rattle.rx_cellar.specs.Crossings.{no_answer}
 use Rattle.rx_cellar.specs.Words.{word_of_due, place_in}
 use Rattle.rx_turns.specs.declared.agenda.Turn.{Turn}
-use Rattle.rx_turns.specs.Agendas.{DueLists, LosesNothing, Claims}
+use Rattle.rx_turns.specs.declared.agenda.Task.{Task}
+use Rattle.rx_turns.specs.Rows.{HasLine}
+use Rattle.rx_turns.specs.Agendas.{LosesNothing, Claims, LaneHasRoom, has_nothing}
+use Rattle.rx_turns.specs.States.{TurnState}
+use Rattle.rx_turns.specs.Serving.{HandsOut}
 
 -- the words of the lanes that the answer of the last accepted command names
 abbrev pub words_due : Cellar → List ℕ
 words_due s = map word_of_due s.engine.parts.lanes.due
 
--- each of these lanes is due to this turn, one behind another; or there was no room for one, and what came behind it is left out
-pub data AreClaimed (turn : Turn) (b : DueLists) : List ℕ → DueLists → (left_out : Bool) → Type 0 where
-  all_claimed : AreClaimed turn b [] b false
-  one_claimed : (word : ℕ) (words : List ℕ) (a c : DueLists) (left_out : Bool) → Claims turn (place_in word) word a c →
-      AreClaimed turn b words c left_out → AreClaimed turn b (word ∷ words) a left_out
-  rest_left_out : (words : List ℕ) (a : DueLists) → LosesNothing a b → AreClaimed turn b words a true
+-- a lane is due to a turn; or, only where there is no room for it, it is astray
+pub data IsMadeDue (turn : Turn) (word : ℕ) (s t : TurnState) : Type 0 where
+  has_claimed : Claims turn (place_in word) word s.agenda t.agenda → t ≡ record s { agenda = t.agenda } → IsMadeDue turn word s t
+  went_astray : (LaneHasRoom s.agenda turn (place_in word) → ⊥) → LosesNothing s.agenda t.agenda → t ≡ record s { agenda = t.agenda; astray = Some 0 } →
+      IsMadeDue turn word s t
 
--- the command as a turn makes it: by its word, and an item waits in its lane
-abbrev pub made_for : Turn → Command → Command
-made_for turn c = record c { by = turn.by; flags = if c.what == 3 && c.flags == 0 then 8 else c.flags }
+-- each of these lanes, one behind another
+pub data AreMadeDue (turn : Turn) (t : TurnState) : List ℕ → TurnState → Type 0 where
+  all_claimed : AreMadeDue turn t [] t
+  one_claimed : (s u : TurnState) (word : ℕ) (words : List ℕ) → IsMadeDue turn word s u → AreMadeDue turn t words u → AreMadeDue turn t (word ∷ words) s
 
--- the lanes of a command that was done; of one that was refused there are none, and nothing changed
-abbrev pub AreClaimedIf : Turn → Bool → List ℕ → DueLists → DueLists → (left_out : Bool) → Type 0
-AreClaimedIf turn true words a b left_out = AreClaimed turn b words a left_out
-AreClaimedIf turn false words a b left_out = (b ≡ a) × (left_out ≡ false)
+-- the command as a turn makes it: by its word, and an item waits in its lane, but where the turn has nothing else
+abbrev pub made_for : (is_free : Bool) → Turn → Command → Command
+made_for is_free turn c = record c { by = turn.by; flags = if (c.what == 3 && c.flags == 0) && not is_free then 8 else c.flags }
+
+-- the lane whose item the engine handed out with its answer
+abbrev pub lane_at_once : (handed : ℕ) → List ℕ → Option ℕ
+lane_at_once handed words = if handed == 1 then slice_get words 0 else None
+
+-- that item is in hand at once; else the lanes that the answer names are due
+pub data Comes (turn : Turn) (words : List ℕ) (a : Answer) (s t : TurnState) : (is_own : Bool) → Type 0 where
+  comes_at_once : (word : ℕ) (h : Task) → lane_at_once a.handed words ≡ Some word → HandsOut turn word a.effect s t h → Comes turn words a s t true
+  all_wait : lane_at_once a.handed words ≡ None → AreMadeDue turn t words s → Comes turn words a s t false
+
+-- of a command that was refused nothing comes
+abbrev pub ComesIf : (is_done : Bool) → Turn → List ℕ → Answer → TurnState → TurnState → (is_own : Bool) → Type 0
+ComesIf true turn words a s t is_own = Comes turn words a s t is_own
+ComesIf false turn words a s t is_own = (t ≡ s) × (is_own ≡ false)
+
+-- the turn is given a line
+pub record GivesLine (turn : Turn) (s t : TurnState) : Type 0 where
+  pub line : HasLine turn t.agenda.rows
+  pub loses : LosesNothing s.agenda t.agenda
+  pub only : t ≡ record s { agenda = t.agenda }
+
+-- the command was made, and what comes of it is the turn's
+pub record IsMadeBy (g : Ghosts Token) (turn : Turn) (is_free : Bool) (c : Command) (s t : TurnState) (a b : Answer) (status : ℕ) (is_own : Bool) : Type 0 where
+  pub cellar : Cellar
+  pub stood : IsPromised s.cellar.engine
+  pub made : IsCommandMade g (made_for is_free turn c) s.cellar cellar a b status
+  pub comes : ComesIf (status == 0) turn (words_due cellar) b (record s { cellar = cellar }) t is_own
+
+-- it is made; or, only where the turn has no line, there was no memory for one, and nothing changed
+pub data MakesIn (g : Ghosts Token) (turn : Turn) (c : Command) (s t : TurnState) (a b : Answer) : (status : ℕ) → (is_own : Bool) → Type 0 where
+  is_made : (u : TurnState) (status : ℕ) (is_own : Bool) → GivesLine turn s u → IsMadeBy g turn (has_nothing s.agenda turn) c u t a b status is_own →
+      MakesIn g turn c s t a b status is_own
+  finds_no_line : (HasLine turn s.agenda.rows → ⊥) → LosesNothing s.agenda t.agenda → t ≡ record s { agenda = t.agenda } → b ≡ no_answer a →
+      MakesIn g turn c s t a b (refusal_status NoMemory) false

@@ -1,8 +1,9 @@
 -- Whose each line of an agenda is. No public clause cites this module but by `Agendas`.
-use Rattle.std.specs.Prelude.{◌≡◌, ℕ, ◌<◌, ◌==◌, ◌&&◌, Bool, true, false, List, length, Option, Some, None, slice_index_or}
+use Rattle.std.specs.Prelude.{◌≡◌, ℕ, ◌<◌, ◌==◌, ◌&&◌, ◌||◌, nat_lt, Bool, true, false, cond, List, length, Option, Some, None, slice_index_or}
 use Rattle.std.specs.List.{position_or_len}
 use Rattle.rx_slots.specs.Lists.{Lists, list_at}
 use Rattle.rx_turns.specs.declared.agenda.Turn.{Turn}
+use Rattle.rx_turns.specs.declared.agenda.Task.{Task}
 use Rattle.rx_turns.specs.declared.agenda.Row.{Row}
 
 abbrev pub is_same : Turn → Turn → Bool
@@ -30,11 +31,11 @@ own_line t rows = position_or_len (is_of t) rows
 abbrev pub HaveOneRowEach : List Row → Type 0
 HaveOneRowEach rows = (t : Turn) (i j : ℕ) → is_of t (row_on rows i) ≡ true → is_of t (row_on rows j) ≡ true → i ≡ j
 
--- what is due to a turn, and what it serves
+-- what is due to a turn, and what it was handed of the lane that it serves
 abbrev pub due_on : List Row → Lists → Turn → List ℕ
 due_on rows lists t = list_at lists (own_line t rows)
 
-abbrev pub hand_on : List Row → Turn → Option ℕ
+abbrev pub hand_on : List Row → Turn → Option Task
 hand_on rows t = (row_on rows (own_line t rows)).in_hand
 
 -- it has one
@@ -48,10 +49,46 @@ pub record KeepsRows (old new : List Row) (lists : Lists) : Type 0 where
   pub apart : HaveOneRowEach new
   pub many : length new ≡ length old
 
--- so many lines more, which are blank
+-- a line more, which is blank
 pub record Grows (old new : List Row) (lists lists' : Lists) : Type 0 where
+  pub read : (k : ℕ) → row_on new k ≡ row_on old k
+  pub listed_so : (k : ℕ) → list_at lists' k ≡ list_at lists k
   pub due : (t : Turn) → due_on new lists' t ≡ due_on old lists t
   pub hands : (t : Turn) → hand_on new t ≡ hand_on old t
   pub apart : HaveOneRowEach new
   pub listed : length lists'.lists ≡ length new
   pub members : lists'.members ≡ lists.members
+
+-- whoever asks is told the same, and there may be more lines
+pub record TellsAlike (old new : List Row) (lists lists' : Lists) : Type 0 where
+  pub due : (t : Turn) → due_on new lists' t ≡ due_on old lists t
+  pub hands : (t : Turn) → hand_on new t ≡ hand_on old t
+  pub apart : HaveOneRowEach new
+  pub listed : length lists'.lists ≡ length new
+  pub members : lists'.members ≡ lists.members
+
+-- what has this ticket is begun
+abbrev pub begun_by : ℕ → Option Task → Option Task
+begun_by ticket None = None
+begun_by ticket (Some h) = Some (record h { is_begun = h.is_begun || h.ticket == ticket })
+
+abbrev pub is_by : ℕ → Option Turn → Bool
+is_by by None = false
+is_by by (Some t) = t.by == by
+
+abbrev pub with_begun : (by ticket : ℕ) → Row → Row
+with_begun by ticket r = record r { in_hand = cond (is_by by r.turn) (begun_by ticket r.in_hand) r.in_hand }
+
+-- a call deeper on the same stack
+abbrev pub is_deeper : Turn → Turn → Bool
+is_deeper t u = u.by == t.by && nat_lt t.depth u.depth
+
+-- it is less deep than the one that was found, if there is one
+abbrev pub is_before : Turn → Option Turn → Bool
+is_before u None = true
+is_before u (Some n) = nat_lt u.depth n.depth
+
+-- the nearer of one that was found, and of a row's, if that is deeper than a turn
+abbrev pub nearer : Turn → Option Turn → Option Turn → Option Turn
+nearer t best None = best
+nearer t best (Some u) = cond (is_deeper t u && is_before u best) (Some u) best

@@ -1,27 +1,40 @@
 //! What is due to whom.
 
-ghost use Rattle.std.specs.Prelude.{◌≡◌, ◌<◌, ◌≤◌, ◌==◌, ◌+◌, [], true, false, length, OnOk, IfSome, Some, None, slice_index_or, vec_capacity};
+ghost use Rattle.std.specs.Prelude.{◌≡◌, ◌<◌, ◌≤◌, ◌==◌, ◌+◌, ◌^◌, [], true, false, length, OnOk, IsOk, IfSome, IsSome, Some, None, slice_index_or, vec_capacity};
 ghost use Rattle.rx_slots.specs.Lists.{list_at, head_of};
-ghost use Rattle.rx_turns.specs.Rows.{is_of, own_line, row_on, HaveOneRowEach, KeepsRows, HasLine, Grows};
+ghost use Rattle.rx_turns.specs.Rows.{is_of, own_line, row_on, HaveOneRowEach, KeepsRows, HasLine, Grows, TellsAlike};
+ghost use Rattle.rx_turns.specs.Rows.{is_by, begun_by, with_begun, is_deeper, is_before, nearer};
 ghost use Rattle.rx_turns.specs.Agendas.{IsAgenda};
 
+use rx_cellar::Effect;
 use rx_slots::Rings;
 use std::alloc::{AllocError, Global};
 
 /// Whose turn it is.
 #[derive(Clone, Copy)]
 pub struct Turn {
-    /// A word for a stack of calls.
+    /// A word for a stack of calls, which no other stack has.
     pub by: u64,
-    /// How many of its calls are under way.
+    /// How many of its calls are under way: 1 for the outermost.
     pub depth: u64,
 }
 
-/// Whose a line is, and the lane that its turn serves.
+/// What a turn was handed.
+#[derive(Clone, Copy)]
+pub struct Task {
+    /// What is to be done.
+    pub effect: Effect,
+    /// Its number: from 1 on, and no other effect has it, but where 2^64 - 1 were given.
+    pub ticket: u64,
+    pub(crate) word: u64,
+    pub(crate) is_begun: bool,
+}
+
+/// Whose a line is, and what its turn was handed of the lane that it serves.
 #[derive(Clone, Copy)]
 pub(crate) struct Row {
     pub(crate) turn: Option<Turn>,
-    pub(crate) in_hand: Option<u64>,
+    pub(crate) in_hand: Option<Task>,
 }
 
 /// What is due to whom.
@@ -85,6 +98,23 @@ fn blank_line(rows: &[Row], lists: &Rings) -> usize
     rows.len()
 }
 
+// Gives a line that is blank to a turn that has none.
+fn give_line(rows: &mut Vec<Row>, lists: &Rings, turn: Turn, line: usize)
+    requires within { line < length rows.old.items }
+    requires listed { length lists.now.lists ≡ length rows.old.items }
+    requires apart { HaveOneRowEach rows.old.items }
+    requires none { own_line turn rows.old.items ≡ length rows.old.items }
+    requires nothing_due { list_at lists.now line ≡ [] }
+    requires nothing_served { (row_on rows.old.items line).in_hand ≡ None }
+    ensures line { own_line turn rows.new.items ≡ line }
+    ensures kept { KeepsRows rows.old.items rows.new.items lists.now }
+{
+    rows[line] = Row {
+        turn: Some(turn),
+        in_hand: None,
+    };
+}
+
 // The line of a turn, which is given one that is blank where it has none; behind all where there is none.
 fn line_for(rows: &mut Vec<Row>, lists: &Rings, turn: Turn) -> usize
     requires listed { length lists.now.lists ≡ length rows.old.items }
@@ -92,6 +122,7 @@ fn line_for(rows: &mut Vec<Row>, lists: &Rings, turn: Turn) -> usize
     ensures line { result ≡ own_line turn rows.new.items }
     ensures within { result ≤ length rows.new.items }
     ensures kept { KeepsRows rows.old.items rows.new.items lists.now }
+    ensures had { HasLine turn rows.old.items → result < length rows.new.items }
 {
     let line = own_line(rows, turn);
     if line < rows.len() {
@@ -99,24 +130,9 @@ fn line_for(rows: &mut Vec<Row>, lists: &Rings, turn: Turn) -> usize
     }
     let blank = blank_line(rows, lists);
     if blank < rows.len() {
-        rows[blank] = Row {
-            turn: Some(turn),
-            in_hand: None,
-        };
+        give_line(rows, lists, turn, blank);
     }
     blank
-}
-
-// Lets there be a word at each place below this one; past the last there is none but 0.
-fn lengthen(words: &mut Vec<u64>, places: usize) -> Result<(), AllocError>
-    ensures same { (p : _) → slice_index_or words.new.items p 0 ≡ slice_index_or words.old.items p 0 }
-    ensures ok { OnOk result (places ≤ length words.new.items) }
-    ensures longer { length words.old.items ≤ length words.new.items }
-{
-    if places <= words.len() {
-        return Ok(());
-    }
-    words.resize(places, 0)
 }
 
 // One line more, which is blank.
@@ -126,9 +142,7 @@ fn add_line(rows: &mut Vec<Row>, lists: &mut Rings)
     requires listed { length lists.old.lists ≡ length rows.old.items }
     requires apart { HaveOneRowEach rows.old.items }
     ensures grows { Grows rows.old.items rows.new.items lists.old lists.new }
-    ensures more { length rows.new.items ≡ length rows.old.items + 1 }
-    ensures capacity { vec_capacity rows.new ≡ vec_capacity rows.old }
-    ensures room { lists.new.room + 1 ≡ lists.old.room }
+    ensures many { length rows.new.items ≡ length rows.old.items + 1 }
 {
     rows.push_reserved(Row {
         turn: None,
@@ -137,29 +151,128 @@ fn add_line(rows: &mut Vec<Row>, lists: &mut Rings)
     lists.add();
 }
 
-// So many lines at least.
-fn add_lines(rows: &mut Vec<Row>, lists: &mut Rings, lines: usize) -> Result<(), AllocError>
+// A turn has a line then, one of those that are there if it can be.
+fn admit(rows: &mut Vec<Row>, lists: &mut Rings, turn: Turn) -> Result<(), AllocError>
     requires listed { length lists.old.lists ≡ length rows.old.items }
     requires apart { HaveOneRowEach rows.old.items }
-    ensures grows { Grows rows.old.items rows.new.items lists.old lists.new }
-    ensures ok { OnOk result (lines ≤ length rows.new.items) }
+    ensures ok { OnOk result (HasLine turn rows.new.items) }
+    ensures told { TellsAlike rows.old.items rows.new.items lists.old lists.new }
+    ensures had { HasLine turn rows.old.items → IsOk result }
 {
-    let so_far = rows.len();
-    if lines <= so_far {
+    let line = line_for(rows, lists, turn);
+    if line < rows.len() {
         return Ok(());
     }
-    rows.reserve(lines - so_far)?;
-    lists.reserve(lines - so_far)?;
-    for _line in so_far..lines {
-        add_line(rows, lists);
-    }
+    rows.reserve(1)?;
+    lists.reserve(1)?;
+    add_line(rows, lists);
+    give_line(rows, lists, turn, line);
     Ok(())
 }
 
+// Lets there be a word at each place below this one; past the last there is none but 0.
+fn lengthen(words: &mut Vec<u64>, places: usize) -> Result<(), AllocError>
+    ensures same { (p : _) → slice_index_or words.new.items p 0 ≡ slice_index_or words.old.items p 0 }
+    ensures ok { OnOk result (places ≤ length words.new.items) }
+    ensures longer { length words.old.items ≤ length words.new.items }
+    ensures had { places ≤ length words.old.items → IsOk result }
+{
+    if places <= words.len() {
+        return Ok(());
+    }
+    words.resize(places, 0)
+}
+
+// Whether a row is one of this stack's.
+fn is_by(by: u64, turn: Option<Turn>) -> bool
+    ensures { result ≡ is_by by turn }
+{
+    match turn {
+        Some(turn) => turn.by == by,
+        None => false,
+    }
+}
+
+// What was handed under this ticket is begun.
+fn begun_by(ticket: u64, in_hand: Option<Task>) -> Option<Task>
+    ensures { result ≡ begun_by ticket in_hand }
+{
+    match in_hand {
+        Some(handed) => Some(Task {
+            is_begun: handed.is_begun || handed.ticket == ticket,
+            ..handed
+        }),
+        None => None,
+    }
+}
+
+// The same of a row, if it is one of this stack's.
+fn with_begun(by: u64, ticket: u64, row: Row) -> Row
+    ensures { result ≡ with_begun by ticket row }
+{
+    Row {
+        in_hand: if is_by(by, row.turn) {
+            begun_by(ticket, row.in_hand)
+        } else {
+            row.in_hand
+        },
+        ..row
+    }
+}
+
+// The same of all rows.
+fn mark(rows: &mut Vec<Row>, by: u64, ticket: u64)
+    ensures each { (k : _) → row_on rows.new.items k ≡ with_begun by ticket (row_on rows.old.items k) }
+    ensures many { length rows.new.items ≡ length rows.old.items }
+{
+    for line in 0..rows.len() {
+        let row = rows[line];
+        rows[line] = with_begun(by, ticket, row);
+    }
+}
+
+// Whether a turn is less deep than the one that was found, if there is one.
+fn is_before(turn: Turn, found: Option<Turn>) -> bool
+    ensures { result ≡ is_before turn found }
+{
+    match found {
+        Some(found) => turn.depth < found.depth,
+        None => true,
+    }
+}
+
+// The nearer of a turn that was found, and of a row's, if that is deeper on the same stack.
+fn nearer(turn: Turn, found: Option<Turn>, other: Option<Turn>) -> Option<Turn>
+    ensures { result ≡ nearer turn found other }
+{
+    let Some(one) = other else {
+        return found;
+    };
+    if one.by == turn.by && turn.depth < one.depth && is_before(one, found) {
+        Some(one)
+    } else {
+        found
+    }
+}
+
+// The next deeper turn of the same stack that has a line.
+fn next_deeper(rows: &[Row], turn: Turn) -> Option<Turn>
+    ensures deeper { IfSome result (λ u. is_deeper turn u ≡ true) }
+    ensures between { (u : Turn) → is_deeper turn u ≡ true → is_before u result ≡ true →
+        own_line u rows.now ≡ length rows.now }
+{
+    let mut found = None;
+    for line in 0..rows.len() {
+        found = nearer(turn, found, rows[line].turn);
+    }
+    found
+}
+
 impl Agenda {
-    ghost use Rattle.rx_turns.specs.Agendas.{due_to, in_hand, lane_word, LosesNothing, Claims, IsDueNoMore, Holds, TakesUp};
+    ghost use Rattle.rx_turns.specs.Agendas.{due_to, in_hand, lane_word, lanes_fit, has_nothing, HasNothing, LaneHasRoom};
+    ghost use Rattle.rx_turns.specs.Agendas.{LosesNothing, Claims, IsDueNoMore, IsEmptied, Holds, NotesBegun};
     ghost use Rattle.rx_turns.specs.Seen.{seen};
-    ghost use Rattle.rx_turns.specs.Promises.{IsDueOnce};
+    ghost use Rattle.rx_turns.specs.Agendas.{IsDueOnce};
     ghost use Rattle.rx_turns.specs.declared.agenda.Turn.{Turn};
 
     /// Nothing is due, which takes no memory.
@@ -183,15 +296,25 @@ impl Agenda {
         self.lists.promise();
     }
 
-    /// Lets lanes of all places below this one be due, to so many turns at least.
-    pub(crate) fn reserve(&mut self, places: usize, turns: usize) -> Result<(), AllocError>
-        ensures places { OnOk result (places ≤ self.new.lists.members) }
-        ensures turns { OnOk result (turns ≤ length self.new.rows.items) }
+    /// A turn has a line then.
+    pub(crate) fn admit(&mut self, turn: Turn) -> Result<(), AllocError>
+        ensures ok { OnOk result (HasLine turn self.new.rows.items) }
         ensures kept { LosesNothing (seen self.old) (seen self.new) }
+        ensures places { self.new.lists.members ≡ self.old.lists.members }
+        ensures had { HasLine turn self.old.rows.items → IsOk result }
+    {
+        admit(&mut self.rows, &mut self.lists, turn)
+    }
+
+    /// Lets lanes of all places below this one be due.
+    pub(crate) fn widen(&mut self, places: usize) -> Result<(), AllocError>
+        ensures ok { OnOk result (places ≤ self.new.lists.members) }
+        ensures kept { LosesNothing (seen self.old) (seen self.new) }
+        ensures rows { self.new.rows ≡ self.old.rows }
+        ensures had { places ≤ self.old.lists.members → IsOk result }
     {
         lengthen(&mut self.words, places)?;
-        self.lists.admit(places)?;
-        add_lines(&mut self.rows, &mut self.lists, turns)
+        self.lists.admit(places)
     }
 
     /// The first lane that is due to a turn.
@@ -204,13 +327,6 @@ impl Agenda {
         self.lists.first(own_line(&self.rows, turn))
     }
 
-    /// Lanes of all places below this one may be due.
-    pub(crate) fn places(&self) -> usize
-        ensures { result ≡ self.now.lists.members }
-    {
-        self.lists.members()
-    }
-
     /// The word under which the lane of a place is due.
     pub(crate) fn word(&self, place: usize) -> u64
         ensures { result ≡ lane_word (seen self.now) place }
@@ -218,41 +334,70 @@ impl Agenda {
         self.words.get(place).copied().unwrap_or(0)
     }
 
-    /// Makes a lane due to a turn, behind all that is, and to no other. False where there is no line left: then it is due
-    /// to whom it was.
-    pub(crate) fn claim(&mut self, turn: Turn, place: usize, word: u64) -> bool
-        requires place { place < self.old.lists.members }
-        ensures claims { result ≡ true → Claims turn place word (seen self.old) (seen self.new) }
-        ensures kept { result ≡ false → LosesNothing (seen self.old) (seen self.new) }
-    {
-        let line = line_for(&mut self.rows, &self.lists, turn);
-        if line == self.rows.len() {
-            return false;
-        }
-        self.lists.leave(place);
-        self.lists.join(line, place);
-        self.words[place] = word;
-        true
-    }
-
-    /// The word of the lane that a turn serves.
-    pub(crate) fn served(&self, turn: Turn) -> Option<u64>
+    /// What a turn has in hand.
+    pub(crate) fn served(&self, turn: Turn) -> Option<Task>
         ensures hand { result ≡ in_hand (seen self.now) turn }
         ensures line { IfSome result (λ _. HasLine turn self.now.rows.items) }
     {
         row_on(&self.rows, own_line(&self.rows, turn)).in_hand
     }
 
-    /// A turn that has a line serves this lane, or none.
-    pub(crate) fn hold(&mut self, turn: Turn, word: Option<u64>)
+    /// Whether a turn has nothing.
+    pub(crate) fn is_free(&self, turn: Turn) -> bool
+        ensures { result ≡ has_nothing (seen self.now) turn }
+    {
+        self.served(turn).is_none() && self.first(turn).is_none()
+    }
+
+    /// The next deeper turn of the same stack that may have something.
+    pub(crate) fn next_deeper(&self, turn: Turn) -> Option<Turn>
+        ensures deeper { IfSome result (λ u. is_deeper turn u ≡ true) }
+        ensures between { (u : Turn) → is_deeper turn u ≡ true → is_before u result ≡ true →
+            HasNothing (seen self.now) u }
+    {
+        next_deeper(&self.rows, turn)
+    }
+
+    // Puts a lane behind all that are due to a turn, and off every other list.
+    fn join(&mut self, turn: Turn, place: usize, word: u64)
         requires line { HasLine turn self.old.rows.items }
-        ensures holds { Holds turn word (seen self.old) (seen self.new) }
+        requires place { place < self.old.lists.members }
+        ensures { Claims turn place word (seen self.old) (seen self.new) }
+    {
+        let line = own_line(&self.rows, turn);
+        self.lists.leave(place);
+        self.lists.join(line, place);
+        self.words[place] = word;
+    }
+
+    /// Makes a lane due to a turn, behind all that is, and to no other. False where there is no memory for that: then it
+    /// is due to whom it was.
+    pub(crate) fn claim(&mut self, turn: Turn, place: usize, word: u64) -> bool
+        requires place { place < 2 ^ 29 }
+        ensures claims { result ≡ true → Claims turn place word (seen self.old) (seen self.new) }
+        ensures kept { result ≡ false → LosesNothing (seen self.old) (seen self.new) }
+        ensures room { LaneHasRoom (seen self.old) turn place → result ≡ true }
+    {
+        if self.admit(turn).is_err() {
+            return false;
+        }
+        if self.widen(place + 1).is_err() {
+            return false;
+        }
+        self.join(turn, place, word);
+        true
+    }
+
+    /// A turn that has a line has this in hand, or nothing.
+    pub(crate) fn hold(&mut self, turn: Turn, hand: Option<Task>)
+        requires line { HasLine turn self.old.rows.items }
+        ensures holds { Holds turn hand (seen self.old) (seen self.new) }
         ensures lines { (t : Turn) → HasLine t self.old.rows.items → HasLine t self.new.rows.items }
     {
         let line = own_line(&self.rows, turn);
         let row = row_on(&self.rows, line);
         self.rows[line] = Row {
-            in_hand: word,
+            in_hand: hand,
             ..row
         };
     }
@@ -260,19 +405,26 @@ impl Agenda {
     /// Makes a lane due to nobody.
     pub(crate) fn forget(&mut self, place: usize)
         requires place { place < self.old.lists.members }
-        ensures { IsDueNoMore place (seen self.old) (seen self.new) }
+        ensures gone { IsDueNoMore place (seen self.old) (seen self.new) }
+        ensures rows { self.new.rows ≡ self.old.rows }
     {
         self.lists.leave(place);
     }
 
-    /// Serves a lane, which is due to nobody then, in a turn that has a line.
-    pub(crate) fn take_up(&mut self, turn: Turn, place: usize)
-        requires place { place < self.old.lists.members }
-        requires line { HasLine turn self.old.rows.items }
-        ensures { TakesUp turn place (seen self.old) (seen self.new) }
+    /// Makes nothing due to a turn.
+    pub(crate) fn empty(&mut self, turn: Turn)
+        ensures { IsEmptied turn (seen self.old) (seen self.new) }
     {
-        let word = self.word(place);
-        self.hold(turn, Some(word));
-        self.forget(place);
+        while let Some(place) = self.first(turn) {
+            self.promise();
+            self.forget(place);
+        }
+    }
+
+    /// What a stack of calls was handed under this ticket is begun.
+    pub(crate) fn mark(&mut self, by: u64, ticket: u64)
+        ensures { NotesBegun by ticket (seen self.old) (seen self.new) }
+    {
+        mark(&mut self.rows, by, ticket);
     }
 }

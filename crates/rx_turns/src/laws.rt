@@ -1,23 +1,28 @@
-//! What holds of every serving, which a caller may cite.
+//! What holds of the calls of a face, which a caller may cite.
 
-ghost use Rattle.rx_turns.specs.Promises.{ServesByTakes, NothingIsLeft, ServesWhatItHands, LeavesOthersAlone};
+ghost use Rattle.rx_turns.specs.Courses.{CallsAreCourses};
+ghost use Rattle.rx_turns.specs.Promises.{NothingIsLeft, HoldsWhatItHands, LeavesOthersAlone};
 
-/// A turn is served by takes of its word, and by nothing else.
-pub fn turns_are_served_by_takes()
-    ensures { ServesByTakes }
+use rx_book::Resource;
+use rx_resource::Token;
+
+/// Each call is a course of the engine, so that the laws of `rx_courses` hold of it: a step takes what it hands out,
+/// alone, or takes nothing and hands out once more what was not begun; a pass and a stop take nothing.
+pub fn calls_are_courses()
+    ensures { CallsAreCourses ⟦<Token as Resource>⟧ }
 {}
 
-/// Nothing is handed out only where the turn has nothing any more.
+/// A step hands out nothing only where its turn has nothing any more, nor has any deeper call of its stack.
 pub fn nothing_is_left_where_nothing_is_handed_out()
     ensures { NothingIsLeft }
 {}
 
-/// What is handed out is the first effect of the lane that the turn serves then.
-pub fn what_is_handed_out_is_of_the_lane_in_hand()
-    ensures { ServesWhatItHands }
+/// What a step hands out is in hand then, of its turn or of a deeper call of its stack.
+pub fn what_is_handed_out_is_in_hand()
+    ensures { HoldsWhatItHands }
 {}
 
-/// While a turn is served, each other turn keeps the lane that it serves and those that are due to it.
+/// While a turn is served, each other turn keeps what it has in hand and what is due to it.
 pub fn other_turns_keep_theirs()
     ensures { LeavesOthersAlone }
 {}

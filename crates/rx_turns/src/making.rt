@@ -1,22 +1,42 @@
 //! A command that a turn makes.
 
-ghost use Rattle.std.specs.Prelude.{◌≡◌, ◌==◌, true, false, slice_get};
+ghost use Rattle.std.specs.Prelude.{◌≡◌, ◌==◌, ◌<◌, ◌^◌, true, length, slice_get, option_copied};
 ghost use Rattle.rx_cellar.specs.Words.{place_in};
-ghost use Rattle.rx_turns.specs.Agendas.{LosesNothing, Claims};
-ghost use Rattle.rx_turns.specs.Seen.{seen};
-ghost use Rattle.rx_turns.specs.Making.{words_due, AreClaimed, AreClaimedIf, made_for};
+ghost use Rattle.rx_turns.specs.Calls.{MakesAny};
+ghost use Rattle.rx_turns.specs.States.{turn_state};
+ghost use Rattle.rx_turns.specs.Rows.{HasLine};
+ghost use Rattle.rx_turns.specs.Making.{words_due, IsMadeDue, AreMadeDue, made_for, lane_at_once};
+ghost use Rattle.rx_turns.specs.Making.{Comes, ComesIf, IsMadeBy, MakesIn};
 
-use crate::agenda::{Agenda, Turn};
-use rx_cellar::{Cellar, Command};
+use crate::agenda::Turn;
+use crate::turns::Turns;
+use rx_book::Resource;
+use rx_cellar::{Answer, Cellar, Command, NO_MEMORY};
+use rx_resource::Token;
 
 // A lane's place is below this.
 const PLACES: u64 = 536_870_912;
 
-// The command as a turn makes it: by its word, and an item waits in its lane.
-pub(crate) fn made_for(turn: Turn, command: &Command) -> Command
-    ensures { result ≡ made_for turn command.now }
+// What a command came to, and whether its item is in hand.
+#[derive(Clone, Copy)]
+pub(crate) struct Done {
+    pub(crate) status: u8,
+    pub(crate) is_own: bool,
+}
+
+// The place of the lane that a word names.
+pub(crate) fn place_of(word: u64) -> usize
+    ensures place { result ≡ place_in word }
+    ensures below { result < 2 ^ 29 }
 {
-    let flags = if command.what == 3 && command.flags == 0 {
+    (word % PLACES) as usize
+}
+
+// The command as a turn makes it: by its word, and an item waits in its lane, but where the turn has nothing else.
+fn made_for(is_free: bool, turn: Turn, command: &Command) -> Command
+    ensures { result ≡ made_for is_free turn command.now }
+{
+    let flags = if command.what == 3 && command.flags == 0 && !is_free {
         8
     } else {
         command.flags
@@ -38,44 +58,122 @@ fn word_due(cellar: &Cellar, index: u64) -> Option<u64>
     if count == 0 { None } else { Some(words[0]) }
 }
 
-// Makes a lane due to a turn, if there is room.
-fn claim(agenda: &mut Agenda, turn: Turn, word: u64) -> bool
-    ensures claims { result ≡ true → Claims turn (place_in word) word (seen agenda.old) (seen agenda.new) }
-    ensures kept { result ≡ false → LosesNothing (seen agenda.old) (seen agenda.new) }
+// The word of the lane whose item the engine handed out with its answer.
+fn lane_at_once(cellar: &Cellar, answer: &Answer) -> Option<u64>
+    ensures { result ≡ lane_at_once answer.now.handed (words_due cellar.now) }
 {
-    let place = (word % PLACES) as usize;
-    if place < agenda.places() {
-        agenda.claim(turn, place, word)
+    if answer.handed == 1 {
+        word_due(cellar, 0)
     } else {
-        false
+        None
     }
 }
 
-// Makes the lanes due to a turn that the answer of the last accepted command names; whether some are left out, for want of
-// room.
-fn claim_all(cellar: &Cellar, agenda: &mut Agenda, turn: Turn) -> bool
-    ensures { AreClaimed turn (seen agenda.new) (words_due cellar.now) (seen agenda.old) result }
-{
-    for index in 0..u64::MAX {
-        match word_due(cellar, index) {
-            Some(word) => {
-                if !claim(agenda, turn, word) {
-                    return true;
-                }
-            }
-            None => return false,
+impl Turns {
+    // Makes a lane due to a turn; where there is no memory for that, it is astray.
+    pub(crate) fn claim(&mut self, turn: Turn, word: u64)
+        ensures { IsMadeDue turn word (turn_state self.old) (turn_state self.new) }
+    {
+        if !self.agenda.claim(turn, place_of(word), word) {
+            self.astray = Some(0);
         }
     }
-    true
-}
 
-/// The same where the command was done; nothing where it was refused.
-pub(crate) fn claim_if(cellar: &Cellar, agenda: &mut Agenda, turn: Turn, is_done: bool) -> bool
-    ensures { AreClaimedIf turn is_done (words_due cellar.now) (seen agenda.old) (seen agenda.new) result }
-{
-    if is_done {
-        claim_all(cellar, agenda, turn)
-    } else {
-        false
+    // Makes the lanes due to a turn that the answer of the last accepted command names, of which there are so many.
+    fn claim_all(&mut self, turn: Turn, many: u64)
+        requires { many ≡ length (words_due self.old.cellar) }
+        ensures { AreMadeDue turn (turn_state self.new) (words_due self.old.cellar) (turn_state self.old) }
+    {
+        for index in 0..many {
+            match word_due(&self.cellar, index) {
+                Some(word) => self.claim(turn, word),
+                None => return,
+            }
+        }
+    }
+
+    // What comes of a command that was done; whether its item is in hand.
+    fn come(&mut self, turn: Turn, answer: &Answer) -> bool
+        requires line { HasLine turn self.old.agenda.rows.items }
+        requires many { answer.now.due ≡ length (words_due self.old.cellar) }
+        ensures { Comes turn (words_due self.old.cellar) answer.now (turn_state self.old) (turn_state self.new) result }
+    {
+        match lane_at_once(&self.cellar, answer) {
+            Some(word) => {
+                self.hand_out(turn, word, answer.effect);
+                true
+            }
+            None => {
+                self.claim_all(turn, answer.due);
+                false
+            }
+        }
+    }
+
+    // The same, if it was done.
+    fn come_if(&mut self, is_done: bool, turn: Turn, answer: &Answer) -> bool
+        requires line { HasLine turn self.old.agenda.rows.items }
+        requires many { is_done ≡ true → answer.now.due ≡ length (words_due self.old.cellar) }
+        ensures { ComesIf is_done turn (words_due self.old.cellar) answer.now (turn_state self.old)
+            (turn_state self.new) result }
+    {
+        if is_done {
+            self.come(turn, answer)
+        } else {
+            false
+        }
+    }
+
+    // Makes a command in a turn that has a line.
+    fn make_by(&mut self, turn: Turn, is_free: bool, command: &Command, answer: &mut Answer) -> Done
+        requires { HasLine turn self.old.agenda.rows.items }
+        ensures { IsMadeBy ⟦<Token as Resource>⟧ turn is_free command.now (turn_state self.old) (turn_state self.new)
+            answer.old answer.new result.status result.is_own }
+    {
+        self.cellar.promise();
+        let asked = made_for(is_free, turn, command);
+        let status = self.cellar.make(&asked, answer);
+        let is_own = self.come_if(status == 0, turn, answer);
+        Done { status, is_own }
+    }
+
+    // Makes a command in a turn.
+    fn make(&mut self, turn: Turn, command: &Command, answer: &mut Answer) -> Done
+        ensures { MakesIn ⟦<Token as Resource>⟧ turn command.now (turn_state self.old) (turn_state self.new)
+            answer.old answer.new result.status result.is_own }
+    {
+        let is_free = self.agenda.is_free(turn);
+        match self.agenda.admit(turn) {
+            Ok(()) => self.make_by(turn, is_free, command, answer),
+            Err(_) => {
+                answer.clear();
+                Done {
+                    status: NO_MEMORY,
+                    is_own: false,
+                }
+            }
+        }
+    }
+
+    // The same, if there is a command.
+    pub(crate) fn make_any(
+        &mut self,
+        turn: Turn,
+        command: Option<&Command>,
+        answer: &mut Answer,
+    ) -> Done
+        ensures { MakesAny ⟦<Token as Resource>⟧ turn (option_copied command.entry) (turn_state self.old)
+            (turn_state self.new) answer.old answer.new result.status result.is_own }
+    {
+        match command {
+            Some(command) => self.make(turn, command, answer),
+            None => {
+                answer.clear();
+                Done {
+                    status: 0,
+                    is_own: false,
+                }
+            }
+        }
     }
 }

@@ -1,28 +1,29 @@
 //! An engine, and beside it what is due to whom.
 
-ghost use Rattle.std.specs.Prelude.{◌≡◌, ◌==◌, ◌≤◌, [], length, OnOk};
-ghost use Rattle.rx_turns.specs.Agendas.{LosesNothing};
-ghost use Rattle.rx_cellar.specs.Cellars.{IsCommandMade};
-ghost use Rattle.rx_turns.specs.Making.{words_due, AreClaimedIf, made_for};
-ghost use Rattle.rx_turns.specs.Promises.{IsDueOnce};
+ghost use Rattle.std.specs.Prelude.{◌≡◌, [], option_copied, None};
+ghost use Rattle.rx_cellar.specs.Beginnings.{limit_of, first_until, IsFresh};
+ghost use Rattle.rx_turns.specs.Calls.{IsTurnStep, IsTurnPass, IsTurnStop};
+ghost use Rattle.rx_turns.specs.Agendas.{IsDueOnce};
 ghost use Rattle.rx_turns.specs.Seen.{seen};
-ghost use Rattle.rx_turns.specs.Serving.{Serves};
+ghost use Rattle.rx_turns.specs.States.{turn_state};
 
-use crate::agenda::{Agenda, Turn};
-use crate::making::{claim_if, made_for};
-use crate::serving::serve;
+use crate::agenda::{Agenda, Task, Turn};
+use crate::ending::{outer, owner};
 use rx_book::Resource;
-use rx_cellar::{Answer, Cellar, Command, Effect};
+use rx_cellar::{Answer, Cellar, Command};
 use rx_resource::Token;
-use std::alloc::{AllocError, Global};
+use std::alloc::Global;
 
-/// What a command came to.
+/// What a step came to.
 #[derive(Clone, Copy)]
-pub struct Done {
-    /// 0 where it was done.
+pub struct Step {
+    /// 0 where the command was done, or there was none; 4 where there was no memory to keep what it would come to, and
+    /// it was not made; else as [`Cellar::make`] has it.
     pub status: u8,
-    /// Whether a lane that has something is due to nobody, for want of room.
-    pub left_out: bool,
+    /// What is to be done now. Where there is nothing, the turn has nothing any more.
+    pub handed: Option<Task>,
+    /// Whether that is the item of this step's command.
+    pub is_own: bool,
 }
 
 /// An engine by turns.
@@ -30,18 +31,29 @@ pub struct Done {
 pub struct Turns {
     pub(crate) cellar: Cellar,
     pub(crate) agenda: Agenda,
+    pub(crate) tickets: u64,
+    pub(crate) astray: Option<u64>,
 }
 
 impl Turns {
     /// An engine with nothing in it, whose history has at most so many events at a time; with 0 it chooses. It takes
     /// no memory.
     pub fn new(alloc: Global, max_events: u32) -> Turns
+        ensures engine { IsFresh (limit_of max_events) result.cellar.engine }
+        ensures released { result.cellar.released ≡ 0 }
+        ensures at { result.cellar.at ≡ 0 }
+        ensures until { result.cellar.until ≡ first_until max_events }
         ensures rows { result.agenda.rows.items ≡ [] }
+        ensures lists { result.agenda.lists.lists ≡ [] }
         ensures places { result.agenda.lists.members ≡ 0 }
+        ensures tickets { result.tickets ≡ 0 }
+        ensures astray { result.astray ≡ None }
     {
         Turns {
             cellar: Cellar::new(alloc, max_events),
             agenda: Agenda::new(alloc),
+            tickets: 0,
+            astray: None,
         }
     }
 
@@ -52,33 +64,47 @@ impl Turns {
         self.agenda.promise();
     }
 
-    /// Lets lanes of all places below this one be due, to so many turns at least.
-    pub fn reserve(&mut self, places: usize, turns: usize) -> Result<(), AllocError>
-        ensures places { OnOk result (places ≤ self.new.agenda.lists.members) }
-        ensures turns { OnOk result (turns ≤ length self.new.agenda.rows.items) }
-        ensures kept { LosesNothing (seen self.old.agenda) (seen self.new.agenda) }
-        ensures cellar { self.new.cellar ≡ self.old.cellar }
+    /// What its stack began last, by its ticket, is told. Makes the command, if there is one, by the stack's word, and
+    /// hands out what is to be done next in this turn, whatever the status: what was handed out and not begun, once
+    /// more; then the rest of the lane that it serves; then what each lane has that is due to it, in order; then the
+    /// same for each deeper call of this stack; and at depth 1 then what calls that were stopped have left.
+    pub fn step(
+        &mut self,
+        turn: Turn,
+        begun: u64,
+        command: Option<&Command>,
+        answer: &mut Answer,
+    ) -> Step
+        ensures { IsTurnStep ⟦<Token as Resource>⟧ turn begun (option_copied command.entry) (turn_state self.old)
+            (turn_state self.new) answer.old answer.new result }
     {
-        self.agenda.reserve(places, turns)
+        self.agenda.mark(turn.by, begun);
+        let done = self.make_any(turn, command, answer);
+        let handed = self.go_on(turn);
+        Step {
+            status: done.status,
+            handed,
+            is_own: done.is_own,
+        }
     }
 
-    /// What a turn is to do next, where what it was handed last is done: the next effect of the lane that it serves, or
-    /// of the first lane that has something among those that are due to it. None where it has nothing any more.
-    pub fn serve(&mut self, turn: Turn) -> Option<Effect>
-        ensures { Serves turn (seen self.new.agenda) self.new.cellar (seen self.old.agenda) self.old.cellar result }
+    /// From within an effect: what the call further out is doing counts as told, and its lane is free. With `now` what
+    /// is left there is this turn's, without it that of the call further out, behind what it has.
+    pub fn pass(&mut self, turn: Turn, begun: u64, now: bool)
+        ensures { IsTurnPass turn begun now (turn_state self.old) (turn_state self.new) }
     {
-        serve(&mut self.cellar, &mut self.agenda, turn)
+        self.agenda.mark(turn.by, begun);
+        let left = self.let_go(outer(turn));
+        self.leave(left, owner(turn, now));
     }
 
-    /// Makes a command in a turn, to which the lanes are due then that its answer names: what comes of it is handed out by
-    /// [`Turns::serve`]. The status is 0 where it was done; where it is not, nothing is due that was not before.
-    pub fn make(&mut self, turn: Turn, command: &Command, answer: &mut Answer) -> Done
-        ensures made { IsCommandMade ⟦<Token as Resource>⟧ (made_for turn command.now) self.old.cellar self.new.cellar answer.old answer.new result.status }
-        ensures claimed { AreClaimedIf turn (result.status == 0) (words_due self.new.cellar) (seen self.old.agenda) (seen self.new.agenda) result.left_out }
+    /// The turn and each deeper call of its stack end: what was begun is told, what was not stands first in its lane
+    /// again, and what is left is handed out by a step of depth 1, on whatever stack. It asks for no memory.
+    pub fn stop(&mut self, turn: Turn, begun: u64)
+        ensures { IsTurnStop turn begun (turn_state self.old) (turn_state self.new) }
     {
-        let asked = made_for(turn, command);
-        let status = self.cellar.make(&asked, answer);
-        let left_out = claim_if(&self.cellar, &mut self.agenda, turn, status == 0);
-        Done { status, left_out }
+        self.agenda.mark(turn.by, begun);
+        self.end(turn);
+        self.end_deeper(turn);
     }
 }

@@ -1,5 +1,5 @@
 use Rattle.rx_turns.specs.Making.{words_due}
-use Rattle.rx_turns.proofs.ClaimedAll.{got_one}
+use Rattle.rx_turns.proofs.WordsRead.{got_one}
 use Rattle.rx_turns.proofs.making.word_due.Goals as goal
 
 pub returns-else-count-eq0 : goal.returns-else-count-eq0

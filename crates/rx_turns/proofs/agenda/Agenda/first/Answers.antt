@@ -7,4 +7,5 @@ returns-clause-place c = first_below c.first.result c.args.self.now.lists _ c.pr
 
 pub returns-clause-line : goal.returns-clause-line
 returns-clause-line c =
-    first_line c.first.result c.args.self.now.lists c.args.self.now.rows.items c.own_line.result c.args.turn c.args.self.now.tied.listed (search rules) c.first.ensures
+    first_line c.first.result c.args.self.now.lists c.args.self.now.rows.items c.own_line.result c.args.turn c.args.self.now.tied.listed
+    (search rules) c.first.ensures

@@ -1,0 +1,7 @@
+use Rattle.rx_turns.proofs.Marked.{marks_all}
+use Rattle.rx_turns.proofs.agenda.Agenda.mark.Goals as goal
+
+pub returns : goal.returns
+returns c =
+    marks_all c.args.by c.args.ticket c.args.self.now.rows.items c.mark.new.rows.items c.mark.ensures.each c.mark.ensures.many c.args.self.now.lists
+    c.args.self.now.words.items

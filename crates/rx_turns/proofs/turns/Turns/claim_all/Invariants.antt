@@ -1,0 +1,10 @@
+use Rattle.std.proofs.Common.{◌≡◌, drop}
+use Rattle.rx_turns.specs.States.{TurnState, turn_state}
+use Rattle.rx_turns.specs.Making.{words_due, AreMadeDue}
+use Rattle.rx_turns.proofs.turns.Turns.claim_all.Given as goal
+
+-- whatever claims all from here on claims all
+abbrev pub invariant-loop-index : goal.invariant-loop-index
+invariant-loop-index l = (l.self.cellar ≡ l.fn.self.cellar)
+    × ((b : TurnState) → AreMadeDue l.turn b (drop l.index (words_due l.fn.self.cellar)) (turn_state l.self) →
+    AreMadeDue l.turn b (words_due l.fn.self.cellar) (turn_state l.fn.self))

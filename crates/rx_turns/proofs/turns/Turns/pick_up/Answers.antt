@@ -1,0 +1,5 @@
+use Rattle.rx_turns.specs.Calls.{none_astray}
+use Rattle.rx_turns.proofs.turns.Turns.pick_up.Goals as goal
+
+pub returns-in-None : goal.returns-in-None
+returns-in-None c = none_astray c.in-None.is
