@@ -25,7 +25,7 @@ abbrev pub taken_in : {g : Ghosts Token} {s t : State} → Course g s t → List
 taken_in begins = []
 taken_in (commands before kept command) = taken_in before
 taken_in (takes {answer = answer} name inside by before kept taken) = taken_in before ++ crossed answer
-taken_in (gives_up name by undone before kept given) = taken_in before
+taken_in (gives_up name by _ before kept given) = taken_in before
 
 -- there is one, in which just these are taken
 pub record IsCourseTelling (g : Ghosts Token) (s t : State) (told : List Effect) : Type 0 where
