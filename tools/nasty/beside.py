@@ -61,8 +61,8 @@ class Nasty(Cellar):
         found = Cellar.effect_at(words, i)
         return found if found.carries else found._replace(value=0)
 
-    def make(self, c: Command, behind: int | None = None, room: int | None = None) -> Made:
-        self.last = super().make(c, behind, room)
+    def make(self, c: Command, behind: int | None = None) -> Made:
+        self.last = super().make(c, behind)
         return self.last
 
     def dump(self, size: int) -> tuple[int, int, bytes]:
@@ -90,10 +90,6 @@ class FreeEngine(Engine):
             return Answer(NO_MEMORY)
         answer = super().made(c)
         answer.hub = said.hub if answer.status == DONE else 0
-        if answer.hands is not None and said.handed is None:
-            lane = self.lanes[answer.lanes[0].lane]
-            if lane.server is not None or len(lane.line()) > 1:
-                answer.hands = None
         return answer
 
     def chosen(self, c: Command, mode: str, limit: int) -> int:
@@ -104,19 +100,6 @@ class FreeEngine(Engine):
         if not 0 <= place < limit or self.hubs[place].mode != mode or self.hubs[place].many:
             raise Differs(f'a share gets hub {place}')
         return place
-
-    def take_on(self, name, inside, by, room, comes=lambda number: None):
-        """As long as what was taken is to be done the lane is served on, also where no node names it any more."""
-        found: list[Effect] = []
-        while len(found) < room:
-            comes(len(found))
-            lane = self.lanes.get(name)
-            if lane is None or found and not (lane.returned or lane.front or not inside and lane.back):
-                break
-            if (effect := self.take(name, inside, by)) is None:
-                break
-            found.append(effect)
-        return found
 
 
 class Free(Beside):
@@ -130,10 +113,6 @@ class Free(Beside):
             except Differs:  # for want of memory
                 pass
         self.model.cellar = cellar
-
-    def match(self, words: tuple[int, ...], wanted: Answer, handed: Effect | None) -> None:
-        wanted.lanes = tuple(it._replace(by=0) for it in wanted.lanes)  # any may be named first
-        super().match(words, wanted, handed)
 
     def rest(self, which: int, start: int, room: int) -> None:
         """Nothing is said of it behind another call."""
@@ -174,11 +153,11 @@ class Followed(Beside):
         """The nasty engine's name of a lane that the library named."""
         return self.lane_names.get(self.names.get(word & ~INSIDE, -1), NONE) | word & INSIDE
 
-    def make(self, c: Command, behind: int | None = None, room: int | None = None) -> tuple[Any, Answer]:
-        word = None if behind is None else self.word(behind) if behind != NO_LANE else NO_LANE
-        made, wanted = super().make(c, behind, room)
+    def make(self, c: Command, behind: int | None = None) -> tuple[Any, Answer]:
+        word = None if behind is None else self.word(behind)
+        made, wanted = super().make(c, behind)
         self.follow(made.status, made.handed is not None)
-        said = self.nasty.make(c, word, room)
+        said = self.nasty.make(c, word)
         for lane in said.lanes:
             self.lane_names[self.nasty.lane(lane)] = lane & ~INSIDE
         self.alike('an answer', said._replace(closings=sorted(said.closings), lanes={(self.nasty.lane(it), it >= INSIDE) for it in said.lanes}, hub=0),
@@ -199,20 +178,11 @@ class Followed(Beside):
         self.alike('what is taken', self.nasty.take(name, by), effect)
         return effect
 
-    def take_on(self, word: int, by: int, room: int) -> list[Effect]:
-        name, effects = self.word(word), super().take_on(word, by, room)
-        self.alike('what is taken one after another', self.nasty.take_on(name, by, room), effects)
-        return effects
-
     def give_up(self, word: int, by: int, untold: Effect | None) -> int:
         name, lane = self.word(word), self.names.get(word & ~INSIDE, -1)
-        was_let_go = lane not in self.model.lanes
         status = super().give_up(word, by, untold)
-        if status and was_let_go:  # with the last effect that was taken on, where the header has that the lane is served on
-            self.nasty.take(name & ~INSIDE, by)
-        else:
-            said = self.nasty.give_up(name, by, untold)
-            self.alike('giving up', said, (status, int(status == DONE and lane in self.model.left())))
+        said = self.nasty.give_up(name, by, untold)
+        self.alike('giving up', said, (status, int(status == DONE and lane in self.model.left())))
         return status
 
     def left(self) -> list[int]:

@@ -130,37 +130,6 @@ uint8_t cellar_take(struct cellar *handle, uint64_t lane, uint64_t by, struct ce
   return CELLAR_DONE;
 }
 
-/* As long as what was taken is to be done, the lane is served on. */
-static uint64_t takes_on(struct kept *kept, uint64_t name, uint64_t by, struct cellar_effect *effects, size_t room) {
-  uint64_t many = 0;
-  while (many < room) {
-    const struct lane *lane = lane_named(&kept->engine.lanes, name);
-    if (!lane || (many && !lane_has(lane, name >= CELLAR_INSIDE)) || !taken(kept, name, by, effects + many))
-      break;
-    many++;
-  }
-  return many;
-}
-
-uint8_t cellar_take_on(struct cellar *handle, uint64_t lane, uint64_t by, struct cellar_effect *effects, size_t room, uint64_t *count) {
-  struct kept *kept = kept_of(handle);
-  *count = 0;
-  if (!kept)
-    return CELLAR_NOTHING_KEPT;
-  forgets(kept);
-  *count = takes_on(kept, lane, by, effects, room);
-  return CELLAR_DONE;
-}
-
-uint8_t cellar_make_on(struct cellar *handle, uint64_t lane, const struct cellar_command *command, struct cellar_answer *answer,
-                       struct cellar_effect *effects, size_t room, uint64_t *count) {
-  *count = 0;
-  uint8_t status = lane == UINT64_MAX ? cellar_make(handle, command, answer) : cellar_make_behind(handle, lane, command, answer);
-  if (!status && answer->due == 1 && !answer->handed)
-    *count = takes_on(kept_of(handle), answer->lanes[0], command->by, effects, room);
-  return status;
-}
-
 uint8_t cellar_give_up(struct cellar *handle, uint64_t name, uint64_t by, const struct cellar_effect *untold, uint64_t count, uint64_t *is_left) {
   struct kept *kept = kept_of(handle);
   *is_left = 0;

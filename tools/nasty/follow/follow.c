@@ -1,8 +1,8 @@
 /* Random commands on a library and on the nasty engine, which follows it: follow LIBRARY NASTY COMMANDS SEED. It ends where no choice of the
  * nasty engine explains what the library did, and says where that was.
  *
- * A course has an engine of each, three callers that serve, take several effects at a time, stop in the midst and give back, and commands of
- * which one in twenty has a request for memory refused. What may be asked of which node is read from the nasty engine. */
+ * A course has an engine of each, three callers that serve, stop in the midst and give back, and commands of which one in twenty has a request
+ * for memory refused. What may be asked of which node is read from the nasty engine. */
 #define _GNU_SOURCE
 #include <dlfcn.h>
 #include <stdarg.h>
@@ -12,16 +12,14 @@
 
 #include "../engine.h"
 
-enum { MOST_EVENTS = 1 << 16, MOST_LANES = 1 << 12, MOST_WORDS = 1 << 12, MOST_SERVED = 1 << 12, ROOM = 8, PROBE = 77 };
+enum { MOST_EVENTS = 1 << 16, MOST_LANES = 1 << 12, MOST_WORDS = 1 << 12, MOST_SERVED = 1 << 12, PROBE = 77 };
 
 struct side {
   struct cellar handle;
   uint8_t (*new_one)(struct cellar *, uint32_t);
   uint8_t (*make)(struct cellar *, const struct cellar_command *, struct cellar_answer *);
   uint8_t (*make_behind)(struct cellar *, uint64_t, const struct cellar_command *, struct cellar_answer *);
-  uint8_t (*make_on)(struct cellar *, uint64_t, const struct cellar_command *, struct cellar_answer *, struct cellar_effect *, size_t, uint64_t *);
   uint8_t (*take)(struct cellar *, uint64_t, uint64_t, struct cellar_effect *, uint64_t *);
-  uint8_t (*take_on)(struct cellar *, uint64_t, uint64_t, struct cellar_effect *, size_t, uint64_t *);
   uint8_t (*give_up)(struct cellar *, uint64_t, uint64_t, const struct cellar_effect *, uint64_t, uint64_t *);
   uint8_t (*left)(struct cellar *, uint64_t, uint64_t *, uint64_t *);
   uint8_t (*rest)(struct cellar *, uint8_t, uint64_t, uint64_t *, size_t, uint64_t *);
@@ -37,7 +35,7 @@ static struct side real, nasty;
 static void (*follow)(struct cellar *, struct told *);
 static struct cellar_event events[MOST_EVENTS];
 static struct told told;
-static uint64_t seed, done, seen, word, many_lanes, departed, statuses[32];
+static uint64_t seed, done, seen, word, many_lanes, statuses[32];
 static struct served {
   uint64_t lane, inside, by;
   bool took;
@@ -69,7 +67,7 @@ static void opened(struct side *side, const char *path) {
   void *library = dlopen(path, RTLD_NOW | RTLD_LOCAL);
   if (!library)
     stop("%s", dlerror());
-  const char *const names[] = {"new", "make", "make_behind", "make_on", "take", "take_on", "give_up", "left", "rest", "totals", "event", "finish", "drop"};
+  const char *const names[] = {"new", "make", "make_behind", "take", "give_up", "left", "rest", "totals", "event", "finish", "drop"};
   void **calls = (void **)&side->new_one;
   for (size_t i = 0; i < sizeof names / sizeof *names; i++) {
     char name[32];
@@ -94,21 +92,18 @@ static bool is_same(const struct cellar_effect *a, const struct cellar_effect *b
   return a->user == b->user && a->by == b->by && a->kind == b->kind && a->carries == b->carries && (!a->carries || a->value == b->value);
 }
 
-static void same_effects(const struct cellar_effect *a, uint64_t many, const struct cellar_effect *b, uint64_t others) {
-  if (many != others)
-    stop("%llu effects, and there are %llu", (unsigned long long)many, (unsigned long long)others);
-  for (uint64_t i = 0; i < many; i++)
-    if (!is_same(a + i, b + i))
-      stop("an effect of kind %u for %llu, and it is of kind %u for %llu", a[i].kind, (unsigned long long)a[i].user, b[i].kind, (unsigned long long)b[i].user);
+static void same_effect(const struct cellar_effect *a, const struct cellar_effect *b) {
+  if (!is_same(a, b))
+    stop("an effect of kind %u for %llu, and it is of kind %u for %llu", a->kind, (unsigned long long)a->user, b->kind, (unsigned long long)b->user);
 }
 
 static void all_of(struct side *side, uint8_t which, const struct cellar_answer *answer, struct list_of *list) {
   uint64_t many = which ? answer->due : answer->closed, count = 0;
   if (many > MOST_WORDS)
     stop("there are %llu words", (unsigned long long)many);
-  for (list->many = 0; list->many < many; list->many += count)
-    if (side->rest(&side->handle, which, list->many, list->at + list->many, MOST_WORDS - list->many, &count) || !count)
-      stop("the rest has no more than %zu words of %llu", list->many, (unsigned long long)many);
+  if (side->rest(&side->handle, which, 0, list->at, MOST_WORDS, &count) || count != many)
+    stop("the rest has %llu words of %llu", (unsigned long long)count, (unsigned long long)many);
+  list->many = count;
   if (memcmp(list->at, which ? answer->lanes : answer->closings, 8 * (many < CELLAR_ROOM ? many : CELLAR_ROOM)))
     stop("the first words of an answer are other ones than the rest has");
 }
@@ -140,13 +135,12 @@ static void bind(uint64_t name, uint64_t other) {
   nasty.lanes[many_lanes++] = other;
 }
 
-/* The lanes that both name are the same: those that were never named are told apart by what they give. */
+/* The lanes that both name are the same, in any order, since that of what is gone is free: those that were never named are told apart by what
+ * they give. */
 static void same_lanes(const struct list_of *names, const struct list_of *others) {
   struct list_of fresh = {.many = 0};
   static bool is_matched[MOST_WORDS];
   memset(is_matched, 0, sizeof is_matched);
-  if (names->many != others->many)
-    stop("%zu lanes are due, and %zu are", names->many, others->many);
   for (size_t i = 0; i < names->many; i++) {
     uint64_t lane = number_of(&real, names->at[i]);
     if (lane == many_lanes) {
@@ -184,14 +178,15 @@ static void serves(uint64_t lane, uint64_t inside, uint64_t by, const struct cel
     served[many_served++] = (struct served){lane, inside, by, last, last ? *last : (struct cellar_effect){0}};
 }
 
-static void same_answers(const struct cellar_command *c, const struct cellar_answer *a, const struct cellar_answer *b, uint64_t count, const struct cellar_effect *taken) {
+static void same_answers(const struct cellar_command *c, const struct cellar_answer *a, const struct cellar_answer *b) {
   static struct list_of lists[4];
   bool opens = c->what == CELLAR_OPEN || c->what == CELLAR_USING, makes = c->what == CELLAR_USING || c->what == CELLAR_HOLD || c->what == CELLAR_LEASE ||
                                                                          c->what == CELLAR_CONNECT || a->is_connected;
-  if (a->is_connected != b->is_connected || a->copies != b->copies || a->closed != b->closed || a->handed != b->handed)
-    stop("connected, copies, closed and handed are %llu %llu %llu %llu, and are %llu %llu %llu %llu", (unsigned long long)a->is_connected,
-         (unsigned long long)a->copies, (unsigned long long)a->closed, (unsigned long long)a->handed, (unsigned long long)b->is_connected,
-         (unsigned long long)b->copies, (unsigned long long)b->closed, (unsigned long long)b->handed);
+  const uint64_t counts[2][5] = {{a->is_connected, a->copies, a->closed, a->due, a->handed}, {b->is_connected, b->copies, b->closed, b->due, b->handed}};
+  static const char *const what[5] = {"connected", "copies", "closed", "due", "handed"};
+  for (int i = 0; i < 5; i++)
+    if (counts[0][i] != counts[1][i])
+      stop("%s is %llu, and it is %llu", what[i], (unsigned long long)counts[0][i], (unsigned long long)counts[1][i]);
   if ((opens && a->node.number != b->node.number) || (makes && a->other.number != b->other.number))
     stop("a key is another");
   if (opens) {
@@ -203,29 +198,15 @@ static void same_answers(const struct cellar_command *c, const struct cellar_ans
     nasty.slots[b->other.number] = b->other.slot;
   }
   if (a->handed)
-    same_effects(&a->effect, 1, &b->effect, 1);
-  if (!count) { /* else the one lane was matched before, and is taken of */
-    all_of(&real, 0, a, &lists[0]), all_of(&nasty, 0, b, &lists[1]);
-    qsort(lists[0].at, lists[0].many, 8, by_size), qsort(lists[1].at, lists[1].many, 8, by_size);
-    if (memcmp(lists[0].at, lists[1].at, 8 * lists[0].many))
-      stop("other nodes are closed");
-  }
-  if (a->due == 1) {
-    if (b->due != 1 || (number_of(&real, a->lanes[0]) == many_lanes) != (number_of(&nasty, b->lanes[0]) == many_lanes))
-      stop("another lane is due");
-    if (number_of(&real, a->lanes[0]) == many_lanes)
-      bind(a->lanes[0], b->lanes[0]);
-    else if (number_of(&real, a->lanes[0]) != number_of(&nasty, b->lanes[0]) || a->lanes[0] >> 63 != b->lanes[0] >> 63)
-      stop("one lane is due, and it is another");
-  } else {
-    all_of(&real, 1, a, &lists[2]), all_of(&nasty, 1, b, &lists[3]);
-    same_lanes(&lists[2], &lists[3]);
-  }
-  uint64_t due = a->due;
-  for (uint64_t i = 0; i < due; i++) {
-    uint64_t name = due == 1 ? a->lanes[0] : lists[2].at[i];
-    serves(number_of(&real, name), name & CELLAR_INSIDE, c->by, count ? taken : i == 0 && a->handed ? &a->effect : NULL);
-  }
+    same_effect(&a->effect, &b->effect);
+  all_of(&real, 0, a, &lists[0]), all_of(&nasty, 0, b, &lists[1]);
+  qsort(lists[0].at, lists[0].many, 8, by_size), qsort(lists[1].at, lists[1].many, 8, by_size);
+  if (memcmp(lists[0].at, lists[1].at, 8 * lists[0].many))
+    stop("other nodes are closed");
+  all_of(&real, 1, a, &lists[2]), all_of(&nasty, 1, b, &lists[3]);
+  same_lanes(&lists[2], &lists[3]);
+  for (size_t i = 0; i < lists[2].many; i++)
+    serves(number_of(&real, lists[2].at[i]), lists[2].at[i] & CELLAR_INSIDE, c->by, i == 0 && a->handed ? &a->effect : NULL);
 }
 
 /* Commands ---------------------------------------------------------------------------------------------------------------------*/
@@ -322,11 +303,10 @@ static struct cellar_command random_command(bool shares) {
   return c;
 }
 
-/* A command, or one behind a lane, or one that takes on. */
-static uint8_t command(struct cellar_command c, const struct served *behind, bool takes, size_t room) {
+/* A command, or one behind a lane. */
+static uint8_t command(struct cellar_command c, const struct served *behind) {
   static struct cellar_answer answers[2];
-  static struct cellar_effect effects[2][ROOM];
-  uint64_t counts[2] = {0, 0}, lanes[2] = {UINT64_MAX, UINT64_MAX};
+  uint64_t lanes[2];
   uint8_t status[2];
   if (behind)
     lanes[0] = real.lanes[behind->lane] | behind->inside, lanes[1] = nasty.lanes[behind->lane] | behind->inside;
@@ -336,8 +316,7 @@ static uint8_t command(struct cellar_command c, const struct served *behind, boo
     struct side *side = i ? &nasty : &real;
     c.node.slot = c.node.number < seen ? side->slots[c.node.number] : 5;
     refused = i ? -1 : which;
-    status[i] = takes ? side->make_on(&side->handle, lanes[i], &c, &answers[i], effects[i], room, &counts[i])
-                : behind ? side->make_behind(&side->handle, lanes[i], &c, &answers[i]) : side->make(&side->handle, &c, &answers[i]);
+    status[i] = behind ? side->make_behind(&side->handle, lanes[i], &c, &answers[i]) : side->make(&side->handle, &c, &answers[i]);
     refused = -1;
     while (!i && seen < MOST_EVENTS && !real.event(&real.handle, seen, &events[seen]))
       seen++;
@@ -350,11 +329,9 @@ static uint8_t command(struct cellar_command c, const struct served *behind, boo
   if (told.differs || status[0] != status[1])
     stop("command %u has status %u, and it is %u: %s", c.what, status[0], status[1], told.differs ? told.differs : "");
   if (status[0] == CELLAR_UNTAKEN)
-    same_effects(&answers[0].effect, 1, &answers[1].effect, 1);
-  else if (!status[0]) {
-    same_answers(&c, &answers[0], &answers[1], counts[0], counts[0] ? &effects[0][counts[0] - 1] : NULL);
-    same_effects(effects[0], counts[0], effects[1], counts[1]);
-  }
+    same_effect(&answers[0].effect, &answers[1].effect);
+  else if (!status[0])
+    same_answers(&c, &answers[0], &answers[1]);
   return status[0];
 }
 
@@ -362,38 +339,31 @@ static uint8_t command(struct cellar_command c, const struct served *behind, boo
 
 static void let_go(size_t i) { served[i] = served[--many_served]; }
 
-static bool takes(struct served *it, size_t room) {
-  static struct cellar_effect effects[2][ROOM];
+static bool takes(struct served *it) {
+  struct cellar_effect effects[2];
   uint64_t counts[2];
   for (int i = 0; i < 2; i++) {
     struct side *side = i ? &nasty : &real;
-    uint64_t name = side->lanes[it->lane] | it->inside;
-    if (room ? side->take_on(&side->handle, name, it->by, effects[i], room, &counts[i]) : side->take(&side->handle, name, it->by, effects[i], &counts[i]))
+    if (side->take(&side->handle, side->lanes[it->lane] | it->inside, it->by, &effects[i], &counts[i]))
       stop("taking is refused");
   }
-  same_effects(effects[0], counts[0], effects[1], counts[1]);
-  if ((it->took = counts[0]))
-    it->last = effects[0][counts[0] - 1];
+  if (counts[0] != counts[1])
+    stop("%llu effects, and there are %llu", (unsigned long long)counts[0], (unsigned long long)counts[1]);
+  if ((it->took = counts[0])) {
+    same_effect(&effects[0], &effects[1]);
+    it->last = effects[0];
+  }
   return it->took;
 }
 
-/* Where the library let a lane go with the last effect that was taken on, the nasty engine serves it still: so the header has it. */
-static bool has_departed(const struct served *it) {
-  const struct lane *lane = shelf_find(&state()->lanes.named, nasty.lanes[it->lane]);
-  return lane && lane->is_served && lane->server == it->by && !lane->many && !lane->parts[0].many && !lane->parts[1].many && !lane->parts[2].many;
-}
-
 static void gives_up(struct served *it, bool with) {
-  uint64_t is_left[2], count;
+  uint64_t is_left[2];
+  uint8_t status[2];
   with = with && it->took;
-  uint8_t status[2] = {real.give_up(&real.handle, real.lanes[it->lane], it->by, &it->last, with, &is_left[0])};
-  if (status[0] == CELLAR_GONE && has_departed(it)) {
-    struct cellar_effect effect;
-    departed++;
-    nasty.take(&nasty.handle, nasty.lanes[it->lane], it->by, &effect, &count);
-    return;
+  for (int i = 0; i < 2; i++) {
+    struct side *side = i ? &nasty : &real;
+    status[i] = side->give_up(&side->handle, side->lanes[it->lane], it->by, &it->last, with, &is_left[i]);
   }
-  status[1] = nasty.give_up(&nasty.handle, nasty.lanes[it->lane], it->by, &it->last, with, &is_left[1]);
   if (status[0] != status[1] || is_left[0] != is_left[1])
     stop("giving up is %u %llu, and it is %u %llu", status[0], (unsigned long long)is_left[0], status[1], (unsigned long long)is_left[1]);
 }
@@ -442,11 +412,8 @@ static void serve_some(void) {
       }
       break;
     default:
-      if (many_served) {
-        size_t room = chance(3) ? 0 : 1 + chance(ROOM);
-        if (!takes(&served[place], room))
-          let_go(place);
-      }
+      if (many_served && !takes(&served[place]))
+        let_go(place);
     }
   }
 }
@@ -461,23 +428,22 @@ static void course(void) {
   follow(&nasty.handle, &told);
   for (uint64_t commands = 40 + chance(160); commands > 0; commands--) {
     struct cellar_command c = random_command(shares);
-    bool takes_on = chance(4) == 0;
-    size_t room = chance(ROOM + 1), place = many_served ? chance(many_served) : 0;
     if (many_served && chance(6) == 0) {
+      size_t place = chance(many_served);
       struct served behind = served[place];
       c.by = chance(20) ? behind.by : c.by;
-      uint8_t status = command(c, &behind, takes_on, room);
+      uint8_t status = command(c, &behind);
       if (status != CELLAR_UNTAKEN && c.by == behind.by)
         let_go(place);
     } else
-      command(c, NULL, takes_on, room);
+      command(c, NULL);
     serve_some();
   }
   struct cellar_command c = {.what = CELLAR_SHUT, .by = 2};
-  while (command(c, NULL, false, 0) == CELLAR_DONE)
+  while (command(c, NULL) == CELLAR_DONE)
     ;
   for (; many_served; many_served--) {
-    while (takes(&served[many_served - 1], 0))
+    while (takes(&served[many_served - 1]))
       ;
     gives_up(&served[many_served - 1], false);
   }
@@ -488,7 +454,7 @@ static void course(void) {
     }
   for (size_t many = same_left(lanes), i = 0; i < many; i++) {
     struct served it = {lanes[i], 0, 9, false, {0}};
-    while (takes(&it, 0))
+    while (takes(&it))
       ;
   }
   same_totals();
