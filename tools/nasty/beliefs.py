@@ -309,6 +309,14 @@ class OwnItem(Face):
         return made.handed._replace(value=c.value)
 
 
+@believes("the lane that is named first is the node's own", 'gone')
+class OwnLane(Steady):
+    def serve_all(self, c, made):
+        for lane in made.lanes:
+            self.serve(lane, c.by)
+            check(c.what != DISPOSE or self.deep or not self.owed['end', self.disposed], f'{self.disposed} did not hear its end in the first lane')
+
+
 @believes('a lane has one effect', 'names')
 class OneEffect(Steady):
     is_false_anyway = True
@@ -424,18 +432,6 @@ class OldestFirst(Face):
         super().release(tag)
         tags = next(it for it in self.resources.values() if tag in it)
         check(tags.pop(0) == tag, f'{tag} is released before an older one')
-
-
-@believes('a resource is released behind the end of its root', 'order', 'order=300')
-class EndFirst(Steady):
-    def step(self):
-        self.deep = 3  # what is released from within comes before the end
-        super().step()
-
-    def release(self, tag):
-        super().release(tag)
-        user = next(user for user, tags in self.resources.items() if tag in tags)
-        check(not self.owed['end', user], f'{tag} is released before the end of {user}')
 
 
 @believes('what an effect does not carry is zero', 'values')

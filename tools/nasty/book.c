@@ -31,9 +31,7 @@ static uint64_t happened(struct book *book, struct cellar_event e) {
 
 static void comes_of(struct book *book, enum what what, uint64_t of) { happened(book, (struct cellar_event){.what = what, .of = of}); }
 
-static uint64_t slot(struct book *book, uint64_t number) {
-  return number ? odd_number(&book->chooser, SLOTS, number % 7) : 0; /* zeros are the key of the first node */
-}
+static uint64_t slot(struct book *book, uint64_t number) { return odd_number(&book->chooser, SLOTS, number % 7); }
 
 static void look_at(struct book *book, struct node *node) {
   if (node && !node->is_gone && !node->is_on_agenda) {
@@ -198,7 +196,7 @@ void book_decline(struct book *book, struct node *it) {
   look_at(book, it);
 }
 
-static void notes(struct book *book, struct node *to, uint32_t kind) {
+void book_note(struct book *book, struct node *to, uint32_t kind) {
   book->notes = grown(book->notes, &book->room_notes, book->many_notes, sizeof *book->notes);
   book->notes[book->many_notes++] = (struct note){to, kind};
 }
@@ -216,7 +214,7 @@ void book_end(struct book *book, struct node *it, bool failed) {
     it->above->source_completed |= it->place == CELLAR_SOURCE && !failed;
     look_at(book, it->above);
   } else
-    notes(book, it, failed ? CELLAR_E_FAILED : CELLAR_E_COMPLETED);
+    book_note(book, it, failed ? CELLAR_E_FAILED : CELLAR_E_COMPLETED);
   shut(book, it);
 }
 
@@ -239,7 +237,7 @@ static uint64_t climb(struct book *book, struct node *leaf, bool is_asked, uint6
         list_put(&todo, subscribers->at[i]);
     } else if (it->place == CELLAR_ROOT) {
       if (!is_asked)
-        notes(book, it, CELLAR_E_NEXT);
+        book_note(book, it, CELLAR_E_NEXT);
     } else if (it->place == CELLAR_NOTIFIER) {
       if (!is_asked) {
         it->above->fired = true;
@@ -251,7 +249,7 @@ static uint64_t climb(struct book *book, struct node *leaf, bool is_asked, uint6
       else {
         it->above->owed++;
         book->owed++;
-        notes(book, it->above, CELLAR_E_PROJECT);
+        book_note(book, it->above, CELLAR_E_PROJECT);
       }
     } else
       list_put(&todo, it->above);

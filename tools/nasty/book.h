@@ -90,6 +90,8 @@ void book_item(struct book *book, struct node *leaf);
 void book_decline(struct book *book, struct node *it);
 void book_end(struct book *book, struct node *it, bool failed);
 void book_close(struct book *book, struct node *it);
+/* What is to be told: of which kind, and to whom. */
+void book_note(struct book *book, struct node *to, uint32_t kind);
 /* What is forced, until nothing is. */
 void book_settle(struct book *book);
 /* Takes one of those that wait. */

@@ -93,7 +93,7 @@ static uint8_t made(struct kept *kept, const struct cellar_command *command, str
   if (it.is_item && answer->copies == 1 && answer->due == 1) {
     struct lane *lane = lane_named(&engine->lanes, answer->lanes[0]);
     if (hands_out(&engine->book.chooser, lane))
-      answer->handed = lane_taken(&engine->lanes, &engine->book.chooser, lane, command->by, answer->lanes[0] >= CELLAR_INSIDE, &answer->effect);
+      answer->handed = lane_taken(&engine->lanes, lane, command->by, answer->lanes[0] >= CELLAR_INSIDE, &answer->effect);
   }
   return CELLAR_DONE;
 }
@@ -106,7 +106,7 @@ uint8_t cellar_make(struct cellar *handle, const struct cellar_command *command,
 
 static bool taken(struct kept *kept, uint64_t name, uint64_t by, struct cellar_effect *effect) {
   struct lane *lane = lane_named(&kept->engine.lanes, name);
-  return lane && lane_taken(&kept->engine.lanes, &kept->engine.book.chooser, lane, by, name >= CELLAR_INSIDE, effect);
+  return lane && lane_taken(&kept->engine.lanes, lane, by, name >= CELLAR_INSIDE, effect);
 }
 
 uint8_t cellar_make_behind(struct cellar *handle, uint64_t lane, const struct cellar_command *command, struct cellar_answer *answer) {
@@ -135,7 +135,7 @@ uint8_t cellar_give_up(struct cellar *handle, uint64_t name, uint64_t by, const 
   *is_left = 0;
   if (!kept)
     return CELLAR_NOTHING_KEPT;
-  if (count > 1)
+  if (count > 1 || (count && untold->kind > CELLAR_E_MERGED))
     return CELLAR_NO_SUCH_CODE;
   struct lane *lane = lane_named(&kept->engine.lanes, name);
   bool has = false, gave = lane && lane_given_up(&kept->engine.lanes, lane, by, count ? untold : NULL, &has);
@@ -146,7 +146,7 @@ uint8_t cellar_give_up(struct cellar *handle, uint64_t name, uint64_t by, const 
 uint8_t cellar_left(struct cellar *handle, uint64_t from, uint64_t *name, uint64_t *next) {
   struct kept *kept = kept_of(handle);
   *name = UINT64_MAX;
-  *next = 0;
+  *next = from;
   if (!kept)
     return CELLAR_NOTHING_KEPT;
   struct shelf *named = &kept->engine.lanes.named;
@@ -181,6 +181,7 @@ uint8_t cellar_rest(struct cellar *handle, uint8_t which, uint64_t from, uint64_
 
 uint8_t cellar_totals(struct cellar *handle, struct cellar_totals *totals) {
   const struct kept *kept = kept_of(handle);
+  *totals = (struct cellar_totals){0};
   if (!kept)
     return CELLAR_NOTHING_KEPT;
   const struct engine *it = &kept->engine;
@@ -192,6 +193,7 @@ uint8_t cellar_totals(struct cellar *handle, struct cellar_totals *totals) {
 
 uint8_t cellar_event(struct cellar *handle, uint64_t place, struct cellar_event *event) {
   const struct kept *kept = kept_of(handle);
+  *event = (struct cellar_event){0};
   if (!kept)
     return CELLAR_NOTHING_KEPT;
   const struct book *book = &kept->engine.book;

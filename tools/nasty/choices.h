@@ -15,16 +15,16 @@
   ROW(HUB_WORDS, "hub-words", 900, "A hub in a command is a hint: any number may stand there, and none changes an answer")            \
   ROW(MAKING, "making", 20, "the engine may have made a checkpoint, or hubs for shares, which its events tell")                       \
   ROW(FORCED, "forced", 500, "cellar_event: one event of the history (of what a command forces no order is said)")                    \
+  ROW(GONE, "gone", 500, "items and ends, then CELLAR_E_GONE and CELLAR_E_MERGED (of one command's no order is said)")                \
   ROW(RELEASES, "releases", 500, "A tag is owed one CELLAR_E_RELEASE (among those of one command no order is said)")                  \
-  ROW(ORDER, "order", 0, "Behind that no effect has its word for that role (where releases stand among the others is not said)")      \
-  ROW(OTHERS, "others", 900, "cellar_event: what `other` of a holding says is open")                                                   \
-  ROW(HANDED, "handed", 0, "`handed`: 1 if all that comes of it is the item `effect` (see the README)")                               \
+  ROW(OTHERS, "others", 900, "cellar_event: what `other` of a holding says is open")                                                  \
+  ROW(HANDED, "handed", 0, "nothing: `handed` is 1 if, and only if, .. (it is for a belief alone, see the README)")                   \
   ROW(FORGETS, "forgets", 500, "The rest of the answer of the last command: before any other command or taking")                      \
   ROW(LEFT, "left", 500, "cellar_left: from this place on (0 at first), *next where to go on")                                        \
   ROW(VALUES, "values", 900, "CELLAR_E_COMPLETED: user (what its `value` is, which it does not carry, is not said)")                  \
   ROW(CHECKPOINTS, "checkpoints", 100, "but for a checkpoint, which may be refused and is then made by a later command")              \
   ROW(MEMORY, "memory", 0, "Only CELLAR_OPEN .. and cellar_dump may answer CELLAR_NO_MEMORY")                                         \
-  ROW(BEFORE, "before", 0, "An opening may answer it before a cause of its own")
+  ROW(BEFORE, "before", 0, "CELLAR_OPEN, CELLAR_USING, CELLAR_HOLD and CELLAR_CONNECT may answer it before a cause of their own")
 
 enum choice {
 #define ROW(id, name, often, open) id,

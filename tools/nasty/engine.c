@@ -240,9 +240,9 @@ static uint8_t against(struct engine *engine, const struct cellar_command *c, st
 
 /* An effect goes into its lane; the last one of a role lets its lane go. */
 static void tells(struct engine *engine, const struct cellar_command *c, struct outcome *it, struct lane *lane, uint32_t kind, uint64_t user) {
-  bool carries = kind == CELLAR_E_NEXT || kind == CELLAR_E_PROJECT || kind == CELLAR_E_FAILED || kind == CELLAR_E_PUT;
+  bool carries = carries_value(kind);
   uint64_t value = carries ? c->value : odd_number(&engine->book.chooser, VALUES, 0);
-  lane_put(&engine->lanes, lane, (struct waiting){{user, value, c->by, kind, carries}, engine->commands});
+  lane_put(&engine->lanes, lane, (struct cellar_effect){user, value, c->by, kind, carries});
   it->copies += carries;
   if (lane->touched != engine->commands) {
     lane->touched = engine->commands;
@@ -262,32 +262,50 @@ static void goes(struct engine *engine, struct node *node) {
   free(node);
 }
 
-/* All notes are told; who was closed has ended; what waits is released. */
-static void settled(struct engine *engine, const struct cellar_command *c, struct outcome *it) {
+static void tells_notes(struct engine *engine, const struct cellar_command *c, struct outcome *it) {
   struct book *book = &engine->book;
-  book_settle(book);
   for (size_t i = 0; i < book->many_notes; i++) {
     struct node *to = book->notes[i].to;
     uint32_t kind = book->notes[i].kind;
     to->hears &= kind == CELLAR_E_NEXT || kind == CELLAR_E_PROJECT;
-    tells(engine, c, it, kind == CELLAR_E_PROJECT ? to->projects : to->home, kind, to->user);
+    tells(engine, c, it, kind == CELLAR_E_PROJECT || kind == CELLAR_E_MERGED ? to->projects : to->home, kind, to->user);
   }
+  book->many_notes = 0;
+}
+
+/* What is still to be told of what is gone, in any order. */
+static void notes_gone(struct book *book) {
   for (size_t i = 0; i < book->gone.many; i++) {
     struct node *node = book->gone.at[i];
     if (node->hears)
-      tells(engine, c, it, node->home, CELLAR_E_GONE, node->user);
+      book_note(book, node, CELLAR_E_GONE);
     if (node->merges)
-      tells(engine, c, it, node->projects, CELLAR_E_MERGED, node->user);
+      book_note(book, node, CELLAR_E_MERGED);
   }
+  for (size_t i = 0; i < book->many_notes; i++) {
+    size_t place = i + choose(&book->chooser, GONE, book->many_notes - i);
+    struct note note = book->notes[place];
+    book->notes[place] = book->notes[i];
+    book->notes[i] = note;
+  }
+}
+
+/* All notes are told; who was closed has ended; what waits is released. */
+static void settled(struct engine *engine, const struct cellar_command *c, struct outcome *it) {
+  struct book *book = &engine->book;
+  book_settle(book);
+  tells_notes(engine, c, it);
+  notes_gone(book);
+  tells_notes(engine, c, it);
   while (book->waits.many) {
     struct resource *resource = book_take(book);
     tells(engine, c, it, resource->lane, CELLAR_E_RELEASE, resource->tag);
     free(resource);
   }
   it->is_item = c->what == CELLAR_NEXT && !(c->flags & CELLAR_QUEUES) && !book->gone.many;
-  for (size_t i = book->gone.many; i-- > 0;) /* those below first */
+  for (size_t i = book->gone.many; i-- > 0;)
     goes(engine, book->gone.at[i]);
-  book->gone.many = book->many_notes = 0;
+  book->gone.many = 0;
 }
 
 static struct lane *named(struct lane *lane) {
@@ -445,7 +463,8 @@ struct outcome engine_command(struct engine *engine, const struct cellar_command
   if (!is_known(c))
     return (struct outcome){.status = CELLAR_NO_SUCH_CODE};
   tidies(engine);
-  if ((c->what == CELLAR_OPEN || c->what == CELLAR_USING || c->what == CELLAR_CONNECT) && is_refused(chooser, BEFORE))
+  bool enters = c->what == CELLAR_OPEN || c->what == CELLAR_USING || c->what == CELLAR_HOLD || c->what == CELLAR_CONNECT;
+  if (enters && is_refused(chooser, BEFORE))
     return (struct outcome){.status = CELLAR_NO_MEMORY};
   uint8_t status = against(engine, c, &plan);
   if (status == CELLAR_FULL) {

@@ -3,13 +3,13 @@
 #include <stdlib.h>
 #include <string.h>
 
-static void queue_put(struct queue *queue, struct waiting it) {
+static void queue_put(struct queue *queue, struct cellar_effect effect) {
   if (queue->first + queue->many == queue->room && queue->first > queue->many) {
     memmove(queue->at, queue->at + queue->first, queue->many * sizeof *queue->at);
     queue->first = 0;
   }
   queue->at = grown(queue->at, &queue->room, queue->first + queue->many, sizeof *queue->at);
-  queue->at[queue->first + queue->many++] = it;
+  queue->at[queue->first + queue->many++] = effect;
 }
 
 /* A name that no lane had before: small, or with nothing in its lower half, or large in one of two ways. */
@@ -61,44 +61,30 @@ static void count(struct lanes *lanes, const struct cellar_effect *effect, uint6
   lanes->releases += effect->kind == CELLAR_E_RELEASE ? more : 0;
 }
 
-void lane_put(struct lanes *lanes, struct lane *lane, struct waiting it) {
-  bool is_freed = it.effect.kind == CELLAR_E_RELEASE && lane->is_served && lane->server == it.effect.by;
-  count(lanes, &it.effect, 1);
-  queue_put(&lane->parts[is_freed ? FRONT : BACK], it);
+void lane_put(struct lanes *lanes, struct lane *lane, struct cellar_effect effect) {
+  bool is_freed = effect.kind == CELLAR_E_RELEASE && lane->is_served && lane->server == effect.by;
+  count(lanes, &effect, 1);
+  queue_put(&lane->parts[is_freed ? FRONT : BACK], effect);
 }
 
-enum { AHEAD = 64 }; /* how far is looked for what may be told first */
-
-/* An effect that may be told before the first: a release before what is none, and the other way round, if one command put both, and all
- * that stands before it. */
-static size_t chosen(struct chooser *chooser, const struct queue *queue) {
-  const struct waiting *at = queue->at + queue->first;
-  bool is_release = at->effect.kind == CELLAR_E_RELEASE;
-  size_t place = 1;
-  while (place < queue->many && place < AHEAD && at[place].command == at->command && (at[place].effect.kind == CELLAR_E_RELEASE) == is_release)
-    place++;
-  bool is_another = place < queue->many && place < AHEAD && at[place].command == at->command;
-  return is_another && choose(chooser, ORDER, 2) ? place : 0;
-}
-
-static struct waiting queue_take(struct chooser *chooser, struct queue *queue) {
-  struct waiting *at = queue->at + queue->first;
-  size_t place = chosen(chooser, queue);
-  struct waiting it = at[place];
-  memmove(at + 1, at, place * sizeof *at);
-  queue->first++;
+static struct cellar_effect queue_take(struct queue *queue) {
+  struct cellar_effect effect = queue->at[queue->first++];
   if (!--queue->many)
     queue->first = 0;
-  return it;
+  return effect;
 }
 
-bool lane_taken(struct lanes *lanes, struct chooser *chooser, struct lane *lane, uint64_t by, bool inside, struct cellar_effect *effect) {
+bool carries_value(uint32_t kind) {
+  return kind == CELLAR_E_NEXT || kind == CELLAR_E_PROJECT || kind == CELLAR_E_FAILED || kind == CELLAR_E_PUT;
+}
+
+bool lane_taken(struct lanes *lanes, struct lane *lane, uint64_t by, bool inside, struct cellar_effect *effect) {
   bool serves = lane->is_served && lane->server == by;
   if (!serves && (inside || lane->is_served))
     return false;
   for (int part = RETURNED; part <= (inside ? FRONT : BACK); part++)
     if (lane->parts[part].many) {
-      *effect = queue_take(chooser, &lane->parts[part]).effect;
+      *effect = queue_take(&lane->parts[part]);
       count(lanes, effect, UINT64_MAX);
       lane->is_served = true;
       lane->server = by;
@@ -113,7 +99,9 @@ bool lane_given_up(struct lanes *lanes, struct lane *lane, uint64_t by, const st
   if (!lane->is_served || lane->server != by)
     return false;
   if (untold) {
-    queue_put(&lane->parts[RETURNED], (struct waiting){*untold, 0});
+    struct cellar_effect effect = *untold;
+    effect.carries = carries_value(effect.kind);
+    queue_put(&lane->parts[RETURNED], effect);
     count(lanes, untold, 1);
   }
   lane->is_served = false;

@@ -5,14 +5,8 @@
 #include "choices.h"
 #include "shelf.h"
 
-/* An effect that waits, and the command that it came of. */
-struct waiting {
-  struct cellar_effect effect;
-  uint64_t command;
-};
-
 struct queue {
-  struct waiting *at;
+  struct cellar_effect *at;
   size_t first, many, room;
 };
 
@@ -39,9 +33,11 @@ bool lane_has(const struct lane *lane, bool inside);
 bool lane_is_left(const struct lane *lane);
 
 /* An effect goes to the end, or, if it is set free by who serves the lane, before the rest. */
-void lane_put(struct lanes *lanes, struct lane *lane, struct waiting it);
+void lane_put(struct lanes *lanes, struct lane *lane, struct cellar_effect effect);
 /* Whether there was one for the caller; if there was none, the caller serves the lane no more, but for who asks inside. */
-bool lane_taken(struct lanes *lanes, struct chooser *chooser, struct lane *lane, uint64_t by, bool inside, struct cellar_effect *effect);
+bool lane_taken(struct lanes *lanes, struct lane *lane, uint64_t by, bool inside, struct cellar_effect *effect);
+/* Whether an effect of this kind carries the value of its command. */
+bool carries_value(uint32_t kind);
 /* Whether the caller served it. What it did not tell goes to the front; whether the lane has something then. */
 bool lane_given_up(struct lanes *lanes, struct lane *lane, uint64_t by, const struct cellar_effect *untold, bool *is_left);
 void lanes_free(struct lanes *lanes);
