@@ -156,9 +156,10 @@ uint8_t cellar_left(struct cellar *handle, uint64_t from, uint64_t *name, uint64
       uint64_t gap = place + 1 < named->many ? *(uint64_t *)named->at[place + 1] - lane->name : 1;
       *name = lane->name;
       *next = lane->name + 1 + choose(&kept->engine.book.chooser, LEFT, gap);
-      break;
+      return CELLAR_DONE;
     }
   }
+  *next = odd_number(&kept->engine.book.chooser, LEFT, from);
   return CELLAR_DONE;
 }
 
