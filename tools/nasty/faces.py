@@ -48,9 +48,11 @@ def ran(what: str, words: list[str], cwd: pathlib.Path, log: pathlib.Path, passe
     return int(status != 0)
 
 
-def try_all(folder: pathlib.Path, scratch: pathlib.Path, settings: str) -> int:
+def try_all(folder: pathlib.Path, scratch: pathlib.Path, settings: str, library: str | None) -> int:
+    """The library reads the texts."""
     nasty, package, failed = scratch / 'libcellarcliff.so', scratch / 'package', 0
-    over = dict(CELLARCLIFF_LIBRARY='1', CELLARCLIFF_EXAMPLES=str(top / 'crates/rx_replay/data'), CELLAR_LIBRARY=str(nasty), CELLAR_NASTY=settings)
+    told = dict(CELLAR_NASTY=settings, **({'CELLAR_NASTY_TEXTS': os.path.abspath(library)} if library else {}))
+    over = dict(CELLARCLIFF_LIBRARY='1', CELLARCLIFF_EXAMPLES=str(top / 'crates/rx_replay/data'), CELLAR_LIBRARY=str(nasty), PYTHONPATH=str(package), **told)
     shutil.copytree(top / 'bindings/python', package, ignore=shutil.ignore_patterns('__pycache__', '*.abi3.so'))
     python = '/usr/bin/python3' if subprocess.run(['/usr/bin/python3', '-c', 'import rx'], capture_output=True).returncode == 0 else sys.executable
     tests = [python, '-B', '-m', 'unittest']
@@ -59,7 +61,7 @@ def try_all(folder: pathlib.Path, scratch: pathlib.Path, settings: str) -> int:
     failed += ran('Python, by the extension', tests, package, folder / 'python.log', r'^Ran (\d+) tests?', **over)
     if shutil.which('cargo'):
         failed += ran('Rust', ['cargo', 'test', '--offline'], top / 'bindings/rust', folder / 'rust.log', r'(\d+) passed', CELLAR_LIB_DIR=str(scratch),
-                      LD_LIBRARY_PATH=str(scratch), CARGO_TARGET_DIR=str(scratch / 'target'), CELLAR_NASTY=settings)
+                      LD_LIBRARY_PATH=str(scratch), CARGO_TARGET_DIR=str(scratch / 'target'), **told)
     if all(map(shutil.which, ('node', 'clang', 'wasm-ld', 'wasm-opt'))):
         module = scratch / 'engine.wasm'
         build_wasm(module, settings)
