@@ -472,7 +472,19 @@ class Gone(Face):
         super().step()
 
 
-@believes('a full history makes room for itself', 'checkpoints')
+@believes('behind 4,000 events the next command makes a checkpoint', 'checkpoints', 'checkpoints=1000')
+class Tidy(Steady):
+    def program(self, steps):
+        self.deep = 3
+        self.subject()
+        while self.cellar.totals()[6] <= 4000:
+            self.emit()
+        self.emit()
+        check(self.cellar._event(self.cellar.at, 0, self.cellar.w) != DONE, 'the first event is still there')
+        super().program(0)
+
+
+@believes('a full history makes room for itself', 'full', 'full=100')
 class Full(Face):
     limit = 600
 

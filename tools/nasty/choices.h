@@ -23,6 +23,7 @@
   ROW(LEFT, "left", 500, "cellar_left: from this place on (0 at first), *next where to go on")                                        \
   ROW(VALUES, "values", 900, "CELLAR_E_COMPLETED: user (what its `value` is, which it does not carry, is not said)")                  \
   ROW(CHECKPOINTS, "checkpoints", 100, "but for a checkpoint, which may be refused and is then made by a later command")              \
+  ROW(FULL, "full", 0, "A command that finds the history full answers it where the checkpoint is refused memory")                     \
   ROW(MEMORY, "memory", 0, "Only CELLAR_OPEN .. and cellar_dump may answer CELLAR_NO_MEMORY")                                         \
   ROW(BEFORE, "before", 0, "CELLAR_OPEN, CELLAR_USING, CELLAR_HOLD and CELLAR_CONNECT may answer it before a cause of their own")
 

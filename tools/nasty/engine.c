@@ -468,7 +468,7 @@ struct outcome engine_command(struct engine *engine, const struct cellar_command
     return (struct outcome){.status = CELLAR_NO_MEMORY};
   uint8_t status = against(engine, c, &plan);
   if (status == CELLAR_FULL) {
-    if (is_refused(chooser, CHECKPOINTS))
+    if (is_refused(chooser, FULL))
       return (struct outcome){.status = CELLAR_NO_MEMORY};
     book_checkpoint(&engine->book);
     status = against(engine, c, &plan);
