@@ -1,5 +1,6 @@
 // Programs in a process of their own: the end of a process, an engine that has died. In Node alone.
 import { spawnSync } from 'node:child_process';
+import { ABI } from '../src/engine/codes.mjs';
 import { Crossing } from '../src/engine/crossing.mjs';
 import { LAYOUT, glue } from '../src/engine/glue.mjs';
 import { Thing } from '../src/engine/thing.mjs';
@@ -63,7 +64,7 @@ export const only_ours = {
       if (count) for (const [at, it] of [[0, user], [2, 0], [6, 0], [7, 0]]) word(LAYOUT.effect + 4 * at)[0] = it;
       return 0;
     };
-    const module = { memory, place: () => 1024n, cellar_abi: () => 0x10001, cellar_new: () => 0, cellar_make: make, cellar_make_behind: behind, cellar_take: take, cellar_give_up: () => 0, cellar_totals: () => 0 };
+    const module = { memory, place: () => 1024n, cellar_abi: () => ABI, cellar_new: () => 0, cellar_make: make, cellar_make_behind: behind, cellar_take: take, cellar_give_up: () => 0, cellar_totals: () => 0 };
     const engine = new Crossing(module, new WebAssembly.Module(glue()), {}), thing = new Thing({ hear: (it) => said.push(it ?? 'late') }, null);
     engine.open(0, 0, 0, { slot: 0, top: 0, lo: 0, hi: 0 }, thing);
     engine.next(thing, 'a');
@@ -85,7 +86,7 @@ export const only_ours = {
     worker.on('exit', () => console.log('released', released[0]));`), is: ['there 2 here 1', 'released 1'] },
   'for want of stack it is alive': { of: () => {
     let made = 0;
-    const module = { memory: new WebAssembly.Memory({ initial: 1 }), place: () => 1024n, cellar_abi: () => 0x10001, cellar_new: () => 0, cellar_make: () => { made++; return 17; },
+    const module = { memory: new WebAssembly.Memory({ initial: 1 }), place: () => 1024n, cellar_abi: () => ABI, cellar_new: () => 0, cellar_make: () => { made++; return 17; },
       cellar_make_behind: () => 17, cellar_take: () => 0, cellar_give_up: () => 0, cellar_totals: () => 0 };
     const engine = new Crossing(module, new WebAssembly.Module(glue()), {}), thing = new Thing(null, null);
     const deep = () => { engine.next(thing, 1); deep(); };

@@ -7,7 +7,7 @@
 // a node opened where two thirds of that are left; any other command where a third is. What a command hands out is told later
 // where there is no room for that. So what an effect leads to always finds room, and RangeError means that nothing was done.
 import {
-  COMPLETE, DECLINE, DISPOSE, DONE, ERROR, FAIL, FLAT, GONE, HOLD, LEAF, NEXT, NOT_YET, OPEN, OVER, PUT, REMOVE, ROOT, SHARED, SHUT, SWITCH, UNTAKEN, USING, WAITS, WISHES,
+  ABI, COMPLETE, DECLINE, DISPOSE, DONE, ERROR, FAIL, FLAT, GONE, HOLD, LEAF, NEXT, NOT_YET, OPEN, OVER, PUT, REMOVE, ROOT, SHARED, SHUT, SWITCH, UNTAKEN, USING, WAITS, WISHES,
 } from './codes.mjs';
 import { LAYOUT, OF_ANOTHER } from './glue.mjs';
 import { Table } from './table.mjs';
@@ -34,9 +34,8 @@ export class Crossing {
     this.#base = Number(wasm.place(BigInt(1024)));
     this.#places = Object.fromEntries(Object.entries(LAYOUT).map(([name, at]) => [name, BigInt(this.#base + at)]));
     new Uint8Array(wasm.memory.buffer, this.#base, 1024).fill(0);
-    // 1.1 added `cellar_make_behind`; 2.0 took calls away that are not made here
-    const abi = wasm.cellar_abi();
-    if (abi < 0x10001 || abi >>> 16 > 2) throw new Error('cellarcliff: the module has another interface');
+    const abi = wasm.cellar_abi(), said = (it) => `${it >>> 16}.${it & 0xffff}`;
+    if (abi >>> 16 !== ABI >>> 16 || abi < ABI) throw new Error(`cellarcliff: the module has another interface: ${said(abi)}, not ${said(ABI)} or what only adds to it`);
     const status = wasm.cellar_new(this.#places.engine, 0);
     if (status) throw new Error(`cellarcliff: no engine was made (${status})`);
     const globals = ['engine', 'command', 'answer', 'effect', 'count'].map((it) => [it, new WebAssembly.Global({ value: 'i64' }, this.#places[it])]);
