@@ -60,11 +60,12 @@ def try_all(folder: pathlib.Path, scratch: pathlib.Path, settings: str, library:
     subprocess.run([top / 'tools/build-extension', package / 'cellarcliff/_engine.abi3.so'], check=True)
     failed += ran('Python, by the extension', tests, package, folder / 'python.log', r'^Ran (\d+) tests?', **over)
     if shutil.which('cargo'):
-        failed += ran('Rust', ['cargo', 'test', '--offline'], top / 'bindings/rust', folder / 'rust.log', r'(\d+) passed', CELLAR_LIB_DIR=str(scratch),
-                      LD_LIBRARY_PATH=str(scratch), CARGO_TARGET_DIR=str(scratch / 'target'), **told)
+        failed += ran('Rust', ['cargo', 'test', '--offline', '--no-fail-fast'], top / 'bindings/rust', folder / 'rust.log',
+                      r'^test result: \w+\. (\d+) passed', CELLAR_LIB_DIR=str(scratch), LD_LIBRARY_PATH=str(scratch),
+                      CARGO_TARGET_DIR=str(scratch / 'target'), **told)
     if all(map(shutil.which, ('node', 'clang', 'wasm-ld', 'wasm-opt'))):
         module = scratch / 'engine.wasm'
         build_wasm(module, settings)
-        failed += ran('JavaScript', ['node', 'tests/run.mjs'], top / 'bindings/javascript', folder / 'javascript.log', r'^(\d+) tests?|^# pass (\d+)',
+        failed += ran('JavaScript', ['node', 'tests/run.mjs'], top / 'bindings/javascript', folder / 'javascript.log', r'^(\d+) passed',
                       CELLARCLIFF_WASM=str(module))
     return failed
