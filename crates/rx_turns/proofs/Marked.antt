@@ -19,8 +19,8 @@ pub record AreMarkedTo (by ticket : ℕ) (old new : List Row) (line : ℕ) : Typ
   pub above : (k : ℕ) → line ≤ k → row_on new k ≡ row_on old k
   pub many : length new ≡ length old
 
-pub none_marked : (by ticket : ℕ) (rows : List Row) → AreMarkedTo by ticket rows rows 0
-none_marked by ticket rows = record { below = λ k before. absurd (omega (arith, before)); above = λ k behind. refl; many = refl }
+pub none_marked : (by ticket : ℕ) (all : List Row) → AreMarkedTo by ticket all all 0
+none_marked by ticket all = record { below = λ k before. absurd (omega (arith, before)); above = λ k behind. refl; many = refl }
 
 module _ (by ticket : ℕ) (old new : List Row) (line : ℕ) (are : AreMarkedTo by ticket old new line) (within : line < length new) where
   below_by : (k : ℕ) → k < line + 1 → (k ≡ line) ⊎ (k ≢ line) → row_on (slice_set new line (with_begun by ticket

@@ -206,7 +206,7 @@ fn begun_by(ticket: u64, in_hand: Option<Task>) -> Option<Task>
     }
 }
 
-// The same of a row, if it is one of this stack's.
+// What is in hand in a row of this stack, with what was begun noted.
 fn with_begun(by: u64, ticket: u64, row: Row) -> Row
     ensures { result ≡ with_begun by ticket row }
 {
@@ -220,7 +220,7 @@ fn with_begun(by: u64, ticket: u64, row: Row) -> Row
     }
 }
 
-// The same of all rows.
+// Notes what a stack began in all its rows.
 fn mark(rows: &mut Vec<Row>, by: u64, ticket: u64)
     ensures each { (k : _) → row_on rows.new.items k ≡ with_begun by ticket (row_on rows.old.items k) }
     ensures many { length rows.new.items ≡ length rows.old.items }

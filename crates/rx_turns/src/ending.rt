@@ -72,7 +72,7 @@ impl Turns {
         left_under(handed.word, is_left)
     }
 
-    // The same, where the lane may be served further out.
+    // Lets the lane in hand go; one that the stack serves further out is not given up.
     fn put_down(&mut self, turn: Turn, handed: Task) -> Option<u64>
         requires line { HasLine turn self.old.agenda.rows.items }
         requires hand { in_hand (turn_state self.old).agenda turn ≡ Some handed }

@@ -110,7 +110,7 @@ impl Turns {
         }
     }
 
-    // The same, if it was done.
+    // Has what comes of a command that was done.
     fn come_if(&mut self, is_done: bool, turn: Turn, answer: &Answer) -> bool
         requires line { HasLine turn self.old.agenda.rows.items }
         requires many { is_done ≡ true → answer.now.due ≡ length (words_due self.old.cellar) }
@@ -155,7 +155,7 @@ impl Turns {
         }
     }
 
-    // The same, if there is a command.
+    // Makes a command in a turn, if there is one.
     pub(crate) fn make_any(
         &mut self,
         turn: Turn,
