@@ -15,6 +15,7 @@ pub mod Promised
 pub mod Others
 pub mod Passed
 pub mod NothingLeft
+pub mod NothingAstray
 pub mod DeeperServed
 pub mod Ended
 pub mod WordsClaimed

@@ -67,7 +67,7 @@ pub record HasAllNothing (turn : Turn) (t : TurnState) : Type 0 where
   pub own : HasNothing t.agenda turn
   pub deeper : (u : Turn) → is_deeper turn u ≡ true → HasNothing t.agenda u
 
-deeper_ended : (turn : Turn) (b a : TurnState) (answer : Option Task) → answer ≡ None → HasNothing a.agenda turn → ServesDeeper turn b a answer →
+pub deeper_ended : (turn : Turn) (b a : TurnState) (answer : Option Task) → answer ≡ None → HasNothing a.agenda turn → ServesDeeper turn b a answer →
     HasAllNothing turn b
 deeper_ended turn b _ _ is none (none_deeper all) = record { own = none; deeper = all }
 deeper_ended turn b _ _ is none (deeper_has_one a u h deep serves) = absurd (cc)
@@ -86,7 +86,7 @@ picked_nothing turn b _ _ is all (finds_no_room a from word next astray found fu
   own = (loses.due turn ∙ all.own.0, loses.hands turn ∙ all.own.1);
   deeper = λ u deep. let before = all.deeper u deep in (loses.due u ∙ before.0, loses.hands u ∙ before.1);
 }
-picked_nothing turn b _ _ is all (finds_one a c from word next answer astray found claims only rest) = record {
+picked_nothing turn b _ _ is all (finds_one a c from word next answer astray found some claims only rest) = record {
   own = due_ended turn b c answer is (claims.hands turn ∙ all.own.1) rest;
   deeper = λ u deep.
       let before = all.deeper u deep in
@@ -134,7 +134,7 @@ picked_held : (turn : Turn) (b a : TurnState) (answer : Option Task) → PicksUp
 picked_held turn b _ _ (none_astray none) = tt
 picked_held turn b _ _ (ends_walk a from next astray none same) = tt
 picked_held turn b _ _ (finds_no_room a from word next astray found full loses same) = tt
-picked_held turn b _ _ (finds_one a c from word next answer astray found claims only rest) = own_held turn b answer (due_held turn b c answer rest)
+picked_held turn b _ _ (finds_one a c from word next answer astray found some claims only rest) = own_held turn b answer (due_held turn b c answer rest)
 
 gone_deeper_held : (turn : Turn) (b a : TurnState) (answer : Option Task) → GoesDeeper turn b a answer → IfSome answer (IsHeldWithin turn b)
 gone_deeper_held turn b _ _ (serves_inner a h serves) = deeper_held turn b a (Some h) serves

@@ -30,7 +30,7 @@ pub data PicksUp (turn : Turn) (t : TurnState) : TurnState → Option Task → T
   finds_no_room : (s : TurnState) (from word next : ℕ) → s.astray ≡ Some from → IsLeftTold from s.cellar word next →
       (LaneHasRoom s.agenda turn (place_in word) → ⊥) →
       LosesNothing s.agenda t.agenda → t ≡ record s { agenda = t.agenda } → PicksUp turn t s None
-  finds_one : (s u : TurnState) (from word next : ℕ) (answer : Option Task) → s.astray ≡ Some from → IsLeftTold from s.cellar word next →
+  finds_one : (s u : TurnState) (from word next : ℕ) (answer : Option Task) → s.astray ≡ Some from → IsLeftTold from s.cellar word next → word ≢ 2 ^ 64 - 1 →
       Claims turn (place_in word) word s.agenda u.agenda → u ≡ record s { agenda = u.agenda; astray = Some next } → TakesDue turn t u answer →
       PicksUp turn t s answer
 

@@ -1,9 +1,9 @@
 -- What holds of every step, and of every serving.
-use Rattle.std.specs.Prelude.{◌≡◌, ◌⊎◌, true, false, Option, Some, None}
+use Rattle.std.specs.Prelude.{◌≡◌, ℕ, ◌⊎◌, true, false, Option, Some, None}
 use Rattle.rx_turns.specs.declared.agenda.Turn.{Turn}
 use Rattle.rx_turns.specs.declared.agenda.Task.{Task}
 use Rattle.rx_turns.specs.Rows.{is_same, is_deeper}
-use Rattle.rx_turns.specs.Agendas.{DueLists, due_to, in_hand, HasNothing, IsDueOnce}
+use Rattle.rx_turns.specs.Agendas.{DueLists, due_to, in_hand, HasNothing, LaneHasRoom, LosesNothing, IsDueOnce}
 use Rattle.rx_turns.specs.States.{TurnState}
 use Rattle.rx_turns.specs.Serving.{Serves}
 use Rattle.rx_turns.specs.Calls.{TurnGoesOn}
@@ -12,6 +12,17 @@ use Rattle.rx_turns.specs.Calls.{TurnGoesOn}
 abbrev pub NothingIsLeft : Type 0
 NothingIsLeft = (turn : Turn) (s t : TurnState) → TurnGoesOn turn t s None → HasNothing t.agenda turn × ((u : Turn) → is_deeper turn u ≡ true →
     HasNothing t.agenda u)
+
+-- there was no room for a lane
+pub record LackedRoom (turn : Turn) (t : TurnState) : Type 0 where
+  pub before : DueLists
+  pub place : ℕ
+  pub full : LaneHasRoom before turn place → ⊥
+  pub loses : LosesNothing before t.agenda
+
+-- And at depth 1 nothing is astray any more, but for want of room
+abbrev pub NothingIsAstray : Type 0
+NothingIsAstray = (turn : Turn) (s t : TurnState) → turn.depth ≡ 1 → TurnGoesOn turn t s None → (t.astray ≡ None) ⊎ LackedRoom turn t
 
 -- What it hands out is in hand then, of its turn or of a deeper call
 abbrev pub HoldsWhatItHands : Type 0

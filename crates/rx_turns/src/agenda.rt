@@ -1,6 +1,7 @@
 //! What is due to whom.
 
-ghost use Rattle.std.specs.Prelude.{◌≡◌, ◌<◌, ◌≤◌, ◌==◌, ◌+◌, ◌^◌, [], true, false, length, OnOk, IsOk, IfSome, IsSome, Some, None, slice_index_or, vec_capacity};
+ghost use Rattle.std.specs.Prelude.{◌≡◌, ◌<◌, ◌≤◌, ◌+◌, ◌^◌, [], true, false, length, Some, None};
+ghost use Rattle.std.specs.Prelude.{OnOk, IsOk, IfSome, slice_index_or, vec_capacity};
 ghost use Rattle.rx_slots.specs.Lists.{list_at, head_of};
 ghost use Rattle.rx_turns.specs.Rows.{is_of, own_line, row_on, HaveOneRowEach, KeepsRows, HasLine, Grows, TellsAlike};
 ghost use Rattle.rx_turns.specs.Rows.{is_by, begun_by, with_begun, is_deeper, is_before, nearer};
@@ -269,7 +270,7 @@ fn next_deeper(rows: &[Row], turn: Turn) -> Option<Turn>
 }
 
 impl Agenda {
-    ghost use Rattle.rx_turns.specs.Agendas.{due_to, in_hand, lane_word, lanes_fit, has_nothing, HasNothing, LaneHasRoom};
+    ghost use Rattle.rx_turns.specs.Agendas.{due_to, in_hand, lane_word, has_nothing, HasNothing, LaneHasRoom};
     ghost use Rattle.rx_turns.specs.Agendas.{LosesNothing, Claims, IsDueNoMore, IsEmptied, Holds, NotesBegun};
     ghost use Rattle.rx_turns.specs.Seen.{seen};
     ghost use Rattle.rx_turns.specs.Agendas.{IsDueOnce};

@@ -1,9 +1,10 @@
 //! What holds of the calls of a face, which a caller may cite.
 
 ghost use Rattle.rx_turns.specs.Courses.{CallsAreCourses};
-ghost use Rattle.rx_turns.specs.Promises.{NothingIsLeft, HoldsWhatItHands, LeavesOthersAlone};
+ghost use Rattle.rx_turns.specs.Promises.{NothingIsLeft, NothingIsAstray, HoldsWhatItHands, LeavesOthersAlone};
 
 use rx_book::Resource;
+use rx_cellar::words_find_their_lanes;
 use rx_resource::Token;
 
 /// Each call is a course of the engine, so that the laws of `rx_courses` hold of it: a step takes what it hands out,
@@ -16,6 +17,13 @@ pub fn calls_are_courses()
 pub fn nothing_is_left_where_nothing_is_handed_out()
     ensures { NothingIsLeft }
 {}
+
+/// A step of depth 1 hands out nothing only where nothing is astray any more, but for want of room.
+pub fn nothing_is_astray_where_the_outermost_hands_out_nothing()
+    ensures { NothingIsAstray }
+{
+    words_find_their_lanes();
+}
 
 /// What a step hands out is in hand then, of its turn or of a deeper call of its stack.
 pub fn what_is_handed_out_is_in_hand()

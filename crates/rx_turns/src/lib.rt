@@ -38,7 +38,8 @@ mod turns;
 
 pub use agenda::{Task, Turn};
 pub use laws::{
-    calls_are_courses, nothing_is_left_where_nothing_is_handed_out, other_turns_keep_theirs,
+    calls_are_courses, nothing_is_astray_where_the_outermost_hands_out_nothing,
+    nothing_is_left_where_nothing_is_handed_out, other_turns_keep_theirs,
     what_is_handed_out_is_in_hand,
 };
 pub use turns::{Step, Turns};

@@ -16,7 +16,8 @@ loop-index-preserved c =
     c.in-Some.ensures ∙ ap (λ (s : Cellar). slice_get (words_due s) c.loop-index.index) c.loop-index.invariant.0 in (
       claimed_cellar c.args.turn c.in-Some.word (turn_state c.loop-index.self) (turn_state c.claim.new.self) c.claim.ensures ∙ c.loop-index.invariant.0,
       λ b rest. c.loop-index.invariant.1 b
-          (claims_next c.args.turn (turn_state c.loop-index.self) (turn_state c.claim.new.self) b words c.loop-index.index c.in-Some.word there c.claim.ensures rest),
+          (claims_next c.args.turn (turn_state c.loop-index.self) (turn_state c.claim.new.self) b words c.loop-index.index
+          c.in-Some.word there c.claim.ensures rest),
     )
 
 pub returns-in-None : goal.returns-in-None

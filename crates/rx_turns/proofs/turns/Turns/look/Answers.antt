@@ -24,4 +24,4 @@ returns c =
     let claims = subst (λ (p : ℕ). Claims c.args.turn p c.left.new.lane (seen c.args.self.now.agenda) (seen c.claim.new.self)) c.place_of.ensures.place
     (c.claim.ensures.claims c.if-not-claim.false) in
     finds_one (turn_state c.args.self.now) (record (turn_state c.args.self.now) { agenda = seen c.claim.new.self; astray = Some c.left.new.next }) c.args.from
-    c.left.new.lane c.left.new.next c.begin.result c.requires c.left.ensures.told claims refl c.begin.ensures
+    c.left.new.lane c.left.new.next c.begin.result c.requires c.left.ensures.told c.if-word.false claims refl c.begin.ensures
