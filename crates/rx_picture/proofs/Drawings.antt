@@ -1,6 +1,6 @@
 -- The drawing, by the marks of what is shown.
 use Rattle.rx_picture.proofs.Common.{◌≡◌, ℕ, Bool, true, List, length, filter, replicate, ap, ◌∙◌, nat_lt, Event, at, places, Drawing, count_below, marked}
-use Rattle.rx_picture.proofs.Common.{AreMarksByTest, AreLevels, AreRowsShown, is_drawn, leaks, is_left_behind, marbles, is_shown, is_placed, is_rowed}
+use Rattle.rx_picture.proofs.Common.{AreMarksByTest, AreLevels, AreRowsShown, is_drawn, leaks, leads_lanes, marbles, is_shown, is_placed, is_rowed}
 use Rattle.rx_picture.proofs.Common.{is_rowed_by, AreColumns}
 use Rattle.rx_picture.proofs.Common.{IsDrawing}
 use Rattle.rx_picture.specs.Told.{ArePoints}
@@ -47,6 +47,6 @@ drawing_is {h} {d} {drawn} {shown} {placed} {rowed} marks by = record {
   lanes = columns_same shown (length h) (is_shown h) d.lanes.items marks.of_shown by.lanes;
   columns = columns_same placed (length h) (is_placed h) d.columns.items marks.of_placed by.columns;
   levels = by.levels;
-  few_lanes = few_chosen (is_left_behind h) (at is_drawn h) 200 (length h);
+  few_lanes = few_chosen (leads_lanes h) (at is_drawn h) 200 (length h);
   few_places = few_chosen (is_shown h) (λ n. nat_lt n (length h)) 2000 (length h);
 }

@@ -6,9 +6,13 @@ use Rattle.rx_picture.specs.Levels.{AreLevels}
 use Rattle.rx_picture.specs.Told.{marbles, ArePoints}
 use Rattle.rx_picture.specs.Rows.{AreRowsShown, is_drawn, leaks, is_left_behind, lane_of}
 
--- at most 200 lanes: what leaks comes first
+-- of what is left behind 200: first the resources that leak, then the open nodes
+abbrev pub leads_lanes : List Event → ℕ → Bool
+leads_lanes h = is_chosen (leaks h) (is_left_behind h) 200 (length h)
+
+-- at most 200 lanes: first those of what leaks, then those of what is only open, then the others
 abbrev pub is_shown : List Event → ℕ → Bool
-is_shown h = is_chosen (is_left_behind h) (at is_drawn h) 200 (length h)
+is_shown h = is_chosen (leads_lanes h) (at is_drawn h) 200 (length h)
 
 -- a row is shown where its lane is
 abbrev pub is_rowed_by : (ℕ → Bool) → List Event → ℕ → Bool

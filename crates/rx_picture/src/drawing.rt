@@ -4,13 +4,13 @@ ghost use Rattle.std.specs.Prelude.{◌≡◌, IfOk, true, length, replicate};
 ghost use Rattle.rx_event.specs.Tree.{at};
 ghost use Rattle.rx_picture.specs.Choice.{AreMarksByTest};
 ghost use Rattle.rx_picture.specs.Rows.{is_drawn};
-ghost use Rattle.rx_picture.specs.Drawn.{IsDrawing, is_shown, is_placed};
+ghost use Rattle.rx_picture.specs.Drawn.{IsDrawing, leads_lanes, is_shown, is_placed};
 ghost use Rattle.rx_picture.specs.Tables.{AreTables};
 
 use crate::choice::{choose, count_marks};
 use crate::columns::columns_of;
 use crate::lanes::row_marks;
-use crate::leaks::leaks_of;
+use crate::leaks::{leak_marks, leaks_of};
 use crate::levels::levels_of;
 use crate::marbles::marbles_of;
 use crate::points::{Point, points_of};
@@ -20,7 +20,8 @@ use crate::tables::{Tables, drawn_marks, left_marks, tables_of};
 use rx_event::{Event, Mail};
 use std::alloc::{AllocError, Global};
 
-/// How many lanes are shown at most. What is left comes first, by rising number, then the others.
+/// How many lanes are shown at most. First come resources that were never handed out, then open
+/// nodes, then the others, each by rising number.
 const MOST_LANES: usize = 200;
 
 /// How many places are shown at most. Those at which a shown lane begins come first, by rising
@@ -55,6 +56,17 @@ fn all_marks(alloc: Global, size: usize) -> Result<Vec<bool>, AllocError>
     Ok(vec![in alloc; true; size]?)
 }
 
+/// Marks what comes first of the lanes: what is left, and of that first what leaks.
+fn leading_marks(alloc: Global, events: &[Event], tables: &Tables) -> Result<Vec<bool>, AllocError>
+    requires { AreTables events.now tables.now }
+    ensures { IfOk result (λ v. AreMarksByTest v.items (length events.now) (leads_lanes events.now)) }
+{
+    let leaking = leak_marks(alloc, events, &tables.taken)?;
+    let left = left_marks(alloc, events, tables)?;
+    let chosen = choose(alloc, &leaking, &left, MOST_LANES)?;
+    Ok(chosen)
+}
+
 /// Marks the lanes that are shown.
 fn shown_marks(
     alloc: Global,
@@ -66,8 +78,8 @@ fn shown_marks(
     requires drawn { AreMarksByTest drawn.now (length events.now) (at is_drawn events.now) }
     ensures { IfOk result (λ v. AreMarksByTest v.items (length events.now) (is_shown events.now)) }
 {
-    let left = left_marks(alloc, events, tables)?;
-    let chosen = choose(alloc, &left, drawn, MOST_LANES)?;
+    let leading = leading_marks(alloc, events, tables)?;
+    let chosen = choose(alloc, &leading, drawn, MOST_LANES)?;
     Ok(chosen)
 }
 

@@ -3,6 +3,7 @@
 ghost use Rattle.std.specs.Prelude.{◌≡◌, IfOk};
 ghost use Rattle.rx_picture.specs.Imports.{filter, length, makes_resource, at, places};
 ghost use Rattle.rx_picture.specs.Rows.{leaks};
+ghost use Rattle.rx_picture.specs.Choice.{AreMarksByTest};
 ghost use Rattle.rx_picture.specs.Tables.{AreTurns, has_taken};
 
 use crate::event_tests::at;
@@ -26,6 +27,19 @@ pub fn is_leak(events: &[Event], taken: &[usize], n: usize) -> bool
         return false;
     }
     is_resource_at(events, n)
+}
+
+/// Marks the resources that were never handed out.
+pub fn leak_marks(alloc: Global, events: &[Event], taken: &[usize]) -> Result<Vec<bool>, AllocError>
+    requires { AreTurns events.now has_taken (length events.now) taken.now }
+    ensures { IfOk result (λ v. AreMarksByTest v.items (length events.now) (leaks events.now)) }
+{
+    let mut marks = Vec::new(alloc);
+    for n in 0..events.len() {
+        let mark = is_leak(events, taken, n);
+        marks.push(mark)?;
+    }
+    Ok(marks)
 }
 
 /// The resources that were never handed out, by rising number.

@@ -6,8 +6,8 @@
 //! had happened just before the event at place `k`.
 //!
 //! Promised: on any list of events there is one row for each node, hub, resource and lease whose lane
-//! is shown, by rising number. At most 200 lanes are shown: first those of what is left, which is an open
-//! node or a resource that was never handed out, by rising number, then the others. At most 2,000
+//! is shown, by rising number. At most 200 lanes are shown: first those of resources that were never
+//! handed out, then those of open nodes, then the others, each by rising number. At most 2,000
 //! places are shown: first those at which a shown lane begins, then the others. A node's line spans
 //! just the prefixes in which the definitions of `rx_event` say that it is open, and ends as the event
 //! says that closed it; a resource's bar spans just those in which its node owns it, and is taken from
