@@ -17,7 +17,7 @@ unfoldable pub use Rattle.rx_svg.specs.Label.{event_label, called_text}
 pub use Rattle.rx_svg.specs.Lane.{x_of}
 unfoldable pub use Rattle.rx_svg.specs.Lane.{row_text, tick_text, note_marble}
 pub use Rattle.rx_dump.specs.Names.{name_in_object}
-pub use Rattle.rx_svg.specs.Name.{name_label, byte_text}
+pub use Rattle.rx_svg.specs.Name.{name_label, byte_text, stands_in_name}
 unfoldable pub use Rattle.rx_svg.specs.Page.{point_text, listed_text, leak_entry, svg_text}
 pub use Rattle.rx_svg.specs.Parts.{Part, words, number, signed}
 unfoldable pub use Rattle.rx_svg.specs.Parts.{text_of}

@@ -1,6 +1,6 @@
 -- A name is shown as content, whatever it is.
 use Rattle.rx_svg.proofs.Common.{◌≡◌, ℕ, ◌<◌, Bool, true, false, List, [], codes, flat_map, Option, refl, subst, arith, append-nil}
-use Rattle.rx_svg.proofs.Common.{not, ◌==◌, list_any, and_from, and_parts, or_cases, cond-true, byte_text, name_label, is_plain_character}
+use Rattle.rx_svg.proofs.Common.{not, ◌==◌, list_any, and_from, and_parts, or_cases, cond-true, byte_text, name_label, is_plain_character, stands_in_name}
 use Rattle.rx_svg.proofs.Common.{is_predefined, reference_text, IsContent, nothing, reference_first}
 use Rattle.std.proofs.Math.Bool.{◌||◌}
 use Rattle.std.proofs.lemmas.Bool.{eqb-true, leb-true, cond-false, cases_Bool}
@@ -14,9 +14,15 @@ or_shape a b c d = grind arith
 pub markup_by_or : (b : ℕ) → (((b == 60 || b == 62) || b == 38) || b == 34) ≡ list_any (λ m. b == m) (codes "<>&\"")
 markup_by_or b = or_shape (b == 60) (b == 62) (b == 38) (b == 34)
 
-pub plain_is_ascii : (b : ℕ) → is_plain_character b ≡ true → b < 128
+plain_is_ascii : (b : ℕ) → is_plain_character b ≡ true → b < 128
 plain_is_ascii b plain =
     search (rules, and_parts, not, list_any, codes, or_cases, eqb-true, leb-true)
+
+name_is_plain : (b : ℕ) → stands_in_name b ≡ true → is_plain_character b ≡ true
+name_is_plain b stands = (and_parts (is_plain_character b) (not (b == 10)) stands).0
+
+pub name_is_ascii : (b : ℕ) → stands_in_name b ≡ true → b < 128
+name_is_ascii b stands = plain_is_ascii b (name_is_plain b stands)
 
 reference_is_content : (name : List ℕ) → is_predefined name ≡ true → IsContent (reference_text name)
 reference_is_content name known = subst IsContent (append-nil (reference_text name)) (reference_first name [] known nothing)
@@ -29,7 +35,7 @@ escape_is_content b =
     (content_if (b == 34) _ _ (reference_is_content (codes "quot") refl) (plain_content (codes "?") refl))))
 
 byte_is_content : (b : ℕ) → IsContent (byte_text b)
-byte_is_content b = search (rules, cases_Bool, cond-true, plain_content, and_from, cond-false, escape_is_content)
+byte_is_content b = search (rules, cases_Bool, cond-true, plain_content, and_from, name_is_plain, cond-false, escape_is_content)
 
 shown_is_content : (name : List ℕ) → IsContent (shown_name name)
 unfolding shown_name

@@ -1,5 +1,5 @@
 -- How a name stands in a picture.
-use Rattle.std.specs.Prelude.{ℕ, ◌==◌, Option, Some, None, List, [], ◌∷◌, ◌++◌, codes, flat_map, if◌then◌else◌}
+use Rattle.std.specs.Prelude.{ℕ, Bool, not, ◌&&◌, ◌==◌, Option, Some, None, List, [], ◌∷◌, ◌++◌, codes, flat_map, if◌then◌else◌}
 use Rattle.rx_svg.specs.WellFormed.{is_plain_character}
 
 -- markup stands as a reference, and each byte of a control character or of a letter beyond ASCII as a question mark
@@ -11,8 +11,12 @@ escape b =
     else if b == 34 then codes "&quot;"
     else codes "?"
 
+-- a plain character stands as it is, but not the end of a line, which is a control character
+abbrev pub stands_in_name : ℕ → Bool
+stands_in_name b = is_plain_character b && not (b == 10)
+
 abbrev pub byte_text : ℕ → List ℕ
-byte_text b = if is_plain_character b then b ∷ [] else escape b
+byte_text b = if stands_in_name b then b ∷ [] else escape b
 
 -- what stands behind a number: its name, in brackets
 unfoldable pub shown_name : List ℕ → List ℕ

@@ -5,7 +5,7 @@ ghost use Rattle.std.specs.List.{list_any};
 ghost use Rattle.serde_json.specs.View.{view};
 ghost use Rattle.rx_dump.specs.Names.{name_in_object};
 ghost use Rattle.rx_svg.specs.WellFormed.{is_plain_character};
-ghost use Rattle.rx_svg.specs.Name.{escape, byte_text, shown_name, name_label};
+ghost use Rattle.rx_svg.specs.Name.{stands_in_name, escape, byte_text, shown_name, name_label};
 
 use rx_dump::{Names, name_of};
 use std::alloc::AllocError;
@@ -25,7 +25,14 @@ fn is_plain(byte: u8) -> bool
     (byte == 10 || (32 <= byte && byte <= 126)) && !is_markup(byte)
 }
 
-/// What stands for a byte that is not plain.
+/// Whether the byte stands in a name as it is.
+fn stands_in_name(byte: u8) -> bool
+    ensures { result ≡ stands_in_name byte }
+{
+    is_plain(byte) && byte != 10
+}
+
+/// What stands for a byte that does not.
 fn escape(byte: u8) -> &'static str
     ensures { result.now ≡ escape byte }
 {
@@ -51,11 +58,11 @@ fn push_ascii(text: &mut String, byte: u8) -> Result<(), AllocError>
 }
 
 /// One byte of a name.
-#[tactic(auto, using(crate::proofs::ShownNames::plain_is_ascii))]
+#[tactic(auto, using(crate::proofs::ShownNames::name_is_ascii))]
 fn push_byte(text: &mut String, byte: u8) -> Result<(), AllocError>
     ensures { OnOk result (string_bytes text.new ≡ string_bytes text.old ++ byte_text byte) }
 {
-    if is_plain(byte) {
+    if stands_in_name(byte) {
         return push_ascii(text, byte);
     }
     text.push_str(escape(byte))
