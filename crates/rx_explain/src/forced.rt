@@ -1,17 +1,28 @@
-//! What the rules force after a history that is not settled, found by trying: the audit says of each
-//! event that is tried whether it may come next.
+//! What the rules force after a history that is not settled. A table of what is open tells which events these
+//! are, or may be; the audit then says of an event that is tried whether it may come next.
 
-use crate::past::parent_of;
+use crate::fired::fired_by;
+use crate::left::{Left, left_at, left_by};
+use crate::past::event_at;
 use rx_audit::{Verdict, audit};
-use rx_event::{Event, Kind};
+use rx_event::Event;
 use rx_note::Terminal;
 use std::alloc::{AllocError, Global};
 
-/// How many nodes above the last event are tried.
-const MOST_LEVELS: u32 = 16;
+/// How many events are tried. The first is right, but where FlatMaps or Switches lost their last open child
+/// after the last call: the table does not tell how many items they still owe.
+const MOST_TRIED: u32 = 64;
 
-/// How many connections, subscribers and TakeUntils are tried.
-const MOST_TRIED: u32 = 8;
+/// A lawful history, with what is known of its end.
+#[derive(Drop)]
+struct Ending {
+    /// What it leaves.
+    left: Vec<Left>,
+    /// The TakeUntils that its last call fired, by number.
+    fired: Vec<bool>,
+    /// The nodes below which its last call ended or closed a child, or declined an item, by number.
+    stirred: Vec<bool>,
+}
 
 // Whether an event may follow a lawful history.
 fn may_follow(alloc: Global, events: &[Event], next: Event) -> Result<bool, AllocError> {
@@ -23,65 +34,119 @@ fn may_follow(alloc: Global, events: &[Event], next: Event) -> Result<bool, Allo
     }
 }
 
-// The node that an event is about.
-fn node_of(event: Event) -> Option<u64> {
-    match event {
-        Event::Item(node, _) | Event::Decline(node) | Event::End(node, _) | Event::Close(node) => {
-            Some(node)
+// A place that is not behind the last call: what rules force are ends, closings and connections.
+fn last_call(events: &[Event]) -> usize {
+    let mut last = 0;
+    for (place, event) in events.iter().enumerate() {
+        match event {
+            Event::End(_, _) | Event::Close(_) | Event::Connect(_) => {}
+            _ => last = place,
         }
-        Event::Open { place, .. } => place.above(),
+    }
+    last
+}
+
+// The node below which the event ended or closed a child, or declined an item.
+fn stirred_by(events: &[Event], event: Event) -> Option<u64> {
+    match event {
+        Event::End(n, _) | Event::Close(n) => event_at(events, n)?.parent(),
+        Event::Decline(n) => Some(n),
         _ => None,
     }
 }
 
-// An end that is forced at this node or near above it, in this way or by completion.
-fn end_above(
-    alloc: Global,
-    events: &[Event],
-    node: u64,
-    terminal: Terminal,
-) -> Result<Option<Event>, AllocError> {
-    let mut here = node;
-    for _level in 0..MOST_LEVELS {
-        for way in [terminal, Terminal::Completed] {
-            let end = Event::End(here, way);
-            if may_follow(alloc, events, end)? {
-                return Ok(Some(end));
+// The nodes that the last call, at this place, stirred.
+fn stirred_from(alloc: Global, events: &[Event], call: usize) -> Result<Vec<bool>, AllocError> {
+    let mut stirred = vec![in alloc; false; events.len()]?;
+    for event in events.iter().skip(call) {
+        if let Some(n) = stirred_by(events, *event) {
+            let at = n as usize;
+            if at < stirred.len() {
+                stirred[at] = true;
             }
         }
-        match parent_of(events, here) {
-            Some(above) => here = above,
-            None => return Ok(None),
+    }
+    Ok(stirred)
+}
+
+// The TakeUntils that the last call, at this place, fired.
+fn fired_at(alloc: Global, events: &[Event], call: usize) -> Result<Vec<bool>, AllocError> {
+    match (events.get(call), events.get(..call)) {
+        (Some(Event::Item(leaf, _)), Some(before)) => fired_by(alloc, before, *leaf),
+        _ => Ok(Vec::new(alloc)),
+    }
+}
+
+// What is known of the end of a history.
+fn end_of_history(alloc: Global, events: &[Event]) -> Result<Ending, AllocError> {
+    let call = last_call(events);
+    Ok(Ending {
+        left: left_by(alloc, events)?,
+        fired: fired_at(alloc, events, call)?,
+        stirred: stirred_from(alloc, events, call)?,
+    })
+}
+
+fn is_marked(marks: &[bool], n: u64) -> bool {
+    marks.get(n as usize) == Some(&true)
+}
+
+// How a subscriber has to end whose connection ended after it was opened.
+fn cut(ending: &Ending, n: u64, hub: u64) -> Option<Terminal> {
+    let (place, terminal) = left_at(ending.left.as_slice(), hub).cut?;
+    if n < place { Some(terminal) } else { None }
+}
+
+// How the open node has to end, which the event made.
+fn end_due(ending: &Ending, n: u64, made: Event) -> Option<Terminal> {
+    let left = left_at(ending.left.as_slice(), n);
+    if left.child_end.is_some() {
+        return left.child_end;
+    }
+    if let Some(hub) = made.subscribes_to() {
+        return cut(ending, n, hub);
+    }
+    let is_over = made.is_merging()
+        && left.is_source_completed
+        && !left.has_child
+        && is_marked(ending.stirred.as_slice(), n);
+    if is_over || (made.is_until() && is_marked(ending.fired.as_slice(), n)) {
+        return Some(Terminal::Completed);
+    }
+    None
+}
+
+// Whether the event made the connection of a hub with RefCount that has no open subscriber.
+fn is_left(events: &[Event], ending: &Ending, made: Event) -> bool {
+    match made.connects() {
+        Some(hub) => {
+            event_at(events, hub).is_some_and(Event::is_auto_hub)
+                && left_at(ending.left.as_slice(), hub).subscriber.is_none()
         }
-    }
-    Ok(None)
-}
-
-// What a rule may force at the node that this event made, where its cause is not told by the last event.
-fn candidate(made: Event, node: u64, terminal: Terminal) -> Option<Event> {
-    match made {
-        Event::Connect(_) => Some(Event::Close(node)),
-        Event::Open {
-            kind: Kind::Sub(_),
-            ..
-        } => Some(Event::End(node, terminal)),
-        Event::Open {
-            kind: Kind::Until,
-            ..
-        } => Some(Event::End(node, Terminal::Completed)),
-        _ => None,
+        None => false,
     }
 }
 
-// A forced event at a connection, a subscriber or a TakeUntil, among the first of these.
-fn forced_elsewhere(
-    alloc: Global,
-    events: &[Event],
-    terminal: Terminal,
-) -> Result<Option<Event>, AllocError> {
+// What the rules force at a node, which the event made, or may force.
+fn due_at(events: &[Event], ending: &Ending, n: u64, made: Event) -> Option<Event> {
+    if !left_at(ending.left.as_slice(), n).is_open {
+        return None;
+    }
+    if let Some(terminal) = end_due(ending, n, made) {
+        return Some(Event::End(n, terminal));
+    }
+    if is_left(events, ending, made) {
+        return Some(Event::Close(n));
+    }
+    None
+}
+
+// What the rules force at an open node, the last such node first.
+fn forced_at_node(alloc: Global, events: &[Event]) -> Result<Option<Event>, AllocError> {
+    let ending = end_of_history(alloc, events)?;
     let mut left = MOST_TRIED;
-    for (place, made) in events.iter().enumerate() {
-        if let Some(next) = candidate(*made, place as u64, terminal) {
+    for (place, made) in events.iter().enumerate().rev() {
+        if let Some(next) = due_at(events, &ending, place as u64, *made) {
             if left == 0 {
                 return Ok(None);
             }
@@ -94,32 +159,15 @@ fn forced_elsewhere(
     Ok(None)
 }
 
-// How what is forced ends after this event.
-fn terminal_after(last: Event) -> Terminal {
-    match last {
-        Event::End(_, terminal) => terminal,
-        _ => Terminal::Completed,
-    }
-}
-
-/// An event that is forced after a lawful history, where one is found near its last event, or at one of
-/// the first connections, subscribers and TakeUntils.
+/// An event that is forced after a lawful history that is not settled: the connection that its last event waits for,
+/// or else what is due at an open node, the last such node first. None where of [`MOST_TRIED`] events that are
+/// tried none is forced. All but these audits is linear in the events.
 pub fn forced_after(alloc: Global, events: &[Event]) -> Result<Option<Event>, AllocError> {
-    let Some(last) = events.last().copied() else {
-        return Ok(None);
-    };
-    if let Some(hub) = last.subscribes_to() {
+    if let Some(hub) = events.last().copied().and_then(Event::subscribes_to) {
         let connection = Event::Connect(hub);
         if may_follow(alloc, events, connection)? {
             return Ok(Some(connection));
         }
     }
-    let terminal = terminal_after(last);
-    if let Some(node) = node_of(last) {
-        let found = end_above(alloc, events, node, terminal)?;
-        if found.is_some() {
-            return Ok(found);
-        }
-    }
-    forced_elsewhere(alloc, events, terminal)
+    forced_at_node(alloc, events)
 }

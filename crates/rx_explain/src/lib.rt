@@ -23,7 +23,9 @@
 
 mod dump;
 mod explaining;
+mod fired;
 mod forced;
+mod left;
 mod past;
 mod refusals;
 mod scenario;
