@@ -24,6 +24,7 @@ use crate::past::Past;
 use crate::refusals::{refusal_told, taking_told};
 use crate::scenario::scenario_fault;
 use crate::sentences::Sentence;
+use crate::texts::fault_in_text;
 use crate::walk::{Walk, told_by};
 use json::Scratch;
 use rx_audit::{Verdict, audit, refused};
@@ -63,6 +64,12 @@ fn no_json(alloc: Global, input: &[u8], error: &Error) -> Result<String, AllocEr
     let (line, column) = (error.line(), error.column().max(1));
     if error.is_eof() {
         return format!(in alloc; "line {line}, column {column}: the JSON text ends too early");
+    }
+    // The reader tells a fault within a text at the text's beginning.
+    if let Some(column) = fault_in_text(input, line, column) {
+        return format!(in alloc;
+            "line {line}, column {column}: not a JSON text; here a text has a control character or a false escape"
+        );
     }
     format!(in alloc; "line {line}, column {column}: not a JSON text; look here and just before")
 }

@@ -30,6 +30,7 @@ mod past;
 mod refusals;
 mod scenario;
 mod sentences;
+mod texts;
 mod walk;
 mod wanted;
 mod words;
