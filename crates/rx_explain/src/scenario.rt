@@ -16,6 +16,10 @@ const MOST_STEPS: usize = 65_536;
 /// How deep a `then` may stand.
 const MOST_LEVELS: u32 = 16;
 
+/// What is said of a live book's answer to `dump` after a checkpoint.
+const NO_HISTORY: &str =
+    "an answer of a live book without a history: a checkpoint took the first events away";
+
 /// Whether a member has to be there.
 #[derive(Clone, Copy)]
 enum Need {
@@ -249,6 +253,9 @@ pub fn scenario_fault(alloc: Global, scenario: &Value) -> Walk {
         return tell(format!(in alloc;
             "a scenario is an object and a dump an array, and this is {shown}"
         ));
+    }
+    if scenario.get("ok").is_some() && scenario.get("since").is_some() {
+        return tell(String::from_str(alloc, NO_HISTORY));
     }
     let walk = stranger(alloc, scenario, OF_SCENARIOS, OF_SCENARIOS);
     inside(alloc, "the scenario", walk)?;
