@@ -13,6 +13,7 @@ here = pathlib.Path(__file__).resolve().parent
 top = here.parent.parent
 HEADER = f'-I{top}/crates/cellarcliff'
 WASM = ['--target=wasm64-unknown-unknown', '-mbulk-memory', '-ffreestanding', '-fno-builtin', f'-I{here}/alone']
+OF_THE_LIBRARY = ('courses', 'refused_memory')  # Rust's tests that compare each hub with the library's, or refuse the process memory
 FEATURES = [f'--enable-{it}' for it in ('memory64', 'bulk-memory', 'sign-ext', 'nontrapping-float-to-int', 'multivalue', 'mutable-globals')]
 
 
@@ -60,7 +61,9 @@ def try_all(folder: pathlib.Path, scratch: pathlib.Path, settings: str, library:
     subprocess.run([top / 'tools/build-extension', package / 'cellarcliff/_engine.abi3.so'], check=True)
     failed += ran('Python, by the extension', tests, package, folder / 'python.log', r'^Ran (\d+) tests?', **over)
     if shutil.which('cargo'):
-        failed += ran('Rust', ['cargo', 'test', '--offline', '--no-fail-fast'], top / 'bindings/rust', folder / 'rust.log',
+        files = sorted(it.stem for it in (top / 'bindings/rust/tests').glob('*.rs'))
+        words = ['--lib', *(f'--test={it}' for it in files if it not in OF_THE_LIBRARY)]
+        failed += ran('Rust', ['cargo', 'test', '--offline', '--no-fail-fast', *words], top / 'bindings/rust', folder / 'rust.log',
                       r'^test result: \w+\. (\d+) passed', CELLAR_LIB_DIR=str(scratch), LD_LIBRARY_PATH=str(scratch),
                       CARGO_TARGET_DIR=str(scratch / 'target'), **told)
     if all(map(shutil.which, ('node', 'clang', 'wasm-ld', 'wasm-opt'))):
