@@ -26,8 +26,9 @@ async function atDepths(rx, make) {
     const before = rx.counts();
     let made = 0, released = 0, is_over = false, why = null, sub = null;
     const using = (source) => rx.using(() => (made++, { unsubscribe: () => { released++; } }), () => source);
+    const final = (source) => rx.defer(() => (made++, source.pipe(rx.finalize(() => { released++; }))));
     const observer = { error: () => { is_over = true; }, complete: () => { is_over = true; } };
-    const run = make(rx, { using, observer, keep: (it) => { sub = it; } });
+    const run = make(rx, { using, final, observer, keep: (it) => { sub = it; } });
     try { down(n, () => { run.act(); }); } catch (error) { why = error; }
     await turn();
     thrown = why ? thrown + 1 : 0;
@@ -52,6 +53,15 @@ export const only_ours = {
   'subscribed to at every depth': deep((rx, { using, observer, keep }) => ({ act: () => keep(using(rx.of(1)).subscribe(observer)) })),
   'a chain of operators at every depth': deep((rx, { using, observer, keep }) => ({
     act: () => keep(using(rx.of(1, 2)).pipe(rx.map((x) => x), rx.finalize(() => {}), rx.take(2), rx.toArray()).subscribe(observer)),
+  })),
+  'what is told at an end at every depth': deep((rx, { observer, keep }) => ({
+    act: () => keep(rx.of(1).pipe(rx.map((x) => x), rx.count()).subscribe(observer)),
+  })),
+  'an error that is told as an item at every depth': deep((rx, { observer, keep }) => ({
+    act: () => keep(rx.throwError(() => 'no').pipe(rx.materialize(), rx.toArray()).subscribe(observer)),
+  })),
+  'defer with finalize at every depth': deep((rx, { final, observer, keep }) => ({
+    act: () => keep(final(rx.of(1, 2)).pipe(rx.count()).subscribe(observer)),
   })),
   'concat at every depth': deep((rx, { using, observer, keep }) => ({
     act: () => keep(rx.concat(using(rx.of(1)), using(rx.of(2)), using(rx.EMPTY)).subscribe(observer)),

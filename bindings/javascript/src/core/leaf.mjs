@@ -66,16 +66,16 @@ export class Leaf extends Subscriber {
     this._many = false; // whether its source tells items in one go
   }
 
-  // An end that there is no room for is refused before anything is changed.
+  // An end that there is no room for is refused before anything is changed; before the book an item may be told at it.
   error(error) {
     if (this.isStopped) return stopped(errorOf(error), this);
-    realm.engine.room();
+    realm.engine.room(this._way.hooked);
     this.isStopped = true;
     this._error(error);
   }
   complete() {
     if (this.isStopped) return stopped(COMPLETION, this);
-    realm.engine.room();
+    realm.engine.room(this._way.hooked);
     this.isStopped = true;
     this._complete();
   }

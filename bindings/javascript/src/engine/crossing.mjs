@@ -82,8 +82,8 @@ export class Crossing {
     for (const it of things) if (it.hears) surely(() => it.hears.heardError(this.dead, null));
   }
 
-  /** Throws RangeError where the stack has no room for a command and for what leads to it. */
-  room() { this.#glue.room(1); }
+  /** Throws RangeError where the stack has no room for a command and for what leads to it; with `is_item`, for an item first. */
+  room(is_item = false) { this.#glue.room(is_item ? 3 : 1); }
 
   // Commands. Each answers its status, and first does what was put off for want of stack.
 
@@ -505,7 +505,7 @@ export class Crossing {
   /** Does it, or later where there is no room for it. */
   surely(act) {
     try {
-      this.#glue.all(0);
+      this.#glue.room(4); // more than `room` asks for an end
     } catch (error) {
       if (this.dead !== null) throw error;
       return this.#postpone(act);

@@ -26,7 +26,7 @@ export async function deeply([rx, ops], many, first) {
       try { down(most - d.below(1600), () => { run.act(it); }); } catch { total.thrown++; }
     }
     await new Promise((resolve) => { setTimeout(resolve); });
-    for (const it of [...Object.values(run.subscriptions), ...run.connections ?? []]) it.unsubscribe();
+    for (const it of [...Object.values(run.subscriptions), ...run.connections ?? []]) run.does(() => it.unsubscribe()); // a release may throw
     rx.close();
     const after = rx.counts(), left = run.kept();
     total.resources += run.resources;

@@ -62,14 +62,14 @@ export class Run {
   }
   resource(label) {
     const n = this.resources++;
-    this.open.set(n, 1);
-    this.say('made', label);
     const resource = { unsubscribe: () => {
       if (this.open.get(n) !== 1) this.twice++;
       this.open.set(n, 0);
       this.say('released', label);
       this.within('release');
     } };
+    this.say('made', label);
+    this.open.set(n, 1); // behind what may be thrown for want of stack
     try { this.within('make'); } catch (error) { // as whoever makes a resource and fails
       this.open.set(n, 0);
       this.say('unmade', label);
