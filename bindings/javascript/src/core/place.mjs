@@ -119,6 +119,14 @@ export function linked(at) {
 /** The place itself, or that of a link where functions before the book do something at an end that a node would come to. */
 export const settled = (at) => (at._way.hooked ? linked(at) : at);
 
+/** Looks for room for a function of the program that makes what is opened next: without it nothing is opened, and the function is not called. */
+export function roomToMake() {
+  try { realm.engine.room(true); } catch (error) {
+    unopened.add(error);
+    throw error;
+  }
+}
+
 /** Fails there. */
 export function failAt(at, error) { openLeaf(at)?.error(error); }
 

@@ -1,7 +1,7 @@
 // Sources that tell at once, or nothing, or what a function answers.
 import { Observable } from '../core/observable.mjs';
 import { Resource } from '../core/subscriber.mjs';
-import { LEFT, failAt, holdAt, openAt, openPass } from '../core/place.mjs';
+import { LEFT, failAt, holdAt, openAt, openPass, roomToMake } from '../core/place.mjs';
 import { traced } from '../engine/tracing.mjs';
 import { isFunction, isScheduler, noop, popScheduler } from '../core/util.mjs';
 import { fromArray, inOneGo, innerFrom } from './from.mjs';
@@ -33,6 +33,7 @@ export function opened(opens) {
 
 /** What a function answers, anew for each that subscribes. */
 export const defer = (factory) => opened((at) => {
+  roomToMake(); // what the function takes hold of is released by what is opened
   let source;
   try { source = innerFrom(factory()); } catch (error) { return failAt(at, error); }
   source._open(at);
