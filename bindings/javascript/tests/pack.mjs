@@ -3,6 +3,7 @@
 // Usage: node pack.mjs, with engine.wasm beside the package, or named by CELLARCLIFF_WASM. It needs npm, and Debian's node-typescript for types,
 // esbuild for bundles, and chromium for pages.
 import { execFileSync } from 'node:child_process';
+import { createHash } from 'node:crypto';
 import { copyFileSync, existsSync, mkdirSync, mkdtempSync, readFileSync, rmSync, statSync, writeFileSync } from 'node:fs';
 import { tmpdir } from 'node:os';
 import { dirname, join } from 'node:path';
@@ -31,6 +32,8 @@ try {
   writeFileSync(join(home, 'package.json'), '{ "name": "home", "version": "1.0.0", "private": true }');
   run(['npm', 'install', '--no-audit', '--no-fund', join(work, archive.filename)], home);
   const lock = JSON.parse(readFileSync(join(home, 'package-lock.json'), 'utf8'));
+  const file = (name) => readFileSync(join(home, 'node_modules/cellarcliff', name));
+  if (!given) is('PROVED has the sum of the module', String(file('PROVED').includes(createHash('sha256').update(file('engine.wasm')).digest('hex'))), 'true');
   is('packages that came with it', String(Object.keys(lock.packages).length - 1), '1');
   writeFileSync(join(home, 'a.mjs'), `import * as rx from 'cellarcliff';\nimport * as ops from 'cellarcliff/operators';\nimport * as testing from 'cellarcliff/testing';\n${PROGRAM}`);
   writeFileSync(join(home, 'b.cjs'), `const rx = require('cellarcliff'), ops = require('cellarcliff/operators'), testing = require('cellarcliff/testing');\n${PROGRAM}`);
