@@ -1,4 +1,4 @@
-"""The module audit over the library, by the examples in the folder that CELLARCLIFF_EXAMPLES names."""
+"""The module audit over the library, by the examples in the folder that CELLARCLIFF_EXAMPLES names, or by the checkout's."""
 import os
 import pathlib
 import threading
@@ -6,7 +6,7 @@ import unittest
 
 from cellarcliff import audit
 
-EXAMPLES = pathlib.Path(os.environ.get("CELLARCLIFF_EXAMPLES", "."))
+EXAMPLES = pathlib.Path(os.environ.get("CELLARCLIFF_EXAMPLES") or pathlib.Path(__file__).resolve().parents[3] / "crates/rx_replay/data")
 
 
 def text(name):
