@@ -143,6 +143,29 @@ fn a_panic_of_one_subscriber_of_a_share_keeps_nothing_from_a_root_of_an_operator
 }
 
 #[test]
+fn a_drop_that_panics_leaves_open_nothing_that_is_joined_below_it() {
+    let subject = Subject::<i32>::new();
+    let both = Observable::combine_latest([subject.observable(), subject.observable(), subject.observable()]);
+    let subscription = Observable::using(|| Loud(2), move |_| both.concat_with(Observable::never())).each(drop);
+    assert_eq!((subject.observers(), panics(|| drop(subscription)).as_str(), subject.observers()), (3, "broken", 0));
+}
+
+#[test]
+fn a_panic_in_a_function_that_makes_a_source_goes_on_though_the_drop_of_its_resource_panics_too() {
+    struct Broken(Rc<Cell<u32>>);
+    impl Drop for Broken {
+        fn drop(&mut self) {
+            self.0.set(self.0.get() + 1);
+            panic_any("a drop")
+        }
+    }
+    let dropped = Rc::new(Cell::new(0));
+    let count = dropped.clone();
+    let using = Observable::<i32>::using(move || Broken(count.clone()), |_| panic_any("a source"));
+    assert_eq!((panics(|| using.each(drop).detach()).as_str(), dropped.get()), ("a source", 1));
+}
+
+#[test]
 fn a_panic_of_one_subscriber_of_a_share_keeps_nothing_from_the_other() {
     let (dropped, heard) = (Rc::new(Cell::new(0)), Rc::new(RefCell::new(vec![])));
     let (subject, notes) = (Subject::<i32>::new(), heard.clone());

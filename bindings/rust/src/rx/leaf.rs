@@ -6,7 +6,7 @@ use super::scope::Thing;
 use super::way::{End, Tip};
 use super::words::Word;
 use crate::engine::{kind, what, Command, NOTHING};
-use crate::rx::late::LateKey;
+use crate::rx::{late::LateKey, panics::Panics};
 use crate::Refusal;
 use crate::rx::atomic::AtomicU8;
 use std::sync::atomic::Ordering::{Relaxed, SeqCst};
@@ -63,8 +63,9 @@ impl<T, E> Thing for Leaf<'_, T, E> {
 
     fn closed(&self) {
         if matches!(self.state.swap(CLOSED, SeqCst), LISTED | CLOSING) {
-            let all = self.closes.with(std::mem::take);
-            all.into_iter().for_each(|it| it.closed());
+            let (all, mut panics) = (self.closes.with(std::mem::take), Panics::default());
+            all.into_iter().for_each(|it| _ = panics.run(|| it.closed()));
+            panics.go_on();
         }
     }
 }

@@ -10,7 +10,7 @@ use crate::engine::{effect, kind, place, Key};
 use crate::Refusal;
 use std::borrow::Borrow;
 use std::collections::VecDeque;
-use crate::rx::atomic::AtomicBool;
+use crate::rx::{atomic::AtomicBool, panics::Panics};
 use std::sync::atomic::Ordering::Relaxed;
 use std::sync::OnceLock;
 
@@ -155,8 +155,10 @@ impl<A: Thing + ?Sized, B: Thing + ?Sized> Thing for Both<A, B> {
     }
 
     fn closed(&self) {
-        self.0.closed();
-        self.1.closed();
+        let mut panics = Panics::default();
+        panics.run(|| self.0.closed());
+        panics.run(|| self.1.closed());
+        panics.go_on();
     }
 }
 

@@ -2,6 +2,8 @@
 use super::leaf::Emitter;
 use super::{Fits, Moves, Observable};
 use crate::engine::{kind, place};
+use crate::rx::panics::discard;
+use std::panic::{catch_unwind, resume_unwind, AssertUnwindSafe};
 
 /// A resource in the engine's hands. Its release is a drop.
 pub(crate) trait Held {}
@@ -31,7 +33,14 @@ impl<'a, T: 'a, E: 'a> Observable<'a, T, E> {
                 Ok(it) => it,
                 Err(error) => return Emitter::open(at).map(|to| to.error(error)),
             };
-            let source = source(&resource);
+            let source = match catch_unwind(AssertUnwindSafe(|| source(&resource))) {
+                Ok(it) => it,
+                Err(why) => {
+                    // a drop that panics as this panic unwinds would end the process
+                    catch_unwind(AssertUnwindSafe(|| drop(resource))).unwrap_or_else(discard);
+                    resume_unwind(why)
+                }
+            };
             let node = at.open(kind::PASS, None, Some(Box::new(resource)))?.node;
             let below = at.down(place::SOURCE, node);
             match source {
