@@ -114,6 +114,8 @@ impl State {
 struct Shape {
     /// How often each item.
     times: BTreeMap<usize, usize>,
+    /// And how often at most, with what follows an end.
+    most: BTreeMap<usize, usize>,
     /// In their order, if not all.
     in_order: bool,
     /// It may end though no subject does.
@@ -130,10 +132,18 @@ impl Shape {
         for (subject, times) in &other.times {
             *self.times.entry(*subject).or_insert(0) += times;
         }
-        self.in_order &= other.in_order;
+        self.follows(other);
         self.ends |= other.ends;
         self.until.extend(&other.until);
         self.pipes.extend(&other.pipes);
+    }
+
+    /// The other is heard behind its end.
+    fn follows(&mut self, other: &Shape) {
+        for (subject, times) in &other.most {
+            *self.most.entry(*subject).or_insert(0) += times;
+        }
+        self.in_order &= other.in_order;
     }
 
     /// Nothing more is known than the order.
@@ -347,7 +357,7 @@ impl World {
         let mut wrong = None;
         for (at, seen) in state.seen.iter().enumerate() {
             let shape = &self.shapes[seen.pipe];
-            if shape.in_order && shape.times.values().all(|it| *it == 1) {
+            if shape.in_order && shape.most.values().all(|it| *it == 1) {
                 let mut latest = BTreeMap::new();
                 for number in seen.heard.iter().filter(|it| **it != NONE) {
                     let it = &state.items[*number];
@@ -416,7 +426,7 @@ impl Builder<'_> {
         match it {
             Source::Subject(at) => {
                 let times = BTreeMap::from([(at, 1)]);
-                (self.subjects[at].observable(), Shape { times, in_order: true, ..Shape::default() })
+                (self.subjects[at].observable(), Shape { most: times.clone(), times, in_order: true, ..Shape::default() })
             }
             Source::Pipe(at) => (self.pipes[at].clone(), self.shapes[at].clone()),
         }
@@ -437,6 +447,9 @@ impl Builder<'_> {
                 }
                 it if UNTIL_AN_END.contains(&it) => {
                     shape.until.extend(shape.times.keys());
+                    if matches!(it, "or_else" | "concat_with") {
+                        shape.follows(&others)
+                    }
                     if shape.ends {
                         shape.loosen(true)
                     }
