@@ -166,6 +166,34 @@ fn a_panic_in_a_function_that_makes_a_source_goes_on_though_the_drop_of_its_reso
 }
 
 #[test]
+fn a_panic_as_a_source_is_connected_leaves_nothing_open() {
+    let scope = Scope::new().unwrap();
+    let published = Observable::<i32>::using(|| (), |_| panic_any("a source")).publish();
+    assert_eq!((panics(|| drop(published.connect_in(&scope))).as_str(), scope.totals().nodes), ("a source", 0));
+}
+
+#[test]
+fn a_panic_of_one_subscriber_of_a_share_keeps_nothing_that_an_inner_observable_tells_at_once_from_the_other() {
+    let ways: [fn(&Observable<'static, i32>) -> Observable<'static, i32>; 5] = [
+        |it| it.share().flat_map(|it| Observable::of([it])),
+        |it| it.flat_map(|it| Observable::of([it])),
+        |it| it.switch_map(|it| Observable::of([it])),
+        |it| it.concat_map(|it| Observable::of([it])),
+        |it| it.flat_map_at_most(2, |it| Observable::of([it])),
+    ];
+    for way in ways {
+        let (subject, heard) = (Subject::<i32>::new(), Rc::new(RefCell::new(vec![])));
+        let (shared, notes) = (way(&subject.observable()).share(), heard.clone());
+        let bad = shared.each(|it| if it == 2 { panic_any("broken") });
+        let _good = shared.each(move |it| notes.borrow_mut().push(it));
+        subject.next(1);
+        assert_eq!(panics(|| subject.next(2)), "broken");
+        subject.next(3);
+        assert_eq!((bad.is_closed(), heard.borrow().as_slice()), (true, [1, 2, 3].as_slice()));
+    }
+}
+
+#[test]
 fn a_panic_of_one_subscriber_of_a_share_keeps_nothing_from_the_other() {
     let (dropped, heard) = (Rc::new(Cell::new(0)), Rc::new(RefCell::new(vec![])));
     let (subject, notes) = (Subject::<i32>::new(), heard.clone());

@@ -53,7 +53,7 @@ impl<'a, T: Moves + 'a, U: 'a, E: Moves + 'a, F: Fn(T) -> Result<Observable<'a, 
             Ok(inner) => {
                 let mut at = above.inner();
                 at.spot.closes = Some(Ref::new(Turn(self.clone())));
-                unless_gone(inner.open(at))
+                unless_gone(above.way.root().engine.opening(|| inner.open(at)))
             }
             Err(error) => above.fail(error),
         }

@@ -118,10 +118,11 @@ impl<'a, T, E> Emitter<'a, T, E> {
     /// Tells an item. What is due is told before it returns, but for what stands behind an observer that is being told.
     ///
     /// # Panics
-    /// If a function panics that this calls; if the engine has no memory ([`try_next`](Self::try_next) answers then).
+    /// If a function panics that this calls; but where an operator opens this source in its turn, whoever emitted that has the panic,
+    /// behind all that is due. If the engine has no memory ([`try_next`](Self::try_next) answers then).
     #[inline]
     pub fn next(&self, item: T) {
-        or_panic(self.try_next(item))
+        or_panic(self.leaf.way.root().engine.tell_from_source(|| self.try_next(item)))
     }
 
     /// Tells an item; refused if the engine has no memory, and then nobody was told.

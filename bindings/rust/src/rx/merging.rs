@@ -90,7 +90,7 @@ impl<'a, T, U, E, F: Fn(T) -> Result<Observable<'a, U, E>, E>> Merging<'a, T, U,
             return Ok(());
         }
         match (self.f)(item) {
-            Ok(inner) => unless_gone(self.begin(above.inner(), inner)),
+            Ok(inner) => unless_gone(above.way.root().engine.opening(|| self.begin(above.inner(), inner))),
             Err(error) => above.fail(error),
         }
     }

@@ -157,12 +157,14 @@ pub(crate) struct Engine<'a> {
     state: Lock<State<'a>>,
     behind: Lock<Vec<Behind<'a>>>,
     tickets: AtomicU64,
+    openers: Lock<Vec<u64>>, // who opens a source as a thing is being told
 }
 
 impl<'a> Engine<'a> {
     fn new(max_events: u32) -> Result<Ref<Self>, Refusal> {
         let state = State { crossing: Crossing::new(max_events)?, answer: Answer::default(), words: Words::new(), tags: Slab::new(), item: ITEMS };
-        Ok(Ref::new(Engine { state: Lock::new(state), behind: Lock::new(Vec::new()), tickets: AtomicU64::new(0) }))
+        let (behind, openers) = (Lock::new(Vec::new()), Lock::new(Vec::new()));
+        Ok(Ref::new(Engine { state: Lock::new(state), behind, tickets: AtomicU64::new(0), openers }))
     }
 
     /// A command on a node that carries nothing.
@@ -233,13 +235,30 @@ impl<'a> Engine<'a> {
     /// For a thing that is being told, which tells others in its turn: a panic of theirs has closed what it had to, and goes on once all
     /// is served that is due by now, not through the thing.
     pub fn pass_on<R>(&self, work: impl FnOnce() -> R) -> Option<R> {
-        match catch_unwind(AssertUnwindSafe(work)) {
-            Ok(done) => Some(done),
-            Err(why) => {
-                self.tell_behind(Ref::new(Passed(Lock::new(Some(why)))));
-                None
-            }
-        }
+        catch_unwind(AssertUnwindSafe(work)).map_err(|why| self.go_on_behind(why)).ok()
+    }
+
+    /// For a thing that is being told, and opens a source, which may tell at once.
+    pub fn opening<R>(&self, work: impl FnOnce() -> R) -> R {
+        let me = by();
+        self.openers.with(|it| it.push(me));
+        let done = catch_unwind(AssertUnwindSafe(work));
+        self.openers.with(|all| all.iter().rposition(|it| *it == me).map(|at| all.swap_remove(at)));
+        done.unwrap_or_else(|why| resume_unwind(why))
+    }
+
+    /// What a source tells: as it is opened by a thing that is being told, a panic of others does not go through either.
+    #[inline]
+    pub fn tell_from_source(&self, work: impl FnOnce() -> Result<(), Refusal>) -> Result<(), Refusal> {
+        catch_unwind(AssertUnwindSafe(work)).unwrap_or_else(|why| match self.openers.with(|it| it.contains(&by())) {
+            true => Ok(self.go_on_behind(why)),
+            false => resume_unwind(why),
+        })
+    }
+
+    #[cold]
+    fn go_on_behind(&self, why: Box<dyn Any + Send>) {
+        self.tell_behind(Ref::new(Passed(Lock::new(Some(why)))))
     }
 
     fn put_behind(&self, by: u64, due: Option<Due<'a>>, thing: Option<Ref<AThing<'a>>>) {

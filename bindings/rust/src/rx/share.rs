@@ -12,9 +12,10 @@ use super::words::Word;
 use super::way::{End, Tip, Way};
 use super::{Fits, Moves, Observable};
 use crate::engine::{effect, flag, kind, place, what, Command, Key, NOTHING, UNKNOWN_HUB};
-use crate::rx::slab::Slab;
+use crate::rx::{panics::discard, slab::Slab};
 use crate::Refusal;
 use crate::rx::atomic::AtomicU64;
+use std::panic::{catch_unwind, resume_unwind, AssertUnwindSafe};
 use std::sync::atomic::Ordering::Relaxed;
 use std::sync::OnceLock;
 
@@ -130,6 +131,15 @@ struct Subscriber<'a, T, E> {
 }
 
 impl<'a, T: Moves + 'a, E: Moves + 'a> Subscriber<'a, T, E> {
+    /// Who panics behind a leaf is another, and has closed what it had to.
+    fn next(&self, item: T) -> Result<(), Refusal> {
+        let (way, tip) = self.to.way();
+        match (&self.to, self.share.engine.get()) {
+            (To::Leaf(_), Some(engine)) => engine.pass_on(|| way.next(tip, item)).unwrap_or(Ok(())),
+            _ => way.next(tip, item),
+        }
+    }
+
     /// Of a leaf the end comes behind all that the share's own end releases: what is subscribed to next finds that released.
     fn end(&self, error: Option<E>) -> Result<(), Refusal> {
         match (&self.to, error) {
@@ -149,7 +159,7 @@ impl<'a, T: Clone + Moves + 'a, E: Clone + Moves + 'a> Thing for Subscriber<'a, 
     fn tell(&self, kind: u32, value: u64) {
         or_panic(match kind {
             effect::NEXT => match copy(&self.share.items, value) {
-                Some(item) if !self.to.is_closed() => self.to.way().0.next(self.to.way().1, item),
+                Some(item) if !self.to.is_closed() => self.next(item),
                 _ => Ok(()),
             },
             effect::FAILED => copy(&self.share.errors, value).map_or(Ok(()), |error| self.end(Some(error))),
@@ -276,8 +286,17 @@ impl<'a, T: Clone + Moves + Fits + 'a, E: Clone + Moves + Fits + 'a> Connectable
             Ok(made) => {
                 self.share.hub.store(made.hub, Relaxed);
                 let connection = Connection { share: self.share.clone(), number: made.other.number };
-                self.share.begin(engine, made.other)?;
-                Ok(connection)
+                match catch_unwind(AssertUnwindSafe(|| self.share.begin(engine, made.other))) {
+                    Ok(Ok(())) => Ok(connection),
+                    Ok(Err(why)) => {
+                        connection.disconnect();
+                        Err(why)
+                    }
+                    Err(why) => {
+                        catch_unwind(AssertUnwindSafe(|| connection.disconnect())).unwrap_or_else(discard);
+                        resume_unwind(why)
+                    }
+                }
             }
             Err(Refusal::Connected) => Ok(Connection { share: self.share.clone(), number: self.share.connection.load(Relaxed) }),
             Err(why) => Err(why),
