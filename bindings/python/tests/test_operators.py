@@ -241,6 +241,16 @@ class Operators(unittest.TestCase):
             self.assertEqual(told, [ERROR, ERROR, "disposed"])
         self.each(test)
 
+    def test_defer_whose_factory_raises_tells_at_once_whatever_the_scheduler(self):
+        def test(k):
+            def fail(*_):
+                raise ERROR
+            told = []
+            for source in k.rx.defer(fail), k.rx.if_then(fail, k.rx.never()), k.rx.using(lambda: None, fail):
+                source.subscribe(told.append, told.append, scheduler=k.TestScheduler())
+            self.assertEqual(told, [ERROR, ERROR])
+        self.each(test)
+
     def test_using_that_is_disposed_of(self):
         def test(k):
             scheduler, told = k.TestScheduler(), []

@@ -8,6 +8,7 @@ from .._cellar import FLAT, INNER, PASS, SOURCE, SWITCH
 from .._engine import At, C, Leaf
 from .._functions import Around
 from .._observable import Observable, open_below, to_observable
+from ..scheduler import ImmediateScheduler
 from ..sources import Throw
 
 
@@ -55,12 +56,12 @@ class Merging(Observable[Any]):
         open_below(self._source, at.below(SOURCE, node))
 
 
-def made(make: Callable[[Any], Any], given: Any) -> Observable[Any]:
-    """The observable that a function answers; where it raises one that fails with that."""
+def made(make: Callable[[Any], Any], given: Any, scheduler: Any = None) -> Observable[Any]:
+    """The observable that a function answers; where it raises one that fails with that, by this scheduler if there is one."""
     try:
         return to_observable(make(given))
     except Exception as error:
-        return Throw(error, None)
+        return Throw(error, scheduler)
 
 
 class Defer(Around):
@@ -79,4 +80,4 @@ class Defer(Around):
 
     def _open(self, at: At) -> None:
         node = at.engine.open(at, PASS)
-        open_below(self._wrap(made(self._factory, at.scheduler)), at.inside(node))
+        open_below(self._wrap(made(self._factory, at.scheduler, ImmediateScheduler.singleton())), at.inside(node))
