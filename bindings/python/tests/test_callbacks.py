@@ -204,6 +204,13 @@ class Releases(Case):
         made.subscribe(log.append)
         self.assertEqual(log, ["mapped", True, "released"])
 
+    def test_a_source_of_one_item_calls_no_function_behind_the_release(self):
+        log = []
+        for source in rx.just(1), rx.from_callable(lambda: 1):
+            rx.using(lambda: Disposable(lambda: log.append("released")), lambda _: source.pipe(
+                ops.materialize(), ops.map(lambda it: log.append(it.kind)))).pipe(ops.take(1)).subscribe()
+        self.assertEqual(log, ["N", "released"] * 2)
+
     def test_a_factory_that_fails_is_heard_by_functions_behind_it(self):
         def fails():
             raise KeyError("no resource")

@@ -106,7 +106,8 @@ class Called(Scheduled):
             up.on_error(error)
         else:
             up.on_next(value)
-            up.on_completed()
+            if not leaf.is_stopped:
+                up.on_completed()
 
 
 class Just(Scheduled):
@@ -117,4 +118,5 @@ class Just(Scheduled):
 
     def _emit(self, up: Any, leaf: Any) -> None:
         up.on_next(self._value)
-        up.on_completed()
+        if not leaf.is_stopped:
+            up.on_completed()
