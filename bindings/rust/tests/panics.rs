@@ -1,5 +1,5 @@
 //! A panic in an observer, in a function on items, in a `drop`: nothing leaks, nothing is released twice, and the panic goes on.
-use cellarcliff::local::{Observable, Scope, Subject};
+use cellarcliff::local::{Observable, Scope, Subject, Subscription};
 use cellarcliff::Note;
 use std::cell::{Cell, RefCell};
 use std::panic::{catch_unwind, panic_any, AssertUnwindSafe};
@@ -126,19 +126,27 @@ fn what_is_disposed_of_as_a_panic_unwinds_is_released_and_that_panic_goes_on() {
     assert_eq!((why.as_str(), dropped.get(), broke.get(), subject.observers()), ("the program", 2, 2, 0));
 }
 
+/// Of two subscribers of a share over this way the one that is given panics at 2, and closes; the other hears each item.
+fn keeps_nothing_from_the_other(
+    way: fn(&Observable<'static, i32>) -> Observable<'static, i32>,
+    breaking: impl Fn(&Observable<'static, i32>) -> Subscription<'static>,
+) {
+    let (subject, heard) = (Subject::<i32>::new(), Rc::new(RefCell::new(vec![])));
+    let (shared, notes) = (way(&subject.observable()).share(), heard.clone());
+    let bad = breaking(&shared);
+    let _good = shared.each(move |it| notes.borrow_mut().push(it));
+    subject.next(1);
+    assert_eq!(panics(|| subject.next(2)), "broken");
+    subject.next(3);
+    assert_eq!((bad.is_closed(), heard.borrow().as_slice()), (true, [1, 2, 3].as_slice()));
+}
+
 #[test]
 fn a_panic_of_one_subscriber_of_a_share_keeps_nothing_from_a_root_of_an_operators_own() {
     let ways: [fn(&Observable<'static, i32>) -> Observable<'static, i32>; 3] =
         [|it| it.tap(|_| ()), |it| it.retry(3), |it| it.materialize().dematerialize()];
     for way in ways {
-        let (subject, heard) = (Subject::<i32>::new(), Rc::new(RefCell::new(vec![])));
-        let (shared, notes) = (way(&subject.observable()).share(), heard.clone());
-        let bad = shared.map(|it| if it == 2 { panic_any("broken") }).each(drop);
-        let _good = shared.each(move |it| notes.borrow_mut().push(it));
-        subject.next(1);
-        assert_eq!(panics(|| subject.next(2)), "broken");
-        subject.next(3);
-        assert_eq!((bad.is_closed(), heard.borrow().as_slice()), (true, [1, 2, 3].as_slice()));
+        keeps_nothing_from_the_other(way, |shared| shared.map(|it| if it == 2 { panic_any("broken") }).each(drop));
     }
 }
 
@@ -182,14 +190,7 @@ fn a_panic_of_one_subscriber_of_a_share_keeps_nothing_that_an_inner_observable_t
         |it| it.flat_map_at_most(2, |it| Observable::of([it])),
     ];
     for way in ways {
-        let (subject, heard) = (Subject::<i32>::new(), Rc::new(RefCell::new(vec![])));
-        let (shared, notes) = (way(&subject.observable()).share(), heard.clone());
-        let bad = shared.each(|it| if it == 2 { panic_any("broken") });
-        let _good = shared.each(move |it| notes.borrow_mut().push(it));
-        subject.next(1);
-        assert_eq!(panics(|| subject.next(2)), "broken");
-        subject.next(3);
-        assert_eq!((bad.is_closed(), heard.borrow().as_slice()), (true, [1, 2, 3].as_slice()));
+        keeps_nothing_from_the_other(way, |shared| shared.each(|it| if it == 2 { panic_any("broken") }));
     }
 }
 
