@@ -124,7 +124,7 @@ deeper_served g turn b _ _ (deeper_has_none a c u answer deep serves rest) =
 picked_up : (g : Ghosts Token) (turn : Turn) (b a : TurnState) (answer : Option Task) → PicksUp turn b a answer → IsStepCourse g a b answer
 picked_up g turn b _ _ (none_astray none) = new_step g b b None (stays g b b refl)
 picked_up g turn b _ _ (ends_walk a from next astray none same) = new_step g a b None (stays g a b (ap (λ (x : TurnState). x.cellar) same))
-picked_up g turn b _ _ (finds_no_room a from word next astray found full loses same) = new_step g a b None (stays g a b (ap (λ (x : TurnState). x.cellar) same))
+picked_up g turn b _ _ (finds_no_room a from word next astray found some full loses same) = new_step g a b None (stays g a b (ap (λ (x : TurnState). x.cellar) same))
 picked_up g turn b _ _ (finds_one a u from word next answer astray found some claims only rest) =
     behind g a u b answer (stays g a u (ap (λ (x : TurnState). x.cellar) only)) (new_step g u b answer (due_taken g turn b u answer rest))
 

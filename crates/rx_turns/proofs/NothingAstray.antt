@@ -100,8 +100,18 @@ picked : WordsFindTheirLanes Sent → (turn : Turn) (b a : TurnState) (answer : 
     (b.astray ≡ None) ⊎ LackedRoom turn b
 picked find turn b _ _ is none (none_astray ended) = inl ended
 picked find turn b _ _ is none (ends_walk a from next astray found same) = inl (ap (λ (x : TurnState). x.astray) same)
-picked find turn b _ _ is none (finds_no_room a from word next astray found full loses same) =
-    inr (record { before = a.agenda; place = place_in word; full = full; loses = loses })
+picked find turn b _ _ is none (finds_no_room a from word next astray found some full loses same) =
+    inr (record {
+      from = from;
+      word = word;
+      next = next;
+      before = a.agenda;
+      stays = ap (λ (x : TurnState). x.astray) same ∙ astray;
+      left = subst (λ (x : Cellar). IsLeftTold from x word next) (sym (ap (λ (x : TurnState). x.cellar) same)) found;
+      some = some;
+      full = full;
+      loses = loses;
+    })
 picked find turn b _ _ is none (finds_one a c from word next answer astray found some claims only rest) =
     let due : due_to c.agenda turn ≡ place_in word ∷ [] =
     claims.due turn

@@ -82,7 +82,7 @@ picked_nothing turn b _ _ is all (ends_walk a from next astray none same) = reco
       let before = all.deeper u deep in
       (ap (λ (x : TurnState). due_to x.agenda u) same ∙ before.0, ap (λ (x : TurnState). in_hand x.agenda u) same ∙ before.1);
 }
-picked_nothing turn b _ _ is all (finds_no_room a from word next astray found full loses same) = record {
+picked_nothing turn b _ _ is all (finds_no_room a from word next astray found some full loses same) = record {
   own = (loses.due turn ∙ all.own.0, loses.hands turn ∙ all.own.1);
   deeper = λ u deep. let before = all.deeper u deep in (loses.due u ∙ before.0, loses.hands u ∙ before.1);
 }
@@ -133,7 +133,7 @@ deeper_held turn b _ _ (deeper_has_none a c u answer deep serves rest) = deeper_
 picked_held : (turn : Turn) (b a : TurnState) (answer : Option Task) → PicksUp turn b a answer → IfSome answer (IsHeldWithin turn b)
 picked_held turn b _ _ (none_astray none) = tt
 picked_held turn b _ _ (ends_walk a from next astray none same) = tt
-picked_held turn b _ _ (finds_no_room a from word next astray found full loses same) = tt
+picked_held turn b _ _ (finds_no_room a from word next astray found some full loses same) = tt
 picked_held turn b _ _ (finds_one a c from word next answer astray found some claims only rest) = own_held turn b answer (due_held turn b c answer rest)
 
 gone_deeper_held : (turn : Turn) (b a : TurnState) (answer : Option Task) → GoesDeeper turn b a answer → IfSome answer (IsHeldWithin turn b)

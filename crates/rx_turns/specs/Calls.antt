@@ -27,7 +27,7 @@ pub data PicksUp (turn : Turn) (t : TurnState) : TurnState → Option Task → T
   none_astray : t.astray ≡ None → PicksUp turn t t None
   ends_walk : (s : TurnState) (from next : ℕ) → s.astray ≡ Some from → IsLeftTold from s.cellar (2 ^ 64 - 1) next → t ≡ record s { astray = None } →
       PicksUp turn t s None
-  finds_no_room : (s : TurnState) (from word next : ℕ) → s.astray ≡ Some from → IsLeftTold from s.cellar word next →
+  finds_no_room : (s : TurnState) (from word next : ℕ) → s.astray ≡ Some from → IsLeftTold from s.cellar word next → word ≢ 2 ^ 64 - 1 →
       (LaneHasRoom s.agenda turn (place_in word) → ⊥) →
       LosesNothing s.agenda t.agenda → t ≡ record s { agenda = t.agenda } → PicksUp turn t s None
   finds_one : (s u : TurnState) (from word next : ℕ) (answer : Option Task) → s.astray ≡ Some from → IsLeftTold from s.cellar word next → word ≢ 2 ^ 64 - 1 →

@@ -1,5 +1,7 @@
 -- What holds of every step, and of every serving.
-use Rattle.std.specs.Prelude.{◌≡◌, ℕ, ◌⊎◌, true, false, Option, Some, None}
+use Rattle.std.specs.Prelude.{◌≡◌, ◌≢◌, ℕ, ◌-◌, ◌^◌, ◌⊎◌, true, false, Option, Some, None}
+use Rattle.rx_cellar.specs.Serving.{IsLeftTold}
+use Rattle.rx_cellar.specs.Words.{place_in}
 use Rattle.rx_turns.specs.declared.agenda.Turn.{Turn}
 use Rattle.rx_turns.specs.declared.agenda.Task.{Task}
 use Rattle.rx_turns.specs.Rows.{is_same, is_deeper}
@@ -13,11 +15,16 @@ abbrev pub NothingIsLeft : Type 0
 NothingIsLeft = (turn : Turn) (s t : TurnState) → TurnGoesOn turn t s None → HasNothing t.agenda turn × ((u : Turn) → is_deeper turn u ≡ true →
     HasNothing t.agenda u)
 
--- there was no room for a lane
+-- a lane is left from the place kept on, for which there was no room
 pub record LackedRoom (turn : Turn) (t : TurnState) : Type 0 where
+  pub from : ℕ
+  pub word : ℕ
+  pub next : ℕ
   pub before : DueLists
-  pub place : ℕ
-  pub full : LaneHasRoom before turn place → ⊥
+  pub stays : t.astray ≡ Some from
+  pub left : IsLeftTold from t.cellar word next
+  pub some : word ≢ 2 ^ 64 - 1
+  pub full : LaneHasRoom before turn (place_in word) → ⊥
   pub loses : LosesNothing before t.agenda
 
 -- And at depth 1 nothing is astray any more, but for want of room

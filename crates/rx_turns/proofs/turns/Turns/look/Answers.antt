@@ -14,7 +14,7 @@ returns-then-word c =
 
 pub returns-then-not-claim : goal.returns-then-not-claim
 returns-then-not-claim c =
-    finds_no_room (turn_state c.args.self.now) c.args.from c.left.new.lane c.left.new.next c.requires c.left.ensures.told
+    finds_no_room (turn_state c.args.self.now) c.args.from c.left.new.lane c.left.new.next c.requires c.left.ensures.told c.if-word.false
     (λ room. false≢true (sym c.if-not-claim.true
     ∙ c.claim.ensures.room (subst (λ (p : ℕ). LaneHasRoom (seen c.args.self.now.agenda) c.args.turn p) (sym c.place_of.ensures.place) room)))
     (c.claim.ensures.kept c.if-not-claim.true) refl
