@@ -93,14 +93,14 @@ extern "C" {
  *   - what does not fit becomes a call of another name, beside the old one.
  *   cellar_abi answers the number of the header that the library was built for. A face asks once, by CELLAR_FITS, and refuses to run
  *   where the upper half differs from CELLAR_ABI's, or the lower half is less; CELLAR_ANOTHER says so. */
-#define CELLAR_ABI UINT32_C(0x00020000) /* upper half: counts changes that break; lower half: what was added since */
+#define CELLAR_ABI UINT32_C(0x00020001) /* upper half: counts changes that break; lower half: what was added since */
 
 uint32_t cellar_abi(void);
 #define CELLAR_FITS() (cellar_abi() >> 16 == CELLAR_ABI >> 16 && (cellar_abi() & 0xFFFF) + 1 > (CELLAR_ABI & 0xFFFF))
 #define CELLAR_ANOTHER "the library cellarcliff is of another version than this program was built for"
 
 /* The size in bytes of a struct of this header as the library has it, 0 for a number that is none: 0 cellar, 1 cellar_command,
- * 2 cellar_answer, 3 cellar_effect, 4 cellar_totals, 5 cellar_event. For bindings that have no C compiler. */
+ * 2 cellar_answer, 3 cellar_effect, 4 cellar_totals, 5 cellar_event, 6 cellar_stack, 7 cellar_stepped. For bindings that have no C compiler. */
 uint32_t cellar_size(uint32_t which);
 
 /* What crosses ---------------------------------------------------------------------------------------------------------------*/
@@ -304,6 +304,57 @@ uint8_t cellar_left(struct cellar *engine, uint64_t from, uint64_t *lane, uint64
  * how many there are from that place on; so many are written. */
 uint8_t cellar_rest(struct cellar *engine, uint8_t which, uint64_t from, uint64_t *words, size_t room, uint64_t *count);
 
+/* The calls of a face --------------------------------------------------------------------------------------------------------*/
+
+/* A face gives a command, does what is handed out, and asks again until nothing is. It names no lane. A call from within `tell` is one
+ * like any other, one deeper.
+ *
+ *   stack.depth++;
+ *   status = cellar_step(&engine, &stack, &command, &step);
+ *   for (; step.handed; cellar_next(&engine, &stack, &step)) { stack.begun = step.ticket; tell(&step.effect); }
+ *   stack.depth--;
+ */
+struct cellar_stack { /* one for each stack of calls, as a thread or a fiber has; zeros and `by` at first */
+  uint64_t by;        /* its word, which no other stack has */
+  uint64_t depth;     /* how many of the face's calls are under way on it, this one included: 1 for the outermost */
+  uint64_t begun;     /* the ticket of what it began last */
+};
+
+/* What a step answers: 192 bytes. Of the command as struct cellar_answer; all counts are 0 where none was done. */
+struct cellar_stepped {
+  struct cellar_node node, other;
+  uint64_t is_connected, hub, copies, closed;
+  uint64_t closings[CELLAR_ROOM]; /* words of nodes; the rest by cellar_closings. Read them all before the first is acted on */
+  uint64_t handed; /* 1: do `effect`, then ask again at this depth. 0: this turn has nothing more */
+  uint64_t own;    /* 1: `effect` is the item of this very command, alone: who begins it at once keeps no copy of the value for it */
+  uint64_t ticket; /* of `effect`: 1 or more, and no other effect has it */
+  uint64_t spare;
+  struct cellar_effect effect;
+};
+
+/* Notes what was begun; makes the command, by the stack's word (the command's `by` is not looked at): its status; and, whatever the
+ * status, hands out the next thing of this turn: first what was handed out at this depth and not begun, once more; then the rest of the lane
+ * that it serves; then what each lane has that is due to it, in the order in which the lanes became due; then what calls deeper on this
+ * stack did not come to; at depth 1 then what stopped calls left. An item is handed out at once where the turn has nothing else and the item
+ * is first in its lane, which nobody serves. */
+uint8_t cellar_step(struct cellar *engine, const struct cellar_stack *stack, const struct cellar_command *command,
+                    struct cellar_stepped *step);
+
+/* The same without a command: 0 or 1. */
+uint8_t cellar_next(struct cellar *engine, const struct cellar_stack *stack, struct cellar_stepped *step);
+
+/* From within an effect: what the call further out is doing counts as told, and its lane is free. With `now` 1 what stands there is this
+ * turn's, and the next step hands it out; with 0 it is the call's further out, or his who puts something there sooner. 0 or 1. */
+uint8_t cellar_pass(struct cellar *engine, const struct cellar_stack *stack, uint8_t now);
+
+/* A call that ends in the midst: what it was handed and began is told, what it did not begin stands first in its lane again. All that is
+ * due at this depth or deeper is left to the next step of depth 1 on any stack. Asks for no memory: 0 or 1. */
+uint8_t cellar_stop(struct cellar *engine, const struct cellar_stack *stack);
+
+/* The closings of the last command on this handle whose status was 0, from this place on. Before any other command, so under the lock
+ * under which the command was made: 0 or 1. *count is the lesser of `room` and of how many there are from that place on. */
+uint8_t cellar_closings(struct cellar *engine, uint64_t from, uint64_t *words, size_t room, uint64_t *count);
+
 uint8_t cellar_totals(struct cellar *engine, struct cellar_totals *totals);
 
 /* What an event says happened. Beside each, `of`, and the fields that it tells; all others are 0. */
@@ -426,6 +477,22 @@ static inline uint8_t cellar_new_armored(struct cellar *engine, uint32_t max_eve
 static inline uint8_t cellar_left_armored(struct cellar *engine, uint64_t from, uint64_t *lane, uint64_t *next) {
   return CELLAR_FIT(engine) && CELLAR_FIT(lane) && CELLAR_FIT(next) ? cellar_left(engine, from, lane, next) : (uint8_t)CELLAR_MISUSE;
 }
+static inline uint8_t cellar_step_armored(struct cellar *engine, const struct cellar_stack *stack, const struct cellar_command *command,
+                                          struct cellar_stepped *step) {
+  return CELLAR_FIT(engine) && CELLAR_FIT(stack) && CELLAR_FIT(command) && CELLAR_FIT(step) ? cellar_step(engine, stack, command, step) : (uint8_t)CELLAR_MISUSE;
+}
+static inline uint8_t cellar_next_armored(struct cellar *engine, const struct cellar_stack *stack, struct cellar_stepped *step) {
+  return CELLAR_FIT(engine) && CELLAR_FIT(stack) && CELLAR_FIT(step) ? cellar_next(engine, stack, step) : (uint8_t)CELLAR_MISUSE;
+}
+static inline uint8_t cellar_pass_armored(struct cellar *engine, const struct cellar_stack *stack, uint8_t now) {
+  return CELLAR_FIT(engine) && CELLAR_FIT(stack) ? cellar_pass(engine, stack, now) : (uint8_t)CELLAR_MISUSE;
+}
+static inline uint8_t cellar_stop_armored(struct cellar *engine, const struct cellar_stack *stack) {
+  return CELLAR_FIT(engine) && CELLAR_FIT(stack) ? cellar_stop(engine, stack) : (uint8_t)CELLAR_MISUSE;
+}
+static inline uint8_t cellar_closings_armored(struct cellar *engine, uint64_t from, uint64_t *words, size_t room, uint64_t *count) {
+  return CELLAR_FIT(engine) && CELLAR_FIT(words) && CELLAR_FIT(count) ? cellar_closings(engine, from, words, room, count) : (uint8_t)CELLAR_MISUSE;
+}
 static inline uint8_t cellar_totals_armored(struct cellar *engine, struct cellar_totals *totals) {
   return CELLAR_FIT(engine) && CELLAR_FIT(totals) ? cellar_totals(engine, totals) : (uint8_t)CELLAR_MISUSE;
 }
@@ -443,6 +510,11 @@ static inline void cellar_drop_armored(struct cellar *engine) {
 }
 #define cellar_new(e, m) cellar_new_armored(e, m)
 #define cellar_left(e, f, l, n) cellar_left_armored(e, f, l, n)
+#define cellar_step(e, k, c, s) cellar_step_armored(e, k, c, s)
+#define cellar_next(e, k, s) cellar_next_armored(e, k, s)
+#define cellar_pass(e, k, n) cellar_pass_armored(e, k, n)
+#define cellar_stop(e, k) cellar_stop_armored(e, k)
+#define cellar_closings(e, f, w, r, n) cellar_closings_armored(e, f, w, r, n)
 #define cellar_totals(e, t) cellar_totals_armored(e, t)
 #define cellar_event(e, p, v) cellar_event_armored(e, p, v)
 #define cellar_dump(e, b, s, t) cellar_dump_armored(e, b, s, t)
@@ -471,6 +543,9 @@ CELLAR_IS(sizeof(struct cellar_effect) == 32 && offsetof(struct cellar_effect, k
 CELLAR_IS(sizeof(struct cellar_answer) == 256, "cellar_answer");
 CELLAR_IS(offsetof(struct cellar_answer, is_connected) == 32 && offsetof(struct cellar_answer, closings) == 80, "cellar_answer");
 CELLAR_IS(offsetof(struct cellar_answer, lanes) == 144 && offsetof(struct cellar_answer, effect) == 208, "cellar_answer");
+CELLAR_IS(sizeof(struct cellar_stack) == 24, "cellar_stack");
+CELLAR_IS(sizeof(struct cellar_stepped) == 192 && offsetof(struct cellar_stepped, closings) == 64, "cellar_stepped");
+CELLAR_IS(offsetof(struct cellar_stepped, handed) == 128 && offsetof(struct cellar_stepped, effect) == 160, "cellar_stepped");
 CELLAR_IS(sizeof(struct cellar_totals) == 64, "cellar_totals");
 CELLAR_IS(sizeof(struct cellar_event) == 32, "cellar_event");
 

@@ -3,6 +3,7 @@ use Rattle.std.specs.Prelude.{◌≡◌, ℕ, ◌^◌, ◌-◌, ◌==◌, List, 
 use Rattle.rx_engine.specs.States.{IsPromised}
 use Rattle.rx_engine.specs.LettingGo.{is_over}
 use Rattle.rx_cellar.specs.declared.cellar.Cellar.{Cellar}
+use Rattle.rx_turns.specs.declared.turns.Turns.{Turns}
 use Rattle.rx_cellar.specs.declared.shapes.Effect.{Effect}
 use Rattle.rx_cellar.specs.declared.reading.Totals.{Totals}
 use Rattle.rx_cellar.specs.declared.reading.Event.{Event}
@@ -22,10 +23,15 @@ pub data IsLooked (Says : Cellar → ℕ → Type 0) (IsBlank : Type 0) (old new
   looks : {s : Cellar} → old ≡ Some s → new ≡ Some s → Says s status → IsLooked Says IsBlank old new status
   looks_at_none : old ≡ None → new ≡ None → IsBlank → status ≡ 1 → IsLooked Says IsBlank old new status
 
+-- the engine of what a handle keeps
+abbrev pub cellar_in : Option Turns → Option Cellar
+cellar_in None = None
+cellar_in (Some t) = Some t.cellar
+
 -- the size of a struct of the header
 abbrev pub size_of : ℕ → ℕ
 size_of which = if which == 0 then 8 else if which == 1 then 64 else if which == 2 then 256 else if which == 3 then 32 else if which == 4 then 64
-    else if which == 5 then 32 else 0
+    else if which == 5 then 32 else if which == 6 then 24 else if which == 7 then 192 else 0
 
 -- a new engine, in which nothing is
 pub record IsNew (max_events : ℕ) (s : Cellar) : Type 0 where

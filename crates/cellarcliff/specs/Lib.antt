@@ -12,3 +12,4 @@ pub mod Ran
 pub mod Refusals
 pub mod Shown
 pub mod Stages
+pub mod Steps

@@ -4,11 +4,11 @@ ghost use Rattle.std.specs.Prelude.{◌≡◌, Option, None, Some, MatchOption};
 ghost use Rattle.std.specs.Coded.{coded_option};
 ghost use Rattle.rx_engine.specs.States.{IsPromised};
 ghost use Rattle.cellarcliff.specs.Ownership.{owns_unless_null};
-ghost use Rattle.rx_cellar.specs.declared.cellar.Cellar.{Cellar};
-ghost use Rattle.rx_cellar.specs.contracts.cellar.Cellar.{the_row};
+ghost use Rattle.rx_turns.specs.declared.turns.Turns.{Turns};
+ghost use Rattle.rx_turns.specs.contracts.turns.Turns.{the_row};
 
 use crate::loose::Loose;
-use rx_cellar::Cellar;
+use rx_turns::Turns;
 use std::alloc::Global;
 use std::marker::Model;
 use std::mem::{self, ManuallyDrop};
@@ -21,7 +21,7 @@ use std::ptr::null_mut;
 #[repr(C)]
 pub struct CellarHandle {
     at: *mut u8,
-    pub ghost kept: { Option Cellar } by { coded_option the_row.coded },
+    pub ghost kept: { Option Turns } by { coded_option the_row.coded },
 }
 
 impl Model for CellarHandle {
@@ -37,7 +37,7 @@ impl CellarHandle {
     }
 
     // Keeps what the box was of.
-    fn holding(loose: Loose<Cellar, Global>) -> CellarHandle
+    fn holding(loose: Loose<Turns, Global>) -> CellarHandle
         ensures { result.kept ≡ Some loose.value }
     {
         let Loose { at, alloc: _ } = loose;
@@ -45,7 +45,7 @@ impl CellarHandle {
     }
 
     /// What is kept, for whoever is done with the handle.
-    pub fn into_loose(self, alloc: Global) -> Option<Loose<Cellar, Global>>
+    pub fn into_loose(self, alloc: Global) -> Option<Loose<Turns, Global>>
         ensures { MatchOption result (self.kept ≡ None) (λ l. self.kept ≡ Some l.value) }
     {
         let CellarHandle { at } = self;
@@ -53,14 +53,14 @@ impl CellarHandle {
             None
         } else {
             Some(Loose {
-                at: at as *mut Cellar,
+                at: at as *mut Turns,
                 alloc,
             })
         }
     }
 
     /// Takes out what is kept, and keeps nothing.
-    pub fn take(&mut self, alloc: Global) -> Option<Box<Cellar>>
+    pub fn take(&mut self, alloc: Global) -> Option<Box<Turns>>
         ensures left { self.new.kept ≡ None }
         ensures taken { MatchOption result (self.old.kept ≡ None) (λ b. self.old.kept ≡ Some b.value) }
     {
@@ -78,12 +78,12 @@ impl CellarHandle {
     }
 
     /// Puts a box in where none is kept. The engine's promise is told with it.
-    pub(crate) fn put(&mut self, kept: Box<Cellar>)
+    pub(crate) fn put(&mut self, kept: Box<Turns>)
         requires empty { self.old.kept ≡ None }
         ensures kept { self.new.kept ≡ Some kept.value }
-        ensures promised { IsPromised kept.value.engine }
+        ensures promised { IsPromised kept.value.cellar.engine }
     {
-        kept.promise();
+        kept.cellar.promise();
         mem::replace(self, CellarHandle::holding(Loose::of(kept))).let_go();
     }
 }

@@ -79,6 +79,7 @@ mod reading;
 mod running;
 mod serving;
 mod showing;
+mod stepping;
 #[cfg(test)]
 mod tests;
 
@@ -101,3 +102,6 @@ pub use reading::{cellar_dump, cellar_event, cellar_totals};
 pub use running::{cellar_run, cellar_run_dump};
 pub use serving::{cellar_give_up, cellar_left, cellar_rest, cellar_take};
 pub use showing::{cellar_explain, cellar_picture, cellar_run_names};
+pub use stepping::{
+    Stack, Stepped, cellar_closings, cellar_next, cellar_pass, cellar_step, cellar_stop,
+};

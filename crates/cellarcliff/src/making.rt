@@ -5,19 +5,20 @@ ghost use Rattle.rx_resource.specs.contracts.token.TokenResource.TheImpl.{ghosts
 ghost use Rattle.rx_cellar.specs.Crossings.{no_answer};
 ghost use Rattle.rx_cellar.specs.Cellars.{IsCommandMade};
 ghost use Rattle.rx_cellar.specs.Behind.{IsMadeBehind};
-ghost use Rattle.cellarcliff.specs.Calls.{IsCalled, IsMade, IsFinished, size_of};
+ghost use Rattle.cellarcliff.specs.Calls.{cellar_in, IsCalled, IsMade, IsFinished, size_of};
 
 use crate::handle::CellarHandle;
-use rx_cellar::{Answer, Cellar, Command, DONE, HELD, NO_MEMORY, NOTHING_KEPT, UNTAKEN};
+use rx_cellar::{Answer, Command, DONE, HELD, NO_MEMORY, NOTHING_KEPT, UNTAKEN};
+use rx_turns::Turns;
 use std::alloc::Global;
 
 // The number of the header.
-const ABI: u32 = 131_072;
+const ABI: u32 = 131_073;
 
 /// The number of the header that the library was built for.
 #[unsafe(no_mangle)]
 pub extern "C" fn cellar_abi() -> u32
-    ensures { result ≡ 131072 }
+    ensures { result ≡ 131073 }
 {
     ABI
 }
@@ -34,6 +35,8 @@ pub extern "C" fn cellar_size(which: u32) -> u32
         3 => 32,
         4 => 64,
         5 => 32,
+        6 => 24,
+        7 => 192,
         _ => 0,
     }
 }
@@ -41,13 +44,13 @@ pub extern "C" fn cellar_size(which: u32) -> u32
 /// Makes an engine in a handle that keeps nothing.
 #[unsafe(no_mangle)]
 pub extern "C" fn cellar_new(alloc: Global, handle: &mut CellarHandle, max_events: u32) -> u8
-    ensures { IsMade max_events handle.old.kept handle.new.kept result }
+    ensures { IsMade max_events (cellar_in handle.old.kept) (cellar_in handle.new.kept) result }
 {
     if let Some(kept) = handle.take(alloc) {
         handle.put(kept);
         return HELD;
     }
-    match Box::new(alloc, Cellar::new(alloc, max_events)) {
+    match Box::new(alloc, Turns::new(alloc, max_events)) {
         Ok(kept) => {
             handle.put(kept);
             DONE
@@ -65,13 +68,13 @@ pub extern "C" fn cellar_make(
     answer: &mut Answer,
 ) -> u8
     ensures { IsCalled (λ s t n. IsCommandMade ghosts command.now s t answer.old answer.new n) (answer.new ≡ no_answer answer.old)
-        handle.old.kept handle.new.kept result }
+        (cellar_in handle.old.kept) (cellar_in handle.new.kept) result }
 {
     let Some(mut kept) = handle.take(alloc) else {
         answer.clear();
         return NOTHING_KEPT;
     };
-    let status = kept.make(command, answer);
+    let status = kept.cellar.make(command, answer);
     handle.put(kept);
     status
 }
@@ -87,13 +90,13 @@ pub extern "C" fn cellar_make_behind(
     answer: &mut Answer,
 ) -> u8
     ensures { IsCalled (λ s t n. IsMadeBehind ghosts lane command.now s t answer.old answer.new n) (answer.new ≡ no_answer answer.old)
-        handle.old.kept handle.new.kept result }
+        (cellar_in handle.old.kept) (cellar_in handle.new.kept) result }
 {
     let Some(mut kept) = handle.take(alloc) else {
         answer.clear();
         return NOTHING_KEPT;
     };
-    let status = kept.make_behind(lane, command, answer);
+    let status = kept.cellar.make_behind(lane, command, answer);
     handle.put(kept);
     status
 }
@@ -101,12 +104,12 @@ pub extern "C" fn cellar_make_behind(
 /// Frees the engine if nothing is open or held and no effect waits. Else nothing is done, and the status is 6.
 #[unsafe(no_mangle)]
 pub extern "C" fn cellar_finish(alloc: Global, handle: &mut CellarHandle) -> u8
-    ensures { IsFinished handle.old.kept handle.new.kept result }
+    ensures { IsFinished (cellar_in handle.old.kept) (cellar_in handle.new.kept) result }
 {
     let Some(kept) = handle.take(alloc) else {
         return NOTHING_KEPT;
     };
-    if !kept.is_done() {
+    if !kept.cellar.is_done() {
         handle.put(kept);
         return UNTAKEN;
     }

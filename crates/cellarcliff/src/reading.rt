@@ -3,7 +3,7 @@
 ghost use Rattle.std.specs.Prelude.{◌≡◌};
 ghost use Rattle.rx_cellar.specs.Readings.{no_totals};
 ghost use Rattle.rx_cellar.specs.EventsShown.{no_event};
-ghost use Rattle.cellarcliff.specs.Calls.{IsLooked, IsTotalled, IsEventAnswered};
+ghost use Rattle.cellarcliff.specs.Calls.{cellar_in, IsLooked, IsTotalled, IsEventAnswered};
 ghost use Rattle.cellarcliff.specs.Answers.{TellsNoText};
 ghost use Rattle.cellarcliff.specs.Dumps.{IsHandedOver};
 
@@ -15,13 +15,13 @@ use std::alloc::Global;
 /// What there is.
 #[unsafe(no_mangle)]
 pub extern "C" fn cellar_totals(alloc: Global, handle: &mut CellarHandle, totals: &mut Totals) -> u8
-    ensures { IsLooked (λ s n. IsTotalled s totals.new n) (totals.new ≡ no_totals) handle.old.kept handle.new.kept result }
+    ensures { IsLooked (λ s n. IsTotalled s totals.new n) (totals.new ≡ no_totals) (cellar_in handle.old.kept) (cellar_in handle.new.kept) result }
 {
     let Some(kept) = handle.take(alloc) else {
         *totals = no_totals();
         return NOTHING_KEPT;
     };
-    *totals = kept.totals();
+    *totals = kept.cellar.totals();
     handle.put(kept);
     DONE
 }
@@ -34,13 +34,13 @@ pub extern "C" fn cellar_event(
     place: u64,
     event: &mut Event,
 ) -> u8
-    ensures { IsLooked (λ s n. IsEventAnswered place s event.new n) (event.new ≡ no_event) handle.old.kept handle.new.kept result }
+    ensures { IsLooked (λ s n. IsEventAnswered place s event.new n) (event.new ≡ no_event) (cellar_in handle.old.kept) (cellar_in handle.new.kept) result }
 {
     let Some(kept) = handle.take(alloc) else {
         *event = no_event();
         return NOTHING_KEPT;
     };
-    let status = kept.event(place, event);
+    let status = kept.cellar.event(place, event);
     handle.put(kept);
     status
 }
@@ -55,13 +55,13 @@ pub extern "C" fn cellar_dump(
     told: &mut u64,
 ) -> u8
     ensures { IsLooked (λ s n. IsHandedOver s.engine.book buffer.old buffer.new told.new n) (TellsNoText buffer.old buffer.new told.new)
-        handle.old.kept handle.new.kept result }
+        (cellar_in handle.old.kept) (cellar_in handle.new.kept) result }
 {
     let Some(kept) = handle.take(alloc) else {
         *told = 0;
         return NOTHING_KEPT;
     };
-    let status = dump_to(&kept, alloc, buffer, told);
+    let status = dump_to(&kept.cellar, alloc, buffer, told);
     handle.put(kept);
     status
 }

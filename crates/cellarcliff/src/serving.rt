@@ -2,7 +2,7 @@
 
 ghost use Rattle.std.specs.Prelude.{◌≡◌};
 ghost use Rattle.rx_cellar.specs.Serving.{IsTakeTold, IsGivenUp};
-ghost use Rattle.cellarcliff.specs.Calls.{IsCalled, IsLooked, IsNoneTaken, IsNoneLeft, IsNoRest, IsLeftAnswered, IsRestAnswered};
+ghost use Rattle.cellarcliff.specs.Calls.{cellar_in, IsCalled, IsLooked, IsNoneTaken, IsNoneLeft, IsNoRest, IsLeftAnswered, IsRestAnswered};
 
 use crate::handle::CellarHandle;
 use rx_cellar::{Effect, NOTHING_KEPT};
@@ -19,13 +19,13 @@ pub extern "C" fn cellar_take(
     count: &mut u64,
 ) -> u8
     ensures { IsCalled (λ s t n. IsTakeTold lane by s t effect.old effect.new count.new n) (IsNoneTaken effect.old effect.new count.new)
-        handle.old.kept handle.new.kept result }
+        (cellar_in handle.old.kept) (cellar_in handle.new.kept) result }
 {
     let Some(mut kept) = handle.take(alloc) else {
         *count = 0;
         return NOTHING_KEPT;
     };
-    let status = kept.take_told(lane, by, effect, count);
+    let status = kept.cellar.take_told(lane, by, effect, count);
     handle.put(kept);
     status
 }
@@ -41,13 +41,13 @@ pub extern "C" fn cellar_give_up(
     is_left: &mut u64,
 ) -> u8
     ensures { IsCalled (λ s t n. IsGivenUp lane by untold.now s t is_left.new n) (is_left.new ≡ 0)
-        handle.old.kept handle.new.kept result }
+        (cellar_in handle.old.kept) (cellar_in handle.new.kept) result }
 {
     let Some(mut kept) = handle.take(alloc) else {
         *is_left = 0;
         return NOTHING_KEPT;
     };
-    let status = kept.give_up(lane, by, untold, is_left);
+    let status = kept.cellar.give_up(lane, by, untold, is_left);
     handle.put(kept);
     status
 }
@@ -62,14 +62,14 @@ pub extern "C" fn cellar_left(
     next: &mut u64,
 ) -> u8
     ensures { IsLooked (λ s n. IsLeftAnswered from s lane.new next.new n) (IsNoneLeft from lane.new next.new)
-        handle.old.kept handle.new.kept result }
+        (cellar_in handle.old.kept) (cellar_in handle.new.kept) result }
 {
     let Some(kept) = handle.take(alloc) else {
         *lane = u64::MAX;
         *next = from;
         return NOTHING_KEPT;
     };
-    let status = kept.left(from, lane, next);
+    let status = kept.cellar.left(from, lane, next);
     handle.put(kept);
     status
 }
@@ -85,13 +85,13 @@ pub extern "C" fn cellar_rest(
     count: &mut u64,
 ) -> u8
     ensures { IsLooked (λ s n. IsRestAnswered which from s words.old words.new count.new n) (IsNoRest words.old words.new count.new)
-        handle.old.kept handle.new.kept result }
+        (cellar_in handle.old.kept) (cellar_in handle.new.kept) result }
 {
     let Some(kept) = handle.take(alloc) else {
         *count = 0;
         return NOTHING_KEPT;
     };
-    let status = kept.rest(which, from, words, count);
+    let status = kept.cellar.rest(which, from, words, count);
     handle.put(kept);
     status
 }

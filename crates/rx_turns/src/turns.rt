@@ -29,7 +29,8 @@ pub struct Step {
 /// An engine by turns.
 #[derive(Drop)]
 pub struct Turns {
-    pub(crate) cellar: Cellar,
+    /// The engine.
+    pub cellar: Cellar,
     pub(crate) agenda: Agenda,
     pub(crate) tickets: u64,
     pub(crate) astray: Option<u64>,
