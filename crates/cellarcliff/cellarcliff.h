@@ -343,9 +343,10 @@ uint8_t cellar_step(struct cellar *engine, const struct cellar_stack *stack, con
 /* The same without a command: 0 or 1. */
 uint8_t cellar_next(struct cellar *engine, const struct cellar_stack *stack, struct cellar_stepped *step);
 
-/* From within an effect: what the call further out is doing counts as told, and its lane is free. With `now` 1 what stands there is this
- * turn's, and the next step hands it out; with 0 it is the call's further out, or his who puts something there sooner. 0 or 1. */
-uint8_t cellar_pass(struct cellar *engine, const struct cellar_stack *stack, uint8_t now);
+/* From within an effect: what the call of depth `from` further out is doing counts as told, and its lane is free: 1 to depth - 1. With `now` 1
+ * what stands there is this turn's, and the next step hands it out; with 0 it is that call's, or his who puts something there sooner.
+ * 0 or 1. */
+uint8_t cellar_pass(struct cellar *engine, const struct cellar_stack *stack, uint64_t from, uint8_t now);
 
 /* A call that ends in the midst: what it was handed and began is told, what it did not begin stands first in its lane again. All that is
  * due at this depth or deeper is left to the next step of depth 1 on any stack. Asks for no memory: 0 or 1. */
@@ -484,8 +485,8 @@ static inline uint8_t cellar_step_armored(struct cellar *engine, const struct ce
 static inline uint8_t cellar_next_armored(struct cellar *engine, const struct cellar_stack *stack, struct cellar_stepped *step) {
   return CELLAR_FIT(engine) && CELLAR_FIT(stack) && CELLAR_FIT(step) ? cellar_next(engine, stack, step) : (uint8_t)CELLAR_MISUSE;
 }
-static inline uint8_t cellar_pass_armored(struct cellar *engine, const struct cellar_stack *stack, uint8_t now) {
-  return CELLAR_FIT(engine) && CELLAR_FIT(stack) ? cellar_pass(engine, stack, now) : (uint8_t)CELLAR_MISUSE;
+static inline uint8_t cellar_pass_armored(struct cellar *engine, const struct cellar_stack *stack, uint64_t from, uint8_t now) {
+  return CELLAR_FIT(engine) && CELLAR_FIT(stack) ? cellar_pass(engine, stack, from, now) : (uint8_t)CELLAR_MISUSE;
 }
 static inline uint8_t cellar_stop_armored(struct cellar *engine, const struct cellar_stack *stack) {
   return CELLAR_FIT(engine) && CELLAR_FIT(stack) ? cellar_stop(engine, stack) : (uint8_t)CELLAR_MISUSE;
@@ -512,7 +513,7 @@ static inline void cellar_drop_armored(struct cellar *engine) {
 #define cellar_left(e, f, l, n) cellar_left_armored(e, f, l, n)
 #define cellar_step(e, k, c, s) cellar_step_armored(e, k, c, s)
 #define cellar_next(e, k, s) cellar_next_armored(e, k, s)
-#define cellar_pass(e, k, n) cellar_pass_armored(e, k, n)
+#define cellar_pass(e, k, f, n) cellar_pass_armored(e, k, f, n)
 #define cellar_stop(e, k) cellar_stop_armored(e, k)
 #define cellar_closings(e, f, w, r, n) cellar_closings_armored(e, f, w, r, n)
 #define cellar_totals(e, t) cellar_totals_armored(e, t)

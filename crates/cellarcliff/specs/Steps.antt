@@ -63,8 +63,8 @@ pub record IsStepTold (g : Ghosts Token) (stack : Stack) (c : Option Command) (s
   pub told : b ≡ handed_told step.handed step.is_own (told_of_made c made (no_step a))
   pub status_is : status ≡ step.status
 
-abbrev pub IsPassTold : Stack → (now_is : Bool) → TurnState → TurnState → (status : ℕ) → Type 0
-IsPassTold stack now_is s t status = IsTurnPass (turn_of stack) stack.begun now_is s t × (status ≡ 0)
+abbrev pub IsPassTold : Stack → (from : ℕ) → (now_is : Bool) → TurnState → TurnState → (status : ℕ) → Type 0
+IsPassTold stack from now_is s t status = IsTurnPass (turn_of stack) stack.begun from now_is s t × (status ≡ 0)
 
 abbrev pub IsStopTold : Stack → TurnState → TurnState → (status : ℕ) → Type 0
 IsStopTold stack s t status = IsTurnStop (turn_of stack) stack.begun s t × (status ≡ 0)

@@ -9,7 +9,7 @@ ghost use Rattle.cellarcliff.specs.Steps.{AreClosingsTold};
 
 use crate::handle::CellarHandle;
 use rx_cellar::{Answer, Command, DONE, Effect, NOTHING_KEPT, NumberedKey, no_node};
-use rx_turns::{Step, Task, Turn};
+use rx_turns::{Task, Turn};
 use std::alloc::Global;
 
 /// Whose turn it is: one for each stack of calls.
@@ -69,7 +69,7 @@ impl Stepped {
     }
 
     // What is to be done now.
-    fn tell_handed(&mut self, handed: Option<Task>, is_own: bool)
+    fn tell_handed(&mut self, handed: &Option<Task>, is_own: bool)
         ensures { self.new ≡ handed_told handed is_own self.old }
     {
         match handed {
@@ -135,10 +135,11 @@ pub extern "C" fn cellar_step(
         return NOTHING_KEPT;
     };
     let mut made = blank();
-    let done = kept.step(turn_of(stack), stack.begun, Some(command), &mut made);
+    let mut handed = None;
+    let done = kept.step(turn_of(stack), stack.begun, command, &mut made, &mut handed);
     handle.put(kept);
     step.tell_made(&made);
-    step.tell_handed(done.handed, done.is_own);
+    step.tell_handed(&handed, done.is_own);
     done.status
 }
 
@@ -157,27 +158,28 @@ pub extern "C" fn cellar_next(
     let Some(mut kept) = handle.take(alloc) else {
         return NOTHING_KEPT;
     };
-    let mut made = blank();
-    let done = kept.step(turn_of(stack), stack.begun, None, &mut made);
+    let mut handed = None;
+    kept.next(turn_of(stack), stack.begun, &mut handed);
     handle.put(kept);
-    step.tell_handed(done.handed, false);
+    step.tell_handed(&handed, false);
     DONE
 }
 
-/// From within an effect: the call further out lets its lane go.
+/// From within an effect: the call of this depth further out lets its lane go.
 #[unsafe(no_mangle)]
 pub extern "C" fn cellar_pass(
     alloc: Global,
     handle: &mut CellarHandle,
     stack: &Stack,
+    from: u64,
     now: u8,
 ) -> u8
-    ensures { IsTurned (λ s t n. IsPassTold stack.now (not (now == 0)) s t n) Unit handle.old.kept handle.new.kept result }
+    ensures { IsTurned (λ s t n. IsPassTold stack.now from (not (now == 0)) s t n) Unit handle.old.kept handle.new.kept result }
 {
     let Some(mut kept) = handle.take(alloc) else {
         return NOTHING_KEPT;
     };
-    kept.pass(turn_of(stack), stack.begun, now != 0);
+    kept.pass(turn_of(stack), stack.begun, from, now != 0);
     handle.put(kept);
     DONE
 }

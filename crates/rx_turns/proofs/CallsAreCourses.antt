@@ -275,7 +275,7 @@ calls_are_courses g = record {
   steps = λ turn begun c s t a b step steps.
       behind g s steps.marked t step.handed (stays g s steps.marked (ap (λ (x : TurnState). x.cellar) steps.marks.only))
       (stepped g turn steps.marked steps.made t step.handed (made_any g turn c steps.marked steps.made a b step.status step.is_own steps.makes) steps.goes_on);
-  passes = λ turn begun now_is s t passes.
+  passes = λ turn begun from now_is s t passes.
       and_then (stays g s passes.marked (ap (λ (x : TurnState). x.cellar) passes.marks.only))
       (and_then (let_go g _ passes.marked passes.free passes.left passes.lets_go) (left_to g passes.left _ passes.free t passes.leaves));
   stops = λ turn begun s t stops.

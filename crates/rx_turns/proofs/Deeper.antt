@@ -1,12 +1,12 @@
 -- The next deeper turn of a stack that has a line.
-use Rattle.std.proofs.Common.{◌≡◌, ◌≢◌, ℕ, ◌+◌, ◌<◌, ◌≤◌, ◌&&◌, Bool, true, false, cond, List, [], length, Option, Some, None, IfSome, refl, ap, sym, ◌∙◌}
+use Rattle.std.proofs.Common.{◌≡◌, ◌≢◌, ℕ, ◌+◌, ◌<◌, ◌≤◌, ◌&&◌, Bool, true, false, cond, List, length, Option, Some, None, IfSome, refl, ap, sym, ◌∙◌}
 use Rattle.std.proofs.Common.{arith, ◌⊎◌, inl, inr}
 use Rattle.std.proofs.lemmas.List.{get_or_past}
 use Rattle.std.proofs.lemmas.Bool.{cases_eq, false≢true, false_from_ne_true, and_parts, ltb-true, ltb-false, le-ltb}
 use Rattle.rx_slots.specs.Lists.{Lists}
 use Rattle.rx_turns.specs.declared.agenda.Turn.{Turn}
 use Rattle.rx_turns.specs.declared.agenda.Row.{Row}
-use Rattle.rx_turns.specs.Rows.{is_its, is_of, blank, row_on, own_line, is_deeper, is_before, nearer}
+use Rattle.rx_turns.specs.Rows.{is_its, is_of, blank, row_on, own_line, is_deeper, is_before, nearer, AreListed}
 use Rattle.rx_turns.specs.Agendas.{HasNothing}
 use Rattle.rx_turns.proofs.Lines.{same_turn, line_none}
 
@@ -80,10 +80,10 @@ module _ (turn : Turn) (rows : List Row) (found : Option Turn) (line : ℕ) (is 
       (λ own. false≢true (sym (is.none_before k (omega (arith, all, within)) u own deep) ∙ before)))
 
 -- who has no line has nothing
-pub no_line : (u : Turn) (rows : List Row) (lists : Lists) (words : List ℕ) → length lists.lists ≡ length rows → own_line u rows ≡ length rows →
+pub no_line : (u : Turn) (rows : List Row) (lists : Lists) (words : List ℕ) → AreListed rows lists → own_line u rows ≡ length rows →
     HasNothing (record { rows = rows; lists = lists; words = words }) u
 no_line u rows lists words listed none = (
-  get_or_past lists.lists (own_line u rows) [] (omega (arith, none, listed)),
+  listed.idle (own_line u rows) (omega (arith, none)),
   ap (λ (r : Row). r.in_hand) (get_or_past rows (own_line u rows) blank
       (omega (arith, none))),
 )

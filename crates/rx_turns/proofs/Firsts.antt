@@ -1,12 +1,12 @@
 -- Who is first on a list stands there, and whose list has one has a line.
-use Rattle.std.proofs.Common.{◌≡◌, ℕ, ◌<◌, ◌≤◌, ◌||◌, true, List, [], ◌∷◌, length, Option, Some, None, IfSome, ap, ◌∙◌, arith, ◌⊎◌, inl, inr}
+use Rattle.std.proofs.Common.{◌≡◌, ℕ, ◌<◌, ◌≤◌, ◌||◌, true, List, [], ◌∷◌, length, Option, Some, None, IfSome, ap, subst, ◌∙◌, arith, ◌⊎◌, inl, inr}
 use Rattle.std.proofs.lemmas.List.{get_or_past}
 use Rattle.std.proofs.lemmas.Bool.{cases_lt, eq-eqb}
 use Rattle.rx_slots.specs.Lists.{Lists, list_at, is_in, head_of, IsPlain}
 use Rattle.rx_turns.specs.declared.agenda.Turn.{Turn}
 use Rattle.rx_turns.specs.declared.agenda.Task.{Task}
 use Rattle.rx_turns.specs.declared.agenda.Row.{Row}
-use Rattle.rx_turns.specs.Rows.{blank, row_on, own_line, HasLine}
+use Rattle.rx_turns.specs.Rows.{blank, row_on, own_line, HasLine, AreListed, IsToldOf}
 
 some_is : (a b : ℕ) → Some a ≡ Some b → a ≡ b
 some_is a b same = ap (λ (o : Option ℕ). or_zero o) same
@@ -24,19 +24,19 @@ pub first_below : (o : Option ℕ) (lists : Lists) (line : ℕ) → IsPlain list
 first_below None lists line plain is = tt
 first_below (Some m) lists line plain is = plain.below line m (first_is_in m (list_at lists line) is)
 
-there_by : (m line : ℕ) (lists : Lists) → Some m ≡ head_of (list_at lists line) → (line < length lists.lists) ⊎ (length lists.lists ≤ line) →
-    line < length lists.lists
-there_by m line lists is (inl within) = within
-there_by m line lists is (inr past) =
-    let none : Some m ≡ None = is ∙ ap head_of (get_or_past lists.lists line [] past) in
+there_by : (m line : ℕ) (rows : List Row) (lists : Lists) → AreListed rows lists → Some m ≡ head_of (list_at lists line) →
+    (line < length rows) ⊎ (length rows ≤ line) → line < length rows
+there_by m line rows lists listed is (inl within) = within
+there_by m line rows lists listed is (inr past) =
+    let none : Some m ≡ None = is ∙ ap head_of (listed.idle line past) in
     absurd (cc)
 
 -- whose list has a first one has a line
-pub first_line : (o : Option ℕ) (lists : Lists) (rows : List Row) (line : ℕ) (turn : Turn) → length lists.lists ≡ length rows → line ≡ own_line turn rows →
+pub first_line : (o : Option ℕ) (lists : Lists) (rows : List Row) (line : ℕ) (turn : Turn) → AreListed rows lists → line ≡ own_line turn rows →
     o ≡ head_of (list_at lists line) → IfSome o (λ _. HasLine turn rows)
 first_line None lists rows line turn listed at is = tt
 first_line (Some m) lists rows line turn listed at is =
-    let there = there_by m line lists is (cases_lt line (length lists.lists)) in omega (arith, there, listed, at)
+    let there = there_by m line rows lists listed is (cases_lt line (length rows)) in omega (arith, there, at)
 
 served_by : (h : Task) (rows : List Row) (line : ℕ) → Some h ≡ (row_on rows line).in_hand → (line < length rows) ⊎ (length rows ≤ line) → line < length rows
 served_by h rows line is (inl within) = within
@@ -48,3 +48,15 @@ served_by h rows line is (inr past) =
 pub served_line : (o : Option Task) (rows : List Row) (turn : Turn) → o ≡ (row_on rows (own_line turn rows)).in_hand → IfSome o (λ _. HasLine turn rows)
 served_line None rows turn is = tt
 served_line (Some h) rows turn is = served_by h rows (own_line turn rows) is (cases_lt (own_line turn rows) (length rows))
+
+told_by : (w : ℕ) (rows : List Row) (line : ℕ) → IsToldOf (row_on rows line).in_hand (Some w) → (line < length rows) ⊎ (length rows ≤ line) → line < length rows
+told_by w rows line is (inl within) = within
+told_by w rows line is (inr past) =
+    absurd (tells_no_blank w (subst (λ (r : Row). IsToldOf r.in_hand (Some w)) (get_or_past rows line blank past) is))
+  where
+    tells_no_blank : (w : ℕ) → IsToldOf None (Some w) → ⊥
+    tells_no_blank w is = elim is [ ]
+
+pub told_line : (o : Option ℕ) (rows : List Row) (turn : Turn) → IsToldOf (row_on rows (own_line turn rows)).in_hand o → IfSome o (λ _. HasLine turn rows)
+told_line None rows turn is = tt
+told_line (Some w) rows turn is = told_by w rows (own_line turn rows) is (cases_lt (own_line turn rows) (length rows))

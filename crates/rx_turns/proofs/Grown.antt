@@ -8,7 +8,7 @@ use Rattle.std.proofs.lemmas.Bool.{cases_eq, cases_lt, eqb-true}
 use Rattle.rx_slots.specs.Lists.{Lists, list_at}
 use Rattle.rx_turns.specs.declared.agenda.Turn.{Turn}
 use Rattle.rx_turns.specs.declared.agenda.Row.{Row}
-use Rattle.rx_turns.specs.Rows.{is_of, blank, row_on, own_line, HaveOneRowEach, due_on, hand_on, Grows}
+use Rattle.rx_turns.specs.Rows.{is_of, blank, row_on, own_line, HaveOneRowEach, due_on, hand_on, Grows, AreListed}
 
 pushed_by : {X : Type 0} (xs : List X) (d : X) (k : ℕ) → (k < length xs) ⊎ (length xs ≤ k) → (k ≡ length xs) ⊎ (k ≢ length xs) →
     slice_index_or (xs ++ d ∷ []) k d ≡ slice_index_or xs k d
@@ -24,13 +24,11 @@ read_pushed xs d k = pushed_by xs d k (cases_lt k (length xs)) (cases_eq k (leng
 pub many_pushed : {X : Type 0} (xs : List X) (d : X) → length (xs ++ d ∷ []) ≡ length xs + 1
 many_pushed xs d = length-append xs (d ∷ [])
 
-module _ (rows : List Row) (lists lists' : Lists) (listed : length lists.lists ≡ length rows) (more : lists'.lists ≡ lists.lists ++ [] ∷ [])
-    (members : lists'.members ≡ lists.members) (apart : HaveOneRowEach rows) where
+-- what is due on each list stays, and there is a list for the line
+module _ (rows : List Row) (lists lists' : Lists) (listed : AreListed rows lists) (lists_same : (e : ℕ) → list_at lists' e ≡ list_at lists e)
+    (fits : length rows < length lists'.lists) (members : lists'.members ≡ lists.members) (apart : HaveOneRowEach rows) where
   abbrev grown : List Row
   grown = rows ++ blank ∷ []
-
-  lists_same : (e : ℕ) → list_at lists' e ≡ list_at lists e
-  lists_same e = ap (λ xs. slice_index_or xs e []) more ∙ read_pushed lists.lists [] e
 
   of_same : (t : Turn) (k : ℕ) → is_of t (row_on grown k) ≡ is_of t (row_on rows k)
   of_same t k = ap (is_of t) (read_pushed rows blank k)
@@ -46,9 +44,7 @@ module _ (rows : List Row) (lists lists' : Lists) (listed : length lists.lists �
       record {
         due = lists_same (own_line t grown)
             ∙ (ap (list_at lists) new
-            ∙ (get_or_past lists.lists (length rows + 1) [] (omega (arith, listed))
-            ∙ (sym (get_or_past lists.lists (length rows) [] (omega (arith, listed)))
-            ∙ sym (ap (list_at lists) old))));
+            ∙ (listed.idle (length rows + 1) (omega arith) ∙ (sym (listed.idle (length rows) (omega arith)) ∙ sym (ap (list_at lists) old))));
         hands = ap (λ (r : Row). r.in_hand) (read_pushed rows blank (own_line t grown))
             ∙ (ap (λ k. (row_on rows k).in_hand) new
             ∙ (ap (λ (r : Row). r.in_hand) (get_or_past rows (length rows + 1) blank (omega arith))
@@ -69,6 +65,13 @@ module _ (rows : List Row) (lists lists' : Lists) (listed : length lists.lists �
     due = λ t. (same_by t (own_line t rows == length rows) refl).due;
     hands = λ t. (same_by t (own_line t rows == length rows) refl).hands;
     apart = λ t i j at_i at_j. apart t i j (sym (of_same t i) ∙ at_i) (sym (of_same t j) ∙ at_j);
-    listed = ap length more ∙ (many_pushed lists.lists [] ∙ (ap (λ n. n + 1) listed ∙ sym (many_pushed rows blank)));
+    listed = record {
+      fits = omega (arith, fits, many_pushed rows blank);
+      idle = λ k past. lists_same k ∙ listed.idle k (omega (arith, past, many_pushed rows blank));
+    };
     members = members;
   }
+
+-- a list more
+pub more_lists : (lists lists' : Lists) → lists'.lists ≡ lists.lists ++ [] ∷ [] → (e : ℕ) → list_at lists' e ≡ list_at lists e
+more_lists lists lists' more e = ap (λ xs. slice_index_or xs e []) more ∙ read_pushed lists.lists [] e

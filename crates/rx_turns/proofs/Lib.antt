@@ -4,6 +4,7 @@ pub mod Claimed
 pub mod Held
 pub mod Grown
 pub mod Admitted
+pub mod Trimmed
 pub mod Firsts
 pub mod TakenOut
 pub mod Marked

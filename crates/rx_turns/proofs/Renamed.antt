@@ -8,7 +8,7 @@ use Rattle.std.proofs.lemmas.Bool.{cases_eq, cases_lt, false_from_ne_true, false
 use Rattle.rx_slots.specs.Lists.{Lists, list_at}
 use Rattle.rx_turns.specs.declared.agenda.Turn.{Turn}
 use Rattle.rx_turns.specs.declared.agenda.Row.{Row}
-use Rattle.rx_turns.specs.Rows.{is_same, is_of, blank, row_on, own_line, HaveOneRowEach, due_on, hand_on, KeepsRows}
+use Rattle.rx_turns.specs.Rows.{is_same, is_of, blank, row_on, own_line, HaveOneRowEach, due_on, hand_on, KeepsRows, AreListed}
 use Rattle.rx_turns.proofs.Lines.{line_is, line_none, same_turn, is_same-self}
 
 absent_by : (t : Turn) (rows : List Row) → own_line t rows ≡ length rows → (k : ℕ) → (k < length rows) ⊎ (length rows ≤ k) → is_of t (row_on rows k) ≡ false
@@ -22,7 +22,7 @@ absent t rows none k = absent_by t rows none k (cases_lt k (length rows))
 -- the line is there, and blank; whom it is given to has none
 pub record IsFree (rows : List Row) (lists : Lists) (line : ℕ) (u : Turn) : Type 0 where
   pub within : line < length rows
-  pub listed : length lists.lists ≡ length rows
+  pub listed : AreListed rows lists
   pub apart : HaveOneRowEach rows
   pub none : own_line u rows ≡ length rows
   pub nothing_due : list_at lists line ≡ []
@@ -73,7 +73,7 @@ module _ {rows : List Row} {lists : Lists} {line : ℕ} {u : Turn} (is : IsFree 
 
   -- nothing is due behind all rows, and nothing is served
   past_lists : list_at lists (length rows) ≡ []
-  past_lists = get_or_past lists.lists (length rows) [] (omega (arith, is.listed))
+  past_lists = is.listed.idle (length rows) (omega arith)
 
   past_rows : (row_on rows (length rows)).in_hand ≡ None
   past_rows = ap (λ (r : Row). r.in_hand) (get_or_past rows (length rows) blank (omega arith))

@@ -4,7 +4,7 @@ use Rattle.rx_slots.specs.Lists.{Lists, is_in, take_out, head_of}
 use Rattle.rx_turns.specs.declared.agenda.Turn.{Turn}
 use Rattle.rx_turns.specs.declared.agenda.Task.{Task}
 use Rattle.rx_turns.specs.declared.agenda.Row.{Row}
-use Rattle.rx_turns.specs.Rows.{is_same, due_on, hand_on, begun_by, HaveOneRowEach, HasLine}
+use Rattle.rx_turns.specs.Rows.{is_same, due_on, hand_on, begun_by, HaveOneRowEach, HasLine, AreListed}
 
 -- the rows say whose each list is; a list has the places of lanes; and each place has the word under which its lane is due
 pub record DueLists : Type 0 where
@@ -39,9 +39,10 @@ has_nothing a t = is_none (in_hand a t) && is_none (head_of (due_to a t))
 abbrev pub LaneHasRoom : DueLists → Turn → ℕ → Type 0
 LaneHasRoom a turn place = HasLine turn a.rows × (place < lanes_fit a)
 
--- each line has a list and a row, no two rows are of one turn, and each place has a word
-pub record IsAgenda (rows : List Row) (lists : Lists) (words : List ℕ) : Type 0 where
-  pub listed : length lists.lists ≡ length rows
+-- each row has a list, of which there are so many, no two rows are of one turn, and each place has a word
+pub record IsAgenda (rows : List Row) (lists : Lists) (lines : ℕ) (words : List ℕ) : Type 0 where
+  pub listed : AreListed rows lists
+  pub counted : lines ≡ length lists.lists
   pub worded : lists.members ≤ length words
   pub apart : HaveOneRowEach rows
 

@@ -9,12 +9,25 @@ use Rattle.rx_cellar.specs.Serving.{IsLeftTold}
 use Rattle.rx_cellar.specs.Words.{place_in}
 use Rattle.rx_turns.specs.declared.agenda.Turn.{Turn}
 use Rattle.rx_turns.specs.declared.agenda.Task.{Task}
-use Rattle.rx_turns.specs.declared.turns.Step.{Step}
+use Rattle.rx_turns.specs.declared.making.Done.{Done}
 use Rattle.rx_turns.specs.Agendas.{LosesNothing, Claims, LaneHasRoom, NotesBegun}
 use Rattle.rx_turns.specs.States.{TurnState}
 use Rattle.rx_turns.specs.Serving.{TakesDue, Serves, ServesDeeper}
 use Rattle.rx_turns.specs.Making.{MakesIn}
-use Rattle.rx_turns.specs.Ending.{LetsLaneGo, EndsTurn, StopsDeeper, LeavesTo, outer}
+use Rattle.rx_turns.specs.Ending.{LetsLaneGo, EndsTurn, StopsDeeper, LeavesTo, at_depth}
+
+-- what a step came to: of its command, and what is to be done now, where there is something
+pub record Step : Type 0 where
+  pub status : ℕ
+  pub handed : Option Task
+  pub is_own : Bool
+
+abbrev pub step_of : Done → Option Task → Step
+step_of done handed = record { status = done.status; handed = handed; is_own = done.is_own }
+
+-- of a step without a command
+abbrev pub bare_step : Option Task → Step
+bare_step handed = record { status = 0; handed = handed; is_own = false }
 
 -- what was begun last is marked
 pub record HasNoted (by ticket : ℕ) (s t : TurnState) : Type 0 where
@@ -59,14 +72,14 @@ pub record IsTurnStep (g : Ghosts Token) (turn : Turn) (begun : ℕ) (c : Option
   pub makes : MakesAny g turn c marked made a b step.status step.is_own
   pub goes_on : TurnGoesOn turn t made step.handed
 
--- the call further out lets its lane go; what is left there is this turn's, or stays with the call further out
-pub record IsTurnPass (turn : Turn) (begun : ℕ) (now_is : Bool) (s t : TurnState) : Type 0 where
+-- the call of this depth further out lets its lane go; what is left there is this turn's, or stays with that call
+pub record IsTurnPass (turn : Turn) (begun from : ℕ) (now_is : Bool) (s t : TurnState) : Type 0 where
   pub marked : TurnState
   pub free : TurnState
   pub left : Option ℕ
   pub marks : HasNoted turn.by begun s marked
-  pub lets_go : LetsLaneGo (outer turn) marked free left
-  pub leaves : LeavesTo left (if now_is then turn else outer turn) free t
+  pub lets_go : LetsLaneGo (at_depth turn from) marked free left
+  pub leaves : LeavesTo left (if now_is then turn else at_depth turn from) free t
 
 -- the turn ends, and each deeper call
 pub record IsTurnStop (turn : Turn) (begun : ℕ) (s t : TurnState) : Type 0 where

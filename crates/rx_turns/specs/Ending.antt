@@ -1,5 +1,5 @@
 -- A turn that goes on no more: its lane is given up, and nothing is due to it.
-use Rattle.std.specs.Prelude.{◌≡◌, ℕ, ◌-◌, ◌==◌, ◌||◌, Bool, true, false, List, [], ◌∷◌, Option, Some, None, is_some, if◌then◌else◌}
+use Rattle.std.specs.Prelude.{◌≡◌, ℕ, ◌==◌, ◌||◌, Bool, true, false, List, [], ◌∷◌, Option, Some, None, is_some, if◌then◌else◌}
 use Rattle.rx_slots.specs.Lists.{head_of}
 use Rattle.rx_engine.specs.States.{IsPromised}
 use Rattle.rx_cellar.specs.declared.shapes.Effect.{Effect}
@@ -67,6 +67,6 @@ abbrev pub LeavesTo : Option ℕ → Turn → TurnState → TurnState → Type 0
 LeavesTo None turn s t = t ≡ s
 LeavesTo (Some word) turn s t = IsMadeDue turn word s t
 
--- the call further out
-abbrev pub outer : Turn → Turn
-outer turn = record turn { depth = turn.depth - 1 }
+-- the call of this depth on the same stack
+abbrev pub at_depth : Turn → (depth : ℕ) → Turn
+at_depth turn depth = record turn { depth = depth }

@@ -1,5 +1,5 @@
 -- Whose each line of an agenda is. No public clause cites this module but by `Agendas`.
-use Rattle.std.specs.Prelude.{◌≡◌, ℕ, ◌<◌, ◌==◌, ◌&&◌, ◌||◌, nat_lt, Bool, true, false, cond, List, length, Option, Some, None, slice_index_or}
+use Rattle.std.specs.Prelude.{◌≡◌, ℕ, ◌<◌, ◌≤◌, ◌==◌, ◌&&◌, ◌||◌, nat_lt, Bool, true, false, cond, List, [], length, Option, Some, None, slice_index_or}
 use Rattle.std.specs.List.{position_or_len}
 use Rattle.rx_slots.specs.Lists.{Lists, list_at}
 use Rattle.rx_turns.specs.declared.agenda.Turn.{Turn}
@@ -38,6 +38,11 @@ due_on rows lists t = list_at lists (own_line t rows)
 abbrev pub hand_on : List Row → Turn → Option Task
 hand_on rows t = (row_on rows (own_line t rows)).in_hand
 
+-- each row has a list, and nothing is due behind all rows
+pub record AreListed (rows : List Row) (lists : Lists) : Type 0 where
+  pub fits : length rows ≤ length lists.lists
+  pub idle : (k : ℕ) → length rows ≤ k → list_at lists k ≡ []
+
 -- it has one
 abbrev pub HasLine : Turn → List Row → Type 0
 HasLine t rows = own_line t rows < length rows
@@ -56,7 +61,7 @@ pub record Grows (old new : List Row) (lists lists' : Lists) : Type 0 where
   pub due : (t : Turn) → due_on new lists' t ≡ due_on old lists t
   pub hands : (t : Turn) → hand_on new t ≡ hand_on old t
   pub apart : HaveOneRowEach new
-  pub listed : length lists'.lists ≡ length new
+  pub listed : AreListed new lists'
   pub members : lists'.members ≡ lists.members
 
 -- whoever asks is told the same, and there may be more lines
@@ -64,7 +69,7 @@ pub record TellsAlike (old new : List Row) (lists lists' : Lists) : Type 0 where
   pub due : (t : Turn) → due_on new lists' t ≡ due_on old lists t
   pub hands : (t : Turn) → hand_on new t ≡ hand_on old t
   pub apart : HaveOneRowEach new
-  pub listed : length lists'.lists ≡ length new
+  pub listed : AreListed new lists'
   pub members : lists'.members ≡ lists.members
 
 -- what has this ticket is begun
@@ -78,6 +83,12 @@ is_by by (Some t) = t.by == by
 
 abbrev pub with_begun : (by ticket : ℕ) → Row → Row
 with_begun by ticket r = record r { in_hand = cond (is_by by r.turn) (begun_by ticket r.in_hand) r.in_hand }
+
+-- the lane of what is in hand, where that is begun
+pub data IsToldOf : Option Task → Option ℕ → Type 0 where
+  tells_none : IsToldOf None None
+  tells_fresh : (h : Task) → h.is_begun ≡ false → IsToldOf (Some h) None
+  tells_told : (h : Task) → h.is_begun ≡ true → IsToldOf (Some h) (Some h.word)
 
 -- a call deeper on the same stack
 abbrev pub is_deeper : Turn → Turn → Bool

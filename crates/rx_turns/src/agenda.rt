@@ -1,10 +1,10 @@
 //! What is due to whom.
 
 ghost use Rattle.std.specs.Prelude.{◌≡◌, ◌<◌, ◌≤◌, ◌+◌, ◌^◌, [], true, false, length, Some, None};
-ghost use Rattle.std.specs.Prelude.{OnOk, IsOk, IfSome, slice_index_or, vec_capacity};
+ghost use Rattle.std.specs.Prelude.{OnOk, IsOk, IfSome, is_none, slice_index_or, vec_capacity};
 ghost use Rattle.rx_slots.specs.Lists.{list_at, head_of};
-ghost use Rattle.rx_turns.specs.Rows.{is_of, own_line, row_on, HaveOneRowEach, KeepsRows, HasLine, Grows, TellsAlike};
-ghost use Rattle.rx_turns.specs.Rows.{is_by, begun_by, with_begun, is_deeper, is_before, nearer};
+ghost use Rattle.rx_turns.specs.Rows.{is_of, own_line, row_on, HaveOneRowEach, KeepsRows, HasLine, Grows, TellsAlike, AreListed};
+ghost use Rattle.rx_turns.specs.Rows.{IsToldOf, is_by, begun_by, with_begun, is_deeper, is_before, nearer};
 ghost use Rattle.rx_turns.specs.Agendas.{IsAgenda};
 
 use rx_cellar::Effect;
@@ -43,16 +43,18 @@ pub(crate) struct Row {
 pub(crate) struct Agenda {
     pub(crate) rows: Vec<Row>,
     pub(crate) lists: Rings,
+    // How many lists there are: one for each row, and for each that was taken off.
+    pub(crate) lines: usize,
     pub(crate) words: Vec<u64>,
-    ghost tied: { IsAgenda rows.items lists words.items },
+    ghost tied: { IsAgenda rows.items lists lines words.items },
 }
 
 // Whether a row is a turn's.
 #[inline(always)]
-fn is_of(turn: Turn, row: Row) -> bool
-    ensures { result ≡ is_of turn row }
+fn is_of(turn: Turn, row: &Row) -> bool
+    ensures { result ≡ is_of turn row.now }
 {
-    match row.turn {
+    match &row.turn {
         Some(found) => turn.by == found.by && turn.depth == found.depth,
         None => false,
     }
@@ -72,13 +74,45 @@ fn row_on(rows: &[Row], line: usize) -> Row
     }
 }
 
+// The lane of what is in hand on a line, where that is begun.
+#[inline(always)]
+fn told_on(rows: &[Row], line: usize) -> Option<u64>
+    ensures { IsToldOf (row_on rows.now line).in_hand result }
+{
+    match rows.get(line) {
+        Some(row) => match &row.in_hand {
+            Some(handed) => {
+                if handed.is_begun {
+                    Some(handed.word)
+                } else {
+                    None
+                }
+            }
+            None => None,
+        },
+        None => None,
+    }
+}
+
+// Whether nothing is in hand on a line.
+#[inline(always)]
+fn is_empty_on(rows: &[Row], line: usize) -> bool
+    ensures { result ≡ is_none (row_on rows.now line).in_hand }
+{
+    match rows.get(line) {
+        Some(row) => row.in_hand.is_none(),
+        None => true,
+    }
+}
+
 // The line of a turn; behind all rows where it has none.
+#[inline(always)]
 fn own_line(rows: &[Row], turn: Turn) -> usize
     ensures line { result ≡ own_line turn rows.now }
     ensures within { result ≤ length rows.now }
 {
     for line in 0..rows.len() {
-        if is_of(turn, rows[line]) {
+        if is_of(turn, &rows[line]) {
             return line;
         }
     }
@@ -102,7 +136,7 @@ fn blank_line(rows: &[Row], lists: &Rings) -> usize
 // Gives a line that is blank to a turn that has none.
 fn give_line(rows: &mut Vec<Row>, lists: &Rings, turn: Turn, line: usize)
     requires within { line < length rows.old.items }
-    requires listed { length lists.now.lists ≡ length rows.old.items }
+    requires listed { AreListed rows.old.items lists.now }
     requires apart { HaveOneRowEach rows.old.items }
     requires none { own_line turn rows.old.items ≡ length rows.old.items }
     requires nothing_due { list_at lists.now line ≡ [] }
@@ -118,7 +152,7 @@ fn give_line(rows: &mut Vec<Row>, lists: &Rings, turn: Turn, line: usize)
 
 // The line of a turn, which is given one that is blank where it has none; behind all where there is none.
 fn line_for(rows: &mut Vec<Row>, lists: &Rings, turn: Turn) -> usize
-    requires listed { length lists.now.lists ≡ length rows.old.items }
+    requires listed { AreListed rows.old.items lists.now }
     requires apart { HaveOneRowEach rows.old.items }
     ensures line { result ≡ own_line turn rows.new.items }
     ensures within { result ≤ length rows.new.items }
@@ -137,28 +171,40 @@ fn line_for(rows: &mut Vec<Row>, lists: &Rings, turn: Turn) -> usize
 }
 
 // One line more, which is blank.
-fn add_line(rows: &mut Vec<Row>, lists: &mut Rings)
+fn add_line(rows: &mut Vec<Row>, lists: &mut Rings, lines: &mut usize)
     requires row { length rows.old.items < vec_capacity rows.old }
     requires list { 0 < lists.old.room }
-    requires listed { length lists.old.lists ≡ length rows.old.items }
+    requires counted { lines.old ≡ length lists.old.lists }
+    requires listed { AreListed rows.old.items lists.old }
     requires apart { HaveOneRowEach rows.old.items }
     ensures grows { Grows rows.old.items rows.new.items lists.old lists.new }
     ensures many { length rows.new.items ≡ length rows.old.items + 1 }
+    ensures counted { lines.new ≡ length lists.new.lists }
 {
     rows.push_reserved(Row {
         turn: None,
         in_hand: None,
     });
-    lists.add();
+    if *lines < rows.len() {
+        lists.add();
+        *lines += 1;
+    }
 }
 
 // A turn has a line then, one of those that are there if it can be.
-fn admit(rows: &mut Vec<Row>, lists: &mut Rings, turn: Turn) -> Result<(), AllocError>
-    requires listed { length lists.old.lists ≡ length rows.old.items }
+fn admit(
+    rows: &mut Vec<Row>,
+    lists: &mut Rings,
+    lines: &mut usize,
+    turn: Turn,
+) -> Result<(), AllocError>
+    requires counted { lines.old ≡ length lists.old.lists }
+    requires listed { AreListed rows.old.items lists.old }
     requires apart { HaveOneRowEach rows.old.items }
     ensures ok { OnOk result (HasLine turn rows.new.items) }
     ensures told { TellsAlike rows.old.items rows.new.items lists.old lists.new }
     ensures had { HasLine turn rows.old.items → IsOk result }
+    ensures counted { lines.new ≡ length lists.new.lists }
 {
     let line = line_for(rows, lists, turn);
     if line < rows.len() {
@@ -166,9 +212,25 @@ fn admit(rows: &mut Vec<Row>, lists: &mut Rings, turn: Turn) -> Result<(), Alloc
     }
     rows.reserve(1)?;
     lists.reserve(1)?;
-    add_line(rows, lists);
+    add_line(rows, lists, lines);
     give_line(rows, lists, turn, line);
     Ok(())
+}
+
+// Takes off the last lines, but for the first, on which nothing is due and nothing is served.
+#[inline(always)]
+fn trim(rows: &mut Vec<Row>, lists: &Rings)
+    requires listed { AreListed rows.old.items lists.now }
+    requires apart { HaveOneRowEach rows.old.items }
+    ensures { TellsAlike rows.old.items rows.new.items lists.now lists.now }
+{
+    while rows.len() > 1 {
+        let last = rows.len() - 1;
+        if rows[last].in_hand.is_some() || lists.first(last).is_some() {
+            return;
+        }
+        let _row = rows.pop();
+    }
 }
 
 // Lets there be a word at each place below this one; past the last there is none but 0.
@@ -185,6 +247,7 @@ fn lengthen(words: &mut Vec<u64>, places: usize) -> Result<(), AllocError>
 }
 
 // Whether a row is one of this stack's.
+#[inline(always)]
 fn is_by(by: u64, turn: Option<Turn>) -> bool
     ensures { result ≡ is_by by turn }
 {
@@ -195,44 +258,43 @@ fn is_by(by: u64, turn: Option<Turn>) -> bool
 }
 
 // What was handed under this ticket is begun.
-fn begun_by(ticket: u64, in_hand: Option<Task>) -> Option<Task>
-    ensures { result ≡ begun_by ticket in_hand }
+#[inline(always)]
+fn begin(in_hand: &mut Option<Task>, ticket: u64)
+    ensures { in_hand.new ≡ begun_by ticket in_hand.old }
 {
     match in_hand {
-        Some(handed) => Some(Task {
-            is_begun: handed.is_begun || handed.ticket == ticket,
-            ..handed
-        }),
-        None => None,
+        Some(handed) => {
+            if handed.ticket == ticket {
+                handed.is_begun = true;
+            }
+        }
+        None => {}
     }
 }
 
 // What is in hand in a row of this stack, with what was begun noted.
-fn with_begun(by: u64, ticket: u64, row: Row) -> Row
-    ensures { result ≡ with_begun by ticket row }
+#[inline(always)]
+fn begin_by(by: u64, ticket: u64, row: &mut Row)
+    ensures { row.new ≡ with_begun by ticket row.old }
 {
-    Row {
-        in_hand: if is_by(by, row.turn) {
-            begun_by(ticket, row.in_hand)
-        } else {
-            row.in_hand
-        },
-        ..row
+    if is_by(by, row.turn) {
+        begin(&mut row.in_hand, ticket);
     }
 }
 
 // Notes what a stack began in all its rows.
+#[inline(always)]
 fn mark(rows: &mut Vec<Row>, by: u64, ticket: u64)
     ensures each { (k : _) → row_on rows.new.items k ≡ with_begun by ticket (row_on rows.old.items k) }
     ensures many { length rows.new.items ≡ length rows.old.items }
 {
     for line in 0..rows.len() {
-        let row = rows[line];
-        rows[line] = with_begun(by, ticket, row);
+        begin_by(by, ticket, &mut rows[line]);
     }
 }
 
 // Whether a turn is less deep than the one that was found, if there is one.
+#[inline(always)]
 fn is_before(turn: Turn, found: Option<Turn>) -> bool
     ensures { result ≡ is_before turn found }
 {
@@ -243,6 +305,7 @@ fn is_before(turn: Turn, found: Option<Turn>) -> bool
 }
 
 // The nearer of a turn that was found, and of a row's, if that is deeper on the same stack.
+#[inline(always)]
 fn nearer(turn: Turn, found: Option<Turn>, other: Option<Turn>) -> Option<Turn>
     ensures { result ≡ nearer turn found other }
 {
@@ -257,6 +320,7 @@ fn nearer(turn: Turn, found: Option<Turn>, other: Option<Turn>) -> Option<Turn>
 }
 
 // The next deeper turn of the same stack that has a line.
+#[inline(always)]
 fn next_deeper(rows: &[Row], turn: Turn) -> Option<Turn>
     ensures deeper { IfSome result (λ u. is_deeper turn u ≡ true) }
     ensures between { (u : Turn) → is_deeper turn u ≡ true → is_before u result ≡ true →
@@ -286,6 +350,7 @@ impl Agenda {
         Agenda {
             rows: Vec::new(alloc),
             lists: Rings::new(alloc),
+            lines: 0,
             words: Vec::new(alloc),
         }
     }
@@ -298,13 +363,14 @@ impl Agenda {
     }
 
     /// A turn has a line then.
+    #[inline(always)]
     pub(crate) fn admit(&mut self, turn: Turn) -> Result<(), AllocError>
         ensures ok { OnOk result (HasLine turn self.new.rows.items) }
         ensures kept { LosesNothing (seen self.old) (seen self.new) }
         ensures places { self.new.lists.members ≡ self.old.lists.members }
         ensures had { HasLine turn self.old.rows.items → IsOk result }
     {
-        admit(&mut self.rows, &mut self.lists, turn)
+        admit(&mut self.rows, &mut self.lists, &mut self.lines, turn)
     }
 
     /// Lets lanes of all places below this one be due.
@@ -319,6 +385,7 @@ impl Agenda {
     }
 
     /// The first lane that is due to a turn.
+    #[inline(always)]
     pub(crate) fn first(&self, turn: Turn) -> Option<usize>
         ensures first { result ≡ head_of (due_to (seen self.now) turn) }
         ensures place { IfSome result (λ place. place < self.now.lists.members) }
@@ -329,6 +396,7 @@ impl Agenda {
     }
 
     /// The word under which the lane of a place is due.
+    #[inline(always)]
     pub(crate) fn word(&self, place: usize) -> u64
         ensures { result ≡ lane_word (seen self.now) place }
     {
@@ -336,6 +404,7 @@ impl Agenda {
     }
 
     /// What a turn has in hand.
+    #[inline(always)]
     pub(crate) fn served(&self, turn: Turn) -> Option<Task>
         ensures hand { result ≡ in_hand (seen self.now) turn }
         ensures line { IfSome result (λ _. HasLine turn self.now.rows.items) }
@@ -343,14 +412,25 @@ impl Agenda {
         row_on(&self.rows, own_line(&self.rows, turn)).in_hand
     }
 
+    /// The lane of what a turn has in hand, where that is begun.
+    #[inline(always)]
+    pub(crate) fn told(&self, turn: Turn) -> Option<u64>
+        ensures told { IsToldOf (in_hand (seen self.now) turn) result }
+        ensures line { IfSome result (λ _. HasLine turn self.now.rows.items) }
+    {
+        told_on(&self.rows, own_line(&self.rows, turn))
+    }
+
     /// Whether a turn has nothing.
+    #[inline(always)]
     pub(crate) fn is_free(&self, turn: Turn) -> bool
         ensures { result ≡ has_nothing (seen self.now) turn }
     {
-        self.served(turn).is_none() && self.first(turn).is_none()
+        is_empty_on(&self.rows, own_line(&self.rows, turn)) && self.first(turn).is_none()
     }
 
     /// The next deeper turn of the same stack that may have something.
+    #[inline(always)]
     pub(crate) fn next_deeper(&self, turn: Turn) -> Option<Turn>
         ensures deeper { IfSome result (λ u. is_deeper turn u ≡ true) }
         ensures between { (u : Turn) → is_deeper turn u ≡ true → is_before u result ≡ true →
@@ -390,17 +470,14 @@ impl Agenda {
     }
 
     /// A turn that has a line has this in hand, or nothing.
+    #[inline(always)]
     pub(crate) fn hold(&mut self, turn: Turn, hand: Option<Task>)
         requires line { HasLine turn self.old.rows.items }
         ensures holds { Holds turn hand (seen self.old) (seen self.new) }
         ensures lines { (t : Turn) → HasLine t self.old.rows.items → HasLine t self.new.rows.items }
     {
         let line = own_line(&self.rows, turn);
-        let row = row_on(&self.rows, line);
-        self.rows[line] = Row {
-            in_hand: hand,
-            ..row
-        };
+        self.rows[line].in_hand = hand;
     }
 
     /// Makes a lane due to nobody.
@@ -422,10 +499,13 @@ impl Agenda {
         }
     }
 
-    /// What a stack of calls was handed under this ticket is begun.
+    /// What a stack of calls was handed under this ticket is begun. Turns that have nothing any more lose their lines, so
+    /// that a call costs by how many turns have something now, and not by how many ever had.
+    #[inline(always)]
     pub(crate) fn mark(&mut self, by: u64, ticket: u64)
         ensures { NotesBegun by ticket (seen self.old) (seen self.new) }
     {
+        trim(&mut self.rows, &self.lists);
         mark(&mut self.rows, by, ticket);
     }
 }

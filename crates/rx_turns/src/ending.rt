@@ -5,7 +5,7 @@ ghost use Rattle.rx_cellar.specs.Words.{is_inside};
 ghost use Rattle.rx_turns.specs.Rows.{HasLine};
 ghost use Rattle.rx_turns.specs.Agendas.{in_hand};
 ghost use Rattle.rx_turns.specs.States.{turn_state};
-ghost use Rattle.rx_turns.specs.Ending.{outer, left_under, astray_if, GivesBack, LetsLaneGo, LeavesTo, EndsTurn, StopsDeeper};
+ghost use Rattle.rx_turns.specs.Ending.{at_depth, left_under, astray_if, GivesBack, LetsLaneGo, LeavesTo, EndsTurn, StopsDeeper};
 
 use crate::agenda::{Task, Turn};
 use crate::turns::Turns;
@@ -14,21 +14,18 @@ use rx_cellar::Cellar;
 // From here on a word says that its lane is served further out.
 const INSIDE: u64 = 9_223_372_036_854_775_808;
 
-// The call further out.
-pub(crate) fn outer(turn: Turn) -> Turn
-    ensures { result ≡ outer turn }
+// The call of this depth on the same stack.
+pub(crate) fn at_depth(turn: Turn, depth: u64) -> Turn
+    ensures { result ≡ at_depth turn depth }
 {
-    Turn {
-        depth: turn.depth.saturating_sub(1),
-        ..turn
-    }
+    Turn { depth, ..turn }
 }
 
-// Whose it is then what the call further out lets go of.
-pub(crate) fn owner(turn: Turn, now: bool) -> Turn
-    ensures { result ≡ (if now then turn else outer turn) }
+// Whose it is then what the call of this depth lets go of.
+pub(crate) fn owner(turn: Turn, from: u64, now: bool) -> Turn
+    ensures { result ≡ (if now then turn else at_depth turn from) }
 {
-    if now { turn } else { outer(turn) }
+    if now { turn } else { at_depth(turn, from) }
 }
 
 // The word under which something is left, if it is.

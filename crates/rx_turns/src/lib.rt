@@ -42,4 +42,5 @@ pub use laws::{
     nothing_is_left_where_nothing_is_handed_out, other_turns_keep_theirs,
     what_is_handed_out_is_in_hand,
 };
-pub use turns::{Step, Turns};
+pub use making::Done;
+pub use turns::Turns;

@@ -1,8 +1,7 @@
 //! A command that a turn makes.
 
-ghost use Rattle.std.specs.Prelude.{◌≡◌, ◌==◌, ◌<◌, ◌^◌, true, length, slice_get, option_copied};
+ghost use Rattle.std.specs.Prelude.{◌≡◌, ◌==◌, ◌<◌, ◌^◌, true, length, slice_get};
 ghost use Rattle.rx_cellar.specs.Words.{place_in};
-ghost use Rattle.rx_turns.specs.Calls.{MakesAny};
 ghost use Rattle.rx_turns.specs.States.{turn_state};
 ghost use Rattle.rx_turns.specs.Rows.{HasLine};
 ghost use Rattle.rx_turns.specs.Making.{words_due, IsMadeDue, AreMadeDue, made_for, lane_at_once};
@@ -17,14 +16,18 @@ use rx_resource::Token;
 // A lane's place is below this.
 const PLACES: u64 = 536_870_912;
 
-// What a command came to, and whether its item is in hand.
+/// What a command came to.
 #[derive(Clone, Copy)]
-pub(crate) struct Done {
-    pub(crate) status: u8,
-    pub(crate) is_own: bool,
+pub struct Done {
+    /// 0 where the command was done; 4 where there was no memory to keep what it would come to, and it was not made; else
+    /// as [`Cellar::make`] has it.
+    pub status: u8,
+    /// Whether what is handed out is its item.
+    pub is_own: bool,
 }
 
 // The place of the lane that a word names.
+#[inline(always)]
 pub(crate) fn place_of(word: u64) -> usize
     ensures place { result ≡ place_in word }
     ensures below { result < 2 ^ 29 }
@@ -33,6 +36,7 @@ pub(crate) fn place_of(word: u64) -> usize
 }
 
 // The command as a turn makes it: by its word, and an item waits in its lane, but where the turn has nothing else.
+#[inline(always)]
 fn made_for(is_free: bool, turn: Turn, command: &Command) -> Command
     ensures { result ≡ made_for is_free turn command.now }
 {
@@ -49,6 +53,7 @@ fn made_for(is_free: bool, turn: Turn, command: &Command) -> Command
 }
 
 // One of the words that the answer of the last accepted command names; none past the last.
+#[inline(always)]
 fn word_due(cellar: &Cellar, index: u64) -> Option<u64>
     ensures { result ≡ slice_get (words_due cellar.now) index }
 {
@@ -59,6 +64,7 @@ fn word_due(cellar: &Cellar, index: u64) -> Option<u64>
 }
 
 // The word of the lane whose item the engine handed out with its answer.
+#[inline(always)]
 fn lane_at_once(cellar: &Cellar, answer: &Answer) -> Option<u64>
     ensures { result ≡ lane_at_once answer.now.handed (words_due cellar.now) }
 {
@@ -93,6 +99,7 @@ impl Turns {
     }
 
     // What comes of a command that was done; whether its item is in hand.
+    #[inline(always)]
     fn come(&mut self, turn: Turn, answer: &Answer) -> bool
         requires line { HasLine turn self.old.agenda.rows.items }
         requires many { answer.now.due ≡ length (words_due self.old.cellar) }
@@ -111,6 +118,7 @@ impl Turns {
     }
 
     // Has what comes of a command that was done.
+    #[inline(always)]
     fn come_if(&mut self, is_done: bool, turn: Turn, answer: &Answer) -> bool
         requires line { HasLine turn self.old.agenda.rows.items }
         requires many { is_done ≡ true → answer.now.due ≡ length (words_due self.old.cellar) }
@@ -125,6 +133,7 @@ impl Turns {
     }
 
     // Makes a command in a turn that has a line.
+    #[inline(always)]
     fn make_by(&mut self, turn: Turn, is_free: bool, command: &Command, answer: &mut Answer) -> Done
         requires { HasLine turn self.old.agenda.rows.items }
         ensures { IsMadeBy ⟦<Token as Resource>⟧ turn is_free command.now (turn_state self.old) (turn_state self.new)
@@ -138,7 +147,8 @@ impl Turns {
     }
 
     // Makes a command in a turn.
-    fn make(&mut self, turn: Turn, command: &Command, answer: &mut Answer) -> Done
+    #[inline(always)]
+    pub(crate) fn make(&mut self, turn: Turn, command: &Command, answer: &mut Answer) -> Done
         ensures { MakesIn ⟦<Token as Resource>⟧ turn command.now (turn_state self.old) (turn_state self.new)
             answer.old answer.new result.status result.is_own }
     {
@@ -149,28 +159,6 @@ impl Turns {
                 answer.clear();
                 Done {
                     status: NO_MEMORY,
-                    is_own: false,
-                }
-            }
-        }
-    }
-
-    // Makes a command in a turn, if there is one.
-    pub(crate) fn make_any(
-        &mut self,
-        turn: Turn,
-        command: Option<&Command>,
-        answer: &mut Answer,
-    ) -> Done
-        ensures { MakesAny ⟦<Token as Resource>⟧ turn (option_copied command.entry) (turn_state self.old)
-            (turn_state self.new) answer.old answer.new result.status result.is_own }
-    {
-        match command {
-            Some(command) => self.make(turn, command, answer),
-            None => {
-                answer.clear();
-                Done {
-                    status: 0,
                     is_own: false,
                 }
             }

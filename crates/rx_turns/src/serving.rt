@@ -1,8 +1,8 @@
 //! What a turn is handed next.
 
-ghost use Rattle.std.specs.Prelude.{◌≡◌, Some, true};
+ghost use Rattle.std.specs.Prelude.{◌≡◌, Some};
 ghost use Rattle.rx_cellar.specs.declared.shapes.Effect.{Effect};
-ghost use Rattle.rx_turns.specs.Rows.{HasLine};
+ghost use Rattle.rx_turns.specs.Rows.{HasLine, IsToldOf};
 ghost use Rattle.rx_turns.specs.Agendas.{in_hand};
 ghost use Rattle.rx_turns.specs.Calls.{PicksUp, GoesDeeper, TurnGoesOn};
 ghost use Rattle.rx_turns.specs.States.{turn_state};
@@ -31,132 +31,142 @@ impl Turns {
     }
 
     // AsksLane a lane for a turn that has a line.
-    fn ask(&mut self, turn: Turn, word: u64) -> Option<Task>
+    #[inline(always)]
+    fn ask(&mut self, turn: Turn, word: u64, handed: &mut Option<Task>)
         requires { HasLine turn self.old.agenda.rows.items }
-        ensures asks { AsksLane turn word (turn_state self.old) (turn_state self.new) result }
+        ensures asks { AsksLane turn word (turn_state self.old) (turn_state self.new) handed.new }
         ensures line { HasLine turn self.new.agenda.rows.items }
     {
         self.cellar.promise();
         match self.cellar.take(word, turn.by) {
-            Some(effect) => Some(self.hand_out(turn, word, effect)),
-            None => None,
+            Some(effect) => *handed = Some(self.hand_out(turn, word, effect)),
+            None => *handed = None,
         }
     }
 
     // AsksLane the lanes that are due to a turn in order, until one gives something.
-    fn begin(&mut self, turn: Turn) -> Option<Task>
-        ensures { TakesDue turn (turn_state self.new) (turn_state self.old) result }
+    #[inline(always)]
+    fn begin(&mut self, turn: Turn, handed: &mut Option<Task>)
+        ensures { TakesDue turn (turn_state self.new) (turn_state self.old) handed.new }
     {
+        *handed = None;
         while let Some(place) = self.agenda.first(turn) {
             let word = self.agenda.word(place);
             self.agenda.forget(place);
-            match self.ask(turn, word) {
-                Some(handed) => return Some(handed),
-                None => {}
+            self.ask(turn, word, handed);
+            if handed.is_some() {
+                return;
             }
         }
-        None
     }
 
     // AsksLane the lane that a turn serves, where what it was handed is told, and then those that are due to it.
-    fn ask_on(&mut self, turn: Turn, told: Task) -> Option<Task>
+    #[inline(always)]
+    fn ask_on(&mut self, turn: Turn, word: u64, handed: &mut Option<Task>)
         requires line { HasLine turn self.old.agenda.rows.items }
-        requires hand { in_hand (turn_state self.old).agenda turn ≡ Some told }
-        requires begun { told.is_begun ≡ true }
-        ensures { Serves turn (turn_state self.new) (turn_state self.old) result }
+        requires told { IsToldOf (in_hand (turn_state self.old).agenda turn) (Some word) }
+        ensures { Serves turn (turn_state self.new) (turn_state self.old) handed.new }
     {
-        match self.ask(turn, told.word) {
-            Some(handed) => Some(handed),
-            None => {
-                self.agenda.hold(turn, None);
-                self.begin(turn)
-            }
+        self.ask(turn, word, handed);
+        if handed.is_none() {
+            self.agenda.hold(turn, None);
+            self.begin(turn, handed);
         }
     }
 
     // What a turn is handed next.
-    fn serve(&mut self, turn: Turn) -> Option<Task>
-        ensures { Serves turn (turn_state self.new) (turn_state self.old) result }
+    #[inline(always)]
+    fn serve(&mut self, turn: Turn, handed: &mut Option<Task>)
+        ensures { Serves turn (turn_state self.new) (turn_state self.old) handed.new }
     {
-        match self.agenda.served(turn) {
-            Some(handed) => {
-                if handed.is_begun {
-                    self.ask_on(turn, handed)
-                } else {
-                    Some(handed)
+        match self.agenda.told(turn) {
+            Some(word) => self.ask_on(turn, word, handed),
+            None => {
+                *handed = self.agenda.served(turn);
+                if handed.is_none() {
+                    self.begin(turn, handed);
                 }
             }
-            None => self.begin(turn),
         }
     }
 
     // What the deeper calls of its stack are handed next.
-    fn serve_deeper(&mut self, turn: Turn) -> Option<Task>
-        ensures { ServesDeeper turn (turn_state self.new) (turn_state self.old) result }
+    #[inline(always)]
+    fn serve_deeper(&mut self, turn: Turn, handed: &mut Option<Task>)
+        ensures { ServesDeeper turn (turn_state self.new) (turn_state self.old) handed.new }
     {
+        *handed = None;
         let mut last = turn;
         while let Some(inner) = self.agenda.next_deeper(last) {
             self.agenda.promise();
-            match self.serve(inner) {
-                Some(handed) => return Some(handed),
-                None => last = inner,
+            self.serve_inner(inner, handed);
+            if handed.is_some() {
+                return;
             }
+            last = inner;
         }
-        None
+    }
+
+    // What a deeper call is handed next.
+    #[inline(never)]
+    fn serve_inner(&mut self, turn: Turn, handed: &mut Option<Task>)
+        ensures { Serves turn (turn_state self.new) (turn_state self.old) handed.new }
+    {
+        self.serve(turn, handed);
     }
 
     // What is left from a place on.
-    fn look(&mut self, turn: Turn, from: u64) -> Option<Task>
+    #[cold]
+    #[inline(never)]
+    fn look(&mut self, turn: Turn, from: u64, handed: &mut Option<Task>)
         requires { self.old.astray ≡ Some from }
-        ensures { PicksUp turn (turn_state self.new) (turn_state self.old) result }
+        ensures { PicksUp turn (turn_state self.new) (turn_state self.old) handed.new }
     {
+        *handed = None;
         let mut word = 0;
         let mut next = 0;
         self.cellar.left(from, &mut word, &mut next);
         if word == u64::MAX {
             self.astray = None;
-            return None;
+            return;
         }
         if !self.agenda.claim(turn, place_of(word), word) {
-            return None;
+            return;
         }
         self.astray = Some(next);
-        self.begin(turn)
+        self.begin(turn, handed);
     }
 
     // What is astray.
-    fn pick_up(&mut self, turn: Turn) -> Option<Task>
-        ensures { PicksUp turn (turn_state self.new) (turn_state self.old) result }
+    #[inline(always)]
+    fn pick_up(&mut self, turn: Turn, handed: &mut Option<Task>)
+        ensures { PicksUp turn (turn_state self.new) (turn_state self.old) handed.new }
     {
         match self.astray {
-            Some(from) => self.look(turn, from),
-            None => None,
+            Some(from) => self.look(turn, from, handed),
+            None => *handed = None,
         }
     }
 
     // What is to be done next where the turn itself has nothing.
-    fn go_deeper(&mut self, turn: Turn) -> Option<Task>
-        ensures { GoesDeeper turn (turn_state self.new) (turn_state self.old) result }
+    #[inline(always)]
+    fn go_deeper(&mut self, turn: Turn, handed: &mut Option<Task>)
+        ensures { GoesDeeper turn (turn_state self.new) (turn_state self.old) handed.new }
     {
-        match self.serve_deeper(turn) {
-            Some(handed) => Some(handed),
-            None => {
-                if turn.depth == 1 {
-                    self.pick_up(turn)
-                } else {
-                    None
-                }
-            }
+        self.serve_deeper(turn, handed);
+        if handed.is_none() && turn.depth == 1 {
+            self.pick_up(turn, handed);
         }
     }
 
     // What is to be done next in a turn.
-    pub(crate) fn go_on(&mut self, turn: Turn) -> Option<Task>
-        ensures { TurnGoesOn turn (turn_state self.new) (turn_state self.old) result }
+    #[inline(always)]
+    pub(crate) fn go_on(&mut self, turn: Turn, handed: &mut Option<Task>)
+        ensures { TurnGoesOn turn (turn_state self.new) (turn_state self.old) handed.new }
     {
-        match self.serve(turn) {
-            Some(handed) => Some(handed),
-            None => self.go_deeper(turn),
+        self.serve(turn, handed);
+        if handed.is_none() {
+            self.go_deeper(turn, handed);
         }
     }
 }

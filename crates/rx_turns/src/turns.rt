@@ -1,30 +1,20 @@
 //! An engine, and beside it what is due to whom.
 
-ghost use Rattle.std.specs.Prelude.{◌≡◌, [], option_copied, None};
+ghost use Rattle.std.specs.Prelude.{◌≡◌, [], Some, None};
+ghost use Rattle.rx_cellar.specs.Crossings.{no_answer};
 ghost use Rattle.rx_cellar.specs.Beginnings.{limit_of, first_until, IsFresh};
-ghost use Rattle.rx_turns.specs.Calls.{IsTurnStep, IsTurnPass, IsTurnStop};
+ghost use Rattle.rx_turns.specs.Calls.{step_of, bare_step, IsTurnStep, IsTurnPass, IsTurnStop};
 ghost use Rattle.rx_turns.specs.Agendas.{IsDueOnce};
 ghost use Rattle.rx_turns.specs.Seen.{seen};
 ghost use Rattle.rx_turns.specs.States.{turn_state};
 
 use crate::agenda::{Agenda, Task, Turn};
-use crate::ending::{outer, owner};
+use crate::ending::{at_depth, owner};
+use crate::making::Done;
 use rx_book::Resource;
 use rx_cellar::{Answer, Cellar, Command};
 use rx_resource::Token;
 use std::alloc::Global;
-
-/// What a step came to.
-#[derive(Clone, Copy)]
-pub struct Step {
-    /// 0 where the command was done, or there was none; 4 where there was no memory to keep what it would come to, and
-    /// it was not made; else as [`Cellar::make`] has it.
-    pub status: u8,
-    /// What is to be done now. Where there is nothing, the turn has nothing any more.
-    pub handed: Option<Task>,
-    /// Whether that is the item of this step's command.
-    pub is_own: bool,
-}
 
 /// An engine by turns.
 #[derive(Drop)]
@@ -65,38 +55,44 @@ impl Turns {
         self.agenda.promise();
     }
 
-    /// What its stack began last, by its ticket, is told. Makes the command, if there is one, by the stack's word, and
-    /// hands out what is to be done next in this turn, whatever the status: what was handed out and not begun, once
-    /// more; then the rest of the lane that it serves; then what each lane has that is due to it, in order; then the
-    /// same for each deeper call of this stack; and at depth 1 then what calls that were stopped have left.
+    /// What its stack began last, by its ticket, is told. Makes the command by the stack's word, and hands out what is to
+    /// be done next in this turn, whatever the status: what was handed out and not begun, once more; then the rest of the
+    /// lane that it serves; then what each lane has that is due to it, in order; then the same for each deeper call of this
+    /// stack; and at depth 1 then what calls that were stopped have left.
     pub fn step(
         &mut self,
         turn: Turn,
         begun: u64,
-        command: Option<&Command>,
+        command: &Command,
         answer: &mut Answer,
-    ) -> Step
-        ensures { IsTurnStep ⟦<Token as Resource>⟧ turn begun (option_copied command.entry) (turn_state self.old)
-            (turn_state self.new) answer.old answer.new result }
+        handed: &mut Option<Task>,
+    ) -> Done
+        ensures { IsTurnStep ⟦<Token as Resource>⟧ turn begun (Some command.now) (turn_state self.old) (turn_state self.new)
+            answer.old answer.new (step_of result handed.new) }
     {
         self.agenda.mark(turn.by, begun);
-        let done = self.make_any(turn, command, answer);
-        let handed = self.go_on(turn);
-        Step {
-            status: done.status,
-            handed,
-            is_own: done.is_own,
-        }
+        let done = self.make(turn, command, answer);
+        self.go_on(turn, handed);
+        done
     }
 
-    /// From within an effect: what the call further out is doing counts as told, and its lane is free. With `now` what
-    /// is left there is this turn's, without it that of the call further out, behind what it has.
-    pub fn pass(&mut self, turn: Turn, begun: u64, now: bool)
-        ensures { IsTurnPass turn begun now (turn_state self.old) (turn_state self.new) }
+    /// The same without a command.
+    pub fn next(&mut self, turn: Turn, begun: u64, handed: &mut Option<Task>)
+        ensures { (a : _) → IsTurnStep ⟦<Token as Resource>⟧ turn begun None (turn_state self.old) (turn_state self.new)
+            a (no_answer a) (bare_step handed.new) }
     {
         self.agenda.mark(turn.by, begun);
-        let left = self.let_go(outer(turn));
-        self.leave(left, owner(turn, now));
+        self.go_on(turn, handed);
+    }
+
+    /// From within an effect: what the call of this depth further out is doing counts as told, and its lane is free. With
+    /// `now` what is left there is this turn's, without it that of the call further out, behind what it has.
+    pub fn pass(&mut self, turn: Turn, begun: u64, from: u64, now: bool)
+        ensures { IsTurnPass turn begun from now (turn_state self.old) (turn_state self.new) }
+    {
+        self.agenda.mark(turn.by, begun);
+        let left = self.let_go(at_depth(turn, from));
+        self.leave(left, owner(turn, from, now));
     }
 
     /// The turn and each deeper call of its stack end: what was begun is told, what was not stands first in its lane

@@ -1,37 +1,24 @@
-use Rattle.std.proofs.Common.{◌<◌, ℕ, Some, None, length, refl, ap, sym, ◌∙◌, subst}
-use Rattle.rx_turns.specs.Agendas.{due_to}
-use Rattle.rx_turns.specs.Seen.{seen}
-use Rattle.rx_turns.specs.States.{TurnState, turn_state}
-use Rattle.rx_turns.specs.Serving.{AsksLane, nothing_due}
-use Rattle.rx_turns.proofs.Asked.{asked_one, asked_none, asked_due}
-use Rattle.rx_turns.proofs.TakenOut.{empty_head, shorter}
+use Rattle.std.proofs.Common.{rules, ◌≡◌, Some, ℕ, ◌+◌, ◌-◌, ◌*◌, ◌<◌, ◌≤◌, length, ◌/◌, ◌%◌, Bool, true, false, nat_eq, nat_lt, List, [], ◌∷◌, ◌++◌, slice_index_or, slice_set, bit_and, bit_or, Fits, w8, w32, w64, Bor, MutBor}
+use Rattle.rx_cellar.specs.declared.shapes.Effect.{Effect}
+use Rattle.rx_turns.specs.Rows.{HasLine, IsToldOf}
+use Rattle.rx_turns.specs.Agendas.{in_hand}
+use Rattle.rx_turns.specs.Calls.{PicksUp, GoesDeeper, TurnGoesOn}
+use Rattle.rx_turns.specs.States.{turn_state}
+use Rattle.rx_turns.specs.Serving.{HandsOut, AsksLane, TakesDue, Serves, ServesDeeper}
 use Rattle.rx_turns.proofs.turns.Turns.begin.Goals as goal
 
-pub returns-in-Some-ask : goal.returns-in-Some-ask
-returns-in-Some-ask c =
-    let mid : TurnState = record (turn_state c.loop-place.self) { agenda = seen c.forget.new.self } in
-    let asks = subst (λ (w : ℕ). AsksLane c.args.turn w mid (turn_state c.ask.new.self)
-    (Some c.in-Some-ask.handed)) c.word-word.ensures c.in-Some-ask.ensures.asks in
-    c.loop-place.invariant _ _
-    (asked_one c.args.turn (turn_state c.loop-place.self) mid (turn_state c.ask.new.self) c.in-Some.place c.in-Some-ask.handed c.in-Some.ensures.first
-    (record { gone = c.forget.ensures.gone; only = refl }) asks)
+-- src/serving.rt:58:17
+pub returns-then-is_some : goal.returns-then-is_some
+returns-then-is_some c = ?
 
+-- src/serving.rt:53:9
 pub loop-place-smaller : goal.loop-place-smaller
-loop-place-smaller c =
-    let mid : TurnState = record (turn_state c.loop-place.self) { agenda = seen c.forget.new.self } in
-    let before = due_to (turn_state c.loop-place.self).agenda c.args.turn in
-    let fewer = shorter c.in-Some.place before c.in-Some.ensures.first in
-    let out = asked_due c.args.turn c.word-word.result mid (turn_state c.ask.new.self) None c.in-None.ensures.asks c.args.turn
-    ∙ c.forget.ensures.gone.due c.args.turn in
-    subst (λ n. n < length before) (sym (ap length out)) fewer
+loop-place-smaller c = ?
 
+-- src/serving.rt:53:9
 pub loop-place-preserved : goal.loop-place-preserved
-loop-place-preserved c = λ b answer rest.
-    let mid : TurnState = record (turn_state c.loop-place.self) { agenda = seen c.forget.new.self } in
-    let asks = subst (λ (w : ℕ). AsksLane c.args.turn w mid (turn_state c.ask.new.self) None) c.word-word.ensures c.in-None.ensures.asks in
-    c.loop-place.invariant b answer
-    (asked_none c.args.turn (turn_state c.loop-place.self) mid (turn_state c.ask.new.self) b c.in-Some.place answer c.in-Some.ensures.first
-    (record { gone = c.forget.ensures.gone; only = refl }) asks rest)
+loop-place-preserved c = ?
 
+-- src/serving.rt:48:5
 pub returns : goal.returns
-returns c = c.loop-place.invariant _ _ (nothing_due (empty_head _ c.in_default.ensures.first))
+returns c = ?

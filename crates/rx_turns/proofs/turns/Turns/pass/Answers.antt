@@ -9,6 +9,6 @@ returns c = record {
   free = turn_state c.let_go-left.new.self;
   left = c.let_go-left.result;
   marks = record { marks = c.mark.ensures; only = refl };
-  lets_go = rw (← c.outer.ensures) c.let_go-left.ensures;
+  lets_go = rw (← c.at_depth.ensures) c.let_go-left.ensures;
   leaves = rw (← c.owner.ensures) c.leave.ensures;
 }

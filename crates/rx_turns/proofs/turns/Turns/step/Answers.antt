@@ -6,8 +6,8 @@ use Rattle.rx_turns.proofs.turns.Turns.step.Goals as goal
 pub returns : goal.returns
 returns c = record {
   marked = record (turn_state c.args.self.now) { agenda = seen c.mark.new.self };
-  made = turn_state c.make_any-done.new.self;
+  made = turn_state c.make-done.new.self;
   marks = record { marks = c.mark.ensures; only = refl };
-  makes = c.make_any-done.ensures;
-  goes_on = c.go_on-handed.ensures;
+  makes = c.make-done.ensures;
+  goes_on = c.go_on.ensures;
 }
