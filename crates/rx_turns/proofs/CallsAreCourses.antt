@@ -23,7 +23,7 @@ use Rattle.rx_turns.specs.States.{TurnState}
 use Rattle.rx_turns.specs.Serving.{HandsOut, AsksLane, gives_one, gives_none, TakesOff, TakesDue, nothing_due, has_one, has_none}
 use Rattle.rx_turns.specs.Serving.{Serves, hands_again, goes_on, ends_lane, serves_none, ServesDeeper, none_deeper, deeper_has_one, deeper_has_none}
 use Rattle.rx_turns.specs.Making.{words_due, made_for, AreMadeDue, all_claimed, one_claimed, lane_at_once, Comes, comes_at_once, all_wait, ComesIf, MakesIn}
-use Rattle.rx_turns.specs.Making.{is_made}
+use Rattle.rx_turns.specs.Making.{is_made, is_made_bare}
 use Rattle.rx_turns.specs.Making.{finds_no_line}
 use Rattle.rx_turns.specs.Ending.{untold_of, LetsLaneGo, holds_none, stays_in_hand, lets_inner_go, gives_lane_up, EndsTurn, StopsDeeper, all_ended, one_ended}
 use Rattle.rx_turns.specs.Ending.{LeavesTo}
@@ -202,7 +202,12 @@ made_in g turn c s t a b _ _ (is_made u status is_own admits by) =
     let same = ap (λ (x : TurnState). x.cellar) admits.only in
     come_if g turn s u t by.cellar b status made.told is_own (status == 0) refl by.comes
     (subst (λ (x : Cellar). IsCourseTelling g x.engine by.cellar.engine made.told) same made.course) made.told_so
-made_in g turn c s t a b _ _ (finds_no_line full loses only none) = takes_none (stays g s t (ap (λ (x : TurnState). x.cellar) only))
+made_in g turn c s t a b _ _ (is_made_bare u status full asks loses only by) =
+    let made = made_course g (made_for true turn c) u.cellar by.cellar a b status by.stood by.made in
+    let same = ap (λ (x : TurnState). x.cellar) only in
+    come_if g turn s u t by.cellar b status made.told false (status == 0) refl by.comes
+    (subst (λ (x : Cellar). IsCourseTelling g x.engine by.cellar.engine made.told) same made.course) made.told_so
+made_in g turn c s t a b _ _ (finds_no_line full asks loses only none) = takes_none (stays g s t (ap (λ (x : TurnState). x.cellar) only))
 
 made_any : (g : Ghosts Token) (turn : Turn) (c : Option Command) (s t : TurnState) (a b : Answer) (status : ℕ) (is_own : Bool) →
     MakesAny g turn c s t a b status is_own → MakesCourse g turn s t

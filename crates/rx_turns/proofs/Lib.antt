@@ -12,6 +12,7 @@ pub mod Deeper
 pub mod Emptied
 pub mod DueOnce
 pub mod Asked
+pub mod Handed
 pub mod Promised
 pub mod Others
 pub mod Passed
@@ -23,5 +24,6 @@ pub mod WordsClaimed
 pub mod WordsRead
 pub mod CoursesTold
 pub mod CommandsAreCourses
+pub mod NothingHanded
 pub mod CommandsTold
 pub mod CallsAreCourses

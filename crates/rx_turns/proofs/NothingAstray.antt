@@ -14,7 +14,6 @@ use Rattle.rx_cellar.specs.Serving.{Takes, IsTakenIf, IsTaken, IsLeftTold, one_l
 use Rattle.rx_cellar.specs.Words.{is_inside, word_of, place_in, WordsFindTheirLanes}
 use Rattle.rx_turns.specs.declared.agenda.Turn.{Turn}
 use Rattle.rx_turns.specs.declared.agenda.Task.{Task}
-use Rattle.rx_turns.specs.Rows.{is_same}
 use Rattle.rx_turns.specs.Agendas.{due_to, lane_word, HasNothing}
 use Rattle.rx_turns.specs.States.{TurnState}
 use Rattle.rx_turns.specs.Serving.{AsksLane, gives_one, gives_none, TakesDue, nothing_due, has_one, has_none}

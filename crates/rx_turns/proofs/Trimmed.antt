@@ -1,5 +1,5 @@
 -- A last line on which nothing is due and nothing is served is taken off.
-use Rattle.std.proofs.Common.{◌≡◌, ℕ, ◌+◌, ◌<◌, ◌≤◌, ◌==◌, Bool, true, false, cond, List, [], ◌∷◌, ◌++◌, length, None, refl, ap, sym, ◌∙◌, arith, ◌⊎◌, inl, inr}
+use Rattle.std.proofs.Common.{◌≡◌, ℕ, ◌+◌, ◌-◌, ◌<◌, ◌≤◌, ◌==◌, Bool, true, false, cond, List, [], ◌∷◌, ◌++◌, length, Option, Some, None, option_to_list, is_some, append-nil, refl, ap, sym, subst, ◌∙◌, arith, ◌⊎◌, inl, inr}
 use Rattle.std.proofs.Math.Bool.{not}
 use Rattle.std.proofs.lemmas.List.Folds.{position_or_len_push}
 use Rattle.std.proofs.lemmas.List.Sums.{prefix_len-le-length}
@@ -9,6 +9,9 @@ use Rattle.rx_slots.specs.Lists.{Lists, list_at}
 use Rattle.rx_turns.specs.declared.agenda.Turn.{Turn}
 use Rattle.rx_turns.specs.declared.agenda.Row.{Row}
 use Rattle.rx_turns.specs.Rows.{is_of, blank, row_on, own_line, HaveOneRowEach, due_on, hand_on, AreListed, TellsAlike}
+use Rattle.rx_turns.specs.declared.agenda.Task.{Task}
+use Rattle.rx_turns.specs.Rows.{begun_by}
+use Rattle.rx_turns.specs.Agendas.{NotesBegun}
 use Rattle.rx_turns.proofs.Grown.{many_pushed}
 
 module _ (rows : List Row) (row : Row) (lists : Lists) (listed : AreListed (rows ++ row ∷ []) lists) (apart : HaveOneRowEach (rows ++ row ∷ []))
@@ -42,7 +45,7 @@ module _ (rows : List Row) (row : Row) (lists : Lists) (listed : AreListed (rows
   same_by t true is =
       let now : own_line t rows ≡ length rows = eqb-true (own_line t rows) (length rows) is in
       let was : own_line t whole ≡ length rows + cond (is_of t row) 0 1 =
-          position_or_len_push (is_of t) rows row ∙ ap (λ b. cond b (length rows + cond (is_of t row) 0 1) (own_line t rows)) is in
+      position_or_len_push (is_of t) rows row ∙ ap (λ b. cond b (length rows + cond (is_of t row) 0 1) (own_line t rows)) is in
       let at = behind_by t (is_of t row) was in
       record {
         due = ap (list_at lists) now ∙ (nothing_due ∙ sym (idle (own_line t whole) at));
@@ -50,7 +53,7 @@ module _ (rows : List Row) (row : Row) (lists : Lists) (listed : AreListed (rows
       }
   same_by t false is =
       let same : own_line t whole ≡ own_line t rows =
-          position_or_len_push (is_of t) rows row ∙ ap (λ b. cond b (length rows + cond (is_of t row) 0 1) (own_line t rows)) is in
+      position_or_len_push (is_of t) rows row ∙ ap (λ b. cond b (length rows + cond (is_of t row) 0 1) (own_line t rows)) is in
       record {
         due = ap (list_at lists) (sym same);
         hands = ap (λ (r : Row). r.in_hand) (sym (kept_by (own_line t rows) (cases_lt (own_line t rows) (length rows)) is (at_most t)))
@@ -92,3 +95,31 @@ told_on a b c lists one two = record {
 
 pub told_as : (rows : List Row) (lists : Lists) → AreListed rows lists → HaveOneRowEach rows → TellsAlike rows rows lists lists
 told_as rows lists listed apart = record { due = λ t. refl; hands = λ t. refl; apart = apart; listed = listed; members = refl }
+
+-- the last row was popped
+pub popped : (whole rows : List Row) (o : Option Row) (lists : Lists) → whole ≡ rows ++ option_to_list o → AreListed whole lists → HaveOneRowEach whole →
+    (row_on whole (length whole - 1)).in_hand ≡ None → list_at lists (length whole - 1) ≡ [] → TellsAlike whole rows lists lists
+popped whole rows None lists is listed apart served due =
+    subst (λ (x : List Row). TellsAlike whole x lists lists) (is ∙ append-nil rows) (told_as whole lists listed apart)
+popped whole rows (Some row) lists is listed apart served due =
+    let last : length whole - 1 ≡ length rows = omega (arith, ap length is, many_pushed rows row) in
+    let there : row_on whole (length whole - 1) ≡ row =
+    ap (λ (x : List Row). row_on x (length whole - 1)) is ∙ get_or_push rows row blank (length whole - 1) (sym last) in
+    subst (λ (x : List Row). TellsAlike x rows lists lists) (sym is)
+    (trimmed rows row lists (subst (λ (x : List Row). AreListed x lists) is listed) (subst HaveOneRowEach is apart)
+    (ap (λ (r : Row). r.in_hand) (sym there) ∙ served) (ap (list_at lists) (sym last) ∙ due))
+
+pub no_place : (o : Option ℕ) → is_some o ≡ false → o ≡ None
+no_place None is = refl
+no_place (Some n) is = absurd (cc)
+
+-- what was begun is noted behind that
+pub marks_behind : (by ticket : ℕ) (old mid new : List Row) (lists : Lists) (words : List ℕ) → TellsAlike old mid lists lists →
+    NotesBegun by ticket (record { rows = mid; lists = lists; words = words }) (record { rows = new; lists = lists; words = words }) →
+    NotesBegun by ticket (record { rows = old; lists = lists; words = words }) (record { rows = new; lists = lists; words = words })
+marks_behind by ticket old mid new lists words told notes = record {
+  due = λ t. notes.due t ∙ told.due t;
+  hands = λ t. notes.hands t ∙ ap (λ (h : Option Task). cond (t.by == by) (begun_by ticket h) h) (told.hands t);
+  words = notes.words;
+  places_are = notes.places_are;
+}

@@ -1,5 +1,5 @@
 -- A command that a turn makes, and what is due to it then.
-use Rattle.std.specs.Prelude.{◌≡◌, ℕ, ◌==◌, ◌&&◌, Bool, true, false, List, [], ◌∷◌, map, Option, Some, None, slice_get, if◌then◌else◌}
+use Rattle.std.specs.Prelude.{◌≡◌, ℕ, ◌==◌, ◌&&◌, ◌||◌, nat_lt, Bool, true, false, List, [], ◌∷◌, map, Option, Some, None, slice_get, if◌then◌else◌}
 use Rattle.std.proofs.Math.Bool.{not}
 use Rattle.rx_resource.specs.declared.Resource.{Ghosts}
 use Rattle.rx_resource.specs.declared.token.Token.{Token}
@@ -65,9 +65,16 @@ pub record IsMadeBy (g : Ghosts Token) (turn : Turn) (is_free : Bool) (c : Comma
   pub made : IsCommandMade g (made_for is_free turn c) s.cellar cellar a b status
   pub comes : ComesIf (status == 0) turn (words_due cellar) b (record s { cellar = cellar }) t is_own
 
--- it is made; or, only where the turn has no line, there was no memory for one, and nothing changed
+-- what may be refused for want of memory: what opens, holds, uses, lends, connects, emits or puts
+abbrev pub may_ask : (what : ℕ) → Bool
+may_ask what = nat_lt what 4 || what == 9 || what == 11 || what == 14 || what == 16
+
+-- it is made; or, only where the turn has no line, there was no memory for one: then what may be refused for that is, and nothing changed; what
+-- ends or closes is made all the same, and what comes of it is due as far as there is room
 pub data MakesIn (g : Ghosts Token) (turn : Turn) (c : Command) (s t : TurnState) (a b : Answer) : (status : ℕ) → (is_own : Bool) → Type 0 where
   is_made : (u : TurnState) (status : ℕ) (is_own : Bool) → GivesLine turn s u → IsMadeBy g turn (has_nothing s.agenda turn) c u t a b status is_own →
       MakesIn g turn c s t a b status is_own
-  finds_no_line : (HasLine turn s.agenda.rows → ⊥) → LosesNothing s.agenda t.agenda → t ≡ record s { agenda = t.agenda } → b ≡ no_answer a →
+  is_made_bare : (u : TurnState) (status : ℕ) → (HasLine turn s.agenda.rows → ⊥) → may_ask c.what ≡ false → LosesNothing s.agenda u.agenda →
+      u ≡ record s { agenda = u.agenda } → IsMadeBy g turn true c u t a b status false → MakesIn g turn c s t a b status false
+  finds_no_line : (HasLine turn s.agenda.rows → ⊥) → may_ask c.what ≡ true → LosesNothing s.agenda t.agenda → t ≡ record s { agenda = t.agenda } → b ≡ no_answer a →
       MakesIn g turn c s t a b (refusal_status NoMemory) false

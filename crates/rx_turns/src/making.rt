@@ -1,10 +1,10 @@
 //! A command that a turn makes.
 
-ghost use Rattle.std.specs.Prelude.{◌≡◌, ◌==◌, ◌<◌, ◌^◌, true, length, slice_get};
+ghost use Rattle.std.specs.Prelude.{◌≡◌, ◌==◌, ◌<◌, ◌^◌, true, false, None, length, slice_get};
 ghost use Rattle.rx_cellar.specs.Words.{place_in};
 ghost use Rattle.rx_turns.specs.States.{turn_state};
 ghost use Rattle.rx_turns.specs.Rows.{HasLine};
-ghost use Rattle.rx_turns.specs.Making.{words_due, IsMadeDue, AreMadeDue, made_for, lane_at_once};
+ghost use Rattle.rx_turns.specs.Making.{may_ask, words_due, IsMadeDue, AreMadeDue, made_for, lane_at_once};
 ghost use Rattle.rx_turns.specs.Making.{Comes, ComesIf, IsMadeBy, MakesIn};
 
 use crate::agenda::Turn;
@@ -33,6 +33,13 @@ pub(crate) fn place_of(word: u64) -> usize
     ensures below { result < 2 ^ 29 }
 {
     (word % PLACES) as usize
+}
+
+// What may be refused for want of memory.
+fn may_ask(what: u8) -> bool
+    ensures { result ≡ may_ask what }
+{
+    what < 4 || what == 9 || what == 11 || what == 14 || what == 16
 }
 
 // The command as a turn makes it: by its word, and an item waits in its lane, but where the turn has nothing else.
@@ -146,6 +153,34 @@ impl Turns {
         Done { status, is_own }
     }
 
+    // Has what comes of a command that hands nothing out.
+    #[cold]
+    #[inline(never)]
+    fn come_bare(&mut self, is_done: bool, turn: Turn, answer: &Answer)
+        requires many { is_done ≡ true → answer.now.due ≡ length (words_due self.old.cellar) }
+        requires none { lane_at_once answer.now.handed (words_due self.old.cellar) ≡ None }
+        ensures { ComesIf is_done turn (words_due self.old.cellar) answer.now (turn_state self.old) (turn_state self.new) false }
+    {
+        if is_done {
+            self.claim_all(turn, answer.due);
+        }
+    }
+
+    // Makes a command that asks for no memory in a turn that has no line.
+    #[cold]
+    #[inline(never)]
+    fn make_bare(&mut self, turn: Turn, command: &Command, answer: &mut Answer) -> u8
+        requires { may_ask command.now.what ≡ false }
+        ensures { IsMadeBy ⟦<Token as Resource>⟧ turn true command.now (turn_state self.old) (turn_state self.new)
+            answer.old answer.new result false }
+    {
+        self.cellar.promise();
+        let asked = made_for(true, turn, command);
+        let status = self.cellar.make(&asked, answer);
+        self.come_bare(status == 0, turn, answer);
+        status
+    }
+
     // Makes a command in a turn.
     #[inline(always)]
     pub(crate) fn make(&mut self, turn: Turn, command: &Command, answer: &mut Answer) -> Done
@@ -156,9 +191,15 @@ impl Turns {
         match self.agenda.admit(turn) {
             Ok(()) => self.make_by(turn, is_free, command, answer),
             Err(_) => {
-                answer.clear();
+                if may_ask(command.what) {
+                    answer.clear();
+                    return Done {
+                        status: NO_MEMORY,
+                        is_own: false,
+                    };
+                }
                 Done {
-                    status: NO_MEMORY,
+                    status: self.make_bare(turn, command, answer),
                     is_own: false,
                 }
             }

@@ -68,10 +68,11 @@ impl Turns {
         ensures { Serves turn (turn_state self.new) (turn_state self.old) handed.new }
     {
         self.ask(turn, word, handed);
-        if handed.is_none() {
-            self.agenda.hold(turn, None);
-            self.begin(turn, handed);
+        if handed.is_some() {
+            return;
         }
+        self.agenda.hold(turn, None);
+        self.begin(turn, handed);
     }
 
     // What a turn is handed next.
@@ -83,9 +84,10 @@ impl Turns {
             Some(word) => self.ask_on(turn, word, handed),
             None => {
                 *handed = self.agenda.served(turn);
-                if handed.is_none() {
-                    self.begin(turn, handed);
+                if handed.is_some() {
+                    return;
                 }
+                self.begin(turn, handed);
             }
         }
     }
@@ -154,7 +156,10 @@ impl Turns {
         ensures { GoesDeeper turn (turn_state self.new) (turn_state self.old) handed.new }
     {
         self.serve_deeper(turn, handed);
-        if handed.is_none() && turn.depth == 1 {
+        if handed.is_some() {
+            return;
+        }
+        if turn.depth == 1 {
             self.pick_up(turn, handed);
         }
     }
@@ -165,8 +170,9 @@ impl Turns {
         ensures { TurnGoesOn turn (turn_state self.new) (turn_state self.old) handed.new }
     {
         self.serve(turn, handed);
-        if handed.is_none() {
-            self.go_deeper(turn, handed);
+        if handed.is_some() {
+            return;
         }
+        self.go_deeper(turn, handed);
     }
 }
