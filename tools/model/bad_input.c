@@ -4,14 +4,15 @@
 #include <cellarcliff.h>
 #include <string.h>
 
-enum { MAKE, TAKE, GIVE_UP, LEFT, REST, TOTALS, EVENT, DUMP, FINISH, NEW, DROP, MAKE_BEHIND };
-enum { OUT = 72, COUNT = 64 }; /* words that a call may write, and where its count stands among them */
+enum { STEP, NEXT, PASS, STOP, CLOSINGS, TOTALS, EVENT, DUMP, FINISH, NEW, DROP };
+enum { OUT = 72, COUNT = 64, STEPPED = 24 }; /* words that a call may write, where its count stands among them, and a step's */
 
 struct bad {
   uint8_t call, handle; /* which; 1: on a handle that keeps nothing */
   uint8_t pointer, off; /* which of its pointers is no good, 0 none; how far it is from one that is, 0 null */
   uint8_t wanted, spare[3];
-  uint64_t words[8]; /* the command, whose hub names the lane of MAKE_BEHIND too; or what the call takes, in order */
+  uint64_t words[8]; /* the command; or what the call takes, in order */
+  uint64_t stack[3];
 };
 static uint64_t out[OUT], before[OUT];
 
@@ -21,35 +22,33 @@ static uint64_t out[OUT], before[OUT];
 #endif
 enum { FAULTS = 8 };
 static void turn(struct bad *it) {
-  if (PLANT == 1 && it->call == MAKE) it->words[7] = 0;                                        /* a spare field is not looked at */
-  if (PLANT == 2 && it->call == MAKE && (it->words[0] & 255) > 17) it->words[0] = CELLAR_SHUT; /* a code that is none is another */
+  if (PLANT == 1 && it->call == STEP) it->words[7] = 0;                                        /* a spare field is not looked at */
+  if (PLANT == 2 && it->call == STEP && (it->words[0] & 255) > 17) it->words[0] = CELLAR_SHUT; /* a code that is none is another */
   if (PLANT == 3 && it->pointer && it->off == 4) it->pointer = 0;                              /* a pointer that is off by 4 is good */
   if (PLANT == 4) it->handle = 0;                                                              /* a handle that keeps nothing keeps something */
 }
 static void turn_answer(struct cellar *engine, const struct bad *it, uint8_t *status) {
+  struct cellar_stack stack = {.depth = 1};
   struct cellar_command shut = {.what = CELLAR_SHUT};
-  struct cellar_answer answer;
-  if (PLANT == 5 && it->call == TAKE) out[COUNT]++;                                       /* a lane that is none gives something */
-  if (PLANT == 6 && it->call == MAKE && *status == CELLAR_GONE) out[6] = 1;               /* a refused command counts its value */
-  if (PLANT == 7 && *status == CELLAR_NOT_HELD) cellar_make(engine, &shut, &answer);      /* a resource that is none closes something */
-  if (PLANT == 8 && it->call == GIVE_UP && *status == CELLAR_GONE) *status = CELLAR_DONE; /* a lane is given up that another serves */
+  struct cellar_stepped step;
+  if (PLANT == 5 && it->call == CLOSINGS) out[COUNT]++;                                     /* there is one closing more */
+  if (PLANT == 6 && it->call == STEP && *status == CELLAR_GONE) out[6] = 1;                 /* a refused command counts its value */
+  if (PLANT == 7 && *status == CELLAR_NOT_HELD) cellar_step(engine, &stack, &shut, &step);  /* a resource that is none closes something */
+  if (PLANT == 8 && it->call == NEXT) out[16] = 1;                                          /* a stack that has nothing is handed something */
 }
 uint64_t bad_faults(void) { return FAULTS; }
 
 static uint8_t made(struct cellar *engine, const struct bad *it) {
   void *bad = it->off ? (char *)out + it->off : NULL;
-  uint64_t given[2 * 4];
 #define POINTER(n, good) (it->pointer == n ? bad : (void *)(good))
   struct cellar *e = POINTER(1, engine);
   const uint64_t *w = it->words;
-  memcpy(given, w + 3, 32), memcpy(given + 4, w + 3, 32);
   switch (it->call) {
-    case MAKE: return cellar_make(e, POINTER(2, w), POINTER(3, out));
-    case TAKE: return cellar_take(e, w[0], w[1], POINTER(2, out), POINTER(3, out + COUNT));
-    case MAKE_BEHIND: return cellar_make_behind(e, w[1], POINTER(2, w), POINTER(3, out));
-    case GIVE_UP: return cellar_give_up(e, w[0], w[1], POINTER(2, given), w[2], POINTER(3, out + COUNT));
-    case LEFT: return cellar_left(e, w[0], POINTER(2, out), POINTER(3, out + COUNT));
-    case REST: return cellar_rest(e, (uint8_t)w[0], w[1], POINTER(2, out), w[2], POINTER(3, out + COUNT));
+    case STEP: return cellar_step(e, POINTER(2, it->stack), POINTER(3, w), POINTER(4, out));
+    case NEXT: return cellar_next(e, POINTER(2, it->stack), POINTER(3, out));
+    case PASS: return cellar_pass(e, POINTER(2, it->stack), (uint8_t)w[0]);
+    case STOP: return cellar_stop(e, POINTER(2, it->stack));
+    case CLOSINGS: return cellar_closings(e, w[0], POINTER(2, out), w[1], POINTER(3, out + COUNT));
     case TOTALS: return cellar_totals(e, POINTER(2, out));
     case EVENT: return cellar_event(e, w[0], POINTER(2, out));
     case DUMP: return cellar_dump(e, POINTER(2, out), w[0], POINTER(3, out + COUNT));
@@ -67,21 +66,22 @@ static int are_zero(int from, int count) {
          !memcmp(out + from + count, before + from + count, 8 * (size_t)(OUT - from - count));
 }
 static int is_written_right(const struct bad *it, uint8_t status) {
-  if (status == CELLAR_MISUSE || it->call == FINISH || it->call == NEW) return are_zero(0, 0);
+  if (status == CELLAR_MISUSE) return are_zero(0, 0);
   switch (it->call) {
-    case MAKE: case MAKE_BEHIND: /* all counts, and the spare words, which here take the places of two that stay */
-      if (out[4] || out[30] || out[31] || out[5] != before[5]) return 0;
-      out[4] = out[5] = 0, out[30] = out[31] = before[30];
-      return out[6] == 0 && are_zero(4, 6);
-    case LEFT: /* none, and where to go on is where it began */
-      if (out[0] != UINT64_MAX || out[COUNT] != it->words[0]) return 0;
-      out[0] = before[0], out[COUNT] = 0;
-      break;
+    case STEP: case NEXT: { /* the counts, and what is spare; of the rest of the answer nothing is said */
+      const struct cellar_stepped *step = (const void *)out;
+      if (step->is_connected || step->copies || step->closed || step->handed || step->own || step->spare) return 0;
+      memcpy(out, before, 8 * STEPPED);
+      return are_zero(0, 0);
+    }
     case TOTALS: return are_zero(0, 8);
     case EVENT: return are_zero(0, 4);
     case DUMP: /* its length, where there is too little room */
       if ((out[COUNT] != 0) != (status == CELLAR_SMALL)) return 0;
       out[COUNT] = 0;
+      break;
+    case CLOSINGS: break;
+    default: return are_zero(0, 0);
   }
   return are_zero(COUNT, 1);
 }

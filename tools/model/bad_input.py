@@ -1,5 +1,5 @@
-"""Bad input of an engine under CELLAR_ARMOR: codes and flags that are none, spare fields that are not zero, keys, lanes and words of another
-engine, of something gone or made up, null and misaligned pointers. Two engines are taken through random courses; between their steps
+"""Bad input of an engine under CELLAR_ARMOR: codes and flags that are none, spare fields that are not zero, keys and words of another
+engine, of something gone or made up, stacks that have nothing, null and misaligned pointers. Two engines are taken through random courses; between their steps
 each gets some hundred calls that are to be refused, of the other's words among them, by bad_input.c. The definitions say which status each
 has; behind the last, all that went in comes out of both."""
 from __future__ import annotations
@@ -12,7 +12,7 @@ import subprocess
 from collections import Counter
 from typing import Any
 
-from .cellar import INSIDE, Cellar
+from .cellar import Cellar
 from .courses import Course
 from .definitions import is_held, is_open, is_out
 from .engine import (ABORT, APPLY, COMPLETE, CONNECT, DECLINE, DISPOSE, ERROR, FAIL, GIVE_BACK, HOLD, LEASE, NEXT, NO_SUCH_CODE, NOTHING,
@@ -21,14 +21,13 @@ from .history import forget
 from .scenario import Differs
 from .crossing import CUT, HELD, NOTHING_WAITS, REFUSED, SMALL
 
-MAKE, TAKE, GIVE_UP, LEFT, REST, TOTALS, EVENT, DUMP, FINISH, NEW, DROP, MAKE_BEHIND = range(12)
-CALLS = ('make', 'take', 'give up', 'left', 'rest', 'totals', 'event', 'dump', 'finish', 'new', 'drop', 'make behind')
-POINTERS = (3, 3, 3, 3, 3, 2, 2, 3, 1, 1, 1, 3)  # of each call
-COMMANDS = (MAKE, MAKE_BEHIND)
-MISUSE, GONE = 9, REFUSED['Gone']
+STEP, GO_ON, PASS, STOP, CLOSINGS, TOTALS, EVENT, DUMP, FINISH, NEW, DROP = range(11)
+CALLS = ('step', 'next', 'pass', 'stop', 'closings', 'totals', 'event', 'dump', 'finish', 'new', 'drop')
+POINTERS = (4, 3, 2, 2, 3, 2, 2, 3, 1, 1, 1)  # of each call
+MISUSE = 9
 OF_ONE = (HOLD, NEXT, COMPLETE, ERROR, FAIL, DECLINE, DISPOSE, PUT, ABORT, APPLY, REMOVE, LEASE, GIVE_BACK)  # which read a key
 FLAGS = {OPEN: (0, 1, 2, 3, 6, 7), USING: (0, 1, 2, 3, 6, 7), NEXT: (0, 8), PUT: (0, 4)}
-RECORD = struct.Struct('<5B3x8Q')
+RECORD = struct.Struct('<5B3x11Q')
 SMALL_NUMBERS = (0, 1, 2, 3, 5, 8, 2**29 - 1, 2**29, 2**32 - 1, 2**32, 2**62, 2**63 - 1, 2**63, 2**64 - 1)
 BATCH = 300
 
@@ -59,7 +58,9 @@ class Bad:
         return rng.choice(SMALL_NUMBERS) if rng.random() < 0.5 else rng.getrandbits(64)
 
     def call(self, call: int, wanted: int, words: tuple[int, ...] = (), pointer: int = 0, off: int = 0, handle: int = 0) -> None:
-        self.calls.append((call, handle, pointer, off, wanted, *words, *(0,) * (8 - len(words))))
+        """By a stack that has nothing."""
+        stack = 2**32 + self.rng.randrange(2**32), self.rng.randrange(2, 9), self.word()
+        self.calls.append((call, handle, pointer, off, wanted, *words, *(0,) * (8 - len(words)), *stack))
 
     # Keys
 
@@ -107,14 +108,7 @@ class Bad:
             self.said[seen] = self.model.made(c).status
             if self.said[seen] in (0, 16) or len(self.model.h) != events:
                 raise Differs(f'{c} is no bad input')
-        self.refused(self.said[seen], self.filled(c), key)
-
-    def refused(self, wanted: int, c: Command, key: tuple[int, int]) -> None:
-        """A command; or one behind a lane of which its caller is given nothing, and which stands where the hub does."""
-        call = self.rng.choice((MAKE, MAKE, MAKE, MAKE_BEHIND, MAKE_BEHIND))
-        if call != MAKE:
-            c.hub, c.by = self.lane()
-        self.call(call, wanted, self.command(c, key))
+        self.call(STEP, self.said[seen], self.command(self.filled(c), key))
 
     def by_code(self) -> None:
         """A command that would do, but for a number that is none."""
@@ -135,72 +129,48 @@ class Bad:
                 c.place = rng.randrange(4) if c.what in (OPEN, USING) else rng.randrange(256)
                 c.flags = rng.randrange(256)
         if not is_known(c):
-            self.refused(NO_SUCH_CODE, c, key)
+            self.call(STEP, NO_SUCH_CODE, self.command(c, key))
 
-    def lane(self) -> tuple[int, int]:
-        """A lane's word, and a caller who is given nothing of it: of another engine, made up, let go, or that another serves."""
-        rng, engine, other = self.rng, self.engine, self.other.engine
-        while True:
-            words = [*(other.names if rng.random() < 0.4 else engine.names)]
-            word = rng.choice(words) if words and rng.random() < 0.8 else self.word()
-            word, by = word ^ rng.choice((0, 0, 0, INSIDE)), rng.choice((0, 1, 2, 3, 4, self.word()))
-            lane = self.model.lanes.get(engine.names.get(word & ~INSIDE, -1))
-            if lane is None or lane.server not in (None, by):
-                return word, by
-
-    def by_lane(self) -> None:
-        rng, (word, by) = self.rng, self.lane()
-        if rng.random() < 0.5:
-            self.call(TAKE, 0, (word, by))
-        else:
-            count, kind = rng.choice((0, 1, 1, 1, 2)), rng.choice((*range(8), 8, 255, 2**31))
-            effect = self.word(), self.word(), self.word(), kind | rng.randrange(3) << 32
-            self.call(GIVE_UP, NO_SUCH_CODE if count > 1 or count and kind > 7 else GONE, (word, by, count, *effect))
+    def by_stack(self) -> None:
+        """A stack that has nothing goes on, lets a call further out pass, or ends."""
+        self.call(self.rng.choice((GO_ON, PASS, STOP)), 0, (self.rng.randrange(256),))
 
     def by_number(self) -> None:
-        """Lists, places and rooms that are none; an engine that is there already, or that is not done."""
+        """Places and rooms that are none; an engine that is there already, or that is not done."""
         rng, model = self.rng, self.model
-        match rng.randrange(6):
+        match rng.randrange(5):
             case 0:
-                self.call(REST, NO_SUCH_CODE, (rng.randrange(2, 256), self.word(), rng.randrange(9)))
+                self.call(CLOSINGS, 0, (len(self.engine.closings) + self.word() // 2, rng.randrange(9)))
             case 1:
-                self.call(REST, 0, (rng.randrange(2), len(self.engine.lists[0]) + len(self.engine.lists[1]) + self.word() // 2, rng.randrange(9)))
-            case 2:
                 self.call(EVENT, NOTHING_WAITS, (len(model.h) + self.word() // 2,))
-            case 3:
+            case 2:
                 self.call(DUMP, CUT if model.since else SMALL, (rng.randrange(2),))
-            case 4:
+            case 3:
                 self.call(NEW, HELD, (self.word(),))
-            case 5:
-                self.call(LEFT, 0, (2**30 + self.word() // 2,))
-                if not self.is_done:
-                    self.call(FINISH, UNTAKEN)
+            case _ if not self.is_done:
+                self.call(FINISH, UNTAKEN)
 
     def by_pointer(self) -> None:
         """Any call, with one pointer that is none: it is not made, whatever it would have been."""
         rng = self.rng
-        call = rng.choice((MAKE, MAKE, TAKE, GIVE_UP, *range(12)))
+        call = rng.choice((STEP, STEP, *range(len(CALLS))))
         pointer = rng.randrange(POINTERS[call]) + 1
         off = 0 if (call, pointer) == (DUMP, 2) else rng.randrange(8)  # a buffer of bytes is aligned anywhere
-        if call in COMMANDS:
-            what, node = rng.choice(((12, 0), (DISPOSE, 1), (NEXT, 1), (OPEN, 0))), (0, 0)
-            key = self.own.engine.cellar.key(rng.choice(self.own.keys)) if what[1] and self.own.keys else node
-            words = self.command(self.filled(Command(what[0])), key)
-        else:
-            names = list(self.engine.names)
-            words = (rng.choice(names) if names else 0, rng.choice((1, 2, 3)), 0, self.word(), self.word(), self.word(), 0)
+        words: tuple[int, ...] = rng.randrange(2), rng.randrange(9)
+        if call == STEP:
+            what, has_node = rng.choice(((12, 0), (DISPOSE, 1), (NEXT, 1), (OPEN, 0)))
+            key = self.own.engine.cellar.key(rng.choice(self.own.keys)) if has_node and self.own.keys else (0, 0)
+            words = self.command(self.filled(Command(what)), key)
         self.call(call, MISUSE, words, pointer, off)
 
     def by_handle(self) -> None:
         """Any call on a handle that keeps nothing."""
-        call = self.rng.choice((MAKE, TAKE, GIVE_UP, LEFT, REST, TOTALS, EVENT, DUMP, FINISH, MAKE_BEHIND))
-        what = self.word() & 2**64 - 256 | self.rng.randrange(18) if call in COMMANDS else self.word()
-        words = (what, self.word() % 9 if call == REST else self.word(),
-                 self.rng.randrange(9) if call == REST else self.rng.randrange(2), *(self.word() for _ in range(5)))
-        self.call(call, NOTHING_KEPT, (self.rng.randrange(64), *words[1:]) if call == DUMP else words, handle=1)
+        call = self.rng.choice((STEP, GO_ON, PASS, STOP, CLOSINGS, TOTALS, EVENT, DUMP, FINISH))
+        what = self.word() & 2**64 - 256 | self.rng.randrange(18) if call == STEP else self.rng.randrange(64) if call == DUMP else self.word()
+        self.call(call, NOTHING_KEPT, (what, self.rng.randrange(9) if call == CLOSINGS else self.word(), *(self.word() for _ in range(6))), handle=1)
 
 
-HOW = {'codes': Bad.by_code, 'keys': Bad.by_key, 'lanes': Bad.by_lane, 'numbers': Bad.by_number, 'pointers': Bad.by_pointer, 'handles': Bad.by_handle}
+HOW = {'codes': Bad.by_code, 'keys': Bad.by_key, 'stacks': Bad.by_stack, 'numbers': Bad.by_number, 'pointers': Bad.by_pointer, 'handles': Bad.by_handle}
 OFTEN = (3, 4, 3, 1, 2, 1)
 
 

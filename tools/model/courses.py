@@ -1,185 +1,175 @@
-"""Random courses of an engine: commands, and callers that serve, wait, give up and are interrupted; each on the library and on the model."""
+"""Random courses of an engine: commands, and stacks whose calls nest, begin what they are handed or do not, pass, stop, and leave early; each on
+the library and on the model."""
 from __future__ import annotations
 
 import random
 from collections import Counter
 from typing import Any
 
-from .cellar import INSIDE, Cellar
+from .cellar import Cellar, Told
 from .definitions import Accept, is_held, is_out, kind_of, open_nodes, owed, parent, resources, stops, was_opened
 from .engine import (ABORT, AT, APPLY, COMPLETE, CONNECT, DECLINE, DISCONNECT, DISPOSE, DONE, ERROR, FAIL, GIVE_BACK, HOLD, LEASE, NEXT,
-                     NOTHING, OPEN, PUT, REMOVE, SHUT, UNTAKEN, USING, BLOCK, MOST, Answer, Command, Effect, Engine, PooledHub, choice)
-from .scenario import Differs, Following
+                     NOTHING, OPEN, PUT, REMOVE, SHUT, USING, BLOCK, MOST, Answer, Command, Effect, Lane, PooledHub, choice)
+from .scenario import Canonical, Differs, Following
 from .texts import events_of
 from .crossing import REFUSED
+from .turns import Claim, Stack, Stepped, Task, Turn, Turns
 
 OFTEN = {OPEN: 40, USING: 7, HOLD: 7, NEXT: 40, COMPLETE: 8, ERROR: 4, FAIL: 3, DECLINE: 4, DISPOSE: 3, CONNECT: 3, DISCONNECT: 2, PUT: 4,
          SHUT: 0.3, ABORT: 2, APPLY: 2, REMOVE: 3, LEASE: 4, GIVE_BACK: 4}
 BELOW = {'pass': [1], 'connection': [1], 'flat': [1, 2], 'switch': [1, 2], 'until': [1, 3]}
 HINTS = (0, 5, 1023, 1024, 2**32 - 1, 2**64 - 1)
+DEEPEST = 5
+
+
+class Followed(Turns):
+    """Where an order is free it follows what was told.
+
+    Of lanes that became due in any order each may have been asked first. One that had nothing then may be due still, or not: it is kept, and
+    `unsure` what it gives; so is one that was let go, since its place may be another lane's."""
+
+    def __init__(self, way: Canonical, limit: int | None = None):
+        super().__init__(way, limit)
+        self.heard: Effect | None = None
+        self.own = 0
+        self.unsure: set[int] = set()
+
+    def claim(self, turn: Turn, claim: Claim) -> None:
+        self.unsure.discard(claim.lane)
+        super().claim(turn, claim)
+
+    def is_free(self, turn: Turn) -> bool:
+        if turn in self.hands or any(self.is_sure(claim) for claim in self.due.get(turn, ())):
+            return False
+        return not self.due.get(turn) or bool(self.own)
+
+    def is_sure(self, claim: Claim) -> bool:
+        return claim.lane in self.lanes and claim.lane not in self.unsure
+
+    def first_due(self, turn: Turn) -> Claim | None:
+        while claims := self.due.get(turn):
+            many = next((i for i, it in enumerate(claims) if it.part != claims[0].part), len(claims))
+            giving = [it for it in claims[:many] if self.gives(turn, it)]
+            found = next((it for it in giving if self.heard in self.options(turn, it)), None) or next(filter(self.is_sure, giving), None)
+            if found:
+                self.unsure |= {it.lane for it in claims[:many] if it not in giving}
+                return found
+            del claims[:many]
+        return None
+
+    def gives(self, turn: Turn, claim: Claim) -> bool:
+        return claim.lane in self.lanes and self.lanes[claim.lane].taken(turn.by, claim.inside)[0] != ()
+
+    def options(self, turn: Turn, claim: Claim) -> list[Effect]:
+        """What a lane may give next: of those of which no order is said, each."""
+        line = next((line for line in self.parts_of(self.lanes[claim.lane]) if line), ())
+        return [it.effect for it in line[:self.free_front(line)]]
+
+    @staticmethod
+    def parts_of(lane: Lane) -> tuple[tuple[Any, ...], ...]:
+        return lane.returned, lane.front, lane.back
+
+    @staticmethod
+    def free_front(line: Any) -> int:
+        """How many of those that stand first are in no order."""
+        return next((i for i, it in enumerate(line) if it.part != line[0].part), len(line)) if line[0].part else 1
+
+    def asked(self, turn: Turn, claim: Claim) -> Task | None:
+        if claim.lane in self.lanes:
+            self.put_first(self.lanes[claim.lane])
+        return super().asked(turn, claim)
+
+    def put_first(self, lane: Lane) -> None:
+        """Of those of which no order is said, the one that was told comes first."""
+        for part in ('returned', 'front', 'back'):
+            line = list(getattr(lane, part))
+            if line:
+                i = next((i for i in range(self.free_front(line)) if line[i].effect == self.heard), 0)
+                line[0], line[i] = line[i], line[0]
+                object.__setattr__(lane, part, tuple(line))
+                return
+
+    def first_left(self, start: int) -> int | None:
+        """One that is due to nobody; one that is due to another may be found first, or not at all."""
+        due = {claim.lane for claims in self.due.values() for claim in claims if self.is_sure(claim)}
+        left = sorted(self.left(), key=lambda lane: lane in due)
+        found = next((lane for lane in left if self.heard in self.options(Turn(0, 0), Claim(lane, False))), None)
+        return found if found is not None else next((lane for lane in left if lane not in due), None)
 
 
 class Beside:
     """An engine of the library, and one by the definitions: what they say is the same, or it differs."""
 
-    def __init__(self, cellar: Cellar, limit: int = 0, definitions: type[Engine] = Engine):
+    def __init__(self, cellar: Cellar, limit: int = 0, definitions: type[Followed] = Followed):
         self.cellar, self.way, self.limit = cellar, Following([]), limit
         if status := cellar.new(limit):
             raise Differs(f'new is answered {status}')
         self.model = definitions(self.way, limit or None)
-        self.names: dict[int, int] = {}   # the lane of a word
-        self.words: dict[int, int] = {}   # the word of a lane
-        self.order: list[int] = []        # lanes, as they were first named
-        self.made: dict[int, list[int]] = {}  # of a key: the step of its command, and 1 where it is the other one
+        self.tickets: dict[int, int] = {0: 0}  # of the library, each with the definitions'
+        self.made: dict[int, list[int]] = {}   # of a key: the step of its command, and 1 where it is the other one
         self.steps: list[Any] = []
-        self.lists: tuple[tuple[int, ...], tuple[int, ...]] = (), ()  # closings and lanes of the last command that was accepted
+        self.closings: tuple[int, ...] = ()    # of the last command that was accepted
 
     def same(self, what: str, said: Any, wanted: Any) -> None:
         if said != wanted:
             raise Differs(f'{what}: {said}, and it is {wanted}')
 
-    def make(self, c: Command, behind: int | None = None) -> tuple[Any, Answer]:
-        """A command; or one behind a lane, by its word."""
-        made = self.cellar.make(c) if behind is None else self.cellar.make(c, behind)
-        step = ['make', self.written(c), {'status': made.status} if made.status else {}]
-        self.steps.append(step if behind is None else ['make behind', behind, *step[1:]])
+    def begun(self, stack: Stack) -> Stack:
+        """The stack as the definitions have it; a ticket that was never told is none of theirs."""
+        return Stack(stack.by, stack.depth, self.tickets.get(stack.begun, -1))
+
+    def stack_at(self, stack: Stack) -> list[int]:
+        return [stack.by, stack.depth, self.tickets.get(stack.begun, 0)]
+
+    def step(self, stack: Stack, c: Command | None = None) -> tuple[Told, Stepped]:
+        """A step, or the next."""
+        told = self.cellar.step(stack, c)
+        step: list[Any] = ['step', self.stack_at(stack), self.written(c)] if c else ['next', self.stack_at(stack)]
         self.way.told += self.cellar.events()
-        if behind is None:
-            wanted = self.model.made(c)
-        else:
-            name = self.names.get(behind & ~INSIDE, -1)
-            self.first(name, made.handed)
-            wanted = self.model.make_behind(c, name, behind >= INSIDE)
-        self.same('status', made.status, wanted.status)
-        if made.status == UNTAKEN:
-            self.same('what is handed out in place of the command', made.handed, wanted.handed)
+        self.model.heard, self.model.own = told.effect, told.own
+        wanted = self.model.step(self.begun(stack), c)
+        self.same('status', told.status, wanted.made.status)
         self.same('events', len(self.way.told), len(self.model.h))
         for member in ('node', 'other', 'is_connected', 'hub', 'copies'):
-            self.same(member, getattr(made, member), getattr(wanted, member))
-        self.same('whether an effect is handed out', made.handed is not None, wanted.hands is not None or made.status == UNTAKEN)
-        self.same('closings', sorted(made.closings), sorted(wanted.closings))
-        for which, n in enumerate((made.node, made.other)):
+            self.same(member, getattr(told, member), getattr(wanted.made, member))
+        self.same('closings', sorted(told.closings), sorted(wanted.made.closings))
+        self.same('what is handed out', told.effect, wanted.task.effect if wanted.task else None)
+        self.same('whether it is the own item', told.own, int(wanted.is_own))
+        if wanted.task:
+            self.same('the ticket', self.tickets.setdefault(told.ticket, wanted.task.ticket), wanted.task.ticket)
+        for which, n in enumerate((told.node, told.other)):
             if n is not None:
-                self.made[n] = [len(self.steps) - 1, which]
-        if not made.status:
-            self.lists = made.closings, made.lanes
-        self.match(made.lanes, wanted, made.handed)
-        said = {'node': int(made.node is not None), 'other': int(made.other is not None), 'connected': made.is_connected, 'hub': made.hub,
-                'copies': made.copies, 'closings': list(made.closings), 'handed': list(made.handed or ()),
-                'lanes': [self.lane_at(word) for word in made.lanes]}
-        step[2] |= {name: it for name, it in said.items() if it}
-        return made, wanted
+                self.made[n] = [len(self.steps), which]
+        if c and not told.status:
+            self.closings = told.closings
+        said = {'status': told.status, 'node': int(told.node is not None), 'other': int(told.other is not None), 'connected': told.is_connected,
+                'hub': told.hub, 'copies': told.copies, 'closings': list(told.closings),
+                'handed': [wanted.task.ticket, *told.effect] if told.effect and wanted.task else [], 'own': told.own}
+        self.steps.append([*step, {name: it for name, it in said.items() if it}])
+        return told, wanted
 
     def written(self, c: Command) -> list[Any]:
         """A command as a stored course has it: a key is the step that made it, or a slot and a number."""
         node = [*c.node, 'raw'] if isinstance(c.node, tuple) else self.made.get(c.node)
         return [c.what, c.place, c.kind, c.flags, c.level, c.hub, node, c.user, c.value, c.by, c.spare]
 
-    def lane_at(self, word: int) -> list[int]:
-        """The place of a lane among those that were named, and whether it is served further out."""
-        return [self.order.index(self.names[word & ~INSIDE]), int(word >= INSIDE)]
+    def let_pass(self, stack: Stack, now: bool) -> None:
+        self.cellar.ended('pass', stack, int(now))
+        self.model.let_pass(self.begun(stack), now)
+        self.steps.append(['pass', self.stack_at(stack), int(now)])
 
-    def match(self, words: tuple[int, ...], wanted: Answer, handed: Effect | None) -> None:
-        """The words of the lanes that are due, each with its lane. Of lanes that who is gone has, any may be named first."""
-        self.same('how many lanes are due', len(words), len(wanted.lanes))
-        due = list(wanted.lanes)
-        for i, word in enumerate(words):
-            may = [it for it in due if it.by == due[0].by]
-            name = self.names.get(word & ~INSIDE)
-            found = [it for it in may if it.lane == name] if name is not None else [it for it in may if it.lane not in self.words]
-            if not found:
-                raise Differs(f'lane {word:x} is due, and it is one of {may}')
-            is_handed = i == 0 and handed is not None
-            if is_handed:
-                it, effect = self.handed(handed, found), None
-            else:
-                it, effect = (found[0], None) if len(found) == 1 else self.told_apart(word, found)
-            self.same('whether it is served further out', word >= INSIDE, it.inside)
-            self.bind(word & ~INSIDE, it.lane)
-            if effect:
-                place, _ = self.lane_at(word)
-                self.steps += [['take', place, 0, 0, list(effect)], ['give up', place, 0, list(effect), DONE, 1]]
-            due.remove(it)
-            if is_handed:
-                self.first(it.lane, handed)
-                self.model.hand(wanted, it)
-                self.same('what is handed out', handed, wanted.handed)
-
-    def handed(self, effect: Effect | None, found: list[Any]) -> Any:
-        """The lane of the effect that was handed out."""
-        for it in found:
-            line = self.model.lanes[it.lane].line()
-            if effect in [w.effect for w in line if w.part == line[0].part]:
-                return it
-        raise Differs(f'{effect} was handed out, and it is of one of {found}')
-
-    def told_apart(self, word: int, found: list[Any]) -> Any:
-        """Lanes that were never named, and are due by what says no order: the effects of one say which it is. They are given back."""
-        effect = self.cellar.take(word, 0)
-        if effect is None or self.cellar.give_up(word, 0, effect)[0]:
-            raise Differs(f'lane {word:x} is due, and gives {effect}')
-        for it in found:
-            line = self.model.lanes[it.lane].line()
-            if effect in [w.effect for w in line if w.part == line[0].part]:
-                self.first(it.lane, effect)
-                lane = self.model.lanes[it.lane]
-                self.model.lanes[it.lane] = lane.taken(0, False)[1].given_up(0, lane.line()[:1])
-                return it, effect
-        raise Differs(f'lane {word:x} gives {effect}, and it is one of {found}')
-
-    def bind(self, word: int, lane: int) -> None:
-        if lane not in self.words:
-            self.order.append(lane)
-        self.names[word], self.words[lane] = lane, word
-
-    def first(self, name: int, effect: Effect | None) -> None:
-        """Of those of which no order is said, this one comes first."""
-        lane = self.model.lanes.get(name)
-        for part in ('returned', 'front', 'back'):
-            line = list(getattr(lane, part)) if lane else []
-            if line:
-                for i, it in enumerate(line):
-                    if it.part != line[0].part or not it.part:
-                        break
-                    if it.effect == effect:
-                        line[0], line[i] = line[i], line[0]
-                object.__setattr__(lane, part, tuple(line))
-                return
-
-    def take(self, word: int, by: int) -> Effect | None:
-        effect, name = self.cellar.take(word, by), self.names.get(word & ~INSIDE, -1)
-        if name >= 0:
-            self.steps.append(['take', *self.lane_at(word), by, list(effect) if effect else None])
-        self.first(name, effect)
-        self.same('what is taken', effect, self.model.take(name, word >= INSIDE, by))
-        return effect
-
-    def give_up(self, word: int, by: int, untold: Effect | None) -> int:
-        status, is_left = self.cellar.give_up(word, by, untold)
-        name = self.names.get(word & ~INSIDE, -1)
-        wanted = self.model.give_up(name, by, untold)
-        if name >= 0:
-            self.steps.append(['give up', self.lane_at(word)[0], by, list(untold) if untold else None, status, is_left])
-        self.same('giving up', (status, is_left), (REFUSED['Gone'], 0) if wanted is None else (DONE, wanted))
-        return status
-
-    def left(self) -> list[int]:
-        found, wanted = self.cellar.left(), self.model.left()
-        for word in found:
-            if word not in self.names and len(rest := [it for it in wanted if it not in self.words]) == 1:
-                self.bind(word, rest[0])
-        self.same('what is left', sorted(self.names.get(word, -1) for word in found), sorted(wanted))
-        self.steps.append(['left', [self.lane_at(word)[0] for word in found]])
-        return found
+    def stop(self, stack: Stack) -> None:
+        self.cellar.ended('stop', stack)
+        self.model.stop(self.begun(stack))
+        self.steps.append(['stop', self.stack_at(stack)])
 
     def totals(self) -> None:
         self.same('totals', totals := self.cellar.totals(), self.model.totals())
         self.steps.append(['totals', list(totals)])
 
-    def rest(self, which: int, start: int, room: int) -> None:
-        """Any part of what the last command that was accepted closed, or has others serve; nothing of a list that is none."""
-        wanted = list(self.lists[which][start:start + room]) if which < 2 else []
-        self.same('the rest', self.cellar.rest(which, start, room), wanted)
+    def rest(self, start: int, room: int) -> None:
+        """Any part of what the last command that was accepted closed."""
+        self.same('the closings', self.cellar.closings(start, room), list(self.closings[start:start + room]))
 
     def dump(self, less: int) -> None:
         """The history, where it is whole; the tag of a holding is none of the caller's."""
@@ -197,39 +187,56 @@ class Beside:
         return status
 
 
-class Course:
-    """Random commands and callers. What is done and answered is written down."""
+class Calls:
+    """The calls that are under way on a stack: the ticket of what each was handed last."""
 
-    def __init__(self, rng: random.Random, cellar: Cellar, definitions: type[Engine] = Engine, plain: bool = False):
+    def __init__(self, by: int):
+        self.stack, self.handed = Stack(by), []
+
+    def at(self, depth: int) -> Stack:
+        return Stack(self.stack.by, depth, self.stack.begun)
+
+    def deeper(self) -> Stack:
+        return self.at(len(self.handed) + 1)
+
+    def begin(self) -> None:
+        self.stack.begun = self.handed[-1]
+
+
+class Course:
+    """Random commands and stacks. What is done and answered is written down."""
+
+    def __init__(self, rng: random.Random, cellar: Cellar, definitions: type[Followed] = Followed):
         self.rng = rng
-        self.plain = plain  # a lane is served one effect after another, and no command is made behind it
         small = rng.random() < 0.15
         self.shares = not small and rng.random() < 0.25
         self.most_shares = rng.choice((1, 2, 8))
         limit = rng.randrange(4, 40) if small else rng.choice((0, 0, 2**32 - 1))
         self.engine = Beside(cellar, limit, definitions)
         self.word, self.keys, self.done = 0, [], Counter()
-        self.served: list[tuple[int, int, Effect | None]] = []  # lanes that were named to a caller, with what it took last
-        self.bad = rng.choice((0, 0.02, 0.3))
+        self.stacks = {by: Calls(by) for by in (1, 2, 3)}
+        self.turns: set[tuple[int, int]] = set()  # that took part, by their words and depths
+        self.bad, self.odd = rng.choice((0, 0.02, 0.3)), rng.choice((0, 0.05, 0.3))
         self.asks = {NEXT: self.leaves, COMPLETE: self.leaves, ERROR: self.leaves, FAIL: self.owing, DECLINE: self.owing, APPLY: self.held,
                      REMOVE: self.held, LEASE: self.held, GIVE_BACK: self.leases, DISPOSE: lambda: list(self.engine.model.hears),
                      HOLD: self.open, PUT: self.open, ABORT: self.bare}  # of what a command may be asked
 
     def new_word(self) -> int:
+        """The odd ones too, each once, so that an effect tells of which lane it is."""
         self.word += 1
-        return self.word if self.rng.random() < 0.98 else self.rng.choice((0, 2**64 - 1, 7))
+        return {5: 2**64 - 1, 6: 0}.get(self.word, self.word)
 
     # A command
 
     def command(self) -> Command:
         """Mostly one that may be done. What is asked of a node while there is none is mostly the opening of one."""
-        rng, by = self.rng, self.rng.choice((1, 1, 2, 3))
+        rng = self.rng
         what = CONNECT if self.shares and not self.word and rng.random() < 0.7 else rng.choices(list(OFTEN), list(OFTEN.values()))[0]
-        if self.served and rng.random() < 0.3:  # from within, what closes is released there
-            by, what = self.served[-1][1], rng.choice((what, DISPOSE, COMPLETE, REMOVE))
+        if any(it.handed for it in self.stacks.values()) and rng.random() < 0.2:  # from within, what closes is released there
+            what = rng.choice((DISPOSE, COMPLETE, REMOVE))
         if what in (CONNECT, DISCONNECT) and not self.shares or what in self.asks and not self.asks[what]() and rng.random() < 0.9:
             what = OPEN
-        c = Command(what, user=self.new_word(), value=self.new_word(), by=by, level=rng.choice((0, 0, 1, 6, 7, 8, 2**32 - 1)),
+        c = Command(what, user=self.new_word(), value=self.new_word(), by=rng.choice((0, 1, 2, 7)), level=rng.choice((0, 0, 1, 6, 7, 8, 2**32 - 1)),
                     hub=rng.choice(HINTS))
         if what in (OPEN, USING):
             self.place(c)
@@ -324,97 +331,103 @@ class Course:
     # Steps
 
     def step(self) -> None:
-        c = self.command()
-        if not self.plain and self.served and self.rng.random() < 0.2:
-            return self.step_behind(c)
-        is_pair = isinstance(c.node, tuple)
-        pair = c.node
-        made, wanted = self.engine.make(c) if not is_pair else self.made_by_pair(c, pair)
-        self.did(c, made, wanted)
+        """A command, mostly one call deeper, which has begun what was handed out further out; a signal's handler comes before that."""
+        rng = self.rng
+        calls = self.stacks[rng.choice((1, 1, 1, 2, 3))]
+        if calls.handed and (rng.random() < 0.9 and len(calls.handed) >= DEEPEST or rng.random() < 0.2):
+            self.go_on(calls)
+        if calls.handed and rng.random() < 0.85:
+            calls.begin()
+        self.handed(calls, calls.deeper(), self.command())
 
-    def did(self, c: Command, made: Any, wanted: Answer) -> None:
-        self.done[c.what, made.status] += 1
-        self.keys += [n for n in (wanted.node, wanted.other) if n is not None]
-        self.served += [(word, c.by, wanted.handed if i == 0 else None) for i, word in enumerate(made.lanes)]
+    def handed(self, calls: Calls, stack: Stack, c: Command | None = None) -> Told:
+        """A step, and what is under way then."""
+        self.turns.add((stack.by, stack.depth))
+        told, wanted = self.asked(stack, c)
+        del calls.handed[max(0, stack.depth - 1):]
+        if told.effect and stack.depth:
+            calls.handed += [0] * (stack.depth - 1 - len(calls.handed)) + [told.ticket]
+        self.done[c.what if c else 'next', told.status] += 1
+        self.keys += [n for n in (wanted.made.node, wanted.made.other) if n is not None]
+        return told
 
-    def step_behind(self, c: Command) -> None:
-        """A command by who serves a lane, or was to; now and then it is another who asks."""
-        i = self.rng.randrange(len(self.served))
-        word, by, _ = self.served[i]
-        c.by = by if self.rng.random() < 0.95 else c.by
-        made, wanted = self.engine.make(c, word) if not isinstance(c.node, tuple) else self.made_by_pair(c, c.node, word)
-        if made.status == UNTAKEN:
-            self.served[i] = word, c.by, made.handed
-        elif c.by == by:
-            del self.served[i]
-        self.did(c, made, wanted)
-
-    def made_by_pair(self, c: Command, pair: tuple[int, int], *more: int) -> Any:
+    def asked(self, stack: Stack, c: Command | None) -> tuple[Told, Stepped]:
         """A key that nobody was told names nothing, unless it is by chance one of something there."""
-        slots = self.engine.cellar.slots
-        c.node = pair[1] if slots.get(pair[1]) == pair[0] else NOTHING
-        cellar, key = self.engine.cellar, self.engine.cellar.key
+        if c is None or not isinstance(c.node, tuple):
+            return self.engine.step(stack, c)
+        pair, cellar, key = c.node, self.engine.cellar, self.engine.cellar.key
+        c.node = pair[1] if cellar.slots.get(pair[1]) == pair[0] else NOTHING
         try:
             cellar.key = lambda named: pair  # type: ignore[method-assign]
-            return self.engine.make(c, *more)
+            return self.engine.step(stack, c)
         finally:
             cellar.key = key  # type: ignore[method-assign]
 
+    def go_on(self, calls: Calls, begins: float = 0.95) -> Told:
+        """What was handed out last is told, and the next is asked for."""
+        if self.rng.random() < begins:
+            calls.begin()
+        return self.handed(calls, calls.at(len(calls.handed)))
+
     def serve(self) -> None:
-        """Some are served, some wait, some are given up."""
-        rng, engine = self.rng, self.engine
+        """Some go on, some wait, some pass or stop, some leave early."""
+        rng = self.rng
         for _ in range(rng.choice((0, 0, 1, 2, 3, 6))):
+            calls = self.stacks[rng.choice((1, 1, 1, 2, 3))]
             chance = rng.random()
             if chance < 0.02:
-                engine.totals()
-            elif chance < 0.04:
-                found = engine.left()
-                self.served += [(word, rng.choice((1, 2, 3)), None) for word in found if rng.random() < 0.5 and word in engine.names]
-            elif chance < 0.06:
+                self.engine.totals()
+                self.engine.rest(rng.choice((0, 0, 1, 5, 2**64 - 1)), rng.randrange(6))
+            elif chance < 0.02 + self.odd:
                 self.stray()
-            elif self.served:
-                self.serve_one()
-
-    def serve_one(self) -> None:
-        rng = self.rng
-        i = rng.randrange(len(self.served)) if rng.random() < 0.5 else len(self.served) - 1
-        word, by, last = self.served[i]
-        chance = rng.random()
-        if chance < 0.08:  # interrupted, or for an exchange: with what it took and did not tell, or with nothing
-            untold = last if rng.random() < 0.6 else None
-            self.engine.give_up(word, by, untold)
-            del self.served[i]
-        else:
-            effect = self.engine.take(word, by)
-            if effect is None:
-                del self.served[i]
-            else:
-                self.served[i] = word, by, effect
+            elif not calls.handed:
+                if rng.random() < 0.1:
+                    self.handed(calls, calls.deeper())
+            elif chance < 0.6:
+                self.go_on(calls)
+            elif chance < 0.7:
+                if rng.random() < 0.9:
+                    calls.begin()
+                self.engine.let_pass(calls.deeper(), rng.random() < 0.5)
+            elif chance < 0.78:
+                if rng.random() < 0.5:
+                    calls.begin()
+                depth = rng.randrange(len(calls.handed)) + 1
+                self.engine.stop(calls.at(depth))
+                del calls.handed[depth - 1:]
+            elif chance < 0.82:
+                del calls.handed[rng.randrange(len(calls.handed)):]
 
     def stray(self) -> None:
-        """A word, or a lane's name, of somebody else, or made up."""
+        """A call of a stack, at a depth, with a ticket, that are somebody else's or nobody's."""
         rng = self.rng
-        words = [*self.engine.names, *(it[0] for it in self.served)]
-        word = rng.choice(words) if words and rng.random() < 0.7 else rng.choice((0, 1, 2**29 - 1, 2**29, 2**62, 2**63, 2**64 - 1, rng.getrandbits(64)))
-        word ^= rng.choice((0, 0, INSIDE))
-        if word & ~INSIDE not in self.engine.names and self.is_real(word):
-            return
-        by = rng.choice((1, 2, 3, 4, 0, 2**64 - 1))
-        self.engine.rest(rng.choice((0, 1, 1, 2, 255)), rng.choice((0, 0, 1, 5, 2**64 - 1)), rng.randrange(6))
-        self.engine.same('two effects given back', self.engine.cellar.give_up(word, by, None, 2), (5, 0))
-        if rng.random() < 0.8:
-            effect = self.engine.take(word, by)
-            if effect:
-                self.served.append((word, by, effect))
-        else:
-            self.engine.give_up(word, by, None)
+        tickets = list(self.engine.tickets)
+        calls = self.stacks.setdefault(by := rng.choice((1, 2, 3, 4, 0, 2**64 - 1)), Calls(by))
+        stack = Stack(by, rng.choice((0, 1, 1, 2, 2, 3, 4, 7, 2**64 - 1)), rng.choice((calls.stack.begun, *tickets[-4:], rng.getrandbits(64))))
+        self.turns.add((stack.by, stack.depth))
+        match rng.randrange(4):
+            case 0:
+                self.asked(stack, self.command())
+            case 1:
+                self.asked(stack, None)
+            case 2:
+                self.engine.let_pass(stack, rng.random() < 0.5)
+            case _:
+                self.engine.stop(stack)
 
-    def is_real(self, word: int) -> bool:
-        """Whether a word that was never told is that of a lane by chance: places and turns are small numbers."""
-        return word & 2**29 - 1 < 4096 and (word & ~INSIDE) >> 29 < 4096
+    def drained(self, calls: Calls, depth: int) -> None:
+        """What is due at this depth and deeper is told."""
+        calls.handed = []
+        while (told := self.asked(calls.at(depth), None)[0]).effect:
+            calls.stack.begun = told.ticket
+
+    def depths_of(self, calls: Calls) -> list[int]:
+        """From which all is told that is due to a stack; further in there is nothing that these do not come to."""
+        took_part = {depth for by, depth in self.turns if by == calls.stack.by}
+        return [0] * (0 in took_part) + [1] * bool(took_part)
 
     def ended(self) -> None:
-        """Everything closes, whoever serves gives up, what is left is found and served, and the engine is finished."""
+        """Everything closes, who is under way stops or goes on, what is left is told, and the engine is finished."""
         engine, rng = self.engine, self.rng
         engine.totals()
         if not self.shares and rng.random() < 0.3:
@@ -422,22 +435,20 @@ class Course:
         if rng.random() < 0.3 and engine.finish() == DONE:
             return
         if rng.random() < 0.9:
-            while (made := engine.make(Command(SHUT, by=2))[0]).status == DONE:
-                self.served += [(word, 2, None) for word in made.lanes]
+            calls = self.stacks[2]
+            while self.handed(calls, calls.deeper(), Command(SHUT)).status == DONE:
+                if calls.handed and rng.random() < 0.5:
+                    self.go_on(calls)
+                if len(calls.handed) >= DEEPEST:
+                    calls.handed.pop()
                 if rng.random() < 0.1 and engine.finish() == DONE:
                     return
-            for word, by, _ in reversed(self.served):
-                while engine.take(word, by):
-                    pass
-            for word in list(engine.names):
-                for by in (1, 2, 3, 4, 0, 2**64 - 1):
-                    engine.give_up(word, by, None)
-            while found := engine.left():
-                for word in found:
-                    if word not in engine.names:
-                        raise Differs(f'lane {word:x} is left, and was never named')
-                    while engine.take(word, 9):
-                        pass
+            for calls in self.stacks.values():
+                if calls.handed and rng.random() < 0.5:
+                    engine.stop(calls.at(1))
+            for calls in self.stacks.values():
+                for depth in self.depths_of(calls):
+                    self.drained(calls, depth)
             engine.totals()
             if engine.finish():
                 raise Differs('all is done, and it is not finished')
@@ -459,6 +470,7 @@ def crowd(rng: random.Random, cellar: Cellar, steps: int) -> Counter:
     a thousand nodes too slowly."""
     done: Counter = Counter()
     cellar.new(0)
+    stack = Stack(1, 1)
     hubs = [PooledHub(('auto', 'manual')[place // BLOCK % 2]) for place in range(MOST)]
     roots: list[tuple[int, int]] = []  # with the places of their hubs
     full = rng.choice((0.5, 0.9, 1))
@@ -466,13 +478,13 @@ def crowd(rng: random.Random, cellar: Cellar, steps: int) -> Counter:
         many = sum(hub.many > 0 for hub in hubs)
         if roots and rng.random() < (0.15 if many < full * MOST else 0.55):
             node, place = roots.pop(rng.randrange(len(roots)))
-            if cellar.make(Command(DISPOSE, node=node)).status:
+            if cellar.step(stack, Command(DISPOSE, node=node)).status:
                 raise Differs(f'root {node} is not disposed of')
             hubs[place].many -= 1 + (hubs[place].mode == 'auto' and hubs[place].many == 2)  # its connection goes with the last
             continue
         kind, word, level = rng.choice((5, 5, 6)), rng.randrange(1200), rng.randrange(9)
         mode = 'auto' if kind == 5 else 'manual'
-        made = cellar.make(Command(OPEN, kind=kind, value=word, level=level, hub=rng.choice(HINTS), user=1))
+        made = cellar.step(stack, Command(OPEN, kind=kind, value=word, level=level, hub=rng.choice(HINTS), user=1))
         wanted = choice(hubs, mode, word, level, MOST)
         said = made.hub if made.status == 0 else made.status
         if said != (REFUSED[wanted] if isinstance(wanted, str) else wanted) or made.status == 0 and isinstance(wanted, str):

@@ -9,6 +9,8 @@ from . import engine
 from .cellar import Cellar
 from .engine import (E_COMPLETED, E_FAILED, E_RELEASE, FLAT, LANE_OF_NODE, MOST, OF_PROJECTIONS, QUEUES, WISHES, Answer, Command, Effect,
                      Engine, Lane, Role, Sent, last_before)
+from .courses import Followed
+from .turns import Turn, Turns
 
 PLANTS: dict[str, tuple[Any, str, Any]] = {}  # what is turned: of which, its name, and what takes its place
 
@@ -31,8 +33,41 @@ planted('what is given back stands behind', Lane, 'given_up',
 planted('who gives up serves on', Lane, 'given_up',
         lambda was: lambda l, by, untold: replace(was(l, by, untold), server=l.server) if l.line() else was(l, by, untold))
 planted('what is put comes first', Lane, 'put', lambda was: lambda l, e: replace(l, back=(e,) + l.back))
-planted('a command is made before what is left', Engine, 'make_behind', lambda was: lambda s, c, name, inside: (
-    it if (it := was(s, c, name, inside)).status != 6 or c.what != engine.NEXT else s.made(c)))
+
+# Turns
+planted('what was not begun is told', Turns, 'note', lambda was: lambda s, stack: (
+    was(s, stack), s.hands.update({t: it._replace(is_begun=True) for t, it in s.hands.items() if t == stack.turn()}))[0])
+planted('what was begun further out is not noted', Turns, 'note', lambda was: lambda s, stack: s.hands.update(
+    {t: it._replace(is_begun=True) for t, it in s.hands.items() if t == stack.turn() and it.ticket == stack.begun}))
+planted('what another stack began is noted', Turns, 'note', lambda was: lambda s, stack: s.hands.update(
+    {t: it._replace(is_begun=True) for t, it in s.hands.items() if it.ticket == stack.begun}))
+planted('an item is handed out before what is due', Followed, 'is_free', lambda was: lambda s, turn: turn not in s.hands)
+planted('an item waits where its turn has nothing', Followed, 'is_free', lambda was: lambda s, turn: was(s, turn) and turn.depth != 2)
+planted('a lane stays due to whom it was', Followed, 'claim', lambda was: lambda s, turn, claim: (
+    was(s, turn, claim) if not any(it.lane == claim.lane for claims in s.due.values() for it in claims) else None))
+planted('a lane that is due again keeps its place', Followed, 'claim', lambda was: lambda s, turn, claim: (
+    was(s, turn, claim) if not any(it.lane == claim.lane for it in s.due.get(turn, ())) else None))
+planted('a lane is due to two turns', Turns, 'claim', lambda was: lambda s, turn, claim: s.due.setdefault(turn, []).append(claim))
+planted('what is due last comes first', Followed, 'first_due', lambda was: lambda s, turn: next(iter(s.due.get(turn, ())[::-1]), None))
+planted('deeper calls are forgotten', Turns, 'deeper', lambda was: lambda s, turn: [])
+planted('the deepest call comes first', Turns, 'deeper', lambda was: lambda s, turn: was(s, turn)[::-1])
+planted('a call further out is served too', Turns, 'deeper', lambda was: lambda s, turn: was(s, Turn(turn.by, 0)))
+planted('what stopped calls left is lost', Turns, 'pick_up', lambda was: lambda s, turn: None)
+planted('what stopped calls left comes at any depth', Turns, 'go_on', lambda was: lambda s, turn: was(s, turn) or s.pick_up(turn))
+planted('a stop leaves deeper calls as they are', Turns, 'stop', lambda was: lambda s, stack: without_deeper(s, was, stack))
+planted('a stop leaves what is due', Turns, 'stop', lambda was: lambda s, stack: (s.note(stack), s.let_go(stack.turn()), None)[2])
+planted('a pass makes due to the other', Turns, 'let_pass', lambda was: lambda s, stack, now: was(s, stack, not now))
+planted('a pass frees nothing', Turns, 'let_pass', lambda was: lambda s, stack, now: s.note(stack))
+planted('a pass frees what is done here', Turns, 'let_pass', lambda was: lambda s, stack, now: was(s, replace(stack, depth=stack.depth + 1), now))
+
+
+def without_deeper(s: Turns, was: Callable[[Any, Any], None], stack: Any) -> None:
+    kept = {t: (s.due.pop(t, []), s.hands.pop(t, None)) for t in s.deeper(stack.turn())}
+    was(s, stack)
+    for t, (due, hand) in kept.items():
+        s.due[t] = due
+        s.hands |= {t: hand} if hand else {}
+
 
 # Hubs
 planted('a share gets a second hub', engine, 'is_own', lambda was: lambda hub, mode, word: was(hub, mode, word) and hub.many > 1)
@@ -77,11 +112,11 @@ def with_value(it: Sent, c: Command) -> Sent:
 
 
 # What the library answers
-planted('the rest begins one too late', Cellar, 'rest', lambda was: lambda s, which, start, room: was(s, which, start + 1, room))
-planted('one that is left is not told', Cellar, 'left', lambda was: lambda s: was(s)[:1])
+planted('the closings begin one too late', Cellar, 'closings', lambda was: lambda s, start, room: was(s, start + 1, room))
+planted('an effect that comes again has another ticket', Cellar, 'step', lambda was: lambda s, stack, c=None: (
+    it._replace(ticket=it.ticket + 1000 * (it.ticket != stack.begun and c is None and it.effect is not None)) if (it := was(s, stack, c)) else it))
+planted('each item of a command is its own', Cellar, 'step', lambda was: lambda s, stack, c=None: (
+    it._replace(own=int(it.effect is not None and it.effect.value == c.value)) if c and c.what == engine.NEXT and (it := was(s, stack, c)) else was(s, stack, c)))
 planted('one effect more waits', Cellar, 'totals', lambda was: lambda s: (*(it := was(s))[:7], it[7] + (it[7] > 3)))
 planted('a release that waits was taken', Cellar, 'totals', lambda was: lambda s: (*(it := was(s))[:2], 0, *it[3:5], it[5] + it[2], *it[6:]))
 planted('it is finished with something in it', Cellar, 'finish', lambda was: lambda s: 0 if (it := was(s)) == 6 and s.totals()[0] == 0 else it)
-planted('a lane is given up that another serves', Cellar, 'give_up', lambda was: lambda s, word, by, untold, count=None: (
-    it if (it := was(s, word, by, untold, count))[0] == 0 or by != 2 else (0, 0)))
-planted('a stale lane gives something', Cellar, 'take', lambda was: lambda s, word, by: was(s, word, by) or (Effect(0, 0, 0, 0, 0) if by == 4 else None))

@@ -4,8 +4,9 @@ from __future__ import annotations
 import json
 from typing import Any
 
-from .cellar import INSIDE, NO_LANE, Cellar
-from .engine import DONE, NOTHING, Command, Effect
+from .cellar import Cellar
+from .engine import NOTHING, Command
+from .turns import Stack
 
 SAFE = 2**53  # from there on a number is written as a text
 
@@ -27,36 +28,37 @@ def read(it: Any) -> Any:
 
 
 def written(engine: Any) -> str:
-    """Behind the last command a lane that is given up by who does not serve it is left out."""
-    steps, last = engine.steps, max(i for i, step in enumerate(engine.steps) if step[0] == 'make')
-    steps = [step for i, step in enumerate(steps) if i < last or step[0] != 'give up' or step[4] == DONE]
-    return json.dumps(large({'events': engine.limit, 'steps': steps}), separators=(',', ':'))
+    return json.dumps(large({'events': engine.limit, 'steps': engine.steps}), separators=(',', ':'))
 
 
 def features(engine: Any) -> set[Any]:
-    """What is worth seeing in a course: kinds of answers, of effects, of lanes and of givings-up."""
+    """What is worth seeing in a course: kinds of answers, of effects and of turns."""
     found: set[Any] = set()
+    seen = begun = 0
     for step in engine.steps:
         match step:
-            case ['make', [what, place, kind, flags, *_], said]:
+            case ['step', [_, depth, _], [what, place, kind, flags, *_], said]:
                 found |= {('what', what, said.get('status', 0)), ('opens', what, place, kind, said.get('status', 0) > 0), ('flags', what, flags)}
-                found |= {('copies', min(said.get('copies', 0), 3)), ('lanes', len(said.get('lanes', ())) > 8, len(said.get('lanes', ())) > 1)}
-                found |= {('closings', len(said.get('closings', ())) > 8), ('inside', what, any(lane[1] for lane in said.get('lanes', ())))}
-                found |= {('handed', said['handed'][0])} if 'handed' in said else set()
-            case ['take', _, inside, _, effect]:
-                found.add(('take', inside, effect and effect[0]))
-            case ['give up', _, _, untold, status, is_left]:
-                found.add(('give up', untold and untold[0], status, is_left))
+                found |= {('copies', min(said.get('copies', 0), 3)), ('closings', len(said.get('closings', ())) > 8)}
+                found |= {('handed', what, said.get('status', 0) > 0, said['handed'][1], 'own' in said)} if 'handed' in said else set()
+            case ['next', [_, depth, _], said]:
+                found.add(('next', min(depth, 3), said.get('handed', (0, None))[1]))
+            case ['pass' | 'stop' as what, [_, depth, _], *now]:
+                found.add((what, min(depth, 3), *now))
             case [other, it]:
                 found.add((other, it if other == 'finish' else bool(it)))
+        if step[0] in ('step', 'next') and 'handed' in step[-1]:
+            ticket, begun = step[-1]['handed'][0], step[1][2]
+            found.add(('again', ticket <= seen, ticket == begun, min(step[1][1], 3)))
+            seen = max(seen, ticket)
     return found
 
 
 class Stored:
-    """The lanes and keys of a course by the steps that told them."""
+    """The keys and tickets of a course by the steps that told them."""
 
     def __init__(self, cellar: Cellar):
-        self.cellar, self.words, self.keys = cellar, [], {}
+        self.cellar, self.keys, self.tickets = cellar, {}, [0]
 
     def command(self, words: list[Any]) -> Command:
         c = Command(*words)
@@ -64,34 +66,31 @@ class Stored:
         c.node = NOTHING if node is None else tuple(node[:2]) if len(node) == 3 else self.keys[tuple(node)]
         return c
 
-    def lane(self, word: int) -> list[int]:
-        """The place of a lane among those that were named."""
-        if word & ~INSIDE not in self.words:
-            self.words.append(word & ~INSIDE)
-        return [self.words.index(word & ~INSIDE), int(word >= INSIDE)]
+    def place(self, ticket: int) -> int:
+        """The place of a ticket among those that were told."""
+        if ticket not in self.tickets:
+            self.tickets.append(ticket)
+        return self.tickets.index(ticket)
 
     def does(self, number: int, step: list[Any]) -> list[Any]:
         """The step as the library has it."""
-        match step:
-            case ['make', words, _]:
-                made = self.cellar.make(self.command(words))
-                for which, n in enumerate((made.node, made.other)):
-                    if n is not None:
-                        self.keys[number, which] = n
-                said = {'status': made.status, 'node': int(made.node is not None), 'other': int(made.other is not None),
-                        'connected': made.is_connected, 'hub': made.hub, 'copies': made.copies, 'closings': list(made.closings),
-                        'handed': list(made.handed or ()), 'lanes': [self.lane(word) for word in made.lanes]}
-                return ['make', words, {name: it for name, it in said.items() if it}]
-            case ['take', lane, inside, by, _]:
-                effect = self.cellar.take(self.words[lane] | inside * INSIDE, by)
-                return [*step[:4], list(effect) if effect else None]
-            case ['give up', lane, by, untold, *_]:
-                return [*step[:4], *self.cellar.give_up(self.words[lane], by, Effect(*untold) if untold else None)]
-            case ['left', _]:
-                return ['left', [self.lane(word)[0] for word in self.cellar.left()]]
-            case ['totals', _]:
-                return ['totals', list(self.cellar.totals())]
-        return ['finish', self.cellar.finish()]
+        if step[0] == 'totals':
+            return ['totals', list(self.cellar.totals())]
+        if step[0] == 'finish':
+            return ['finish', self.cellar.finish()]
+        by, depth, begun = step[1]
+        stack = Stack(by, depth, self.tickets[begun])
+        if step[0] in ('pass', 'stop'):
+            self.cellar.ended(step[0], stack, *step[2:])
+            return step
+        told = self.cellar.step(stack, self.command(step[2]) if step[0] == 'step' else None)
+        for which, n in enumerate((told.node, told.other)):
+            if n is not None:
+                self.keys[number, which] = n
+        said = {'status': told.status, 'node': int(told.node is not None), 'other': int(told.other is not None), 'connected': told.is_connected,
+                'hub': told.hub, 'copies': told.copies, 'closings': list(told.closings),
+                'handed': [self.place(told.ticket), *told.effect] if told.effect else [], 'own': told.own}
+        return [*step[:-1], {name: it for name, it in said.items() if it}]
 
 
 def replay(cellar: Cellar, course: dict[str, Any]) -> str | None:
