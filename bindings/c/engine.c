@@ -7,10 +7,11 @@
 static struct cellar engine;
 static struct cellar_node exchange, subject;
 static pthread_mutex_t lock = PTHREAD_MUTEX_INITIALIZER;
+static _Thread_local struct cellar_stack stack;
 static unsigned long told, released;
 static struct cellar_node make(uint8_t what, uint8_t place, uint8_t kind, struct cellar_node node, uint64_t value);
 
-static void tell(struct cellar_effect it) { /* outside the lock; of each lane by one thread at a time */
+static void tell(struct cellar_effect it) { /* outside the lock; an observer is told one thing at a time, whatever threads emit */
   if (it.kind == CELLAR_E_NEXT) told++;
   if (it.kind == CELLAR_E_RELEASE) released++;
   if (it.kind == CELLAR_E_PROJECT) {
@@ -19,16 +20,18 @@ static void tell(struct cellar_effect it) { /* outside the lock; of each lane by
   }
 }
 static struct cellar_node make(uint8_t what, uint8_t place, uint8_t kind, struct cellar_node node, uint64_t value) {
-  struct cellar_command command = {.what = what, .place = place, .kind = kind, .node = node, .value = value, .by = (uint64_t)pthread_self()};
-  struct cellar_answer answer;
-  pthread_mutex_lock(&lock), cellar_make(&engine, &command, &answer), pthread_mutex_unlock(&lock);
-  if (answer.handed) tell(answer.effect);
-  for (uint64_t i = 0; i < answer.due; i++) /* here never more than eight: of those cellar_rest tells the rest */
-    for (uint64_t count;; tell(answer.effect)) {
-      pthread_mutex_lock(&lock), cellar_take(&engine, answer.lanes[i], command.by, &answer.effect, &count), pthread_mutex_unlock(&lock);
-      if (!count) break;
-    }
-  return answer.node;
+  struct cellar_command command = {.what = what, .place = place, .kind = kind, .node = node, .value = value};
+  struct cellar_stepped step;
+  stack.by = (uint64_t)pthread_self(), stack.depth++;
+  pthread_mutex_lock(&lock), cellar_step(&engine, &stack, &command, &step), pthread_mutex_unlock(&lock);
+  node = step.node;
+  while (step.handed) {
+    stack.begun = step.ticket;
+    tell(step.effect);
+    pthread_mutex_lock(&lock), cellar_next(&engine, &stack, &step), pthread_mutex_unlock(&lock);
+  }
+  stack.depth--;
+  return node;
 }
 static void *emit(void *first) {
   for (uint64_t i = 0; i < 1000; i++) make(CELLAR_NEXT, 0, 0, subject, *(uint64_t *)first + i);

@@ -1,5 +1,4 @@
-/* Measures the engine: nanoseconds of processor time, the median of nine rounds with the least and the greatest, and bytes. The lane of an
- * item that was handed out is given back with the command that follows.
+/* Measures the engine: nanoseconds of processor time, the median of nine rounds with the least and the greatest, and bytes.
  * What crosses lies at another place of a page each round, so that no figure hangs on where it happens to lie. */
 #define _POSIX_C_SOURCE 200809L
 #include <cellarcliff.h>
@@ -13,10 +12,9 @@
 enum { N = 200000, ROUNDS = 9 };
 static struct crossing {
   struct cellar_command c;
-  struct cellar_answer a;
-  struct cellar_effect effect;
+  struct cellar_stack stack;
+  struct cellar_stepped s;
 } *at;
-static uint64_t done = UINT64_MAX; /* a lane of which all that was taken is done, and which the next command gives back */
 
 static double now(void) {
   struct timespec t;
@@ -25,63 +23,64 @@ static double now(void) {
 }
 static void make(struct cellar *e, uint8_t what) {
   at->c.what = what;
-  MUST((done == UINT64_MAX ? cellar_make(e, &at->c, &at->a) : cellar_make_behind(e, done, &at->c, &at->a)) == 0);
-  done = UINT64_MAX;
+  MUST(cellar_step(e, &at->stack, &at->c, &at->s) == 0);
+}
+/* How many effects there are to do. */
+static int told(struct cellar *e) {
+  int many = 0;
+  for (; at->s.handed; many++) {
+    at->stack.begun = at->s.ticket;
+    MUST(cellar_next(e, &at->stack, &at->s) == 0);
+  }
+  return many;
 }
 static void emit(struct cellar *e) {
   make(e, CELLAR_NEXT);
-  MUST(at->a.handed == 1 && at->a.due == 1);
-  done = at->a.lanes[0];
+  MUST(at->s.own == 1 && told(e) == 1);
 }
-static void open_node(struct cellar *e, uint8_t place, uint8_t kind, struct cellar_node above, uint8_t flags) {
+static struct cellar_node open_node(struct cellar *e, uint8_t place, uint8_t kind, struct cellar_node above, uint8_t flags) {
   at->c.place = place, at->c.kind = kind, at->c.node = above, at->c.flags = flags;
   make(e, CELLAR_OPEN);
   at->c.flags = 0;
+  return at->s.node;
 }
 
-/* An item: told and taken. */
+/* An item: told. */
 static void items(struct cellar *e) {
-  open_node(e, CELLAR_ROOT, CELLAR_LEAF, (struct cellar_node){0, 0}, CELLAR_WISHES);
-  at->c.node = at->a.node;
+  at->c.node = open_node(e, CELLAR_ROOT, CELLAR_LEAF, (struct cellar_node){0, 0}, CELLAR_WISHES);
   for (uint64_t i = 0; i < N; i++) {
     at->c.value = i;
     emit(e);
   }
 }
-/* A Using with a leaf whose closing is heard of: one item, disposed of, its resource taken. */
+/* A Using with a leaf whose closing is heard of: one item, disposed of, its resource released. */
 static void cycles(struct cellar *e) {
-  uint64_t count, told;
   for (uint64_t i = 0; i < N / 4; i++) {
     at->c.place = CELLAR_ROOT, at->c.value = i;
     make(e, CELLAR_USING);
-    struct cellar_node root = at->a.node;
-    open_node(e, CELLAR_SOURCE, CELLAR_LEAF, root, CELLAR_WISHES);
-    at->c.node = at->a.node;
+    struct cellar_node root = at->s.node;
+    at->c.node = open_node(e, CELLAR_SOURCE, CELLAR_LEAF, root, CELLAR_WISHES);
     emit(e);
     at->c.node = root;
     make(e, CELLAR_DISPOSE);
-    MUST(at->a.closed == 1 && at->a.due == 1);
-    for (told = 0; cellar_take(e, at->a.lanes[0], at->c.by, &at->effect, &count) == 0 && count; told++) continue;
-    MUST(told == 2);
+    MUST(at->s.closed == 1 && told(e) == 2);
   }
 }
-/* An item through a FlatMap, whose inner tells one and completes. */
+/* An item through a FlatMap, whose inner tells one and completes, each a call from within. */
 static void inners(struct cellar *e) {
-  open_node(e, CELLAR_ROOT, CELLAR_FLAT, (struct cellar_node){0, 0}, 0);
-  struct cellar_node flat = at->a.node;
-  open_node(e, CELLAR_SOURCE, CELLAR_LEAF, flat, 0);
-  struct cellar_node leaf = at->a.node;
+  struct cellar_node flat = open_node(e, CELLAR_ROOT, CELLAR_FLAT, (struct cellar_node){0, 0}, 0);
+  struct cellar_node leaf = open_node(e, CELLAR_SOURCE, CELLAR_LEAF, flat, 0);
   for (uint64_t i = 0; i < N / 4; i++) {
     at->c.node = leaf, at->c.value = i;
     make(e, CELLAR_NEXT);
-    MUST(at->a.handed == 1 && at->a.effect.kind == CELLAR_E_PROJECT);
-    uint64_t lane = at->a.lanes[0];
-    open_node(e, CELLAR_INNER, CELLAR_LEAF, flat, CELLAR_WISHES);
-    at->c.node = at->a.node;
+    MUST(at->s.own == 1 && at->s.effect.kind == CELLAR_E_PROJECT);
+    at->stack.begun = at->s.ticket, at->stack.depth++;
+    at->c.node = open_node(e, CELLAR_INNER, CELLAR_LEAF, flat, CELLAR_WISHES);
     emit(e);
     make(e, CELLAR_COMPLETE);
-    MUST(at->a.closed == 1 && at->a.due == 0);
-    done = lane;
+    MUST(at->s.closed == 1 && !at->s.handed);
+    at->stack.depth--;
+    MUST(cellar_next(e, &at->stack, &at->s) == 0 && !at->s.handed);
   }
 }
 
@@ -89,7 +88,7 @@ static const struct {
   const char *name;
   int many;
   void (*work)(struct cellar *);
-} works[] = {{"an item, told and taken", N, items}, {"a Using, an item, disposed of", N / 4, cycles}, {"an item through a FlatMap", N / 4, inners}};
+} works[] = {{"an item, told", N, items}, {"a Using, an item, disposed of", N / 4, cycles}, {"an item through a FlatMap", N / 4, inners}};
 enum { WORKS = sizeof works / sizeof works[0] };
 
 static int by_number(const void *x, const void *y) { return (*(const double *)x > *(const double *)y) - (*(const double *)x < *(const double *)y); }
@@ -113,10 +112,9 @@ int main(void) {
     for (int i = 0; i < WORKS; i++) {
       at = (struct crossing *)(void *)(space + STEP * round);
       memset(at, 0, sizeof *at);
-      at->c.by = 1;
+      at->stack.depth = 1;
       struct cellar engine = {0};
       MUST(cellar_new(&engine, 0) == 0);
-      done = UINT64_MAX;
       double begin = now();
       works[i].work(&engine);
       took[i][round] = (now() - begin) / works[i].many;

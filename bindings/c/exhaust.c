@@ -5,6 +5,7 @@
 #include "must.h"
 
 static struct cellar engine;
+static struct cellar_stack stack;
 static struct cellar_node exhaust, words, inner;
 static int is_open;
 enum { OBSERVER = 1, INNER = 2 }; /* words for nodes */
@@ -22,18 +23,20 @@ static void tell(struct cellar_effect it) {
 }
 static struct cellar_node make(uint8_t what, uint8_t place, uint8_t kind, struct cellar_node node, uint64_t user, uint64_t value) {
   struct cellar_command command = {.what = what, .place = place, .kind = kind, .node = node, .user = user, .value = value};
-  struct cellar_answer answer;
+  struct cellar_stepped step;
   command.flags = user == INNER ? CELLAR_WISHES : 0;
-  MUST(cellar_make(&engine, &command, &answer) == CELLAR_DONE);
-  for (uint64_t i = 0; i < answer.closed; i++)
-    if (answer.closings[i] == INNER) is_open = 0; /* what it wished: the inner is gone, however it went */
-  if (answer.handed) tell(answer.effect);
-  for (uint64_t i = 0; i < answer.due; i++)
-    for (uint64_t count;; tell(answer.effect)) {
-      MUST(cellar_take(&engine, answer.lanes[i], command.by, &answer.effect, &count) == CELLAR_DONE);
-      if (!count) break;
-    }
-  return answer.node;
+  stack.depth++;
+  MUST(cellar_step(&engine, &stack, &command, &step) == CELLAR_DONE);
+  for (uint64_t i = 0; i < step.closed; i++)
+    if (step.closings[i] == INNER) is_open = 0; /* what it wished: the inner is gone, however it went */
+  node = step.node;
+  while (step.handed) {
+    stack.begun = step.ticket;
+    tell(step.effect);
+    MUST(cellar_next(&engine, &stack, &step) == CELLAR_DONE);
+  }
+  stack.depth--;
+  return node;
 }
 int main(void) {
   MUST(CELLAR_FITS() && cellar_new(&engine, 0) == CELLAR_DONE);

@@ -35,21 +35,29 @@ class Engine {
   }
 
  private:
-  cellar_answer make(uint8_t what, uint8_t place, uint8_t kind, cellar_node node, uint64_t user, uint64_t value) {
+  // A stack of calls for each thread; one that throws from within an effect stops there.
+  cellar_stepped make(uint8_t what, uint8_t place, uint8_t kind, cellar_node node, uint64_t user, uint64_t value) {
     cellar_command command{};
     command.what = what, command.place = place, command.kind = kind, command.node = node, command.user = user, command.value = value;
-    command.by = std::hash<std::thread::id>()(std::this_thread::get_id());
-    cellar_answer answer;
-    if (locked([&] { return cellar_make(&engine_, &command, &answer); }) != CELLAR_DONE) throw std::runtime_error("refused");
-    if (answer.handed) tell(answer.effect);
-    for (uint64_t i = 0; i < answer.due; i++) // here never more than eight: of those cellar_rest tells the rest
-      for (uint64_t count;; tell(answer.effect)) {
-        locked([&] { return cellar_take(&engine_, answer.lanes[i], command.by, &answer.effect, &count); });
-        if (!count) break;
+    cellar_stepped made, step;
+    cellar_stack &stack = *locked([&] { return &stacks_.try_emplace(std::this_thread::get_id(), cellar_stack{++last_, 0, 0}).first->second; });
+    stack.depth++;
+    uint8_t status = locked([&] { return cellar_step(&engine_, &stack, &command, &step); });
+    try {
+      for (made = step; step.handed; locked([&] { return cellar_next(&engine_, &stack, &step); })) {
+        stack.begun = step.ticket;
+        tell(step.effect);
       }
-    return answer;
+    } catch (...) {
+      locked([&] { return cellar_stop(&engine_, &stack); });
+      stack.depth--;
+      throw;
+    }
+    stack.depth--;
+    if (status != CELLAR_DONE) throw std::runtime_error("refused");
+    return made;
   }
-  void tell(const cellar_effect &it) { // outside the lock; of each lane by one thread at a time
+  void tell(const cellar_effect &it) { // outside the lock; each observer is told one thing at a time
     Told told;
     locked([&] {
       auto found = told_.find(it.user);
@@ -67,6 +75,7 @@ class Engine {
   cellar engine_{};
   std::mutex lock_;
   std::unordered_map<uint64_t, Told> told_;
+  std::unordered_map<std::thread::id, cellar_stack> stacks_;
   uint64_t last_ = 0;
 };
 
