@@ -1,6 +1,6 @@
 /* Each request for memory refused in turn, over all commands: with CELLAR_NO_MEMORY nothing changed, the same command goes through
- * afterwards, no command that is to take none asks for any, and all closes and is taken without memory: each tag once, each value given
- * back as often as counted. Linked with -Wl,--wrap=malloc,--wrap=realloc. */
+ * afterwards, no call that is to take none asks for any, and all closes and is told: each tag once, each value given back as often as
+ * counted. Linked with -Wl,--wrap=malloc,--wrap=realloc. */
 #include <cellarcliff.h>
 #include <string.h>
 
@@ -23,7 +23,8 @@ void *__wrap_realloc(void *at, size_t size) { return refuses() ? NULL : __real_r
 
 enum { TAGS = 400, ROUNDS = 12 };
 static struct cellar engine;
-static struct cellar_answer answer;
+static struct cellar_stack stack = {.depth = 1};
+static struct cellar_stepped step;
 static long starved, commands;
 static int handed_in[TAGS], released[TAGS];
 static uint64_t tags, kept, given_back;
@@ -33,24 +34,20 @@ static void tell(const struct cellar_effect *it) {
   given_back += it->carries;
 }
 
-/* Of the lanes of the answer every second one is given up in the midst, now and then. */
-static void serve(uint64_t by, int all) {
-  uint64_t lanes[64], due = answer.due, count;
-  struct cellar_effect it;
-  int was = takes_none;
-  takes_none = 1;
-  MUST(due <= 64 && cellar_rest(&engine, 1, 0, lanes, 64, &count) == 0 && count == due);
-  if (answer.handed) tell(&answer.effect);
-  for (uint64_t i = 0; i < due; i++) {
-    while (cellar_take(&engine, lanes[i], by, &it, &count) == 0 && count) {
-      tell(&it);
-      if (!all && i % 2) {
-        MUST(cellar_give_up(&engine, lanes[i], by, NULL, 0, &count) == 0);
-        break;
-      }
+/* What is handed out; now and then it stops in the midst. */
+static void serve(int stops) {
+  struct cellar_stepped it = step;
+  for (int i = 0; it.handed; i++) {
+    stack.begun = it.ticket;
+    tell(&it.effect);
+    if (stops && i % 2) {
+      takes_none = 1;
+      MUST(cellar_stop(&engine, &stack) == 0);
+      takes_none = 0;
+      return;
     }
+    MUST(cellar_next(&engine, &stack, &it) == 0);
   }
-  takes_none = was;
 }
 
 static int closes(uint8_t what) {
@@ -63,39 +60,39 @@ static int closes(uint8_t what) {
 
 /* Makes the command, once more where memory was refused, and looks that nothing had changed. */
 static uint8_t make(uint8_t what, uint8_t place, uint8_t kind, struct cellar_node node, uint64_t value) {
-  struct cellar_command c = {.what = what, .place = place, .kind = kind, .node = node, .value = value, .user = 5, .by = 1};
+  struct cellar_command c = {.what = what, .place = place, .kind = kind, .node = node, .value = value, .user = 5};
   struct cellar_totals before, after;
   uint8_t status;
   if (what == CELLAR_OPEN || what == CELLAR_CONNECT) c.flags = CELLAR_WISHES;
   commands++;
-  takes_none = closes(what);
+  MUST(cellar_next(&engine, &stack, &step) == 0);
+  serve(0);
   MUST(cellar_totals(&engine, &before) == 0);
-  status = cellar_make(&engine, &c, &answer);
+  status = cellar_step(&engine, &stack, &c, &step);
   if (status == CELLAR_NO_MEMORY) {
-    MUST(left < 0 && !closes(what) && !answer.copies && !answer.closed && !answer.due && !answer.handed);
+    MUST(left < 0 && !closes(what) && !step.copies && !step.closed && !step.handed);
     MUST(cellar_totals(&engine, &after) == 0);
     after.events = before.events; /* hubs that were made stay */
     MUST(memcmp(&before, &after, sizeof before) == 0);
     starved++;
-    status = cellar_make(&engine, &c, &answer);
+    status = cellar_step(&engine, &stack, &c, &step);
   }
-  takes_none = 0;
-  if (status == 0) kept += answer.copies, serve(1, commands % 3);
+  if (status == 0) kept += step.copies, serve(commands % 3 == 0);
   return status;
 }
 static struct cellar_node opened(uint8_t place, uint8_t kind, struct cellar_node node, uint64_t value) {
   MUST(make(CELLAR_OPEN, place, kind, node, value) == 0);
-  return answer.node;
+  return step.node;
 }
 static struct cellar_node used(uint8_t place, struct cellar_node node) {
   MUST(make(CELLAR_USING, place, 0, node, tags) == 0);
   handed_in[tags++] = 1;
-  return answer.node;
+  return step.node;
 }
 static struct cellar_node held(struct cellar_node node) {
   MUST(make(CELLAR_HOLD, 0, 0, node, tags) == 0);
   handed_in[tags++] = 1;
-  return answer.other;
+  return step.other;
 }
 static void done(uint8_t what, struct cellar_node node, uint64_t value) { MUST(make(what, 0, 0, node, value) == 0); }
 
@@ -110,7 +107,7 @@ static void round_of_all(void) {
     res = held(leaf);
     done(CELLAR_APPLY, res, 0);
     done(CELLAR_LEASE, res, 0);
-    lease = answer.other;
+    lease = step.other;
     done(CELLAR_NEXT, leaf, 3);
     done(i ? CELLAR_COMPLETE : CELLAR_REMOVE, i ? leaf : res, 0);
     if (i < 2) done(CELLAR_GIVE_BACK, lease, 0);
@@ -131,14 +128,14 @@ static void round_of_all(void) {
   held(until);
   done(CELLAR_NEXT, notifier, 2);
   opened(CELLAR_ROOT, CELLAR_SHARED, none, 77);
-  connection = answer.other;
-  MUST(answer.is_connected == 1);
+  connection = step.other;
+  MUST(step.is_connected == 1);
   leaf = opened(CELLAR_SOURCE, CELLAR_LEAF, connection, 0);
   for (int i = 0; i < 20; i++) opened(CELLAR_ROOT, CELLAR_SHARED, none, 77);
   done(CELLAR_NEXT, leaf, 1);
   opened(CELLAR_ROOT, CELLAR_PUBLISHED, none, 78);
   done(CELLAR_CONNECT, none, 78);
-  held(answer.other);
+  held(step.other);
   done(CELLAR_DISCONNECT, none, 78);
   done(CELLAR_ERROR, leaf, 3);
   res = opened(CELLAR_ROOT, CELLAR_PASS, none, 0);
@@ -160,13 +157,11 @@ static void refuse_each(const char *what, uint32_t events, void (*one_round)(voi
   long n = 0, last, in_all, unseen = 0;
   commands = 0;
   do {
-    uint64_t word, next, count;
-    struct cellar_effect it;
     struct cellar_totals totals;
     memset(handed_in, 0, sizeof handed_in), memset(released, 0, sizeof released);
     tags = kept = given_back = 0;
     last = starved;
-    left = n, asked = 0;
+    left = n, asked = 0, stack.begun = 0;
     if (cellar_new(&engine, events) == CELLAR_NO_MEMORY) {
       starved++;
       MUST(cellar_new(&engine, events) == 0);
@@ -176,11 +171,9 @@ static void refuse_each(const char *what, uint32_t events, void (*one_round)(voi
     MUST(cellar_finish(&engine) == CELLAR_UNTAKEN);
     in_all = asked;
     unseen += starved == last && in_all > n; /* growth that was refused asks for less before it gives up */
-    left = 0; /* from here on each request would be refused, and none is made */
-    while (make(CELLAR_SHUT, 0, 0, none, 0) == 0) continue;
     takes_none = 1;
-    while (cellar_left(&engine, 0, &word, &next) == 0 && word != UINT64_MAX)
-      while (cellar_take(&engine, word, 1, &it, &count) == 0 && count) tell(&it);
+    while (make(CELLAR_SHUT, 0, 0, none, 0) == 0) continue;
+    MUST(cellar_next(&engine, &stack, &step) == 0 && !step.handed);
     MUST(cellar_totals(&engine, &totals) == 0 && totals.accepted == tags && totals.taken == tags && totals.effects == 0 && totals.nodes == 0);
     MUST(cellar_finish(&engine) == 0);
     takes_none = 0;
