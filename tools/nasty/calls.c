@@ -1,12 +1,13 @@
-/* The calls of cellarcliff.h on an engine: what an answer names, and the serving of lanes. */
+/* The calls of cellarcliff.h on an engine. */
 #include <stdlib.h>
 #include <string.h>
 
 #include "engine.h"
+#include "turns.h"
 
 struct kept {
   struct engine engine;
-  struct words due; /* of the last command */
+  struct turns turns;
 };
 
 static struct kept *kept_of(const struct cellar *handle) { return (struct kept *)(uintptr_t)handle->at; }
@@ -14,8 +15,8 @@ static struct kept *kept_of(const struct cellar *handle) { return (struct kept *
 uint32_t cellar_abi(void) { return CELLAR_ABI; }
 
 uint32_t cellar_size(uint32_t which) {
-  static const uint32_t sizes[] = {sizeof(struct cellar),        sizeof(struct cellar_command), sizeof(struct cellar_answer),
-                                   sizeof(struct cellar_effect), sizeof(struct cellar_totals),  sizeof(struct cellar_event)};
+  static const uint32_t sizes[] = {sizeof(struct cellar),        sizeof(struct cellar_command), sizeof(struct cellar_answer), sizeof(struct cellar_effect),
+                                   sizeof(struct cellar_totals), sizeof(struct cellar_event),   sizeof(struct cellar_stack),  sizeof(struct cellar_stepped)};
   return which < sizeof sizes / sizeof *sizes ? sizes[which] : 0;
 }
 
@@ -28,149 +29,134 @@ uint8_t cellar_new(struct cellar *handle, uint32_t max_events) {
   struct kept *kept = had(sizeof *kept);
   kept->engine.book.chooser = chooser;
   kept->engine.limit = max_events;
+  kept->turns.lanes = &kept->engine.lanes;
+  kept->turns.chooser = &kept->engine.book.chooser;
   handle->at = (uintptr_t)kept;
   return CELLAR_DONE;
 }
 
 /* Commands ---------------------------------------------------------------------------------------------------------------------*/
 
-static void clear(struct cellar_answer *answer) {
-  answer->is_connected = answer->copies = answer->closed = answer->due = answer->handed = 0;
-  answer->spare[0] = answer->spare[1] = 0;
+static void clear(struct cellar_stepped *step) {
+  step->is_connected = step->copies = step->closed = step->handed = step->own = step->spare = 0;
 }
 
-/* Only until the next command or taking is the rest of an answer there. */
+/* Only until the next command are the closings of an answer there. */
 static void forgets(struct kept *kept) {
   if (choose(&kept->engine.book.chooser, FORGETS, 2))
-    kept->due.many = kept->engine.closings.many = 0;
+    kept->engine.closings.many = 0;
 }
 
-/* The lanes that got something: those that nobody serves, and of the caller's those with something before the rest. */
-static void name_lanes(struct kept *kept, uint64_t by) {
-  kept->due.many = 0;
+/* The lanes that got something are due to the turn: those that nobody serves, and of its stack's those with something before the rest. */
+static void claims_all(struct kept *kept, struct turn *turn) {
   for (size_t i = 0; i < kept->engine.touched.many; i++) {
     const struct lane *lane = kept->engine.touched.at[i];
-    if (!lane->is_served)
-      words_put(&kept->due, lane->name);
-    else if (lane->server == by && lane->parts[FRONT].many)
-      words_put(&kept->due, lane->name | CELLAR_INSIDE);
+    if (!lane->is_served || (lane->server == turn->by && lane->parts[FRONT].many))
+      turn_claims(&kept->turns, turn, (struct claim){lane->number, lane->is_served, lane->says_gone ? kept->engine.commands : 0});
   }
-  shuffle(&kept->engine.book.chooser, CLOSINGS, kept->engine.closings.at, kept->engine.closings.many);
 }
 
-/* Whether the item that is all that comes of a command is handed out: where nothing stands before it, and nobody serves its lane; or, as
- * it was once, in any case, and then it is the first effect of the lane. */
-static bool hands_out(struct chooser *chooser, const struct lane *lane) {
-  bool is_own = !lane->is_served && lane->parts[BACK].many == 1 && !lane->parts[RETURNED].many && !lane->parts[FRONT].many;
-  if (!chooser->told)
-    return choose(chooser, HANDED, 2) || is_own;
-  if (is_own && !chooser->told->handed)
-    differs(chooser, "nothing is handed out");
-  return chooser->told->handed;
+/* Whether the item is all that comes of a command, stands alone in its lane, which nobody serves, and is handed out at once. */
+static bool is_at_once(struct kept *kept, const struct outcome *it) {
+  if (!it->is_item || it->copies != 1 || kept->engine.touched.many != 1)
+    return false;
+  const struct lane *lane = kept->engine.touched.at[0];
+  bool is_alone = !lane->is_served && lane->parts[BACK].many == 1 && !lane->parts[RETURNED].many && !lane->parts[FRONT].many;
+  return is_alone && !choose(&kept->engine.book.chooser, OWN, 2);
 }
 
-static uint8_t made(struct kept *kept, const struct cellar_command *command, struct cellar_answer *answer) {
+static uint8_t made(struct kept *kept, struct turn *turn, const struct cellar_command *command, struct cellar_stepped *step) {
   struct engine *engine = &kept->engine;
   forgets(kept);
+  if (is_refused(&engine->book.chooser, LINES))
+    return CELLAR_NO_MEMORY;
   struct outcome it = engine_command(engine, command);
   if (it.status)
     return it.status;
-  name_lanes(kept, command->by);
+  shuffle(&engine->book.chooser, CLOSINGS, engine->closings.at, engine->closings.many);
   if (command->what == CELLAR_OPEN || command->what == CELLAR_USING)
-    answer->node = it.node;
+    step->node = it.node;
   if (command->what == CELLAR_USING || command->what == CELLAR_HOLD || command->what == CELLAR_LEASE || command->what == CELLAR_CONNECT || it.is_connected)
-    answer->other = it.other;
+    step->other = it.other;
   if (command->what == CELLAR_CONNECT || (command->what == CELLAR_OPEN && is_of_share(command->kind)))
-    answer->hub = it.hub;
-  answer->is_connected = it.is_connected;
-  answer->copies = it.copies;
-  answer->closed = engine->closings.many;
-  answer->due = kept->due.many;
-  for (size_t i = 0; i < CELLAR_ROOM && i < answer->closed; i++)
-    answer->closings[i] = engine->closings.at[i];
-  for (size_t i = 0; i < CELLAR_ROOM && i < answer->due; i++)
-    answer->lanes[i] = kept->due.at[i];
-  if (it.is_item && answer->copies == 1 && answer->due == 1) {
-    struct lane *lane = lane_named(&engine->lanes, answer->lanes[0]);
-    if (hands_out(&engine->book.chooser, lane))
-      answer->handed = lane_taken(&engine->lanes, lane, command->by, answer->lanes[0] >= CELLAR_INSIDE, &answer->effect);
-  }
+    step->hub = it.hub;
+  step->is_connected = it.is_connected;
+  step->copies = it.copies;
+  step->closed = engine->closings.many;
+  for (size_t i = 0; i < CELLAR_ROOM && i < step->closed; i++)
+    step->closings[i] = engine->closings.at[i];
+  if (is_at_once(kept, &it)) {
+    struct lane *lane = engine->touched.at[0];
+    struct cellar_effect effect;
+    step->own = lane_taken(&engine->lanes, lane, turn->by, false, &effect);
+    turn_holds(&kept->turns, turn, (struct claim){lane->number, false, 0}, effect);
+  } else
+    claims_all(kept, turn);
   return CELLAR_DONE;
 }
 
-uint8_t cellar_make(struct cellar *handle, const struct cellar_command *command, struct cellar_answer *answer) {
-  struct kept *kept = kept_of(handle);
-  clear(answer);
-  return kept ? made(kept, command, answer) : CELLAR_NOTHING_KEPT;
+static void hands_out(struct kept *kept, struct turn *turn, struct cellar_stepped *step) {
+  const struct turn *it = turn_goes_on(&kept->turns, turn);
+  if (!it)
+    return;
+  step->handed = 1;
+  step->ticket = it->ticket;
+  step->effect = it->effect;
 }
 
-static bool taken(struct kept *kept, uint64_t name, uint64_t by, struct cellar_effect *effect) {
-  struct lane *lane = lane_named(&kept->engine.lanes, name);
-  return lane && lane_taken(&kept->engine.lanes, lane, by, name >= CELLAR_INSIDE, effect);
-}
-
-uint8_t cellar_make_behind(struct cellar *handle, uint64_t lane, const struct cellar_command *command, struct cellar_answer *answer) {
+uint8_t cellar_step(struct cellar *handle, const struct cellar_stack *stack, const struct cellar_command *command, struct cellar_stepped *step) {
   struct kept *kept = kept_of(handle);
-  clear(answer);
+  clear(step);
   if (!kept)
     return CELLAR_NOTHING_KEPT;
-  answer->handed = taken(kept, lane, command->by, &answer->effect);
-  return answer->handed ? CELLAR_UNTAKEN : made(kept, command, answer);
+  turns_note(&kept->turns, stack);
+  struct turn *turn = turn_of(&kept->turns, stack->by, stack->depth);
+  struct cellar_command its = *command;
+  its.by = stack->by;
+  if (its.what == CELLAR_NEXT && !its.flags && !turn_is_free(&kept->turns, turn))
+    its.flags = CELLAR_QUEUES;
+  uint8_t status = made(kept, turn, &its, step);
+  hands_out(kept, turn, step);
+  return status;
 }
 
-/* Serving ----------------------------------------------------------------------------------------------------------------------*/
+uint8_t cellar_next(struct cellar *handle, const struct cellar_stack *stack, struct cellar_stepped *step) {
+  struct kept *kept = kept_of(handle);
+  clear(step);
+  if (!kept)
+    return CELLAR_NOTHING_KEPT;
+  turns_note(&kept->turns, stack);
+  hands_out(kept, turn_of(&kept->turns, stack->by, stack->depth), step);
+  return CELLAR_DONE;
+}
 
-uint8_t cellar_take(struct cellar *handle, uint64_t lane, uint64_t by, struct cellar_effect *effect, uint64_t *count) {
+uint8_t cellar_pass(struct cellar *handle, const struct cellar_stack *stack, uint8_t now) {
+  struct kept *kept = kept_of(handle);
+  if (!kept)
+    return CELLAR_NOTHING_KEPT;
+  turns_note(&kept->turns, stack);
+  uint64_t outer = stack->depth - (stack->depth > 0);
+  struct claim left;
+  if (turn_lets_go(&kept->turns, turn_of(&kept->turns, stack->by, outer), &left))
+    turn_claims(&kept->turns, turn_of(&kept->turns, stack->by, now ? stack->depth : outer), left);
+  return CELLAR_DONE;
+}
+
+uint8_t cellar_stop(struct cellar *handle, const struct cellar_stack *stack) {
+  struct kept *kept = kept_of(handle);
+  if (!kept)
+    return CELLAR_NOTHING_KEPT;
+  turns_note(&kept->turns, stack);
+  turn_stops(&kept->turns, turn_of(&kept->turns, stack->by, stack->depth));
+  return CELLAR_DONE;
+}
+
+uint8_t cellar_closings(struct cellar *handle, uint64_t from, uint64_t *words, size_t room, uint64_t *count) {
   struct kept *kept = kept_of(handle);
   *count = 0;
   if (!kept)
     return CELLAR_NOTHING_KEPT;
-  forgets(kept);
-  *count = taken(kept, lane, by, effect);
-  return CELLAR_DONE;
-}
-
-uint8_t cellar_give_up(struct cellar *handle, uint64_t name, uint64_t by, const struct cellar_effect *untold, uint64_t count, uint64_t *is_left) {
-  struct kept *kept = kept_of(handle);
-  *is_left = 0;
-  if (!kept)
-    return CELLAR_NOTHING_KEPT;
-  if (count > 1 || (count && untold->kind > CELLAR_E_MERGED))
-    return CELLAR_NO_SUCH_CODE;
-  struct lane *lane = lane_named(&kept->engine.lanes, name);
-  bool has = false, gave = lane && lane_given_up(&kept->engine.lanes, lane, by, count ? untold : NULL, &has);
-  *is_left = has;
-  return gave ? CELLAR_DONE : CELLAR_GONE;
-}
-
-uint8_t cellar_left(struct cellar *handle, uint64_t from, uint64_t *name, uint64_t *next) {
-  struct kept *kept = kept_of(handle);
-  *name = UINT64_MAX;
-  *next = from;
-  if (!kept)
-    return CELLAR_NOTHING_KEPT;
-  struct shelf *named = &kept->engine.lanes.named;
-  for (size_t place = shelf_place(named, from); place < named->many; place++) {
-    const struct lane *lane = named->at[place];
-    if (lane_is_left(lane)) { /* the next place is anywhere up to that of the next lane */
-      uint64_t gap = place + 1 < named->many ? *(uint64_t *)named->at[place + 1] - lane->name : 1;
-      *name = lane->name;
-      *next = lane->name + 1 + choose(&kept->engine.book.chooser, LEFT, gap);
-      return CELLAR_DONE;
-    }
-  }
-  *next = odd_number(&kept->engine.book.chooser, LEFT, from);
-  return CELLAR_DONE;
-}
-
-uint8_t cellar_rest(struct cellar *handle, uint8_t which, uint64_t from, uint64_t *words, size_t room, uint64_t *count) {
-  struct kept *kept = kept_of(handle);
-  *count = 0;
-  if (!kept)
-    return CELLAR_NOTHING_KEPT;
-  if (which > 1)
-    return CELLAR_NO_SUCH_CODE;
-  const struct words *all = which ? &kept->due : &kept->engine.closings;
+  const struct words *all = &kept->engine.closings;
   uint64_t many = from < all->many ? all->many - from : 0;
   *count = many < room ? many : room;
   if (*count)
@@ -287,7 +273,7 @@ void cellar_drop(struct cellar *handle) {
     return;
   handle->at = 0;
   engine_free(&kept->engine);
-  free(kept->due.at);
+  turns_free(&kept->turns);
   free(kept);
 }
 
@@ -305,9 +291,3 @@ uint8_t cellar_finish(struct cellar *handle) {
 
 /* From here on, until it is called with none, the engine makes the choices that this one tells. */
 void nasty_follow(struct cellar *handle, struct told *told) { kept_of(handle)->engine.book.chooser.told = told; }
-
-/* How many lanes were opened before this one; UINT64_MAX where it is none. */
-uint64_t nasty_lane(struct cellar *handle, uint64_t name) {
-  const struct lane *lane = lane_named(&kept_of(handle)->engine.lanes, name);
-  return lane ? lane->number : UINT64_MAX;
-}

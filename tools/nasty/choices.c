@@ -117,6 +117,19 @@ uint64_t odd_number(struct chooser *chooser, enum choice which, uint64_t plain) 
   }
 }
 
+uint64_t odd_name(struct chooser *chooser, enum choice which, uint64_t number) {
+  switch (choose(chooser, which, 4)) {
+  case 1:
+    return (number + 1) << 32;
+  case 2:
+    return UINT64_C(1) << 62 | ((number + 1) * UINT64_C(0x9E3779B97F4A7C15) & (UINT64_MAX >> 3));
+  case 3:
+    return (UINT64_MAX >> 1) - 1 - number;
+  default:
+    return number + 1;
+  }
+}
+
 void shuffle(struct chooser *chooser, enum choice which, uint64_t *words, uint64_t many) {
   for (uint64_t i = 0; i + 1 < many; i++) {
     uint64_t other = i + choose(chooser, which, many - i), word = words[i];

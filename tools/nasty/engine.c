@@ -246,6 +246,7 @@ static void tells(struct engine *engine, const struct cellar_command *c, struct 
   it->copies += carries;
   if (lane->touched != engine->commands) {
     lane->touched = engine->commands;
+    lane->says_gone = kind == CELLAR_E_GONE || kind == CELLAR_E_MERGED;
     engine->touched.at = grown(engine->touched.at, &engine->touched.room, engine->touched.many, sizeof(void *));
     engine->touched.at[engine->touched.many++] = lane;
   }
@@ -275,7 +276,7 @@ static void tells_notes(struct engine *engine, const struct cellar_command *c, s
 
 /* What is still to be told of what is gone, in any order. */
 static void notes_gone(struct book *book) {
-  for (size_t i = 0; i < book->gone.many; i++) {
+  for (size_t i = book->gone.many; i-- > 0;) {
     struct node *node = book->gone.at[i];
     if (node->hears)
       book_note(book, node, CELLAR_E_GONE);
@@ -313,7 +314,7 @@ static struct lane *named(struct lane *lane) {
   return lane;
 }
 
-static struct lane *new_lane(struct engine *engine) { return named(lane_opened(&engine->lanes, &engine->book.chooser)); }
+static struct lane *new_lane(struct engine *engine) { return named(lane_opened(&engine->lanes)); }
 
 static void joins(struct book *book, struct node *node, uint64_t share) {
   book->hubs[node->hub].owner = share;

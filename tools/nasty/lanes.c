@@ -12,34 +12,17 @@ static void queue_put(struct queue *queue, struct cellar_effect effect) {
   queue->at[queue->first + queue->many++] = effect;
 }
 
-/* A name that no lane had before: small, or with nothing in its lower half, or large in one of two ways. */
-static uint64_t new_name(struct chooser *chooser, uint64_t number) {
-  switch (choose(chooser, NAMES, 4)) {
-  case 1:
-    return (number + 1) << 32;
-  case 2:
-    return UINT64_C(1) << 62 | ((number + 1) * UINT64_C(0x9E3779B97F4A7C15) & (UINT64_MAX >> 3));
-  case 3:
-    return (UINT64_MAX >> 1) - 1 - number;
-  default:
-    return number + 1;
-  }
-}
-
-struct lane *lane_opened(struct lanes *lanes, struct chooser *chooser) {
+struct lane *lane_opened(struct lanes *lanes) {
   struct lane *lane = had(sizeof *lane);
   lane->number = lanes->opened++;
-  lane->name = new_name(chooser, lane->number);
-  shelf_add(&lanes->named, lane);
+  shelf_add(&lanes->open, lane);
   return lane;
 }
-
-struct lane *lane_named(const struct lanes *lanes, uint64_t name) { return shelf_find(&lanes->named, name & ~CELLAR_INSIDE); }
 
 static void let_go(struct lanes *lanes, struct lane *lane) {
   if (lane->many || lane->is_served || lane_has(lane, false))
     return;
-  shelf_remove(&lanes->named, lane->name);
+  shelf_remove(&lanes->open, lane->number);
   for (int i = 0; i < 3; i++)
     free(lane->parts[i].at);
   free(lane);
@@ -55,6 +38,27 @@ bool lane_has(const struct lane *lane, bool inside) {
 }
 
 bool lane_is_left(const struct lane *lane) { return !lane->is_served && lane_has(lane, false); }
+
+static bool is_same(const struct cellar_effect *a, const struct cellar_effect *b) {
+  return a->kind == b->kind && a->user == b->user && a->by == b->by && (!a->carries || a->value == b->value);
+}
+
+static bool says_gone(const struct cellar_effect *effect) { return effect->kind == CELLAR_E_GONE || effect->kind == CELLAR_E_MERGED; }
+
+bool lane_has_first(struct lane *lane, const struct cellar_effect *effect) {
+  struct queue *part = lane->parts;
+  while (!part->many)
+    part++;
+  struct cellar_effect *first = part->at + part->first;
+  for (size_t i = 0; i < part->many && (i == 0 || (says_gone(first) && says_gone(first + i))); i++)
+    if (is_same(first + i, effect)) {
+      struct cellar_effect other = first[i];
+      first[i] = *first;
+      *first = other;
+      return true;
+    }
+  return false;
+}
 
 static void count(struct lanes *lanes, const struct cellar_effect *effect, uint64_t more) {
   lanes->effects += more;
@@ -111,11 +115,11 @@ bool lane_given_up(struct lanes *lanes, struct lane *lane, uint64_t by, const st
 }
 
 void lanes_free(struct lanes *lanes) {
-  for (size_t i = 0; i < lanes->named.many; i++) {
-    struct lane *lane = lanes->named.at[i];
+  for (size_t i = 0; i < lanes->open.many; i++) {
+    struct lane *lane = lanes->open.at[i];
     for (int part = 0; part < 3; part++)
       free(lane->parts[part].at);
     free(lane);
   }
-  free(lanes->named.at);
+  free(lanes->open.at);
 }
