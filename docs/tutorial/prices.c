@@ -5,9 +5,10 @@
 #include <stdlib.h>
 
 static struct cellar engine;
+static struct cellar_stack stack;
 static struct cellar_node mapping, lines; /* a FlatMap or Switch, and what its latest file tells */
 #define MAKE(...) make((struct cellar_command){__VA_ARGS__})
-static struct cellar_answer make(struct cellar_command command);
+static struct cellar_stepped make(struct cellar_command command);
 static struct cellar_node leaf_of(struct cellar_node node);
 
 /* The engine's word for an observer: here the address of its name. */
@@ -32,20 +33,23 @@ static void tell(struct cellar_effect it) {
   if (it.kind == CELLAR_E_RELEASE) printf("release file %d\n", (int)it.user); /* a real program closes it here */
 }
 
-/* Does all that a command came to. */
-static void serve(const struct cellar_answer *answer) {
-  struct cellar_effect effect;
-  if (answer->handed) tell(answer->effect);
-  for (uint64_t i = 0, count; i < answer->due; i++) /* here never more than eight: cellar_rest has what is behind */
-    while (cellar_take(&engine, answer->lanes[i], 0, &effect, &count) == CELLAR_DONE && count) tell(effect);
+/* Makes a command, and does what is handed out then. */
+static uint8_t step(struct cellar_command command, struct cellar_stepped *made) {
+  stack.depth++;
+  uint8_t status = cellar_step(&engine, &stack, &command, made);
+  for (struct cellar_stepped now = *made; now.handed; cellar_next(&engine, &stack, &now)) {
+    stack.begun = now.ticket;
+    tell(now.effect);
+  }
+  stack.depth--;
+  return status;
 }
 
-/* Makes a command that this program can make: a refusal ends it. */
-static struct cellar_answer make(struct cellar_command command) {
-  struct cellar_answer answer;
-  if (cellar_make(&engine, &command, &answer) != CELLAR_DONE) abort();
-  serve(&answer);
-  return answer;
+/* The same of a command that this program can make: a refusal ends it. */
+static struct cellar_stepped make(struct cellar_command command) {
+  struct cellar_stepped made;
+  if (step(command, &made) != CELLAR_DONE) abort();
+  return made;
 }
 
 /* A leaf at the source of a node. */
@@ -64,14 +68,14 @@ static void watch(void) {
 }
 
 /* An observer of the feed, a share. Its first one connects it: then `other` of the answer is the connection. */
-static struct cellar_answer subscribe(const char *name) {
+static struct cellar_stepped subscribe(const char *name) {
   return MAKE(.what = CELLAR_OPEN, .place = CELLAR_ROOT, .kind = CELLAR_SHARED, .user = word(name), .value = word("feed"),
               .hub = CELLAR_UNKNOWN_HUB);
 }
 
 /* Two observers of one source: its file is opened with the first, and comes back with the last. */
 static void share(void) {
-  struct cellar_answer first = subscribe("first"), second = subscribe("second");
+  struct cellar_stepped first = subscribe("first"), second = subscribe("second");
   if (first.is_connected) {
     struct cellar_node line = MAKE(.what = CELLAR_USING, .place = CELLAR_SOURCE, .node = first.other, .value = 9).node;
     struct cellar_node ticks = leaf_of(line);
@@ -104,7 +108,7 @@ static void latest(void) {
 
 /* A request borrows the file of a subscription, and outlives it. */
 static void lend(void) {
-  struct cellar_answer page = MAKE(.what = CELLAR_USING, .place = CELLAR_ROOT, .user = word("page"), .value = 15);
+  struct cellar_stepped page = MAKE(.what = CELLAR_USING, .place = CELLAR_ROOT, .user = word("page"), .value = 15);
   struct cellar_node request = MAKE(.what = CELLAR_LEASE, .node = page.other).other;
   MAKE(.what = CELLAR_DISPOSE, .node = page.node);
   puts("the page is gone, the request goes on");
@@ -116,9 +120,8 @@ static void forget(void) { MAKE(.what = CELLAR_USING, .place = CELLAR_ROOT, .use
 
 /* Closes one of what is open after the other, and frees the engine. */
 static int close_all(void) {
-  struct cellar_command shut = {.what = CELLAR_SHUT};
-  struct cellar_answer answer;
-  while (cellar_make(&engine, &shut, &answer) == CELLAR_DONE) serve(&answer);
+  struct cellar_stepped made;
+  while (step((struct cellar_command){.what = CELLAR_SHUT}, &made) == CELLAR_DONE) continue;
   return cellar_finish(&engine);
 }
 

@@ -39,15 +39,17 @@ def make_courses(library: pathlib.Path, commands: int, seed: int, jobs: int, fol
     return files
 
 
-def has_share(course: str) -> bool:
-    """Whether a share is opened or connected: then a command that is refused memory may have made hubs, as cellarcliff.h says."""
-    made = [words[0] for what, *words in json.loads(course)['steps'] if what == 'make']
-    return any(int(what) == 9 or int(what) == 0 and int(kind) >= 5 for what, _, kind, *_ in made)
+def has_share_or_stop(course: str) -> bool:
+    """Whether a share is opened or connected: then a command that is refused memory may have made hubs, as cellarcliff.h says. Or whether a call
+    is stopped: then one that is refused may hand out what that left, and an item that is tried again is handed out behind it."""
+    steps = json.loads(course)['steps']
+    made = [it[2] for it in steps if it[0] == 'step']
+    return any(it[0] == 'stop' for it in steps) or any(int(what) == 9 or int(what) == 0 and int(kind) >= 5 for what, _, kind, *_ in made)
 
 
 def commands_of(*files: pathlib.Path) -> int:
     """How many commands these courses have."""
-    return sum(step[0] == 'make' for file in files for line in file.read_text().splitlines() for step in json.loads(line)['steps'])
+    return sum(step[0] == 'step' for file in files for line in file.read_text().splitlines() for step in json.loads(line)['steps'])
 
 
 def replayed_in_node(module: pathlib.Path, files: list[pathlib.Path], *more: object) -> tuple[int, str]:

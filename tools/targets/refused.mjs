@@ -1,7 +1,7 @@
 // Want of memory of an engine: node --import ./refused.mjs ../../bindings/courses/replay.mjs MODULE FILE.. replays courses on try.wasm, and for
 // each call that may take memory has its requests refused in turn. A call that is refused memory answers 4, also where a full history wants a
 // checkpoint, and changed nothing: made again it is answered as the course has it, which replay.mjs looks at.
-const MAY_ASK = ['cellar_new', 'cellar_make'], NO_MEMORY = 4;
+const MAY_ASK = ['cellar_new', 'cellar_step'], NO_MEMORY = 4;
 const instantiate = WebAssembly.instantiate;
 let calls = 0, refused = 0, most = 0;
 

@@ -4,28 +4,27 @@ import { readFileSync } from 'node:fs';
 
 const wasm = new WebAssembly.Instance(new WebAssembly.Module(readFileSync(process.argv[2]))).exports;
 const at = Number(wasm.place(1024n)), spot = (offset) => BigInt(at + offset);
-const ENGINE = spot(0), COMMAND = spot(64), ANSWER = spot(128), EFFECT = spot(384), COUNT = spot(416), TOTALS = spot(448);
+const ENGINE = spot(0), COMMAND = spot(64), STACK = spot(128), STEP = spot(192), TOTALS = spot(448);
 const [OPEN, USING, NEXT, SHUT] = [0, 1, 3, 12], [ROOT, SOURCE] = [0, 1], NO_MEMORY = 4, GONE = 17, RELEASE = 5, NONE = [0n, 0n];
 const must = (holds, what) => { if (!holds) throw new Error(what); };
 const words = (place, length) => new BigUint64Array(wasm.memory.buffer, Number(place), length);
 
-/** A command, and all that it comes to. The tags of the resources that come back go into `back`. */
+/** A command, and all that is handed out then. The tags of the resources that come back go into `back`. */
 function make(back, what, place = 0, node = NONE, value = 0) {
   new Uint8Array(wasm.memory.buffer, Number(COMMAND), 64).fill(0);
   new Uint8Array(wasm.memory.buffer, Number(COMMAND), 2).set([what, place]);
   words(COMMAND + 16n, 2).set(node);
   words(COMMAND + 40n, 1)[0] = BigInt(value);
-  const status = wasm.cellar_make(ENGINE, COMMAND, ANSWER), answer = [...words(ANSWER, 26)];
-  must(answer[8] <= 8n, 'more lanes than an answer has room for');
-  for (const lane of answer.slice(18, 18 + Number(answer[8]))) {
-    for (;;) {
-      must(wasm.cellar_take(ENGINE, lane, 0n, EFFECT, COUNT) === 0, 'take');
-      if (words(COUNT, 1)[0] === 0n) break;
-      const [tag, , , kind] = words(EFFECT, 4);
-      if ((kind & 0xffffffffn) === BigInt(RELEASE)) back.push(tag);
-    }
+  const stack = (begun) => words(STACK, 3).set([0n, 1n, begun]);
+  stack(0n);
+  const status = wasm.cellar_step(ENGINE, STACK, COMMAND, STEP), node = [...words(STEP, 2)];
+  while (words(STEP + 128n, 1)[0]) {
+    const [tag, , , kind] = words(STEP + 160n, 4);
+    if ((kind & 0xffffffffn) === BigInt(RELEASE)) back.push(tag);
+    stack(words(STEP + 144n, 1)[0]);
+    must(wasm.cellar_next(ENGINE, STACK, STEP) === 0, 'next');
   }
-  return [status, answer.slice(0, 2)];
+  return [status, node];
 }
 
 /** Nodes, held, waiting, leases, accepted, taken, events, effects. */
