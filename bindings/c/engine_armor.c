@@ -30,8 +30,8 @@ int main(void) {
     MISUSED(cellar_next(BAD(struct cellar), &stack, &step));
     MISUSED(cellar_next(&engine, BAD(struct cellar_stack), &step));
     MISUSED(cellar_next(&engine, &stack, BAD(struct cellar_stepped)));
-    MISUSED(cellar_pass(BAD(struct cellar), &stack, 1));
-    MISUSED(cellar_pass(&engine, BAD(struct cellar_stack), 1));
+    MISUSED(cellar_pass(BAD(struct cellar), &stack, 0, 1));
+    MISUSED(cellar_pass(&engine, BAD(struct cellar_stack), 0, 1));
     MISUSED(cellar_stop(BAD(struct cellar), &stack));
     MISUSED(cellar_stop(&engine, BAD(struct cellar_stack)));
     MISUSED(cellar_closings(BAD(struct cellar), 0, list, 8, &one));
@@ -54,7 +54,7 @@ int main(void) {
   MUST(engine.at == 0 && cellar_finish(&engine) == CELLAR_NOTHING_KEPT);
   MUST(cellar_step(&engine, &stack, &command, &step) == CELLAR_NOTHING_KEPT && !step.copies && !step.closed && !step.handed);
   MUST(cellar_next(&engine, &stack, &step) == CELLAR_NOTHING_KEPT && !step.copies && !step.closed && !step.handed);
-  MUST(cellar_pass(&engine, &stack, 0) == CELLAR_NOTHING_KEPT && cellar_stop(&engine, &stack) == CELLAR_NOTHING_KEPT);
+  MUST(cellar_pass(&engine, &stack, 0, 0) == CELLAR_NOTHING_KEPT && cellar_stop(&engine, &stack) == CELLAR_NOTHING_KEPT);
   one = 1;
   MUST(cellar_closings(&engine, 0, list, 8, &one) == CELLAR_NOTHING_KEPT && one == 0);
   MUST(cellar_totals(&engine, &totals) == CELLAR_NOTHING_KEPT);

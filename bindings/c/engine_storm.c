@@ -95,7 +95,7 @@ static void go_on(struct one *self) {
 static void pass(struct one *self) {
   self->stack.depth++;
   pthread_mutex_lock(&lock);
-  MUST(cellar_pass(&engine, &self->stack, (uint8_t)dice(self, 2)) == 0);
+  MUST(cellar_pass(&engine, &self->stack, 1 + dice(self, self->stack.depth - 1), (uint8_t)dice(self, 2)) == 0);
   pthread_mutex_unlock(&lock);
   self->stack.depth--;
   passes++;

@@ -59,9 +59,9 @@ const does = {
     wasm.cellar_next(ENGINE, STACK, STEP);
     return answer(tickets, {});
   },
-  pass({ tickets }, _, stack, now) {
+  pass({ tickets }, _, stack, from, now) {
     putStack(tickets, stack);
-    wasm.cellar_pass(ENGINE, STACK, Number(now));
+    wasm.cellar_pass(ENGINE, STACK, from, Number(now));
   },
   stop({ tickets }, _, stack) {
     putStack(tickets, stack);
@@ -70,7 +70,7 @@ const does = {
   totals: () => wasm.cellar_totals(ENGINE, WORDS) || [0n, 1n, 2n, 3n, 4n, 5n, 6n, 7n].map((i) => get(WORDS + 8n * i)),
   finish: () => BigInt(wasm.cellar_finish(ENGINE)),
 };
-const GIVEN = { step: 2, next: 1, pass: 2, stop: 1, totals: 0, finish: 0 }; // how many words a step passes
+const GIVEN = { step: 2, next: 1, pass: 3, stop: 1, totals: 0, finish: 0 }; // how many words a step passes
 
 const whole = (_, it) => typeof it === 'number' || typeof it === 'string' && /^\d+$/.test(it) ? BigInt(it) : it;
 const told = (it) => JSON.stringify(it, (_, one) => typeof one === 'bigint' ? `${one}` : one);

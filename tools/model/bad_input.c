@@ -46,7 +46,7 @@ static uint8_t made(struct cellar *engine, const struct bad *it) {
   switch (it->call) {
     case STEP: return cellar_step(e, POINTER(2, it->stack), POINTER(3, w), POINTER(4, out));
     case NEXT: return cellar_next(e, POINTER(2, it->stack), POINTER(3, out));
-    case PASS: return cellar_pass(e, POINTER(2, it->stack), (uint8_t)w[0]);
+    case PASS: return cellar_pass(e, POINTER(2, it->stack), w[0], (uint8_t)w[1]);
     case STOP: return cellar_stop(e, POINTER(2, it->stack));
     case CLOSINGS: return cellar_closings(e, w[0], POINTER(2, out), w[1], POINTER(3, out + COUNT));
     case TOTALS: return cellar_totals(e, POINTER(2, out));

@@ -133,7 +133,7 @@ class Bad:
 
     def by_stack(self) -> None:
         """A stack that has nothing goes on, lets a call further out pass, or ends."""
-        self.call(self.rng.choice((GO_ON, PASS, STOP)), 0, (self.rng.randrange(256),))
+        self.call(self.rng.choice((GO_ON, PASS, STOP)), 0, (self.word(), self.rng.randrange(256)))
 
     def by_number(self) -> None:
         """Places and rooms that are none; an engine that is there already, or that is not done."""

@@ -15,7 +15,7 @@ SIZES = (8, 64, 256, 32, 64, 32, 24, 192)  # handle, command, answer, effect, to
 MADE = {0: 1, 1: 3, 2: 2, 9: 2, 16: 2}  # which keys a command makes: 1 node, 2 other
 UNTOLD = 0xAAAAAAAAAAAAAAAA
 CALLS = {  # what each call takes behind the handle
-    'new': [c_uint32], 'step': [c_void_p, c_void_p, c_void_p], 'next': [c_void_p, c_void_p], 'pass': [c_void_p, c_uint8], 'stop': [c_void_p],
+    'new': [c_uint32], 'step': [c_void_p, c_void_p, c_void_p], 'next': [c_void_p, c_void_p], 'pass': [c_void_p, c_uint64, c_uint8], 'stop': [c_void_p],
     'closings': [c_uint64, c_void_p, c_size_t, c_void_p], 'totals': [c_void_p], 'event': [c_uint64, c_void_p],
     'dump': [c_void_p, c_size_t, c_void_p], 'finish': [], 'drop': []}
 

@@ -153,10 +153,10 @@ class Beside:
         node = [*c.node, 'raw'] if isinstance(c.node, tuple) else self.made.get(c.node)
         return [c.what, c.place, c.kind, c.flags, c.level, c.hub, node, c.user, c.value, c.by, c.spare]
 
-    def let_pass(self, stack: Stack, now: bool) -> None:
-        self.cellar.ended('pass', stack, int(now))
-        self.model.let_pass(self.begun(stack), now)
-        self.steps.append(['pass', self.stack_at(stack), int(now)])
+    def let_pass(self, stack: Stack, depth: int, now: bool) -> None:
+        self.cellar.ended('pass', stack, depth, int(now))
+        self.model.let_pass(self.begun(stack), depth, now)
+        self.steps.append(['pass', self.stack_at(stack), depth, int(now)])
 
     def stop(self, stack: Stack) -> None:
         self.cellar.ended('stop', stack)
@@ -388,7 +388,8 @@ class Course:
             elif chance < 0.7:
                 if rng.random() < 0.9:
                     calls.begin()
-                self.engine.let_pass(calls.deeper(), rng.random() < 0.5)
+                depth = len(calls.handed) if rng.random() < 0.7 else rng.randrange(len(calls.handed)) + 1
+                self.engine.let_pass(calls.deeper(), depth, rng.random() < 0.5)
             elif chance < 0.78:
                 if rng.random() < 0.5:
                     calls.begin()
@@ -411,7 +412,7 @@ class Course:
             case 1:
                 self.asked(stack, None)
             case 2:
-                self.engine.let_pass(stack, rng.random() < 0.5)
+                self.engine.let_pass(stack, rng.choice((0, 1, 2, 3, stack.depth, 2**64 - 1)), rng.random() < 0.5)
             case _:
                 self.engine.stop(stack)
 

@@ -56,9 +56,10 @@ planted('what stopped calls left is lost', Turns, 'pick_up', lambda was: lambda 
 planted('what stopped calls left comes at any depth', Turns, 'go_on', lambda was: lambda s, turn: was(s, turn) or s.pick_up(turn))
 planted('a stop leaves deeper calls as they are', Turns, 'stop', lambda was: lambda s, stack: without_deeper(s, was, stack))
 planted('a stop leaves what is due', Turns, 'stop', lambda was: lambda s, stack: (s.note(stack), s.let_go(stack.turn()), None)[2])
-planted('a pass makes due to the other', Turns, 'let_pass', lambda was: lambda s, stack, now: was(s, stack, not now))
-planted('a pass frees nothing', Turns, 'let_pass', lambda was: lambda s, stack, now: s.note(stack))
-planted('a pass frees what is done here', Turns, 'let_pass', lambda was: lambda s, stack, now: was(s, replace(stack, depth=stack.depth + 1), now))
+planted('a pass makes due to the other', Turns, 'let_pass', lambda was: lambda s, stack, depth, now: was(s, stack, depth, not now))
+planted('a pass frees nothing', Turns, 'let_pass', lambda was: lambda s, stack, depth, now: s.note(stack))
+planted('a pass frees what the nearest call does', Turns, 'let_pass', lambda was: lambda s, stack, depth, now: was(s, stack, stack.depth - 1, now))
+planted('a pass frees what is done here', Turns, 'let_pass', lambda was: lambda s, stack, depth, now: was(s, stack, depth + 1, now))
 
 
 def without_deeper(s: Turns, was: Callable[[Any, Any], None], stack: Any) -> None:

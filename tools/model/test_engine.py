@@ -171,7 +171,7 @@ class Examples(unittest.TestCase):
                 item = self.make(NEXT, node=leaf, value=1)
                 self.make(NEXT, self.two, node=leaf, value=2)
                 self.begins(item)
-                self.engine.let_pass(self.one, now)
+                self.engine.let_pass(self.one, 1, now)
                 self.assertEqual(self.told(self.one), here)
                 self.one.depth = 1
                 self.assertEqual(self.told(self.one), [(E_NEXT, 7, 2)][len(here):])

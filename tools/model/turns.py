@@ -69,10 +69,10 @@ class Turns(Engine):
         task = self.go_on(stack.turn())
         return Stepped(made, task, task is not None and task is own)
 
-    def let_pass(self, stack: Stack, now: bool) -> None:
-        """The call further out lets its lane go; what is left there is this turn's, or stays with the call further out."""
+    def let_pass(self, stack: Stack, depth: int, now: bool) -> None:
+        """The call of this depth lets its lane go; what is left there is the turn's that calls, or stays with that one."""
         self.note(stack)
-        outer = Turn(stack.by, max(0, stack.depth - 1))
+        outer = Turn(stack.by, depth)
         if claim := self.let_go(outer):
             self.claim(stack.turn() if now else outer, claim)
 

@@ -128,7 +128,7 @@ class Face:
         elif e.kind == E_MERGED:
             self.pay('merged', e.user)
         if self.rng.random() < self.passes:
-            self.cellar.ended('pass', Stack(stack.by, stack.depth + 1, stack.begun), int(self.rng.random() < 0.5))
+            self.cellar.ended('pass', Stack(stack.by, stack.depth + 1, stack.begun), stack.depth, int(self.rng.random() < 0.5))
         if self.deep < 3 and self.rng.random() < 0.3:
             self.deep += 1
             self.step()

@@ -153,9 +153,9 @@ class Traced(Beside):
                    told._replace(closings=sorted(told.closings), hub=0, ticket=wanted.task.ticket if wanted.task else 0))
         return told, wanted
 
-    def let_pass(self, stack: Stack, now: bool) -> None:
-        super().let_pass(stack, now)
-        self.nasty.ended('pass', self.begun(stack), int(now))
+    def let_pass(self, stack: Stack, depth: int, now: bool) -> None:
+        super().let_pass(stack, depth, now)
+        self.nasty.ended('pass', self.begun(stack), depth, int(now))
 
     def stop(self, stack: Stack) -> None:
         super().stop(stack)

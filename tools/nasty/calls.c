@@ -130,15 +130,14 @@ uint8_t cellar_next(struct cellar *handle, const struct cellar_stack *stack, str
   return CELLAR_DONE;
 }
 
-uint8_t cellar_pass(struct cellar *handle, const struct cellar_stack *stack, uint8_t now) {
+uint8_t cellar_pass(struct cellar *handle, const struct cellar_stack *stack, uint64_t from, uint8_t now) {
   struct kept *kept = kept_of(handle);
   if (!kept)
     return CELLAR_NOTHING_KEPT;
   turns_note(&kept->turns, stack);
-  uint64_t outer = stack->depth - (stack->depth > 0);
   struct claim left;
-  if (turn_lets_go(&kept->turns, turn_of(&kept->turns, stack->by, outer), &left))
-    turn_claims(&kept->turns, turn_of(&kept->turns, stack->by, now ? stack->depth : outer), left);
+  if (turn_lets_go(&kept->turns, turn_of(&kept->turns, stack->by, from), &left))
+    turn_claims(&kept->turns, turn_of(&kept->turns, stack->by, now ? stack->depth : from), left);
   return CELLAR_DONE;
 }
 

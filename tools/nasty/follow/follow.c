@@ -20,7 +20,7 @@ struct side {
   uint8_t (*new_one)(struct cellar *, uint32_t);
   uint8_t (*step)(struct cellar *, const struct cellar_stack *, const struct cellar_command *, struct cellar_stepped *);
   uint8_t (*next)(struct cellar *, const struct cellar_stack *, struct cellar_stepped *);
-  uint8_t (*pass)(struct cellar *, const struct cellar_stack *, uint8_t);
+  uint8_t (*pass)(struct cellar *, const struct cellar_stack *, uint64_t, uint8_t);
   uint8_t (*stop)(struct cellar *, const struct cellar_stack *);
   uint8_t (*closings)(struct cellar *, uint64_t, uint64_t *, size_t, uint64_t *);
   uint8_t (*totals)(struct cellar *, struct cellar_totals *);
@@ -286,11 +286,12 @@ static bool step(struct stack *stack, uint64_t depth, struct cellar_command *c) 
 /* Serving ----------------------------------------------------------------------------------------------------------------------*/
 
 static void passes(struct stack *stack) {
+  uint64_t from = chance(2) ? stack->depth : 1 + chance(stack->depth);
   uint8_t now = (uint8_t)chance(2);
   for (int i = 0; i < 2; i++) {
     struct side *side = i ? &nasty : &real;
     struct cellar_stack at = stack_of(stack, stack->depth + 1, i);
-    if (side->pass(&side->handle, &at, now))
+    if (side->pass(&side->handle, &at, from, now))
       differs_in("a pass is refused");
   }
 }
