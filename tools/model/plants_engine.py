@@ -23,8 +23,6 @@ def planted(name: str, of: Any, what: str, turn: Callable[[Any], Any]) -> None:
 planted('a release stands behind, whoever serves', Lane, 'freed', lambda was: lambda l, by, e: l.put(e))
 planted('a release comes first, whoever serves', Lane, 'freed', lambda was: lambda l, by, e: replace(l, front=l.front + (e,)))
 planted('releases are turned round', Lane, 'freed', lambda was: lambda l, by, e: replace(l, front=(e,) + l.front) if l.server == by else l.put(e))
-planted('another takes of a lane that is served', Lane, 'taken',
-        lambda was: lambda l, by, inside: was(l if inside else replace(l, server=None), by, inside))
 planted('inside takes what stands behind', Lane, 'taken', lambda was: lambda l, by, inside: was(l, by, inside and l.server != by))
 planted('who finds nothing serves on', Lane, 'taken', lambda was: lambda l, by, inside: it if (it := was(l, by, inside))[0] else ((), l))
 planted('what is given back is forgotten', Lane, 'given_up', lambda was: lambda l, by, untold: was(l, by, ()))
