@@ -1,10 +1,10 @@
-/* The engine for cellarcliff/rx: commands, the serving of lanes, and the usual way of an item, with no bytecode between what has to
- * stand together. Without this file rx/_slow.py does the same in Python, by ctypes (rx/_crossing.py chooses).
+/* The engine for cellarcliff/rx: commands, the doing of what they hand out, and the usual way of an item, with no bytecode between what has
+ * to stand together. Without this file rx/_slow.py does the same in Python, by ctypes (rx/_crossing.py chooses).
  *
  * A word of the engine is the address of an object, to which the engine has one reference for each time that it will give the word
  * back. The GIL is the lock: nothing of Python runs between a command and the taking in of its answer, which stands on the stack of the
- * call. Whatever the user wrote is called with nothing locked but the lane that is served. An interrupt comes between two
- * bytecodes, so in what is called from here and never here: what was taken was told, or is given back.
+ * call, nor between the handing out of an effect and its beginning, but for closings. Whatever the user wrote is called with nothing
+ * locked. An interrupt comes between two bytecodes, so in what is called from here and never here.
  *
  * It is on Python's limited interface, one file for every Python from 3.10 on, and is linked with nothing: the addresses of the library's
  * calls are given to `bind`. */
@@ -32,11 +32,11 @@ static struct {
   uint32_t (*abi)(void);
   uint32_t (*size)(uint32_t);
   uint8_t (*begin)(struct cellar *, uint32_t);
-  uint8_t (*make)(struct cellar *, const struct cellar_command *, struct cellar_answer *);
-  uint8_t (*take)(struct cellar *, uint64_t, uint64_t, struct cellar_effect *, uint64_t *);
-  uint8_t (*give_up)(struct cellar *, uint64_t, uint64_t, const struct cellar_effect *, uint64_t, uint64_t *);
-  uint8_t (*left)(struct cellar *, uint64_t, uint64_t *, uint64_t *);
-  uint8_t (*rest)(struct cellar *, uint8_t, uint64_t, uint64_t *, size_t, uint64_t *);
+  uint8_t (*step)(struct cellar *, const struct cellar_stack *, const struct cellar_command *, struct cellar_stepped *);
+  uint8_t (*next)(struct cellar *, const struct cellar_stack *, struct cellar_stepped *);
+  uint8_t (*pass)(struct cellar *, const struct cellar_stack *, uint8_t);
+  uint8_t (*stop)(struct cellar *, const struct cellar_stack *);
+  uint8_t (*closings)(struct cellar *, uint64_t, uint64_t *, size_t, uint64_t *);
   uint8_t (*totals)(struct cellar *, struct cellar_totals *);
   void (*drop)(struct cellar *);
 } calls;
@@ -53,7 +53,6 @@ typedef struct {
   size_t room, first, many, wishes;   /* its size, a power of two, is at least `wishes`: nodes that are to hear of it */
   int64_t kept;                       /* how many references the engine has */
   unsigned generation;                /* a child of a fork has no part in an engine of its parent */
-  char is_left;                       /* an interrupt may have left lanes that nobody serves */
 } Core;
 
 typedef struct {
@@ -111,14 +110,22 @@ static PyObject *s_on_next, *s_on_error, *s_on_completed, *s_dispose, *s_check, 
 static PyObject *refuse, *unhandled; /* what a status is raised by, and what hears of an error that nobody raises */
 static unsigned generation;
 
-/* This thread: how deep it is in calls of the package, what was raised meanwhile, which lane it serves, the innermost, and what
- * sources put off: till the call further out goes on, or behind what that lane tells; then it may let go of the lane. */
+/* A call on an engine that is under way in this thread, and the one further out. */
+typedef struct Turn {
+  Core *core;
+  struct cellar_stack stack;
+  struct Turn *outer;
+  PyObject *behind; /* what comes behind it, if it is the outermost within a call of the package */
+} Turn;
+
+/* This thread: how deep it is in calls of the package, what was raised meanwhile, the turns under way, those further out than the
+ * innermost of these calls, the one of which an effect is told, and what sources put off: till the call further out goes on, or behind
+ * what is told; then its lane may be let go. */
 static _Thread_local struct Mine {
-  int depth, is_closing, has_lane, lets_go;
-  uint64_t lane, ident;
+  int depth, is_closing, lets_go;
+  uint64_t ident;
   PyObject *errors, *trampoline, *put_off;
-  struct Lanes *due;
-  struct Served *served;
+  Turn *turn, *floor, *telling;
 } mine;
 /* Asked once on the way of an item: to find what is a thread's own takes a call each time. */
 static __attribute__((noinline)) struct Mine *here_is(void) {
@@ -202,14 +209,15 @@ static int caught(uint64_t by) {
   Py_DECREF(error);
   return 0;
 }
-static struct Mine *enter(void) {
+static struct Mine *enter(Turn **floor) {
   struct Mine *here = here_is();
-  here->depth++;
+  here->depth++, *floor = here->floor, here->floor = here->turn;
   return here;
 }
 /* The end of a call. The outermost raises the first of what observers and releases raised, unless something is raised already, or the
  * caller needs the answer. */
-static int leave(struct Mine *here, int failed, int is_quiet) {
+static int leave(struct Mine *here, Turn *floor, int failed, int is_quiet) {
+  here->floor = floor;
   if (--here->depth || !here->errors) return failed;
   PyObject *errors = here->errors, *first = failed ? caught_one() : NULL;
   here->errors = NULL;
@@ -242,69 +250,48 @@ static void put_closed(Core *core, uint64_t it) {
   if (is_a(close, leaf_type)) ((Leaf *)close)->is_stopped = 1;
   core->closed[(core->first + core->many++) & (core->room - 1)] = it;
 }
-static void take_in_closed(Core *core, const struct cellar_answer *a) {
-  for (uint64_t i = 0; i < a->closed && i < CELLAR_ROOM; i++) put_closed(core, a->closings[i]);
-  for (uint64_t at = CELLAR_ROOM, count; at < a->closed; at += count) {
+static void take_in_closed(Core *core, const struct cellar_stepped *s) {
+  for (uint64_t i = 0; i < s->closed && i < CELLAR_ROOM; i++) put_closed(core, s->closings[i]);
+  for (uint64_t at = CELLAR_ROOM, count; at < s->closed; at += count) {
     uint64_t more[64];
-    calls.rest(&core->engine, 0, at, more, 64, &count);
+    calls.closings(&core->engine, at, more, 64, &count);
     for (uint64_t i = 0; i < count; i++) put_closed(core, more[i]);
   }
 }
-/* Makes a command, and takes in what it closed: the status. */
-static inline uint8_t command_by(struct Mine *here, Core *core, struct cellar_command *c, struct cellar_answer *a) {
-  if (core->generation != generation) return CELLAR_GONE;
-  c->by = here->ident;
-  uint8_t status = calls.make(&core->engine, c, a);
-  if (!status && a->closed) take_in_closed(core, a);
+static void begin(struct Mine *here, Core *core, Turn *turn) {
+  Turn *it = here->turn;
+  while (it && it->core != core) it = it->outer;
+  *turn = (Turn){core, {here->ident, it ? it->stack.depth + 1 : 1, it ? it->stack.begun : 0}, here->turn, NULL};
+  here->turn = turn;
+}
+/* Makes a command in a turn that has begun, and takes in what it closed: the status. */
+static uint8_t make(Turn *turn, const struct cellar_command *c, struct cellar_stepped *s) {
+  Core *core = turn->core;
+  if (core->generation != generation) return memset(s, 0, sizeof *s), CELLAR_GONE;
+  uint8_t status = calls.step(&core->engine, &turn->stack, c, s);
+  if (!status && s->closed) take_in_closed(core, s);
   return status;
 }
-static uint8_t command(Core *core, struct cellar_command *c, struct cellar_answer *a, PyObject *value) {
-  uint8_t status = command_by(here_is(), core, c, a);
-  if (!status && value && a->copies) keep(core, value, a->copies);
-  return status;
+static int do_all(struct Mine *here, Turn *turn, struct cellar_stepped *s, int is_own);
+static int do_behind(struct Mine *here, PyObject *behind, int failed);
+/* The end of a turn: does what was handed out, and what comes of it. */
+static inline int end(struct Mine *here, Turn *turn, struct cellar_stepped *s, int is_own) {
+  int failed = s->handed || turn->core->many ? do_all(here, turn, s, is_own) : 0;
+  here->turn = turn->outer;
+  return turn->behind ? do_behind(here, turn->behind, failed) : failed;
+}
+/* Makes a command of this value, or of none, and does what comes of it. */
+static int command(Core *core, const struct cellar_command *c, PyObject *value, uint8_t *status) {
+  struct Mine *here = here_is();
+  struct cellar_stepped s;
+  Turn turn;
+  begin(here, core, &turn);
+  *status = make(&turn, c, &s);
+  if (value) keep(core, value, s.copies);
+  return end(here, &turn, &s, 0);
 }
 
-/* Lanes that are to be served. Where there is no memory for all of them, they are found as what is left. */
-typedef struct Lanes {
-  uint64_t here[2 * CELLAR_ROOM], *all;
-  size_t at, many, room; /* those from `at` on are not served yet */
-  Core *core;
-  struct Lanes *outer;   /* those of the command further out of this thread */
-} Lanes;
-/* A lane that this thread serves, and the one further out. */
-typedef struct Served {
-  Core *core;
-  uint64_t lane;
-  struct Served *outer;
-} Served;
-static void lanes_begin(Lanes *it, Core *core) { it->all = it->here, it->at = it->many = 0, it->room = 2 * CELLAR_ROOM, it->core = core; }
-static void lanes_end(Lanes *it) {
-  if (it->all != it->here) PyMem_Free(it->all);
-}
-static void lanes_grow(Lanes *it, Core *core, const struct cellar_answer *a);
-static inline void lanes_add(Lanes *it, Core *core, const struct cellar_answer *a) {
-  if (a->due == 1 && it->many < it->room) it->all[it->many++] = a->lanes[0];
-  else if (a->due) lanes_grow(it, core, a);
-}
-static void lanes_grow(Lanes *it, Core *core, const struct cellar_answer *a) {
-  if (it->many + a->due > it->room) {
-    size_t room = 2 * (it->many + a->due);
-    uint64_t *all = PyMem_Malloc(room * sizeof *all);
-    if (!all) {
-      core->is_left = 1;
-      return;
-    }
-    memcpy(all, it->all, it->many * sizeof *all);
-    lanes_end(it);
-    it->all = all, it->room = room;
-  }
-  uint64_t here = a->due < CELLAR_ROOM ? a->due : CELLAR_ROOM, count;
-  memcpy(it->all + it->many, a->lanes, here * sizeof *it->all);
-  if (a->due > here) calls.rest(&core->engine, 1, here, it->all + it->many + here, a->due - here, &count);
-  it->many += a->due;
-}
-
-/* Serving ----------------------------------------------------------------------------------------------------------------------*/
+/* Telling ----------------------------------------------------------------------------------------------------------------------*/
 
 static int chain_tell(struct Mine *, Chain *, PyObject *);
 static int emit(struct Mine *, Leaf *, PyObject *);
@@ -382,14 +369,14 @@ static int tell(Core *core, const struct cellar_effect *e, PyObject *value) {
   if (e->carries && value) let_go(core, value);
   return status;
 }
-/* Tells an item, which is to be mapped to an observable or for an observer: the engine keeps its word. */
-static inline int tell_item(struct Mine *here, Core *core, const struct cellar_effect *e, PyObject *value) {
+/* Tells an item, which is to be mapped to an observable or for an observer: the engine keeps its word. Its value is kept, or the caller's. */
+static inline int tell_item(struct Mine *here, Core *core, const struct cellar_effect *e, PyObject *value, int is_own) {
   PyObject *user = word(e->user);
   Py_INCREF(user);
   int status = e->kind == CELLAR_E_NEXT ? root_tell(here, (Root *)ITEM(user, 0), value) : plain(CALL1(ITEM(user, 2), value));
   if (status) core->kept++, let_go(core, user);
   else Py_DECREF(user);
-  if (e->carries && value) let_go(core, value);
+  if (value && !is_own) let_go(core, value);
   return status;
 }
 static int is_some(PyObject *queue) { return queue && PyList_Size(queue) > 0; }
@@ -408,40 +395,36 @@ static int go_on(PyObject *queue) {
   Py_DECREF(it);
   return status;
 }
-/* Serves a lane until it has nothing, or another is at it: 0, or -1 where what is no Exception goes on. */
-static int serve_by(struct Mine *here, Core *core, uint64_t lane, struct cellar_effect *e, PyObject *value, int has) {
-  uint64_t by = here->ident, of = by, many, before = here->lane, unused;
+/* What a turn tells counts as told: its lane is free. */
+static void let_pass(Turn *telling) {
+  struct cellar_stack deeper = {telling->stack.by, telling->stack.depth + 1, telling->stack.begun};
+  calls.pass(&telling->core->engine, &deeper, 0);
+}
+/* Does what was handed out, and what comes next, until nothing does: 0, or -1 where what is no Exception goes on. */
+static int do_each(struct Mine *here, Turn *turn, struct cellar_stepped *s, int is_own) {
+  Core *core = turn->core;
+  struct cellar_effect *e = &s->effect;
+  Turn *telling = here->telling;
   PyObject *put_off = here->put_off;
-  int status = 0, had = here->has_lane, let_go = here->lets_go;
-  Served served = {core, lane, here->served};
-  here->served = &served;
-  here->lane = lane, here->has_lane = 1, here->lets_go = 0, here->put_off = NULL;
-  for (;; has = 0) {
-    if (!has && is_some(here->put_off)) {
-      if (here->lets_go && !(lane & CELLAR_INSIDE) && core->generation == generation) calls.give_up(&core->engine, lane, by, e, 0, &unused);
-      status = go_on(here->put_off);
-    } else {
-      if (!has) {
-        if (core->generation != generation) break;
-        calls.take(&core->engine, lane, by, e, &many);
-        if (!many) break;
-        value = e->carries && e->value ? word(e->value) : NULL;
-      }
-      of = e->by;
-      status = e->kind <= CELLAR_E_PROJECT ? tell_item(here, core, e, value) : tell(core, e, value);
+  int status = 0, lets_go = here->lets_go;
+  here->telling = turn, here->lets_go = 0, here->put_off = NULL;
+  do {
+    PyObject *value = e->carries && e->value ? word(e->value) : NULL;
+    turn->stack.begun = s->ticket;
+    status = e->kind <= CELLAR_E_PROJECT ? tell_item(here, core, e, value, is_own) : tell(core, e, value);
+    if (status) status = caught(e->by);
+    while (!status && is_some(here->put_off)) {
+      if (here->lets_go && core->generation == generation) let_pass(turn);
+      if (go_on(here->put_off)) status = caught(e->by);
     }
-    if (status && (status = caught(of))) {
-      if (!(lane & CELLAR_INSIDE) && core->generation == generation) calls.give_up(&core->engine, lane, by, e, 0, &unused);
-      core->is_left = 1;
-      break;
-    }
-  }
+    is_own = 0;
+    if (status || core->generation != generation) break;
+    calls.next(&core->engine, &turn->stack, s);
+  } while (s->handed);
   Py_XDECREF(here->put_off);
-  here->served = served.outer;
-  here->lane = before, here->has_lane = had, here->lets_go = let_go, here->put_off = put_off;
+  here->telling = telling, here->lets_go = lets_go, here->put_off = put_off;
   return status;
 }
-static int serve(Core *core, uint64_t lane, struct cellar_effect *e, PyObject *value, int has) { return serve_by(here_is(), core, lane, e, value, has); }
 /* Tells those that closed, the first first: only the outermost does, so that nothing recurses. */
 static int hear_closed(Core *core) {
   int status = 0;
@@ -468,81 +451,54 @@ static int hear_closed(Core *core) {
   mine.is_closing = 0;
   return status;
 }
-static int serve_left(Core *core) {
-  uint64_t from = 0, lane;
-  struct cellar_effect e;
-  if (!core->is_left || core->generation != generation) return 0;
-  core->is_left = 0;
-  if (hear_closed(core)) return core->is_left = 1, -1;
-  for (;;) {
-    if (calls.left(&core->engine, from, &lane, &from) || lane == UINT64_MAX) return 0;
-    if (serve(core, lane, &e, NULL, 0)) return -1;
-  }
-}
-/* An effect that was handed out and not told stands first in its lane again, which others may serve. */
-static void give_back(Core *core, uint64_t lane, uint64_t by, struct cellar_effect *handed) {
-  uint64_t unused;
-  calls.give_up(&core->engine, lane & ~CELLAR_INSIDE, by, handed, 1, &unused);
-  core->is_left = 1;
-}
-/* All that comes of one or more commands: closings, then each lane, of whose first `handed` was taken already, or is NULL. Where
- * `is_exchange` what stands in the place of something stands where it does: whatever is projected from now on comes behind it, and need
- * not wait. */
-static int come_of(Core *core, Lanes *lanes, int is_exchange, struct cellar_effect *handed, PyObject *value) {
-  int status = 0;
-  struct Mine *here = here_is();
-  uint64_t unused, by = here->ident, lane = lanes->here[0];
-  struct cellar_effect e;
-  if (is_exchange && here->has_lane && !(here->lane & CELLAR_INSIDE)) calls.give_up(&core->engine, here->lane, by, &e, 0, &unused);
-  lanes->outer = here->due, here->due = lanes;
-  if (core->many) status = hear_closed(core);
-  if (handed && (status || !lanes->many)) give_back(core, lane, by, handed);
-  for (; !status && lanes->at < lanes->many; handed = NULL)
-    status = serve_by(here, core, lanes->all[lanes->at++], handed ? handed : &e, handed ? value : NULL, handed != NULL);
-  here->due = lanes->outer;
-  if (status) core->is_left = 1;
+/* Closings first. An interrupt leaves the rest to the next call that reaches the engine. */
+static int do_all(struct Mine *here, Turn *turn, struct cellar_stepped *s, int is_own) {
+  Core *core = turn->core;
+  if (core->generation != generation) return 0;
+  int status = core->many ? hear_closed(core) : 0;
+  if (!status && s->handed) status = do_each(here, turn, s, is_own);
+  if (status && core->generation == generation) calls.stop(&core->engine, &turn->stack);
   return status;
 }
-/* The same of one answer. */
-static int settle(Core *core, struct cellar_answer *a, PyObject *value, int is_exchange) {
-  struct cellar_effect *handed = a->handed ? &a->effect : NULL;
-  if (handed) value = a->effect.carries && a->effect.value ? word(a->effect.value) : NULL;
-  if (handed && a->due == 1 && !core->many) return serve(core, a->lanes[0], handed, value, 1);
-  if (!a->due && !core->many && !is_exchange) return 0;
-  Lanes lanes;
-  lanes_begin(&lanes, core);
-  lanes_add(&lanes, core, a);
-  lanes.here[0] = a->lanes[0];
-  int status = come_of(core, &lanes, is_exchange, handed, value);
-  lanes_end(&lanes);
-  return status;
+/* Each of what comes behind a turn, also where something was interrupted. */
+static int do_behind(struct Mine *here, PyObject *behind, int failed) {
+  PyObject *error = failed ? caught_one() : NULL;
+  for (Py_ssize_t i = 0; i < PyList_Size(behind); i++)
+    if (plain(CALL0(PyList_GetItem(behind, i))) && caught(here->ident)) {
+      if (error) PyErr_Clear();
+      else error = caught_one();
+    }
+  Py_DECREF(behind);
+  if (!error) return 0;
+  raise_again(error);
+  return -1;
 }
 
 /* Leaves, functions, emitters --------------------------------------------------------------------------------------------------*/
 
-/* An item into the engine by one leaf, and to whoever is to hear it. The caller holds the value. */
+/* An item into the engine by one leaf, and to whoever is to hear it. The caller holds the value: told at once, it is not kept. */
 static int emit(struct Mine *here, Leaf *leaf, PyObject *value) {
   if (leaf->is_stopped) return 0;
   Core *core = leaf->core;
   struct cellar_command c = {.what = CELLAR_NEXT, .node = leaf->node, .value = (uintptr_t)value};
-  struct cellar_answer a;
-  uint8_t status = command_by(here, core, &c, &a);
-  if (status == CELLAR_GONE) return leaf->is_stopped = 1, 0;
-  if (status) return refused(status);
-  keep(core, value, a.copies);
-  if (a.handed && a.due == 1 && !core->many)
-    return serve_by(here, core, a.lanes[0], &a.effect, a.effect.carries && a.effect.value ? word(a.effect.value) : NULL, 1);
-  return settle(core, &a, value, 0);
+  struct cellar_stepped s;
+  Turn turn;
+  begin(here, core, &turn);
+  uint8_t status = make(&turn, &c, &s);
+  int is_own = s.own && !core->many;
+  if (!is_own) keep(core, value, s.copies);
+  if (status == CELLAR_GONE) leaf->is_stopped = 1;
+  int failed = end(here, &turn, &s, is_own);
+  return failed || !status || status == CELLAR_GONE ? failed : refused(status);
 }
 /* The leaf completes, or fails. */
 static int end_leaf(Leaf *leaf, PyObject *error) {
   if (leaf->is_stopped) return 0;
   leaf->is_stopped = 1;
   struct cellar_command c = {.what = error ? CELLAR_ERROR : CELLAR_COMPLETE, .node = leaf->node, .value = (uintptr_t)error};
-  struct cellar_answer a;
-  uint8_t status = command(leaf->core, &c, &a, error);
-  if (status) return status == CELLAR_GONE ? 0 : refused(status);
-  return settle(leaf->core, &a, error, 0);
+  uint8_t status;
+  int failed = command(leaf->core, &c, error, &status);
+  return failed || !status || status == CELLAR_GONE ? failed : refused(status);
 }
 /* An item through functions: a new reference to what comes out; NULL where nothing does, with `failed` -1 where that is raised. */
 static PyObject *through(Chain *chain, PyObject *value, int *failed) {
@@ -660,20 +616,18 @@ static int emitter_init(Emitter *self, PyObject *given, PyObject *named) {
   self->up = new_of(up), self->leaf = (Leaf *)new_of(leaf);
   return 0;
 }
-static int emitter_done(struct Mine *here, Emitter *self, int status) {
-  if (!status && self->leaf->core->is_left) status = serve_left(self->leaf->core);
-  return leave(here, status, 0);
-}
 static PyObject *emitter_next(Emitter *self, PyObject *value) {
   if (self->leaf->is_stopped) Py_RETURN_NONE;
-  struct Mine *here = enter();
-  return none_or_null(emitter_done(here, self, tell_up(here, self->up, value)));
+  Turn *floor;
+  struct Mine *here = enter(&floor);
+  return none_or_null(leave(here, floor, tell_up(here, self->up, value), 0));
 }
 static PyObject *emitter_end(Emitter *self, PyObject *error) {
   if (self->leaf->is_stopped) Py_RETURN_NONE;
-  struct Mine *here = enter();
+  Turn *floor;
+  struct Mine *here = enter(&floor);
   int status = plain(PyObject_CallMethodObjArgs(self->up, error ? s_on_error : s_on_completed, error, NULL));
-  return none_or_null(emitter_done(here, self, status));
+  return none_or_null(leave(here, floor, status, 0));
 }
 static PyObject *emitter_completed(Emitter *self, PyObject *unused) {
   (void)unused;
@@ -707,10 +661,9 @@ static int root_dispose(Root *root) {
   if (root->is_over || !root->is_keyed) return 0;
   root->is_over = 1;
   struct cellar_command c = {.what = CELLAR_DISPOSE, .node = root->node};
-  struct cellar_answer a;
-  uint8_t status = command(root->core, &c, &a, NULL);
-  if (status) return status == CELLAR_GONE ? 0 : refused(status);
-  return settle(root->core, &a, NULL, 0);
+  uint8_t status;
+  int failed = command(root->core, &c, NULL, &status);
+  return failed || !status || status == CELLAR_GONE ? failed : refused(status);
 }
 static int root_init(Root *self, PyObject *given, PyObject *named) {
   (void)named;
@@ -728,10 +681,9 @@ static PyObject *root_disposed(Root *self, PyObject *unused) {
 static PyObject *root_unsubscribe(Root *self, PyObject *unused) {
   (void)unused;
   if (!self->core) Py_RETURN_NONE;
-  struct Mine *here = enter();
-  int status = root_dispose(self);
-  if (!status) status = serve_left(self->core);
-  return none_or_null(leave(here, status, 0));
+  Turn *floor;
+  struct Mine *here = enter(&floor);
+  return none_or_null(leave(here, floor, root_dispose(self), 0));
 }
 static PyObject *root_next(Root *self, PyObject *value) {
   if (self->is_stopped) Py_RETURN_NONE;
@@ -802,28 +754,24 @@ static int told_end(Told *it, int status) {
 }
 /* Each has a command of this kind in its lane before anybody is told, so every observer hears one order. */
 static int put_all(struct Mine *here, Core *core, Told *it, uint8_t what) {
-  Lanes lanes;
-  struct cellar_command c = {.what = what, .flags = what == CELLAR_NEXT ? CELLAR_QUEUES : 0};
-  struct cellar_answer a;
+  struct cellar_command c = {.what = what};
+  struct cellar_stepped s = {.handed = 0};
   uint8_t refusal = 0;
-  lanes_begin(&lanes, core);
+  Turn turn;
+  begin(here, core, &turn);
   for (Py_ssize_t i = 0; i < it->many; i++) {
     Leaf *leaf = it->leaves[i];
     PyObject *value = it->values[i];
     if (!value || leaf->is_stopped) continue;
     if (what != CELLAR_NEXT) leaf->is_stopped = 1;
     c.node = leaf->node, c.value = what == CELLAR_COMPLETE ? 0 : (uintptr_t)value;
-    uint8_t found = command_by(here, core, &c, &a);
-    if (found == CELLAR_GONE) leaf->is_stopped = 1;
-    else if (found) refusal = found;
-    else {
-      if (c.value) keep(core, value, a.copies);
-      lanes_add(&lanes, core, &a);
-    }
+    uint8_t status = make(&turn, &c, &s);
+    if (status == CELLAR_GONE) leaf->is_stopped = 1;
+    else if (status) refusal = status;
+    else if (c.value) keep(core, value, s.copies);
   }
-  int status = come_of(core, &lanes, 0, NULL, NULL);
-  lanes_end(&lanes);
-  return refusal && !status ? refused(refusal) : status;
+  int failed = end(here, &turn, &s, 0);
+  return failed || !refusal ? failed : refused(refusal);
 }
 static int tell_all(struct Mine *here, PyObject *all, uint8_t what, PyObject *value) {
   Told it;
@@ -869,10 +817,10 @@ static int subject_tell(Subject *self, uint8_t what, PyObject *value) {
     return 0;
   }
   Core *core = (Core *)new_of((PyObject *)self->first->core);
-  struct Mine *here = enter();
+  Turn *floor;
+  struct Mine *here = enter(&floor);
   int status = self->one && what == CELLAR_NEXT ? tell_up(here, self->one, value) : tell_all(here, all, what, value);
-  if (!status && core->is_left) status = serve_left(core);
-  if (!(status = leave(here, status, 0))) {
+  if (!(status = leave(here, floor, status, 0))) {
     Py_DECREF(core);
     Py_DECREF(all);
     return 0;
@@ -925,23 +873,14 @@ static PyObject *subject_join(Subject *self, PyObject *const *given, Py_ssize_t 
   }
   PyObject *items = self->memory ? PyList_GetSlice(self->memory, 0, PyList_Size(self->memory)) : NULL;
   if (self->memory && !items) return NULL;
-  if (items && given[0] == given[1]) { /* put into its lane before anybody can emit */
-    Lanes lanes;
-    struct cellar_command c = {.what = CELLAR_NEXT, .flags = CELLAR_QUEUES, .node = leaf->node};
-    struct cellar_answer a;
-    lanes_begin(&lanes, leaf->core);
-    for (Py_ssize_t i = 0; i < PyList_Size(items) && !leaf->is_stopped; i++) {
-      PyObject *value = ITEM(PyList_GetItem(items, i), 1);
-      c.value = (uintptr_t)value;
-      uint8_t found = command(leaf->core, &c, &a, value);
-      if (!found) lanes_add(&lanes, leaf->core, &a);
-      else if (found == CELLAR_GONE) leaf->is_stopped = 1;
-      else if ((status = refused(found))) break;
-    }
-    if (!status) status = come_of(leaf->core, &lanes, 0, NULL, NULL);
-    lanes_end(&lanes);
-  } else if (items) {
-    for (Py_ssize_t i = 0; !status && i < PyList_Size(items); i++) status = tell_up(here_is(), given[0], ITEM(PyList_GetItem(items, i), 1));
+  Py_ssize_t many_items = items ? PyList_Size(items) : 0;
+  Told it;
+  if (given[0] != given[1])
+    for (Py_ssize_t i = 0; !status && i < many_items; i++) status = tell_up(here_is(), given[0], ITEM(PyList_GetItem(items, i), 1));
+  else if (many_items) { /* put into its lane before anybody can emit */
+    for (status = told_begin(&it, many_items); !status && it.ready < many_items; it.ready++)
+      it.leaves[it.ready] = leaf, it.values[it.ready] = new_of(ITEM(PyList_GetItem(items, it.ready), 1));
+    status = told_end(&it, status ? status : put_all(here_is(), leaf->core, &it, CELLAR_NEXT));
   }
   Py_XDECREF(items);
   if (status) return NULL;
@@ -1012,56 +951,76 @@ static uint64_t roles_of(const struct cellar_command *c) {
   if (c->what == CELLAR_CONNECT) return wishes;
   return wishes + (c->place == CELLAR_ROOT) + (c->what == CELLAR_OPEN && (c->kind == CELLAR_FLAT || c->kind == CELLAR_SWITCH));
 }
-/* Makes an opening: what it is for is kept, and knows its key. */
-static int opened(Core *core, struct cellar_command *c, struct cellar_answer *a, PyObject *thing, uint8_t *status) {
+/* Makes an opening, for `thing`, and does what comes of it: the keys, if they are wanted, and the share know what was opened before
+ * anything is told. Where `is_exchange` it stands where something else did: whatever is projected from now on comes behind it, and need not
+ * wait. */
+typedef struct {
+  struct cellar_command c;
+  PyObject *thing, *share;
+  Key *node, *other;
+  int is_exchange, is_connected;
+  uint8_t status;
+} Opening;
+static int is_shared(Opening *it, const struct cellar_stepped *s) {
+  if (it->c.what == CELLAR_CONNECT && PyObject_SetAttr(it->share, s_connection, (PyObject *)it->other)) return -1;
+  if (it->c.what == CELLAR_DISCONNECT || s->hub == it->c.hub) return 0;
+  PyObject *new = PyLong_FromUnsignedLongLong(s->hub);
+  if (!new || PyObject_SetAttr(it->share, s_hub, new)) PyErr_Clear(); /* it is a hint */
+  Py_XDECREF(new);
+  return 0;
+}
+static int opened(Core *core, Opening *it) {
+  struct Mine *here = here_is();
+  struct cellar_command *c = &it->c;
+  struct cellar_stepped s;
+  Turn turn;
+  PyObject *thing = it->thing;
   uint64_t roles = thing == Py_None ? 0 : roles_of(c);
+  it->status = CELLAR_NO_MEMORY;
   if (c->flags & CELLAR_WISHES && reserve(core)) return -1;
   if (roles) c->user = (uintptr_t)thing, keep(core, thing, roles);
-  if ((*status = command(core, c, a, NULL))) {
+  begin(here, core, &turn);
+  it->status = make(&turn, c, &s);
+  if (it->status) {
     for (; roles; roles--) let_go(core, thing);
-    return 0;
+    return end(here, &turn, &s, 0);
   }
   if (c->flags & CELLAR_WISHES) core->wishes++;
+  if (it->node) it->node->node = s.node;
+  if (it->other) it->other->node = s.other;
+  it->is_connected = s.is_connected && c->what == CELLAR_OPEN;
   if (thing != Py_None && c->what != CELLAR_CONNECT) {
     PyObject *hears = ITEM(thing, 0), *close = ITEM(thing, 1);
     int is_root = c->place == CELLAR_ROOT && is_a(hears, root_type);
-    if (is_root) ((Root *)hears)->node = a->node, ((Root *)hears)->is_keyed = 1, ((Root *)hears)->thing = thing, ((Root *)hears)->owed = (int)roles;
+    if (is_root) ((Root *)hears)->node = s.node, ((Root *)hears)->is_keyed = 1, ((Root *)hears)->thing = thing, ((Root *)hears)->owed = (int)roles;
     if (Py_TYPE(close) == leaf_type) {
-      ((Leaf *)close)->node = a->node, ((Leaf *)close)->is_keyed = 1;
+      ((Leaf *)close)->node = s.node, ((Leaf *)close)->is_keyed = 1;
       if (!is_root) ((Leaf *)close)->thing = thing, ((Leaf *)close)->owed = (int)roles;
     }
   }
-  return 0;
+  if (it->share && is_shared(it, &s)) return calls.stop(&core->engine, &turn.stack), here->turn = turn.outer, -1;
+  if (it->is_exchange && here->telling && here->telling->core == core && core->generation == generation) let_pass(here->telling);
+  return end(here, &turn, &s, 0);
 }
 /* what, the node above, (root, what closes, what projects) or None, a release or None, whether it takes the place of something: the key. */
 static PyObject *core_open(Core *self, PyObject *const *given, Py_ssize_t many) {
-  struct cellar_command c = {0};
-  struct cellar_answer a;
-  uint8_t status;
-  if (!asked_for(&c, given, many, 5)) return NULL;
-  Key *key = new_key();
-  if (!key) return NULL;
-  if (given[3] != Py_None) c.value = (uintptr_t)given[3], keep(self, given[3], 1);
-  if (opened(self, &c, &a, given[2], &status)) status = CELLAR_NO_MEMORY;
-  if (status) {
-    if (given[3] != Py_None) let_go(self, given[3]);
-    Py_DECREF(key);
-    if (!PyErr_Occurred()) refused(status);
-    return NULL;
-  }
-  key->node = a.node;
-  if (settle(self, &a, NULL, given[4] == Py_True)) Py_CLEAR(key);
-  return (PyObject *)key;
+  Opening it = {.share = NULL};
+  if (!asked_for(&it.c, given, many, 5) || !(it.node = new_key())) return NULL;
+  it.thing = given[2], it.is_exchange = given[4] == Py_True;
+  if (given[3] != Py_None) it.c.value = (uintptr_t)given[3], keep(self, given[3], 1);
+  int failed = opened(self, &it);
+  if (it.status && given[3] != Py_None) let_go(self, given[3]);
+  if (failed || (it.status && refused(it.status))) Py_CLEAR(it.node);
+  return (PyObject *)it.node;
 }
 /* The answer is in the book, or released at once; its place in the tuple was made before. */
-static int held(Core *core, struct cellar_command *c, struct cellar_answer *a, PyObject *tag, PyObject *thing, uint8_t *status) {
-  c->value = (uintptr_t)tag;
+static int held(Core *core, Opening *it, PyObject *tag) {
+  it->c.value = (uintptr_t)tag;
   keep(core, tag, 1);
-  if (thing ? opened(core, c, a, thing, status) : (*status = command(core, c, a, NULL), 0)) *status = CELLAR_NO_MEMORY;
-  if (!*status) return 0;
-  PyObject *error = PyErr_Occurred() ? caught_one() : NULL;
-  int failed = release(tag);
-  if (failed) failed = caught(me());
+  int failed = it->thing ? opened(core, it) : command(core, &it->c, NULL, &it->status);
+  if (!it->status) return failed;
+  PyObject *error = failed ? caught_one() : NULL;
+  failed = release(tag) ? caught(me()) : 0;
   let_go(core, tag);
   if (!error) return failed;
   if (failed) Py_DECREF(error);
@@ -1071,40 +1030,28 @@ static int held(Core *core, struct cellar_command *c, struct cellar_answer *a, P
 /* what, the node above, (root, None, None) or None, a factory: calls it, and opens a node that holds its answer, with nothing between.
  * Answers the key and the resource. */
 static PyObject *core_using(Core *self, PyObject *const *given, Py_ssize_t many) {
-  struct cellar_command c = {0};
-  struct cellar_answer a;
-  uint8_t status = 0;
-  if (!asked_for(&c, given, many, 4)) return NULL;
-  Key *key = new_key();
-  PyObject *tag = key ? PyTuple_New(1) : NULL, *answer = tag ? PyTuple_New(2) : NULL, *resource = answer ? CALL0(given[3]) : NULL;
+  Opening it = {.share = NULL};
+  if (!asked_for(&it.c, given, many, 4)) return NULL;
+  it.thing = given[2], it.node = new_key();
+  PyObject *tag = it.node ? PyTuple_New(1) : NULL, *answer = tag ? PyTuple_New(2) : NULL, *resource = answer ? CALL0(given[3]) : NULL;
   if (!resource) {
-    Py_XDECREF(key), Py_XDECREF(tag), Py_XDECREF(answer);
+    Py_XDECREF(it.node), Py_XDECREF(tag), Py_XDECREF(answer);
     return NULL;
   }
   PyTuple_SetItem(tag, 0, new_of(resource));
   PyTuple_SetItem(answer, 1, resource);
-  PyTuple_SetItem(answer, 0, (PyObject *)key);
-  int failed = 0;
-  if (resource == Py_None) {
-    c.what = CELLAR_OPEN, c.kind = CELLAR_PASS;
-    failed = opened(self, &c, &a, given[2], &status);
-  } else failed = held(self, &c, &a, tag, given[2], &status);
+  PyTuple_SetItem(answer, 0, (PyObject *)it.node);
+  if (resource == Py_None) it.c.what = CELLAR_OPEN, it.c.kind = CELLAR_PASS;
+  int failed = resource == Py_None ? opened(self, &it) : held(self, &it, tag);
   Py_DECREF(tag);
-  if (!failed && status) failed = refused(status);
-  if (!failed) {
-    key->node = a.node;
-    failed = settle(self, &a, NULL, 0);
-  }
-  if (failed) Py_CLEAR(answer);
+  if (failed || (it.status && refused(it.status))) Py_CLEAR(answer);
   return answer;
 }
 /* A node, a function and its arguments: calls it, and lets the node hold the answer, with nothing between: something with `dispose`, a
  * function, or None. Where the node is closed it is released at once. */
 static PyObject *core_hold(Core *self, PyObject *const *given, Py_ssize_t many) {
-  struct cellar_command c = {.what = CELLAR_HOLD};
-  struct cellar_answer a;
-  uint8_t status;
-  if (many < 2 || !node_of(given[0], &c.node)) return NULL;
+  Opening it = {.c = {.what = CELLAR_HOLD}};
+  if (many < 2 || !node_of(given[0], &it.c.node)) return NULL;
   PyObject *words = PyTuple_New(many - 2), *tag = words ? PyTuple_New(1) : NULL;
   if (!tag) {
     Py_XDECREF(words);
@@ -1122,10 +1069,9 @@ static PyObject *core_hold(Core *self, PyObject *const *given, Py_ssize_t many) 
     Py_DECREF(tag);
     tag = new_of(resource);
   }
-  int failed = held(self, &c, &a, tag, NULL, &status);
+  int failed = held(self, &it, tag);
   Py_DECREF(tag);
-  if (!failed && status && status != CELLAR_GONE) failed = refused(status);
-  if (failed) Py_CLEAR(resource);
+  if (failed || (it.status && it.status != CELLAR_GONE && refused(it.status))) Py_CLEAR(resource);
   return resource;
 }
 static int attribute(PyObject *of, PyObject *name, uint64_t *to) {
@@ -1136,61 +1082,56 @@ static int attribute(PyObject *of, PyObject *name, uint64_t *to) {
 }
 /* what, the node above, (root, what closes, None) or None, the share, whether it takes the place of something: (status, key, connection). */
 static PyObject *core_share(Core *self, PyObject *const *given, Py_ssize_t many) {
-  struct cellar_command c = {0};
-  struct cellar_answer a;
-  uint8_t status;
-  if (!asked_for(&c, given, many, 5)) return NULL;
-  if (!attribute(given[3], s_hub, &c.hub) || !attribute(given[3], s_word, &c.value)) return NULL;
+  Opening it = {.status = 0};
   PyObject *answer = NULL;
-  Key *node = new_key(), *other = node ? new_key() : NULL;
-  if (!other || opened(self, &c, &a, given[2], &status)) goto end;
-  if (status) {
-    answer = Py_BuildValue("(iOO)", status, Py_None, Py_None);
-    goto end;
+  if (!asked_for(&it.c, given, many, 5)) return NULL;
+  it.thing = given[2], it.share = given[3], it.is_exchange = given[4] == Py_True;
+  if (!attribute(it.share, s_hub, &it.c.hub) || !attribute(it.share, s_word, &it.c.value)) return NULL;
+  it.node = new_key(), it.other = it.node ? new_key() : NULL;
+  if (it.other && !opened(self, &it)) {
+    PyObject *connection = it.c.what == CELLAR_CONNECT || it.is_connected ? (PyObject *)it.other : Py_None;
+    answer = it.status ? Py_BuildValue("(iOO)", it.status, Py_None, Py_None) : Py_BuildValue("(iOO)", 0, it.node, connection);
   }
-  node->node = a.node, other->node = a.other;
-  if (c.what == CELLAR_CONNECT && PyObject_SetAttr(given[3], s_connection, (PyObject *)other)) goto end;
-  if (c.what != CELLAR_DISCONNECT && a.hub != c.hub) {
-    PyObject *new = PyLong_FromUnsignedLongLong(a.hub);
-    if (!new || PyObject_SetAttr(given[3], s_hub, new)) PyErr_Clear(); /* it is a hint */
-    Py_XDECREF(new);
-  }
-  if (!settle(self, &a, NULL, given[4] == Py_True))
-    answer = Py_BuildValue("(iOO)", 0, node, a.is_connected && c.what == CELLAR_OPEN ? (PyObject *)other : c.what == CELLAR_CONNECT ? (PyObject *)other : Py_None);
-end:
-  Py_XDECREF(node), Py_XDECREF(other);
+  Py_XDECREF(it.node), Py_XDECREF(it.other);
   return answer;
 }
 /* what, the node, a value or None: the status. */
 static PyObject *core_do(Core *self, PyObject *const *given, Py_ssize_t many) {
   struct cellar_command c = {0};
-  struct cellar_answer a;
+  uint8_t status;
   if (!asked_for(&c, given, many, 3)) return NULL;
   PyObject *value = given[2] == Py_None ? NULL : given[2];
   c.value = (uintptr_t)value;
-  uint8_t status = command(self, &c, &a, value);
-  if (!status && settle(self, &a, value, 0)) return NULL;
-  return PyLong_FromLong(status);
+  return command(self, &c, value, &status) ? NULL : PyLong_FromLong(status);
 }
 /* what, the node, a call: it stands in the node's lane. The status. */
 static PyObject *core_put(Core *self, PyObject *const *given, Py_ssize_t many) {
   struct cellar_command c = {0};
-  struct cellar_answer a;
+  uint8_t status;
   if (!asked_for(&c, given, many, 3)) return NULL;
   PyObject *thing = PyTuple_Pack(1, given[2]);
   if (!thing) return NULL;
   c.user = (uintptr_t)thing;
   keep(self, thing, 1);
-  uint8_t status = command(self, &c, &a, NULL);
+  int failed = command(self, &c, NULL, &status);
   if (status) let_go(self, thing);
   Py_DECREF(thing);
-  if (!status && settle(self, &a, NULL, 0)) return NULL;
-  return PyLong_FromLong(status);
+  return failed ? NULL : PyLong_FromLong(status);
 }
+/* A turn of no command: `passes` where what is told counts as told before, so that what stands behind it is this turn's. */
+static int go_through(Core *core, int passes) {
+  struct cellar_stepped s = {.handed = 0};
+  Turn turn;
+  if (core->generation != generation) return 0;
+  begin(here_is(), core, &turn);
+  if (passes) calls.pass(&core->engine, &turn.stack, 1);
+  calls.next(&core->engine, &turn.stack, &s);
+  return end(here_is(), &turn, &s, 0);
+}
+/* Does what is to be done, also what interrupted calls left. */
 static PyObject *core_serve_left(Core *self, PyObject *unused) {
   (void)unused;
-  self->is_left = 1;
-  return none_or_null(serve_left(self));
+  return none_or_null(go_through(self, 0));
 }
 static PyObject *core_totals(Core *self, PyObject *unused) {
   (void)unused;
@@ -1274,13 +1215,12 @@ static PyObject *subscribe(PyObject *module, PyObject *given) {
   PyObject *call, *rest = split(given, &call, 2);
   if (!rest) return NULL;
   Root *root = (Root *)ITEM(given, 0);
-  struct Mine *here = enter();
+  Turn *floor;
+  struct Mine *here = enter(&floor);
   PyObject *answer = trampolined(call, rest);
   Py_DECREF(rest);
-  int status = answer ? 0 : -1;
-  if (!status && root->core->is_left) status = serve_left(root->core);
-  if (status) dispose_and_go_on(root);
-  if (leave(here, status, !root->is_over)) Py_CLEAR(answer);
+  if (!answer) dispose_and_go_on(root);
+  if (leave(here, floor, answer ? 0 : -1, !root->is_over)) Py_CLEAR(answer);
   return answer;
 }
 /* A call of the user's: what observers and releases raise meanwhile is raised at its end. */
@@ -1288,10 +1228,11 @@ static PyObject *module_call(PyObject *module, PyObject *given) {
   (void)module;
   PyObject *call, *rest = split(given, &call, 1);
   if (!rest) return NULL;
-  struct Mine *here = enter();
+  Turn *floor;
+  struct Mine *here = enter(&floor);
   PyObject *answer = PyObject_CallObject(call, rest);
   Py_DECREF(rest);
-  if (leave(here, answer ? 0 : -1, 0)) Py_CLEAR(answer);
+  if (leave(here, floor, answer ? 0 : -1, 0)) Py_CLEAR(answer);
   return answer;
 }
 /* Calls: what sources put off meanwhile comes behind what the lane that is served tells now, unless a call further out goes on with it. */
@@ -1299,7 +1240,7 @@ static PyObject *behind_the_lane(PyObject *given, int lets_go) {
   PyObject *call, *rest = split(given, &call, 1), *answer;
   if (!rest) return NULL;
   if (mine.trampoline) answer = PyObject_CallObject(call, rest);
-  else if (!mine.has_lane || (!mine.put_off && !(mine.put_off = PyList_New(0)))) answer = trampolined(call, rest);
+  else if (!mine.telling || (!mine.put_off && !(mine.put_off = PyList_New(0)))) answer = trampolined(call, rest);
   else {
     mine.trampoline = mine.put_off;
     mine.lets_go |= lets_go;
@@ -1351,31 +1292,21 @@ static PyObject *raised(PyObject *module, PyObject *error) {
   raise_again(new_of(error));
   return none_or_null(caught(me()));
 }
-static int is_served(Core *core, uint64_t lane) {
-  for (Served *it = mine.served; it; it = it->outer)
-    if (it->core == core && !((it->lane ^ lane) & ~CELLAR_INSIDE)) return 1;
-  return 0;
-}
-/* Serves what commands further out of this thread have still to serve: so what they released is released. What it is in the midst of
- * serving comes when that goes on. */
-static PyObject *settle_all(PyObject *module, PyObject *unused) {
-  (void)module, (void)unused;
-  struct cellar_effect e;
-  for (Lanes *it = mine.due; it; it = it->outer)
-    for (size_t i = it->at; i < it->many; i++) {
-      uint64_t lane = it->all[i];
-      if (lane == UINT64_MAX || is_served(it->core, lane)) continue;
-      it->all[i] = UINT64_MAX; /* the name of none */
-      if (serve(it->core, lane, &e, NULL, 0)) return NULL;
-    }
-  Py_RETURN_NONE;
-}
-/* Serves the rest of the lane that is served: of a root that has ended, what it held. */
-static PyObject *finish_lane(PyObject *module, PyObject *root) {
+/* Calls this behind all that the turns under way come to, of the innermost call of the package: so what they release is released. */
+static PyObject *behind(PyObject *module, PyObject *call) {
   (void)module;
-  struct cellar_effect e;
-  if (!mine.has_lane) Py_RETURN_NONE;
-  return none_or_null(serve(((Root *)root)->core, mine.lane, &e, NULL, 0));
+  Turn *turn = mine.turn;
+  if (turn == mine.floor) return none_or_null(plain(CALL0(call)));
+  while (turn->outer != mine.floor) turn = turn->outer;
+  if (!turn->behind && !(turn->behind = PyList_New(0))) return NULL;
+  return none_or_null(PyList_Append(turn->behind, call));
+}
+/* Tells what stands behind what is told to a root: of one that has ended, what it held. */
+static PyObject *finish(PyObject *module, PyObject *root) {
+  (void)module;
+  Core *core = ((Root *)root)->core;
+  int is_told = mine.telling && mine.telling == mine.turn && mine.telling->core == core;
+  return none_or_null(is_told ? go_through(core, 1) : 0);
 }
 static PyObject *forked(PyObject *module, PyObject *unused) {
   (void)module, (void)unused;
@@ -1402,7 +1333,7 @@ static PyObject *pull(PyObject *module, PyObject *const *given, Py_ssize_t many)
       return NULL;
     }
     Py_DECREF(value);
-    if ((leaf->core->is_left && serve_left(leaf->core)) || PyErr_CheckSignals()) return NULL;
+    if (PyErr_CheckSignals()) return NULL;
     if (!(count & 4095)) { /* where neither side is Python, no other thread would come */
       Py_BEGIN_ALLOW_THREADS
       Py_END_ALLOW_THREADS
@@ -1426,12 +1357,9 @@ static PyObject *bind(PyObject *module, PyObject *given) {
     Py_DECREF(address);
   }
   memcpy(&calls, found, sizeof calls);
-  static const size_t sizes[] = {sizeof(struct cellar), sizeof(struct cellar_command), sizeof(struct cellar_answer), sizeof(struct cellar_effect),
-                                 sizeof(struct cellar_totals), sizeof(struct cellar_event)};
   uint32_t abi = calls.abi();
   int fits = abi >> 16 == CELLAR_ABI >> 16 && (abi & 0xFFFF) + 1 > (CELLAR_ABI & 0xFFFF);
-  for (uint32_t i = 0; i < 6; i++) fits = fits && calls.size(i) == sizes[i];
-  if (!fits) return PyErr_Format(PyExc_ImportError, "libcellarcliff is of another version than this package");
+  if (!fits || calls.size(1) != sizeof(struct cellar_command) || calls.size(7) != sizeof(struct cellar_stepped)) return PyErr_Format(PyExc_ImportError, "libcellarcliff is of another version than this package");
   Py_RETURN_NONE;
 }
 #define DEALLOC(Name, clear, more) \
@@ -1463,7 +1391,7 @@ static PyMethodDef functions[] = {
     {"bind", bind, METH_VARARGS, NULL}, {"pull", FAST(pull), METH_FASTCALL, NULL}, {"subscribe", subscribe, METH_VARARGS, NULL},
     {"call", module_call, METH_VARARGS, NULL}, {"trampolined", module_trampolined, METH_VARARGS, NULL}, {"projected", projected, METH_VARARGS, NULL}, {"fed", fed, METH_VARARGS, NULL},
     {"apart", apart, METH_VARARGS, NULL}, {"put_off", put_off, METH_O, NULL}, {"queue", queue, METH_NOARGS, NULL}, {"is_putting_off", is_putting_off, METH_NOARGS, NULL},
-    {"raised", raised, METH_O, NULL}, {"settle", settle_all, METH_NOARGS, NULL}, {"finish", finish_lane, METH_O, NULL}, {"forked", forked, METH_NOARGS, NULL}, {NULL, NULL, 0, NULL}};
+    {"raised", raised, METH_O, NULL}, {"behind", behind, METH_O, NULL}, {"finish", finish, METH_O, NULL}, {"forked", forked, METH_NOARGS, NULL}, {NULL, NULL, 0, NULL}};
 static struct PyModuleDef definition = {PyModuleDef_HEAD_INIT, "_engine", NULL, -1, functions, NULL, NULL, NULL, NULL};
 
 PyMODINIT_FUNC PyInit__engine(void) {

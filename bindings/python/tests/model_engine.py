@@ -40,49 +40,47 @@ def find():
         return None
     if str(TOOLS) not in sys.path:
         sys.path.append(str(TOOLS))
-    from model import engine as definitions
+    from model import turns as definitions
+    from model.engine import Command
     from model.scenario import Canonical
 
     class ModelCalls:
-        """A key is (number, number), a lane its number."""
+        """A key is (number, number)."""
 
         def __init__(self, max_events=0):
-            self.lock, self._engine = _still, definitions.Engine(Canonical())
+            self.lock, self._engine = _still, definitions.Turns(Canonical())
 
-        def make(self, words):
+        def stack(self):
+            return [threading.get_ident(), 0, 0]
+
+        def step(self, stack, words):
             first, hub, slot, _, user, value, by, spare = words
-            command = definitions.Command(first & 255, first >> 8 & 255, first >> 16 & 255, first >> 24 & 255, first >> 32, hub, slot, user, value,
-                                          by, spare)
             with self.lock:
-                made = self._engine.make(command)
-            answer = [0] * 32
+                step = self._engine.step(definitions.Stack(*stack), Command(
+                    first & 255, first >> 8 & 255, first >> 16 & 255, first >> 24 & 255, first >> 32, hub, slot, user, value, by, spare))
+            made, answer = step.made, [0] * 24
             for at, key in ((0, made.node), (2, made.other)):
                 answer[at] = answer[at + 1] = 2**64 - 1 if key is None else key
-            answer[4:10] = made.is_connected, made.hub, made.copies, len(made.closings), len(made.lanes), int(made.handed is not None)
-            if made.handed is not None:
-                kind, user, value, by, carries = made.handed
-                answer[26:30] = user, value, by, kind | carries << 32
-            return made.status, answer, list(made.closings), [it.lane | (it.inside and 1 << 63) for it in made.lanes]
+            answer[4:8] = made.is_connected, made.hub, made.copies, len(made.closings)
+            return made.status, answer, list(made.closings), self._handed(step)
 
-        def take(self, lane, by):
+        def next(self, stack):
             with self.lock:
-                found = self._engine.take(lane & ~(1 << 63), bool(lane >> 63), by)
-            if found is None:
-                return None
-            kind, user, value, of, carries = found
-            return user, value, of, kind, carries
+                return self._handed(self._engine.step(definitions.Stack(*stack)))
 
-        def give_up(self, lane, by, untold=None):
-            if untold is not None:
-                user, value, of, kind, carries = untold
-                untold = definitions.Effect(kind, user, value, of, carries)
-            with self.lock:
-                return 17 if self._engine.give_up(lane, by, untold) is None else 0
+        def _handed(self, step):
+            if step.task is None:
+                return [0] * 8
+            kind, user, value, by, carries = step.task.effect
+            return [1, int(step.is_own), step.task.ticket, 0, user, value, by, kind | carries << 32]
 
-        def left(self, start):
+        def let_pass(self, stack, is_now):
             with self.lock:
-                found = sorted(it for it in self._engine.left() if it >= start)
-            return (found[0], found[0] + 1) if found else (2**64 - 1, 0)
+                self._engine.let_pass(definitions.Stack(*stack), is_now)
+
+        def stop(self, stack):
+            with self.lock:
+                self._engine.stop(definitions.Stack(*stack))
 
         def totals(self):
             with self.lock:

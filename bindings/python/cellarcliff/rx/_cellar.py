@@ -14,34 +14,33 @@ from .. import _library
 ROOT, SOURCE, INNER, NOTIFIER = range(4)
 LEAF, PASS, FLAT, SWITCH, UNTIL, SHARED, PUBLISHED = range(7)
 #: Flags.
-WISHES, LANE_OF_NODE, OF_PROJECTIONS, QUEUES = 1, 2, 4, 8
+WISHES, LANE_OF_NODE, OF_PROJECTIONS = 1, 2, 4
 #: Kinds of effects.
 E_NEXT, E_PROJECT, E_COMPLETED, E_FAILED, E_GONE, E_RELEASE, E_PUT, E_MERGED = range(8)
 NOTHING_KEPT, NO_MEMORY, FULL, GONE, NOTHING_OWED, NO_HUB, HUB_ORDER, CONNECTED, NOT_CONNECTED = 1, 4, 16, 17, 20, 22, 23, 24, 25
-INSIDE, ROOM, NONE, UNKNOWN_HUB = 1 << 63, 8, 2**64 - 1, 2**64 - 1
-#: Of an answer, in words.
-CLOSINGS, LANES, EFFECT = 10, 18, 26
-_ABI, _SIZES = 0x20000, (8, 64, 256, 32, 64, 32)
+UNKNOWN_HUB = 2**64 - 1
+#: Of a stack; of an answer; of what is handed out: user, value, by, and the kind below whether it carries the value. All in words.
+DEPTH, BEGUN = 1, 2
+COPIES, CLOSED, CLOSINGS = 6, 7, 8
+HANDED, TICKET, EFFECT = 0, 2, 4
+_ROOM, _REST = 8, 16
+_ABI, _SIZES = 0x20001, {0: 8, 1: 64, 3: 32, 4: 64, 5: 32, 6: 24, 7: 192}
 #: Those that the extension makes, in its order.
-FAST = "abi size new make take give_up left rest totals drop".split()
+FAST = "abi size new step next pass stop closings totals drop".split()
 _ARGUMENTS = {
-    "new": [c_void_p, c_uint32], "make": [c_void_p] * 3, "take": [c_void_p, c_uint64, c_uint64, c_void_p, c_void_p],
-    "give_up": [c_void_p, c_uint64, c_uint64, c_void_p, c_uint64, c_void_p], "left": [c_void_p, c_uint64, c_void_p, c_void_p],
-    "rest": [c_void_p, c_uint8, c_uint64, c_void_p, c_size_t, c_void_p], "totals": [c_void_p] * 2, "event": [c_void_p, c_uint64, c_void_p],
+    "new": [c_void_p, c_uint32], "step": [c_void_p] * 4, "next": [c_void_p] * 3, "pass": [c_void_p, c_void_p, c_uint8], "stop": [c_void_p] * 2,
+    "closings": [c_void_p, c_uint64, c_void_p, c_size_t, c_void_p], "totals": [c_void_p] * 2, "event": [c_void_p, c_uint64, c_void_p],
     "dump": [c_void_p, c_void_p, c_size_t, c_void_p], "finish": [c_void_p], "drop": [c_void_p], "abi": [], "size": [c_uint32]}
-
-#: user, value, by, kind, whether it carries the value
-Effect = Tuple[int, int, int, int, int]
 
 
 def library() -> Any:
     """The library, with the types of its calls. Raises OSError if there is none, ImportError if it is of another version."""
-    found = _library.having("cellar_make", ctypes.PyDLL)
+    found = _library.having("cellar_step", ctypes.PyDLL)
     for name, arguments in _ARGUMENTS.items():
         call = getattr(found, f"cellar_{name}")
         call.argtypes, call.restype = arguments, None if name == "drop" else c_uint32 if name in ("abi", "size") else c_uint8
     abi = found.cellar_abi()
-    if abi >> 16 != _ABI >> 16 or tuple(map(found.cellar_size, range(6))) != _SIZES:
+    if abi >> 16 != _ABI >> 16 or abi < _ABI or any(found.cellar_size(which) != size for which, size in _SIZES.items()):
         raise ImportError("libcellarcliff is of another version than this package")
     return found
 
@@ -59,48 +58,39 @@ class Cellar:
         if hasattr(self, "_at"):
             self._library.cellar_drop(self._at)
 
-    def make(self, words: Tuple[int, ...]) -> Tuple[int, List[int], List[int], List[int]]:
-        """Makes a command of eight words: the status, the answer, all closings, all lanes."""
-        command, answer = (c_uint64 * 8)(*words), (c_uint64 * 32)()
-        with self.lock:
-            status = self._library.cellar_make(self._at, addressof(command), addressof(answer))
-            a = answer[:]
-            if status:
-                return status, a, [], []
-            closed, due = a[7], a[8]
-            closings, lanes = a[CLOSINGS:CLOSINGS + min(closed, ROOM)], a[LANES:LANES + min(due, ROOM)]
-            if closed > ROOM:
-                closings += self._rest(0, closed - ROOM)
-            if due > ROOM:
-                lanes += self._rest(1, due - ROOM)
-        return status, a, closings, lanes
+    def stack(self) -> Any:
+        """What a stack of calls keeps for this engine: its word, how many calls are under way, what it began last."""
+        return (c_uint64 * 3)(threading.get_ident())
 
-    def _rest(self, which: int, many: int) -> List[int]:
+    def step(self, stack: Any, words: Tuple[int, ...]) -> Tuple[int, List[int], List[int], List[int]]:
+        """Makes a command of eight words: the status, the answer, all closings, what is handed out."""
+        command, step = (c_uint64 * 8)(*words), (c_uint64 * 24)()
+        with self.lock:
+            status = self._library.cellar_step(self._at, addressof(stack), addressof(command), addressof(step))
+            answer = step[:]
+            closed = answer[CLOSED]
+            closings = answer[CLOSINGS:CLOSINGS + closed] if closed <= _ROOM else self._closings(closed)
+        return status, answer, closings, answer[_REST:]
+
+    def _closings(self, many: int) -> List[int]:
         words, count = (c_uint64 * many)(), c_uint64()
-        self._library.cellar_rest(self._at, which, ROOM, addressof(words), many, addressof(count))
+        self._library.cellar_closings(self._at, 0, addressof(words), many, addressof(count))
         return words[:count.value]
 
-    def take(self, lane: int, by: int) -> Optional[Effect]:
-        effect, count = (c_uint64 * 4)(), c_uint64()
+    def next(self, stack: Any) -> List[int]:
+        """What is handed out next."""
+        step = (c_uint64 * 24)()
         with self.lock:
-            self._library.cellar_take(self._at, lane, by, addressof(effect), addressof(count))
-        user, value, of, kind = effect
-        return (user, value, of, kind & 0xFFFFFFFF, kind >> 32) if count.value else None
+            self._library.cellar_next(self._at, addressof(stack), addressof(step))
+        return step[_REST:]
 
-    def give_up(self, lane: int, by: int, untold: Optional[Effect] = None) -> int:
-        """The status."""
-        effect, is_left = (c_uint64 * 4)(), c_uint64()
-        if untold:
-            effect[:] = [*untold[:3], untold[3] | untold[4] << 32]
+    def let_pass(self, stack: Any, is_now: bool) -> None:
         with self.lock:
-            return int(self._library.cellar_give_up(self._at, lane, by, addressof(effect), int(untold is not None), addressof(is_left)))
+            self._library.cellar_pass(self._at, addressof(stack), is_now)
 
-    def left(self, start: int) -> Tuple[int, int]:
-        """A lane that has something and that nobody serves, from this place on, or NONE; and where to go on."""
-        lane, more = c_uint64(), c_uint64()
+    def stop(self, stack: Any) -> None:
         with self.lock:
-            self._library.cellar_left(self._at, start, addressof(lane), addressof(more))
-        return lane.value, more.value
+            self._library.cellar_stop(self._at, addressof(stack))
 
     def totals(self) -> Tuple[int, ...]:
         found = (c_uint64 * 8)()

@@ -115,12 +115,7 @@ class Link:
 
     def follow(self, call: Call) -> None:
         """Calls this once all that the commands under way released is released: for what takes the place of something."""
-        def act() -> None:
-            try:
-                C.settle()
-            finally:  # an interrupt of another's observer leaves this operator as it was
-                call()
-        self.later(act)
+        C.behind(lambda: self.later(call))
 
     def hold(self, disposable: Any) -> Any:
         """Something that is disposed of when the operator goes."""

@@ -1,7 +1,7 @@
 """What extension/engine.c does, in Python, over calls by ctypes or over the model: the same names and the same order.
 
-Each object that the engine keeps is a word there, with a count of how often the engine will give it back. An interrupt between two
-bytecodes of this module may lose what was taken and not told; by the extension it does not.
+Each object that the engine keeps is a word there, with a count of how often the engine will give it back. What was handed out and not
+begun comes again; an interrupt between two bytecodes may lose what was begun and not told, and by the extension it does not.
 """
 from __future__ import annotations
 
@@ -13,8 +13,8 @@ from itertools import count
 from threading import get_ident
 from typing import Any, Callable, Deque, Dict, List, Optional, Tuple
 
-from ._cellar import (COMPLETE, CONNECT, DISCONNECT, DISPOSE, E_COMPLETED, E_FAILED, E_GONE, E_NEXT, E_PROJECT, E_PUT, E_RELEASE, EFFECT, ERROR,
-                      FLAT, GONE, HOLD, INSIDE, LANES, NEXT, NO_MEMORY, NONE, NOTHING_KEPT, OPEN, PASS, QUEUES, ROOM, SWITCH, WISHES, Cellar)
+from ._cellar import (BEGUN, COMPLETE, CONNECT, COPIES, DEPTH, DISCONNECT, DISPOSE, E_COMPLETED, E_FAILED, E_GONE, E_NEXT, E_PROJECT, E_PUT,
+                      E_RELEASE, EFFECT, ERROR, FLAT, GONE, HANDED, HOLD, NEXT, NOTHING_KEPT, OPEN, PASS, SWITCH, TICKET, WISHES, Cellar)
 
 make_calls: Callable[..., Any] = Cellar  # what an engine is made of; the tests exchange it
 _words = count(1)
@@ -34,14 +34,13 @@ class _Mine(threading.local):
 
     outermost: Any = None  # the frame of the call that is furthest out
     is_closing = False
-    lane: Optional[int] = None
+    telling: Any = None    # the stack of which an effect is being told, and how deep that stands
+    behind: Optional[Deque[Callable[[], Any]]] = None  # what comes behind the outermost of the turns under way, if there is one
     errors: Optional[List[BaseException]] = None
     trampoline: Optional[Deque[Callable[[], Any]]] = None
     runner: Any = None     # the frame of who goes on with that
     put_off_: Optional[Deque[Callable[[], Any]]] = None
     lets_go = False
-    due: Tuple[Any, ...] = ()
-    served: Tuple[Tuple[Any, int], ...] = ()  # the lanes that it serves, the innermost first
 
 
 mine = _Mine()
@@ -66,12 +65,13 @@ def _runs(frame: Any) -> bool:
     return False
 
 
-def _enter(frame: Any) -> bool:
-    """Whether this call is the outermost of its thread."""
-    if _runs(mine.outermost):
-        return False
-    mine.outermost, mine.is_closing, mine.lane, mine.errors, mine.put_off_, mine.due, mine.served = frame, False, None, None, None, (), ()
-    return True
+def _enter(frame: Any) -> Any:
+    """Whether this call is the outermost of its thread; and what comes behind the turns further out, since it has turns of its own."""
+    is_outermost = not _runs(mine.outermost)
+    if is_outermost:
+        mine.outermost, mine.is_closing, mine.telling, mine.behind, mine.errors, mine.put_off_ = frame, False, None, None, None, None
+    behind, mine.behind = mine.behind, None
+    return is_outermost, behind
 
 
 def _queue() -> Optional[Deque[Callable[[], Any]]]:
@@ -79,7 +79,8 @@ def _queue() -> Optional[Deque[Callable[[], Any]]]:
     return None if mine.trampoline is None or not _runs(mine.runner) else mine.trampoline
 
 
-def _leave(is_outermost: bool, error: Optional[BaseException], is_quiet: bool = False) -> None:
+def _leave(entered: Any, error: Optional[BaseException], is_quiet: bool = False) -> None:
+    is_outermost, mine.behind = entered
     if is_outermost:
         mine.outermost, errors, mine.errors = None, mine.errors, None
         for it in errors or ():
@@ -89,6 +90,13 @@ def _leave(is_outermost: bool, error: Optional[BaseException], is_quiet: bool = 
                 error = it
     if error is not None:
         raise error
+
+
+class _Stack(threading.local):
+    """What a thread keeps for an engine: the words of its stack, and the frames of the turns under way."""
+
+    def __init__(self, calls: Any):
+        self.words, self.frames = calls.stack(), []  # type: Any, List[Any]
 
 
 class Key:
@@ -113,7 +121,7 @@ class Core:
         self._lock = threading.RLock()
         self._closed: Deque[int] = deque()
         self._generation = _generation[0]
-        self.is_left = False
+        self._own = _Stack(self.calls)
 
     @property
     def kept(self) -> int:
@@ -133,49 +141,97 @@ class Core:
                 del self._many[word]
                 self.things.pop(word, None)
 
-    def command(self, words: Tuple[int, ...], value: int = 0) -> Tuple[int, List[int], List[int]]:
-        """The status, the answer, the lanes."""
+    def turn(self, make: Callable[..., Any], *given: Any) -> Tuple[int, List[int]]:
+        """Makes commands, by this function, and does what is handed out: the status, and the answer, of the last."""
         if self._generation != _generation[0]:
-            return GONE, [], []
-        status, a, closings, lanes = self.calls.make((*words, get_ident(), 0))
-        if status:
-            return status, a, []
-        if value:
-            self._count(value, a[6])
-        for it in closings:
-            close = self.things[it][1]
-            if type(close) is Leaf:
-                close.is_stopped = True
-        self._closed.extend(closings)
-        return status, a, lanes
-
-    def settle(self, a: List[int], lanes: List[int], is_exchange: bool = False) -> None:
-        handed = (*a[EFFECT:EFFECT + 3], a[EFFECT + 3] & 0xFFFFFFFF, a[EFFECT + 3] >> 32) if a[9] else None
-        if handed and len(lanes) == 1 and not self._closed:
-            self._serve(lanes[0], handed)
-        else:
-            self.come_of(lanes, is_exchange, handed)
-
-    def come_of(self, lanes: List[int], is_exchange: bool = False, handed: Any = None) -> None:
-        before, mine.due = mine.due, ((self, lanes), *mine.due)
+            return GONE, []
+        own, behind = self._own, None
+        stack, frames = own.words, own.frames
+        while frames and not _runs(frames[-1]):  # it was interrupted as it ended
+            frames.pop()
+        depth = len(frames)
         try:
-            if is_exchange and mine.lane is not None and not mine.lane & INSIDE:
-                self.calls.give_up(mine.lane, get_ident())
+            frames.append(sys._getframe())
+            stack[DEPTH] = depth + 1
+            if mine.behind is None:
+                behind = mine.behind = deque()
+            status, answer, handed = make(stack, *given)
             if self._closed:
-                try:
-                    self._hear_closed()
-                except BaseException:
-                    if handed:
-                        self.calls.give_up(lanes[0] & ~INSIDE, get_ident(), handed)
-                    raise
-            while lanes:
-                self._serve(lanes.pop(0), handed)
-                handed = None
+                self._hear_closed()
+            if handed[HANDED]:
+                self._serve(stack, handed)
+            return status, answer
         except BaseException:
-            self.is_left = True
+            if self._generation == _generation[0]:
+                stack[DEPTH] = depth + 1
+                self.calls.stop(stack)
             raise
         finally:
-            mine.due = before
+            del frames[depth:]
+            stack[DEPTH] = depth
+            if behind is not None:
+                mine.behind = None
+                _do(behind)
+
+    def make(self, stack: Any, words: Tuple[int, ...], value: int = 0, known: Any = None, is_exchange: bool = False) -> Any:
+        """Makes a command: the status, the answer, and what is handed out. `known` is called with the answer, before anything is told."""
+        status, answer, closings, handed = self.calls.step(stack, (*words, 0, 0))
+        if value:
+            self._count(value, (0 if status else answer[COPIES]) - _MANY)
+        if not status:
+            for it in closings:
+                close = self.things[it][1]
+                if type(close) is Leaf:
+                    close.is_stopped = True
+            self._closed.extend(closings)
+            if known is not None:
+                known(answer)
+            if is_exchange:
+                self._let_pass(stack)
+        return status, answer, handed
+
+    def _let_pass(self, stack: Any) -> None:
+        """What is being told counts as told: its lane is free."""
+        if mine.telling is not None and mine.telling[0] is stack:
+            depth, stack[DEPTH] = stack[DEPTH], mine.telling[1] + 1
+            self.calls.let_pass(stack, False)
+            stack[DEPTH] = depth
+
+    def finish(self, stack: Any) -> Any:
+        """What stands behind that which is being told comes now."""
+        if mine.telling is not None and mine.telling[0] is stack and mine.telling[1] + 1 == stack[DEPTH]:
+            self.calls.let_pass(stack, True)
+        return 0, [], self.calls.next(stack)
+
+    def serve_left(self) -> None:
+        """Does what is to be done, also what interrupted calls left."""
+        self.turn(lambda stack: (0, [], self.calls.next(stack)))
+
+    def _serve(self, stack: Any, handed: List[int]) -> None:
+        """Does what was handed out, and what comes next, until nothing does."""
+        before, depth = (mine.telling, mine.put_off_, mine.lets_go), stack[DEPTH]
+        mine.telling, mine.put_off_, mine.lets_go = (stack, depth), None, False
+        try:
+            while handed[HANDED]:
+                user, value, by, kind = handed[EFFECT:]
+                stack[BEGUN] = handed[TICKET]
+                try:
+                    self._tell(user, value, kind & 0xFFFFFFFF, kind >> 32)
+                except Exception as error:
+                    _caught(error, by)
+                while mine.put_off_:
+                    try:
+                        if mine.lets_go:
+                            self._let_pass(stack)
+                        _go_on(mine.put_off_)
+                    except Exception as error:
+                        _caught(error, by)
+                if self._generation != _generation[0]:
+                    return
+                stack[DEPTH] = depth
+                handed = self.calls.next(stack)
+        finally:
+            mine.telling, mine.put_off_, mine.lets_go = before
 
     def _hear_closed(self) -> None:
         if mine.is_closing:
@@ -206,51 +262,7 @@ class Core:
         finally:
             mine.is_closing = False
 
-    def serve_left(self, is_asked: bool = True) -> None:
-        if self._generation != _generation[0] or not (self.is_left or is_asked):
-            return
-        self.is_left = False
-        try:
-            self._hear_closed()
-            lane, start = self.calls.left(0)
-            while lane != NONE:
-                self._serve(lane)
-                lane, start = self.calls.left(start)
-        except BaseException:
-            self.is_left = True
-            raise
-
-    def _serve(self, lane: int, effect: Any = None) -> None:
-        by, before = get_ident(), (mine.lane, mine.put_off_, mine.lets_go, mine.served)
-        mine.lane, mine.put_off_, mine.lets_go, mine.served, of = lane, None, False, ((self, lane & ~INSIDE), *mine.served), by
-        try:
-            while True:
-                try:
-                    if effect is None and mine.put_off_:
-                        if mine.lets_go and not lane & INSIDE and self._generation == _generation[0]:
-                            self.calls.give_up(lane, by)
-                        _go_on(mine.put_off_)
-                        continue
-                    if effect is None:
-                        if self._generation != _generation[0]:
-                            return
-                        effect = self.calls.take(lane, by)
-                        if effect is None:
-                            return
-                    it, effect = effect, None
-                    of = it[2]
-                    self._tell(*it)
-                except Exception as error:
-                    _caught(error, of)
-        except BaseException:
-            if not lane & INSIDE and self._generation == _generation[0]:
-                self.calls.give_up(lane, by)
-            self.is_left = True
-            raise
-        finally:
-            mine.lane, mine.put_off_, mine.lets_go, mine.served = before
-
-    def _tell(self, user: int, value: int, by: int, kind: int, carries: int) -> None:
+    def _tell(self, user: int, value: int, kind: int, carries: int) -> None:
         thing, item = self.things[user], self.things[value] if carries and value else None
         if carries and value:
             self._count(value, -1)
@@ -273,48 +285,48 @@ class Core:
 
     # commands of the operators
 
-    def _opened(self, what: int, node: Tuple[int, int], thing: Any, value: int, hub: int = 0) -> Tuple[int, List[int], List[int]]:
+    def _opened(self, what: int, above: Any, thing: Any, value: int, hub: int = 0, share: Any = None, is_exchange: bool = False) -> Tuple[int, List[int]]:
         command, place, kind, flags = what & 255, what >> 8 & 255, what >> 16 & 255, what >> 24 & 255
         roles = flags & WISHES
         if command != CONNECT:
             roles += (place == 0) + (command == OPEN and kind in (FLAT, SWITCH))
         user = self._keep(thing, roles) if thing is not None and roles else 0
-        status, a, lanes = self.command((what, hub, *node, user, value))
-        if status:
-            if user:
-                self._count(user, -roles)
-        elif thing is not None and command != CONNECT:
-            key = a[0], a[1]
-            if place == 0 and isinstance(thing[0], Root):
-                thing[0].node = key
-            if type(thing[1]) is Leaf:
-                thing[1].node = key
-        return status, a, lanes
+
+        def known(a: List[int]) -> None:
+            if thing is not None and command != CONNECT:
+                if place == 0 and isinstance(thing[0], Root):
+                    thing[0].node = a[0], a[1]
+                if type(thing[1]) is Leaf:
+                    thing[1].node = a[0], a[1]
+            if share is not None and command != DISCONNECT:
+                share.hub = a[5]
+                if command == CONNECT:
+                    share.connection = Key((a[2], a[3]))
+        status, a = self.turn(self.make, (what, hub, *(above.node if above is not None else (0, 0)), user, value), 0, known, is_exchange)
+        if status and user:
+            self._count(user, -roles)
+        return status, a
 
     def open(self, what: int, above: Any, thing: Any, release: Any, is_exchange: bool) -> Key:
         tag = self._keep(release, 1) if release is not None else 0
-        status, a, lanes = self._opened(what, above.node if above is not None else (0, 0), thing, tag)
+        status, a = self._opened(what, above, thing, tag, is_exchange=is_exchange)
         if status:
             if tag:
                 self._count(tag, -1)
             refuse(status)
-        key = Key((a[0], a[1]))
-        self.settle(a, lanes, is_exchange)
-        return key
+        return Key((a[0], a[1]))
 
     def using(self, what: int, above: Any, thing: Any, factory: Callable[[], Any]) -> Tuple[Key, Any]:
         resource = factory()
         if resource is None:
             return self.open(OPEN | what & 0xFF00 | PASS << 16 | what & 0xFF000000, above, thing, None, False), None
         tag = self._keep((resource,), 1)
-        status, a, lanes = self._opened(what, above.node if above is not None else (0, 0), thing, tag)
+        status, a = self._opened(what, above, thing, tag)
         if status:
             self._count(tag, -1)
             _release_caught((resource,))
             refuse(status)
-        key = Key((a[0], a[1]))
-        self.settle(a, lanes)
-        return key, resource
+        return Key((a[0], a[1])), resource
 
     def hold(self, node: Any, call: Callable[..., Any], *given: Any) -> Any:
         resource = call(*given)
@@ -322,7 +334,7 @@ class Core:
             return None
         thing = (resource,) if hasattr(resource, "dispose") else resource
         tag = self._keep(thing, 1)
-        status, _, _ = self.command((HOLD, 0, *node.node, 0, tag))
+        status, _ = self.turn(self.make, (HOLD, 0, *node.node, 0, tag))
         if status:
             self._count(tag, -1)
             _release_caught(thing)
@@ -331,37 +343,38 @@ class Core:
         return resource
 
     def share(self, what: int, above: Any, thing: Any, share: Any, is_exchange: bool) -> Tuple[int, Any, Any]:
-        status, a, lanes = self._opened(what, above.node if above is not None else (0, 0), thing, share.word, share.hub)
+        status, a = self._opened(what, above, thing, share.word, share.hub, share, is_exchange)
         if status:
             return status, None, None
-        node, other, command = Key((a[0], a[1])), Key((a[2], a[3])), what & 255
-        if command == CONNECT:
-            share.connection = other
-        if command != DISCONNECT:
-            share.hub = a[5]
-        self.settle(a, lanes, is_exchange)
-        return 0, node, other if command == CONNECT or command == OPEN and a[4] else None
+        command = what & 255
+        return 0, Key((a[0], a[1])), share.connection if command == CONNECT else Key((a[2], a[3])) if command == OPEN and a[4] else None
 
     def do(self, what: int, node: Any, value: Any) -> int:
         word = self._keep(value, _MANY) if value is not None else 0
-        status, a, lanes = self.command((what, 0, *(node.node if node is not None else (0, 0)), 0, word), word)
-        if word:
-            self._count(word, -_MANY)
-        if not status:
-            self.settle(a, lanes)
-        return status
+        return self.turn(self.make, (what, 0, *(node.node if node is not None else (0, 0)), 0, word), word)[0]
 
     def put(self, what: int, node: Any, call: Callable[[], Any]) -> int:
         word = self._keep((call,), 1)
-        status, a, lanes = self.command((what, 0, *node.node, word, 0))
+        status, _ = self.turn(self.make, (what, 0, *node.node, word, 0))
         if status:
             self._count(word, -1)
-        else:
-            self.settle(a, lanes)
         return status
 
     def totals(self) -> Tuple[int, ...]:
         return tuple(self.calls.totals()) if self._generation == _generation[0] else (0,) * 8
+
+
+def _do(calls: Deque[Callable[[], Any]]) -> None:
+    """Each of these, also where one is interrupted."""
+    try:
+        while calls:
+            try:
+                calls.popleft()()
+            except Exception as error:
+                _caught(error, get_ident())
+    finally:
+        if calls:
+            _do(calls)
 
 
 def _release(thing: Any) -> None:
@@ -439,11 +452,7 @@ class Root:
                 refuse(status)
 
     def unsubscribe(self) -> None:
-        call(self._unsubscribe)
-
-    def _unsubscribe(self) -> None:
-        self.dispose()
-        self.core.serve_left(False)
+        call(self.dispose)
 
 
 class Leaf:
@@ -515,21 +524,17 @@ class Emitter:
     def is_stopped(self) -> bool:
         return self._leaf.is_stopped
 
-    def _tell(self, tell: Callable[..., Any], *value: Any) -> None:
-        tell(*value)
-        self._leaf.core.serve_left(False)
-
     def on_next(self, value: Any) -> None:
         if not self._leaf.is_stopped:
-            call(self._tell, self._up.on_next, value)
+            call(self._up.on_next, value)
 
     def on_error(self, error: Any) -> None:
         if not self._leaf.is_stopped:
-            call(self._tell, self._up.on_error, error)
+            call(self._up.on_error, error)
 
     def on_completed(self) -> None:
         if not self._leaf.is_stopped:
-            call(self._tell, self._up.on_completed)
+            call(self._up.on_completed)
 
     def dispose(self) -> None:
         pass
@@ -575,33 +580,62 @@ class Subject:
                     ready.append((leaf, found[0]))
             else:
                 ready.append((leaf, value))
-        cores: Dict[Core, List[int]] = {}
-        with self._order:  # all have it in their lanes before another item is put there
-            if kept is not None and self._memory is not None:
-                self._memory.append(kept)
-                if self._limit >= 0:
-                    del self._memory[:max(0, len(self._memory) - self._limit)]
-            for leaf, it in ready:
-                cores.setdefault(leaf.core, []).extend(_put(leaf, what, it))
-        for core, lanes in cores.items():
-            core.come_of(lanes)
-            core.serve_left(False)
+        cores = {leaf.core for leaf, _ in ready}
+        if len(cores) == 1:
+            core = cores.pop()
+            status = core.turn(self._put, core, what, ready, kept)[0]
+            if status not in (0, GONE):
+                refuse(status)
+            return
+        with self._order:
+            self._remember(kept)
+        for leaf, it in ready:  # an engine was exchanged meanwhile
+            leaf.on_next(it) if what == NEXT else leaf._end(it)
+
+    def _remember(self, kept: Any) -> None:
+        if kept is not None and self._memory is not None:
+            self._memory.append(kept)
+            if self._limit >= 0:
+                del self._memory[:max(0, len(self._memory) - self._limit)]
+
+    def _put(self, stack: Any, core: Core, what: int, ready: List[Tuple[Leaf, Any]], kept: Any = None) -> Any:
+        """All have it in their lanes before another item is put there: the last refusal, and what is handed out."""
+        refusal, handed = 0, [0]
+        with self._order:
+            self._remember(kept)
+            for leaf, value in ready:
+                if leaf.is_stopped:
+                    continue
+                if what != NEXT:
+                    leaf.is_stopped = True
+                word = core._keep(value, _MANY) if value is not None else 0
+                status, _, handed = core.make(stack, (what, 0, *leaf.node, 0, word), word)
+                if status == GONE:
+                    leaf.is_stopped = True
+                else:
+                    refusal = status or refusal
+        return refusal, [], handed
 
     def _join(self, up: Any, leaf: Leaf) -> bool:
-        lanes: List[int] = []
-        with self._order:
-            is_open = not self.is_stopped
-            if is_open and not leaf.is_stopped:
-                self._ups[leaf] = up, leaf
-                leaf.owner = weakref.ref(self)
-            items = tuple(self._memory or ())
-            if up is leaf:
-                for _, value in items:
-                    lanes += _put(leaf, NEXT, value)
-        leaf.core.come_of(lanes)
-        if up is not leaf:
+        is_open, items = True, ()  # type: bool, Tuple[Any, ...]
+
+        def join(stack: Any = None) -> Any:
+            nonlocal is_open, items
+            with self._order:
+                is_open = not self.is_stopped
+                if is_open and not leaf.is_stopped:
+                    self._ups[leaf] = up, leaf
+                    leaf.owner = weakref.ref(self)
+                items = tuple(self._memory or ())
+                return self._put(stack, leaf.core, NEXT, [(leaf, value) for _, value in items] if up is leaf else [])
+        if self._memory is None or up is not leaf:
+            join()
             for _, value in items:
                 up.on_next(value)
+            return is_open
+        status = leaf.core.turn(join)[0]
+        if status not in (0, GONE):
+            refuse(status)
         return is_open
 
     def _forget(self) -> None:
@@ -610,34 +644,16 @@ class Subject:
         self._ups.clear()
 
 
-def _put(leaf: Leaf, what: int, value: Any) -> List[int]:
-    """Puts a note into its lane: the lanes that are to be served."""
-    if leaf.is_stopped:
-        return []
-    core = leaf.core
-    if what != NEXT:
-        leaf.is_stopped = True
-    word = core._keep(value, _MANY) if value is not None else 0
-    status, _, lanes = core.command((what | (QUEUES << 24 if what == NEXT else 0), 0, *leaf.node, 0, word), word)
-    if word:
-        core._count(word, -_MANY)
-    if status == GONE:
-        leaf.is_stopped = True
-    elif status:
-        refuse(status)
-    return lanes
-
-
 # this thread
 
 def call(function: Callable[..., Any], *given: Any) -> Any:
-    is_outermost = _enter(sys._getframe())
+    entered = _enter(sys._getframe())
     answer, failed = None, None
     try:
         answer = function(*given)
     except BaseException as error:
         failed = error
-    _leave(is_outermost, failed)
+    _leave(entered, failed)
     return answer
 
 
@@ -660,22 +676,21 @@ def trampolined(function: Callable[..., Any], *given: Any) -> Any:
 
 
 def subscribe(root: Root, function: Callable[..., Any], *given: Any) -> Any:
-    is_outermost = _enter(sys._getframe())
+    entered = _enter(sys._getframe())
     answer, failed = None, None
     try:
         answer = trampolined(function, *given)
-        root.core.serve_left(False)
     except BaseException as error:
         failed = error
         root.dispose()
-    _leave(is_outermost, failed, not root.is_over)
+    _leave(entered, failed, not root.is_over)
     return answer
 
 
 def _behind_the_lane(lets_go: bool, function: Callable[..., Any], given: Tuple[Any, ...]) -> Any:
     if _queue() is not None:
         return function(*given)
-    if mine.lane is None:
+    if mine.telling is None:
         return trampolined(function, *given)
     if mine.put_off_ is None:
         mine.put_off_ = deque()
@@ -723,17 +738,13 @@ def raised(error: Exception) -> None:
     _caught(error, get_ident())
 
 
-def settle() -> None:
-    for core, lanes in mine.due:
-        for lane in tuple(lanes):
-            if lane in lanes and (core, lane & ~INSIDE) not in mine.served:
-                lanes.remove(lane)
-                core._serve(lane)
+def behind(act: Callable[[], Any]) -> None:
+    """Calls this behind all that the turns under way come to: so what they release is released."""
+    act() if mine.behind is None else mine.behind.append(act)
 
 
 def finish(root: Root) -> None:
-    if mine.lane is not None:
-        root.core._serve(mine.lane)
+    root.core.turn(root.core.finish)
 
 
 def forked() -> None:
@@ -747,9 +758,8 @@ def pull(up: Any, leaf: Leaf, items: Any) -> bool:
         except StopIteration:
             return True
         up.on_next(value)
-        leaf.core.serve_left(False)
     return False
 
 
-__all__ = ["Chain", "Core", "Emitter", "Key", "Leaf", "Root", "Subject", "apart", "bind", "call", "fed", "finish", "forked", "is_putting_off", "projected", "pull",
-           "put_off", "queue", "raised", "settle", "subscribe", "trampolined", "ROOM", "NO_MEMORY", "LANES"]
+__all__ = ["Chain", "Core", "Emitter", "Key", "Leaf", "Root", "Subject", "apart", "behind", "bind", "call", "fed", "finish", "forked", "is_putting_off", "projected",
+           "pull", "put_off", "queue", "raised", "subscribe", "trampolined"]

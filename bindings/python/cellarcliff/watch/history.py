@@ -133,7 +133,7 @@ class History:
 
     def item(self, leaf: Written) -> None:
         """A source of the program's own emits."""
-        self._checked("an item", leaf, lambda: self._engine.make(c.NEXT | c.QUEUES << 24, leaf.key))
+        self._checked("an item", leaf, lambda: self._engine.make(c.NEXT, leaf.key))
 
     def completed(self, leaf: Written) -> None:
         """A source has completed."""

@@ -26,6 +26,8 @@ class Recorder:
     def __init__(self, hears: Callable[[Any], None]):
         make = getattr(C, "make_calls", None)
         self._calls: Any = c.Cellar(WHOLE) if make is None else make(WHOLE)
+        self._stack = self._calls.stack()
+        self._stack[c.DEPTH] = 1
         self._hears, self._words, self._things = hears, count(1), {}  # type: Any, Any, Dict[int, Any]
 
     def open(self, place: int, kind: int, above: Optional[Key], thing: Any, hub: Optional[Hub] = None) -> Tuple[Key, Optional[Key]]:
@@ -55,12 +57,12 @@ class Recorder:
     def make(self, what: int, node: Optional[Key] = None, user: int = 0, value: int = 0, hub: int = 0) -> Any:
         """Makes a command, and takes all that comes of it."""
         slot, number = node or (0, 0)
-        status, answer, closings, lanes = self._calls.make((what, hub, slot, number, user, value, 0, 0))
+        status, answer, closings, handed = self._calls.step(self._stack, (what, hub, slot, number, user, value, 0, 0))
         if status:
             raise MemoryError if status == c.NO_MEMORY else Refused(REFUSALS.get(status, f"status {status}"))
-        for lane in lanes:
-            while self._calls.take(lane, 0) is not None:
-                pass
+        while handed[c.HANDED]:
+            self._stack[c.BEGUN] = handed[c.TICKET]
+            handed = self._calls.next(self._stack)
         for word in closings:
             self._hears(self._things.pop(word))
         return answer

@@ -57,13 +57,7 @@ class _Outer(Observable[Any]):
     def _ended(self) -> None:
         """One of them has closed. If it failed, or something further out closed it, so is this; else the next comes behind its releases."""
         if not self._leaf.is_stopped:
-            self._engine.put(self._leaf, self._behind)
-
-    def _behind(self) -> None:
-        try:
-            C.settle()
-        finally:
-            self._start()
+            C.behind(self._start)
 
 
 class _Turn(Observable[Any]):
