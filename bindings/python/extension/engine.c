@@ -60,8 +60,7 @@ typedef struct {
   Core *core;
   struct cellar_node node;
   PyObject *head, *on_next, *on_error, *on_completed; /* head: the first of the functions through which its notes go, or NULL */
-  PyObject *target;                                   /* what an item is told to: `on_next` of the head, where there is one */
-  struct Leaf *into;                                  /* whose `on_next` the root's is, or NULL */
+  PyObject *target;                                   /* what an item is told to: a leaf, functions, or a function */
   PyObject *references;                               /* weak ones */
   PyObject *thing;                                    /* not held: its word in the engine, which has so many references to it */
   int owed;
@@ -106,7 +105,7 @@ typedef struct {
 } Emitter;
 
 static PyTypeObject *key_type, *root_type, *leaf_type, *chain_type, *subject_type;
-static PyObject *s_on_next, *s_on_error, *s_on_completed, *s_dispose, *s_check, *s_hub, *s_word, *s_connection;
+static PyObject *s_on_next, *s_on_error, *s_on_completed, *s_dispose, *s_check, *s_connection;
 static PyObject *refuse, *unhandled; /* what a status is raised by, and what hears of an error that nobody raises */
 static unsigned generation;
 
@@ -151,13 +150,17 @@ static int plain(PyObject *answer) {
 static void keep(Core *core, PyObject *it, uint64_t times) {
   for (core->kept += (int64_t)times; times; times--) Py_INCREF(it);
 }
-/* Gives a reference back; what was raised stays so. */
-static void let_go(Core *core, PyObject *it) {
+/* What was raised stays so. */
+static void drop(PyObject *it) {
   PyObject *type, *value, *trace;
-  core->kept--;
   PyErr_Fetch(&type, &value, &trace);
   Py_DECREF(it);
   PyErr_Restore(type, value, trace);
+}
+/* Gives a reference of the engine's back. */
+static void let_go(Core *core, PyObject *it) {
+  core->kept--;
+  drop(it);
 }
 static int refused(uint8_t status) {
   if (status == CELLAR_NO_MEMORY) return PyErr_NoMemory(), -1;
@@ -310,21 +313,10 @@ static int dispose_and_go_on(Root *root) {
 /* Tells a root an item. What it raises is raised, and disposes of it unless that is an interrupt, which is nobody's fault. */
 static inline int root_tell(struct Mine *here, Root *root, PyObject *value) {
   if (root->is_stopped) return 0;
-  int status;
-  PyObject *target;
-  if (!root->head && !root->into) {
-    target = new_of(root->on_next);
-    status = plain(CALL1(target, value));
-  } else if (!root->head) {
-    target = new_of((PyObject *)root->into);
-    status = emit(here, (Leaf *)target, value);
-  } else if (Py_TYPE(root->head) == chain_type) {
-    target = new_of(root->head);
-    status = chain_tell(here, (Chain *)target, value);
-  } else {
-    target = new_of(root->target);
-    status = plain(CALL1(target, value));
-  }
+  PyObject *target = new_of(root->target);
+  int status = Py_TYPE(target) == leaf_type    ? emit(here, (Leaf *)target, value)
+               : Py_TYPE(target) == chain_type ? chain_tell(here, (Chain *)target, value)
+                                               : plain(CALL1(target, value));
   Py_DECREF(target);
   return status && PyErr_ExceptionMatches(PyExc_Exception) ? dispose_and_go_on(root) : status;
 }
@@ -362,8 +354,7 @@ static int tell(Core *core, const struct cellar_effect *e, PyObject *value) {
     case CELLAR_E_RELEASE: status = release(user); break;
     case CELLAR_E_PUT: status = plain(CALL0(ITEM(user, 0))); break;
   }
-  core->kept++; /* one reference was this call's */
-  let_go(core, user);
+  drop(user);
   if (e->kind == CELLAR_E_RELEASE || e->kind == CELLAR_E_PUT) let_go(core, user);
   else let_go_word(core, user);
   if (e->carries && value) let_go(core, value);
@@ -374,7 +365,7 @@ static inline int tell_item(struct Mine *here, Core *core, const struct cellar_e
   PyObject *user = word(e->user);
   Py_INCREF(user);
   int status = e->kind == CELLAR_E_NEXT ? root_tell(here, (Root *)ITEM(user, 0), value) : plain(CALL1(ITEM(user, 2), value));
-  if (status) core->kept++, let_go(core, user);
+  if (status) drop(user);
   else Py_DECREF(user);
   if (value && !is_own) let_go(core, value);
   return status;
@@ -546,10 +537,7 @@ static PyObject *none_or_null(int status) {
 }
 static PyObject *leaf_next(Leaf *self, PyObject *value) { return none_or_null(emit(here_is(), self, value)); }
 static PyObject *leaf_error(Leaf *self, PyObject *error) { return none_or_null(end_leaf(self, error)); }
-static PyObject *leaf_completed(Leaf *self, PyObject *unused) {
-  (void)unused;
-  return none_or_null(end_leaf(self, NULL));
-}
+static PyObject *leaf_completed(Leaf *self, PyObject *unused) { return (void)unused, none_or_null(end_leaf(self, NULL)); }
 static int leaf_init(Leaf *self, PyObject *given, PyObject *named) {
   (void)named;
   PyObject *core;
@@ -557,23 +545,19 @@ static int leaf_init(Leaf *self, PyObject *given, PyObject *named) {
   self->core = (Core *)new_of(core);
   return 0;
 }
-static PyObject *leaf_repr(Leaf *self) { return PyUnicode_FromFormat("<Leaf %s>", self->is_stopped ? "stopped" : "open"); }
 static PyMethodDef leaf_methods[] = {{"on_next", (PyCFunction)leaf_next, METH_O, NULL}, {"on_error", (PyCFunction)leaf_error, METH_O, NULL},
                                      {"on_completed", (PyCFunction)leaf_completed, METH_NOARGS, NULL}, {NULL, NULL, 0, NULL}};
 static PyMemberDef leaf_members[] = {{"number", T_ULONGLONG, offsetof(Leaf, node.number), READONLY, NULL}, {"is_stopped", T_BOOL, offsetof(Leaf, is_stopped), 0, NULL}, {"on_closed", T_OBJECT, offsetof(Leaf, on_closed), 0, NULL},
                                      {"is_solo", T_BOOL, offsetof(Leaf, is_solo), 0, NULL},
                                      {NULL, 0, 0, 0, NULL}};
 static int leaf_traverse(Leaf *self, visitproc visit, void *arg) {
-  Py_VISIT(Py_TYPE(self));
-  Py_VISIT(self->core);
-  Py_VISIT(self->on_closed);
+  Py_VISIT(Py_TYPE(self)); Py_VISIT(self->core); Py_VISIT(self->on_closed);
   for (int i = 0; self->is_solo && i < self->owed; i++) Py_VISIT(self->thing);
   return 0;
 }
 static int leaf_clear(Leaf *self) {
   self->is_stopped = 1;
-  Py_CLEAR(self->core);
-  Py_CLEAR(self->on_closed);
+  Py_CLEAR(self->core); Py_CLEAR(self->on_closed);
   return 0;
 }
 
@@ -629,14 +613,8 @@ static PyObject *emitter_end(Emitter *self, PyObject *error) {
   int status = plain(PyObject_CallMethodObjArgs(self->up, error ? s_on_error : s_on_completed, error, NULL));
   return none_or_null(leave(here, floor, status, 0));
 }
-static PyObject *emitter_completed(Emitter *self, PyObject *unused) {
-  (void)unused;
-  return emitter_end(self, NULL);
-}
-static PyObject *emitter_is_stopped(Emitter *self, void *unused) {
-  (void)unused;
-  return PyBool_FromLong(self->leaf->is_stopped);
-}
+static PyObject *emitter_completed(Emitter *self, PyObject *unused) { return (void)unused, emitter_end(self, NULL); }
+static PyObject *emitter_is_stopped(Emitter *self, void *unused) { return (void)unused, PyBool_FromLong(self->leaf->is_stopped); }
 static PyObject *emitter_dispose(PyObject *self, PyObject *unused) {
   (void)self, (void)unused;
   Py_RETURN_NONE;
@@ -670,13 +648,11 @@ static int root_init(Root *self, PyObject *given, PyObject *named) {
   PyObject *core, *next, *error, *completed;
   if (!PyArg_ParseTuple(given, "OOOO", &core, &next, &error, &completed)) return -1;
   self->core = (Core *)new_of(core), self->on_next = new_of(next), self->on_error = new_of(error), self->on_completed = new_of(completed);
-  if (Py_TYPE(next) == &PyCFunction_Type && PyCFunction_GetFunction(next) == (PyCFunction)leaf_next) self->into = (Leaf *)PyCFunction_GetSelf(next);
+  int is_leafs = Py_TYPE(next) == &PyCFunction_Type && PyCFunction_GetFunction(next) == (PyCFunction)leaf_next;
+  self->target = new_of(is_leafs ? PyCFunction_GetSelf(next) : next);
   return 0;
 }
-static PyObject *root_disposed(Root *self, PyObject *unused) {
-  (void)unused;
-  return none_or_null(root_dispose(self));
-}
+static PyObject *root_disposed(Root *self, PyObject *unused) { return (void)unused, none_or_null(root_dispose(self)); }
 /* The same as a call of the user's. */
 static PyObject *root_unsubscribe(Root *self, PyObject *unused) {
   (void)unused;
@@ -690,21 +666,15 @@ static PyObject *root_next(Root *self, PyObject *value) {
   return CALL1(self->on_next, value);
 }
 static PyObject *root_error(Root *self, PyObject *error) { return none_or_null(root_end(self, error)); }
-static PyObject *root_completed(Root *self, PyObject *unused) {
-  (void)unused;
-  return none_or_null(root_end(self, NULL));
-}
-static PyObject *root_head(Root *self, void *unused) {
-  (void)unused;
-  return new_of(self->head ? self->head : Py_None);
-}
+static PyObject *root_completed(Root *self, PyObject *unused) { return (void)unused, none_or_null(root_end(self, NULL)); }
+static PyObject *root_head(Root *self, void *unused) { return (void)unused, new_of(self->head ? self->head : Py_None); }
 static int root_set_head(Root *self, PyObject *it, void *unused) {
   (void)unused;
-  Py_CLEAR(self->head); Py_CLEAR(self->target);
-  if (!it || it == Py_None) return 0;
-  self->head = new_of(it);
-  self->target = PyObject_GetAttr(it, s_on_next);
-  return self->target ? 0 : -1;
+  PyObject *target = Py_TYPE(it) == chain_type ? new_of(it) : PyObject_GetAttr(it, s_on_next), *head = self->head, *before = self->target;
+  if (!target) return -1;
+  self->head = new_of(it), self->target = target;
+  Py_XDECREF(head), Py_DECREF(before);
+  return 0;
 }
 static PyMethodDef root_methods[] = {
     {"on_next", (PyCFunction)root_next, METH_O, NULL}, {"on_error", (PyCFunction)root_error, METH_O, NULL},
@@ -721,7 +691,7 @@ static int root_traverse(Root *self, visitproc visit, void *arg) {
   return 0;
 }
 static int root_clear(Root *self) {
-  self->is_stopped = self->is_over = 1, self->into = NULL;
+  self->is_stopped = self->is_over = 1;
   Py_CLEAR(self->core); Py_CLEAR(self->head); Py_CLEAR(self->target);
   Py_CLEAR(self->on_next); Py_CLEAR(self->on_error); Py_CLEAR(self->on_completed);
   return 0;
@@ -810,7 +780,7 @@ static int remember(Subject *self, PyObject *kept) {
   return more > 0 ? PyList_SetSlice(self->memory, 0, more, NULL) : 0;
 }
 static int subject_tell(Subject *self, uint8_t what, PyObject *value) {
-  PyObject *all = subscribers(self), *error;
+  PyObject *all = subscribers(self);
   if (!all) return -1;
   if (!self->first) {
     Py_DECREF(all);
@@ -820,16 +790,9 @@ static int subject_tell(Subject *self, uint8_t what, PyObject *value) {
   Turn *floor;
   struct Mine *here = enter(&floor);
   int status = self->one && what == CELLAR_NEXT ? tell_up(here, self->one, value) : tell_all(here, all, what, value);
-  if (!(status = leave(here, floor, status, 0))) {
-    Py_DECREF(core);
-    Py_DECREF(all);
-    return 0;
-  }
-  error = caught_one();
-  Py_DECREF(core);
-  Py_DECREF(all);
-  raise_again(error);
-  return -1;
+  status = leave(here, floor, status, 0);
+  drop((PyObject *)core), drop(all);
+  return status;
 }
 /* One argument, by its place or as `value`. */
 static PyObject *the_value(PyObject *const *given, Py_ssize_t many, PyObject *names) {
@@ -951,8 +914,8 @@ static uint64_t roles_of(const struct cellar_command *c) {
   if (c->what == CELLAR_CONNECT) return wishes;
   return wishes + (c->place == CELLAR_ROOT) + (c->what == CELLAR_OPEN && (c->kind == CELLAR_FLAT || c->kind == CELLAR_SWITCH));
 }
-/* Makes an opening, for `thing`, and does what comes of it: the keys, if they are wanted, and the share know what was opened before
- * anything is told. Where `is_exchange` it stands where something else did: whatever is projected from now on comes behind it, and need not
+/* Makes an opening, for `thing`, and does what comes of it: the keys, if they are wanted, and a share that is connected know what was opened
+ * before anything is told. Where `is_exchange` it stands where something else did: whatever is projected from now on comes behind it, and need not
  * wait. */
 typedef struct {
   struct cellar_command c;
@@ -961,14 +924,6 @@ typedef struct {
   int is_exchange, is_connected;
   uint8_t status;
 } Opening;
-static int is_shared(Opening *it, const struct cellar_stepped *s) {
-  if (it->c.what == CELLAR_CONNECT && PyObject_SetAttr(it->share, s_connection, (PyObject *)it->other)) return -1;
-  if (it->c.what == CELLAR_DISCONNECT || s->hub == it->c.hub) return 0;
-  PyObject *new = PyLong_FromUnsignedLongLong(s->hub);
-  if (!new || PyObject_SetAttr(it->share, s_hub, new)) PyErr_Clear(); /* it is a hint */
-  Py_XDECREF(new);
-  return 0;
-}
 static int opened(Core *core, Opening *it) {
   struct Mine *here = here_is();
   struct cellar_command *c = &it->c;
@@ -998,7 +953,8 @@ static int opened(Core *core, Opening *it) {
       if (!is_root) ((Leaf *)close)->thing = thing, ((Leaf *)close)->owed = (int)roles;
     }
   }
-  if (it->share && is_shared(it, &s)) return calls.stop(&core->engine, &turn.stack), here->turn = turn.outer, -1;
+  it->c.hub = s.hub;
+  if (it->share && PyObject_SetAttr(it->share, s_connection, (PyObject *)it->other)) return calls.stop(&core->engine, &turn.stack), here->turn = turn.outer, -1;
   if (it->is_exchange && here->telling && here->telling->core == core && core->generation == generation) let_pass(here->telling);
   return end(here, &turn, &s, 0);
 }
@@ -1074,23 +1030,17 @@ static PyObject *core_hold(Core *self, PyObject *const *given, Py_ssize_t many) 
   if (failed || (it.status && it.status != CELLAR_GONE && refused(it.status))) Py_CLEAR(resource);
   return resource;
 }
-static int attribute(PyObject *of, PyObject *name, uint64_t *to) {
-  PyObject *it = PyObject_GetAttr(of, name);
-  int is_there = it && number(it, to);
-  Py_XDECREF(it);
-  return is_there;
-}
-/* what, the node above, (root, what closes, None) or None, the share, whether it takes the place of something: (status, key, connection). */
+/* what, the node above, (root, what closes, None) or None, the share's word, its hub, the share if it is to be connected, whether it takes the
+ * place of something: (status, key, connection, hub). */
 static PyObject *core_share(Core *self, PyObject *const *given, Py_ssize_t many) {
   Opening it = {.status = 0};
   PyObject *answer = NULL;
-  if (!asked_for(&it.c, given, many, 5)) return NULL;
-  it.thing = given[2], it.share = given[3], it.is_exchange = given[4] == Py_True;
-  if (!attribute(it.share, s_hub, &it.c.hub) || !attribute(it.share, s_word, &it.c.value)) return NULL;
+  if (!asked_for(&it.c, given, many, 7) || !number(given[3], &it.c.value) || !number(given[4], &it.c.hub)) return NULL;
+  it.thing = given[2], it.share = given[5] == Py_None ? NULL : given[5], it.is_exchange = given[6] == Py_True;
   it.node = new_key(), it.other = it.node ? new_key() : NULL;
   if (it.other && !opened(self, &it)) {
-    PyObject *connection = it.c.what == CELLAR_CONNECT || it.is_connected ? (PyObject *)it.other : Py_None;
-    answer = it.status ? Py_BuildValue("(iOO)", it.status, Py_None, Py_None) : Py_BuildValue("(iOO)", 0, it.node, connection);
+    PyObject *connection = it.share || it.is_connected ? (PyObject *)it.other : Py_None;
+    answer = Py_BuildValue("(iOOK)", it.status, it.node, connection, it.c.hub);
   }
   Py_XDECREF(it.node), Py_XDECREF(it.other);
   return answer;
@@ -1129,10 +1079,7 @@ static int go_through(Core *core, int passes) {
   return end(here_is(), &turn, &s, 0);
 }
 /* Does what is to be done, also what interrupted calls left. */
-static PyObject *core_serve_left(Core *self, PyObject *unused) {
-  (void)unused;
-  return none_or_null(go_through(self, 0));
-}
+static PyObject *core_serve_left(Core *self, PyObject *unused) { return (void)unused, none_or_null(go_through(self, 0)); }
 static PyObject *core_totals(Core *self, PyObject *unused) {
   (void)unused;
   struct cellar_totals t = {0};
@@ -1140,10 +1087,7 @@ static PyObject *core_totals(Core *self, PyObject *unused) {
   return Py_BuildValue("(KKKKKKKK)", t.nodes, t.held, t.waiting, t.leases, t.accepted, t.taken, t.events, t.effects);
 }
 /* Where the engine is, for the calls that ctypes makes on it as well: none is on the way of an item. */
-static PyObject *core_address(Core *self, void *unused) {
-  (void)unused;
-  return PyLong_FromVoidPtr(&self->engine);
-}
+static PyObject *core_address(Core *self, void *unused) { return (void)unused, PyLong_FromVoidPtr(&self->engine); }
 static PyObject *core_new(PyTypeObject *type, PyObject *given, PyObject *named) {
   (void)named;
   unsigned long events = 0;
@@ -1174,17 +1118,6 @@ static PyMemberDef core_members[] = {{"kept", T_LONGLONG, offsetof(Core, kept), 
 
 /* This thread ------------------------------------------------------------------------------------------------------------------*/
 
-/* Does what was put off, in order. */
-static int run_all(PyObject *queue) {
-  while (is_some(queue)) {
-    PyObject *it = pop(queue);
-    if (!it) return -1;
-    int status = plain(CALL0(it));
-    Py_DECREF(it);
-    if (status) return -1;
-  }
-  return 0;
-}
 /* Calls, and behind that does what sources put off meanwhile; unless a call further out does. */
 static PyObject *trampolined(PyObject *call, PyObject *given) {
   if (mine.trampoline) return PyObject_CallObject(call, given);
@@ -1192,7 +1125,8 @@ static PyObject *trampolined(PyObject *call, PyObject *given) {
   if (!queue) return NULL;
   mine.trampoline = queue;
   answer = PyObject_CallObject(call, given);
-  if (answer && run_all(queue)) Py_CLEAR(answer);
+  while (answer && is_some(queue))
+    if (go_on(queue)) Py_CLEAR(answer);
   mine.trampoline = NULL;
   Py_DECREF(queue);
   return answer;
@@ -1208,33 +1142,22 @@ static PyObject *module_trampolined(PyObject *module, PyObject *given) {
   Py_XDECREF(rest);
   return answer;
 }
+static PyObject *within(PyObject *given, Root *root) {
+  PyObject *call, *rest = split(given, &call, root ? 2 : 1);
+  if (!rest) return NULL;
+  Turn *floor;
+  struct Mine *here = enter(&floor);
+  PyObject *answer = root ? trampolined(call, rest) : PyObject_CallObject(call, rest);
+  Py_DECREF(rest);
+  if (!answer && root) dispose_and_go_on(root);
+  if (leave(here, floor, answer ? 0 : -1, root && !root->is_over)) Py_CLEAR(answer);
+  return answer;
+}
 /* A root, a function and its arguments, which opens it: where that is interrupted nothing stays open. What was raised meanwhile is raised
  * where the subscription is over, and else heard by the hook, so that the caller gets his disposable. */
-static PyObject *subscribe(PyObject *module, PyObject *given) {
-  (void)module;
-  PyObject *call, *rest = split(given, &call, 2);
-  if (!rest) return NULL;
-  Root *root = (Root *)ITEM(given, 0);
-  Turn *floor;
-  struct Mine *here = enter(&floor);
-  PyObject *answer = trampolined(call, rest);
-  Py_DECREF(rest);
-  if (!answer) dispose_and_go_on(root);
-  if (leave(here, floor, answer ? 0 : -1, !root->is_over)) Py_CLEAR(answer);
-  return answer;
-}
+static PyObject *subscribe(PyObject *module, PyObject *given) { return (void)module, within(given, (Root *)ITEM(given, 0)); }
 /* A call of the user's: what observers and releases raise meanwhile is raised at its end. */
-static PyObject *module_call(PyObject *module, PyObject *given) {
-  (void)module;
-  PyObject *call, *rest = split(given, &call, 1);
-  if (!rest) return NULL;
-  Turn *floor;
-  struct Mine *here = enter(&floor);
-  PyObject *answer = PyObject_CallObject(call, rest);
-  Py_DECREF(rest);
-  if (leave(here, floor, answer ? 0 : -1, 0)) Py_CLEAR(answer);
-  return answer;
-}
+static PyObject *module_call(PyObject *module, PyObject *given) { return (void)module, within(given, NULL); }
 /* Calls: what sources put off meanwhile comes behind what the lane that is served tells now, unless a call further out goes on with it. */
 static PyObject *behind_the_lane(PyObject *given, int lets_go) {
   PyObject *call, *rest = split(given, &call, 1), *answer;
@@ -1251,15 +1174,9 @@ static PyObject *behind_the_lane(PyObject *given, int lets_go) {
   return answer;
 }
 /* What is projected is opened. */
-static PyObject *projected(PyObject *module, PyObject *given) {
-  (void)module;
-  return behind_the_lane(given, 0);
-}
+static PyObject *projected(PyObject *module, PyObject *given) { return (void)module, behind_the_lane(given, 0); }
 /* What an operator subscribes to as its lane is served emits into that lane: so that it is told at once, the lane is let go for it. */
-static PyObject *fed(PyObject *module, PyObject *given) {
-  (void)module;
-  return behind_the_lane(given, 1);
-}
+static PyObject *fed(PyObject *module, PyObject *given) { return (void)module, behind_the_lane(given, 1); }
 /* With nothing put off behind what is under way. */
 static PyObject *apart(PyObject *module, PyObject *given) {
   (void)module;
@@ -1281,10 +1198,6 @@ static PyObject *put_off(PyObject *module, PyObject *call) {
 static PyObject *queue(PyObject *module, PyObject *unused) {
   (void)module, (void)unused;
   return new_of(mine.trampoline ? mine.trampoline : Py_None);
-}
-static PyObject *is_putting_off(PyObject *module, PyObject *unused) {
-  (void)module, (void)unused;
-  return PyBool_FromLong(mine.trampoline != NULL);
 }
 /* Something was raised by what is none of a call's own. */
 static PyObject *raised(PyObject *module, PyObject *error) {
@@ -1326,14 +1239,8 @@ static PyObject *pull(PyObject *module, PyObject *const *given, Py_ssize_t many)
       Py_RETURN_TRUE;
     }
     int status = tell_up(here, given[0], value);
-    if (status) {
-      PyObject *error = caught_one();
-      Py_DECREF(value);
-      raise_again(error);
-      return NULL;
-    }
-    Py_DECREF(value);
-    if (PyErr_CheckSignals()) return NULL;
+    drop(value);
+    if (status || PyErr_CheckSignals()) return NULL;
     if (!(count & 4095)) { /* where neither side is Python, no other thread would come */
       Py_BEGIN_ALLOW_THREADS
       Py_END_ALLOW_THREADS
@@ -1374,7 +1281,7 @@ static PyType_Slot core_slots[] = {{Py_tp_new, core_new}, {Py_tp_dealloc, core_d
 static PyMemberDef key_members[] = {{"number", T_ULONGLONG, offsetof(Key, node.number), READONLY, NULL}, {NULL, 0, 0, 0, NULL}};
 static PyType_Slot key_slots[] = {{Py_tp_members, key_members}, {0, NULL}};
 static PyType_Slot root_slots[] = {COLLECTED(Root, root), {Py_tp_init, root_init}, {Py_tp_getset, root_getset}, {Py_tp_members, root_members}, {0, NULL}};
-static PyType_Slot leaf_slots[] = {COLLECTED(Leaf, leaf), {Py_tp_init, leaf_init}, {Py_tp_members, leaf_members}, {Py_tp_repr, leaf_repr}, {0, NULL}};
+static PyType_Slot leaf_slots[] = {COLLECTED(Leaf, leaf), {Py_tp_init, leaf_init}, {Py_tp_members, leaf_members}, {0, NULL}};
 static PyType_Slot chain_slots[] = {COLLECTED(Chain, chain), {Py_tp_init, chain_init}, {Py_tp_members, chain_members}, {0, NULL}};
 static PyType_Slot subject_slots[] = {COLLECTED(Subject, subject), {Py_tp_new, subject_new}, {Py_tp_members, subject_members}, {0, NULL}};
 static PyType_Slot emitter_slots[] = {COLLECTED(Emitter, emitter), {Py_tp_init, emitter_init}, {Py_tp_getset, emitter_getset}, {0, NULL}};
@@ -1390,7 +1297,7 @@ static PyType_Spec emitter_spec = {"cellarcliff._engine.Emitter", sizeof(Emitter
 static PyMethodDef functions[] = {
     {"bind", bind, METH_VARARGS, NULL}, {"pull", FAST(pull), METH_FASTCALL, NULL}, {"subscribe", subscribe, METH_VARARGS, NULL},
     {"call", module_call, METH_VARARGS, NULL}, {"trampolined", module_trampolined, METH_VARARGS, NULL}, {"projected", projected, METH_VARARGS, NULL}, {"fed", fed, METH_VARARGS, NULL},
-    {"apart", apart, METH_VARARGS, NULL}, {"put_off", put_off, METH_O, NULL}, {"queue", queue, METH_NOARGS, NULL}, {"is_putting_off", is_putting_off, METH_NOARGS, NULL},
+    {"apart", apart, METH_VARARGS, NULL}, {"put_off", put_off, METH_O, NULL}, {"queue", queue, METH_NOARGS, NULL},
     {"raised", raised, METH_O, NULL}, {"behind", behind, METH_O, NULL}, {"finish", finish, METH_O, NULL}, {"forked", forked, METH_NOARGS, NULL}, {NULL, NULL, 0, NULL}};
 static struct PyModuleDef definition = {PyModuleDef_HEAD_INIT, "_engine", NULL, -1, functions, NULL, NULL, NULL, NULL};
 
@@ -1411,7 +1318,7 @@ PyMODINIT_FUNC PyInit__engine(void) {
   }
   struct { const char *text; PyObject **to; } names[] = {
       {"on_next", &s_on_next}, {"on_error", &s_on_error}, {"on_completed", &s_on_completed}, {"dispose", &s_dispose}, {"check_disposed", &s_check},
-      {"hub", &s_hub}, {"word", &s_word}, {"connection", &s_connection}};
+      {"connection", &s_connection}};
   for (size_t i = 0; i < sizeof names / sizeof *names; i++)
     if (!(*names[i].to = PyUnicode_InternFromString(names[i].text))) return NULL;
   return module;

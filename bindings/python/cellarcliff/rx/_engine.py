@@ -163,22 +163,26 @@ class Engine:
     def share(self, at: At, share: Any, level: int) -> Tuple[int, Any]:
         """Opens a subscriber of a share: the status, and the connection if there is a new one."""
         root = at.root
-        status, node, connection = self.core.share(OPEN | at.place << 8 | share.kind << 16 | at.flags << 24 | level << 32, at.above,
-                                                   None if root is None else (root, None, None), share, at.is_exchange)
-        if status not in (0, HUB_ORDER, NO_HUB):
+        status, node, connection, hub = self.core.share(OPEN | at.place << 8 | share.kind << 16 | at.flags << 24 | level << 32, at.above,
+                                                        None if root is None else (root, None, None), share.word, share.hub, None, at.is_exchange)
+        if status == 0:
+            at.node, share.hub = node, hub
+        elif status not in (HUB_ORDER, NO_HUB):
             refuse(status)
-        at.node = node
         return status, connection
 
     def connect(self, share: Any, level: int, closed: Callable[[], Any]) -> Any:
         """The connection, if there was none."""
-        status, _, connection = self.core.share(CONNECT | WISHES << 24 | level << 32, None, (None, closed, None), share, False)
-        if status and status != CONNECTED:
+        status, _, connection, hub = self.core.share(CONNECT | WISHES << 24 | level << 32, None, (None, closed, None), share.word, share.hub, share, False)
+        if status == CONNECTED:
+            return None
+        if status:
             refuse(status)
+        share.hub = hub
         return connection
 
     def disconnect(self, share: Any) -> None:
-        status = self.core.share(DISCONNECT, None, None, share, False)[0]
+        status = self.core.share(DISCONNECT, None, None, share.word, share.hub, None, False)[0]
         if status not in (0, GONE, NOT_CONNECTED):
             refuse(status)
 

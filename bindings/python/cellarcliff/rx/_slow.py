@@ -13,7 +13,7 @@ from itertools import count
 from threading import get_ident
 from typing import Any, Callable, Deque, Dict, List, Optional, Tuple
 
-from ._cellar import (BEGUN, COMPLETE, CONNECT, COPIES, DEPTH, DISCONNECT, DISPOSE, E_COMPLETED, E_FAILED, E_GONE, E_NEXT, E_PROJECT, E_PUT,
+from ._cellar import (BEGUN, COMPLETE, CONNECT, COPIES, DEPTH, DISPOSE, E_COMPLETED, E_FAILED, E_GONE, E_NEXT, E_PROJECT, E_PUT,
                       E_RELEASE, EFFECT, ERROR, FLAT, GONE, HANDED, HOLD, NEXT, NOTHING_KEPT, OPEN, PASS, SWITCH, TICKET, WISHES, Cellar)
 
 make_calls: Callable[..., Any] = Cellar  # what an engine is made of; the tests exchange it
@@ -298,10 +298,8 @@ class Core:
                     thing[0].node = a[0], a[1]
                 if type(thing[1]) is Leaf:
                     thing[1].node = a[0], a[1]
-            if share is not None and command != DISCONNECT:
-                share.hub = a[5]
-                if command == CONNECT:
-                    share.connection = Key((a[2], a[3]))
+            if share is not None:
+                share.connection = Key((a[2], a[3]))
         status, a = self.turn(self.make, (what, hub, *(above.node if above is not None else (0, 0)), user, value), 0, known, is_exchange)
         if status and user:
             self._count(user, -roles)
@@ -342,12 +340,12 @@ class Core:
                 refuse(status)
         return resource
 
-    def share(self, what: int, above: Any, thing: Any, share: Any, is_exchange: bool) -> Tuple[int, Any, Any]:
-        status, a = self._opened(what, above, thing, share.word, share.hub, share, is_exchange)
+    def share(self, what: int, above: Any, thing: Any, word: int, hub: int, share: Any, is_exchange: bool) -> Tuple[int, Any, Any, int]:
+        status, a = self._opened(what, above, thing, word, hub, share, is_exchange)
         if status:
-            return status, None, None
-        command = what & 255
-        return 0, Key((a[0], a[1])), share.connection if command == CONNECT else Key((a[2], a[3])) if command == OPEN and a[4] else None
+            return status, None, None, hub
+        other = Key((a[2], a[3])) if what & 255 == OPEN and a[4] else None
+        return 0, Key((a[0], a[1])), other if share is None else share.connection, a[5]
 
     def do(self, what: int, node: Any, value: Any) -> int:
         word = self._keep(value, _MANY) if value is not None else 0
@@ -730,10 +728,6 @@ def queue() -> Any:
     return _queue()
 
 
-def is_putting_off() -> bool:
-    return _queue() is not None
-
-
 def raised(error: Exception) -> None:
     _caught(error, get_ident())
 
@@ -761,5 +755,5 @@ def pull(up: Any, leaf: Leaf, items: Any) -> bool:
     return False
 
 
-__all__ = ["Chain", "Core", "Emitter", "Key", "Leaf", "Root", "Subject", "apart", "behind", "bind", "call", "fed", "finish", "forked", "is_putting_off", "projected",
+__all__ = ["Chain", "Core", "Emitter", "Key", "Leaf", "Root", "Subject", "apart", "behind", "bind", "call", "fed", "finish", "forked", "projected",
            "pull", "put_off", "queue", "raised", "subscribe", "trampolined"]

@@ -223,7 +223,7 @@ class CurrentThreadScheduler(TrampolineScheduler, _Shared):
     """Does it in this thread, behind what is under way there, and first what is due first."""
 
     def schedule_required(self) -> bool:
-        return not C.is_putting_off()
+        return C.queue() is None
 
     def _put(self, seconds: float, act: Callable[[], Any], whole: Any) -> None:
         call: Any = act
