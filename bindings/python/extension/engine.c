@@ -34,7 +34,7 @@ static struct {
   uint8_t (*begin)(struct cellar *, uint32_t);
   uint8_t (*step)(struct cellar *, const struct cellar_stack *, const struct cellar_command *, struct cellar_stepped *);
   uint8_t (*next)(struct cellar *, const struct cellar_stack *, struct cellar_stepped *);
-  uint8_t (*pass)(struct cellar *, const struct cellar_stack *, uint8_t);
+  uint8_t (*pass)(struct cellar *, const struct cellar_stack *, uint64_t, uint8_t);
   uint8_t (*stop)(struct cellar *, const struct cellar_stack *);
   uint8_t (*closings)(struct cellar *, uint64_t, uint64_t *, size_t, uint64_t *);
   uint8_t (*totals)(struct cellar *, struct cellar_totals *);
@@ -389,7 +389,7 @@ static int go_on(PyObject *queue) {
 /* What a turn tells counts as told: its lane is free. */
 static void let_pass(Turn *telling) {
   struct cellar_stack deeper = {telling->stack.by, telling->stack.depth + 1, telling->stack.begun};
-  calls.pass(&telling->core->engine, &deeper, 0);
+  calls.pass(&telling->core->engine, &deeper, telling->stack.depth, 0);
 }
 /* Does what was handed out, and what comes next, until nothing does: 0, or -1 where what is no Exception goes on. */
 static int do_each(struct Mine *here, Turn *turn, struct cellar_stepped *s, int is_own) {
@@ -1074,7 +1074,7 @@ static int go_through(Core *core, int passes) {
   Turn turn;
   if (core->generation != generation) return 0;
   begin(here_is(), core, &turn);
-  if (passes) calls.pass(&core->engine, &turn.stack, 1);
+  if (passes) calls.pass(&core->engine, &turn.stack, mine.telling->stack.depth, 1);
   calls.next(&core->engine, &turn.stack, &s);
   return end(here_is(), &turn, &s, 0);
 }
@@ -1218,8 +1218,7 @@ static PyObject *behind(PyObject *module, PyObject *call) {
 static PyObject *finish(PyObject *module, PyObject *root) {
   (void)module;
   Core *core = ((Root *)root)->core;
-  int is_told = mine.telling && mine.telling == mine.turn && mine.telling->core == core;
-  return none_or_null(is_told ? go_through(core, 1) : 0);
+  return none_or_null(mine.telling && mine.telling->core == core ? go_through(core, 1) : 0);
 }
 static PyObject *forked(PyObject *module, PyObject *unused) {
   (void)module, (void)unused;

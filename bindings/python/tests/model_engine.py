@@ -74,9 +74,9 @@ def find():
             kind, user, value, by, carries = step.task.effect
             return [1, int(step.is_own), step.task.ticket, 0, user, value, by, kind | carries << 32]
 
-        def let_pass(self, stack, is_now):
+        def let_pass(self, stack, depth, is_now):
             with self.lock:
-                self._engine.let_pass(definitions.Stack(*stack), is_now)
+                self._engine.let_pass(definitions.Stack(*stack), depth, is_now)
 
         def stop(self, stack):
             with self.lock:

@@ -68,8 +68,8 @@ class Course:
     def does_next(self, stack, wanted):
         self.handed(self.engine.next(self.stack(stack)), wanted)
 
-    def does_pass(self, stack, now):
-        self.engine.let_pass(self.stack(stack), now)
+    def does_pass(self, stack, depth, now):
+        self.engine.let_pass(self.stack(stack), depth, now)
 
     def does_stop(self, stack):
         self.engine.stop(self.stack(stack))

@@ -28,7 +28,7 @@ _ABI, _SIZES = 0x20001, {0: 8, 1: 64, 3: 32, 4: 64, 5: 32, 6: 24, 7: 192}
 #: Those that the extension makes, in its order.
 FAST = "abi size new step next pass stop closings totals drop".split()
 _ARGUMENTS = {
-    "new": [c_void_p, c_uint32], "step": [c_void_p] * 4, "next": [c_void_p] * 3, "pass": [c_void_p, c_void_p, c_uint8], "stop": [c_void_p] * 2,
+    "new": [c_void_p, c_uint32], "step": [c_void_p] * 4, "next": [c_void_p] * 3, "pass": [c_void_p, c_void_p, c_uint64, c_uint8], "stop": [c_void_p] * 2,
     "closings": [c_void_p, c_uint64, c_void_p, c_size_t, c_void_p], "totals": [c_void_p] * 2, "event": [c_void_p, c_uint64, c_void_p],
     "dump": [c_void_p, c_void_p, c_size_t, c_void_p], "finish": [c_void_p], "drop": [c_void_p], "abi": [], "size": [c_uint32]}
 
@@ -84,9 +84,9 @@ class Cellar:
             self._library.cellar_next(self._at, addressof(stack), addressof(step))
         return step[_REST:]
 
-    def let_pass(self, stack: Any, is_now: bool) -> None:
+    def let_pass(self, stack: Any, depth: int, is_now: bool) -> None:
         with self.lock:
-            self._library.cellar_pass(self._at, addressof(stack), is_now)
+            self._library.cellar_pass(self._at, addressof(stack), depth, is_now)
 
     def stop(self, stack: Any) -> None:
         with self.lock:

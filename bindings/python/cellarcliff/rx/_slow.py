@@ -193,14 +193,12 @@ class Core:
     def _let_pass(self, stack: Any) -> None:
         """What is being told counts as told: its lane is free."""
         if mine.telling is not None and mine.telling[0] is stack:
-            depth, stack[DEPTH] = stack[DEPTH], mine.telling[1] + 1
-            self.calls.let_pass(stack, False)
-            stack[DEPTH] = depth
+            self.calls.let_pass(stack, mine.telling[1], False)
 
     def finish(self, stack: Any) -> Any:
         """What stands behind that which is being told comes now."""
-        if mine.telling is not None and mine.telling[0] is stack and mine.telling[1] + 1 == stack[DEPTH]:
-            self.calls.let_pass(stack, True)
+        if mine.telling is not None and mine.telling[0] is stack:
+            self.calls.let_pass(stack, mine.telling[1], True)
         return 0, [], self.calls.next(stack)
 
     def serve_left(self) -> None:
@@ -222,7 +220,9 @@ class Core:
                 while mine.put_off_:
                     try:
                         if mine.lets_go:
+                            stack[DEPTH] = depth + 1
                             self._let_pass(stack)
+                            stack[DEPTH] = depth
                         _go_on(mine.put_off_)
                     except Exception as error:
                         _caught(error, by)
