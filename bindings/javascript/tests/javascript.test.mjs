@@ -12,6 +12,12 @@ export const tests = {
     s.next(1);
     s.next(2);
   }, [1]),
+  'behind a function that leaves its own subscription no other is called': test((rx, say) => {
+    for (const operator of [rx.map, rx.filter, rx.tap, rx.takeWhile, rx.first, rx.every, (leave) => rx.scan(leave, 0)]) {
+      const s = new rx.Subject(), leave = () => { sub.unsubscribe(); return true; }, sub = s.pipe(operator(leave), rx.map(say)).subscribe(say);
+      s.next(1);
+    }
+  }, []),
   'an observer that emits hears it behind what it is told': test((rx, say) => {
     const s = new rx.Subject();
     s.subscribe((x) => { if (x < 3) s.next(x + 1); say(x); });

@@ -42,6 +42,7 @@ class TakeWhile extends Hooked {
     if (this.#over) return;
     let goes_on;
     try { goes_on = this.#call(value, this.#at++); } catch (error) { return this.up.error(error, leaf); }
+    if (leaf.closed) return;
     if (goes_on) return this.up.next(value, leaf);
     this.#over = true;
     if (this.#inclusive) this.up.next(value, leaf);
@@ -115,7 +116,7 @@ class Asks extends Hooked {
     if (this.#over) return;
     let answer;
     try { answer = this.#ask(value, this.#at++); } catch (error) { return this.up.error(error, leaf); }
-    if (answer === null) return;
+    if (answer === null || leaf.closed) return;
     this.#over = true;
     this.answers(answer.is, leaf);
   }

@@ -1,4 +1,4 @@
-// Functions on items, which stand before the book: a chain of them costs a call.
+// Functions on items, which stand before the book: a chain of them costs a call. One that has left its own subscription passes nothing on.
 import { Stage } from '../core/leaf.mjs';
 import { staged } from '../core/operator.mjs';
 import { identity } from '../core/util.mjs';
@@ -19,7 +19,7 @@ class MapItems extends Calls {
   next(value, leaf) {
     let it;
     try { it = this.called(value); } catch (error) { return this.up.error(error, leaf); }
-    this.up.next(it, leaf);
+    if (!leaf.closed) this.up.next(it, leaf);
   }
 }
 export const map = (project, thisArg) => staged((up) => new MapItems(up, project, thisArg));
@@ -33,7 +33,7 @@ class Filter extends Calls {
   next(value, leaf) {
     let is_wanted;
     try { is_wanted = this.called(value); } catch (error) { return this.up.error(error, leaf); }
-    if (is_wanted) this.up.next(value, leaf);
+    if (is_wanted && !leaf.closed) this.up.next(value, leaf);
   }
 }
 export const filter = (predicate, thisArg) => staged((up) => new Filter(up, predicate, thisArg));
@@ -80,7 +80,7 @@ class Scan extends Stage {
     } else state = value;
     this.#has = true;
     this.#state = state;
-    this.up.next(state, leaf);
+    if (!leaf.closed) this.up.next(state, leaf);
   }
 }
 export function scan(accumulator, seed) {

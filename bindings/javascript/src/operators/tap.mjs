@@ -11,7 +11,7 @@ class TapItems extends Stage {
   }
   next(value, leaf) {
     try { this.#next(value); } catch (error) { return this.up.error(error, leaf); }
-    this.up.next(value, leaf);
+    if (!leaf.closed) this.up.next(value, leaf);
   }
 }
 
