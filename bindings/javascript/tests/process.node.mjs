@@ -22,10 +22,10 @@ export const only_ours = {
   'an engine that stops within a call is dead: what it held is released, who heard is told, and what comes has another one': { of: () => program(`
     const { readFileSync } = await import('node:fs'), { Crossing } = await import(${JSON.stringify(new URL('../src/engine/crossing.mjs', import.meta.url).href)});
     const { glue } = await import(${JSON.stringify(new URL('../src/engine/glue.mjs', import.meta.url).href)});
-    const realm = globalThis[Symbol.for('cellarcliff.realm.1')], { exports } = new WebAssembly.Instance(new WebAssembly.Module(readFileSync(new URL('engine.wasm', ${JSON.stringify(INDEX)}))));
+    const realm = globalThis[Symbol.for('cellarcliff.realm.1')], { exports } = new WebAssembly.Instance(new WebAssembly.Module(readFileSync(process.env.CELLARCLIFF_WASM || new URL('engine.wasm', ${JSON.stringify(INDEX)}))));
     let stops = false;
     const stopping = (call) => (...words) => { if (stops) throw new WebAssembly.RuntimeError('unreachable'); return call(...words); };
-    realm.engine = new Crossing({ ...exports, cellar_make: stopping(exports.cellar_make), cellar_make_behind: stopping(exports.cellar_make_behind) }, new WebAssembly.Module(glue()), realm);
+    realm.engine = new Crossing({ ...exports, cellar_step: stopping(exports.cellar_step) }, new WebAssembly.Module(glue()), realm);
     const source = new rx.Subject(), held = (name, it) => rx.using(() => ({ unsubscribe: () => console.log('released', name) }), () => it);
     held('a', source).pipe(rx.finalize(() => { console.log('final'); throw new Error('no'); })).subscribe({ error: (e) => console.log('heard', e.message.split(':')[1].trim()) });
     held('b', rx.NEVER).pipe(rx.switchMap(() => source)).subscribe({ error: () => console.log('heard') });
@@ -41,39 +41,37 @@ export const only_ours = {
     'cellarcliff: the engine stopped within a call (unreachable): what it held is released, and what is subscribed to from now on has a new one', 'told 1', 'released c',
     'final', 'released a', 'released b', 'heard the engine stopped within a call (unreachable)', 'heard', 'reported no', 'false 0 null',
   ] },
-  'a lane that was believed empty and has an effect is told on, before the next command and before anything is taken': { of: () => {
-    const said = [], memory = new WebAssembly.Memory({ initial: 1 }), word = (at) => new Int32Array(memory.buffer, 1024 + at, 1), answer = (n) => word(LAYOUT.answer + 4 * n), command = (n) => word(LAYOUT.command + 4 * n);
-    let user = 0, waits = 0;
-    const hands = (value, carries) => { for (const [at, it] of [[52, user], [54, value], [58, 0], [59, carries]]) answer(at)[0] = it; };
-    const make = () => {
-      for (let i = 0; i < 64; i++) answer(i)[0] = 0;
-      const is_next = (command(0)[0] & 255) === 3;
-      if (!is_next) [user] = command(8);
-      answer(16)[0] = answer(18)[0] = is_next ? 1 : 0;
-      hands(command(10)[0], 1);
+  'what a step hands out is told, whatever its command came to, and then what comes next': { of: () => {
+    const said = [], memory = new WebAssembly.Memory({ initial: 1 }), words = (at, many) => new Int32Array(memory.buffer, 1024 + at, many), due = [];
+    let user = 0, ticket = 0;
+    const hands = (it) => {
+      const stepped = words(LAYOUT.stepped, 48), [, , depth, , begun] = words(LAYOUT.stack, 6);
+      said.push(`${depth} ${begun}`);
+      stepped.fill(0);
+      if (it) for (const [at, is] of [[12, it.copies], [32, 1], [34, it.own], [36, ++ticket], [40, user], [42, it.word], [47, it.word ? 1 : 0]]) stepped[at] = is;
       return 0;
     };
-    const behind = () => {
-      if (waits-- <= 0) return make();
-      hands(0, 0);
-      return 6;
-    };
-    const take = () => {
-      const count = waits-- > 0 ? 1 : 0;
-      word(LAYOUT.count)[0] = count;
-      if (count) for (const [at, it] of [[0, user], [2, 0], [6, 0], [7, 0]]) word(LAYOUT.effect + 4 * at)[0] = it;
+    const late = { copies: 0, own: 0, word: 0 };
+    const step = () => {
+      const [what, , , , , , , , name, , word] = words(LAYOUT.command, 16);
+      if ((what & 255) !== 3) user = name;
+      else if (due.length === 0) return hands({ copies: 1, own: 1, word });
+      else if (due.length === 1) return hands(due.shift()) || 17;
+      else due[1] = { copies: 0, own: 0, word };
+      hands(due.shift());
+      if (due.length) words(LAYOUT.stepped, 48)[12] = 1;
       return 0;
     };
-    const module = { memory, place: () => 1024n, cellar_abi: () => ABI, cellar_new: () => 0, cellar_make: make, cellar_make_behind: behind, cellar_take: take, cellar_give_up: () => 0, cellar_totals: () => 0 };
+    const module = { memory, place: () => 1024n, cellar_abi: () => ABI, cellar_new: () => 0, cellar_step: step, cellar_next: () => hands(due.shift()), cellar_pass: () => 0 };
     const engine = new Crossing(module, new WebAssembly.Module(glue()), {}), thing = new Thing({ hear: (it) => said.push(it ?? 'late') }, null);
     engine.open(0, 0, 0, { slot: 0, top: 0, lo: 0, hi: 0 }, thing);
     engine.next(thing, 'a');
-    waits = 1;
-    engine.next(thing, 'b');
-    waits = 1;
-    engine.totals();
-    return [...said, engine.dead];
-  }, is: ['a', 'late', 'b', 'late', null] },
+    due.push(late);
+    said.push(engine.next(thing, 'b'));
+    due.push(late, null);
+    engine.next(thing, 'c');
+    return said;
+  }, is: ['1 0', '1 0', 'a', '1 1', '1 1', 'late', '1 2', 17, '1 2', 'late', '1 3', 'c', '1 4'] },
   'a worker has an engine of its own, and closes what is open as it ends': { of: () => program(`
     const { Worker } = await import('node:worker_threads'), released = new Int32Array(new SharedArrayBuffer(4));
     const text = \`Promise.all([import('node:worker_threads'), import(${JSON.stringify(INDEX)})]).then(([{ parentPort, workerData }, rx]) => {
@@ -86,8 +84,8 @@ export const only_ours = {
     worker.on('exit', () => console.log('released', released[0]));`), is: ['there 2 here 1', 'released 1'] },
   'for want of stack it is alive': { of: () => {
     let made = 0;
-    const module = { memory: new WebAssembly.Memory({ initial: 1 }), place: () => 1024n, cellar_abi: () => ABI, cellar_new: () => 0, cellar_make: () => { made++; return 17; },
-      cellar_make_behind: () => 17, cellar_take: () => 0, cellar_give_up: () => 0, cellar_totals: () => 0 };
+    const module = { memory: new WebAssembly.Memory({ initial: 1 }), place: () => 1024n, cellar_abi: () => ABI, cellar_new: () => 0, cellar_step: () => { made++; return 17; },
+      cellar_next: () => 0, cellar_pass: () => 0 };
     const engine = new Crossing(module, new WebAssembly.Module(glue()), {}), thing = new Thing(null, null);
     const deep = () => { engine.next(thing, 1); deep(); };
     let why = null;

@@ -1,6 +1,5 @@
 // A leaf of the engine: what a source tells goes in here, through the functions on items that stand before the book.
 import { realm } from '../engine/realm.mjs';
-import { NOT_ALONE } from '../engine/thing.mjs';
 import { COMPLETION, Subscriber, collecting, errorOf } from './subscriber.mjs';
 import { stopped } from './config.mjs';
 import { UnsubscriptionError } from './errors.mjs';
@@ -58,7 +57,6 @@ export class Leaf extends Subscriber {
     this.slot = this.top = this.lo = this.hi = -1;
     this.owed = 0;
     this.engine = null;
-    this.alone = NOT_ALONE;
     this.leaves = leaves;
     this._inner = inner;
     this.hears = hears; // where this leaf is the whole tree, else null
@@ -87,7 +85,10 @@ export class Leaf extends Subscriber {
   /** What it is told within this is told in one go: as one item, where nothing happens between. */
   many(act) {
     this._many = true;
-    try { act(); } finally { this._many = false; }
+    try { act(); } finally {
+      this._many = false;
+      realm.engine.begins();
+    }
   }
 
   /** The engine has closed it. */

@@ -15,7 +15,7 @@ export class Link extends Subscriber {
 
   // What it does once it has left comes behind all that it held.
   _over() {
-    if (this._onFinalize === undefined) this._lane = null;
+    if (this._onFinalize === undefined) this._hearing = 0;
     this.unsubscribe();
   }
   _finalized(errors) {

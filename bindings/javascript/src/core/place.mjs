@@ -1,5 +1,5 @@
 // Where something is to be opened, and how: nodes of the engine, and links, which lead from a tree to another one below it.
-import { GONE, INNER, LEAF, PASS, ROOT, SHARED, SOURCE, WISHES } from '../engine/codes.mjs';
+import { GONE, INNER, LEAF, PASS, ROOT, SOURCE, WISHES } from '../engine/codes.mjs';
 import { NOWHERE } from '../engine/crossing.mjs';
 import { realm } from '../engine/realm.mjs';
 import { Thing } from '../engine/thing.mjs';
@@ -64,21 +64,6 @@ export function openNode(at, kind, body = null, tag = null, share = null) {
   thing.leaves = at._leaves;
   const how = opens(at, kind, thing, flags, tag, share);
   return how === OPENED ? thing : how === BEHIND ? LEFT : null;
-}
-
-/** Opens a subscriber of a share at the place of a root: whether it is open, or stands for what is LEFT. */
-export function openShare(root, share) {
-  const { engine } = realm;
-  // the usual case has a way of its own, since so many subscribe to a share
-  if (engine.tracing || engine.is_behind || root.closed) return openNode(root, SHARED, null, null, share) !== null;
-  const thing = new Thing(root, null);
-  try { share.status = engine.openShare(thing, share); } catch (error) {
-    unopened.add(error);
-    throw error;
-  }
-  if (share.status !== 0) return root.closed;
-  if (!root.closed) root._roots(thing);
-  return true;
 }
 
 /** Opens a leaf there: what tells it, or null. */

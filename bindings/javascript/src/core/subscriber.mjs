@@ -1,5 +1,4 @@
 // Who hears what a root is told, and what the source of a leaf tells.
-import { OVER, WAITS } from '../engine/codes.mjs';
 import { realm } from '../engine/realm.mjs';
 import { Tag } from '../engine/thing.mjs';
 import { traced } from '../engine/tracing.mjs';
@@ -34,8 +33,6 @@ export function collecting(act) {
   }
   return mine;
 }
-/** Leaves a root, as `disposeFirst` answered. */
-const leftRoot = (thing, how) => collecting(() => { if (how === WAITS) realm.engine.actOn(); else realm.engine.dispose(thing); });
 /** What a program releases something by: what that throws goes to who unsubscribes, or else is reported. */
 export class Resource extends Tag {
   constructor(finalizer) {
@@ -70,7 +67,7 @@ export class Subscriber extends Subscription {
     this._thing = null; // the root that it hears
     this._tag = null; // what its finalizers are held by
     this._used = false;
-    this._lane = null; // in which it is hearing its end
+    this._hearing = 0; // how deep the call is in which it hears its end
     this.destination = destination ?? SILENT;
     if (destination && isSubscription(destination)) destination.add(this);
   }
@@ -95,22 +92,22 @@ export class Subscriber extends Subscription {
   _next(value) { this.destination.next(value); }
   _error(error) { try { this.destination.error(error); } finally { this._over(); } }
   _complete() { try { this.destination.complete(); } finally { this._over(); } }
-  /** Leaves behind its end: what it held is released as its lane is served on. */
+  /** Leaves behind its end: what it held is released once that has been told. */
   _over() {
-    this._lane = null;
+    this._hearing = 0;
     this.unsubscribe();
   }
 
   // What the engine tells of the root. It is left behind its end, whatever a class of a program makes of that.
   hear(value) { if (!this.isStopped) this.next(value); }
-  heardError(error, lane) {
+  heardError(error, depth) {
     this._thing = null;
-    this._lane = lane;
+    this._hearing = depth;
     try { if (!this.isStopped) this.error(error); } finally { this._over(); }
   }
-  heardEnd(lane) {
+  heardEnd(depth) {
     this._thing = null;
-    this._lane = lane;
+    this._hearing = depth;
     try { if (!this.isStopped) this.complete(); } finally { this._over(); }
   }
   heardGone() {
@@ -140,13 +137,14 @@ export class Subscriber extends Subscription {
   }
 
   _leave() {
-    const thing = this._thing, lane = this._lane;
-    const how = thing === null ? OVER : realm.engine.disposeFirst(thing); // where that throws nothing has been changed
+    const { engine } = realm, thing = this._thing, hearing = this._hearing;
+    const goes_on = thing !== null && engine.dispose(thing); // where that throws nothing has been changed
     this.closed = this.isStopped = true;
-    this._thing = this._lane = null;
-    let errors = how === OVER ? null : leftRoot(thing, how);
+    this._thing = null;
+    this._hearing = 0;
+    let errors = goes_on ? collecting(() => engine.goOn()) : null;
     // left while it hears its end: what stands behind that is released now
-    if (lane !== null) errors = collecting(() => realm.engine.goOn(lane));
+    if (hearing !== 0) errors = collecting(() => engine.releases(hearing));
     if (this._tag === null) errors = this._finalized(errors);
     if (errors === null) return;
     if (is_collected) thrown(errors);

@@ -1,29 +1,34 @@
 // The crossing: commands go in as numbers of 32 bits in the engine's memory, and what they come to is told to the things that words name.
 //
-// A word is a place in a table. A word is free behind the last effect that has it; a value, behind the last that carries it.
-// All of an answer is read before anything is called, since what is called may make commands.
+// Each command is a step of the engine: that hands out what is to be done, one thing at a time, and is asked for the next until it has none. A command
+// from within is one deeper. A word is a place in a table. A word is free behind the last effect that has it; a value, behind the last that carries it.
+// All of an answer is read before anything is called, since what is called may give commands.
 //
-// The stack has three marks. An item is made, and an effect taken, where there is room to tell it and for what that leads to; an end is told and
+// The stack has three marks. An item is given, and anything told, where there is room to tell it and for what that leads to; an end is told and
 // a node opened where two thirds of that are left; any other command where a third is. What a command hands out is told later
 // where there is no room for that. So what an effect leads to always finds room, and RangeError means that nothing was done.
 import {
-  ABI, COMPLETE, DECLINE, DISPOSE, DONE, ERROR, FAIL, FLAT, GONE, HOLD, LEAF, NEXT, NOT_YET, OPEN, OVER, PUT, REMOVE, ROOT, SHARED, SHUT, SWITCH, UNTAKEN, USING, WAITS, WISHES,
+  ABI, COMPLETE, DECLINE, DISPOSE, DONE, ERROR, FAIL, FLAT, GONE, HOLD, NEXT, OPEN, PUT, REMOVE, ROOT, SHARED, SHUT, SWITCH, USING, WISHES,
 } from './codes.mjs';
-import { LAYOUT, OF_ANOTHER } from './glue.mjs';
+import { LAYOUT } from './glue.mjs';
 import { Table } from './table.mjs';
-import { BARE, GONE_WITH_ONE, Lane, NOT_ALONE, Tag, WITH_ONE } from './thing.mjs';
+import { Tag } from './thing.mjs';
 
 const STOPPED = 'cellarcliff: the engine stopped within a call';
 const MOST = 100000; // items from within one command, each because of the one before: what goes on behind that never ends
 const THE_NEXT = -1; // of a value: the word that the next one has
 const REFUSED = { 4: 'no memory is left', 16: 'too much is open', 29: 'a node holds too many resources' };
+// Where the numbers of an answer stand.
+const OTHER_AT = 4, CONNECTED_AT = 8, HUB_AT = 10, COPIES_AT = 12, CLOSED_AT = 14, CLOSINGS_AT = 16, HANDED_AT = 32, OWN_AT = 34, USER_AT = 40, VALUE_AT = 42, KIND_AT = 46, CARRIES_AT = 47, SHOWN = 8;
 
 export class Crossing {
-  #realm; #wasm; #glue; #base; #places; #c; #a; #e; #left; #words;
+  #realm; #wasm; #glue; #base; #places; #c; #a; #words;
   #things = new Table(); #values = new Table();
-  #postponed = null; #depth = 0; #made = 0;
+  #depth = 0; #made = 0; // how many calls are under way, and how many commands were given
+  #is_begun = false; // whether what the last command hands out can be told now
+  #postponed = null;
   #level = 0; #ofLevel = 0; #queued = 0; // how many items so far came each of the one before; what is left of the last of them; what waits behind that
-  #lastNode = null; #lastHears = null; #lastMade = -1; // what told the last item, to which observer alone, behind how many commands
+  #lingering = null; #lastHears = null; // what told the last item, to which observer, where its source may have more of the same go
   dead = null; // why no command can be made any more
   tracing = false;
   line = null; // where the program's own line subscribes, until a command is given
@@ -38,7 +43,7 @@ export class Crossing {
     if (abi >>> 16 !== ABI >>> 16 || abi < ABI) throw new Error(`cellarcliff: the module has another interface: ${said(abi)}, not ${said(ABI)} or what only adds to it`);
     const status = wasm.cellar_new(this.#places.engine, 0);
     if (status) throw new Error(`cellarcliff: no engine was made (${status})`);
-    const globals = ['engine', 'command', 'answer', 'effect', 'count'].map((it) => [it, new WebAssembly.Global({ value: 'i64' }, this.#places[it])]);
+    const globals = ['engine', 'stack', 'command', 'stepped'].map((it) => [it, new WebAssembly.Global({ value: 'i64' }, this.#places[it])]);
     const base = new WebAssembly.Global({ value: 'i32' }, this.#base);
     this.#glue = new WebAssembly.Instance(glue, { e: { ...wasm, base, ...Object.fromEntries(globals) } }).exports;
     this.#look();
@@ -48,9 +53,7 @@ export class Crossing {
   #look() {
     const { buffer } = this.#wasm.memory, at = (place) => this.#base + LAYOUT[place];
     this.#c = new Int32Array(buffer, at('command'), 16);
-    this.#a = new Int32Array(buffer, at('answer'), 64);
-    this.#e = new Int32Array(buffer, at('effect'), 10); // the count stands behind it
-    this.#left = new Int32Array(buffer, at('left'), 3);
+    this.#a = new Int32Array(buffer, at('stepped'), 48);
     this.#words = new Int32Array(buffer, at('words'), 2 * LAYOUT.room);
   }
 
@@ -62,8 +65,8 @@ export class Crossing {
       this.#renews();
       throw this.dead;
     };
-    this.#glue = { room: dies, make: dies, open: dies, next: dies, take: dies, takeOn: dies, giveUp: dies, end: dies, dispose: dies, all: dies, entered: { value: 1 } };
-    this.#wasm = { ...this.#wasm, cellar_totals: dies, cellar_dump: dies, cellar_rest: dies };
+    this.#glue = { room: dies, make: dies, open: dies, step: dies, next: dies, goOn: dies, go: dies, pass: dies, all: dies, entered: { value: 1 } };
+    this.#wasm = { ...this.#wasm, cellar_totals: dies, cellar_dump: dies, cellar_closings: dies };
     const things = this.#things.all();
     for (const it of things) it.slot = it.top = it.lo = it.hi = -1; // a key that names nothing, in any engine
     this.#renews();
@@ -79,7 +82,7 @@ export class Crossing {
     const surely = (act) => { try { act(); } catch (error) { this.#report(error); } };
     for (const it of things) if (!(it instanceof Tag)) surely(() => it.shut?.());
     for (const it of things) if (it instanceof Tag) surely(() => it.release());
-    for (const it of things) if (it.hears) surely(() => it.hears.heardError(this.dead, null));
+    for (const it of things) if (it.hears) surely(() => it.hears.heardError(this.dead, 0));
   }
 
   /** Throws RangeError where the stack has no room for a command and for what leads to it; with `is_item`, for an item first. */
@@ -87,72 +90,45 @@ export class Crossing {
 
   // Commands. Each answers its status, and first does what was put off for want of stack.
 
-  #begins() {
+  /** Does what was put off, before somebody looks whether a place is open; and no item comes in the same go as the one before. */
+  begins() {
+    if (this.#lingering !== null) this.#goesOn();
     if (this.#postponed !== null && this.#depth === 0) this.#resume();
   }
-  /** Whether something was put off. */
-  get is_behind() { return this.#postponed !== null; }
-  /** Does what was put off, before somebody looks whether a place is open. */
-  begins() { this.#begins(); }
 
   #make(what, node, user, value, opens = false, share = null) {
-    for (;;) {
-      if (this.#c.length === 0) this.#look();
-      const c = this.#c;
-      c[0] = what;
-      c[1] = share === null ? 0 : share.level, c[2] = share === null ? 0 : share.hub, c[3] = share === null ? 0 : share.hubHigh;
-      c[4] = node.slot, c[5] = node.top, c[6] = node.lo, c[7] = node.hi;
-      c[8] = user, c[10] = value === THE_NEXT ? this.#values.next() : value;
-      let status;
-      // an opening wants more room, so that a resource can be held behind it
-      try { status = opens ? this.#glue.open() : this.#glue.make(); } catch (error) { throw this.#failed(error); }
-      this.#made++;
-      if (this.#a.length === 0) this.#look();
-      if (status !== UNTAKEN) return status;
-      this.#untaken();
+    if (this.#c.length === 0) this.#look();
+    const c = this.#c;
+    c[0] = what;
+    c[1] = share === null ? 0 : share.level, c[2] = share === null ? 0 : share.hub, c[3] = share === null ? 0 : share.hubHigh;
+    c[4] = node.slot, c[5] = node.top, c[6] = node.lo, c[7] = node.hi;
+    c[8] = user, c[10] = value === THE_NEXT ? this.#values.next() : value;
+    return this.#give(opens);
+  }
+  // Gives what was written, with room for all that comes of it if there is so much. An opening wants more room than others, so that a resource can be held behind it.
+  #give(opens) {
+    const depth = this.#depth + 1;
+    let status;
+    this.#is_begun = true;
+    try { status = this.#glue.step(depth); } catch (error) {
+      const why = this.#failed(error);
+      if (this.dead !== null) throw why;
+      this.#is_begun = false;
+      try { status = opens ? this.#glue.open(depth) : this.#glue.make(depth); } catch (it) { throw this.#failed(it); }
     }
-  }
-
-  // The lane that was to be left with this command has an effect: nothing was done but that it was handed out. It is told, and the lane served on, before
-  // the command is made.
-  #untaken() {
-    const a = this.#a;
-    this.#tellOn(a[52], a[58], a[59] !== 0 ? this.#values.give(a[54]) : undefined);
-  }
-  #tellOn(user, kind, value) {
-    const low = this.#left[0], high = this.#left[1];
-    this.#lastMade = -1;
-    const act = () => {
-      this.#tell(user, kind, value, low, high);
-      this.#serve(low, high);
-    };
-    this.#depth++;
-    try { this.surely(act); } finally { this.#depth--; }
-  }
-  // A lane: how many effects were taken, behind what stands in the lane that is left with this.
-  #taken(low, high, is_first) {
-    for (;;) {
-      const count = is_first ? this.#glue.take(low, high) : this.#glue.takeOn(low, high);
-      if (this.#e.length === 0) this.#look();
-      if (count !== OF_ANOTHER) return count;
-      const e = this.#e;
-      this.#tellOn(e[0], e[6], e[7] ? this.#values.give(e[2]) : undefined);
-    }
-  }
-
-  #refused(status) {
-    if (REFUSED[status]) throw new Error(`cellarcliff: ${REFUSED[status]}`);
+    this.#made++;
+    if (this.#a.length === 0) this.#look();
     return status;
   }
 
   /** Opens a node of this kind at a place, of which a thing is told; behind `begins`. A tag is held by it from the start; a share has its word and hub. */
   open(place, kind, flags, above, thing, tag = null, share = null) {
+    if (place !== ROOT && above.engine !== this) return GONE;
     const owed = (place === ROOT ? 1 : 0) + (kind === FLAT || kind === SWITCH ? 1 : 0) + (flags & WISHES);
     const user = owed ? this.#things.take(thing) : 0, tagWord = tag === null ? 0 : this.#things.take(tag);
     let status = -1;
     try {
-      status = place !== ROOT && above.engine !== this ? GONE : this.#make((tag === null ? OPEN : USING) | place << 8 | kind << 16 | flags << 24, above, user,
-        tag !== null ? tagWord : share !== null ? share.word : 0, true, share);
+      status = this.#make((tag === null ? OPEN : USING) | place << 8 | kind << 16 | flags << 24, above, user, tag !== null ? tagWord : share !== null ? share.word : 0, true, share);
     } finally {
       if (status !== DONE) {
         if (tag !== null) this.#things.free(tagWord);
@@ -163,69 +139,35 @@ export class Crossing {
     const a = this.#a;
     thing.engine = this;
     thing.owed = owed;
-    thing.alone = place === ROOT && (kind === LEAF || kind === SHARED) ? BARE : NOT_ALONE;
     thing.slot = a[0], thing.top = a[1], thing.lo = a[2], thing.hi = a[3];
-    if (tag !== null) this.#held(thing, tag);
-    if (share !== null) this.#joined(share);
-    if (a[14] !== 0 || a[16] !== 0) this.#act(undefined);
-    return DONE;
-  }
-  #joined(share) {
-    const a = this.#a;
-    share.hub = a[10], share.hubHigh = a[11];
-    share.connection = a[8] !== 0 ? this.#named(share.make(this)) : null;
-  }
-
-  /** The same of a subscriber of a share that is a root, where nothing was put off. */
-  openShare(thing, share) {
-    const user = this.#things.take(thing);
-    if (this.#c.length === 0) this.#look();
-    const c = this.#c;
-    c[0] = OPEN | ROOT << 8 | SHARED << 16;
-    c[1] = share.level, c[2] = share.hub, c[3] = share.hubHigh;
-    c[4] = c[5] = c[6] = c[7] = -1; // nowhere
-    c[8] = user, c[10] = share.word;
-    let status = -1;
-    try { status = this.#glue.open(); } catch (error) { throw this.#failed(error); } finally { if (status !== DONE) this.#things.free(user); }
-    this.#made++;
-    if (this.#a.length === 0) this.#look();
-    if (status === UNTAKEN) {
-      this.#untaken();
-      return this.openShare(thing, share);
+    if (tag !== null) this.#named(tag);
+    if (share !== null) {
+      share.hub = a[HUB_AT], share.hubHigh = a[HUB_AT + 1];
+      share.connection = a[CONNECTED_AT] !== 0 ? this.#named(share.make(this)) : null;
     }
-    if (status !== DONE) return this.#refused(status);
-    const a = this.#a;
-    thing.engine = this;
-    thing.owed = 1;
-    thing.alone = BARE;
-    thing.slot = a[0], thing.top = a[1], thing.lo = a[2], thing.hi = a[3];
-    this.#joined(share);
-    if (a[14] !== 0 || a[16] !== 0) this.#act(undefined);
+    this.#does(undefined);
     return DONE;
-  }
-
-  // Of a root alone its only tag is remembered, with which its lane ends.
-  #held(node, tag) {
-    this.#named(tag);
-    if (node.alone === BARE) {
-      node.alone = WITH_ONE;
-      tag.root = node;
-    } else node.alone = NOT_ALONE;
   }
   #named(thing) {
     const a = this.#a;
-    thing.slot = a[4], thing.top = a[5], thing.lo = a[6], thing.hi = a[7];
+    thing.slot = a[OTHER_AT], thing.top = a[OTHER_AT + 1], thing.lo = a[OTHER_AT + 2], thing.hi = a[OTHER_AT + 3];
     return thing;
+  }
+  #refused(status) {
+    this.#does(undefined);
+    if (REFUSED[status]) throw new Error(`cellarcliff: ${REFUSED[status]}`);
+    return status;
   }
 
   /** A resource for a node: its tag gets the resource's key. */
   hold(node, tag) {
-    this.#begins();
+    this.begins();
     const word = this.#things.take(tag);
     let status = -1;
     try { status = this.#make(HOLD, node, 0, word); } finally { if (status !== DONE) this.#things.free(word); }
     if (status !== DONE) return this.#refused(status);
-    this.#held(node, tag);
+    this.#named(tag);
+    this.#does(undefined);
     return DONE;
   }
 
@@ -236,196 +178,117 @@ export class Crossing {
   next(node, value) {
     if (this.#level > MOST) throw new RangeError(`cellarcliff: ${MOST} items came each from within the one before`);
     this.line = null;
-    this.#begins();
-    const word = this.#values.next();
+    this.begins();
+    const word = this.#values.next(), depth = this.#depth + 1;
     let status;
-    try { status = this.#glue.next(NEXT, node.slot, node.top, node.lo, node.hi, word); } catch (error) { throw this.#failed(error); }
+    try { status = this.#glue.next(depth, NEXT, node.slot, node.top, node.lo, node.hi, word); } catch (error) { throw this.#failed(error); }
     const made = ++this.#made;
     if (this.#a.length === 0) this.#look();
-    if (status !== DONE) {
-      if (status !== UNTAKEN) return status;
-      this.#untaken();
-      return this.next(node, value);
-    }
     const a = this.#a;
-    if (a[18] === 0 || a[14] !== 0 || a[58] !== 0 || a[54] !== word) return this.#act(value);
+    this.#is_begun = true;
+    if (a[OWN_AT] === 0 || a[KIND_AT] !== 0) {
+      this.#does(value);
+      return status;
+    }
     // the usual case: one observer, who is told now
-    const low = a[36], high = a[37], { hears } = this.#things.get(a[52]);
-    this.#depth++;
+    const { hears } = this.#things.get(a[USER_AT]);
+    this.#depth = depth;
     try { hears.hear(value); } catch (error) { this.#report(error); }
-    if (this.#made === made) {
-      this.#leave(low, high);
-      this.#lastNode = node;
+    if (node._many && this.#made === made) {
+      this.#lingering = node;
       this.#lastHears = hears;
-      this.#lastMade = made;
-    } else this.#serve(low, high);
-    this.#end();
+    } else this.#goesOn();
     return DONE;
   }
 
-  /** An item behind another one that its source told in the same go. Where no command was made since, the engine is as it was: so this one goes to the
-   *  same observer, within the same lane, which was to be left with the next command, and is no command. */
+  /** An item behind another one that its source told in the same go. Where no command was given since, the engine is as it was: so this one goes to the
+   *  same observer, within what it was handed for the one before, and is no command. */
   nextOfMany(node, value) {
-    const left = this.#left, made = this.#made;
-    if (this.#lastNode !== node || this.#lastMade !== made || left.length === 0 || left[2] !== 1 || this.#postponed !== null || this.dead !== null) return this.next(node, value);
-    const low = left[0], high = left[1];
-    left[2] = 0;
-    this.#depth++;
+    if (this.#lingering !== node) return this.next(node, value);
+    const made = this.#made;
+    this.#lingering = null;
     try { this.#lastHears.hear(value); } catch (error) { this.#report(error); }
-    if (this.#made === made) this.#leave(low, high); else this.#serve(low, high);
-    this.#end();
+    if (this.#made === made) this.#lingering = node; else this.#goesOn();
     return DONE;
   }
 
-  complete(node) { return this.#isRoomy() ? this.#endsNow(COMPLETE, node, undefined) : this.#ends(COMPLETE, node); }
-  error(node, error) { return this.#isRoomy() ? this.#endsNow(ERROR, node, error) : this.#fails(ERROR, node, error); }
-  fail(node, error) { return this.#fails(FAIL, node, error); }
+  complete(node) { return this.#ends(COMPLETE, node); }
+  error(node, error) { return this.#ends(ERROR, node, THE_NEXT, error); }
+  fail(node, error) { return this.#ends(FAIL, node, THE_NEXT, error); }
   decline(node) { return this.#ends(DECLINE, node); }
-  dispose(node) { return this.#ends(DISPOSE, node); }
-  /** Disposes of a root where there is room for all that comes of it, and has called nobody yet: OVER if nobody is to be, WAITS if `actOn` is to do that;
-   *  NOT_YET where nothing was done and `dispose` is to be called. */
-  disposeFirst(node) {
-    if (this.#postponed !== null) return this.#notYet();
-    let status;
-    try { status = this.#glue.dispose(DISPOSE, node.slot, node.top, node.lo, node.hi); } catch (error) {
-      if (this.dead === null && this.#glue.entered.value === 0) return this.#notYet();
-      throw this.#failed(error);
-    }
+  #ends(what, node, word = 0, value = undefined) {
     this.line = null;
-    this.#made++;
-    if (this.#a.length === 0) this.#look();
-    if (status === UNTAKEN) {
-      this.#untaken();
-      return this.disposeFirst(node);
-    }
-    if (status !== DONE) return OVER;
-    const a = this.#a, e = this.#e;
-    if (e[8] === 0 || e[6] !== 4 || node.alone !== BARE || a[14] > 1) return WAITS;
-    // the usual case: nothing but that it is gone comes of it, which who leaves it knows
-    const user = e[0];
-    this.#leave(a[36], a[37]);
-    if (a[14] !== 0) this.#closeOne(a[20]);
-    this.#drop(user, node);
-    return OVER;
+    this.begins();
+    const status = this.#make(what, node, 0, word);
+    this.#does(value);
+    return status;
   }
-  actOn() { return this.#e[8] === 0 ? this.#act(undefined) : this.#ended(undefined); }
-  #notYet() {
-    this.#glue.room(1);
-    return NOT_YET;
+  /** Disposes of a root, and has called nobody yet: whether `goOn` is to do that. */
+  dispose(node) {
+    this.line = null;
+    if (this.#lingering !== null) this.#goesOn();
+    this.#make(DISPOSE, node, 0, 0, true);
+    return this.#a[HANDED_AT] !== 0 || this.#a[CLOSED_AT] !== 0;
   }
+  goOn() { this.#does(undefined); }
   /** Closes all that is open: each command one root, connection or lease. What is opened meanwhile stays. */
   shut() {
     for (let many = this.totals().nodes; many > 0 && this.#ends(SHUT, NOWHERE) === DONE; many--) if (this.totals().nodes === 0) break;
   }
-  #ends(what, node) {
-    this.line = null;
-    this.#begins();
-    return this.#make(what, node, 0, 0) || this.#act(undefined);
-  }
-  #isRoomy() {
-    try { this.#glue.all(0); } catch { return false; }
-    return true;
-  }
-  // The same in one crossing with the first effect, where there is room for all.
-  #endsNow(what, node, value) {
-    this.line = null;
-    this.#begins();
-    let status;
-    try { status = this.#glue.end(what, node.slot, node.top, node.lo, node.hi, what === ERROR ? this.#values.next() : 0); } catch (error) { throw this.#failed(error); }
-    this.#made++;
-    if (this.#a.length === 0) this.#look();
-    if (status !== DONE) {
-      if (status !== UNTAKEN) return status;
-      this.#untaken();
-      return this.#endsNow(what, node, value);
-    }
-    return this.#e[8] === 0 ? this.#act(value) : this.#ended(value);
-  }
-  // All of the answer and of the effect is read before anything is called.
-  #ended(value) {
-    const a = this.#a, e = this.#e, low = a[36], high = a[37], closed = a[14], user = e[0], kind = e[6], word = e[7] ? e[2] : 0;
-    if (a[12] !== 0) this.#values.keep(value, a[12]);
-    this.#lastMade = -1;
-    this.#depth++;
-    if (closed !== 0) this.#close(closed);
-    const made = this.#made, is_last = this.#tell(user, kind, word ? this.#values.give(word) : undefined, low, high);
-    if (is_last === true && (kind === 4 || kind === 5) && this.#made === made) this.#leave(low, high); else this.#serve(low, high);
-    this.#end();
-    return DONE;
-  }
-  #fails(what, node, error) {
-    this.line = null;
-    this.#begins();
-    return this.#make(what, node, 0, THE_NEXT) || this.#act(error);
-  }
 
   /** Something of the package's own that is done behind whatever the node's lane has. */
   put(node, act) {
-    this.#begins();
+    this.begins();
     const word = this.#things.take(new Errand(act));
     let status = -1;
     try { status = this.#make(PUT, node, word, THE_NEXT); } finally { if (status !== DONE) this.#things.free(word); }
-    if (status === DONE) this.#act(undefined);
+    this.#does(undefined);
     return status;
   }
 
-  // What a command came to: closings first, then what was handed out, then each lane.
+  // What a command came to: values are kept, closings acted on, and then what was handed out is told, and what comes behind that.
 
-  #act(value) {
-    const a = this.#a, copies = a[12], closed = a[14], due = a[16];
-    if (a[18] !== 0) return this.#handed(value);
-    if (copies !== 0) {
+  #does(value) {
+    const a = this.#a, copies = a[COPIES_AT], closed = a[CLOSED_AT], is_handed = a[HANDED_AT] !== 0;
+    if (copies === 0 && closed === 0 && !is_handed) return;
+    const is_own = is_handed && a[OWN_AT] !== 0, is_told = is_handed && this.#is_begun, user = a[USER_AT], kind = a[KIND_AT];
+    if (copies !== 0 && !is_own) {
       this.#values.keep(value, copies);
       this.#queued += copies;
     }
-    if (closed === 0 && due === 0) return DONE;
-    if (due <= 1) {
-      const low = a[36], high = a[37];
-      if (closed !== 0) this.#close(closed);
-      if (due !== 0) this.#begin(low, high);
-      return DONE;
-    }
-    const lanes = insideFirst(this.#rest(36, due, 1));
+    const it = is_own ? value : is_told && a[CARRIES_AT] !== 0 ? this.#values.give(a[VALUE_AT]) : undefined;
+    if (kind === 0 && is_told && !is_own) this.#toldOne();
+    this.#depth++;
     if (closed !== 0) this.#close(closed);
-    this.#serveAll(lanes);
-    return DONE;
-  }
-
-  // The effect of an answer, told at once where there is room.
-  #handed(value) {
-    const a = this.#a, low = a[36], high = a[37], user = a[52], kind = a[58], word = a[59] !== 0 ? a[54] : 0;
-    if (a[12] !== 0) this.#values.keep(value, a[12]);
-    value = word !== 0 ? this.#values.give(word) : undefined;
-    if (a[14] !== 0) this.#close(a[14]);
-    this.#depth++;
-    try { this.#glue.all(0); } catch (error) {
-      if (this.dead !== null) throw error;
-      this.#depth--;
-      this.#postpone(() => {
-        this.#tell(user, kind, value, low, high);
-        this.#serve(low, high);
-      });
-      return DONE;
+    if (is_told) {
+      this.#tell(user, kind, it);
+      return this.#goesOn();
     }
-    // a projection that has let its lane go leaves nothing to serve
-    if (this.#tell(user, kind, value, low, high) !== true || kind !== 1) this.#serve(low, high);
-    this.#end();
-    return DONE;
+    if (is_handed) this.#postpone();
+    this.#over();
   }
 
-  // A lane of which all was told, and into which nothing can have come, since no command was made: it is left with the next call.
-  #leave(low, high) {
-    if (this.#left.length === 0) this.#look();
-    const left = this.#left;
-    left[0] = low, left[1] = high, left[2] = 1;
+  // Tells what else there is for this call, which is over then.
+  #goesOn() {
+    this.#lingering = null;
+    this.#tellsRest();
+    this.#over();
   }
-
-  #begin(low, high) {
-    this.#depth++;
-    this.#serve(low, high);
-    this.#end();
+  #tellsRest() {
+    for (;;) {
+      let is_handed;
+      try { is_handed = this.#glue.goOn(this.#depth); } catch (error) { throw this.#failed(error); }
+      if (is_handed === 0) return;
+      this.#tellsNext();
+    }
   }
-  #end() {
+  #tellsNext() {
+    if (this.#a.length === 0) this.#look();
+    const a = this.#a, kind = a[KIND_AT];
+    if (kind === 0) this.#toldOne();
+    this.#tell(a[USER_AT], kind, a[CARRIES_AT] !== 0 ? this.#values.give(a[VALUE_AT]) : undefined);
+  }
+  #over() {
     if (--this.#depth > 0) return;
     this.#level = this.#ofLevel = this.#queued = 0;
     if (this.#postponed !== null) this.#resume();
@@ -440,32 +303,11 @@ export class Crossing {
     this.#ofLevel--;
   }
 
-  /** Serves each of the lanes (a list of their halves), until it has nothing. */
-  #serveAll(lanes) {
-    if (lanes.length === 0) return;
-    this.#depth++;
-    for (let i = 0; i < lanes.length; i += 2) this.#serve(lanes[i], lanes[i + 1]);
-    this.#end();
-  }
-
-  // A list of the answer, both halves of each word: the first eight stand in it. First of all that is read of it.
-  #rest(at, count, which) {
-    const found = [];
-    for (let i = 0; i < count && i < 8; i++) found.push(this.#a[at + 2 * i], this.#a[at + 2 * i + 1]);
-    while (found.length < 2 * count) {
-      const { engine, words, count: told } = this.#places;
-      this.#wasm.cellar_rest(engine, which, BigInt(found.length / 2), words, BigInt(LAYOUT.room), told);
-      for (let i = 0; i < 2 * this.#e[8]; i++) found.push(this.#words[i]);
-    }
-    return found;
-  }
-
   #close(count) {
-    if (count === 1) return this.#closeOne(this.#a[20]);
-    const words = this.#rest(20, count, 0), things = [];
-    for (let i = 0; i < words.length; i += 2) things.push(this.#things.get(words[i]));
+    if (count === 1) return this.#closeOne(this.#a[CLOSINGS_AT]);
+    const words = this.#closings(count), things = words.map((it) => this.#things.get(it));
     for (const thing of things) thing.shut();
-    for (let i = 0; i < things.length; i++) this.#drop(words[2 * i], things[i]);
+    for (let i = 0; i < things.length; i++) this.#drop(words[i], things[i]);
     for (const thing of things) if (thing.leaves !== null) thing.leaves(thing);
   }
   #closeOne(word) {
@@ -474,33 +316,27 @@ export class Crossing {
     this.#drop(word, thing);
     if (thing.leaves !== null) thing.leaves(thing);
   }
+  // The words of all that the command closed: the first stand in the answer. First of all that is read of it.
+  #closings(count) {
+    const found = [];
+    for (let i = 0; i < count && i < SHOWN; i++) found.push(this.#a[CLOSINGS_AT + 2 * i]);
+    while (found.length < count) {
+      const { engine, words, count: told } = this.#places, many = Math.min(count - found.length, LAYOUT.room);
+      this.#wasm.cellar_closings(engine, BigInt(found.length), words, BigInt(many), told);
+      for (let i = 0; i < many; i++) found.push(this.#words[2 * i]);
+    }
+    return found;
+  }
 
   #drop(word, thing) { if (--thing.owed === 0) this.#things.free(word); }
 
-  // A lane that cannot be served for want of stack is served once there is more.
-  #serve(low, high) {
-    this.#lastMade = -1;
-    for (let is_first = true; ; is_first = false) {
-      let count;
-      try { count = this.#taken(low, high, is_first); } catch (error) {
-        const why = this.#failed(error);
-        if (this.dead !== null) throw why;
-        return this.#postpone(() => this.#serve(low, high));
-      }
-      if (count === 0) return;
-      const e = this.#e, kind = e[6], made = this.#made;
-      if (kind === 0) this.#toldOne();
-      const it = this.#tell(e[0], kind, e[7] ? this.#values.give(e[2]) : undefined, low, high);
-      // a root alone is told nothing more in its lane once it is gone and what it held is released
-      if (it === true && (kind === 4 || kind === 5) && this.#made === made) return this.#leave(low, high);
-    }
-  }
-
   /** What cannot be done for want of stack is done once there is more: with the next command, or in a turn of its own. */
   #postpone(act) {
-    if (this.#postponed !== null) return void this.#postponed.push(act);
-    this.#postponed = [act];
-    queueMicrotask(() => { if (this.#depth === 0 && this.#postponed !== null) this.#resume(); });
+    if (this.#postponed === null) {
+      this.#postponed = [];
+      queueMicrotask(() => { if (this.#depth === 0 && this.#postponed !== null) this.#resume(); });
+    }
+    if (act !== undefined) this.#postponed.push(act);
   }
   /** Does it, or later where there is no room for it. */
   surely(act) {
@@ -515,67 +351,63 @@ export class Crossing {
 
   // The stack may still be as full: then all of it stays for a turn of its own.
   #resume() {
-    try { this.#glue.all(0); } catch { return; }
+    let is_handed;
+    try { is_handed = this.#glue.go(1); } catch (error) {
+      const why = this.#failed(error);
+      if (this.dead !== null) throw why;
+      return;
+    }
     const acts = this.#postponed;
     this.#postponed = null;
-    this.#depth++;
+    this.#depth = 1;
+    if (is_handed !== 0) this.#tellsNext();
+    this.#tellsRest();
     for (const act of acts) try { act(); } catch (error) { this.#report(error); }
-    this.#depth--;
+    this.#tellsRest();
+    this.#depth = 0;
   }
 
   // No effect is lost by what another one throws: each catches what it calls, and what is left is reported.
-  #tell(user, kind, value, low, high) {
+  #tell(user, kind, value) {
     const thing = this.#things.get(user);
     try {
       switch (kind) {
         case 0: return thing.hears.hear(value);
-        case 1: return thing.body.project(thing, value, new Lane(low, high));
-        case 2: case 3: return this.#tellEnd(user, thing, kind, value, new Lane(low, high));
-        case 4: return this.#tellGone(user, thing);
-        case 5: return this.#drop(user, thing), thing.release(), thing.root !== null && thing.root.alone === GONE_WITH_ONE;
-        case 6: return this.#drop(user, thing), thing.act(new Lane(low, high));
+        case 1: return thing.body.project(thing, value);
+        case 2: return this.#drop(user, thing), thing.hears.heardEnd(this.#depth);
+        case 3: return this.#drop(user, thing), thing.hears.heardError(value, this.#depth);
+        case 4: return this.#drop(user, thing), thing.hears.heardGone();
+        case 5: return this.#drop(user, thing), thing.release();
+        case 6: return this.#drop(user, thing), thing.act();
         case 7: return this.#drop(user, thing);
       }
     } catch (error) { this.#report(error); }
-  }
-
-  #tellGone(user, thing) {
-    this.#drop(user, thing);
-    if (thing.alone === WITH_ONE) thing.alone = GONE_WITH_ONE;
-    thing.hears.heardGone();
-    return thing.alone === BARE;
-  }
-  #tellEnd(user, thing, kind, value, lane) {
-    this.#drop(user, thing);
-    if (kind === 2) thing.hears.heardEnd(lane); else thing.hears.heardError(value, lane);
   }
 
   #report(error) {
     try { (this.#realm.report ?? later)(error); } catch { this.#postpone(() => (this.#realm.report ?? later)(error)); }
   }
 
-  /** Lets a lane go in the midst of serving it, so that a projection from within an inner observable comes at once. Whether it has something. */
-  giveUp({ low, high }) {
-    this.#made++;
-    for (;;) {
-      let count;
-      try { count = this.#glue.giveUp(low, high); } catch (error) { throw this.#failed(error); }
-      if (count !== OF_ANOTHER) return count !== 0;
-      const e = this.#e;
-      this.#tellOn(e[0], e[6], e[7] ? this.#values.give(e[2]) : undefined);
+  /** Lets others go on behind the projection that is being told, so that one from within an inner observable comes at once. */
+  letGo() { this.#pass(this.#depth, 0); }
+  #pass(depth, now) { try { this.#glue.pass(this.#depth + 1, depth, now); } catch (error) { throw this.#failed(error); } }
+  /** Tells what stands behind the end that is being told by the call of this depth: what was held is released now. Where there is no room it is once the
+   *  end has been told. */
+  releases(depth) {
+    try {
+      this.#glue.all(0);
+      this.#pass(depth, 1);
+    } catch (error) {
+      if (this.dead !== null) throw error;
+      return;
     }
-  }
-  /** Serves what stands behind the end that is being told in a lane: what was held is released now. Where there is no room it is once that has been told. */
-  goOn(lane) {
-    let is_left = false;
-    try { is_left = this.giveUp(lane); } catch (error) { if (this.dead !== null) throw error; }
-    if (is_left) this.#serve(lane.low, lane.high);
+    this.#depth++;
+    this.#goesOn();
   }
 
   // What the engine can say of itself.
 
   totals() {
-    this.#taken(-1, -1, true); // leaves the lane that is left with the next call
     this.#wasm.cellar_totals(this.#places.engine, this.#places.words);
     if (this.#c.length === 0) this.#look();
     const words = new BigUint64Array(this.#wasm.memory.buffer, Number(this.#places.words), 8);
@@ -613,10 +445,3 @@ class Errand {
 /** A key that names nothing. */
 export const NOWHERE = { slot: -1, top: -1, lo: -1, hi: -1 };
 const later = (error) => { setTimeout(() => { throw error; }); };
-// What is released within a lane that is being served comes before what is projected, so that nothing is made before it. The highest bit
-// of a lane's name says so.
-function insideFirst(lanes) {
-  const inside = [], others = [];
-  for (let i = 0; i < lanes.length; i += 2) (lanes[i + 1] < 0 ? inside : others).push(lanes[i], lanes[i + 1]);
-  return inside.length ? inside.concat(others) : lanes;
-}

@@ -14,35 +14,28 @@ const list = (items) => [...unsigned(items.length), ...items.flat()];
 const sized = (body) => [...unsigned(body.length), ...body];
 const section = (number, items) => [number, ...sized(list(items))];
 
-const I32 = 0x7f, I64 = 0x7e, FUNCTION = 0, MEMORY = 2, GLOBAL = 3, IF = [0x04, 0x40], END = [0x0b], DROP = [0x1a], RETURN = [0x0f];
+const I32 = 0x7f, I64 = 0x7e, FUNCTION = 0, MEMORY = 2, GLOBAL = 3, IF = [0x04, 0x40], END = [0x0b], DROP = [0x1a];
 const LOAD_WIDE = [0xfd, 0, 4], STORE_WIDE = [0xfd, 11, 4, 0], ADD_WIDE = [0xfd, 0xce, 1];
-const ELSE = [0x05], MORE = [0x4a], LESS_ONE = [0x41, 1, 0x6b], SHIFT = [0x86], OR = [0x84], LONG = [0xad];
+const ELSE = [0x05], MORE = [0x4a], LESS_ONE = [0x41, 1, 0x6b], LONG = [0xad];
 const type = (from, to) => [0x60, ...list(from.map((it) => [it])), ...list(to.map((it) => [it]))];
 const get = (n) => [0x20, ...unsigned(n)], call = (n) => [0x10, ...unsigned(n)];
-const constant = (n) => [0x41, ...signed(n)], long = (n) => [0x42, ...signed(n)];
-const set = (n) => [0x21, ...unsigned(n)], isNone = [0x45], isSameLong = [0x51], isAtMostLong = [0x58], BOTH = [0x71];
+const constant = (n) => [0x41, ...signed(n)];
 const global = (n) => [0x23, ...unsigned(n)], setGlobal = (n) => [0x24, ...unsigned(n)];
-const load64 = (at) => [0x29, 3, ...unsigned(at)];
+const load64 = (at) => [0x29, 3, ...unsigned(at)], store64 = (at) => [0x37, 3, ...unsigned(at)];
 const load32 = (at) => [0x28, 2, ...unsigned(at)], store32 = (at) => [0x36, 2, ...unsigned(at)];
 const code = (locals, ...body) => sized([...list(locals), ...body.flat(), ...END]);
 
 // Numbers of functions and of globals, and of a command's fields.
-const MAKE = 0, TAKE = 1, GIVE_UP = 2, MAKE_BEHIND = 3, ROOM = 4, TAKES = 5, TAKES_ON = 10, MAKE_NEXT = 14, ALL = 15;
-const CLOSED_AT = 56, DUE_AT = 64, LANES_AT = 144, SHOWN = 8; // bytes within an answer, and how many of a list stand in it
-const BASE = 0, ENGINE = 1, COMMAND = 2, ANSWER = 3, EFFECT = 4, COUNT = 5, ENTERED = 6;
-/** Bytes behind the base at which the engine's handle, a command, an answer, an effect, a count and the lane that is left stand. */
-export const LAYOUT = { engine: 0, command: 64, answer: 128, effect: 384, count: 416, left: 432, words: 448, room: 64 };
+const STEP_CALL = 0, NEXT_CALL = 1, PASS_CALL = 2, ROOM = 3, GIVES = 4, GOES_ON = 5, ALL = 12;
+const BASE = 0, ENGINE = 1, STACK = 2, COMMAND = 3, STEPPED = 4, ENTERED = 5;
+/** Bytes behind the base at which the engine's handle, a command, what a step answers, the stack of calls, a count and words stand. */
+export const LAYOUT = { engine: 0, command: 64, stepped: 128, stack: 320, count: 352, words: 448, room: 64 };
 const field = (at, value) => [...global(BASE), ...value, ...store32(LAYOUT.command + at)];
-const leftEngine = [...constant(0), ...setGlobal(ENTERED)], entering = (...it) => [...constant(1), ...setGlobal(ENTERED), ...it.flat(), ...leftEngine];
-const lane = [...get(1), ...LONG, ...long(32), ...SHIFT, ...get(0), ...LONG, ...OR]; // of its two halves
-const left = (at) => [...global(BASE), ...load32(LAYOUT.left + at)];
-// The lane that was told all is left with the next command, or before anything else is taken or given up. If something is in it, nothing else is done:
-// what stands first is answered with OF_ANOTHER, or by a command with its own status.
-const forgetLeft = [...global(BASE), ...constant(0), ...store32(LAYOUT.left + 8)];
-const leftLane = [...left(4), ...LONG, ...long(32), ...SHIFT, ...left(0), ...LONG, ...OR];
-/** What a taking answers that has found an effect in the lane that it leaves. */
-export const OF_ANOTHER = 2;
-const leaving = [...left(8), ...IF, ...forgetLeft, ...left(0), ...left(4), ...call(TAKES), ...IF, ...leftEngine, ...constant(OF_ANOTHER), ...RETURN, ...END, ...END];
+const entering = (...it) => [...constant(1), ...setGlobal(ENTERED), ...it.flat(), ...constant(0), ...setGlobal(ENTERED)];
+const handed = [...global(BASE), ...load32(LAYOUT.stepped + 128)];
+// What was handed out is begun.
+const begun = [...handed, ...IF, ...global(BASE), ...global(BASE), ...load64(LAYOUT.stepped + 144), ...store64(LAYOUT.stack + 16), ...END];
+const isSoDeep = [...global(BASE), ...get(0), ...store32(LAYOUT.stack + 8)];
 const roomy = (n) => [...constant(n), ...call(n === 2 ? ALL : ROOM)];
 
 /** A function with a frame of so many bytes, which does what is `next` with a number that is not too large. */
@@ -65,41 +58,29 @@ function large(frame, next) {
   return bytes;
 }
 
-// A command with the first effect of its lane, if it was done, the lane is one, and all that it closed stands in the answer; else the count is 0.
-const makesAndTakes = (status) => entering(call(MAKE_NEXT), set(status), firstTaken(status));
-const inAnswer = (at) => [...global(BASE), ...load64(LAYOUT.answer + at)];
-const firstTaken = (status) => [...global(BASE), ...constant(0), ...store32(LAYOUT.count), ...get(status), ...isNone, ...inAnswer(DUE_AT), ...long(1), ...isSameLong, ...BOTH,
-  ...inAnswer(CLOSED_AT), ...long(SHOWN), ...isAtMostLong, ...BOTH, ...IF,
-  ...global(ENGINE), ...inAnswer(LANES_AT), ...long(0), ...global(EFFECT), ...global(COUNT), ...call(TAKE), ...DROP, ...END];
-const nodeFields = [16, 20, 24, 28].map((at, i) => field(at, get(i + 1))).flat(); // the four parts of its key
-const makes = entering(call(MAKE_NEXT));
-const EXPORTS = { room: ROOM, make: 6, open: 7, next: 8, take: 9, takeOn: TAKES_ON, giveUp: 11, end: 12, dispose: 13, all: ALL };
+const nodeFields = [16, 20, 24, 28].map((at, i) => field(at, get(i + 2))).flat(); // the four parts of its key
+const EXPORTS = { room: ROOM, make: 6, open: 7, step: 8, next: 9, goOn: GOES_ON, go: 10, pass: 11, all: ALL };
 const header = () => [0, 0x61, 0x73, 0x6d, 1, 0, 0, 0,
-  ...section(1, [type([I64, I64, I64], [I32]), type([I64, I64, I64, I64, I64], [I32]), type([I64, I64, I64, I64, I64, I64], [I32]),
-    type([I32], []), type([], [I32]), type([I32, I32, I32, I32, I32, I32], [I32]), type([I32, I32], [I32]), type([I32, I32, I32, I32, I32], [I32]), type([I64, I64, I64, I64], [I32])]),
+  ...section(1, [type([I64, I64, I64, I64], [I32]), type([I64, I64, I64], [I32]), type([I64, I64, I64, I32], [I32]), type([I32], []), type([I32], [I32]),
+    type([I32, I32, I32, I32, I32, I32, I32], [I32]), type([I32, I32, I32], [])]),
   ...section(2, [
-    ...['cellar_make', 'cellar_take', 'cellar_give_up', 'cellar_make_behind'].map((it, i) => [...text('e'), ...text(it), FUNCTION, i < 3 ? i : 8]), [...text('e'), ...text('memory'), MEMORY, 0, 0],
-    ...['base', 'engine', 'command', 'answer', 'effect', 'count'].map((it) => [...text('e'), ...text(it), GLOBAL, it === 'base' ? I32 : I64, 0])]),
-  ...section(3, [[3], [6], [4], [4], [5], [6], [6], [6], [5], [7], [4], [3]]),
+    ...['cellar_step', 'cellar_next', 'cellar_pass'].map((it, i) => [...text('e'), ...text(it), FUNCTION, i]), [...text('e'), ...text('memory'), MEMORY, 0, 0],
+    ...['base', 'engine', 'stack', 'command', 'stepped'].map((it) => [...text('e'), ...text(it), GLOBAL, it === 'base' ? I32 : I64, 0])]),
+  ...section(3, [[3], [4], [4], [4], [4], [4], [5], [4], [6], [3]]),
   ...section(6, [[I32, 1, ...constant(0), ...END]]),
   ...section(7, [...Object.entries(EXPORTS).map(([name, n]) => [...text(name), FUNCTION, n]), [...text('entered'), GLOBAL, ENTERED]]),
 ];
+// Each has first how many calls are under way, this one included.
 const small = () => [
-    code([], global(ENGINE), lane, long(0), global(EFFECT), global(COUNT), call(TAKE), DROP, global(BASE), load32(LAYOUT.count)),
-    code([], roomy(0), makes), // a command that was written
-    code([], roomy(1), makes), // an opening
+    code([], isSoDeep, entering(global(ENGINE), global(STACK), global(COMMAND), global(STEPPED), call(STEP_CALL))),
+    code([], isSoDeep, entering(global(ENGINE), global(STACK), global(STEPPED), call(NEXT_CALL), DROP), begun, handed), // what comes next, where the depth has been looked at
+    code([], roomy(0), get(0), call(GIVES)), // a command that was written
+    code([], roomy(1), get(0), call(GIVES)), // one that wants more
+    code([], roomy(2), get(0), call(GIVES), begun), // one with all that it leads to
     // an item: what and flags, the four parts of the node's key, the value's word
-    code([], roomy(2), field(0, get(0)), nodeFields, field(32, constant(0)), field(40, get(5)), makes),
-    code([], roomy(2), get(0), get(1), call(TAKES_ON)), // the next effect of a lane; and of one that has been looked at from the same depth
-    code([], entering(leaving, get(0), get(1), call(TAKES))),
-    code([], roomy(0), entering(leaving, global(ENGINE), lane, long(0), global(EFFECT), long(0), global(COUNT), call(GIVE_UP), DROP),
-      global(BASE), load32(LAYOUT.count)),
-    // what ends something, where the depth has been looked at: as an item, and the first effect of it
-    code([[1, I32]], field(0, get(0)), nodeFields, field(32, constant(0)), field(40, get(5)), makesAndTakes(6), get(6)),
-    code([[1, I32]], roomy(2), field(0, get(0)), nodeFields, makesAndTakes(5), get(5)), // a disposal, where there is room for all that it leads to
-    // a command, and with it the lane is left that was told all
-    code([[1, I32]], left(8), IF, forgetLeft, global(ENGINE), leftLane, global(COMMAND), global(ANSWER), call(MAKE_BEHIND), set(0),
-      ELSE, global(ENGINE), global(COMMAND), global(ANSWER), call(MAKE), set(0), END, get(0)),
+    code([], roomy(2), field(0, get(1)), nodeFields, field(32, constant(0)), field(40, get(6)), get(0), call(GIVES), begun),
+    code([], roomy(2), get(0), call(GOES_ON)),
+    code([], roomy(0), isSoDeep, entering(global(ENGINE), global(STACK), get(1), LONG, get(2), call(PASS_CALL), DROP)), // of the call so deep, and whether now
 ];
 /** The bytes of the module. */
 export function glue() {

@@ -21,18 +21,14 @@ class Projects {
   /** What is released before an end within it is counted: all up to here. */
   innerOf() { return MERGED; }
 
-  // The lane of projections is let go before the inner observable is opened, so that what that tells from within comes at once.
-  start(thing, value, lane) {
+  // Others go on before the inner observable is opened, so that what that tells from within comes at once.
+  start(thing, value) {
     let inner;
-    try { inner = innerFrom(this.call(value, this.index++)); } catch (error) {
-      realm.engine.fail(thing, error);
-      return false;
-    }
-    const is_left = lane === null || realm.engine.giveUp(lane);
+    try { inner = innerFrom(this.call(value, this.index++)); } catch (error) { return realm.engine.fail(thing, error); }
+    realm.engine.letGo();
     openAt(inner, this.place);
-    return !is_left;
   }
-  project(thing, value, lane) { return this.start(thing, value, lane); }
+  project(thing, value) { this.start(thing, value); }
   shut() {}
 }
 
@@ -41,20 +37,19 @@ class Projects {
 class Switches extends Projects {
   holds = false;
   innerOf(inner) { return inner; }
-  start(thing, value, lane) {
+  start(thing, value) {
     let at = this.place, inner;
     try {
       if (this.holds) at = openPass(at);
-      if (at === null) return false;
+      if (at === null) return;
       inner = innerFrom(this.call(value, this.index++));
     } catch (error) {
       if (at === this.place) realm.engine.fail(thing, error); else failAt(at, error);
-      return false;
+      return;
     }
     this.holds = !isBare(inner);
-    const is_left = realm.engine.giveUp(lane);
+    realm.engine.letGo();
     openAt(inner, at);
-    return !is_left;
   }
 }
 /** Whether it is a subject, through functions on items alone: who hears that holds nothing. */
@@ -76,21 +71,20 @@ class Bounded extends Projects {
   opened(thing, inner) {
     this.place = new Place(INNER, thing, null, this.way, () => {
       this.active--;
-      if (this.waiting.length && !this.is_over) realm.engine.surely(() => realm.engine.put(thing, (lane) => this.goOn(thing, lane)));
+      if (this.waiting.length && !this.is_over) realm.engine.surely(() => realm.engine.put(thing, () => this.goOn(thing)));
     }, this.innerOf(inner));
   }
-  project(thing, value, lane) {
-    if (this.active < this.bound) return this.start(thing, value, lane);
-    this.waiting.push(value);
-    return false;
+  project(thing, value) {
+    if (this.active < this.bound) this.start(thing, value);
+    else this.waiting.push(value);
   }
-  start(thing, value, lane) {
+  start(thing, value) {
     this.active++;
-    return super.start(thing, value, lane);
+    super.start(thing, value);
   }
-  goOn(thing, lane) {
-    realm.engine.giveUp(lane);
-    while (this.waiting.length && this.active < this.bound && !this.is_over) this.start(thing, this.waiting.shift(), null);
+  goOn(thing) {
+    realm.engine.letGo();
+    while (this.waiting.length && this.active < this.bound && !this.is_over) this.start(thing, this.waiting.shift());
   }
   shut() {
     this.is_over = true;
@@ -101,10 +95,9 @@ class Bounded extends Projects {
 /** One at a time; what comes meanwhile is left out. */
 class Exhausts extends Bounded {
   innerOf(inner) { return inner; }
-  project(thing, value, lane) {
-    if (this.active === 0) return this.start(thing, value, lane);
-    realm.engine.decline(thing);
-    return false;
+  project(thing, value) {
+    if (this.active === 0) this.start(thing, value);
+    else realm.engine.decline(thing);
   }
 }
 

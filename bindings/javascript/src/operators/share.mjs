@@ -1,8 +1,8 @@
 // One subscription for many: a share of the engine, or a subject that a program chose.
-import { DONE, HUB_ORDER, NO_HUB, ROOT, SOURCE } from '../engine/codes.mjs';
+import { DONE, HUB_ORDER, NO_HUB, ROOT, SHARED, SOURCE } from '../engine/codes.mjs';
 import { Tag, Thing } from '../engine/thing.mjs';
 import { TERMINAL } from '../core/leaf.mjs';
-import { Place, linked, openAt, openShare, openUsing } from '../core/place.mjs';
+import { Place, linked, openAt, openNode, openUsing } from '../core/place.mjs';
 import { operate, operator } from '../core/operator.mjs';
 import { SafeSubscriber } from '../core/subscriber.mjs';
 import { ReplaySubject } from '../core/replay-subject.mjs';
@@ -41,7 +41,7 @@ function shared() {
       const place = at._place === ROOT && at._way === TERMINAL ? at : linked(at);
       if (place === null || place._hears.closed) return;
       if (many === 0) {
-        if (openShare(place, share)) {
+        if (openNode(place, SHARED, null, null, share) !== null) {
           const { connection } = share;
           share.connection = null;
           if (connection !== null) openAt(it, new Place(SOURCE, connection));

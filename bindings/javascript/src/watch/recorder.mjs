@@ -1,11 +1,12 @@
-// An engine of its own that only writes down: commands, and whose effects are taken and told to nobody.
+// An engine of its own that only writes down: commands, and whose effects are told to nobody.
 import { compiled } from '../engine/load.mjs';
 
 const OPEN = 0, HOLD = 2, NEXT = 3, COMPLETE = 4, ERROR = 5, FAIL = 6, DECLINE = 7, DISPOSE = 8, CONNECT = 9, DISCONNECT = 10, REMOVE = 15, LEASE = 16, GIVE_BACK = 17;
 const WISHES = 1, NO_LEASE = 30, SMALL = 7, WHOLE = 0xFFFFFFFF;
-// Bytes behind the base; and fields of 64 bits of a command and of an answer.
-const COMMAND = 64, ANSWER = 128, EFFECT = 384, COUNT = 416, WORDS = 448, ROOM = 64, SIZE = 1024;
-const HUB = 1, NODE = 2, USER = 4, VALUE = 5, OTHER = 2, IS_CONNECTED = 4, TOLD_HUB = 5, CLOSED = 7, DUE = 8, CLOSINGS = 10, LANES = 18, SHOWN = 8;
+// Bytes behind the base; and fields of 64 bits of a command, of what it comes to, and of the stack of calls.
+const COMMAND = 64, STEPPED = 128, STACK = 320, COUNT = 352, WORDS = 448, ROOM = 64, SIZE = 1024;
+const HUB = 1, NODE = 2, USER = 4, VALUE = 5, OTHER = 2, IS_CONNECTED = 4, TOLD_HUB = 5, CLOSED = 7, CLOSINGS = 8, SHOWN = 8, HANDED = 16, TICKET = 18;
+const DEPTH = 1, BEGUN = 2;
 const NOWHERE = { slot: 0n, number: 0n }, UNKNOWN = 2n ** 64n - 1n;
 const module = await compiled();
 
@@ -20,6 +21,7 @@ export class Recorder {
     new Uint8Array(this.#wasm.memory.buffer, Number(this.#base), SIZE).fill(0);
     const status = this.#wasm.cellar_new(this.#base, WHOLE);
     if (status) throw new Error(`cellarcliff: no engine was made (${status})`);
+    this.#long(STACK, 3)[DEPTH] = 1n;
   }
 
   open(place, kind, above, thing, hub = null) {
@@ -85,24 +87,28 @@ export class Recorder {
     const command = this.#long(COMMAND, 8);
     command.fill(0n);
     command[0] = BigInt(what), command[HUB] = hub, command[NODE] = node.slot, command[NODE + 1] = node.number, command[USER] = user, command[VALUE] = value;
-    const status = this.#wasm.cellar_make(this.#base, this.#base + BigInt(COMMAND), this.#base + BigInt(ANSWER));
+    const [stack, stepped] = [STACK, STEPPED].map((at) => this.#base + BigInt(at));
+    const status = this.#wasm.cellar_step(this.#base, stack, this.#base + BigInt(COMMAND), stepped);
     if (status !== 0) return status;
-    const answer = this.#long(ANSWER, 32);
+    const answer = this.#long(STEPPED, 24);
     read(answer);
-    const closed = this.#list(answer[CLOSED], CLOSINGS, 0n), lanes = this.#list(answer[DUE], LANES, 1n);
+    const closed = this.#closings(Number(answer[CLOSED]));
     for (const word of closed) {
       this.#hears(this.#things.get(word));
       this.#things.delete(word);
     }
-    for (const lane of lanes) do this.#wasm.cellar_take(this.#base, lane, 0n, this.#base + BigInt(EFFECT), this.#base + BigInt(COUNT)); while (this.#long(COUNT, 1)[0] !== 0n);
+    for (let it; (it = this.#long(STEPPED, 24))[HANDED] !== 0n;) {
+      this.#long(STACK, 3)[BEGUN] = it[TICKET];
+      this.#wasm.cellar_next(this.#base, stack, stepped);
+    }
     return 0;
   }
 
-  // A list of the answer: the first of it stand there.
-  #list(many, at, which) {
-    const found = [...this.#long(ANSWER + 8 * at, Math.min(Number(many), SHOWN))];
+  // The words of what the command closed: the first of them stand in the answer.
+  #closings(many) {
+    const found = [...this.#long(STEPPED + 8 * CLOSINGS, Math.min(many, SHOWN))];
     while (found.length < many) {
-      this.#wasm.cellar_rest(this.#base, Number(which), BigInt(found.length), this.#base + BigInt(WORDS), BigInt(ROOM), this.#base + BigInt(COUNT));
+      this.#wasm.cellar_closings(this.#base, BigInt(found.length), this.#base + BigInt(WORDS), BigInt(ROOM), this.#base + BigInt(COUNT));
       found.push(...this.#long(WORDS, Number(this.#long(COUNT, 1)[0])));
     }
     return found;
