@@ -40,6 +40,10 @@ pub enum Refusal {
 }
 
 impl Refusal {
+    pub(crate) fn unless_done(status: u8) -> Result<(), Refusal> {
+        if status == 0 { Ok(()) } else { Err(Refusal::of(status)) }
+    }
+
     pub(crate) fn of(status: u8) -> Refusal {
         use Refusal::*;
         match status {

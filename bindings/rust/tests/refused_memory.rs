@@ -1,7 +1,7 @@
 //! Memory refused, at each place in turn. What the engine cannot have it answers, and nothing has changed: so for its own requests, which
 //! go to the C library, and for a history that is full. What Rust's own lists cannot have aborts, as everywhere in Rust, and does
 //! nothing else. Each walk ends at the first run in which nothing is refused.
-use cellarcliff::engine::{flag, kind, what, Answer, Command, Crossing, NOTHING};
+use cellarcliff::engine::{flag, kind, what, Command, Crossing, Stack, Stepped, NOTHING};
 use cellarcliff::local::{Observable, Scope, Subject};
 use cellarcliff::Refusal;
 use std::alloc::{GlobalAlloc, Layout};
@@ -81,23 +81,25 @@ pub unsafe extern "C" fn realloc(old: *mut c_void, size: usize) -> *mut c_void {
 
 #[test]
 fn an_engine_that_is_full_refuses_and_closes_all_the_same() {
-    let (mut engine, mut answer) = (Crossing::new(12).unwrap(), Answer::default());
-    let open = Command { what: what::OPEN, kind: kind::LEAF, flags: flag::WISHES, node: NOTHING, by: 1, ..Command::default() };
-    let many = (0..100).take_while(|_| engine.make(&open, &mut answer) == 0).count();
+    let (mut engine, mut step, mut stack) = (Crossing::new(12).unwrap(), Stepped::default(), Stack { by: 1, depth: 1, begun: 0 });
+    let open = Command { what: what::OPEN, kind: kind::LEAF, flags: flag::WISHES, node: NOTHING, ..Command::default() };
+    let many = (0..100).take_while(|_| engine.step(&stack, &open, &mut step) == 0).count();
     assert!(many > 0 && many < 100);
     let before = engine.totals();
-    assert_eq!(engine.make(&open, &mut answer), 16, "{:?}", Refusal::Full);
+    assert_eq!(engine.step(&stack, &open, &mut step), 16, "{:?}", Refusal::Full);
     assert_eq!(engine.totals(), before);
-    let mut closed = 0;
+    let (mut closed, mut told) = (0, 0);
     while engine.totals().nodes > 0 {
         // which closes one of what is open, or all
-        assert_eq!(engine.make(&Command { what: what::SHUT, node: NOTHING, by: 1, ..Command::default() }, &mut answer), 0);
-        closed += engine.closings(&answer).len();
-        for lane in engine.lanes(&answer) {
-            assert!(engine.take(lane, 1).is_some() && engine.take(lane, 1).is_none());
+        assert_eq!(engine.step(&stack, &Command { what: what::SHUT, node: NOTHING, ..Command::default() }, &mut step), 0);
+        closed += engine.closings(&step).len();
+        while step.handed == 1 {
+            told += 1;
+            stack.begun = step.ticket;
+            engine.next(&stack, &mut step);
         }
     }
-    assert_eq!(closed, many);
+    assert_eq!((closed, told), (many, many));
     assert_eq!((engine.totals().nodes, engine.totals().effects, engine.finish()), (0, 0, 0));
 }
 

@@ -1,9 +1,10 @@
 //! The calls of cellarcliff.h in Rust, for the tests of this crate's own code: a small engine that keeps count. It looks at each pointer,
-//! word and handle, and lets no two calls on one handle run at once. A lane is served from when somebody is handed out or takes of it.
+//! word, handle and stack, and lets no two calls on one handle run at once. What no face may rely on it does by chance, if it is made for
+//! a seed: which lane is first, whether an item is handed out at once, how tickets grow.
 #![allow(unsafe_op_in_unsafe_fn)]
 
-use super::ffi::{Answer, Command, Effect, Handle, Key, Totals, ROOM};
-use super::{effect, flag, kind, place, what, INSIDE};
+use super::ffi::{Command, Effect, Handle, Key, Stack, Stepped, Totals};
+use super::{effect, flag, kind, place, what};
 use std::collections::{BTreeMap, BTreeSet, VecDeque};
 use std::sync::{Mutex, MutexGuard, PoisonError};
 
@@ -12,8 +13,6 @@ const CONNECTED: u8 = 24;
 const NOT_CONNECTED: u8 = 25;
 /// An engine of so many events is refused.
 pub(crate) const REFUSED: u32 = 13;
-/// An engine of so many events hands out nothing where something stands before an item in its lane; the others the first that does.
-pub(crate) const STRICT: u32 = 14;
 
 /// The place of a connection, which no command names.
 const CONNECTION: u8 = 9;
@@ -42,6 +41,18 @@ struct Lane {
     server: Option<u64>,
 }
 
+/// A call of a stack: its word and its depth.
+type Turn = (u64, u64);
+
+/// What a turn was handed last, of which lane; of one that is served further out it is handed what is free there, and no more.
+struct Task {
+    lane: u64,
+    is_inside: bool,
+    effect: Effect,
+    ticket: u64,
+    is_begun: bool,
+}
+
 /// What a word is owed: as a root, a FlatMap, a node whose closing is heard, a tag, what was put.
 #[derive(Clone, Copy, PartialEq, Eq, PartialOrd, Ord)]
 enum Role {
@@ -60,15 +71,19 @@ enum Rank {
     Release,
 }
 
+#[derive(Default)]
 struct Counted {
-    is_strict: bool,
+    chance: u64, // 0: none
     nodes: BTreeMap<u64, Node>,
     lanes: Vec<Lane>,
     made: u64,
     owed: BTreeMap<(Role, u64), u64>,
     closings: Vec<u64>,
     comes: Vec<(Rank, u64, Effect)>, // of this command
-    due: Vec<u64>,
+    due: Vec<(u64, bool)>, // the lanes of this command, and whether the caller serves them further out
+    agenda: Vec<(Turn, u64, bool)>,
+    tasks: BTreeMap<Turn, Task>,
+    ticket: u64,
     copies: u64,
     events: u64,
 }
@@ -130,8 +145,8 @@ impl Counted {
         for lane in touched {
             let at = &self.lanes[lane as usize];
             match at.server {
-                None => self.due.push(lane),
-                Some(server) if server == by && !at.front.is_empty() => self.due.push(lane | INSIDE),
+                None => self.due.push((lane, false)),
+                Some(server) if server == by && !at.front.is_empty() => self.due.push((lane, true)),
                 Some(_) => (),
             }
         }
@@ -217,7 +232,7 @@ impl Counted {
         self.lanes.len() as u64 - 1
     }
 
-    fn open(&mut self, it: &Command, answer: &mut Answer) -> u8 {
+    fn open(&mut self, it: &Command, answer: &mut Stepped) -> u8 {
         let is_root = it.place == place::ROOT;
         let named = self.nodes.get(&it.node.number).map(|it| (it.kind, it.lane));
         if named.is_none() && (!is_root || it.flags & flag::LANE_OF_NODE != 0) {
@@ -270,7 +285,7 @@ impl Counted {
         0
     }
 
-    fn perform(&mut self, it: &Command, answer: &mut Answer) -> u8 {
+    fn perform(&mut self, it: &Command, answer: &mut Stepped) -> u8 {
         let (number, by) = (it.node.number, it.by);
         match it.what {
             what::OPEN | what::USING => return self.open(it, answer),
@@ -325,60 +340,101 @@ impl Counted {
         }
     }
 
-    /// What is handed out of an item that is all that comes of its command.
-    fn handed(&mut self, it: &Command, status: u8) -> Option<Effect> {
-        let is_item = status == 0 && it.what == what::NEXT && it.flags & flag::QUEUES == 0 && self.closings.is_empty();
-        let lane = self.due.first().copied().filter(|_| is_item && self.due.len() == 1 && self.copies == 1)?;
-        let at = &self.lanes[(lane & !INSIDE) as usize];
-        if self.is_strict && (at.server.is_some() || at.queue.len() > 1) {
-            return None;
+    /// A number below so many: 0, unless it is made for a seed.
+    fn any(&mut self, below: usize) -> usize {
+        if self.chance == 0 {
+            return 0;
         }
-        self.take(lane, it.by)
+        self.chance = self.chance.wrapping_mul(6_364_136_223_846_793_005).wrapping_add(1_442_695_040_888_963_407);
+        (self.chance >> 33) as usize % below
     }
 
-    fn make(&mut self, it: &Command, answer: &mut Answer) -> u8 {
-        assert_eq!(it.spare, 0);
-        (self.closings, self.due, self.copies) = (vec![], vec![], 0);
-        *answer = Answer::default();
-        let status = self.perform(it, answer);
-        self.spread(it.by);
-        (answer.copies, answer.closed, answer.due) = (self.copies, self.closings.len() as u64, self.due.len() as u64);
-        for (place, word) in self.closings.iter().take(ROOM).enumerate() {
-            answer.closings[place] = *word;
+    /// What this stack began last is begun. It began nothing that was not handed out.
+    fn note(&mut self, stack: &Stack) {
+        assert!(stack.depth > 0 && stack.begun <= self.ticket, "{stack:?}");
+        self.tasks.iter_mut().filter(|it| it.0 .0 == stack.by && it.1.ticket == stack.begun).for_each(|it| it.1.is_begun = true);
+    }
+
+    /// Whether the item of this command, which is all that comes of it, is handed out at once.
+    fn is_own(&mut self, it: &Command, turn: Turn) -> bool {
+        let is_free = !self.tasks.contains_key(&turn) && self.agenda.iter().all(|it| it.0 != turn);
+        let is_alone = it.what == what::NEXT && it.flags & flag::QUEUES == 0 && self.closings.is_empty() && self.copies == 1;
+        let is_first = matches!(self.due[..], [(lane, false)] if self.lanes[lane as usize].queue.len() == 1);
+        is_free && is_alone && is_first && self.any(3) == 0
+    }
+
+    fn step(&mut self, stack: &Stack, command: Option<&Command>, step: &mut Stepped) -> u8 {
+        self.note(stack);
+        *step = Stepped::default();
+        let (turn, mut status) = ((stack.by, stack.depth), 0);
+        if let Some(it) = command {
+            assert_eq!(it.spare, 0);
+            (self.closings, self.due, self.copies) = (vec![], vec![], 0);
+            status = self.perform(&Command { by: stack.by, ..*it }, step);
+            self.spread(stack.by);
+            (step.copies, step.closed) = (self.copies, self.closings.len() as u64);
+            step.closings.iter_mut().zip(&self.closings).for_each(|(to, word)| *to = *word);
+            step.own = self.is_own(it, turn).into();
+            for (lane, is_inside) in std::mem::take(&mut self.due) {
+                self.agenda.retain(|it| it.1 != lane);
+                self.agenda.push((turn, lane, is_inside));
+            }
         }
-        for (place, lane) in self.due.iter().take(ROOM).enumerate() {
-            answer.lanes[place] = *lane;
-        }
-        if let Some(it) = self.handed(it, status) {
-            (answer.handed, answer.effect) = (1, it);
+        if let Some((ticket, effect)) = self.go_on(turn) {
+            (step.handed, step.ticket, step.effect) = (1, ticket, effect);
         }
         status
     }
 
-    fn take(&mut self, lane: u64, by: u64) -> Option<Effect> {
-        let at = &mut self.lanes[(lane & !INSIDE) as usize];
-        if at.server != Some(by) && (at.server.is_some() || lane & INSIDE != 0) {
+    /// The turn is served, then each deeper one of its stack. Nothing is astray, since no call ends in the midst.
+    fn go_on(&mut self, turn: Turn) -> Option<(u64, Effect)> {
+        let has = self.tasks.keys().copied().chain(self.agenda.iter().map(|it| it.0));
+        let deeper: BTreeSet<_> = has.filter(|it| it.0 == turn.0 && it.1 > turn.1).collect();
+        std::iter::once(turn).chain(deeper).find_map(|it| self.serve(it))
+    }
+
+    /// What was not begun is handed out again; then the rest of the lane in hand; then what the lanes have that are due.
+    fn serve(&mut self, turn: Turn) -> Option<(u64, Effect)> {
+        if let Some(it) = self.tasks.get(&turn) {
+            if !it.is_begun {
+                return Some((it.ticket, it.effect));
+            }
+            let (lane, is_inside) = (it.lane, it.is_inside);
+            if let Some(it) = self.hand(turn, lane, is_inside, Some(turn.0)) {
+                return Some(it);
+            }
+            self.tasks.remove(&turn);
+        }
+        loop {
+            let due: Vec<_> = (0..self.agenda.len()).filter(|at| self.agenda[*at].0 == turn).collect();
+            let first = if due.is_empty() { return None } else { due[self.any(due.len())] };
+            let (_, lane, is_inside) = self.agenda.remove(first);
+            if let Some(it) = self.hand(turn, lane, is_inside, is_inside.then_some(turn.0)) {
+                return Some(it);
+            }
+        }
+    }
+
+    fn hand(&mut self, turn: Turn, lane: u64, is_inside: bool, server: Option<u64>) -> Option<(u64, Effect)> {
+        let at = &mut self.lanes[lane as usize];
+        if at.server != server {
             return None;
         }
-        let it = at.front.pop_front().or_else(|| if lane & INSIDE == 0 { at.queue.pop_front() } else { None });
-        match it {
-            Some(it) => {
-                at.server = Some(by);
-                match it.kind {
-                    effect::COMPLETED | effect::FAILED | effect::GONE => self.pay(Role::Hears, it.user),
-                    effect::MERGED => self.pay(Role::Merges, it.user),
-                    effect::RELEASE => self.pay(Role::Tag, it.user),
-                    effect::PUT => self.pay(Role::Put, it.user),
-                    _ => assert!(self.owed.contains_key(&(if it.kind == effect::NEXT { Role::Hears } else { Role::Merges }, it.user))),
-                }
-                Some(it)
-            }
-            None if lane & INSIDE == 0 => {
-                at.server = None;
-                None
-            }
-            None => None,
+        let it = at.front.pop_front().or_else(|| if is_inside { None } else { at.queue.pop_front() });
+        if !is_inside {
+            at.server = it.map(|_| turn.0);
         }
+        let effect = it?;
+        match effect.kind {
+            effect::COMPLETED | effect::FAILED | effect::GONE => self.pay(Role::Hears, effect.user),
+            effect::MERGED => self.pay(Role::Merges, effect.user),
+            effect::RELEASE => self.pay(Role::Tag, effect.user),
+            effect::PUT => self.pay(Role::Put, effect.user),
+            kind => assert!(self.owed.contains_key(&(if kind == effect::NEXT { Role::Hears } else { Role::Merges }, effect.user))),
+        }
+        self.ticket += 1 + self.any(3) as u64;
+        self.tasks.insert(turn, Task { lane, is_inside, effect, ticket: self.ticket, is_begun: false });
+        Some((self.ticket, effect))
     }
 }
 
@@ -399,7 +455,7 @@ pub unsafe extern "C" fn cellar_abi() -> u32 {
 }
 
 pub unsafe extern "C" fn cellar_size(which: u32) -> u32 {
-    [8, 64, 256, 32, 64, 32][which as usize]
+    [8, 64, 0, 32, 64, 32, 24, 192][which as usize]
 }
 
 pub unsafe extern "C" fn cellar_new(engine: *mut Handle, max_events: u32) -> u8 {
@@ -409,38 +465,32 @@ pub unsafe extern "C" fn cellar_new(engine: *mut Handle, max_events: u32) -> u8 
     }
     let mut count = count();
     count.made += 1;
-    let (nodes, owed) = (BTreeMap::new(), BTreeMap::new());
-    let (lanes, closings, comes, due) = (vec![], vec![], vec![], vec![]);
-    let it = Counted { is_strict: max_events == STRICT, nodes, lanes, made: 0, owed, closings, comes, due, copies: 0, events: 0 };
+    let it = Counted { chance: max_events.into(), ..Counted::default() };
     (*engine).at = count.made;
     let at = count.made;
     count.live.insert(at, it);
     0
 }
 
-pub unsafe extern "C" fn cellar_make(engine: *mut Handle, command: *const Command, answer: *mut Answer) -> u8 {
-    call(engine, &[command.cast(), answer.cast_const().cast()], |it| it.make(&*command, &mut *answer))
+pub unsafe extern "C" fn cellar_step(engine: *mut Handle, stack: *const Stack, command: *const Command, step: *mut Stepped) -> u8 {
+    call(engine, &[stack.cast(), command.cast(), step.cast_const().cast()], |it| it.step(&*stack, Some(&*command), &mut *step))
 }
 
-pub unsafe extern "C" fn cellar_take(engine: *mut Handle, lane: u64, by: u64, effect: *mut Effect, many: *mut u64) -> u8 {
-    let it = call(engine, &[effect.cast_const().cast(), many.cast_const().cast()], |it| it.take(lane, by));
-    *many = it.is_some() as u64;
-    it.into_iter().for_each(|it| *effect = it);
-    0
+pub unsafe extern "C" fn cellar_next(engine: *mut Handle, stack: *const Stack, step: *mut Stepped) -> u8 {
+    call(engine, &[stack.cast(), step.cast_const().cast()], |it| it.step(&*stack, None, &mut *step))
 }
 
-pub unsafe extern "C" fn cellar_give_up(_: *mut Handle, _: u64, _: u64, _: *const Effect, _: u64, _: *mut u64) -> u8 {
-    unreachable!("no operator gives up")
+pub unsafe extern "C" fn cellar_pass(_: *mut Handle, _: *const Stack, _: u8) -> u8 {
+    unreachable!("no operator lets a lane go")
 }
 
-pub unsafe extern "C" fn cellar_left(_: *mut Handle, _: u64, _: *mut u64, _: *mut u64) -> u8 {
-    unreachable!("no operator asks for what is left")
+pub unsafe extern "C" fn cellar_stop(_: *mut Handle, _: *const Stack) -> u8 {
+    unreachable!("no call ends in the midst")
 }
 
-pub unsafe extern "C" fn cellar_rest(engine: *mut Handle, which: u8, from: u64, words: *mut u64, room: usize, many: *mut u64) -> u8 {
+pub unsafe extern "C" fn cellar_closings(engine: *mut Handle, from: u64, words: *mut u64, room: usize, many: *mut u64) -> u8 {
     call(engine, &[words.cast_const().cast(), many.cast_const().cast()], |it| {
-        let all = if which == 0 { &it.closings } else { &it.due };
-        let found = &all[from as usize..all.len().min(from as usize + room)];
+        let found = &it.closings[from as usize..it.closings.len().min(from as usize + room)];
         std::ptr::copy_nonoverlapping(found.as_ptr(), words, found.len());
         *many = found.len() as u64;
     });

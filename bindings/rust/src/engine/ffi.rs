@@ -54,13 +54,25 @@ pub struct Effect {
     pub carries: u32,
 }
 
-/// How many closings and lanes stand in an answer.
-pub const ROOM: usize = 8;
-
-/// `struct cellar_answer`.
+/// `struct cellar_stack`: one for each stack of calls.
 #[repr(C)]
 #[derive(Clone, Copy, Debug, Default)]
-pub struct Answer {
+pub struct Stack {
+    /// Its word, which no other stack has.
+    pub by: u64,
+    /// How many calls are under way on it, this one included.
+    pub depth: u64,
+    /// The ticket of what it began last.
+    pub begun: u64,
+}
+
+/// How many closings stand in what a step answers.
+pub const ROOM: usize = 8;
+
+/// `struct cellar_stepped`.
+#[repr(C)]
+#[derive(Clone, Copy, Debug, Default)]
+pub struct Stepped {
     /// What was opened.
     pub node: Key,
     /// The connection, the resource or the lease.
@@ -73,17 +85,17 @@ pub struct Answer {
     pub copies: u64,
     /// How many nodes were closed that wished to be heard of.
     pub closed: u64,
-    /// How many lanes the caller is to serve.
-    pub due: u64,
-    /// 1 if `effect` is the first of `lanes[0]`.
-    pub handed: u64,
-    /// The words of the first nodes that were closed.
+    /// The words of the first of them.
     pub closings: [u64; ROOM],
-    /// The names of the first lanes.
-    pub lanes: [u64; ROOM],
+    /// 1 if `effect` is to be done.
+    pub handed: u64,
+    /// 1 if it is the item of this very command, alone.
+    pub own: u64,
+    /// Of `effect`.
+    pub ticket: u64,
+    pub(super) spare: u64,
     /// What was handed out.
     pub effect: Effect,
-    pub(super) spare: [u64; 2],
 }
 
 /// `struct cellar_totals`.
@@ -114,8 +126,8 @@ pub(crate) struct Handle {
 }
 
 const _: () = assert!(
-    std::mem::size_of::<Command>() == 64 && std::mem::size_of::<Answer>() == 256 && std::mem::size_of::<Effect>() == 32
-        && std::mem::size_of::<Totals>() == 64 && std::mem::size_of::<Handle>() == 8
+    std::mem::size_of::<Command>() == 64 && std::mem::size_of::<Effect>() == 32 && std::mem::size_of::<Totals>() == 64
+        && std::mem::size_of::<Handle>() == 8 && std::mem::size_of::<Stack>() == 24 && std::mem::size_of::<Stepped>() == 192
 );
 
 #[cfg(test)]
@@ -126,11 +138,11 @@ extern "C" {
     pub(super) fn cellar_abi() -> u32;
     pub(super) fn cellar_size(which: u32) -> u32;
     pub(super) fn cellar_new(engine: *mut Handle, max_events: u32) -> u8;
-    pub(super) fn cellar_make(engine: *mut Handle, command: *const Command, answer: *mut Answer) -> u8;
-    pub(super) fn cellar_take(engine: *mut Handle, lane: u64, by: u64, effect: *mut Effect, count: *mut u64) -> u8;
-    pub(super) fn cellar_give_up(engine: *mut Handle, lane: u64, by: u64, untold: *const Effect, count: u64, is_left: *mut u64) -> u8;
-    pub(super) fn cellar_left(engine: *mut Handle, from: u64, lane: *mut u64, next: *mut u64) -> u8;
-    pub(super) fn cellar_rest(engine: *mut Handle, which: u8, from: u64, words: *mut u64, room: usize, count: *mut u64) -> u8;
+    pub(super) fn cellar_step(engine: *mut Handle, stack: *const Stack, command: *const Command, step: *mut Stepped) -> u8;
+    pub(super) fn cellar_next(engine: *mut Handle, stack: *const Stack, step: *mut Stepped) -> u8;
+    pub(super) fn cellar_pass(engine: *mut Handle, stack: *const Stack, now: u8) -> u8;
+    pub(super) fn cellar_stop(engine: *mut Handle, stack: *const Stack) -> u8;
+    pub(super) fn cellar_closings(engine: *mut Handle, from: u64, words: *mut u64, room: usize, count: *mut u64) -> u8;
     pub(super) fn cellar_totals(engine: *mut Handle, totals: *mut Totals) -> u8;
     pub(super) fn cellar_finish(engine: *mut Handle) -> u8;
     pub(super) fn cellar_drop(engine: *mut Handle);

@@ -13,7 +13,7 @@ pub(crate) mod helgrind;
 mod tests;
 
 use crate::Refusal;
-pub use ffi::{Answer, Command, Effect, Key, Totals, ROOM};
+pub use ffi::{Command, Effect, Key, Stack, Stepped, Totals, ROOM};
 
 macro_rules! codes {
     ($(#[$doc:meta])* $name:ident: $type:ty { $($code:ident = $number:expr),* $(,)? }) => {
@@ -49,13 +49,11 @@ codes! {
     effect: u32 { NEXT = 0, PROJECT = 1, COMPLETED = 2, FAILED = 3, GONE = 4, RELEASE = 5, PUT = 6, MERGED = 7 }
 }
 
-/// Set in the name of a lane that the caller serves already, further out.
-pub const INSIDE: u64 = 1 << 63;
 /// The hub of a share that was not seen yet.
 pub const UNKNOWN_HUB: u64 = u64::MAX;
 /// A key that names nothing.
 pub const NOTHING: Key = Key { slot: u64::MAX, number: u64::MAX };
-const ABI: u32 = 0x0002_0000;
+const ABI: u32 = 0x0002_0001;
 
 /// An engine. Dropping it loses what still stands in it, which is numbers.
 pub struct Crossing {
@@ -69,8 +67,8 @@ impl Crossing {
     /// If the library is another one than this crate was written for.
     pub fn new(max_events: u32) -> Result<Crossing, Refusal> {
         // SAFETY: both take and answer numbers
-        let (abi, sizes) = unsafe { (ffi::cellar_abi(), [0, 1, 2, 3, 4].map(|it| ffi::cellar_size(it))) };
-        assert!(abi >> 16 == ABI >> 16 && abi >= ABI && sizes == [8, 64, 256, 32, 64], "the library cellarcliff is another one: {abi:x}");
+        let (abi, sizes) = unsafe { (ffi::cellar_abi(), [0, 1, 3, 4, 6, 7].map(|it| ffi::cellar_size(it))) };
+        assert!(abi >> 16 == ABI >> 16 && abi >= ABI && sizes == [8, 64, 32, 64, 24, 192], "the library cellarcliff is another one: {abi:x}");
         let mut handle = ffi::Handle { at: 0 };
         // SAFETY: a live handle that keeps nothing
         match unsafe { ffi::cellar_new(&mut handle, max_events) } {
@@ -79,58 +77,43 @@ impl Crossing {
         }
     }
 
-    /// Makes a command; answers its status.
+    /// Makes a command as a call of this stack; answers its status. Whatever that is, the step may have something to do for this call.
     #[inline]
-    pub fn make(&mut self, command: &Command, answer: &mut Answer) -> u8 {
-        // SAFETY: three live structs of the layouts that `new` compared, none of which overlaps another
-        unsafe { ffi::cellar_make(&mut self.handle, command, answer) }
+    pub fn step(&mut self, stack: &Stack, command: &Command, step: &mut Stepped) -> u8 {
+        // SAFETY: live structs of the layouts that `new` compared, none of which overlaps another
+        unsafe { ffi::cellar_step(&mut self.handle, stack, command, step) }
     }
 
-    /// The next effect of a lane, for who serves it.
+    /// What this call is to do next; answers whether there is something.
     #[inline]
-    pub fn take(&mut self, lane: u64, by: u64) -> Option<Effect> {
-        let (mut effect, mut count) = (Effect::default(), 0);
-        // SAFETY: as in `make`
-        let status = unsafe { ffi::cellar_take(&mut self.handle, lane, by, &mut effect, &mut count) };
-        (status == 0 && count == 1).then_some(effect)
+    pub fn next(&mut self, stack: &Stack, step: &mut Stepped) -> bool {
+        // SAFETY: as in `step`
+        unsafe { ffi::cellar_next(&mut self.handle, stack, step) == 0 && step.handed == 1 }
     }
 
-    /// Lets others serve a lane; an effect that was taken and not told goes to its front again. Answers whether something is left,
-    /// or the status.
-    pub fn give_up(&mut self, lane: u64, by: u64, untold: Option<&Effect>) -> Result<bool, u8> {
-        let (none, mut is_left) = (Effect::default(), 0);
-        // SAFETY: as in `make`; the effect is read only if the count is 1
-        let status = unsafe { ffi::cellar_give_up(&mut self.handle, lane, by, untold.unwrap_or(&none), untold.is_some() as u64, &mut is_left) };
-        if status == 0 { Ok(is_left == 1) } else { Err(status) }
+    /// From within what the call further out is doing: that counts as told. What stands behind it is this call's if it is to be done `now`.
+    pub fn pass(&mut self, stack: &Stack, now: bool) {
+        // SAFETY: as in `step`
+        unsafe { ffi::cellar_pass(&mut self.handle, stack, now.into()) };
     }
 
-    /// A lane that has something and that nobody serves, from a place on, and where to go on.
-    pub fn left(&mut self, from: u64) -> Option<(u64, u64)> {
-        let (mut lane, mut next) = (u64::MAX, 0);
-        // SAFETY: as in `make`
-        let status = unsafe { ffi::cellar_left(&mut self.handle, from, &mut lane, &mut next) };
-        (status == 0 && lane != u64::MAX).then_some((lane, next))
+    /// This call ends in the midst: what it did not begin is left to others.
+    pub fn stop(&mut self, stack: &Stack) {
+        // SAFETY: as in `step`
+        unsafe { ffi::cellar_stop(&mut self.handle, stack) };
     }
 
-    /// All closings of the last answer.
-    pub fn closings(&mut self, answer: &Answer) -> Vec<u64> {
-        self.listed(&answer.closings, answer.closed as usize, 0)
-    }
-
-    /// All lanes of the last answer.
-    pub fn lanes(&mut self, answer: &Answer) -> Vec<u64> {
-        self.listed(&answer.lanes, answer.due as usize, 1)
-    }
-
-    fn listed(&mut self, first: &[u64; ROOM], all: usize, which: u8) -> Vec<u64> {
-        let mut words = first[..all.min(ROOM)].to_vec();
+    /// All closings of the last step.
+    pub fn closings(&mut self, step: &Stepped) -> Vec<u64> {
+        let all = step.closed as usize;
+        let mut words = step.closings[..all.min(ROOM)].to_vec();
         words.resize(all, 0);
         let (mut at, mut count) = (all.min(ROOM), 0);
         while at < all {
             let rest = &mut words[at..];
             // SAFETY: the buffer is live and has as many words as its length says
-            let status = unsafe { ffi::cellar_rest(&mut self.handle, which, at as u64, rest.as_mut_ptr(), rest.len(), &mut count) };
-            assert!(status == 0 && count > 0, "the rest of an answer is asked for under its lock");
+            let status = unsafe { ffi::cellar_closings(&mut self.handle, at as u64, rest.as_mut_ptr(), rest.len(), &mut count) };
+            assert!(status == 0 && count > 0, "the rest of the closings is asked for under their lock");
             at += count as usize;
         }
         words
@@ -139,7 +122,7 @@ impl Crossing {
     /// What is open, held and was handed out.
     pub fn totals(&mut self) -> Totals {
         let mut totals = Totals::default();
-        // SAFETY: as in `make`
+        // SAFETY: as in `step`
         unsafe { ffi::cellar_totals(&mut self.handle, &mut totals) };
         totals
     }

@@ -1,13 +1,11 @@
-//! An engine with the words of what is open in it: commands go in, and whoever makes one serves what is due.
+//! An engine with the words of what is open in it: commands go in, and whoever makes one does what is handed out to him.
 use super::form::{AHeld, AThing, Lock, Ref};
 use super::words::{Word, Words};
-use crate::engine::{effect, what, Answer, Command, Crossing, Effect, Key, NOTHING};
+use crate::engine::{effect, what, Command, Crossing, Key, Stack, Stepped, NOTHING};
 use crate::rx::{by, panics::Panics, slab::Slab};
 use crate::Refusal;
-use crate::rx::atomic::AtomicU64;
 use std::any::Any;
 use std::panic::{catch_unwind, resume_unwind, AssertUnwindSafe};
-use std::sync::atomic::Ordering::Relaxed;
 
 /// What a word stands for.
 pub(crate) trait Thing {
@@ -31,106 +29,96 @@ pub(crate) trait Inbox<V> {
     fn panicked(&self);
 }
 
-/// What is told an effect, or is dropped.
-enum Whom<'a> {
-    Nobody,
-    Thing(Ref<AThing<'a>>),
-    Held(Box<AHeld<'a>>),
+/// What a call is to do next, outside the lock.
+enum Due<'a> {
+    Nothing,
+    Tell(Ref<AThing<'a>>, u32, u64),
+    Drop(Box<AHeld<'a>>),
+    Close(Ref<AThing<'a>>),
+    CloseAll(Vec<Ref<AThing<'a>>>),
 }
 
-type Told<'a> = Option<(Whom<'a>, Effect)>;
-
-/// What a command leaves to do, outside the lock. It is filled in place: moving it would cost more than the rest of a command.
-#[derive(Default)]
-struct Due<'a> {
-    closed: Option<Ref<AThing<'a>>>,
-    lane: Option<u64>,
-    first: [Told<'a>; 2], // of that lane
-    more: Option<Box<More<'a>>>,
-}
-
-/// Where there is more than one of either.
-struct More<'a> {
-    closed: Vec<Ref<AThing<'a>>>,
-    lanes: Vec<u64>, // behind the first
+/// What is told behind all that its call is handed out.
+struct Behind<'a> {
+    by: u64,
+    depth: u64,
+    thing: Ref<AThing<'a>>,
 }
 
 struct State<'a> {
     crossing: Crossing,
-    answer: Answer,
+    step: Stepped,
     words: Words<'a>,
     tags: Slab<Box<AHeld<'a>>>,
-    item: u64, // the number of the last item that was emitted
+    stacks: Vec<Stack>, // on which calls are under way
+    behind: Vec<Behind<'a>>,
 }
-
-/// Items that are emitted are numbered from here, where no place in a share's tables is.
-const ITEMS: u64 = 1 << 63;
 
 impl<'a> State<'a> {
     #[inline]
-    fn told(&mut self, it: Effect) -> Told<'a> {
-        let whom = match it.kind {
-            effect::RELEASE => self.tags.take(it.user).map(Whom::Held),
-            _ => self.words.told(&it).map(Whom::Thing),
-        };
-        Some((whom.unwrap_or(Whom::Nobody), it))
+    fn stack(&self, by: u64) -> Option<usize> {
+        self.stacks.iter().position(|it| it.by == by)
     }
 
+    /// A call begins with a command. Answers its stack, and the status.
     #[inline]
-    fn take(&mut self, lane: u64, by: u64) -> Told<'a> {
-        let it = self.crossing.take(lane, by)?;
-        self.told(it)
+    fn begin(&mut self, by: u64, command: &Command) -> (usize, u8) {
+        let at = self.stack(by).unwrap_or_else(|| {
+            self.stacks.push(Stack { by, ..Stack::default() });
+            self.stacks.len() - 1
+        });
+        self.stacks[at].depth += 1;
+        (at, self.crossing.step(&self.stacks[at], command, &mut self.step))
     }
 
-    /// Emits an item. Answers the status, and the lane that the caller serves from now on if that very item was handed out, and is all
-    /// that came of it. Something else is handed out where it stands before the item in its lane: an item of another emission, whoever
-    /// made it, or a release.
+    /// What the command of a call has closed comes first: what was handed out with it is not begun, and is handed out again.
     #[inline]
-    fn emit(&mut self, node: Key, by: u64) -> (u8, Option<u64>) {
-        self.item += 1;
-        let status = self.crossing.make(&Command { what: what::NEXT, node, value: self.item, by, ..Command::default() }, &mut self.answer);
-        let it = &self.answer;
-        let is_alone = status == 0 && it.handed == 1 && it.due == 1 && it.closed == 0;
-        (status, (is_alone && it.effect.carries == 1 && it.effect.value == self.item).then_some(it.lanes[0]))
-    }
-
-    /// What stands in the answer of a command of this caller. Nothing is taken yet of one that is settled behind others.
-    #[inline]
-    fn due(&mut self, by: u64, is_behind: bool, due: &mut Option<Due<'a>>) {
-        if self.answer.due > 0 || self.answer.closed > 0 {
-            self.fill(by, is_behind, due.insert(Due::default()))
-        }
-    }
-
-    fn fill(&mut self, by: u64, is_behind: bool, due: &mut Due<'a>) {
-        let it = &self.answer;
-        due.lane = (it.due > 0).then_some(it.lanes[0]);
-        if it.closed > 1 || it.due > 1 {
-            let (lanes, closed) = (self.crossing.lanes(it), self.crossing.closings(it));
-            let closed = closed.into_iter().filter_map(|at| self.words.closed(at)).collect();
-            due.more = Some(Box::new(More { closed, lanes: lanes.into_iter().skip(1).collect() }));
-        } else if it.closed == 1 {
-            due.closed = self.words.closed(it.closings[0]);
-        }
-        if self.answer.handed == 1 {
-            due.first[0] = self.told(self.answer.effect);
-        } else if let Some(lane) = due.lane.filter(|_| !is_behind) {
-            due.first[0] = self.take(lane, by); // under the same lock
-            // a root that has gone only lets its observer go, so whoever is next in the lane need not wait for that
-            if matches!(&due.first[0], Some((_, it)) if it.kind == effect::GONE) {
-                due.first[1] = self.take(lane, by);
-                due.lane = due.lane.filter(|_| due.first[1].is_some());
+    fn due(&mut self, at: usize) -> Due<'a> {
+        match self.step.closed {
+            0 => self.go_on(at),
+            1 => match self.words.closed(self.step.closings[0]) {
+                Some(it) => Due::Close(it),
+                None => self.go_on(at),
+            },
+            _ => {
+                let closed = self.crossing.closings(&self.step);
+                Due::CloseAll(closed.into_iter().filter_map(|it| self.words.closed(it)).collect())
             }
         }
     }
-}
 
-/// What waits until all is served that came of a command further out: what is due of another, or a thing that is told then.
-struct Behind<'a> {
-    ticket: u64,
-    by: u64,
-    due: Option<Due<'a>>,
-    thing: Option<Ref<AThing<'a>>>,
+    #[inline]
+    fn next(&mut self, by: u64) -> Due<'a> {
+        let at = self.stack(by).expect("a call is under way");
+        self.crossing.next(&self.stacks[at], &mut self.step);
+        self.go_on(at)
+    }
+
+    /// Begins what was handed out; where nothing was, the call ends behind what waits for that.
+    #[inline]
+    fn go_on(&mut self, at: usize) -> Due<'a> {
+        while self.step.handed == 1 {
+            let it = self.step.effect;
+            self.stacks[at].begun = self.step.ticket;
+            let due = match it.kind {
+                effect::RELEASE => self.tags.take(it.user).map(Due::Drop),
+                _ => self.words.told(&it).map(|thing| Due::Tell(thing, it.kind, it.value)),
+            };
+            match due {
+                Some(due) => return due,
+                None => _ = self.crossing.next(&self.stacks[at], &mut self.step),
+            }
+        }
+        let Stack { by, depth, .. } = self.stacks[at];
+        if let Some(at) = self.behind.iter().position(|it| it.by == by && it.depth >= depth) {
+            return Due::Tell(self.behind.remove(at).thing, 0, 0);
+        }
+        self.stacks[at].depth -= 1;
+        if depth == 1 {
+            self.stacks.swap_remove(at);
+        }
+        Due::Nothing
+    }
 }
 
 /// A panic that goes on later.
@@ -155,16 +143,14 @@ pub(crate) struct Made {
 
 pub(crate) struct Engine<'a> {
     state: Lock<State<'a>>,
-    behind: Lock<Vec<Behind<'a>>>,
-    tickets: AtomicU64,
     openers: Lock<Vec<u64>>, // who opens a source as a thing is being told
 }
 
 impl<'a> Engine<'a> {
     fn new(max_events: u32) -> Result<Ref<Self>, Refusal> {
-        let state = State { crossing: Crossing::new(max_events)?, answer: Answer::default(), words: Words::new(), tags: Slab::new(), item: ITEMS };
-        let (behind, openers) = (Lock::new(Vec::new()), Lock::new(Vec::new()));
-        Ok(Ref::new(Engine { state: Lock::new(state), behind, tickets: AtomicU64::new(0), openers }))
+        let (crossing, step) = (Crossing::new(max_events)?, Stepped::default());
+        let state = State { crossing, step, words: Words::new(), tags: Slab::new(), stacks: Vec::new(), behind: Vec::new() };
+        Ok(Ref::new(Engine { state: Lock::new(state), openers: Lock::new(Vec::new()) }))
     }
 
     /// A command on a node that carries nothing.
@@ -175,65 +161,88 @@ impl<'a> Engine<'a> {
     /// An item goes in. Whom it is for hears it at once if nothing stands before it.
     #[inline]
     pub fn emit<V>(&self, node: Key, value: V, to: &impl Inbox<V>) -> Result<(), Refusal> {
-        let (by, mut value, mut due) = (by(), Some(value), None);
-        let (status, lane) = self.state.with(|state| {
-            let (status, lane) = state.emit(node, by);
-            if status == 0 && lane.is_none() {
-                if state.answer.copies > 0 {
-                    value.take().into_iter().for_each(|it| to.keep(it));
-                }
-                state.due(by, false, &mut due);
+        let (by, mut value) = (by(), Some(value));
+        let (status, due) = self.state.with(|state| {
+            let (at, status) = state.begin(by, &Command { what: what::NEXT, node, ..Command::default() });
+            if state.step.own == 1 {
+                state.stacks[at].begun = state.step.ticket;
+                return (status, None);
             }
-            (status, lane)
+            if state.step.copies > 0 {
+                value.take().into_iter().for_each(|it| to.keep(it));
+            }
+            (status, Some(state.due(at)))
         });
-        if status != 0 {
-            return Err(Refusal::of(status));
-        }
         let mut panics = Panics::default();
-        if let Some(lane) = lane {
-            let ticket = self.tickets.load(Relaxed);
-            if panics.run(|| value.into_iter().for_each(|it| to.hear(it))) {
+        let due = due.unwrap_or_else(|| {
+            if panics.run(|| value.take().into_iter().for_each(|it| to.hear(it))) {
                 panics.run(|| to.panicked());
             }
-            self.serve(lane, by, &mut panics);
-            self.settle_behind(by, ticket, &mut panics);
-        } else {
-            panics.run(|| drop(value));
-            due.iter_mut().for_each(|due| self.settle(by, due, &mut panics));
-        }
+            self.state.with(|state| state.next(by))
+        });
+        panics.run(|| drop(value));
+        self.serve(by, due, &mut panics);
         panics.go_on();
-        Ok(())
+        Refusal::unless_done(status)
     }
 
-    /// Makes a command; tells `keep`, under the lock, how many effects carry its value; then serves what is due.
+    /// Makes a command; tells `keep`, under the lock, how many effects carry its value; then does what is handed out.
     pub fn make(
-        &self, command: Command, word: Word<'a>, tag: Option<Box<AHeld<'a>>>, keep: impl FnOnce(u64),
+        &self, mut command: Command, word: Word<'a>, tag: Option<Box<AHeld<'a>>>, keep: impl FnOnce(u64),
     ) -> Result<Made, Refusal> {
-        let (by, mut due) = (by(), None);
-        let made = self.ask(Command { by, ..command }, false, word, tag, keep, &mut due)?;
-        if let Some(due) = &mut due {
-            let mut panics = Panics::default();
-            self.settle(by, due, &mut panics);
-            panics.go_on();
-        }
-        Ok(made)
+        let (by, has_word, has_tag) = (by(), !word.is_empty(), tag.is_some());
+        let (done, due) = self.state.with(|state| {
+            if has_word {
+                command.user = state.words.put(word);
+            }
+            if let Some(tag) = tag {
+                command.value = state.tags.put(tag);
+            }
+            let (at, status) = state.begin(by, &command);
+            let done = if status == 0 {
+                let it = &state.step;
+                keep(it.copies);
+                Ok(Made { node: it.node, other: it.other, is_connected: it.is_connected == 1, hub: it.hub })
+            } else {
+                let (word, tag) = (has_word.then_some(command.user), has_tag.then_some(command.value));
+                Err((Refusal::of(status), word.map(|it| state.words.take(it)), tag.map(|it| state.tags.take(it))))
+            };
+            (done, state.due(at))
+        });
+        let mut panics = Panics::default();
+        let done = done.map_err(|(why, word, tag)| {
+            panics.run(|| drop((word, tag)));
+            why
+        });
+        self.serve(by, due, &mut panics);
+        panics.go_on();
+        done
     }
 
-    /// As a thing that is told of a closing makes a command: what is due waits until all is served that came of that closing.
-    pub fn make_behind(&self, command: Command, word: Word<'a>) -> Result<(), Refusal> {
-        let (by, mut due) = (by(), None);
-        self.ask(Command { by, ..command }, true, word, None, |_| (), &mut due)?;
-        self.put_behind(by, due, None);
-        Ok(())
+    /// As a thing that is told of a closing makes a command: it is one more of the call that closed it, which does what comes of that behind
+    /// all else.
+    pub fn make_behind(&self, mut command: Command, word: Word<'a>) -> Result<(), Refusal> {
+        let (status, back) = self.state.with(|state| {
+            let at = state.stack(by()).expect("it is told within a call");
+            command.user = state.words.put(word);
+            let status = state.crossing.step(&state.stacks[at], &command, &mut state.step);
+            (status, (status != 0).then(|| state.words.take(command.user)))
+        });
+        drop(back);
+        Refusal::unless_done(status)
     }
 
-    /// For a thing that is being told: another is told once all is served that is due by now.
+    /// For a thing that is being told: another is told once all is done that its call is handed out.
     pub fn tell_behind(&self, thing: Ref<AThing<'a>>) {
-        self.put_behind(by(), None, Some(thing))
+        let by = by();
+        self.state.with(|state| {
+            let depth = state.stack(by).map_or(1, |at| state.stacks[at].depth);
+            state.behind.push(Behind { by, depth, thing })
+        })
     }
 
     /// For a thing that is being told, which tells others in its turn: a panic of theirs has closed what it had to, and goes on once all
-    /// is served that is due by now, not through the thing.
+    /// is done that is due by now, not through the thing.
     pub fn pass_on<R>(&self, work: impl FnOnce() -> R) -> Option<R> {
         catch_unwind(AssertUnwindSafe(work)).map_err(|why| self.go_on_behind(why)).ok()
     }
@@ -261,114 +270,31 @@ impl<'a> Engine<'a> {
         self.tell_behind(Ref::new(Passed(Lock::new(Some(why)))))
     }
 
-    fn put_behind(&self, by: u64, due: Option<Due<'a>>, thing: Option<Ref<AThing<'a>>>) {
-        self.behind.with(|it| {
-            let ticket = self.tickets.fetch_add(1, Relaxed);
-            it.push(Behind { ticket, by, due, thing })
-        })
-    }
-
-    #[inline]
-    fn ask(
-        &self, mut command: Command, is_behind: bool, word: Word<'a>, tag: Option<Box<AHeld<'a>>>, keep: impl FnOnce(u64),
-        due: &mut Option<Due<'a>>,
-    ) -> Result<Made, Refusal> {
-        let has = (!word.is_empty(), tag.is_some());
-        let done = self.state.with(|state| {
-            if has.0 {
-                command.user = state.words.put(word);
+    /// Does what a call is handed out, until there is nothing more.
+    fn serve(&self, by: u64, mut due: Due<'a>, panics: &mut Panics) {
+        loop {
+            match due {
+                Due::Nothing => return,
+                Due::Tell(thing, kind, value) => {
+                    if panics.run(|| thing.tell(kind, value)) {
+                        panics.run(|| thing.panicked());
+                    }
+                    panics.run(|| drop(thing));
+                }
+                Due::Drop(resource) => _ = panics.run(|| drop(resource)),
+                Due::Close(thing) => self.close(thing, panics),
+                Due::CloseAll(all) => {
+                    all.iter().for_each(|it| it.closing()); // what one of them does may release what another had
+                    all.into_iter().for_each(|it| self.close(it, panics));
+                }
             }
-            if let Some(tag) = tag {
-                command.value = state.tags.put(tag);
-            }
-            let status = state.crossing.make(&command, &mut state.answer);
-            if status != 0 {
-                return Err(status);
-            }
-            let it = &state.answer;
-            keep(it.copies);
-            let made = Made { node: it.node, other: it.other, is_connected: it.is_connected == 1, hub: it.hub };
-            state.due(command.by, is_behind, due);
-            Ok(made)
-        });
-        done.map_err(|status| self.refused(status, has.0.then_some(command.user), has.1.then_some(command.value)))
-    }
-
-    /// The words come back, and are dropped outside the lock.
-    #[cold]
-    fn refused(&self, status: u8, word: Option<u64>, tag: Option<u64>) -> Refusal {
-        let back = self.state.with(|state| (word.map(|it| state.words.take(it)), tag.map(|it| state.tags.take(it))));
-        drop(back);
-        Refusal::of(status)
-    }
-
-    fn settle(&self, by: u64, due: &mut Due<'a>, panics: &mut Panics) {
-        let ticket = self.tickets.load(Relaxed);
-        let mut more = due.more.take();
-        if let Some(it) = due.closed.take() {
-            self.close(it, panics);
+            due = self.state.with(|state| state.next(by));
         }
-        if let Some(more) = &mut more {
-            more.closed.iter().for_each(|it| it.closing()); // what one of them does may release what another had
-            more.closed.drain(..).for_each(|it| self.close(it, panics));
-        }
-        for told in &mut due.first {
-            if let Some(told) = told.take() {
-                self.tell_effect(told, panics);
-            }
-        }
-        due.lane.into_iter().chain(more.into_iter().flat_map(|it| it.lanes)).for_each(|lane| self.serve(lane, by, panics));
-        self.settle_behind(by, ticket, panics);
     }
 
     #[inline]
     fn close(&self, thing: Ref<AThing<'a>>, panics: &mut Panics) {
         panics.run(|| thing.closed());
-        panics.run(|| drop(thing));
-    }
-
-    /// What whoever calls has put off since this ticket: nothing older, which waits for a command further out.
-    #[inline]
-    fn settle_behind(&self, by: u64, ticket: u64, panics: &mut Panics) {
-        if self.tickets.load(Relaxed) != ticket {
-            self.settle_own(by, ticket, panics)
-        }
-    }
-
-    #[cold]
-    fn settle_own(&self, by: u64, ticket: u64, panics: &mut Panics) {
-        let is_own = |it: &Behind| it.by == by && it.ticket >= ticket;
-        while let Some(mut it) = self.behind.with(|all| all.iter().position(is_own).map(|at| all.remove(at))) {
-            if let Some(due) = &mut it.due {
-                self.settle(by, due, panics);
-            }
-            if let Some(thing) = it.thing {
-                self.tell(thing, 0, 0, panics);
-            }
-        }
-    }
-
-    /// Tells what a lane has, until there is none.
-    fn serve(&self, lane: u64, by: u64, panics: &mut Panics) {
-        while let Some(told) = self.state.with(|state| state.take(lane, by)) {
-            self.tell_effect(told, panics);
-        }
-    }
-
-    #[inline]
-    fn tell_effect(&self, (whom, it): (Whom<'a>, Effect), panics: &mut Panics) {
-        match whom {
-            Whom::Thing(thing) => self.tell(thing, it.kind, it.value, panics),
-            Whom::Held(resource) => _ = panics.run(|| drop(resource)),
-            Whom::Nobody => (),
-        }
-    }
-
-    #[inline]
-    fn tell(&self, thing: Ref<AThing<'a>>, kind: u32, value: u64, panics: &mut Panics) {
-        if panics.run(|| thing.tell(kind, value)) {
-            panics.run(|| thing.panicked());
-        }
         panics.run(|| drop(thing));
     }
 }
