@@ -62,7 +62,8 @@ impl<T, E> Thing for Leaf<'_, T, E> {
     }
 
     fn closed(&self) {
-        if matches!(self.state.swap(CLOSED, SeqCst), LISTED | CLOSING) {
+        if self.state.load(Relaxed) == CLOSING {
+            self.state.store(CLOSED, SeqCst);
             let (all, mut panics) = (self.closes.with(std::mem::take), Panics::default());
             all.into_iter().for_each(|it| _ = panics.run(|| it.closed()));
             panics.go_on();

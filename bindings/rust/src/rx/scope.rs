@@ -11,7 +11,8 @@ use std::panic::{catch_unwind, resume_unwind, AssertUnwindSafe};
 pub(crate) trait Thing {
     /// An effect, outside the lock.
     fn tell(&self, _kind: u32, _value: u64) {}
-    /// The node has closed: what others ask of it is answered so. Nothing is done yet, since others have closed with it.
+    /// The node has closed: what others ask of it is answered so. It is under the lock, before anybody can release what the node had, and
+    /// does nothing yet, since others have closed with it.
     fn closing(&self) {}
     /// The node has closed, and all that closed with it knows that.
     fn closed(&self) {}
@@ -77,12 +78,15 @@ impl<'a> State<'a> {
         match self.step.closed {
             0 => self.go_on(at),
             1 => match self.words.closed(self.step.closings[0]) {
-                Some(it) => Due::Close(it),
+                Some(it) => {
+                    it.closing();
+                    Due::Close(it)
+                }
                 None => self.go_on(at),
             },
             _ => {
                 let closed = self.crossing.closings(&self.step);
-                Due::CloseAll(closed.into_iter().filter_map(|it| self.words.closed(it)).collect())
+                Due::CloseAll(closed.into_iter().filter_map(|it| self.words.closed(it)).inspect(|it| it.closing()).collect())
             }
         }
     }
@@ -283,10 +287,7 @@ impl<'a> Engine<'a> {
                 }
                 Due::Drop(resource) => _ = panics.run(|| drop(resource)),
                 Due::Close(thing) => self.close(thing, panics),
-                Due::CloseAll(all) => {
-                    all.iter().for_each(|it| it.closing()); // what one of them does may release what another had
-                    all.into_iter().for_each(|it| self.close(it, panics));
-                }
+                Due::CloseAll(all) => all.into_iter().for_each(|it| self.close(it, panics)),
             }
             due = self.state.with(|state| state.next(by));
         }

@@ -4,7 +4,7 @@
 use super::form::{Lock, Ref};
 use super::items::Step;
 use super::{Fits, Moves, Observable};
-use std::collections::{HashSet, VecDeque};
+use std::collections::HashSet;
 use std::hash::Hash;
 
 impl<'a, T: 'a, E: 'a> Observable<'a, T, E> {
@@ -71,14 +71,6 @@ impl<'a, T: 'a, E: 'a> Observable<'a, T, E> {
 }
 
 impl<'a, T: Moves + 'a, E: 'a> Observable<'a, T, E> {
-    /// All but the last items: each is told once so many have come behind it.
-    pub fn skip_last(&self, many: usize) -> Self {
-        self.remembering(VecDeque::new, move |waiting, it| {
-            waiting.push_back(it);
-            Ok(if waiting.len() > many { waiting.pop_front() } else { None })
-        })
-    }
-
     /// Each item with the one before it.
     pub fn pairwise(&self) -> Observable<'a, (T, T), E>
     where

@@ -105,6 +105,18 @@ impl<'a, T: Moves + 'a, E: Moves + 'a> Observable<'a, T, E> {
         self.summing(VecDeque::new, hear, Ok)
     }
 
+    /// All but the last items: each is told once so many have come behind it.
+    pub fn skip_last(&self, many: usize) -> Self {
+        let hear = move |waiting: &mut VecDeque<T>, it, to: &Out<'a, T, E>| {
+            waiting.push_back(it);
+            if waiting.len() > many {
+                waiting.pop_front().into_iter().for_each(|it| to.next(it))
+            }
+            Ok(())
+        };
+        self.summing(VecDeque::new, hear, |_| Ok(None))
+    }
+
     /// This item, if there is none.
     pub fn default_if_empty(&self, item: T) -> Self
     where
