@@ -480,7 +480,7 @@ pub unsafe extern "C" fn cellar_next(engine: *mut Handle, stack: *const Stack, s
     call(engine, &[stack.cast(), step.cast_const().cast()], |it| it.step(&*stack, None, &mut *step))
 }
 
-pub unsafe extern "C" fn cellar_pass(_: *mut Handle, _: *const Stack, _: u8) -> u8 {
+pub unsafe extern "C" fn cellar_pass(_: *mut Handle, _: *const Stack, _: u64, _: u8) -> u8 {
     unreachable!("no operator lets a lane go")
 }
 

@@ -98,6 +98,23 @@ pub struct Stepped {
     pub effect: Effect,
 }
 
+/// What is to be done: an effect, and its ticket.
+#[derive(Clone, Copy, Debug)]
+pub struct Handed {
+    /// No other effect has it.
+    pub ticket: u64,
+    /// What to do.
+    pub effect: Effect,
+}
+
+impl Stepped {
+    /// What was handed out; nothing, if the call has nothing more to do.
+    #[inline]
+    pub fn handed(&self) -> Option<Handed> {
+        (self.handed == 1).then_some(Handed { ticket: self.ticket, effect: self.effect })
+    }
+}
+
 /// `struct cellar_totals`.
 #[repr(C)]
 #[derive(Clone, Copy, Debug, Default, PartialEq, Eq)]
@@ -140,7 +157,7 @@ extern "C" {
     pub(super) fn cellar_new(engine: *mut Handle, max_events: u32) -> u8;
     pub(super) fn cellar_step(engine: *mut Handle, stack: *const Stack, command: *const Command, step: *mut Stepped) -> u8;
     pub(super) fn cellar_next(engine: *mut Handle, stack: *const Stack, step: *mut Stepped) -> u8;
-    pub(super) fn cellar_pass(engine: *mut Handle, stack: *const Stack, now: u8) -> u8;
+    pub(super) fn cellar_pass(engine: *mut Handle, stack: *const Stack, from: u64, now: u8) -> u8;
     pub(super) fn cellar_stop(engine: *mut Handle, stack: *const Stack) -> u8;
     pub(super) fn cellar_closings(engine: *mut Handle, from: u64, words: *mut u64, room: usize, count: *mut u64) -> u8;
     pub(super) fn cellar_totals(engine: *mut Handle, totals: *mut Totals) -> u8;

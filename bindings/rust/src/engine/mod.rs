@@ -13,7 +13,7 @@ pub(crate) mod helgrind;
 mod tests;
 
 use crate::Refusal;
-pub use ffi::{Command, Effect, Key, Stack, Stepped, Totals, ROOM};
+pub use ffi::{Command, Effect, Handed, Key, Stack, Stepped, Totals, ROOM};
 
 macro_rules! codes {
     ($(#[$doc:meta])* $name:ident: $type:ty { $($code:ident = $number:expr),* $(,)? }) => {
@@ -84,17 +84,18 @@ impl Crossing {
         unsafe { ffi::cellar_step(&mut self.handle, stack, command, step) }
     }
 
-    /// What this call is to do next; answers whether there is something.
+    /// What this call is to do next.
     #[inline]
-    pub fn next(&mut self, stack: &Stack, step: &mut Stepped) -> bool {
+    pub fn next(&mut self, stack: &Stack, step: &mut Stepped) {
         // SAFETY: as in `step`
-        unsafe { ffi::cellar_next(&mut self.handle, stack, step) == 0 && step.handed == 1 }
+        unsafe { ffi::cellar_next(&mut self.handle, stack, step) };
     }
 
-    /// From within what the call further out is doing: that counts as told. What stands behind it is this call's if it is to be done `now`.
-    pub fn pass(&mut self, stack: &Stack, now: bool) {
+    /// What the call of the depth `from`, further out, is doing counts as told. What stands behind it is this call's if it is to be done
+    /// `now`.
+    pub fn pass(&mut self, stack: &Stack, from: u64, now: bool) {
         // SAFETY: as in `step`
-        unsafe { ffi::cellar_pass(&mut self.handle, stack, now.into()) };
+        unsafe { ffi::cellar_pass(&mut self.handle, stack, from, now.into()) };
     }
 
     /// This call ends in the midst: what it did not begin is left to others.

@@ -5,7 +5,7 @@ pub(crate) mod late;
 pub(crate) mod panics;
 pub(crate) mod slab;
 
-use std::cell::Cell;
+use std::cell::{Cell, RefCell};
 use crate::rx::atomic::AtomicU64;
 use std::sync::atomic::Ordering::Relaxed;
 
@@ -27,4 +27,12 @@ fn first(by: &'static std::thread::LocalKey<Cell<u64>>) -> u64 {
     let it = NEXT.fetch_add(1, Relaxed);
     by.with(|by| by.set(it));
     it
+}
+
+/// In which engines this thread opens a source as a thing is being told, one within another; nothing as the thread ends.
+pub(crate) fn openings<R>(f: impl FnOnce(&mut Vec<usize>) -> R) -> Option<R> {
+    thread_local! {
+        static ALL: RefCell<Vec<usize>> = const { RefCell::new(Vec::new()) };
+    }
+    ALL.try_with(|all| f(&mut all.borrow_mut())).ok()
 }

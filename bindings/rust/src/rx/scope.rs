@@ -1,8 +1,8 @@
 //! An engine with the words of what is open in it: commands go in, and whoever makes one does what is handed out to him.
 use super::form::{AHeld, AThing, Lock, Ref};
 use super::words::{Word, Words};
-use crate::engine::{effect, what, Command, Crossing, Key, Stack, Stepped, NOTHING};
-use crate::rx::{by, panics::Panics, slab::Slab};
+use crate::engine::{effect, what, Command, Crossing, Handed, Key, Stack, Stepped, NOTHING};
+use crate::rx::{by, openings, panics::Panics, slab::Slab};
 use crate::Refusal;
 use std::any::Any;
 use std::panic::{catch_unwind, resume_unwind, AssertUnwindSafe};
@@ -20,6 +20,8 @@ pub(crate) trait Thing {
     fn panicked(&self) {}
 }
 
+impl Thing for () {}
+
 /// Where the values of one lane wait, in their order.
 pub(crate) trait Inbox<V> {
     /// The value stands behind others; under the lock.
@@ -35,8 +37,8 @@ enum Due<'a> {
     Nothing,
     Tell(Ref<AThing<'a>>, u32, u64),
     Drop(Box<AHeld<'a>>),
-    Close(Ref<AThing<'a>>),
-    CloseAll(Vec<Ref<AThing<'a>>>),
+    Close(Ref<AThing<'a>>, Option<Handed>), // before what was handed out with it is begun
+    CloseAll(Vec<Ref<AThing<'a>>>, Option<Handed>),
 }
 
 /// What is told behind all that its call is handed out.
@@ -72,45 +74,43 @@ impl<'a> State<'a> {
         (at, self.crossing.step(&self.stacks[at], command, &mut self.step))
     }
 
-    /// What the command of a call has closed comes first: what was handed out with it is not begun, and is handed out again.
+    /// What the command of a call has closed comes first.
     #[inline]
     fn due(&mut self, at: usize) -> Due<'a> {
+        let handed = self.step.handed();
         match self.step.closed {
-            0 => self.go_on(at),
+            0 => self.go_on(at, handed),
             1 => match self.words.closed(self.step.closings[0]) {
                 Some(it) => {
                     it.closing();
-                    Due::Close(it)
+                    Due::Close(it, handed)
                 }
-                None => self.go_on(at),
+                None => self.go_on(at, handed),
             },
             _ => {
-                let closed = self.crossing.closings(&self.step);
-                Due::CloseAll(closed.into_iter().filter_map(|it| self.words.closed(it)).inspect(|it| it.closing()).collect())
+                let all = self.crossing.closings(&self.step).into_iter().filter_map(|it| self.words.closed(it));
+                Due::CloseAll(all.inspect(|it| it.closing()).collect(), handed)
             }
         }
     }
 
-    #[inline]
-    fn next(&mut self, by: u64) -> Due<'a> {
-        let at = self.stack(by).expect("a call is under way");
+    fn next(&mut self, at: usize) -> Option<Handed> {
         self.crossing.next(&self.stacks[at], &mut self.step);
-        self.go_on(at)
+        self.step.handed()
     }
 
     /// Begins what was handed out; where nothing was, the call ends behind what waits for that.
     #[inline]
-    fn go_on(&mut self, at: usize) -> Due<'a> {
-        while self.step.handed == 1 {
-            let it = self.step.effect;
-            self.stacks[at].begun = self.step.ticket;
+    fn go_on(&mut self, at: usize, mut handed: Option<Handed>) -> Due<'a> {
+        while let Some(Handed { ticket, effect: it }) = handed {
+            self.stacks[at].begun = ticket;
             let due = match it.kind {
                 effect::RELEASE => self.tags.take(it.user).map(Due::Drop),
                 _ => self.words.told(&it).map(|thing| Due::Tell(thing, it.kind, it.value)),
             };
             match due {
                 Some(due) => return due,
-                None => _ = self.crossing.next(&self.stacks[at], &mut self.step),
+                None => handed = self.next(at),
             }
         }
         let Stack { by, depth, .. } = self.stacks[at];
@@ -147,14 +147,13 @@ pub(crate) struct Made {
 
 pub(crate) struct Engine<'a> {
     state: Lock<State<'a>>,
-    openers: Lock<Vec<u64>>, // who opens a source as a thing is being told
 }
 
 impl<'a> Engine<'a> {
     fn new(max_events: u32) -> Result<Ref<Self>, Refusal> {
         let (crossing, step) = (Crossing::new(max_events)?, Stepped::default());
         let state = State { crossing, step, words: Words::new(), tags: Slab::new(), stacks: Vec::new(), behind: Vec::new() };
-        Ok(Ref::new(Engine { state: Lock::new(state), openers: Lock::new(Vec::new()) }))
+        Ok(Ref::new(Engine { state: Lock::new(state) }))
     }
 
     /// A command on a node that carries nothing.
@@ -182,7 +181,7 @@ impl<'a> Engine<'a> {
             if panics.run(|| value.take().into_iter().for_each(|it| to.hear(it))) {
                 panics.run(|| to.panicked());
             }
-            self.state.with(|state| state.next(by))
+            self.next(by)
         });
         panics.run(|| drop(value));
         self.serve(by, due, &mut panics);
@@ -223,8 +222,8 @@ impl<'a> Engine<'a> {
         done
     }
 
-    /// As a thing that is told of a closing makes a command: it is one more of the call that closed it, which does what comes of that behind
-    /// all else.
+    /// As a thing that is told of a closing makes a command: it is one more of the call that closed it. What that was handed out already
+    /// is the same again, and what comes of the command is done behind all else.
     pub fn make_behind(&self, mut command: Command, word: Word<'a>) -> Result<(), Refusal> {
         let (status, back) = self.state.with(|state| {
             let at = state.stack(by()).expect("it is told within a call");
@@ -233,6 +232,7 @@ impl<'a> Engine<'a> {
             (status, (status != 0).then(|| state.words.take(command.user)))
         });
         drop(back);
+        self.tell_behind(Ref::new(())); // so the call asks once more
         Refusal::unless_done(status)
     }
 
@@ -253,19 +253,22 @@ impl<'a> Engine<'a> {
 
     /// For a thing that is being told, and opens a source, which may tell at once.
     pub fn opening<R>(&self, work: impl FnOnce() -> R) -> R {
-        let me = by();
-        self.openers.with(|it| it.push(me));
+        openings(|all| all.push(self.place()));
         let done = catch_unwind(AssertUnwindSafe(work));
-        self.openers.with(|all| all.iter().rposition(|it| *it == me).map(|at| all.swap_remove(at)));
+        openings(Vec::pop);
         done.unwrap_or_else(|why| resume_unwind(why))
+    }
+
+    fn place(&self) -> usize {
+        self as *const Self as usize
     }
 
     /// What a source tells: as it is opened by a thing that is being told, a panic of others does not go through either.
     #[inline]
     pub fn tell_from_source(&self, work: impl FnOnce() -> Result<(), Refusal>) -> Result<(), Refusal> {
-        catch_unwind(AssertUnwindSafe(work)).unwrap_or_else(|why| match self.openers.with(|it| it.contains(&by())) {
-            true => Ok(self.go_on_behind(why)),
-            false => resume_unwind(why),
+        catch_unwind(AssertUnwindSafe(work)).unwrap_or_else(|why| match openings(|all| all.contains(&self.place())) {
+            Some(true) => Ok(self.go_on_behind(why)),
+            _ => resume_unwind(why),
         })
     }
 
@@ -286,11 +289,36 @@ impl<'a> Engine<'a> {
                     panics.run(|| drop(thing));
                 }
                 Due::Drop(resource) => _ = panics.run(|| drop(resource)),
-                Due::Close(thing) => self.close(thing, panics),
-                Due::CloseAll(all) => all.into_iter().for_each(|it| self.close(it, panics)),
+                Due::Close(thing, handed) => {
+                    self.close(thing, panics);
+                    due = self.go_on(by, handed);
+                    continue;
+                }
+                Due::CloseAll(all, handed) => {
+                    all.into_iter().for_each(|it| self.close(it, panics));
+                    due = self.go_on(by, handed);
+                    continue;
+                }
             }
-            due = self.state.with(|state| state.next(by));
+            due = self.next(by);
         }
+    }
+
+    #[inline]
+    fn next(&self, by: u64) -> Due<'a> {
+        self.state.with(|state| {
+            let at = state.stack(by).expect("a call is under way");
+            let handed = state.next(at);
+            state.go_on(at, handed)
+        })
+    }
+
+    #[inline]
+    fn go_on(&self, by: u64, handed: Option<Handed>) -> Due<'a> {
+        self.state.with(|state| {
+            let at = state.stack(by).expect("a call is under way");
+            state.go_on(at, handed)
+        })
     }
 
     #[inline]
