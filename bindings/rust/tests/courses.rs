@@ -96,8 +96,8 @@ impl Course {
                 (2, vec![self.said(vec![])])
             }
             "pass" => {
-                self.engine.pass(&self.stack(&words[1]), words[2].number() == 1);
-                (3, vec![])
+                self.engine.pass(&self.stack(&words[1]), words[2].number(), words[3].number() == 1);
+                (4, vec![])
             }
             "stop" => {
                 self.engine.stop(&self.stack(&words[1]));
@@ -130,5 +130,5 @@ fn every_step_of_a_thousand_courses_is_answered_as_it_stands_there() {
             steps += 1;
         }
     }
-    assert_eq!((file.lines().count(), steps), (1000, 33_685));
+    assert_eq!((file.lines().count(), steps), (1000, 32_951));
 }
