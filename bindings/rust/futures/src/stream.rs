@@ -46,8 +46,10 @@ impl<T, E> Unpin for Items<T, E> {}
 /// use cellarcliff_futures::{IntoStream, Overflow};
 /// use futures::{executor::block_on, StreamExt};
 ///
-/// let heard = Observable::<u32>::of([1, 2]).into_stream(8, Overflow::Oldest).map(Result::unwrap);
-/// assert_eq!(block_on(heard.collect::<Vec<_>>()), [1, 2]);
+/// let source = Observable::<u32>::of([1, 2]);
+/// for heard in [(&source).into_stream(8, Overflow::Oldest), source.into_stream(8, Overflow::Wait)] {
+///     assert_eq!(block_on(heard.map(Result::unwrap).collect::<Vec<_>>()), [1, 2]);
+/// }
 /// ```
 pub trait IntoStream {
     /// The stream.
@@ -61,6 +63,14 @@ impl<T: Send + 'static, E: Send + 'static> IntoStream for &Observable<'static, T
 
     fn into_stream(self, room: usize, overflow: Overflow) -> Items<T, E> {
         into_stream(self, room, overflow)
+    }
+}
+
+impl<T: Send + 'static, E: Send + 'static> IntoStream for Observable<'static, T, E> {
+    type Items = Items<T, E>;
+
+    fn into_stream(self, room: usize, overflow: Overflow) -> Items<T, E> {
+        into_stream(&self, room, overflow)
     }
 }
 

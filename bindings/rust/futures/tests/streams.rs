@@ -87,8 +87,8 @@ fn an_endless_stream_whose_future_runs_as_it_is_spawned_ends_with_its_subscripti
 fn an_observable_is_a_stream_with_a_bounded_queue() {
     let subject = Subject::<u32, &str>::new();
     let source = subject.observable();
-    let (oldest, newest) = (source.into_stream(2, Overflow::Oldest), source.into_stream(2, Overflow::Newest));
-    let dropped = into_stream(&source, 1, Overflow::Oldest);
+    let (oldest, dropped) = ((&source).into_stream(2, Overflow::Oldest), into_stream(&source, 1, Overflow::Oldest));
+    let newest = source.into_stream(2, Overflow::Newest);
     assert_eq!(subject.observers(), 3);
     drop(dropped);
     assert_eq!(subject.observers(), 2);
