@@ -1,7 +1,7 @@
 """What `rt ci` has still to prove here, and how long that takes: by what earlier runs on this machine kept, and by the minutes of docs/dev/gate.md.
 
-The toolchain has no word for this. Its command rt keeps what a run passed under a name that is a sum of all that was read; so rt itself is
-loaded here, and asked for these names. All this is its inside, and may change: then nothing is said but why not.
+The toolchain has no word for this. Some keep what a run passed under a name that is a sum of all that was read, others prove everything
+anew; so the command rt is loaded here, and asked. All this is its inside, and may change: then nothing is said but why not.
 """
 import hashlib
 import importlib.machinery
@@ -33,6 +33,8 @@ def minutes():
 def left():
     """The crates whose proof, and those whose tests, no earlier run kept, and how many wrong bodies are to be tried; and how many there are of each."""
     rt = toolchain()
+    if not hasattr(rt, "Kept"):
+        return everything(rt)
     rt.Crate.allowed = rt.handles_of(os.getcwd())
     crates = rt.crates_of(os.getcwd())
     kept, stamps, proofs, tests, edits, all_edits = rt.Kept(crates), {}, [], [], 0, 0
@@ -56,6 +58,14 @@ def left():
     return proofs, tests, edits, (len(crates), sum(it.has_tests() for it in crates), all_edits)
 
 
+def everything(rt):
+    """The same, where no run keeps anything."""
+    crates = rt.rtlib.crates_below(os.getcwd())
+    proofs, tests = [it.name for it in crates], [it.name for it in crates if it.has_tests()]
+    edits = sum(len(rt.edits_of(it)[0]) for it in crates)
+    return proofs, tests, edits, (len(proofs), len(tests), edits)
+
+
 def sentence():
     """What is said before a run."""
     try:
@@ -67,9 +77,12 @@ def sentence():
     known, cores = minutes(), os.cpu_count() or 1
     spent = sum(known.get(it, (PROOF, TESTS))[0] for it in proofs) + sum(known.get(it, (PROOF, TESTS))[1] for it in tests) + edits * EDIT
     lasts = max(spent / cores / OF_THE_CORES, max((known.get(it, (PROOF, TESTS))[0] for it in proofs), default=0))
+    costs = f"some {spent:.0f} minutes of a processor, and {lasts:.0f} on these {cores} cores where nothing else runs"
+    if (len(proofs), len(tests), edits) == whole:
+        return f"to prove from nothing: {whole[0]} crates, the tests of {whole[1]}, {whole[2]} wrong bodies; {costs}"
     names = " ".join(proofs) if len(proofs) < 8 else f"{' '.join(proofs[:6])} and {len(proofs) - 6} more"
     return (f"to prove anew: {len(proofs)} of {whole[0]} crates{f' ({names})' if names else ''}, the tests of {len(tests)} of {whole[1]}, "
-            f"{edits} of {whole[2]} wrong bodies; some {spent:.0f} minutes of a processor, and {lasts:.0f} on these {cores} cores where nothing else runs")
+            f"{edits} of {whole[2]} wrong bodies; {costs}")
 
 
 if __name__ == "__main__":

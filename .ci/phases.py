@@ -3,8 +3,8 @@
     .ci/phases                    runs `rt ci` at the top of the repository
     .ci/phases rt must-fail NAME  runs that, as an example
     .ci/phases --aloud            runs `rt ci` and passes on what it says, as .ci/run does: first comes how long it
-                                  will take by what is kept; the line that ends a crate gets its times; before the
-                                  last line stands what was proved anew, and no table follows
+                                  will take; the line that ends a crate gets its times; behind what was proved come
+                                  the lines of .ci/replay, which the last line counts too, and no table follows
 
 It looks twice a second at the programs that the command starts. A phase is the proof of a crate, the
 proof of its tests, its edits or its runs. The first table has a line for each crate, the second a line
@@ -30,7 +30,7 @@ TICK = os.sysconf("SC_CLK_TCK")
 PAGE = os.sysconf("SC_PAGE_SIZE")
 KINDS = ("proof", "tests", "edits", "runs")
 ENDS = re.compile(r"rt: (\w+)(?:(: its tests) are)? (?:NOT )?(?:proved|PROVED)$")
-LAST = re.compile(r"\d+ passed, \d+ failed")
+LAST = re.compile(r"(\d+) passed, (\d+) failed")
 
 
 class Process:
@@ -271,10 +271,11 @@ def what_is_new(proved, phases, now):
 
 
 def aloud(command):
-    """Runs the command and passes on what it says, a line at a time."""
-    if command == ["rt", "ci"]:
+    """Runs the command and passes on what it says, a line at a time; behind `rt ci` it compares what is stored."""
+    is_gate = command == ["rt", "ci"]
+    if is_gate:
         print(f"gate: {expected.sentence()}", flush=True)
-    start, phases, proved = time.monotonic(), {}, []
+    start, phases, proved, last = time.monotonic(), {}, [], None
     gate = subprocess.Popen(command, stdout=subprocess.PIPE, stderr=subprocess.STDOUT, stdin=subprocess.DEVNULL)
     threading.Thread(target=watch, args=(gate, phases, start), daemon=True).start()
     try:
@@ -283,15 +284,21 @@ def aloud(command):
             ended = ENDS.match(said)
             if ended and said.endswith(" proved"):
                 proved.append(ended.groups())
-            if LAST.match(said):
-                print(what_is_new(proved, phases, time.monotonic() - start))
-            print(with_times(said, phases, time.monotonic() - start), flush=True)
+            if is_gate and LAST.fullmatch(said):
+                last = LAST.fullmatch(said)
+                print(what_is_new(proved, phases, time.monotonic() - start), flush=True)
+            else:
+                print(with_times(said, phases, time.monotonic() - start), flush=True)
     except KeyboardInterrupt:
         stop(gate)
     status = gate.wait()
-    if not status and command == ["rt", "ci"]:
-        # (so that an install takes what was proved here)
-        subprocess.run(["tools/proved", "mark"], check=False)
+    if last:
+        differs = subprocess.run([".ci/replay"], check=False).returncode != 0
+        status = status or differs
+        if not status:
+            # (so that an install takes what was proved here)
+            subprocess.run(["tools/proved", "mark"], check=False)
+        print(f"{int(last[1]) + (not differs)} passed, {int(last[2]) + differs} failed", flush=True)
     return status
 
 

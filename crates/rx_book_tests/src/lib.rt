@@ -3,7 +3,7 @@
 //! Of a book: a checkpoint that is refused memory, just the memory that a call needs, closings where none is left, boxes of
 //! two kinds, many items, and what becomes of a book that is dropped. Of desks: that each call that may want memory can
 //! succeed, threads, and storms. Memory that is refused to each command in turn stands in the tests of `cellarcliff`. What
-//! operators do, over checkpoints too, and which calls are refused, stands in the scenarios that `rx_replay` compares.
+//! operators do, over checkpoints too, and which calls are refused, stands in the scenarios that `.ci/replay` compares.
 //!
 //! Each test runs in a process of its own, so the memory that one test uses up is missing in no other.
 #![tactic(auto)]
