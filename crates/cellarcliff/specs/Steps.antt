@@ -12,7 +12,7 @@ use Rattle.rx_cellar.specs.declared.cellar.Cellar.{Cellar}
 use Rattle.rx_cellar.specs.Serving.{IsRest}
 use Rattle.rx_turns.specs.declared.agenda.Turn.{Turn}
 use Rattle.rx_turns.specs.declared.agenda.Task.{Task}
-use Rattle.rx_turns.specs.declared.turns.Step.{Step}
+use Rattle.rx_turns.specs.Calls.{TurnStep}
 use Rattle.rx_turns.specs.declared.turns.Turns.{Turns}
 use Rattle.rx_turns.specs.States.{TurnState, turn_state}
 use Rattle.rx_turns.specs.Calls.{IsTurnStep, IsTurnPass, IsTurnStop}
@@ -58,7 +58,7 @@ told_of_made (Some c) a s = made_told a s
 pub record IsStepTold (g : Ghosts Token) (stack : Stack) (c : Option Command) (s t : TurnState) (a b : Stepped) (status : ℕ) : Type 0 where
   pub blank : Answer
   pub made : Answer
-  pub step : Step
+  pub step : TurnStep
   pub steps : IsTurnStep g (turn_of stack) stack.begun c s t blank made step
   pub told : b ≡ handed_told step.handed step.is_own (told_of_made c made (no_step a))
   pub status_is : status ≡ step.status

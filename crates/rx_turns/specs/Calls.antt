@@ -17,16 +17,16 @@ use Rattle.rx_turns.specs.Making.{MakesIn}
 use Rattle.rx_turns.specs.Ending.{LetsLaneGo, EndsTurn, StopsDeeper, LeavesTo, at_depth}
 
 -- what a step came to: of its command, and what is to be done now, where there is something
-pub record Step : Type 0 where
+pub record TurnStep : Type 0 where
   pub status : ℕ
   pub handed : Option Task
   pub is_own : Bool
 
-abbrev pub step_of : Done → Option Task → Step
-step_of done handed = record { status = done.status; handed = handed; is_own = done.is_own }
+abbrev pub made_step : Done → Option Task → TurnStep
+made_step done handed = record { status = done.status; handed = handed; is_own = done.is_own }
 
 -- of a step without a command
-abbrev pub bare_step : Option Task → Step
+abbrev pub bare_step : Option Task → TurnStep
 bare_step handed = record { status = 0; handed = handed; is_own = false }
 
 -- what was begun last is marked
@@ -65,7 +65,7 @@ MakesAny g turn None s t a b status is_own = (t ≡ s) × (b ≡ no_answer a) ×
 MakesAny g turn (Some c) s t a b status is_own = MakesIn g turn c s t a b status is_own
 
 -- what was begun is marked, the command is made, and the turn goes on
-pub record IsTurnStep (g : Ghosts Token) (turn : Turn) (begun : ℕ) (c : Option Command) (s t : TurnState) (a b : Answer) (step : Step) : Type 0 where
+pub record IsTurnStep (g : Ghosts Token) (turn : Turn) (begun : ℕ) (c : Option Command) (s t : TurnState) (a b : Answer) (step : TurnStep) : Type 0 where
   pub marked : TurnState
   pub made : TurnState
   pub marks : HasNoted turn.by begun s marked

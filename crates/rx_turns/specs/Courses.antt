@@ -12,7 +12,7 @@ use Rattle.rx_cellar.specs.Crossings.{effect_of}
 use Rattle.rx_turns.specs.declared.agenda.Turn.{Turn}
 use Rattle.rx_turns.specs.declared.agenda.Task.{Task}
 use Rattle.rx_turns.specs.States.{TurnState}
-use Rattle.rx_turns.specs.Calls.{Step, IsTurnStep, IsTurnPass, IsTurnStop}
+use Rattle.rx_turns.specs.Calls.{TurnStep, IsTurnStep, IsTurnPass, IsTurnStop}
 
 -- an effect as it crosses, if one was taken
 abbrev pub crossed : Option Sent → List Effect
@@ -44,7 +44,7 @@ pub record IsStepCourse (g : Ghosts Token) (s t : TurnState) (handed : Option Ta
 
 -- Refinement: a step takes what it hands out, or hands it out again; a pass and a stop take nothing
 pub record CallsAreCourses (g : Ghosts Token) : Type 0 where
-  pub steps : (turn : Turn) (begun : ℕ) (c : Option Command) (s t : TurnState) (a b : Answer) (step : Step) → IsTurnStep g turn begun c s t a b step →
+  pub steps : (turn : Turn) (begun : ℕ) (c : Option Command) (s t : TurnState) (a b : Answer) (step : TurnStep) → IsTurnStep g turn begun c s t a b step →
       IsStepCourse g s t step.handed
   pub passes : (turn : Turn) (begun from : ℕ) (now_is : Bool) (s t : TurnState) → IsTurnPass turn begun from now_is s t →
       IsCourseTelling g s.cellar.engine t.cellar.engine []

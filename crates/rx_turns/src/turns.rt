@@ -3,7 +3,7 @@
 ghost use Rattle.std.specs.Prelude.{◌≡◌, [], Some, None};
 ghost use Rattle.rx_cellar.specs.Crossings.{no_answer};
 ghost use Rattle.rx_cellar.specs.Beginnings.{limit_of, first_until, IsFresh};
-ghost use Rattle.rx_turns.specs.Calls.{step_of, bare_step, IsTurnStep, IsTurnPass, IsTurnStop};
+ghost use Rattle.rx_turns.specs.Calls.{made_step, bare_step, IsTurnStep, IsTurnPass, IsTurnStop};
 ghost use Rattle.rx_turns.specs.Agendas.{IsDueOnce};
 ghost use Rattle.rx_turns.specs.Seen.{seen};
 ghost use Rattle.rx_turns.specs.States.{turn_state};
@@ -68,7 +68,7 @@ impl Turns {
         handed: &mut Option<Task>,
     ) -> Done
         ensures { IsTurnStep ⟦<Token as Resource>⟧ turn begun (Some command.now) (turn_state self.old) (turn_state self.new)
-            answer.old answer.new (step_of result handed.new) }
+            answer.old answer.new (made_step result handed.new) }
     {
         self.agenda.mark(turn.by, begun);
         let done = self.make(turn, command, answer);
