@@ -1,6 +1,6 @@
 -- A step, a pass and a stop are courses of the engine.
-use Rattle.std.proofs.Common.{◌≡◌, ℕ, ◌==◌, Bool, true, false, cond, List, [], ◌∷◌, map, Option, Some, None, option_map, refl, sym, ap, subst, ◌∙◌}
-use Rattle.std.proofs.Common.{slice_get, if◌then◌else◌}
+use Rattle.std.proofs.Common.{◌≡◌, ℕ, ◌+◌, ◌==◌, min, Bool, true, false, cond, List, [], ◌∷◌, ◌++◌, map, Option, Some, None, option_map, refl, sym, ap}
+use Rattle.std.proofs.Common.{subst, ◌∙◌, append-nil, slice_get, if◌then◌else◌}
 use Rattle.std.proofs.lemmas.Bool.{false≢true}
 use Rattle.std.proofs.lemmas.Option.{same_Some}
 use Rattle.rx_resource.specs.declared.Resource.{Ghosts}
@@ -8,133 +8,204 @@ use Rattle.rx_resource.specs.declared.token.Token.{Token}
 use Rattle.rx_lanes.specs.declared.names.LaneName.{LaneName}
 use Rattle.rx_lanes.specs.declared.names.Due.{Due}
 use Rattle.rx_roles.specs.declared.effect.Effect.{Effect as Sent}
+use Rattle.rx_roles.specs.declared.effect.What.{What}
 use Rattle.rx_engine.specs.States.{IsPromised}
 use Rattle.rx_cellar.specs.declared.shapes.Command.{Command}
 use Rattle.rx_cellar.specs.declared.shapes.Answer.{Answer}
 use Rattle.rx_cellar.specs.declared.shapes.Effect.{Effect}
 use Rattle.rx_cellar.specs.declared.cellar.Cellar.{Cellar}
-use Rattle.rx_cellar.specs.Crossings.{effect_of}
-use Rattle.rx_cellar.specs.Serving.{IsTakenIf, IsTaken, IsGivenUpIf, IsGivenUp, GivesBackIf, undone_in, sent_of}
+use Rattle.rx_cellar.specs.Cellars.{most}
+use Rattle.rx_cellar.specs.Crossings.{effect_of, what_of}
+use Rattle.rx_cellar.specs.Serving.{IsTakenIf, IsGivenUpIf, IsGivenUp, GivesBackIf, Gives}
 use Rattle.rx_cellar.specs.Words.{named, is_inside, word_of_due}
 use Rattle.rx_turns.specs.declared.agenda.Turn.{Turn}
 use Rattle.rx_turns.specs.declared.agenda.Task.{Task}
-use Rattle.rx_turns.specs.Agendas.{in_hand, has_nothing}
+use Rattle.rx_turns.specs.Agendas.{in_hand, has_nothing, LosesNothing}
 use Rattle.rx_turns.specs.States.{TurnState}
-use Rattle.rx_turns.specs.Serving.{HandsOut, AsksLane, gives_one, gives_none, TakesOff, TakesDue, nothing_due, has_one, has_none}
+use Rattle.rx_turns.specs.Serving.{HandsOut, AsksLane, gives_one, gives_none, TakesOff, Drops, TakesDue, nothing_due, has_one, has_none}
 use Rattle.rx_turns.specs.Serving.{Serves, hands_again, goes_on, ends_lane, serves_none, ServesDeeper, none_deeper, deeper_has_one, deeper_has_none}
-use Rattle.rx_turns.specs.Making.{words_due, made_for, AreMadeDue, all_claimed, one_claimed, lane_at_once, Comes, comes_at_once, all_wait, ComesIf, MakesIn}
-use Rattle.rx_turns.specs.Making.{is_made, is_made_bare}
-use Rattle.rx_turns.specs.Making.{finds_no_line}
-use Rattle.rx_turns.specs.Ending.{untold_of, LetsLaneGo, holds_none, stays_in_hand, lets_inner_go, gives_lane_up, EndsTurn, StopsDeeper, all_ended, one_ended}
+use Rattle.rx_turns.specs.Making.{words_due, made_for, lane_at_once, Comes, comes_at_once, all_wait, ComesIf, MakesIn, is_made}
+use Rattle.rx_turns.specs.Making.{is_made_bare, finds_no_line}
+use Rattle.rx_turns.specs.Ending.{LetsLaneGo, holds_none, stays_in_hand, lets_inner_go, gives_lane_up, EndsTurn, StopsDeeper, all_ended, one_ended}
 use Rattle.rx_turns.specs.Ending.{LeavesTo}
-use Rattle.rx_turns.specs.Calls.{PicksUp, none_astray, ends_walk, finds_no_room, finds_one, GoesDeeper, serves_inner, has_no_more, looks_around}
+use Rattle.rx_turns.specs.Calls.{HasNoted, PicksUp, none_astray, ends_walk, finds_no_room, finds_one, GoesDeeper, serves_inner, has_no_more, looks_around}
 use Rattle.rx_turns.specs.Calls.{TurnGoesOn, serves_own, serves_no_more, MakesAny}
-use Rattle.rx_turns.specs.Courses.{crossed, IsCourseTelling, IsHandedOf, hands_none, hands_new, hands_old, IsStepCourse, CallsAreCourses}
+use Rattle.rx_turns.specs.Courses.{Seen, was_told, came_back, seen_told, seen_back, IsEngineCourse, tag_done, HandsFrom, IsHandedOf, hands_none, hands_new, hands_old}
+use Rattle.rx_turns.specs.Courses.{IsStepCourse, as_back, AreBack, none_back, one_back, IsEndCourse, CallsAreCourses}
 use Rattle.rx_turns.proofs.Lines.{is_same-self}
-use Rattle.rx_turns.proofs.WordsClaimed.{claimed_cellar}
+use Rattle.rx_turns.proofs.HandsKept.{all_stay, then_hands, was_unbegun, one_held, noted_hands, ChangesDues, claimed_dues, all_dues}
 use Rattle.rx_turns.proofs.CoursesTold.{unchanged, by_take, by_giving_up, and_then}
-use Rattle.rx_turns.proofs.CommandsTold.{IsToldWith, tells_none, tells_one, made_course}
+use Rattle.rx_turns.proofs.CommandsAreCourses.{told_first}
+use Rattle.rx_turns.proofs.CommandsTold.{handed_with, made_course, none_handed_with, same_tag}
+
+abbrev Tells : Ghosts Token → TurnState → TurnState → List Seen → Type 0
+Tells g s t acts = IsEngineCourse g s.cellar.engine t.cellar.engine acts
+
+-- a turn that is where a course led
+at_end : (g : Ghosts Token) (s t : TurnState) (v : Cellar) (acts : List Seen) → t.cellar ≡ v → IsEngineCourse g s.cellar.engine v.engine acts →
+    Tells g s t acts
+at_end g s t v acts same p = subst (λ (c : Cellar). IsEngineCourse g s.cellar.engine c.engine acts) (sym same) p
+
+-- nothing is told ----------------------------------------------------------------------------------------
+
+record Stays (g : Ghosts Token) (s t : TurnState) : Type 0 where
+  course : Tells g s t []
+  tickets : t.tickets ≡ s.tickets
+  hands : HandsFrom s t None
+
+by_agenda : (g : Ghosts Token) (s t : TurnState) → t.cellar ≡ s.cellar → t.tickets ≡ s.tickets → HandsFrom s t None → Stays g s t
+by_agenda g s t same tickets hands =
+    record { course = unchanged g s.cellar.engine t.cellar.engine (ap (λ (c : Cellar). c.engine) same); tickets = tickets; hands = hands }
+
+same_state : (g : Ghosts Token) (s t : TurnState) → t ≡ s → Stays g s t
+same_state g s t same =
+    by_agenda g s t (ap (λ (x : TurnState). x.cellar) same) (ap (λ (x : TurnState). x.tickets) same)
+    (all_stay s t None (λ u. ap (λ (x : TurnState). in_hand x.agenda u) same))
+
+by_dues : (g : Ghosts Token) (s t : TurnState) → ChangesDues s t → Stays g s t
+by_dues g s t changes = by_agenda g s t changes.cellar changes.tickets (all_stay s t None changes.hands)
+
+by_room : (g : Ghosts Token) (s t : TurnState) → LosesNothing s.agenda t.agenda → t ≡ record s { agenda = t.agenda } → Stays g s t
+by_room g s t loses only =
+    by_agenda g s t (ap (λ (x : TurnState). x.cellar) only) (ap (λ (x : TurnState). x.tickets) only) (all_stay s t None loses.hands)
+
+noted : (g : Ghosts Token) (by ticket : ℕ) (s t : TurnState) → HasNoted by ticket s t → Stays g s t
+noted g by ticket s t marks =
+    by_agenda g s t (ap (λ (x : TurnState). x.cellar) marks.only) (ap (λ (x : TurnState). x.tickets) marks.only) (noted_hands by ticket s t marks)
+
+forgot : (g : Ghosts Token) (place : ℕ) (s t : TurnState) → TakesOff place s t → Stays g s t
+forgot g place s t gone =
+    by_agenda g s t (ap (λ (x : TurnState). x.cellar) gone.only) (ap (λ (x : TurnState). x.tickets) gone.only) (all_stay s t None gone.gone.hands)
+
+dropped : (g : Ghosts Token) (turn : Turn) (s t : TurnState) → Drops turn s t → Stays g s t
+dropped g turn s t drops =
+    by_agenda g s t (ap (λ (x : TurnState). x.cellar) drops.only) (ap (λ (x : TurnState). x.tickets) drops.only) (one_held turn None s t drops.holds)
 
 -- taking -------------------------------------------------------------------------------------------------
 
-abbrev effect_in : Option Effect → List Effect
-effect_in None = []
-effect_in (Some e) = e ∷ []
+record IsOneTold (g : Ghosts Token) (s t : Cellar) (e : Effect) : Type 0 where
+  lane : LaneName
+  course : IsEngineCourse g s.engine t.engine (was_told lane e ∷ [])
 
-crossed_in : (given : Option Sent) → crossed given ≡ effect_in (option_map effect_of given)
-crossed_in None = refl
-crossed_in (Some sent) = refl
+one_taken : (g : Ghosts Token) (o : Option LaneName) (inside : Bool) (by : ℕ) (s t : Cellar) (e : Effect) → IsPromised s.engine →
+    IsTakenIf o inside by s t (Some e) → IsOneTold g s t e
+one_taken g None inside by s t e kept (same, none) = absurd (cc)
+one_taken g (Some name) inside by s t e kept k =
+    by_given k.given (by_take g s.engine t.engine name inside by k.given kept k.take) k.is_shown where
+      by_given : (o : Option Sent) → IsEngineCourse g s.engine t.engine (seen_told name o) → Some e ≡ option_map effect_of o → IsOneTold g s t e
+      by_given None p same = absurd (cc)
+      by_given (Some sent) p same = record {
+        lane = name;
+        course = subst (λ (x : Effect). IsEngineCourse g s.engine t.engine (was_told name x ∷ [])) (sym (same_Some e (effect_of sent) same)) p;
+      }
 
-taken_if : (g : Ghosts Token) (o : Option LaneName) (inside : Bool) (by : ℕ) (s t : Cellar) (answer : Option Effect) → IsPromised s.engine →
-    IsTakenIf o inside by s t answer → IsCourseTelling g s.engine t.engine (effect_in answer)
-taken_if g None inside by s t answer kept (same, none) =
-    subst (λ (o : Option Effect). IsCourseTelling g s.engine t.engine (effect_in o)) (sym none)
-    (unchanged g s.engine t.engine (ap (λ (c : Cellar). c.engine) same))
-taken_if g (Some name) inside by s t answer kept k =
-    subst (λ (es : List Effect). IsCourseTelling g s.engine t.engine es) (crossed_in k.given ∙ ap effect_in (sym k.is_shown))
-    (by_take g s.engine t.engine name inside by k.given kept k.take)
+none_taken : (g : Ghosts Token) (o : Option LaneName) (inside : Bool) (by : ℕ) (s t : Cellar) → IsPromised s.engine → IsTakenIf o inside by s t None →
+    IsEngineCourse g s.engine t.engine []
+none_taken g None inside by s t kept (same, none) = unchanged g s.engine t.engine (ap (λ (c : Cellar). c.engine) same)
+none_taken g (Some name) inside by s t kept k =
+    by_given k.given (by_take g s.engine t.engine name inside by k.given kept k.take) k.is_shown where
+      by_given : (o : Option Sent) → IsEngineCourse g s.engine t.engine (seen_told name o) → None ≡ option_map effect_of o →
+          IsEngineCourse g s.engine t.engine []
+      by_given None p same = p
+      by_given (Some sent) p same = absurd (cc)
 
-taken : (g : Ghosts Token) (word by : ℕ) (s t : Cellar) (answer : Option Effect) → IsPromised s.engine → IsTaken word by s t answer →
-    IsCourseTelling g s.engine t.engine (effect_in answer)
-taken g word by s t answer kept is = taken_if g (named s.engine.parts.lanes word) (is_inside word) by s t answer kept is
+abbrev Goes : Ghosts Token → TurnState → TurnState → Option Task → Type 0
+Goes g s t handed = IsStepCourse g [] s t handed
 
-abbrev Tells : Ghosts Token → TurnState → TurnState → List Effect → Type 0
-Tells g s t told = IsCourseTelling g s.cellar.engine t.cellar.engine told
-
-stays : (g : Ghosts Token) (s t : TurnState) → t.cellar ≡ s.cellar → Tells g s t []
-stays g s t same = unchanged g s.cellar.engine t.cellar.engine (ap (λ (c : Cellar). c.engine) same)
-
--- a turn that is where a course led
-at_end : (g : Ghosts Token) (s t : TurnState) (v : Cellar) (told : List Effect) → t.cellar ≡ v → IsCourseTelling g s.cellar.engine v.engine told →
-    Tells g s t told
-at_end g s t v told same p = subst (λ (c : Cellar). IsCourseTelling g s.cellar.engine c.engine told) (sym same) p
-
-abbrev told_of : Option Task → List Effect
-told_of None = []
-told_of (Some h) = h.effect ∷ []
-
-asked : (g : Ghosts Token) (turn : Turn) (word : ℕ) (s t : TurnState) (answer : Option Task) → AsksLane turn word s t answer → Tells g s t (told_of answer)
+asked : (g : Ghosts Token) (turn : Turn) (word : ℕ) (s t : TurnState) (answer : Option Task) → AsksLane turn word s t answer → Goes g s t answer
 asked g turn word s t _ (gives_one v e h kept is out) =
-    subst (λ (x : Effect). Tells g s t (x ∷ [])) (sym (ap (λ (x : Task). x.effect) out.is_new))
-    (at_end g s t v (e ∷ []) (ap (λ (x : TurnState). x.cellar) out.only) (taken g word turn.by s.cellar v (Some e) kept is))
-asked g turn word s t _ (gives_none v kept is same) =
-    at_end g s t v [] (ap (λ (x : TurnState). x.cellar) same) (taken g word turn.by s.cellar v None kept is)
+    let one = one_taken g (named s.cellar.engine.parts.lanes word) (is_inside word) turn.by s.cellar v e kept is in
+    record {
+      told = was_told one.lane h.effect ∷ [];
+      course = subst (λ (x : Effect). Tells g s t (was_told one.lane x ∷ [])) (sym (ap (λ (x : Task). x.effect) out.is_new))
+          (at_end g s t v (was_told one.lane e ∷ []) (ap (λ (x : TurnState). x.cellar) out.only) one.course);
+      handed_so = hands_new one.lane h (ap (λ (x : Task). x.ticket) out.is_new) (ap (λ (x : TurnState). x.tickets) out.only);
+      hands = one_held turn (Some h) s t out.holds;
+    }
+asked g turn word s t _ (gives_none v kept is same) = record {
+  told = [];
+  course = at_end g s t v [] (ap (λ (x : TurnState). x.cellar) same)
+      (none_taken g (named s.cellar.engine.parts.lanes word) (is_inside word) turn.by s.cellar v kept is);
+  handed_so = hands_none (ap (λ (x : TurnState). x.tickets) same);
+  hands = all_stay s t None (λ u. ap (λ (x : TurnState). in_hand x.agenda u) same);
+}
+
+-- one after another --------------------------------------------------------------------------------------
+
+since : (s t u : TurnState) (answer : Option Task) (told : List Seen) → t.tickets ≡ s.tickets → HandsFrom s t None → IsHandedOf t u answer told →
+    IsHandedOf s u answer told
+since s t u _ _ tickets hands (hands_none same) = hands_none (same ∙ tickets)
+since s t u _ _ tickets hands (hands_new lane h next now_is) = hands_new lane h (next ∙ ap (λ (n : ℕ). min (n + 1) most) tickets) now_is
+since s t u _ _ tickets hands (hands_old turn h held unbegun same) =
+    hands_old turn h (was_unbegun s t turn h hands held unbegun) unbegun (same ∙ tickets)
+
+behind : (g : Ghosts Token) (s t u : TurnState) (answer : Option Task) → Stays g s t → Goes g t u answer → Goes g s u answer
+behind g s t u answer p q = record {
+  told = q.told;
+  course = and_then p.course q.course;
+  handed_so = since s t u answer q.told p.tickets p.hands q.handed_so;
+  hands = then_hands s t u answer p.hands q.hands;
+}
+
+none_told : (s t : TurnState) (answer : Option Task) (told : List Seen) → answer ≡ None → IsHandedOf s t answer told → (told ≡ []) × (t.tickets ≡ s.tickets)
+none_told s t _ _ is (hands_none same) = (refl, same)
+none_told s t _ _ is (hands_new lane h next now_is) = absurd (cc)
+none_told s t _ _ is (hands_old turn h held unbegun same) = absurd (cc)
+
+-- what hands out nothing tells nothing
+empty_step : (g : Ghosts Token) (s t : TurnState) → Goes g s t None → Stays g s t
+empty_step g s t p =
+    let none = none_told s t None p.told refl p.handed_so in
+    record { course = subst (λ (xs : List Seen). Tells g s t xs) none.0 p.course; tickets = none.1; hands = p.hands }
+
+none_step : (g : Ghosts Token) (s t : TurnState) → Stays g s t → Goes g s t None
+none_step g s t p = record { told = []; course = p.course; handed_so = hands_none p.tickets; hands = p.hands }
 
 -- serving ------------------------------------------------------------------------------------------------
 
-forgot : (g : Ghosts Token) (place : ℕ) (s t : TurnState) → TakesOff place s t → Tells g s t []
-forgot g place s t gone = stays g s t (ap (λ (x : TurnState). x.cellar) gone.only)
-
-due_taken : (g : Ghosts Token) (turn : Turn) (b a : TurnState) (answer : Option Task) → TakesDue turn b a answer → Tells g a b (told_of answer)
-due_taken g turn b _ _ (nothing_due none) = stays g b b refl
-due_taken g turn b _ _ (has_one a c place places h due gone asks) = and_then (forgot g place a c gone) (asked g turn _ c b (Some h) asks)
+due_taken : (g : Ghosts Token) (turn : Turn) (b a : TurnState) (answer : Option Task) → TakesDue turn b a answer → Goes g a b answer
+due_taken g turn b _ _ (nothing_due none) = none_step g b b (same_state g b b refl)
+due_taken g turn b _ _ (has_one a c place places h due gone asks) = behind g a c b (Some h) (forgot g place a c gone) (asked g turn _ c b (Some h) asks)
 due_taken g turn b _ _ (has_none a c d place places answer due gone asks rest) =
-    and_then (and_then (forgot g place a c gone) (asked g turn _ c d None asks)) (due_taken g turn b d answer rest)
+    behind g a c b answer (forgot g place a c gone)
+    (behind g c d b answer (empty_step g c d (asked g turn _ c d None asks)) (due_taken g turn b d answer rest))
 
-new_step : (g : Ghosts Token) (s t : TurnState) (answer : Option Task) → Tells g s t (told_of answer) → IsStepCourse g s t answer
-new_step g s t None p = record { told = []; course = p; handed_so = hands_none }
-new_step g s t (Some h) p = record { told = h.effect ∷ []; course = p; handed_so = hands_new h }
-
-behind : (g : Ghosts Token) (s t u : TurnState) (answer : Option Task) → Tells g s t [] → IsStepCourse g t u answer → IsStepCourse g s u answer
-behind g s t u answer p q = record { told = q.told; course = and_then p q.course; handed_so = q.handed_so }
-
-none_told : (handed : Option Task) (told : List Effect) → handed ≡ None → IsHandedOf handed told → told ≡ []
-none_told _ _ is hands_none = refl
-none_told _ _ is (hands_new h) = absurd (cc)
-none_told _ _ is (hands_old h) = refl
-
--- what hands out nothing takes nothing
-empty_step : (g : Ghosts Token) (s t : TurnState) → IsStepCourse g s t None → Tells g s t []
-empty_step g s t p = subst (λ (es : List Effect). Tells g s t es) (none_told None p.told refl p.handed_so) p.course
-
-served : (g : Ghosts Token) (turn : Turn) (b a : TurnState) (answer : Option Task) → Serves turn b a answer → IsStepCourse g a b answer
-served g turn b _ _ (hands_again h hand fresh) = record { told = []; course = stays g b b refl; handed_so = hands_old h }
-served g turn b _ _ (goes_on a h next hand begun asks) = new_step g a b (Some next) (asked g turn _ a b (Some next) asks)
+served : (g : Ghosts Token) (turn : Turn) (b a : TurnState) (answer : Option Task) → Serves turn b a answer → Goes g a b answer
+served g turn b _ _ (hands_again h hand unbegun) = record {
+  told = [];
+  course = unchanged g b.cellar.engine b.cellar.engine refl;
+  handed_so = hands_old turn h hand unbegun refl;
+  hands = all_stay b b (Some h) (λ u. refl);
+}
+served g turn b _ _ (goes_on a h next hand begun asks) = asked g turn _ a b (Some next) asks
 served g turn b _ _ (ends_lane a c d h answer hand begun asks drops rest) =
-    behind g a c b answer (asked g turn _ a c None asks)
-    (behind g c d b answer (stays g c d (ap (λ (x : TurnState). x.cellar) drops.only)) (new_step g d b answer (due_taken g turn b d answer rest)))
-served g turn b _ _ (serves_none a answer hand rest) = new_step g a b answer (due_taken g turn b a answer rest)
+    behind g a c b answer (empty_step g a c (asked g turn _ a c None asks))
+    (behind g c d b answer (dropped g turn c d drops) (due_taken g turn b d answer rest))
+served g turn b _ _ (serves_none a answer hand rest) = due_taken g turn b a answer rest
 
-deeper_served : (g : Ghosts Token) (turn : Turn) (b a : TurnState) (answer : Option Task) → ServesDeeper turn b a answer → IsStepCourse g a b answer
-deeper_served g turn b _ _ (none_deeper none) = new_step g b b None (stays g b b refl)
+deeper_served : (g : Ghosts Token) (turn : Turn) (b a : TurnState) (answer : Option Task) → ServesDeeper turn b a answer → Goes g a b answer
+deeper_served g turn b _ _ (none_deeper none) = none_step g b b (same_state g b b refl)
 deeper_served g turn b _ _ (deeper_has_one a u h deep serves) = served g u b a (Some h) serves
 deeper_served g turn b _ _ (deeper_has_none a c u answer deep serves rest) =
     behind g a c b answer (empty_step g a c (served g u c a None serves)) (deeper_served g turn b c answer rest)
 
-picked_up : (g : Ghosts Token) (turn : Turn) (b a : TurnState) (answer : Option Task) → PicksUp turn b a answer → IsStepCourse g a b answer
-picked_up g turn b _ _ (none_astray none) = new_step g b b None (stays g b b refl)
-picked_up g turn b _ _ (ends_walk a from next astray none same) = new_step g a b None (stays g a b (ap (λ (x : TurnState). x.cellar) same))
-picked_up g turn b _ _ (finds_no_room a from word next astray found some full loses same) = new_step g a b None (stays g a b (ap (λ (x : TurnState). x.cellar) same))
+picked_up : (g : Ghosts Token) (turn : Turn) (b a : TurnState) (answer : Option Task) → PicksUp turn b a answer → Goes g a b answer
+picked_up g turn b _ _ (none_astray none) = none_step g b b (same_state g b b refl)
+picked_up g turn b _ _ (ends_walk a from next astray none same) =
+    none_step g a b (by_agenda g a b (ap (λ (x : TurnState). x.cellar) same) (ap (λ (x : TurnState). x.tickets) same)
+    (all_stay a b None (λ u. ap (λ (x : TurnState). in_hand x.agenda u) same)))
+picked_up g turn b _ _ (finds_no_room a from word next astray found some full loses same) = none_step g a b (by_room g a b loses same)
 picked_up g turn b _ _ (finds_one a u from word next answer astray found some claims only rest) =
-    behind g a u b answer (stays g a u (ap (λ (x : TurnState). x.cellar) only)) (new_step g u b answer (due_taken g turn b u answer rest))
+    behind g a u b answer (by_agenda g a u (ap (λ (x : TurnState). x.cellar) only) (ap (λ (x : TurnState). x.tickets) only) (all_stay a u None claims.hands))
+    (due_taken g turn b u answer rest)
 
-gone_deeper : (g : Ghosts Token) (turn : Turn) (b a : TurnState) (answer : Option Task) → GoesDeeper turn b a answer → IsStepCourse g a b answer
+gone_deeper : (g : Ghosts Token) (turn : Turn) (b a : TurnState) (answer : Option Task) → GoesDeeper turn b a answer → Goes g a b answer
 gone_deeper g turn b _ _ (serves_inner a h serves) = deeper_served g turn b a (Some h) serves
 gone_deeper g turn b _ _ (has_no_more a serves inner) = deeper_served g turn b a None serves
 gone_deeper g turn b _ _ (looks_around a c answer serves outermost picks) =
     behind g a c b answer (empty_step g a c (deeper_served g turn c a None serves)) (picked_up g turn b c answer picks)
 
-gone_on : (g : Ghosts Token) (turn : Turn) (b a : TurnState) (answer : Option Task) → TurnGoesOn turn b a answer → IsStepCourse g a b answer
+gone_on : (g : Ghosts Token) (turn : Turn) (b a : TurnState) (answer : Option Task) → TurnGoesOn turn b a answer → Goes g a b answer
 gone_on g turn b _ _ (serves_own a h serves) = served g turn b a (Some h) serves
 gone_on g turn b _ _ (serves_no_more a c answer serves deeper) =
     behind g a c b answer (empty_step g a c (served g turn c a None serves)) (gone_deeper g turn b c answer deeper)
@@ -142,82 +213,89 @@ gone_on g turn b _ _ (serves_no_more a c answer serves deeper) =
 -- commands -----------------------------------------------------------------------------------------------
 
 -- what a command takes is in hand, and not begun; or it takes nothing
-data MakesCourse (g : Ghosts Token) (turn : Turn) (s t : TurnState) : Type 0 where
-  takes_own : (h : Task) → in_hand t.agenda turn ≡ Some h → h.is_begun ≡ false → Tells g s t (h.effect ∷ []) → MakesCourse g turn s t
-  takes_none : Tells g s t [] → MakesCourse g turn s t
+data MakesCourse (g : Ghosts Token) (turn : Turn) (tags : List Seen) (s t : TurnState) : Type 0 where
+  takes_own : (lane : LaneName) (h : Task) → in_hand t.agenda turn ≡ Some h → h.is_begun ≡ false → h.ticket ≡ min (s.tickets + 1) most →
+      t.tickets ≡ h.ticket → HandsFrom s t (Some h) → Tells g s t (tags ++ was_told lane h.effect ∷ []) → MakesCourse g turn tags s t
+  takes_none : Tells g s t tags → t.tickets ≡ s.tickets → HandsFrom s t None → MakesCourse g turn tags s t
 
-all_cellar : (turn : Turn) (t : TurnState) (words : List ℕ) (s : TurnState) → AreMadeDue turn t words s → t.cellar ≡ s.cellar
-all_cellar turn t _ _ all_claimed = refl
-all_cellar turn t _ _ (one_claimed s u word words claims rest) = all_cellar turn t words u rest ∙ claimed_cellar turn word s u claims
+-- the lane whose item was handed out with the answer is the first that is due
+first_told : (is_handed : Bool) (due : List Due) (e : Effect) (word : ℕ) → (if is_handed then slice_get (map word_of_due due) 0 else None) ≡ Some word →
+    (lane : LaneName) × ((if is_handed then told_first due e else []) ≡ was_told lane e ∷ [])
+first_told false due e word is = absurd (cc)
+first_told true [] e word is = absurd (cc)
+first_told true (d ∷ ds) e word is = (d.lane, refl)
 
-not_at_once : (handed : ℕ) (words : List ℕ) → (handed == 1) ≡ false → lane_at_once handed words ≡ None
-not_at_once handed words unhanded = ap (λ (b : Bool). if b then slice_get words 0 else None) unhanded
+no_first : (is_handed : Bool) (due : List Due) (e : Effect) → (if is_handed then slice_get (map word_of_due due) 0 else None) ≡ None →
+    (if is_handed then told_first due e else []) ≡ []
+no_first false due e is = refl
+no_first true [] e is = refl
+no_first true (d ∷ ds) e is = absurd (cc)
 
-one_at_once : (handed : ℕ) (dues : List Due) (d : Due) → (handed == 1) ≡ true → dues ≡ d ∷ [] →
-    lane_at_once handed (map word_of_due dues) ≡ Some (word_of_due d)
-one_at_once handed dues d is_handed is =
-    ap (λ (b : Bool). if b then slice_get (map word_of_due dues) 0 else None) is_handed ∙ ap (λ (ds : List Due). slice_get (map word_of_due ds) 0) is
+module _ (g : Ghosts Token) (turn : Turn) (tags : List Seen) (s u t : TurnState) (v : Cellar) (b : Answer) (line : Stays g s u)
+    (p : IsEngineCourse g s.cellar.engine v.engine (tags ++ handed_with v.engine.parts.lanes.due b)) where
+  at_once : (word : ℕ) (h : Task) → lane_at_once b.handed (words_due v) ≡ Some word → HandsOut turn word b.effect (record u { cellar = v }) t h →
+      MakesCourse g turn tags s t
+  at_once word h now_is out =
+      let first = first_told (b.handed == 1) v.engine.parts.lanes.due b.effect word now_is in
+      let told : handed_with v.engine.parts.lanes.due b ≡ was_told first.0 h.effect ∷ [] =
+      first.1 ∙ ap (λ (x : Effect). was_told first.0 x ∷ []) (sym (ap (λ (x : Task). x.effect) out.is_new)) in
+      takes_own first.0 h (out.holds.hands turn ∙ ap (λ x. cond x (Some h) (in_hand u.agenda turn)) (is_same-self turn)) (ap (λ (x : Task). x.is_begun) out.is_new)
+      (ap (λ (x : Task). x.ticket) out.is_new ∙ ap (λ (n : ℕ). min (n + 1) most) line.tickets) (ap (λ (x : TurnState). x.tickets) out.only)
+      (then_hands s (record u { cellar = v }) t (Some h) line.hands (one_held turn (Some h) (record u { cellar = v }) t out.holds))
+      (at_end g s t v (tags ++ was_told first.0 h.effect ∷ []) (ap (λ (x : TurnState). x.cellar) out.only)
+      (subst (λ (xs : List Seen). IsEngineCourse g s.cellar.engine v.engine (tags ++ xs)) told p))
 
-module _ (g : Ghosts Token) (turn : Turn) (s u t : TurnState) (v : Cellar) (b : Answer) (status : ℕ) where
-  abbrev here : TurnState
-  here = record u { cellar = v }
+  later : handed_with v.engine.parts.lanes.due b ≡ [] → ChangesDues (record u { cellar = v }) t → MakesCourse g turn tags s t
+  later none changes =
+      takes_none (at_end g s t v tags changes.cellar
+      (subst (λ (xs : List Seen). IsEngineCourse g s.cellar.engine v.engine xs) (ap (λ (xs : List Seen). tags ++ xs) none ∙ append-nil tags) p))
+      (changes.tickets ∙ line.tickets)
+      (then_hands s (record u { cellar = v }) t None line.hands (all_stay (record u { cellar = v }) t None changes.hands))
 
-  at_once : (told : List Effect) (word : ℕ) (h : Task) → lane_at_once b.handed (words_due v) ≡ Some word →
-      HandsOut turn word b.effect (record u { cellar = v }) t h →
-      IsCourseTelling g s.cellar.engine v.engine told → IsToldWith b v.engine status told → MakesCourse g turn s t
-  at_once _ word h now_is out p (tells_none unhanded) =
-      let none : None ≡ Some word = sym (not_at_once b.handed (words_due v) unhanded) ∙ now_is in absurd (cc)
-  at_once _ word h now_is out p (tells_one d due is_handed done) =
-      takes_own h (out.holds.hands turn ∙ ap (λ x. cond x (Some h) (in_hand u.agenda turn)) (is_same-self turn)) (ap (λ (x : Task). x.is_begun) out.is_new)
-      (subst (λ (e : Effect). Tells g s t (e ∷ [])) (sym (ap (λ (x : Task). x.effect) out.is_new))
-      (at_end g s t v (b.effect ∷ []) (ap (λ (x : TurnState). x.cellar) out.only) p))
+  come : (is_own : Bool) → Comes turn (words_due v) b (record u { cellar = v }) t is_own → MakesCourse g turn tags s t
+  come _ (comes_at_once word h now_is out) = at_once word h now_is out
+  come _ (all_wait none claimed) =
+      later (no_first (b.handed == 1) v.engine.parts.lanes.due b.effect none) (all_dues turn t (words_due v) (record u { cellar = v }) claimed)
 
-  later : (told : List Effect) → lane_at_once b.handed (words_due v) ≡ None → t.cellar ≡ v → IsCourseTelling g s.cellar.engine v.engine told →
-      IsToldWith b v.engine status told → MakesCourse g turn s t
-  later _ none same p (tells_none unhanded) = takes_none (at_end g s t v [] same p)
-  later _ none same p (tells_one d due is_handed done) =
-      let some : Some (word_of_due d) ≡ None = sym (one_at_once b.handed v.engine.parts.lanes.due d is_handed due) ∙ none in absurd (cc)
-
-  come : (told : List Effect) (is_own : Bool) → Comes turn (words_due v) b (record u { cellar = v }) t is_own →
-      IsCourseTelling g s.cellar.engine v.engine told →
-      IsToldWith b v.engine status told → MakesCourse g turn s t
-  come told _ (comes_at_once word h now_is out) p so = at_once told word h now_is out p so
-  come told _ (all_wait none claimed) p so = later told none (all_cellar turn t (words_due v) (record u { cellar = v }) claimed) p so
-
-  refused : (told : List Effect) → t ≡ record u { cellar = v } → (status == 0) ≡ false → IsCourseTelling g s.cellar.engine v.engine told →
-      IsToldWith b v.engine status told → MakesCourse g turn s t
-  refused _ same not_done p (tells_none unhanded) = takes_none (at_end g s t v [] (ap (λ (x : TurnState). x.cellar) same) p)
-  refused _ same not_done p (tells_one d due is_handed done) = absurd (false≢true (sym not_done ∙ done))
-
-  come_if : (told : List Effect) (is_own done : Bool) → (status == 0) ≡ done → ComesIf done turn (words_due v) b (record u { cellar = v }) t is_own →
-      IsCourseTelling g s.cellar.engine v.engine told → IsToldWith b v.engine status told → MakesCourse g turn s t
-  come_if told is_own true is comes p so = come told is_own comes p so
-  come_if told is_own false is (same, none) p so = refused told same is p so
+  come_if : (is_own done : Bool) → ComesIf done turn (words_due v) b (record u { cellar = v }) t is_own → (done ≡ false → (b.handed == 1) ≡ false) →
+      MakesCourse g turn tags s t
+  come_if is_own true comes undone = come is_own comes
+  come_if is_own false (same, none) undone =
+      later (ap (λ (x : Bool). if x then told_first v.engine.parts.lanes.due b.effect else []) (undone refl)) (record {
+        cellar = ap (λ (x : TurnState). x.cellar) same;
+        tickets = ap (λ (x : TurnState). x.tickets) same;
+        hands = λ w. ap (λ (x : TurnState). in_hand x.agenda w) same;
+      })
 
 made_in : (g : Ghosts Token) (turn : Turn) (c : Command) (s t : TurnState) (a b : Answer) (status : ℕ) (is_own : Bool) →
-    MakesIn g turn c s t a b status is_own →
-    MakesCourse g turn s t
+    MakesIn g turn c s t a b status is_own → MakesCourse g turn (tag_done (Some c) status) s t
 made_in g turn c s t a b _ _ (is_made u status is_own admits by) =
-    let made = made_course g (made_for (has_nothing s.agenda turn) turn c) u.cellar by.cellar a b status by.stood by.made in
-    let same = ap (λ (x : TurnState). x.cellar) admits.only in
-    come_if g turn s u t by.cellar b status made.told is_own (status == 0) refl by.comes
-    (subst (λ (x : Cellar). IsCourseTelling g x.engine by.cellar.engine made.told) same made.course) made.told_so
+    let is_free = has_nothing s.agenda turn in
+    let made = made_course g (made_for is_free turn c) u.cellar by.cellar a b status by.stood by.made in
+    let due = handed_with by.cellar.engine.parts.lanes.due b in
+    let p = subst (λ (xs : List Seen). IsEngineCourse g u.cellar.engine by.cellar.engine (xs ++ due)) (same_tag is_free turn c status) made in
+    come_if g turn (tag_done (Some c) status) s u t by.cellar b (by_room g s u admits.loses admits.only)
+    (subst (λ (x : Cellar). IsEngineCourse g x.engine by.cellar.engine (tag_done (Some c) status ++ due)) (ap (λ (x : TurnState). x.cellar) admits.only) p)
+    is_own (status == 0) by.comes (none_handed_with g (made_for is_free turn c) u.cellar by.cellar a b status by.made)
 made_in g turn c s t a b _ _ (is_made_bare u status full asks loses only by) =
     let made = made_course g (made_for true turn c) u.cellar by.cellar a b status by.stood by.made in
-    let same = ap (λ (x : TurnState). x.cellar) only in
-    come_if g turn s u t by.cellar b status made.told false (status == 0) refl by.comes
-    (subst (λ (x : Cellar). IsCourseTelling g x.engine by.cellar.engine made.told) same made.course) made.told_so
-made_in g turn c s t a b _ _ (finds_no_line full asks loses only none) = takes_none (stays g s t (ap (λ (x : TurnState). x.cellar) only))
+    let due = handed_with by.cellar.engine.parts.lanes.due b in
+    let p = subst (λ (xs : List Seen). IsEngineCourse g u.cellar.engine by.cellar.engine (xs ++ due)) (same_tag true turn c status) made in
+    come_if g turn (tag_done (Some c) status) s u t by.cellar b (by_room g s u loses only)
+    (subst (λ (x : Cellar). IsEngineCourse g x.engine by.cellar.engine (tag_done (Some c) status ++ due)) (ap (λ (x : TurnState). x.cellar) only) p)
+    false (status == 0) by.comes (none_handed_with g (made_for true turn c) u.cellar by.cellar a b status by.made)
+made_in g turn c s t a b _ _ (finds_no_line full asks loses only none) =
+    let stays = by_room g s t loses only in takes_none stays.course stays.tickets stays.hands
 
 made_any : (g : Ghosts Token) (turn : Turn) (c : Option Command) (s t : TurnState) (a b : Answer) (status : ℕ) (is_own : Bool) →
-    MakesAny g turn c s t a b status is_own → MakesCourse g turn s t
-made_any g turn None s t a b status is_own (same, none, zero, own) = takes_none (stays g s t (ap (λ (x : TurnState). x.cellar) same))
+    MakesAny g turn c s t a b status is_own → MakesCourse g turn (tag_done c status) s t
+made_any g turn None s t a b status is_own (same, none, zero, own) =
+    let stays = same_state g s t same in takes_none stays.course stays.tickets stays.hands
 made_any g turn (Some c) s t a b status is_own makes = made_in g turn c s t a b status is_own makes
 
--- what was not begun is handed out, and nothing is taken
+-- what was not begun is handed out, and nothing changes
 fresh_served : (turn : Turn) (b a : TurnState) (h : Task) (answer : Option Task) → in_hand a.agenda turn ≡ Some h → h.is_begun ≡ false →
-    Serves turn b a answer →
-    (answer ≡ Some h) × (b.cellar ≡ a.cellar)
+    Serves turn b a answer → (answer ≡ Some h) × (b ≡ a)
 fresh_served turn b _ h _ hand fresh (hands_again k held new) = (sym held ∙ hand, refl)
 fresh_served turn b _ h _ hand fresh (goes_on a k next held begun asks) =
     absurd (false≢true (sym fresh ∙ (ap (λ (x : Task). x.is_begun) (same_Some h k (sym hand ∙ held)) ∙ begun)))
@@ -226,64 +304,172 @@ fresh_served turn b _ h _ hand fresh (ends_lane a c d k answer held begun asks d
 fresh_served turn b _ h _ hand fresh (serves_none a answer none rest) = let both : None ≡ Some h = sym none ∙ hand in absurd (cc)
 
 fresh_goes : (turn : Turn) (b a : TurnState) (h : Task) (answer : Option Task) → in_hand a.agenda turn ≡ Some h → h.is_begun ≡ false →
-    TurnGoesOn turn b a answer →
-    (answer ≡ Some h) × (b.cellar ≡ a.cellar)
+    TurnGoesOn turn b a answer → (answer ≡ Some h) × (b ≡ a)
 fresh_goes turn b _ h _ hand fresh (serves_own a k serves) = fresh_served turn b a h (Some k) hand fresh serves
 fresh_goes turn b _ h _ hand fresh (serves_no_more a c answer serves deeper) =
     let both : None ≡ Some h = (fresh_served turn c a h None hand fresh serves).0 in absurd (cc)
 
-stepped : (g : Ghosts Token) (turn : Turn) (s m t : TurnState) (handed : Option Task) → MakesCourse g turn s m → TurnGoesOn turn t m handed →
-    IsStepCourse g s t handed
-stepped g turn s m t handed (takes_own h hand fresh p) goes =
+stepped : (g : Ghosts Token) (turn : Turn) (tags : List Seen) (s m t : TurnState) (handed : Option Task) → MakesCourse g turn tags s m →
+    TurnGoesOn turn t m handed → IsStepCourse g tags s t handed
+stepped g turn tags s m t handed (takes_own lane h hand fresh next now_is hands p) goes =
     let again = fresh_goes turn t m h handed hand fresh goes in
-    subst (λ (o : Option Task). IsStepCourse g s t o) (sym again.0)
-    (record { told = h.effect ∷ []; course = at_end g s t m.cellar (h.effect ∷ []) again.1 p; handed_so = hands_new h })
-stepped g turn s m t handed (takes_none p) goes = behind g s m t handed p (gone_on g turn t m handed goes)
+    subst (λ (x : TurnState). IsStepCourse g tags s x handed) (sym again.1)
+    (subst (λ (o : Option Task). IsStepCourse g tags s m o) (sym again.0)
+    (record { told = was_told lane h.effect ∷ []; course = p; handed_so = hands_new lane h next now_is; hands = hands }))
+stepped g turn tags s m t handed (takes_none p tickets hands) goes =
+    let rest = gone_on g turn t m handed goes in
+    record {
+      told = rest.told;
+      course = and_then p rest.course;
+      handed_so = since s m t handed rest.told tickets hands rest.handed_so;
+      hands = then_hands s m t handed hands rest.hands;
+    }
 
 -- giving up ----------------------------------------------------------------------------------------------
 
-given_back : (g : Ghosts Token) (o : Option LaneName) (by : ℕ) (back : Option Effect) (s t : Cellar) (is_left status : ℕ) → IsPromised s.engine →
-    GivesBackIf o by back s t is_left status → IsCourseTelling g s.engine t.engine []
-given_back g None by back s t is_left status kept (same, none, gone) = unchanged g s.engine t.engine (ap (λ (c : Cellar). c.engine) same)
-given_back g (Some name) by back s t is_left status kept k = by_giving_up g s.engine t.engine name by (sent_of name back) k.answer kept k.give
+-- nothing comes back, or this effect
+data GivesOne (g : Ghosts Token) (s t : Cellar) (e : Effect) : Type 0 where
+  comes_none : IsEngineCourse g s.engine t.engine [] → GivesOne g s t e
+  comes_one : (lane : LaneName) (what : What) → what_of e.kind ≡ Some what → IsEngineCourse g s.engine t.engine (came_back lane (as_back e what) ∷ []) →
+      GivesOne g s t e
 
-given_up_if : (g : Ghosts Token) (o : Option (Option Effect)) (word by : ℕ) (s t : Cellar) (is_left status : ℕ) → IsPromised s.engine →
-    IsGivenUpIf o word by s t is_left status → IsCourseTelling g s.engine t.engine []
-given_up_if g None word by s t is_left status kept (same, none, code) = unchanged g s.engine t.engine (ap (λ (c : Cellar). c.engine) same)
-given_up_if g (Some back) word by s t is_left status kept k = given_back g (named s.engine.parts.lanes word) by back s t is_left status kept k
+nothing_back : (g : Ghosts Token) (name : LaneName) (by : ℕ) (s t : Cellar) (is_left status : ℕ) → IsPromised s.engine → Gives name by None s t is_left status →
+    IsEngineCourse g s.engine t.engine []
+nothing_back g name by s t is_left status kept k = by_answer k.answer (by_giving_up g s.engine t.engine name by None k.answer kept k.give) where
+  by_answer : (o : Option Bool) → IsEngineCourse g s.engine t.engine (seen_back name o None) → IsEngineCourse g s.engine t.engine []
+  by_answer None p = p
+  by_answer (Some left) p = p
 
-given_up : (g : Ghosts Token) (word by : ℕ) (untold : List Effect) (s t : Cellar) (is_left status : ℕ) → IsPromised s.engine →
-    IsGivenUp word by untold s t is_left status → IsCourseTelling g s.engine t.engine []
-given_up g word by untold s t is_left status kept is = given_up_if g (undone_in untold) word by s t is_left status kept is
+abbrev inner : LaneName → Effect → What → Sent
+inner name e what = record { lane = name; user = e.user; value = e.value; by = e.by; what = what }
 
-let_go : (g : Ghosts Token) (turn : Turn) (s t : TurnState) (left : Option ℕ) → LetsLaneGo turn s t left → Tells g s t []
-let_go g turn s t _ (holds_none none same) = stays g s t (ap (λ (x : TurnState). x.cellar) same)
-let_go g turn s t _ (stays_in_hand h hand inside fresh same) = stays g s t (ap (λ (x : TurnState). x.cellar) same)
-let_go g turn s t _ (lets_inner_go h hand inside begun drops) = stays g s t (ap (λ (x : TurnState). x.cellar) drops.only)
+something_back : (g : Ghosts Token) (name : LaneName) (by : ℕ) (e : Effect) (what : What) (s t : Cellar) (is_left status : ℕ) → IsPromised s.engine →
+    what_of e.kind ≡ Some what → Gives name by (Some (inner name e what)) s t is_left status → GivesOne g s t e
+something_back g name by e what s t is_left status kept kind k =
+    by_answer k.answer (by_giving_up g s.engine t.engine name by (Some (inner name e what)) k.answer kept k.give) where
+      by_answer : (o : Option Bool) → IsEngineCourse g s.engine t.engine (seen_back name o (Some (inner name e what))) → GivesOne g s t e
+      by_answer None p = comes_none p
+      by_answer (Some left) p = comes_one name what kind p
+
+none_given_up : (g : Ghosts Token) (o : Option LaneName) (by : ℕ) (s t : Cellar) (is_left status : ℕ) → IsPromised s.engine →
+    GivesBackIf o by None s t is_left status → IsEngineCourse g s.engine t.engine []
+none_given_up g None by s t is_left status kept (same, none, gone) = unchanged g s.engine t.engine (ap (λ (c : Cellar). c.engine) same)
+none_given_up g (Some name) by s t is_left status kept k = nothing_back g name by s t is_left status kept k
+
+one_given_up : (g : Ghosts Token) (o : Option LaneName) (by : ℕ) (e : Effect) (what : What) (s t : Cellar) (is_left status : ℕ) → IsPromised s.engine →
+    what_of e.kind ≡ Some what → GivesBackIf o by (Some e) s t is_left status → GivesOne g s t e
+one_given_up g None by e what s t is_left status kept kind (same, none, gone) =
+    comes_none (unchanged g s.engine t.engine (ap (λ (c : Cellar). c.engine) same))
+one_given_up g (Some name) by e what s t is_left status kept kind k =
+    something_back g name by e what s t is_left status kept kind
+    (subst (λ (x : Option Sent). Gives name by x s t is_left status) (ap (option_map (inner name e)) kind) k)
+
+given_by_kind : (g : Ghosts Token) (word by : ℕ) (e : Effect) (s t : Cellar) (is_left status : ℕ) → IsPromised s.engine → (w : Option What) →
+    what_of e.kind ≡ w → IsGivenUpIf (option_map (λ (x : What). Some e) w) word by s t is_left status → GivesOne g s t e
+given_by_kind g word by e s t is_left status kept None kind (same, none, code) =
+    comes_none (unchanged g s.engine t.engine (ap (λ (c : Cellar). c.engine) same))
+given_by_kind g word by e s t is_left status kept (Some what) kind k =
+    one_given_up g (named s.engine.parts.lanes word) by e what s t is_left status kept kind k
+
+ends_so : (g : Ghosts Token) (s t : TurnState) → Stays g s t → IsEndCourse g s t
+ends_so g s t p = record { back = []; course = p.course; back_so = none_back; tickets = p.tickets; hands = p.hands }
+
+-- what is given up was in hand
+given_up : (g : Ghosts Token) (turn : Turn) (h : Task) (s u t : TurnState) (v : Cellar) (is_left status : ℕ) → in_hand s.agenda turn ≡ Some h →
+    Drops turn s u → IsPromised s.cellar.engine → t ≡ record u { cellar = v } → (b : Bool) → h.is_begun ≡ b →
+    IsGivenUp h.word turn.by (if b then [] else h.effect ∷ []) s.cellar v is_left status → IsEndCourse g s t
+given_up g turn h s u t v is_left status hand drops kept same true begun is = record {
+  back = [];
+  course = at_end g s t v [] (ap (λ (x : TurnState). x.cellar) same)
+      (none_given_up g (named s.cellar.engine.parts.lanes h.word) turn.by s.cellar v is_left status kept is);
+  back_so = none_back;
+  tickets = ap (λ (x : TurnState). x.tickets) same ∙ ap (λ (x : TurnState). x.tickets) drops.only;
+  hands = then_hands s u t None (one_held turn None s u drops.holds) (all_stay u t None (λ w. ap (λ (x : TurnState). in_hand x.agenda w) same));
+}
+given_up g turn h s u t v is_left status hand drops kept same false unbegun is =
+    by_one (given_by_kind g h.word turn.by h.effect s.cellar v is_left status kept (what_of h.effect.kind) refl is) where
+      tickets_stay : t.tickets ≡ s.tickets
+      tickets_stay = ap (λ (x : TurnState). x.tickets) same ∙ ap (λ (x : TurnState). x.tickets) drops.only
+
+      hands_from : HandsFrom s t None
+      hands_from = then_hands s u t None (one_held turn None s u drops.holds) (all_stay u t None (λ w. ap (λ (x : TurnState). in_hand x.agenda w) same))
+
+      by_one : GivesOne g s.cellar v h.effect → IsEndCourse g s t
+      by_one (comes_none p) =
+          record {
+            back = [];
+            course = at_end g s t v [] (ap (λ (x : TurnState). x.cellar) same) p;
+            back_so = none_back;
+            tickets = tickets_stay;
+            hands = hands_from;
+          }
+      by_one (comes_one lane what kind p) =
+          record {
+            back = came_back lane (as_back h.effect what) ∷ [];
+            course = at_end g s t v (came_back lane (as_back h.effect what) ∷ []) (ap (λ (x : TurnState). x.cellar) same) p;
+            back_so = one_back lane turn h what [] hand unbegun kind none_back;
+            tickets = tickets_stay;
+            hands = hands_from;
+          }
+
+let_go : (g : Ghosts Token) (turn : Turn) (s t : TurnState) (left : Option ℕ) → LetsLaneGo turn s t left → IsEndCourse g s t
+let_go g turn s t _ (holds_none none same) = ends_so g s t (same_state g s t same)
+let_go g turn s t _ (stays_in_hand h hand inside unbegun same) = ends_so g s t (same_state g s t same)
+let_go g turn s t _ (lets_inner_go h hand inside begun drops) = ends_so g s t (dropped g turn s t drops)
 let_go g turn s t _ (gives_lane_up h u v is_left hand outside drops kept gives same) =
-    at_end g s t v [] (ap (λ (x : TurnState). x.cellar) same) (given_up g h.word turn.by (untold_of h) s.cellar v is_left gives.status kept gives.given)
+    given_up g turn h s u t v is_left gives.status hand drops kept same h.is_begun refl gives.given
 
-ended : (g : Ghosts Token) (turn : Turn) (s t : TurnState) → EndsTurn turn s t → Tells g s t []
+-- what came back later was in hand before
+back_before : (s t : TurnState) (acts : List Seen) → HandsFrom s t None → AreBack t acts → AreBack s acts
+back_before s t _ hands none_back = none_back
+back_before s t _ hands (one_back lane turn h what acts held unbegun kind rest) =
+    one_back lane turn h what acts (was_unbegun s t turn h hands held unbegun) unbegun kind (back_before s t acts hands rest)
+
+back_append : (s : TurnState) (xs ys : List Seen) → AreBack s xs → AreBack s ys → AreBack s (xs ++ ys)
+back_append s _ ys none_back more = more
+back_append s _ ys (one_back lane turn h what acts held unbegun kind rest) more =
+    one_back lane turn h what (acts ++ ys) held unbegun kind (back_append s acts ys rest more)
+
+ends_then : (g : Ghosts Token) (s t u : TurnState) → IsEndCourse g s t → IsEndCourse g t u → IsEndCourse g s u
+ends_then g s t u p q = record {
+  back = p.back ++ q.back;
+  course = and_then p.course q.course;
+  back_so = back_append s p.back q.back p.back_so (back_before s t q.back p.hands q.back_so);
+  tickets = q.tickets ∙ p.tickets;
+  hands = then_hands s t u None p.hands q.hands;
+}
+
+ended : (g : Ghosts Token) (turn : Turn) (s t : TurnState) → EndsTurn turn s t → IsEndCourse g s t
 ended g turn s t ends =
-    and_then (let_go g turn s ends.between ends.left ends.lets_go) (stays g ends.between t (ap (λ (x : TurnState). x.cellar) ends.only))
+    ends_then g s ends.between t (let_go g turn s ends.between ends.left ends.lets_go)
+    (ends_so g ends.between t (by_agenda g ends.between t (ap (λ (x : TurnState). x.cellar) ends.only) (ap (λ (x : TurnState). x.tickets) ends.only)
+    (all_stay ends.between t None ends.emptied.hands)))
 
-all_stopped : (g : Ghosts Token) (turn : Turn) (t s : TurnState) → StopsDeeper turn t s → Tells g s t []
-all_stopped g turn t _ (all_ended none) = stays g t t refl
-all_stopped g turn t _ (one_ended s v u deep ends rest) = and_then (ended g u s v ends) (all_stopped g turn t v rest)
+all_stopped : (g : Ghosts Token) (turn : Turn) (t s : TurnState) → StopsDeeper turn t s → IsEndCourse g s t
+all_stopped g turn t _ (all_ended none) = ends_so g t t (same_state g t t refl)
+all_stopped g turn t _ (one_ended s v u deep ends rest) = ends_then g s v t (ended g u s v ends) (all_stopped g turn t v rest)
 
-left_to : (g : Ghosts Token) (left : Option ℕ) (turn : Turn) (s t : TurnState) → LeavesTo left turn s t → Tells g s t []
-left_to g None turn s t same = stays g s t (ap (λ (x : TurnState). x.cellar) same)
-left_to g (Some word) turn s t claims = stays g s t (claimed_cellar turn word s t claims)
+left_to : (g : Ghosts Token) (left : Option ℕ) (turn : Turn) (s t : TurnState) → LeavesTo left turn s t → Stays g s t
+left_to g None turn s t same = same_state g s t same
+left_to g (Some word) turn s t claims = by_dues g s t (claimed_dues turn word s t claims)
 
 pub calls_are_courses : (g : Ghosts Token) → CallsAreCourses g
 calls_are_courses g = record {
   steps = λ turn begun c s t a b step steps.
-      behind g s steps.marked t step.handed (stays g s steps.marked (ap (λ (x : TurnState). x.cellar) steps.marks.only))
-      (stepped g turn steps.marked steps.made t step.handed (made_any g turn c steps.marked steps.made a b step.status step.is_own steps.makes) steps.goes_on);
+      let start = noted g turn.by begun s steps.marked steps.marks in
+      let rest = stepped g turn (tag_done c step.status) steps.marked steps.made t step.handed
+      (made_any g turn c steps.marked steps.made a b step.status step.is_own steps.makes) steps.goes_on in
+      record {
+        told = rest.told;
+        course = and_then start.course rest.course;
+        handed_so = since s steps.marked t step.handed rest.told start.tickets start.hands rest.handed_so;
+        hands = then_hands s steps.marked t step.handed start.hands rest.hands;
+      };
   passes = λ turn begun from now_is s t passes.
-      and_then (stays g s passes.marked (ap (λ (x : TurnState). x.cellar) passes.marks.only))
-      (and_then (let_go g _ passes.marked passes.free passes.left passes.lets_go) (left_to g passes.left _ passes.free t passes.leaves));
+      ends_then g s passes.marked t (ends_so g s passes.marked (noted g turn.by begun s passes.marked passes.marks))
+      (ends_then g passes.marked passes.free t (let_go g _ passes.marked passes.free passes.left passes.lets_go)
+      (ends_so g passes.free t (left_to g passes.left _ passes.free t passes.leaves)));
   stops = λ turn begun s t stops.
-      and_then (stays g s stops.marked (ap (λ (x : TurnState). x.cellar) stops.marks.only))
-      (and_then (ended g turn stops.marked stops.ended stops.ends) (all_stopped g turn t stops.ended stops.deeper));
+      ends_then g s stops.marked t (ends_so g s stops.marked (noted g turn.by begun s stops.marked stops.marks))
+      (ends_then g stops.marked stops.ended t (ended g turn stops.marked stops.ended stops.ends) (all_stopped g turn t stops.ended stops.deeper));
 }

@@ -1,6 +1,8 @@
--- What is taken by a command of numbers, and the count of lanes that it tells.
-use Rattle.std.proofs.Common.{◌≡◌, ℕ, ◌==◌, true, false, List, [], ◌∷◌, length, Option, Some, None, Ok, Err, refl, sym, ap, subst, ◌∙◌}
-use Rattle.std.proofs.lemmas.Bool.{false≢true}
+-- What is seen of a command of numbers, and the count of lanes that it tells.
+use Rattle.std.proofs.Common.{◌≡◌, ℕ, ◌==◌, ◌&&◌, Bool, true, false, List, [], ◌++◌, length, Option, Some, None, Ok, Err, refl, sym, ap, subst, ◌∙◌}
+use Rattle.std.proofs.Common.{if◌then◌else◌}
+use Rattle.std.proofs.Math.Bool.{not}
+use Rattle.std.proofs.lemmas.Bool.{false≢true, and_parts, eqb-true}
 use Rattle.std.proofs.lemmas.List.{length-map}
 use Rattle.rx_resource.specs.declared.Resource.{Ghosts}
 use Rattle.rx_resource.specs.declared.token.Token.{Token}
@@ -13,18 +15,18 @@ use Rattle.rx_engine.specs.States.{State, IsPromised}
 use Rattle.rx_cellar.specs.Codes.{refusal_status}
 use Rattle.rx_cellar.specs.declared.shapes.Command.{Command}
 use Rattle.rx_cellar.specs.declared.shapes.Answer.{Answer}
-use Rattle.rx_cellar.specs.declared.shapes.Effect.{Effect}
 use Rattle.rx_cellar.specs.declared.making.Made.{Made}
 use Rattle.rx_cellar.specs.declared.asked.Asked.{Asked}
 use Rattle.rx_cellar.specs.declared.cellar.Cellar.{Cellar}
-use Rattle.rx_cellar.specs.Asking.{asked_of}
+use Rattle.rx_cellar.specs.Asking.{asked_of, by_code, next_of}
 use Rattle.rx_cellar.specs.Cellars.{is_due, IsAskedMade, is_done, is_refused as is_not_done, IsMadeIf, IsCommandMade, told_with}
-use Rattle.rx_cellar.specs.Crossings.{effect_of, no_answer}
+use Rattle.rx_cellar.specs.Crossings.{no_answer}
 use Rattle.rx_cellar.specs.Words.{word_of_due}
-use Rattle.rx_turns.specs.Courses.{IsCourseTelling}
-use Rattle.rx_turns.specs.Making.{words_due}
+use Rattle.rx_turns.specs.declared.agenda.Turn.{Turn}
+use Rattle.rx_turns.specs.Courses.{Seen, IsEngineCourse, tag_asked, tag_done}
+use Rattle.rx_turns.specs.Making.{words_due, made_for}
 use Rattle.rx_turns.proofs.CoursesTold.{unchanged, and_then}
-use Rattle.rx_turns.proofs.CommandsAreCourses.{IsHandedCourse, tidy, tried}
+use Rattle.rx_turns.proofs.CommandsAreCourses.{told_first, told_due, tidy, tried}
 
 -- a refusal is not done
 pub not_done : (why : Refusal) → (refusal_status why == 0) ≡ false
@@ -47,47 +49,93 @@ not_done NoLease = refl
 not_done Leased = refl
 not_done MailLeft = refl
 
--- nothing is handed out with the answer; or one effect, of the only lane that is due
-pub data IsToldWith (b : Answer) (t : State) (status : ℕ) : List Effect → Type 0 where
-  tells_none : (b.handed == 1) ≡ false → IsToldWith b t status []
-  tells_one : (d : Due) → t.parts.lanes.due ≡ d ∷ [] → (b.handed == 1) ≡ true → (status == 0) ≡ true → IsToldWith b t status (b.effect ∷ [])
+-- what is seen of it -------------------------------------------------------------------------------------
 
-pub record IsMadeCourse (g : Ghosts Token) (s t : State) (b : Answer) (status : ℕ) : Type 0 where
-  pub told : List Effect
-  pub course : IsCourseTelling g s t told
-  pub told_so : IsToldWith b t status told
+abbrev pub tag_if : Option Asked → (status : ℕ) → List Seen
+tag_if asked status = if status == 0 then tag_asked asked else []
 
-by_given : (g : Ghosts Token) (s t : State) (made : Made) (given : Option Sent) (a : Answer) → IsHandedCourse g s t given →
-    IsMadeCourse g s t (told_with (record { made = made; given = given }) t (no_answer a)) 0
-by_given g s t made None a p = record { told = []; course = p.course; told_so = tells_none refl }
-by_given g s t made (Some sent) a p =
-    record { told = effect_of sent ∷ []; course = p.course; told_so = tells_one p.named.0 p.named.1 refl refl }
+-- what is handed out with the answer
+abbrev pub handed_with : List Due → Answer → List Seen
+handed_with due b = if b.handed == 1 then told_first due b.effect else []
+
+abbrev acts_made : Option Asked → (status : ℕ) → List Due → Answer → List Seen
+acts_made asked status due b = tag_if asked status ++ handed_with due b
+
+done_acts : (asked : Asked) (due : List Due) (made : Made) (given : Option Sent) (e : State) (a : Answer) →
+    acts_made (Some asked) 0 due (told_with (record { made = made; given = given }) e (no_answer a)) ≡ tag_asked (Some asked) ++ told_due due given
+done_acts asked due made None e a = refl
+done_acts asked due made (Some sent) e a = refl
+
+refused_acts : (asked : Option Asked) (status : ℕ) (due : List Due) (a : Answer) → (status == 0) ≡ false → acts_made asked status due (no_answer a) ≡ []
+refused_acts asked status due a undone = ap (λ (b : Bool). (if b then tag_asked asked else []) ++ []) undone
 
 asked_made : (g : Ghosts Token) (asked : Asked) (by : ℕ) (s t : Cellar) (a b : Answer) (status : ℕ) → IsPromised s.engine →
-    IsAskedMade g asked by s t (no_answer a) b status → IsMadeCourse g s.engine t.engine b status
+    IsAskedMade g asked by s t (no_answer a) b status → IsEngineCourse g s.engine t.engine (acts_made (Some asked) status t.engine.parts.lanes.due b)
 asked_made g asked by s t a b status kept (is_done o u v tidies made counts tells) =
     let before = tidy g (is_due s) s u kept tidies in
-    let handed = tried g asked by u v (Ok o) before.1 made in
-    subst (λ (x : State). IsMadeCourse g s.engine x b 0) (sym (ap (λ (c : Cellar). c.engine) counts))
-    (subst (λ (y : Answer). IsMadeCourse g s.engine v.engine y 0) (sym tells)
-    (by_given g s.engine v.engine o.made o.given a (record { course = and_then before.0 handed.course; named = handed.named })))
+    subst (λ (x : State). IsEngineCourse g s.engine x (acts_made (Some asked) 0 x.parts.lanes.due b)) (sym (ap (λ (c : Cellar). c.engine) counts))
+    (subst (λ (y : Answer). IsEngineCourse g s.engine v.engine (acts_made (Some asked) 0 v.engine.parts.lanes.due y)) (sym tells)
+    (subst (λ (xs : List Seen). IsEngineCourse g s.engine v.engine xs) (sym (done_acts asked v.engine.parts.lanes.due o.made o.given v.engine a))
+    (and_then before.0 (tried g asked by u v (Ok o) before.1 made))))
 asked_made g asked by s t a b status kept (is_not_done why u tidies made same) =
     let before = tidy g (is_due s) s u kept tidies in
-    let handed = tried g asked by u t (Err why) before.1 made in
-    record { told = []; course = and_then before.0 handed.course; told_so = tells_none (ap (λ (y : Answer). y.handed == 1) same) }
+    subst (λ (y : Answer). IsEngineCourse g s.engine t.engine (acts_made (Some asked) (refusal_status why) t.engine.parts.lanes.due y)) (sym same)
+    (subst (λ (xs : List Seen). IsEngineCourse g s.engine t.engine xs)
+    (sym (refused_acts (Some asked) (refusal_status why) t.engine.parts.lanes.due a (not_done why)))
+    (and_then before.0 (tried g asked by u t (Err why) before.1 made)))
 
 made_by : (g : Ghosts Token) (asked : Option Asked) (by : ℕ) (s t : Cellar) (a b : Answer) (status : ℕ) → IsPromised s.engine →
-    IsMadeIf g asked by s t (no_answer a) b status → IsMadeCourse g s.engine t.engine b status
-made_by g None by s t a b status kept (five, same, none) = record {
-  told = [];
-  course = unchanged g s.engine t.engine (ap (λ (c : Cellar). c.engine) same);
-  told_so = tells_none (ap (λ (y : Answer). y.handed == 1) none);
-}
+    IsMadeIf g asked by s t (no_answer a) b status → IsEngineCourse g s.engine t.engine (acts_made asked status t.engine.parts.lanes.due b)
+made_by g None by s t a b status kept (five, same, none) =
+    subst (λ (y : Answer). IsEngineCourse g s.engine t.engine (acts_made None status t.engine.parts.lanes.due y)) (sym none)
+    (subst (λ (xs : List Seen). IsEngineCourse g s.engine t.engine xs)
+    (sym (refused_acts None status t.engine.parts.lanes.due a (ap (λ (n : ℕ). n == 0) five)))
+    (unchanged g s.engine t.engine (ap (λ (c : Cellar). c.engine) same)))
 made_by g (Some asked) by s t a b status kept is = asked_made g asked by s t a b status kept is
 
 pub made_course : (g : Ghosts Token) (c : Command) (s t : Cellar) (a b : Answer) (status : ℕ) → IsPromised s.engine → IsCommandMade g c s t a b status →
-    IsMadeCourse g s.engine t.engine b status
+    IsEngineCourse g s.engine t.engine (tag_if (asked_of c) status ++ handed_with t.engine.parts.lanes.due b)
 made_course g c s t a b status kept is = made_by g (asked_of c) c.by s t a b status kept is
+
+-- a command that was refused hands out nothing
+none_asked : (g : Ghosts Token) (asked : Asked) (by : ℕ) (s t : Cellar) (a b : Answer) (status : ℕ) → IsAskedMade g asked by s t (no_answer a) b status →
+    (status == 0) ≡ false → (b.handed == 1) ≡ false
+none_asked g asked by s t a b status (is_done o u v tidies made counts tells) undone = absurd (false≢true (sym undone))
+none_asked g asked by s t a b status (is_not_done why u tidies made same) undone = ap (λ (y : Answer). y.handed == 1) same
+
+none_by : (g : Ghosts Token) (asked : Option Asked) (by : ℕ) (s t : Cellar) (a b : Answer) (status : ℕ) → IsMadeIf g asked by s t (no_answer a) b status →
+    (status == 0) ≡ false → (b.handed == 1) ≡ false
+none_by g None by s t a b status (five, same, none) undone = ap (λ (y : Answer). y.handed == 1) none
+none_by g (Some asked) by s t a b status is undone = none_asked g asked by s t a b status is undone
+
+pub none_handed_with : (g : Ghosts Token) (c : Command) (s t : Cellar) (a b : Answer) (status : ℕ) → IsCommandMade g c s t a b status →
+    (status == 0) ≡ false → (b.handed == 1) ≡ false
+none_handed_with g c s t a b status is undone = none_by g (asked_of c) c.by s t a b status is undone
+
+-- an item hands in no tag
+no_tag_if : (b : Bool) (asked : Option Asked) → tag_asked asked ≡ [] → tag_asked (if b then asked else None) ≡ []
+no_tag_if true asked none = none
+no_tag_if false asked none = refl
+
+item_tag : (by flags : ℕ) (c : Command) → c.what ≡ 3 → tag_asked (next_of (record c { by = by; flags = flags })) ≡ [] →
+    tag_asked (asked_of (record c { by = by; flags = flags })) ≡ []
+item_tag by flags c is none =
+    ap (λ (n : ℕ). tag_asked (asked_of (record c { what = n; by = by; flags = flags }))) is
+    ∙ no_tag_if (c.spare == 0) (by_code (record c { what = 3; by = by; flags = flags })) none
+
+-- a turn makes a command that hands in the same tag
+same_tag_by : (b : Bool) (by : ℕ) (c : Command) → (b ≡ true → (c.what ≡ 3) × (c.flags ≡ 0)) →
+    tag_asked (asked_of (record c { by = by; flags = if b then 8 else c.flags })) ≡ tag_asked (asked_of c)
+same_tag_by false by c is = refl
+same_tag_by true by c is =
+    item_tag by 8 c (is refl).0 refl
+    ∙ sym (ap (λ (n : ℕ). tag_asked (asked_of (record c { flags = n }))) (is refl).1 ∙ item_tag c.by 0 c (is refl).0 refl)
+
+pub same_tag : (is_free : Bool) (turn : Turn) (c : Command) (status : ℕ) → tag_if (asked_of (made_for is_free turn c)) status ≡ tag_done (Some c) status
+same_tag is_free turn c status =
+    ap (λ (xs : List Seen). if status == 0 then xs else []) (same_tag_by ((c.what == 3 && c.flags == 0) && not is_free) turn.by c (λ is.
+    let item = and_parts (c.what == 3) (c.flags == 0) (and_parts (c.what == 3 && c.flags == 0) (not is_free) is).0 in
+    (eqb-true c.what 3 item.0, eqb-true c.flags 0 item.1)))
 
 -- a command that is another is made as that is
 pub made_as : (g : Ghosts Token) (c d : Command) (s t : Cellar) (a b : Answer) (status : ℕ) → c ≡ d → IsCommandMade g c s t a b status →

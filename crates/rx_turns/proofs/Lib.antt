@@ -22,6 +22,7 @@ pub mod DeeperServed
 pub mod Ended
 pub mod WordsClaimed
 pub mod WordsRead
+pub mod HandsKept
 pub mod CoursesTold
 pub mod CommandsAreCourses
 pub mod NothingHanded

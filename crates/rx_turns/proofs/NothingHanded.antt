@@ -18,7 +18,10 @@ use Rattle.rx_cellar.specs.Makings.{Outcome, of_made, shown, ComesToIf}
 use Rattle.rx_cellar.specs.Cellars.{IsTried, at_once, once_more, IsTriedAgain, behind_one, behind_none, IsAskedMade, is_done, is_refused, told, with_handed}
 use Rattle.rx_cellar.specs.Cellars.{IsMadeIf, IsCommandMade}
 use Rattle.rx_turns.specs.Making.{lane_at_once, may_ask, made_for}
-use Rattle.rx_turns.proofs.CommandsAreCourses.{given_of}
+
+abbrev given_of : Result Outcome Refusal → Option Sent
+given_of (Ok o) = o.given
+given_of (Err why) = None
 
 given_made : (r : Result Made Refusal) → given_of (shown of_made r) ≡ None
 given_made (Ok made) = refl
