@@ -12,6 +12,17 @@ const program = (text) => {
   return [...stdout.trim().split('\n'), ...stderr.split('\n').filter((it) => /^\w*Error/.test(it))];
 };
 
+const url = (file) => JSON.stringify(new URL(file, import.meta.url).href);
+/** For a program: makes the realm an engine that stops where `stops` says so before a call of this name. */
+const STOPPING = `
+    const { readFileSync } = await import('node:fs'), { Crossing } = await import(${url('../src/engine/crossing.mjs')}), { glue } = await import(${url('../src/engine/glue.mjs')});
+    const realm = globalThis[Symbol.for('cellarcliff.realm.1')], module = new WebAssembly.Module(readFileSync(process.env.CELLARCLIFF_WASM || new URL(${url('../engine.wasm')})));
+    function renews(name, stops) {
+      const { exports } = new WebAssembly.Instance(module), call = exports[name];
+      const stopping = (...words) => { if (stops()) throw new WebAssembly.RuntimeError('unreachable'); return call(...words); };
+      return realm.engine = new Crossing({ ...exports, [name]: stopping }, new WebAssembly.Module(glue()), realm);
+    }`;
+
 export const only_ours = {
   'what is open at the end of a process is closed': { of: () => program(`
     rx.using(() => ({ unsubscribe: () => console.log('released') }), () => rx.NEVER).pipe(rx.finalize(() => console.log('final'))).subscribe();
@@ -19,13 +30,9 @@ export const only_ours = {
   'and when it exits by itself': { of: () => program(`
     rx.NEVER.pipe(rx.finalize(() => console.log('final'))).subscribe();
     process.exit(0);`), is: ['final'] },
-  'an engine that stops within a call is dead: what it held is released, who heard is told, and what comes has another one': { of: () => program(`
-    const { readFileSync } = await import('node:fs'), { Crossing } = await import(${JSON.stringify(new URL('../src/engine/crossing.mjs', import.meta.url).href)});
-    const { glue } = await import(${JSON.stringify(new URL('../src/engine/glue.mjs', import.meta.url).href)});
-    const realm = globalThis[Symbol.for('cellarcliff.realm.1')], { exports } = new WebAssembly.Instance(new WebAssembly.Module(readFileSync(process.env.CELLARCLIFF_WASM || new URL('engine.wasm', ${JSON.stringify(INDEX)}))));
+  'an engine that stops within a call is dead: what it held is released, who heard is told, and what comes has another one': { of: () => program(`${STOPPING}
     let stops = false;
-    const stopping = (call) => (...words) => { if (stops) throw new WebAssembly.RuntimeError('unreachable'); return call(...words); };
-    realm.engine = new Crossing({ ...exports, cellar_step: stopping(exports.cellar_step) }, new WebAssembly.Module(glue()), realm);
+    renews('cellar_step', () => stops);
     const source = new rx.Subject(), held = (name, it) => rx.using(() => ({ unsubscribe: () => console.log('released', name) }), () => it);
     held('a', source).pipe(rx.finalize(() => { console.log('final'); throw new Error('no'); })).subscribe({ error: (e) => console.log('heard', e.message.split(':')[1].trim()) });
     held('b', rx.NEVER).pipe(rx.switchMap(() => source)).subscribe({ error: () => console.log('heard') });
@@ -41,6 +48,29 @@ export const only_ours = {
     'cellarcliff: the engine stopped within a call (unreachable): what it held is released, and what is subscribed to from now on has a new one', 'told 1', 'released c',
     'final', 'released a', 'released b', 'heard the engine stopped within a call (unreachable)', 'heard', 'reported no', 'false 0 null',
   ] },
+  'wherever it stops, each resource is released once': { of: () => program(`${STOPPING}
+    rx.config.onUnhandledError = () => {};
+    let deaths = 0;
+    for (const name of ['cellar_step', 'cellar_next', 'cellar_pass']) for (let n = 0; n < 40; n++) {
+      let left = n;
+      const engine = renews(name, () => left-- === 0), counts = [], [a, b] = [new rx.Subject(), new rx.Subject()];
+      const held = (it) => rx.using(() => {
+        const at = counts.push(0) - 1;
+        return () => { counts[at]++; };
+      }, () => it);
+      try {
+        held(a).pipe(rx.concatMap((x) => held(rx.of(x, x + 1)).pipe(rx.catchError(() => rx.EMPTY))), rx.share()).subscribe({ next: (x) => { if (x === 1) b.next(7); }, error: () => {} });
+        held(b).pipe(rx.switchMap((x) => held(rx.of(x))), rx.tap({ complete: () => {} })).subscribe({ error: () => {} });
+        [1, 5].forEach((x) => a.next(x));
+        b.next(2);
+        [a, b].forEach((it) => it.complete());
+      } catch (error) { if (error !== engine.dead) console.log(error.stack); }
+      await new Promise((done) => setTimeout(done));
+      if (engine.dead) deaths++;
+      rx.close();
+      if (counts.some((it) => it !== 1)) console.log(name, n, counts.join());
+    }
+    console.log(deaths > 50);`), is: ['true'] },
   'what a step hands out is told, whatever its command came to, and then what comes next': { of: () => {
     const said = [], memory = new WebAssembly.Memory({ initial: 1 }), words = (at, many) => new Int32Array(memory.buffer, 1024 + at, many), due = [];
     let user = 0, ticket = 0;

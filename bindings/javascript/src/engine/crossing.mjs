@@ -67,10 +67,9 @@ export class Crossing {
     };
     this.#glue = { room: dies, make: dies, open: dies, step: dies, next: dies, goOn: dies, go: dies, pass: dies, all: dies, entered: { value: 1 } };
     this.#wasm = { ...this.#wasm, cellar_totals: dies, cellar_dump: dies, cellar_closings: dies };
-    const things = this.#things.all();
-    for (const it of things) it.slot = it.top = it.lo = it.hi = -1; // a key that names nothing, in any engine
+    for (const it of this.#things.all()) it.slot = it.top = it.lo = it.hi = -1; // a key that names nothing, in any engine
     this.#renews();
-    queueMicrotask(() => this.#endsAll(things));
+    queueMicrotask(() => this.#endsAll(this.#things.all())); // by then a call that failed has taken back what it was to open or to hold
     return this.dead;
   }
 
@@ -334,7 +333,9 @@ export class Crossing {
   #postpone(act) {
     if (this.#postponed === null) {
       this.#postponed = [];
-      queueMicrotask(() => { if (this.#depth === 0 && this.#postponed !== null) this.#resume(); });
+      queueMicrotask(() => {
+        if (this.#depth === 0 && this.#postponed !== null) try { this.#resume(); } catch (error) { this.#report(error); }
+      });
     }
     if (act !== undefined) this.#postponed.push(act);
   }
@@ -352,11 +353,7 @@ export class Crossing {
   // The stack may still be as full: then all of it stays for a turn of its own.
   #resume() {
     let is_handed;
-    try { is_handed = this.#glue.go(1); } catch (error) {
-      const why = this.#failed(error);
-      if (this.dead !== null) throw why;
-      return;
-    }
+    try { is_handed = this.#glue.go(1); } catch (error) { return void this.#failed(error); }
     const acts = this.#postponed;
     this.#postponed = null;
     this.#depth = 1;
