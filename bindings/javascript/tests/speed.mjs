@@ -23,6 +23,13 @@ const WORK = {
     const stop = new rx.Subject(), source = new rx.Subject().pipe(rx.map((x) => x + 1), rx.takeUntil(stop), rx.finalize(() => { sink++; }));
     return (many) => { for (let i = 0; i < many; i++) source.subscribe(hear).unsubscribe(); };
   }],
+  'a subject that is made, subscribed to and completed': [1000, (rx) => (many) => {
+    for (let i = 0; i < many; i++) {
+      const source = new rx.Subject();
+      source.subscribe(hear);
+      source.complete();
+    }
+  }],
   'an item': [5000, (rx) => {
     const source = new rx.Subject();
     source.subscribe(hear);
