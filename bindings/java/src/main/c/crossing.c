@@ -1,0 +1,120 @@
+/* The calls of an engine for the JVM: each is one crossing. What a step answers stands in the desk's own memory, which Java reads through
+ * one direct buffer under the lock under which it called. */
+#define _GNU_SOURCE
+#include <jni.h>
+#include <pthread.h>
+#include <stdlib.h>
+
+#include "cellarcliff.h"
+
+enum { WORDS = 64, NO_STACK = 255 };
+
+/* What Java reads begins with `step`; Native.java has the places. */
+struct desk {
+  struct cellar engine;
+  struct cellar_stepped step;
+  struct cellar_totals totals;
+  uint64_t words[WORDS];
+};
+_Static_assert(offsetof(struct desk, totals) - offsetof(struct desk, step) == 192, "Native.java");
+_Static_assert(offsetof(struct desk, words) - offsetof(struct desk, step) == 256, "Native.java");
+
+/* Whether the stack has so many kilobytes left. A command is not made where the lines behind it might find no stack: what it came to would
+ * be lost. The JVM keeps up to 96 at the end for itself. */
+static int has_stack(size_t kilobytes) {
+  static _Thread_local char *end;
+  char here;
+  if (!end) {
+    pthread_attr_t attributes;
+    void *lowest;
+    size_t size;
+    if (pthread_getattr_np(pthread_self(), &attributes)) return 1;
+    if (!pthread_attr_getstack(&attributes, &lowest, &size)) end = lowest;
+    pthread_attr_destroy(&attributes);
+    if (!end) return 1;
+  }
+  return (size_t)(&here - end) > kilobytes << 10;
+}
+
+/* What ends needs less than what begins, and what closes less still, so that whoever could begin something can end it. */
+static size_t needed(uint8_t what) {
+  return what <= CELLAR_NEXT || what == CELLAR_CONNECT ? 160 : what <= CELLAR_ERROR ? 144 : 128;
+}
+
+/* The status, and above it whether there is an effect, whether it is the command's own item, its kind, whether it carries a value, and
+ * whether there are closings or values to keep. */
+static jlong told(const struct desk *desk, uint8_t status) {
+  const struct cellar_stepped *step = &desk->step;
+  return status | (jlong)step->handed << 8 | (jlong)step->own << 9 | (jlong)(step->effect.carries != 0) << 10 |
+         (jlong)(step->closed != 0 || step->copies != 0) << 11 | (jlong)step->effect.kind << 16;
+}
+
+#define JNI(type, name) JNIEXPORT type JNICALL Java_dev_cellarcliff_rx_Native_##name
+#define STATIC JNIEnv *env, jclass class
+#define UNUSED (void)env, (void)class
+#define STACK {.by = (uint64_t)by, .depth = (uint64_t)depth, .begun = (uint64_t)begun}
+
+JNI(jboolean, fits)(STATIC) {
+  UNUSED;
+  return CELLAR_FITS();
+}
+
+JNI(jlong, open)(STATIC) {
+  UNUSED;
+  struct desk *desk = calloc(1, sizeof *desk);
+  if (desk && cellar_new(&desk->engine, 0)) {
+    free(desk);
+    desk = NULL;
+  }
+  return (jlong)desk;
+}
+
+JNI(jobject, buffer)(STATIC, jlong desk) {
+  (void)class;
+  return (*env)->NewDirectByteBuffer(env, &((struct desk *)desk)->step, sizeof(struct desk) - offsetof(struct desk, step));
+}
+
+JNI(jlong, step)(STATIC, jlong at, jlong by, jlong depth, jlong begun, jlong head, jlong hub, jlong slot, jlong number, jlong user, jlong value) {
+  UNUSED;
+  struct desk *desk = (struct desk *)at;
+  struct cellar_stack stack = STACK;
+  struct cellar_command command = {.what = (uint8_t)head, .place = (uint8_t)(head >> 8), .kind = (uint8_t)(head >> 16), .flags = (uint8_t)(head >> 24),
+                                   .level = (uint32_t)(head >> 32), .hub = (uint64_t)hub, .node = {(uint64_t)slot, (uint64_t)number},
+                                   .user = (uint64_t)user, .value = (uint64_t)value};
+  if (!has_stack(needed(command.what))) return NO_STACK;
+  return told(desk, cellar_step(&desk->engine, &stack, &command, &desk->step));
+}
+
+JNI(jlong, next)(STATIC, jlong at, jlong by, jlong depth, jlong begun) {
+  UNUSED;
+  struct desk *desk = (struct desk *)at;
+  struct cellar_stack stack = STACK;
+  return told(desk, cellar_next(&desk->engine, &stack, &desk->step));
+}
+
+JNI(void, pass)(STATIC, jlong at, jlong by, jlong depth, jlong begun, jboolean now) {
+  UNUSED;
+  struct cellar_stack stack = STACK;
+  cellar_pass(&((struct desk *)at)->engine, &stack, now);
+}
+
+JNI(void, stop)(STATIC, jlong at, jlong by, jlong depth, jlong begun) {
+  UNUSED;
+  struct cellar_stack stack = STACK;
+  cellar_stop(&((struct desk *)at)->engine, &stack);
+}
+
+/* Further closings of the command, from this place on: how many stand in `words`. */
+JNI(jlong, closings)(STATIC, jlong at, jlong from) {
+  UNUSED;
+  struct desk *desk = (struct desk *)at;
+  uint64_t count = 0;
+  cellar_closings(&desk->engine, (uint64_t)from, desk->words, WORDS, &count);
+  return (jlong)count;
+}
+
+JNI(void, totals)(STATIC, jlong at) {
+  UNUSED;
+  struct desk *desk = (struct desk *)at;
+  cellar_totals(&desk->engine, &desk->totals);
+}

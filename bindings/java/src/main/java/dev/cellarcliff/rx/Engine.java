@@ -1,0 +1,584 @@
+package dev.cellarcliff.rx;
+
+import static dev.cellarcliff.rx.Native.*;
+
+import io.reactivex.rxjava3.core.Observer;
+import java.lang.ref.Reference;
+import java.lang.ref.ReferenceQueue;
+import java.nio.ByteBuffer;
+
+/**
+ * An engine of the library, and the objects for which its words stand. A command is made under the lock, and what it came to is read there;
+ * what is to be done then is done outside it.
+ *
+ * The lock is a monitor, which the JVM leaves whatever is raised, also where the stack has no room for a call. Each object that a
+ * command needs is made before it, and a command is not made where the stack is short, so that between a command and what it hands out
+ * nothing fails.
+ */
+final class Engine {
+    private static volatile Engine current = new Engine();
+
+    /** The engine of what is subscribed to now. */
+    static Engine current() { return current; }
+
+    /** For tests: what comes from now on has an engine of its own. */
+    static Engine renew() { return current = new Engine(); }
+
+    private final long desk = Native.open();
+    private final ByteBuffer memory;
+    private final ThreadLocal<Stack> stacks = ThreadLocal.withInitial(Stack::new);
+    private final Slots<Tree.Ref> trees = new Slots<>();
+    private final Slots<Object> values = new Slots<>();
+    /** Trees that nobody could reach any more. */
+    final ReferenceQueue<Tree> collected = new ReferenceQueue<>();
+    /** How many threads have calls under way; whether one of them left something; what may be told yet, though nobody holds it. */
+    private int active;
+    private boolean isLeft;
+    private Tree pinned;
+    private Engine spare;
+
+    private Engine() {
+        if (desk == 0) { throw new OutOfMemoryError("cellarcliff: no memory for an engine"); }
+        memory = Native.memory(desk);
+    }
+
+    /** Another engine, for shares that find no hub in this one. */
+    private Engine spare() { return spare == null ? spare = new Engine() : spare; }
+
+    // a step and what it came to: all under the lock -------------------------------------------------------------------------
+
+    private void step(Stack stack, long head, long hub, long slot, long number, long user, long word, Object value) {
+        long told;
+        stack.depth++;
+        try {
+            told = Native.step(desk, stack.by, stack.depth, stack.begun, head, hub, slot, number, user, word);
+            if (told == NO_STACK) { throw new StackOverflowError(); }
+        } catch (Throwable why) {
+            stack.depth--;
+            throw why;
+        }
+        if (stack.depth == 1) { active++; }
+        stack.status = (int) told & 255;
+        if ((told & MORE) != 0) { readClosings(stack, told, (int) head & 255, value); }
+        hand(stack, told, value);
+    }
+
+    private void next(Stack stack) {
+        hand(stack, Native.next(desk, stack.by, stack.depth, stack.begun), null);
+    }
+
+    /** A thread has no call under way any more. */
+    private void rest() {
+        if (--active > 0 || isLeft) { return; }
+        while (pinned != null) { unpin(pinned); }
+    }
+
+    private void readClosings(Stack stack, long told, int what, Object value) {
+        int copies = (int) memory.getLong(COPIES), closed = (int) memory.getLong(CLOSED);
+        if (copies > 0 && (told & OWN) == 0) { values.put(value, copies); }
+        Thing last = null;
+        for (int i = 0, from = 0, at = CLOSINGS, many = ROOM; i < closed; i++) {
+            if (i - from == many) {
+                from = i;
+                at = MORE_CLOSINGS;
+                many = (int) Native.closings(desk, i);
+            }
+            Thing thing = told(memory.getLong(at + 8 * (i - from)));
+            if (thing == null) { continue; }
+            thing.close(this, what, value);
+            if (last == null) { stack.closing = thing; } else { last.closedNext = thing; }
+            last = thing;
+        }
+    }
+
+    private void hand(Stack stack, long told, Object value) {
+        stack.isHanded = (told & HANDED) != 0;
+        if (!stack.isHanded) {
+            if (stack.depth > 1) { return; }
+            isLeft = false;
+            rest();
+            return;
+        }
+        stack.begun = memory.getLong(TICKET);
+        stack.from = memory.getLong(BY);
+        stack.kind = (int) (told >>> KIND) & 255;
+        long user = memory.getLong(USER);
+        stack.tree = trees.get((int) (user >>> 32)).get();
+        stack.value = (told & CARRIES) == 0 ? null : (told & OWN) != 0 ? value : values.take((int) memory.getLong(VALUE));
+        switch (stack.kind) {
+            case E_NEXT:
+                break;
+            case E_PROJECT:
+                stack.thing = stack.tree == null ? null : stack.tree.things.get((int) user);
+                break;
+            case E_COMPLETED:
+            case E_FAILED:
+            case E_GONE:
+                if (stack.tree != null) { ((Root) stack.tree).isOver = true; }
+                settled(trees.get((int) (user >>> 32)));
+                break;
+            case E_RELEASE:
+                stack.thing = told(user);
+                if (stack.thing != null) { hold(stack.tree, (Tag) stack.thing, -1); }
+                break;
+            default:
+                stack.thing = told(user);
+        }
+    }
+
+    private static void hold(Tree tree, Tag tag, int change) {
+        if (tag.isEager) { tree.eager += change; } else { tree.late += change; }
+    }
+
+    // words: all under the lock ------------------------------------------------------------------------------------------
+
+    /** The thing of a word that is told for the last time; null if its tree was collected. */
+    private Thing told(long word) {
+        Tree.Ref ref = trees.get((int) (word >>> 32));
+        Tree tree = ref.get();
+        Thing thing = tree == null ? null : tree.things.take((int) word);
+        settled(ref);
+        return thing;
+    }
+
+    private void settled(Tree.Ref ref) {
+        if (--ref.owed > 0) { return; }
+        trees.take(ref.index);
+        ref.index = -1;
+        Tree tree = ref.get();
+        if (tree != null && tree.isPinned) { unpin(tree); }
+    }
+
+    private static final int NO_THING = -1;
+
+    /** Room for words of a tree. */
+    private void makeRoom(Tree tree, int things) {
+        trees.makeRoom(1);
+        tree.things.makeRoom(things);
+    }
+
+    private long word(Tree tree, Thing thing) {
+        Tree.Ref ref = tree.ref;
+        if (ref.index < 0) { ref.index = trees.put(ref, 1); }
+        ref.owed++;
+        return (long) ref.index << 32 | (thing == null ? NO_THING : tree.things.put(thing, 1)) & 0xFFFF_FFFFL;
+    }
+
+    private void takeBack(long word) {
+        Tree.Ref ref = trees.get((int) (word >>> 32));
+        if ((int) word != NO_THING) { ref.get().things.take((int) word); }
+        settled(ref);
+    }
+
+    /** Holds a tree until no call is under way, or until all of it is told: what another call has to tell it may be behind its closing. */
+    void pin(Tree tree) {
+        if (tree.isPinned || tree.ref.owed == 0) { return; }
+        tree.isPinned = true;
+        tree.pinnedAfter = pinned;
+        if (pinned != null) { pinned.pinnedBefore = tree; }
+        pinned = tree;
+    }
+
+    private void unpin(Tree tree) {
+        tree.isPinned = false;
+        if (tree.pinnedBefore == null) { pinned = tree.pinnedAfter; } else { tree.pinnedBefore.pinnedAfter = tree.pinnedAfter; }
+        if (tree.pinnedAfter != null) { tree.pinnedAfter.pinnedBefore = tree.pinnedBefore; }
+        tree.pinnedBefore = tree.pinnedAfter = null;
+    }
+
+    // doing what a step came to -------------------------------------------------------------------------------------------------
+
+    /**
+     * Does what the last step of this stack came to and whatever comes behind it, and ends the call. Raises what that raised. What the
+     * command closed is acted on first; but where the user disposes, behind what is released around that, as RxJava does.
+     */
+    private void serve(Stack stack, Tree of, Tree.Releases around) {
+        long depth = stack.depth;
+        Thing closing = stack.closing;
+        Throwable raised = null;
+        stack.closing = null;
+        try {
+            for (boolean isFirst = true;; isFirst = false) {
+                boolean isHanded = stack.isHanded;
+                int kind = stack.kind;
+                long from = stack.from;
+                Tree tree = stack.tree;
+                Thing thing = stack.thing;
+                Object value = stack.value;
+                stack.tree = null;
+                stack.thing = null;
+                stack.value = null;
+                if (isFirst && around == null) { raised = act(closing, raised); }
+                if (!isHanded) { break; }
+                try {
+                    if (around != null && kind == E_RELEASE && tree == of) {
+                        around.add((Tag) thing);
+                    } else {
+                        tell(stack, kind, tree, thing, value);
+                    }
+                } catch (Throwable why) {
+                    raised = from == stack.by || Errors.isFatal(why) ? Errors.raise(raised, why) : Errors.hear(raised, why);
+                }
+                stack.depth = depth;
+                synchronized (this) { next(stack); }
+                Reference.reachabilityFence(tree);  // what else its lane has finds it
+            }
+            if (around != null) { raised = act(closing, around.releaseEager(raised)); }
+        } catch (Throwable why) {
+            stop(stack, depth, of);
+            throw why;
+        }
+        stack.depth = depth - 1;
+        Reference.reachabilityFence(of);
+        if (raised != null) { throw Errors.thrown(raised); }
+    }
+
+    private void stop(Stack stack, long depth, Tree of) {
+        stack.depth = depth;
+        synchronized (this) {
+            pin(of);
+            isLeft = true;
+            Native.stop(desk, stack.by, depth, stack.begun);
+            if (depth == 1) { rest(); }
+        }
+        stack.depth = depth - 1;
+    }
+
+    private static Throwable act(Thing closing, Throwable raised) {
+        for (Thing thing = closing, next; thing != null; thing = next) {
+            next = thing.closedNext;
+            thing.closedNext = null;
+            try {
+                thing.closed();
+            } catch (Throwable why) {
+                raised = Errors.hear(raised, why);
+            }
+        }
+        return raised;
+    }
+
+    private static void tell(Stack stack, int kind, Tree tree, Thing thing, Object value) throws Throwable {
+        if (tree == null) { return; }
+        switch (kind) {
+            case E_NEXT:
+                ((Root) tree).next(value);
+                break;
+            case E_PROJECT:
+                ((Merging) thing).project(value);
+                break;
+            case E_COMPLETED:
+            case E_FAILED:
+                ((Root) tree).end(stack, (Throwable) value);
+                break;
+            case E_GONE:
+                ((Root) tree).gone();
+                break;
+            case E_RELEASE:
+                try {
+                    ((Tag) thing).release();
+                } catch (Throwable why) {
+                    Errors.hear(why);
+                }
+                break;
+            default:
+        }
+    }
+
+    /** From within the telling of an end: does what stands behind it now. */
+    void settle(Stack stack, Root root) {
+        synchronized (this) {
+            stack.depth++;
+            try {
+                Native.pass(desk, stack.by, stack.depth, stack.begun, true);
+                next(stack);
+            } catch (Throwable why) {
+                stack.depth--;
+                throw why;
+            }
+        }
+        serve(stack, root, root.releases.around(true));
+    }
+
+    // commands -------------------------------------------------------------------------------------------------------------------
+
+    private static Throwable refused(int status) {
+        return status == NO_MEMORY ? new OutOfMemoryError("cellarcliff: the engine was refused memory")
+            : new IllegalStateException(status == FULL || status == TOO_MANY ? "cellarcliff: the engine has no room for more" : "cellarcliff: refused, status " + status);
+    }
+
+    /** Whether a command was done; otherwise what it names is gone. */
+    private static boolean isDone(int status) {
+        if (status != DONE && status != GONE && status != NOTHING_OWED) { throw Errors.thrown(refused(status)); }
+        return status == DONE;
+    }
+
+    /** Tells an item: whether the leaf was open. */
+    boolean next(Leaf leaf, Tree tree, Object item) {
+        Stack stack = stacks.get();
+        int status;
+        synchronized (this) {
+            values.makeRoom(1);
+            step(stack, NEXT, 0, leaf.slot, leaf.number, 0, values.next(), item);
+            status = stack.status;
+        }
+        serve(stack, tree, null);
+        return isDone(status);
+    }
+
+    /** Tells the end: whether the leaf was open. */
+    boolean end(Leaf leaf, Tree tree, Throwable error) { return make(error == null ? COMPLETE : ERROR, leaf, tree, error); }
+
+    /** Answers an item that is projected by an error: whether that was still to be answered. */
+    boolean fail(Merging merging, Throwable error) { return make(FAIL, merging, merging.tree, error); }
+
+    /** Answers an item that is projected by nothing. */
+    void decline(Merging merging) { make(DECLINE, merging, merging.tree, null); }
+
+    private boolean make(int what, Node node, Tree tree, Object value) {
+        Stack stack = stacks.get();
+        int status;
+        synchronized (this) {
+            values.makeRoom(1);
+            step(stack, what, 0, node.slot, node.number, 0, value == null ? 0 : values.next(), value);
+            status = stack.status;
+        }
+        serve(stack, tree, null);
+        return isDone(status);
+    }
+
+    void dispose(Root root) {
+        Stack stack = stacks.get();
+        boolean isAround;
+        synchronized (this) {
+            if (!root.isOpen || root.isOver) { return; }
+            isAround = root.eager > 0;
+            step(stack, DISPOSE, 0, root.ref.slot, root.ref.number, 0, 0, null);
+            isAround &= stack.status == DONE;
+        }
+        if (!isAround) {
+            serve(stack, root, null);
+            return;
+        }
+        Throwable raised = null;
+        try {
+            serve(stack, root, root.releases.around(false));
+        } catch (Throwable why) {
+            raised = why;
+        }
+        raised = root.releases.releaseLate(raised);
+        if (raised != null) { throw Errors.thrown(raised); }
+    }
+
+    /**
+     * Opens a node that has no word unless it is a thing of its tree, and that holds `tag` if there is one: whether it is open. What is
+     * projected is answered by that, so whatever comes meanwhile is projected at once, as RxJava does.
+     */
+    boolean open(Place at, int head, Node node, boolean hasWord, Tag tag) {
+        Stack stack = stacks.get();
+        Tree tree = at.tree;
+        int status;
+        synchronized (this) {
+            makeRoom(tree, 2);
+            if (tag != null && tree.releases == null) { tree.releases = new Tree.Releases(); }
+            long user = at.isRoot() || hasWord ? word(tree, hasWord ? node : null) : 0, value = tag == null ? 0 : word(tree, tag);
+            if (at.isRoot() && hasWord) { tree.ref.owed++; }
+            boolean isDone = false;
+            try {
+                step(stack, head | at.place << 8 | (hasWord && (head & 0xFF_0000) == LEAF << 16 ? (long) WISHES << 24 : 0), 0, at.slot, at.number, user, value, null);
+                isDone = stack.status == DONE;
+            } finally {
+                if (!isDone) {
+                    if (at.isRoot() && hasWord) { tree.ref.owed--; }
+                    if (at.isRoot() || hasWord) { takeBack(user); }
+                    if (tag != null) { takeBack(value); }
+                }
+            }
+            status = stack.status;
+            if (isDone) {
+                opened(stack, at, node);
+                if (tag != null) { hold(tree, tag, 1); }
+            }
+        }
+        serve(stack, tree, null);
+        leave(at);
+        return isDone(status);
+    }
+
+    /** Reads the key of what was opened. The lock is held. */
+    private void opened(Stack stack, Place at, Node node) {
+        node.slot = memory.getLong(NODE);
+        node.number = memory.getLong(NODE + 8);
+        if (at.isRoot()) {
+            Root root = (Root) at.tree;
+            root.isOpen = true;
+            root.ref.closedBy = DISPOSE;
+            root.ref.slot = node.slot;
+            root.ref.number = node.number;
+        } else if (at.over != null) {
+            Native.pass(desk, stack.by, stack.depth, stack.begun, false);
+        }
+    }
+
+    /** Disposes of a root that the user disposed of while it was opened. */
+    private void leave(Place at) {
+        if (at.isRoot() && ((Root) at.tree).isDisposed()) { dispose((Root) at.tree); }
+    }
+
+    // shares ----------------------------------------------------------------------------------------------------------------------
+
+    /** Opens a subscriber of a share, and its connection where there is none: the status, or ENDED. */
+    int subscribe(Place at, Share share) {
+        Stack stack = stacks.get();
+        Tree tree = at.tree;
+        Share.Subscriber node = new Share.Subscriber(share, at);
+        Connection made = share.kind == SHARED ? new Connection(share, this) : null;
+        boolean isConnected = false;
+        int status;
+        synchronized (this) {
+            if (share.engine != this) { return NO_HUB; }
+            if (share.hasEnded) { return ENDED; }
+            makeRoom(tree, 1);
+            long user = word(tree, node), flags = WISHES, slot = at.slot, number = at.number;
+            Share.Subscriber beside = at.isRoot() ? share.beside() : null;
+            if (at.isRoot()) { tree.ref.owed++; }
+            if (beside != null) {
+                flags |= LANE_OF_NODE;
+                slot = beside.slot;
+                number = beside.number;
+            }
+            boolean isDone = false;
+            try {
+                step(stack, OPEN | at.place << 8 | share.kind << 16 | flags << 24 | (long) share.level << 32, share.hub, slot, number, user, share.word, null);
+                isDone = stack.status == DONE;
+            } finally {
+                if (!isDone) {
+                    if (at.isRoot()) { tree.ref.owed--; }
+                    takeBack(user);
+                }
+            }
+            status = stack.status;
+            if (isDone) {
+                share.hub = memory.getLong(HUB);
+                isConnected = memory.getLong(IS_CONNECTED) != 0;
+                if (isConnected) {
+                    made.slot = memory.getLong(OTHER);
+                    made.number = memory.getLong(OTHER + 8);
+                    share.connection = made;
+                }
+                node.join();
+                opened(stack, at, node);
+            } else if (status == NO_HUB) {
+                share.engine = spare();
+            }
+        }
+        serve(stack, tree, null);
+        if (status == NO_HUB || status == HUB_ORDER) { return status; }
+        leave(at);
+        if (isDone(status) && isConnected) { Operator.open(share.source, Place.source(made)); }
+        return status;
+    }
+
+    /** A subscriber came behind the end of a connection that was made by hand. */
+    static final int ENDED = -1;
+
+    /** Connects a share by hand: the connection that there is now. It is new if it is `made`. */
+    Connection connect(Share share, Connection made) {
+        Stack stack = stacks.get();
+        Connection.ByHand node = made.new ByHand();
+        int status;
+        synchronized (this) {
+            if (share.engine != this) { return null; }
+            if (share.connection != null && share.connection.isOpen) { return share.connection; }
+            makeRoom(made, 1);
+            long user = word(made, node);
+            boolean isDone = false;
+            try {
+                step(stack, CONNECT | (long) WISHES << 24 | (long) share.level << 32, share.hub, 0, 0, user, share.word, null);
+                isDone = stack.status == DONE;
+            } finally {
+                if (!isDone) { takeBack(user); }
+            }
+            status = stack.status;
+            if (isDone) {
+                share.hub = memory.getLong(HUB);
+                made.slot = memory.getLong(OTHER);
+                made.number = memory.getLong(OTHER + 8);
+                made.isOpen = true;
+                made.ref.closedBy = DISCONNECT;
+                made.ref.word = share.word;
+                made.ref.hub = share.hub;
+                share.connection = made;
+                share.hasEnded = false;
+                share.error = null;
+            } else if (status == NO_HUB) {
+                share.engine = spare();
+            }
+        }
+        serve(stack, made, null);
+        if (status == NO_HUB) { return null; }
+        isDone(status);
+        return made;
+    }
+
+    /** Ends a connection that was made by hand, and forgets how it ended. */
+    void disconnect(Connection connection) {
+        Share share = connection.share;
+        Stack stack = stacks.get();
+        synchronized (this) {
+            if (share.connection != connection) { return; }
+            if (!connection.isOpen) {
+                share.forget();
+                return;
+            }
+            step(stack, DISCONNECT, share.hub, 0, 0, 0, share.word, null);
+        }
+        serve(stack, connection, null);
+    }
+
+    /** Forgets how a connection that was made by hand ended. */
+    synchronized void reset(Share share) { share.forget(); }
+
+    // subscribing -----------------------------------------------------------------------------------------------------------------
+
+    static void subscribe(Operator source, Observer<Object> observer) {
+        Engine engine = source.engine();
+        engine.closeCollected();
+        Root root = new Root(engine, observer);
+        observer.onSubscribe(root);
+        if (root.isDisposed()) {
+            source.isNotOpened();
+            return;
+        }
+        try {
+            source.open(Place.root(root));
+        } catch (Throwable why) {
+            root.dispose();
+            throw why;
+        }
+        Reference.reachabilityFence(root);
+    }
+
+    /** Closes what nobody could reach any more. */
+    void closeCollected() {
+        for (Tree.Ref ref; (ref = (Tree.Ref) collected.poll()) != null;) {
+            Stack stack = stacks.get();
+            synchronized (this) {
+                if (ref.owed == 0 || ref.closedBy < 0) { continue; }
+                if (ref.closedBy == DISPOSE) {
+                    step(stack, DISPOSE, 0, ref.slot, ref.number, 0, 0, null);
+                } else {
+                    step(stack, DISCONNECT, ref.hub, 0, 0, 0, ref.word, null);
+                }
+            }
+            serve(stack, null, null);
+        }
+    }
+
+    /** What is open: nodes, resources that are held, resources that are still to be released, effects; then trees and values kept here. */
+    long[] counts() {
+        synchronized (this) {
+            Native.totals(desk);
+            return new long[] {memory.getLong(TOTALS), memory.getLong(TOTALS + 8), memory.getLong(TOTALS + 16), memory.getLong(TOTALS + 56), trees.used(), values.used()};
+        }
+    }
+}

@@ -1,0 +1,39 @@
+package dev.cellarcliff.rx;
+
+import io.reactivex.rxjava3.core.ObservableSource;
+import io.reactivex.rxjava3.functions.Action;
+
+/** An action behind the end, or behind the disposal: a resource that is there already. */
+final class Finally extends Operator.Plain {
+    private final ObservableSource<?> source;
+    private final Action action;
+
+    Finally(ObservableSource<?> source, Action action) {
+        this.source = source;
+        this.action = action;
+    }
+
+    @Override public int level() { return Operator.level(source); }
+
+    @Override public void isNotOpened() {
+        try {
+            action.run();
+        } catch (Throwable why) {
+            Errors.hear(why);
+        }
+    }
+
+    @Override public void open(Place at) {
+        Node node = new Node();
+        Tag held = new Tag(false) {
+            @Override void release() throws Throwable { action.run(); }
+        };
+        boolean isHeld = false;
+        try {
+            isHeld = at.tree.engine.open(at, Native.USING, node, false, held);
+        } finally {
+            if (!isHeld) { isNotOpened(); }
+        }
+        if (isHeld) { Operator.open(source, at.below(node)); }
+    }
+}

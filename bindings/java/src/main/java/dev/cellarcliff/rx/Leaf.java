@@ -1,0 +1,65 @@
+package dev.cellarcliff.rx;
+
+import io.reactivex.rxjava3.core.Observer;
+import io.reactivex.rxjava3.disposables.Disposable;
+import io.reactivex.rxjava3.exceptions.ProtocolViolationException;
+import java.lang.invoke.MethodHandles;
+import java.lang.invoke.VarHandle;
+
+/** A node that tells the engine what a source of RxJava's tells. It disposes of the source once it is closed, unless the source has ended. */
+final class Leaf extends Node implements Observer<Object> {
+    private static final VarHandle UPSTREAM;
+
+    static {
+        try {
+            UPSTREAM = MethodHandles.lookup().findVarHandle(Leaf.class, "upstream", Disposable.class);
+        } catch (ReflectiveOperationException why) {
+            throw new ExceptionInInitializerError(why);
+        }
+    }
+
+    private final Engine engine;
+    /** Until it is closed. */
+    private volatile Tree tree;
+    private volatile boolean hasEnded;
+    private volatile Disposable upstream;
+
+    Leaf(Place at) {
+        this.engine = at.tree.engine;
+        this.tree = at.tree;
+    }
+
+    boolean isOpen() { return tree != null; }
+
+    @Override void close(Engine by, int what, Object value) { tree = null; }
+
+    @Override void closed() {
+        Disposable before = (Disposable) UPSTREAM.getAndSet(this, Disposable.disposed());
+        if (before != null && !hasEnded) { before.dispose(); }
+    }
+
+    @Override public void onSubscribe(Disposable given) {
+        if (UPSTREAM.compareAndSet(this, null, given)) { return; }
+        given.dispose();
+        if (upstream != Disposable.disposed()) { Errors.hear(new ProtocolViolationException("Disposable already set!")); }
+    }
+
+    @Override public void onNext(Object item) {
+        Tree into = tree;
+        if (into != null && !engine.next(this, into, item)) { tree = null; }
+    }
+
+    @Override public void onError(Throwable error) {
+        if (!end(error)) { Errors.hear(error); }
+    }
+
+    @Override public void onComplete() { end(null); }
+
+    /** Whether it was open. */
+    private boolean end(Throwable error) {
+        Tree into = tree;
+        if (into == null) { return false; }
+        hasEnded = true;
+        return engine.end(this, into, error);
+    }
+}

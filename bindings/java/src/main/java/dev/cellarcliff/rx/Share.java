@@ -1,0 +1,70 @@
+package dev.cellarcliff.rx;
+
+import io.reactivex.rxjava3.core.ObservableSource;
+import java.util.concurrent.atomic.AtomicLong;
+
+/** What the subscribers of a share have together. But for the first fields all is under the lock of its engine. */
+final class Share {
+    private static final AtomicLong WORDS = new AtomicLong();
+
+    final ObservableSource<Object> source;
+    final int kind, level;
+    final long word = WORDS.incrementAndGet();
+    volatile Engine engine = Engine.current();
+    long hub = Native.UNKNOWN_HUB;
+    /** The last connection. */
+    Connection connection;
+    /** Whether a connection that was made by hand ended, and its error, until that is forgotten. */
+    boolean hasEnded;
+    Throwable error;
+    /** Those whose lane others may have come first. */
+    private Subscriber first, last;
+
+    Share(ObservableSource<Object> source, int kind) {
+        this.source = source;
+        this.kind = kind;
+        this.level = Operator.level(source);
+    }
+
+    void forget() {
+        hasEnded = false;
+        error = null;
+    }
+
+    /** A subscription of which the lane can be another's too: one that has nothing but this share. */
+    Subscriber beside() { return first != null && first.isAlone ? first : null; }
+
+    /** A node that subscribes to it. */
+    static final class Subscriber extends Node {
+        final Share share;
+        final boolean isAlone;
+        private final Tree tree;
+        private Subscriber before, after;
+
+        Subscriber(Share share, Place at) {
+            this.share = share;
+            this.isAlone = at.isRoot();
+            this.tree = at.tree;
+        }
+
+        void join() {
+            if (isAlone) {
+                after = share.first;
+                if (after == null) { share.last = this; } else { after.before = this; }
+                share.first = this;
+            } else {
+                before = share.last;
+                if (before == null) { share.first = this; } else { before.after = this; }
+                share.last = this;
+            }
+        }
+
+        @Override void close(Engine engine, int what, Object value) {
+            if (before == null) { share.first = after; } else { before.after = after; }
+            if (after == null) { share.last = before; } else { after.before = before; }
+            before = after = null;
+            engine.pin(tree);
+            if (share.connection != null) { engine.pin(share.connection); }
+        }
+    }
+}

@@ -1,0 +1,21 @@
+package dev.cellarcliff.rx;
+
+import java.util.concurrent.atomic.AtomicLong;
+
+/** A thread's calls of an engine, and what the last of its steps came to, until the next. */
+final class Stack {
+    private static final AtomicLong WORDS = new AtomicLong();
+
+    final long by = WORDS.incrementAndGet();
+    long depth, begun;
+
+    int status, kind;
+    boolean isHanded;
+    /** Of what is handed out: whose tree, what of it, its value, and which thread's command it comes of. */
+    Tree tree;
+    Thing thing;
+    Object value;
+    long from;
+    /** What the command closed, the first of a chain. */
+    Thing closing;
+}

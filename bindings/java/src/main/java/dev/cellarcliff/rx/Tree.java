@@ -1,0 +1,98 @@
+package dev.cellarcliff.rx;
+
+import java.lang.ref.ReferenceQueue;
+import java.lang.ref.WeakReference;
+
+/**
+ * What is open below one subscription, or below one connection of a share. Whatever can tell it something holds it; the engine does not, so
+ * that what nobody can reach is collected.
+ */
+abstract class Tree {
+    final Engine engine;
+    final Ref ref;
+    final Slots<Thing> things = new Slots<>();
+    /** If something was held here: made beforehand, since an end may not fail. */
+    Releases releases;
+    /** How many resources are held here that are released before the end, and behind it. */
+    int eager, late;
+    // the list of what the engine holds
+    boolean isPinned;
+    Tree pinnedBefore, pinnedAfter;
+
+    Tree(Engine engine) {
+        this.engine = engine;
+        this.ref = new Ref(this, engine.collected);
+    }
+
+    /** What the engine keeps of a tree. */
+    static final class Ref extends WeakReference<Tree> {
+        int index = -1;
+        /** How many of its words are still to be told for the last time. */
+        int owed;
+        /** How it is closed once it is collected: nothing, a root, or a connection that was made by hand. */
+        int closedBy = -1;
+        long slot, number, word, hub;
+
+        Ref(Tree tree, ReferenceQueue<Tree> collected) { super(tree, collected); }
+    }
+
+    /**
+     * The releases around an end or a disposal, in RxJava's order: what is eager comes before it, from the source on at an end, towards
+     * the source at a disposal; what is late comes behind it, the other way round.
+     */
+    static final class Releases {
+        private boolean isEnd;
+        /** What an eager release raised before an end. */
+        Throwable failed;
+        private Tag eager, first, last;
+
+        Releases around(boolean isEnd) {
+            this.isEnd = isEnd;
+            return this;
+        }
+
+        void add(Tag tag) {
+            if (!tag.isEager) {
+                if (isEnd || first == null) {
+                    tag.next = first;
+                    first = tag;
+                } else {
+                    last.next = tag;
+                }
+                if (!isEnd) { last = tag; }
+            } else if (!isEnd) {
+                tag.next = eager;
+                eager = tag;
+            } else {
+                try {
+                    tag.release();
+                } catch (Throwable why) {
+                    failed = failed == null ? why : Errors.both(failed, why);
+                }
+            }
+        }
+
+        Throwable releaseEager(Throwable raised) {
+            Tag all = eager;
+            eager = null;
+            return release(all, raised);
+        }
+
+        Throwable releaseLate(Throwable raised) {
+            Tag all = first;
+            first = last = null;
+            return release(all, raised);
+        }
+
+        private static Throwable release(Tag all, Throwable raised) {
+            for (Tag tag = all; tag != null; tag = tag.next) {
+                try {
+                    tag.release();
+                } catch (Throwable why) {
+                    raised = Errors.hear(raised, why);
+                }
+            }
+            return raised;
+        }
+    }
+}

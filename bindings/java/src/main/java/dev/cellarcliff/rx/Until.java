@@ -1,0 +1,22 @@
+package dev.cellarcliff.rx;
+
+import io.reactivex.rxjava3.core.ObservableSource;
+
+/** takeUntil: its source until the notifier tells something. */
+final class Until extends Operator.Plain {
+    private final ObservableSource<?> source, notifier;
+
+    Until(ObservableSource<?> source, ObservableSource<?> notifier) {
+        this.source = source;
+        this.notifier = notifier;
+    }
+
+    @Override public int level() { return Math.max(Operator.level(source), Operator.level(notifier)); }
+
+    @Override public void open(Place at) {
+        Node node = new Node();
+        if (!at.tree.engine.open(at, Native.OPEN | Native.UNTIL << 16, node, false, null)) { return; }
+        Operator.open(notifier, at.below(node, Native.NOTIFIER));
+        Operator.open(source, at.below(node));
+    }
+}

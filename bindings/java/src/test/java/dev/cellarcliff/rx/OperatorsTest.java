@@ -1,0 +1,219 @@
+package dev.cellarcliff.rx;
+
+import static dev.cellarcliff.rx.Tests.same;
+
+import io.reactivex.rxjava3.core.Observable;
+import io.reactivex.rxjava3.disposables.Disposable;
+import io.reactivex.rxjava3.functions.Function;
+import io.reactivex.rxjava3.subjects.PublishSubject;
+import java.util.ArrayList;
+import java.util.List;
+
+/** The operators one by one. What is expected is what RxJava's documentation says. */
+class OperatorsTest {
+    private final List<Object> log = new ArrayList<>();
+    private final PublishSubject<Integer> s = PublishSubject.create(), other = PublishSubject.create();
+
+    private Disposable told(Observable<?> source) { return source.subscribe(log::add, why -> log.add("error " + why.getMessage()), () -> log.add("end")); }
+
+    private <T> Observable<T> held(String name, Observable<T> source, boolean isEager) {
+        return Observable.using(() -> log.add("made " + name), made -> source, made -> log.add("released " + name), isEager);
+    }
+
+    private void expect(Object... expected) {
+        same(List.of(expected), log);
+        log.clear();
+    }
+
+    void hooks_put_the_operators_in_place() {
+        same(List.of(), Hooks.missing());
+        Function<Integer, Observable<Integer>> mapper = Observable::just;
+        for (Observable<?> each : List.of(held("r", s, true), s.flatMap(mapper), s.switchMap(mapper), s.takeUntil(other), s.doFinally(() -> { }), s.publish(), s.share(),
+                Observable.merge(s, other), s.mergeWith(other))) {
+            same(true, each instanceof Operator);
+        }
+        for (Observable<?> each : List.of(s.flatMap(mapper, true), s.flatMap(mapper, 2), s.switchMapDelayError(mapper), s.publish().refCount(2), s.map(v -> v))) {
+            same(false, each instanceof Operator);
+        }
+        Hooks.uninstall();
+        same(false, s.share() instanceof Operator);
+    }
+
+    void a_resource_is_released_before_the_end_or_behind_it() {
+        told(held("r", s, true));
+        s.onNext(1);
+        s.onComplete();
+        expect("made r", 1, "released r", "end");
+        told(held("r", other, false));
+        other.onNext(1);
+        other.onError(new Exception("e"));
+        expect("made r", 1, "error e", "released r");
+    }
+
+    void a_resource_is_released_where_the_user_disposes() {
+        Disposable d = told(held("outer", held("inner", s, true), false));
+        d.dispose();
+        d.dispose();
+        same(true, d.isDisposed());
+        same(false, s.hasObservers());
+        expect("made outer", "made inner", "released inner", "released outer");
+    }
+
+    void an_eager_release_comes_before_the_source_is_disposed_of() {
+        told(held("eager", s.doOnDispose(() -> log.add("disposed")), true)).dispose();
+        expect("made eager", "released eager", "disposed");
+        told(held("lazy", s.doOnDispose(() -> log.add("disposed")), false)).dispose();
+        expect("made lazy", "disposed", "released lazy");
+    }
+
+    void what_an_eager_release_raises_is_told() {
+        told(Observable.using(() -> 1, r -> s, r -> { throw new Exception("release"); }));
+        s.onComplete();
+        expect("error release");
+        told(Observable.using(() -> 1, r -> Observable.error(new Exception("source")), r -> { throw new Exception("release"); }));
+        expect("error 2 exceptions occurred. ");
+    }
+
+    void what_a_late_release_raises_goes_to_the_hook() {
+        told(Observable.using(() -> 1, r -> Observable.empty(), r -> { throw new Exception("release"); }, false));
+        expect("end");
+        same("release", Tests.strays.remove(0).getCause().getMessage());
+    }
+
+    void nothing_is_made_where_the_supplier_fails() {
+        told(Observable.using(() -> { throw new Exception("make"); }, r -> s, r -> log.add("released")));
+        expect("error make");
+        told(Observable.using(() -> 1, r -> { throw new Exception("source"); }, r -> log.add("released")));
+        expect("released", "error source");
+    }
+
+    void flat_map_merges() {
+        told(s.flatMap(v -> v == 0 ? other : Observable.just(v, -v)));
+        s.onNext(0);
+        s.onNext(1);
+        other.onNext(7);
+        s.onComplete();
+        other.onNext(8);
+        other.onComplete();
+        expect(1, -1, 7, 8, "end");
+    }
+
+    void flat_map_of_one_item_and_of_none() {
+        told(s.flatMap(v -> v % 2 == 0 ? Observable.empty() : Observable.just(v)));
+        s.onNext(1);
+        s.onNext(2);
+        s.onNext(3);
+        s.onComplete();
+        expect(1, 3, "end");
+    }
+
+    void a_mapper_that_fails_ends_all() {
+        told(s.flatMap(v -> v == 2 ? null : other));
+        s.onNext(1);
+        s.onNext(2);
+        expect("error The mapper returned a null ObservableSource");
+        same(false, s.hasObservers() || other.hasObservers());
+        PublishSubject<Integer> t = PublishSubject.create();
+        told(t.switchMap(v -> { throw new Exception("mapper"); }));
+        t.onNext(1);
+        expect("error mapper");
+    }
+
+    void switch_map_has_the_latest_alone() {
+        told(s.switchMap(v -> v == 0 ? held("zero", other, true) : Observable.just(v)));
+        s.onNext(0);
+        other.onNext(5);
+        s.onNext(1);
+        other.onNext(6);
+        s.onComplete();
+        expect("made zero", 5, "released zero", 1, "end");
+        same(false, other.hasObservers());
+    }
+
+    void an_observer_that_pushes_exchanges_at_once() {
+        s.switchMap(v -> Observable.range(v, 5)).subscribe(v -> {
+            log.add(v);
+            if (v == 1) { s.onNext(2); }
+        });
+        s.onNext(1);
+        s.onComplete();
+        expect(1, 2, 3, 4, 5, 6);
+    }
+
+    void take_until_ends_with_its_notifier() {
+        told(s.takeUntil(other));
+        s.onNext(1);
+        other.onNext(0);
+        s.onNext(2);
+        expect(1, "end");
+        same(false, s.hasObservers() || other.hasObservers());
+    }
+
+    void finally_comes_behind_the_end() {
+        told(s.doFinally(() -> log.add("inner")).doFinally(() -> log.add("outer")));
+        s.onComplete();
+        expect("end", "outer", "inner");
+        told(other.doFinally(() -> log.add("finally"))).dispose();
+        expect("finally");
+    }
+
+    void a_pushed_item_waits_for_the_one_before() {
+        Observable.merge(s, other).subscribe(v -> {
+            log.add("begin " + v);
+            if (v == 1) { other.onNext(2); }
+            log.add("done " + v);
+        });
+        s.onNext(1);
+        s.onComplete();
+        other.onComplete();
+        expect("begin 1", "done 1", "begin 2", "done 2");
+    }
+
+    void who_disposes_within_an_item_gets_no_more() {
+        Disposable[] d = new Disposable[1];
+        d[0] = held("r", Observable.merge(s, other), true).subscribe(v -> {
+            log.add(v);
+            other.onNext(2);
+            d[0].dispose();
+            log.add("done");
+        });
+        s.onNext(1);
+        expect("made r", 1, "released r", "done");
+    }
+
+    void an_observer_that_raises_is_disposed_of() {
+        held("r", s, true).subscribe(new io.reactivex.rxjava3.core.Observer<Integer>() {
+            @Override public void onSubscribe(Disposable given) { }
+            @Override public void onNext(Integer v) { throw new IllegalStateException("observer"); }
+            @Override public void onError(Throwable why) { log.add(why); }
+            @Override public void onComplete() { log.add("end"); }
+        });
+        try {
+            s.onNext(1);
+            log.add("not raised");
+        } catch (IllegalStateException why) {
+            log.add(why.getMessage());
+        }
+        expect("made r", "released r", "observer");
+        same(false, s.hasObservers());
+    }
+
+    void one_who_disposes_as_he_subscribes_gets_nothing() {
+        io.reactivex.rxjava3.observers.TestObserver<Integer> observer = new io.reactivex.rxjava3.observers.TestObserver<>();
+        observer.dispose();
+        held("r", s, true).subscribe(observer);
+        s.doFinally(() -> log.add("finally")).subscribe(observer);
+        expect("finally");
+        same(false, s.hasObservers());
+    }
+
+    void by_hand_without_hooks() {
+        Hooks.uninstall();
+        told(Rx.<Integer, Integer>using(() -> 1, r -> Rx.merge(s, other), r -> log.add("released"))
+            .compose(Rx.switchMap(v -> Observable.just(v))).compose(Rx.flatMap(v -> Observable.just(v))).compose(Rx.takeUntil(Observable.never())).compose(Rx.doFinally(() -> log.add("finally"))));
+        s.onNext(1);
+        s.onComplete();
+        other.onComplete();
+        expect(1, "released", "end", "finally");
+    }
+}
