@@ -95,7 +95,7 @@ JNI(jlong, next)(STATIC, jlong at, jlong by, jlong depth, jlong begun) {
 JNI(void, pass)(STATIC, jlong at, jlong by, jlong depth, jlong begun, jboolean now) {
   UNUSED;
   struct cellar_stack stack = STACK;
-  cellar_pass(&((struct desk *)at)->engine, &stack, now);
+  cellar_pass(&((struct desk *)at)->engine, &stack, stack.depth - 1, now);
 }
 
 JNI(void, stop)(STATIC, jlong at, jlong by, jlong depth, jlong begun) {

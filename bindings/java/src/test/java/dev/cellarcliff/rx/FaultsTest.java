@@ -1,0 +1,240 @@
+package dev.cellarcliff.rx;
+
+import static dev.cellarcliff.rx.Tests.same;
+
+import io.reactivex.rxjava3.core.Observable;
+import io.reactivex.rxjava3.core.Observer;
+import io.reactivex.rxjava3.disposables.Disposable;
+import io.reactivex.rxjava3.subjects.PublishSubject;
+import java.util.ArrayList;
+import java.util.List;
+import java.util.concurrent.CountDownLatch;
+import java.util.concurrent.atomic.AtomicInteger;
+
+/** Stacks that end, threads that are interrupted, observers that raise, subscriptions that nobody can reach. */
+class FaultsTest {
+    private final AtomicInteger made = new AtomicInteger(), released = new AtomicInteger();
+
+    private <T> Observable<T> held(Observable<T> source) {
+        return Observable.using(made::incrementAndGet, it -> source, it -> released.incrementAndGet());
+    }
+
+    private void expectReleased(int many) {
+        same(many, made.get());
+        same(many, released.get());
+    }
+
+    /** An observer that hears everything, and does something with each item. */
+    private static <T> Observer<T> raw(io.reactivex.rxjava3.functions.Consumer<T> next, Runnable ended) {
+        return new Observer<T>() {
+            @Override public void onSubscribe(Disposable given) { }
+            @Override public void onNext(T v) {
+                try {
+                    next.accept(v);
+                } catch (Throwable why) {
+                    throw io.reactivex.rxjava3.internal.util.ExceptionHelper.wrapOrThrow(why);
+                }
+            }
+            @Override public void onError(Throwable why) { ended.run(); }
+            @Override public void onComplete() { ended.run(); }
+        };
+    }
+
+    private static void inThread(long stack, Runnable work) throws Exception {
+        Throwable[] raised = new Throwable[1];
+        Thread thread = new Thread(null, work, "deep", stack);
+        thread.setUncaughtExceptionHandler((t, why) -> raised[0] = why);
+        thread.start();
+        thread.join();
+        if (raised[0] != null) { throw new AssertionError(raised[0]); }
+    }
+
+    /** A chain of pipelines, each of which pushes into the next, until the stack ends somewhere within one. */
+    void a_stack_that_ends_loses_nothing() throws Exception {
+        inThread(400 << 10, () -> {
+            for (int round = 0; round < 40; round++) {
+                int many = 1000, skew = 7 * round;
+                List<PublishSubject<Integer>> all = new ArrayList<>();
+                List<Disposable> given = new ArrayList<>();
+                int[] pushed = new int[1], told = new int[1], raised = new int[1];
+                for (int i = 0; i < many; i++) { all.add(PublishSubject.create()); }
+                for (int i = 0; i < many; i++) {
+                    int next = i + 1;
+                    given.add(new Io.DisposableHolder<>(held(all.get(i).flatMap(v -> Observable.just(v).hide())), v -> {
+                        told[0]++;
+                        pad(skew);
+                        if (next < many) {
+                            pushed[0]++;
+                            try {
+                                all.get(next).onNext(v);
+                            } catch (StackOverflowError why) {
+                                raised[0]++;
+                                throw why;
+                            }
+                        }
+                    }));
+                }
+                pushed[0]++;
+                try {
+                    all.get(0).onNext(round);
+                    throw new AssertionError("the stack did not end");
+                } catch (StackOverflowError why) {
+                    // as it should
+                }
+                for (Disposable each : given) { each.dispose(); }
+                for (PublishSubject<Integer> each : all) { same(false, each.hasObservers()); }
+                same(true, told[0] + 1 >= pushed[0]);
+                same(made.get(), released.get());
+            }
+        });
+        Tests.strays.removeIf(why -> why.getCause() instanceof StackOverflowError || why instanceof StackOverflowError);
+    }
+
+    private static int pad(int deep) { return deep == 0 ? 0 : 1 + pad(deep - 1); }
+
+    void what_follows_a_stack_that_ended_is_told() throws Exception {
+        PublishSubject<Integer> s = PublishSubject.create();
+        Observable<Integer> shared = s.share();
+        List<Integer> first = new ArrayList<>(), second = new ArrayList<>();
+        Disposable a = new Io.DisposableHolder<>(shared, v -> {
+            first.add(v);
+            if (v == 1) { endless(0); }
+        }), b = new Io.DisposableHolder<>(shared, second::add);
+        inThread(400 << 10, () -> {
+            try {
+                s.onNext(1);
+                throw new AssertionError("not raised");
+            } catch (StackOverflowError why) {
+                s.onNext(2);
+            }
+        });
+        same(List.of(1), first);
+        same(List.of(1, 2), second);
+        a.dispose();
+        b.dispose();
+        same(false, s.hasObservers());
+    }
+
+    private static int endless(int deep) { return 1 + endless(deep + 1); }
+
+    void an_observer_without_memory_is_disposed_of_and_the_others_are_told() {
+        PublishSubject<Integer> s = PublishSubject.create();
+        Observable<Integer> shared = held(s).share();
+        int[] told = new int[1];
+        shared.subscribe(raw(v -> { throw new OutOfMemoryError("observer"); }, () -> { }));
+        Disposable b = shared.subscribe(v -> told[0] += v);
+        try {
+            s.onNext(1);
+            throw new AssertionError("not raised");
+        } catch (OutOfMemoryError why) {
+            same("observer", why.getMessage());
+        }
+        s.onNext(2);
+        same(3, told[0]);
+        b.dispose();
+        expectReleased(1);
+    }
+
+    void a_mapper_without_memory_ends_its_pipeline() {
+        PublishSubject<Integer> s = PublishSubject.create();
+        int[] ended = new int[1];
+        held(s.switchMap(v -> { throw new OutOfMemoryError("mapper"); })).subscribe(raw(v -> { }, () -> ended[0]++));
+        try {
+            s.onNext(1);
+            throw new AssertionError("not raised");
+        } catch (OutOfMemoryError why) {
+            same(1, ended[0]);
+        }
+        expectReleased(1);
+    }
+
+    void an_interrupt_within_an_observer_loses_nothing() throws Exception {
+        PublishSubject<Integer> s = PublishSubject.create();
+        CountDownLatch isIn = new CountDownLatch(1);
+        List<Object> log = new ArrayList<>();
+        held(s).subscribe(v -> {
+            if (v == 1) {
+                isIn.countDown();
+                try {
+                    Thread.sleep(60_000);
+                } catch (InterruptedException why) {
+                    log.add("interrupted");
+                    Thread.currentThread().interrupt();
+                }
+            }
+            log.add(v);
+        }, log::add, () -> log.add("end"));
+        Thread one = new Thread(() -> s.onNext(1));
+        one.start();
+        isIn.await();
+        s.onNext(2);  // waits for the one before, so this thread goes on
+        s.onComplete();
+        same(0, released.get());
+        one.interrupt();
+        one.join();
+        same(List.of("interrupted", 1, 2, "end"), log);
+        expectReleased(1);
+    }
+
+    void a_blocked_observer_does_not_keep_others() throws Exception {
+        PublishSubject<Integer> s = PublishSubject.create(), other = PublishSubject.create();
+        CountDownLatch isIn = new CountDownLatch(1), mayGo = new CountDownLatch(1);
+        Disposable blocked = held(s).subscribe(v -> {
+            isIn.countDown();
+            mayGo.await();
+        });
+        int[] told = new int[1];
+        held(other).subscribe(v -> told[0] += v);
+        Thread one = new Thread(() -> s.onNext(1));
+        one.start();
+        isIn.await();
+        other.onNext(5);
+        same(5, told[0]);
+        blocked.dispose();
+        same(false, s.hasObservers());
+        other.onComplete();
+        same(1, released.get());  // the other's: the blocked observer's is released behind it
+        mayGo.countDown();
+        one.join();
+        expectReleased(2);
+    }
+
+    void what_nobody_can_reach_is_collected() throws Exception {
+        Engine engine = Engine.current();
+        for (int i = 0; i < 2000; i++) {
+            PublishSubject<Integer> s = PublishSubject.create();
+            Observable<Integer> shared = s.share();
+            Observable.merge(held(s.flatMap(Observable::just)), shared, shared.switchMap(v -> s)).takeUntil(Observable.never()).subscribe();
+            shared.subscribe();
+            s.publish().connect();
+            s.onNext(1);
+        }
+        for (int i = 0; i < 100 && engine.counts()[0] > 0; i++) {
+            System.gc();
+            Thread.sleep(10);
+            engine.closeCollected();
+        }
+        same(2000, made.get());
+    }
+
+    void what_somebody_can_reach_stays() throws Exception {
+        PublishSubject<Integer> s = PublishSubject.create();
+        AtomicInteger told = new AtomicInteger();
+        Observable<Integer> shared = s.share();
+        shared.subscribe(v -> told.addAndGet(v));                               // its source has it
+        held(s.flatMap(v -> shared.take(1))).subscribe(v -> told.addAndGet(v));
+        Disposable given = held(Observable.<Integer>never()).subscribe();       // its disposable has it
+        for (int i = 0; i < 5; i++) {
+            System.gc();
+            Thread.sleep(10);
+            Engine.current().closeCollected();
+        }
+        s.onNext(1);
+        s.onNext(10);
+        same(1 + 10 + 10, told.get());
+        given.dispose();
+        same(1, released.get());
+        s.onComplete();
+        expectReleased(2);
+    }
+}
