@@ -49,17 +49,16 @@ static jlong told(const struct desk *desk, uint8_t status) {
          (jlong)(step->closed != 0 || step->copies != 0) << 11 | (jlong)step->effect.kind << 16;
 }
 
-#define JNI(type, name) JNIEXPORT type JNICALL Java_dev_cellarcliff_rx_Native_##name
 #define STATIC JNIEnv *env, jclass class
 #define UNUSED (void)env, (void)class
 #define STACK {.by = (uint64_t)by, .depth = (uint64_t)depth, .begun = (uint64_t)begun}
 
-JNI(jboolean, fits)(STATIC) {
+static jboolean JNICALL fits_(STATIC) {
   UNUSED;
   return CELLAR_FITS();
 }
 
-JNI(jlong, open)(STATIC) {
+static jlong JNICALL open_(STATIC) {
   UNUSED;
   struct desk *desk = calloc(1, sizeof *desk);
   if (desk && cellar_new(&desk->engine, 0)) {
@@ -69,12 +68,12 @@ JNI(jlong, open)(STATIC) {
   return (jlong)desk;
 }
 
-JNI(jobject, buffer)(STATIC, jlong desk) {
+static jobject JNICALL buffer_(STATIC, jlong desk) {
   (void)class;
   return (*env)->NewDirectByteBuffer(env, &((struct desk *)desk)->step, sizeof(struct desk) - offsetof(struct desk, step));
 }
 
-JNI(jlong, step)(STATIC, jlong at, jlong by, jlong depth, jlong begun, jlong head, jlong hub, jlong slot, jlong number, jlong user, jlong value) {
+static jlong JNICALL step_(STATIC, jlong at, jlong by, jlong depth, jlong begun, jlong head, jlong hub, jlong slot, jlong number, jlong user, jlong value) {
   UNUSED;
   struct desk *desk = (struct desk *)at;
   struct cellar_stack stack = STACK;
@@ -85,27 +84,27 @@ JNI(jlong, step)(STATIC, jlong at, jlong by, jlong depth, jlong begun, jlong hea
   return told(desk, cellar_step(&desk->engine, &stack, &command, &desk->step));
 }
 
-JNI(jlong, next)(STATIC, jlong at, jlong by, jlong depth, jlong begun) {
+static jlong JNICALL next_(STATIC, jlong at, jlong by, jlong depth, jlong begun) {
   UNUSED;
   struct desk *desk = (struct desk *)at;
   struct cellar_stack stack = STACK;
   return told(desk, cellar_next(&desk->engine, &stack, &desk->step));
 }
 
-JNI(void, pass)(STATIC, jlong at, jlong by, jlong depth, jlong begun, jboolean now) {
+static void JNICALL pass_(STATIC, jlong at, jlong by, jlong depth, jlong begun, jboolean now) {
   UNUSED;
   struct cellar_stack stack = STACK;
   cellar_pass(&((struct desk *)at)->engine, &stack, stack.depth - 1, now);
 }
 
-JNI(void, stop)(STATIC, jlong at, jlong by, jlong depth, jlong begun) {
+static void JNICALL stop_(STATIC, jlong at, jlong by, jlong depth, jlong begun) {
   UNUSED;
   struct cellar_stack stack = STACK;
   cellar_stop(&((struct desk *)at)->engine, &stack);
 }
 
 /* Further closings of the command, from this place on: how many stand in `words`. */
-JNI(jlong, closings)(STATIC, jlong at, jlong from) {
+static jlong JNICALL closings_(STATIC, jlong at, jlong from) {
   UNUSED;
   struct desk *desk = (struct desk *)at;
   uint64_t count = 0;
@@ -113,8 +112,24 @@ JNI(jlong, closings)(STATIC, jlong at, jlong from) {
   return (jlong)count;
 }
 
-JNI(void, totals)(STATIC, jlong at) {
+static void JNICALL totals_(STATIC, jlong at) {
   UNUSED;
   struct desk *desk = (struct desk *)at;
   cellar_totals(&desk->engine, &desk->totals);
+}
+
+/* All are linked as the library is loaded: to link one at its first call the JVM would ask for memory in the midst of a step. */
+#define CALL(name, given, answers) {(char *)#name, (char *)"(" given ")" answers, (void *)name##_}
+JNIEXPORT jint JNICALL JNI_OnLoad(JavaVM *machine, void *reserved) {
+  static const JNINativeMethod calls[] = {
+      CALL(fits, "", "Z"),          CALL(open, "", "J"),        CALL(buffer, "J", "Ljava/nio/ByteBuffer;"),
+      CALL(step, "JJJJJJJJJJ", "J"), CALL(next, "JJJJ", "J"),    CALL(pass, "JJJJZ", "V"),
+      CALL(stop, "JJJJ", "V"),      CALL(closings, "JJ", "J"), CALL(totals, "J", "V"),
+  };
+  JNIEnv *env;
+  (void)reserved;
+  if ((*machine)->GetEnv(machine, (void **)&env, JNI_VERSION_1_8)) return JNI_ERR;
+  jclass class = (*env)->FindClass(env, "dev/cellarcliff/rx/Native");
+  if (!class || (*env)->RegisterNatives(env, class, calls, sizeof calls / sizeof calls[0])) return JNI_ERR;
+  return JNI_VERSION_1_8;
 }

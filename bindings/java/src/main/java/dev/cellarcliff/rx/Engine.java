@@ -40,6 +40,7 @@ final class Engine {
     private Engine() {
         if (desk == 0) { throw new OutOfMemoryError("cellarcliff: no memory for an engine"); }
         memory = Native.memory(desk);
+        Errors.prepare();
     }
 
     /** Another engine, for shares that find no hub in this one. */
@@ -236,7 +237,7 @@ final class Engine {
     private void stop(Stack stack, long depth, Tree of) {
         stack.depth = depth;
         synchronized (this) {
-            pin(of);
+            if (of != null) { pin(of); }
             isLeft = true;
             Native.stop(desk, stack.by, depth, stack.begun);
             if (depth == 1) { rest(); }
@@ -334,7 +335,12 @@ final class Engine {
     /** Answers an item that is projected by nothing. */
     void decline(Merging merging) { make(DECLINE, merging, merging.tree, null); }
 
-    private boolean make(int what, Node node, Tree tree, Object value) {
+    /** Ends a node below which nothing could be opened, if there is nothing. */
+    void abort(Node node, Tree tree, Throwable error) { command(ABORT, node, tree, error); }
+
+    private boolean make(int what, Node node, Tree tree, Object value) { return isDone(command(what, node, tree, value)); }
+
+    private int command(int what, Node node, Tree tree, Object value) {
         Stack stack = stacks.get();
         int status;
         synchronized (this) {
@@ -343,7 +349,7 @@ final class Engine {
             status = stack.status;
         }
         serve(stack, tree, null);
-        return isDone(status);
+        return status;
     }
 
     void dispose(Root root) {
@@ -384,7 +390,7 @@ final class Engine {
             if (at.isRoot() && hasWord) { tree.ref.owed++; }
             boolean isDone = false;
             try {
-                step(stack, head | at.place << 8 | (hasWord && (head & 0xFF_0000) == LEAF << 16 ? (long) WISHES << 24 : 0), 0, at.slot, at.number, user, value, null);
+                step(stack, head | at.place << 8 | (hasWord && (head & 0xFF_0000) == LEAF << 16 ? (long) WISHES << 24 : 0), 0, at.slot(), at.number(), user, value, null);
                 isDone = stack.status == DONE;
             } finally {
                 if (!isDone) {
@@ -432,13 +438,14 @@ final class Engine {
         Tree tree = at.tree;
         Share.Subscriber node = new Share.Subscriber(share, at);
         Connection made = share.kind == SHARED ? new Connection(share, this) : null;
+        Place source = made == null ? null : Place.source(made);
         boolean isConnected = false;
         int status;
         synchronized (this) {
             if (share.engine != this) { return NO_HUB; }
             if (share.hasEnded) { return ENDED; }
             makeRoom(tree, 1);
-            long user = word(tree, node), flags = WISHES, slot = at.slot, number = at.number;
+            long user = word(tree, node), flags = WISHES, slot = at.slot(), number = at.number();
             Share.Subscriber beside = at.isRoot() ? share.beside() : null;
             if (at.isRoot()) { tree.ref.owed++; }
             if (beside != null) {
@@ -461,8 +468,8 @@ final class Engine {
                 share.hub = memory.getLong(HUB);
                 isConnected = memory.getLong(IS_CONNECTED) != 0;
                 if (isConnected) {
-                    made.slot = memory.getLong(OTHER);
-                    made.number = memory.getLong(OTHER + 8);
+                    made.node.slot = memory.getLong(OTHER);
+                    made.node.number = memory.getLong(OTHER + 8);
                     share.connection = made;
                 }
                 node.join();
@@ -474,7 +481,7 @@ final class Engine {
         serve(stack, tree, null);
         if (status == NO_HUB || status == HUB_ORDER) { return status; }
         leave(at);
-        if (isDone(status) && isConnected) { Operator.open(share.source, Place.source(made)); }
+        if (isDone(status) && isConnected) { source.open(share.source); }
         return status;
     }
 
@@ -484,13 +491,12 @@ final class Engine {
     /** Connects a share by hand: the connection that there is now. It is new if it is `made`. */
     Connection connect(Share share, Connection made) {
         Stack stack = stacks.get();
-        Connection.ByHand node = made.new ByHand();
         int status;
         synchronized (this) {
             if (share.engine != this) { return null; }
             if (share.connection != null && share.connection.isOpen) { return share.connection; }
             makeRoom(made, 1);
-            long user = word(made, node);
+            long user = word(made, made.node);
             boolean isDone = false;
             try {
                 step(stack, CONNECT | (long) WISHES << 24 | (long) share.level << 32, share.hub, 0, 0, user, share.word, null);
@@ -501,8 +507,8 @@ final class Engine {
             status = stack.status;
             if (isDone) {
                 share.hub = memory.getLong(HUB);
-                made.slot = memory.getLong(OTHER);
-                made.number = memory.getLong(OTHER + 8);
+                made.node.slot = memory.getLong(OTHER);
+                made.node.number = memory.getLong(OTHER + 8);
                 made.isOpen = true;
                 made.ref.closedBy = DISCONNECT;
                 made.ref.word = share.word;

@@ -6,7 +6,14 @@ import io.reactivex.rxjava3.plugins.RxJavaPlugins;
 
 /** Where an exception goes. */
 final class Errors {
+    static {  // loads what it calls, which might not be possible where an exception says that there is no memory
+        thrown(both(new RuntimeException(), new RuntimeException()));
+    }
+
     private Errors() { }
+
+    /** Loads this. */
+    static void prepare() { }
 
     /** Those of which RxJava tells no observer. */
     @SuppressWarnings("removal")

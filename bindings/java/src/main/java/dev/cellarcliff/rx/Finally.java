@@ -28,12 +28,13 @@ final class Finally extends Operator.Plain {
         Tag held = new Tag(false) {
             @Override void release() throws Throwable { action.run(); }
         };
+        Place below = at.below(node);
         boolean isHeld = false;
         try {
             isHeld = at.tree.engine.open(at, Native.USING, node, false, held);
         } finally {
             if (!isHeld) { isNotOpened(); }
         }
-        if (isHeld) { Operator.open(source, at.below(node)); }
+        if (isHeld) { below.open(source); }
     }
 }

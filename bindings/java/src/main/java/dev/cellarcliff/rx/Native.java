@@ -6,7 +6,7 @@ import java.nio.ByteOrder;
 /** The calls of the library, by JNI, and its numbers. One call at a time on a desk: see src/main/c/crossing.c for what each answers. */
 final class Native {
     // commands, places and kinds of nodes, flags: a command's head is what | place << 8 | kind << 16 | flags << 24 | level << 32
-    static final int OPEN = 0, USING = 1, NEXT = 3, COMPLETE = 4, ERROR = 5, FAIL = 6, DECLINE = 7, DISPOSE = 8, CONNECT = 9, DISCONNECT = 10;
+    static final int OPEN = 0, USING = 1, NEXT = 3, COMPLETE = 4, ERROR = 5, FAIL = 6, DECLINE = 7, DISPOSE = 8, CONNECT = 9, DISCONNECT = 10, ABORT = 13;
     static final int ROOT = 0, SOURCE = 1, INNER = 2, NOTIFIER = 3;
     static final int LEAF = 0, PASS = 1, FLAT = 2, SWITCH = 3, UNTIL = 4, SHARED = 5, PUBLISHED = 6;
     static final int WISHES = 1, LANE_OF_NODE = 2;

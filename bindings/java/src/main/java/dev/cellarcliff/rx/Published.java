@@ -41,27 +41,28 @@ final class Published extends ConnectableObservable<Object> implements Operator,
     @Override public void connect(Consumer<? super Disposable> consumer) {
         use();
         Connection made, connection;
-        Engine engine;
+        ByHand byHand = new ByHand();
+        Place source;
         do {
-            engine = share.engine;
+            Engine engine = share.engine;
             made = new Connection(share, engine);
+            source = Place.source(made);
             connection = engine.connect(share, made);
         } while (connection == null);
+        byHand.connection = connection;
         try {
-            consumer.accept(new ByHand(connection));
+            consumer.accept(byHand);
         } catch (Throwable why) {
             throw Errors.thrown(why);
         }
-        if (connection == made && made.isOpen) { Operator.open(share.source, Place.source(made)); }
+        if (connection == made && made.isOpen) { source.open(share.source); }
     }
 
     @Override public void reset() { share.engine.reset(share); }
 
     /** What disposes of a connection. */
     private static final class ByHand implements Disposable {
-        private final Connection connection;
-
-        ByHand(Connection connection) { this.connection = connection; }
+        private Connection connection;
 
         @Override public void dispose() { connection.engine.disconnect(connection); }
 

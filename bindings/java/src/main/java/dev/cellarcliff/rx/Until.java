@@ -15,8 +15,9 @@ final class Until extends Operator.Plain {
 
     @Override public void open(Place at) {
         Node node = new Node();
+        Place first = at.below(node, Native.NOTIFIER), second = at.below(node);
         if (!at.tree.engine.open(at, Native.OPEN | Native.UNTIL << 16, node, false, null)) { return; }
-        Operator.open(notifier, at.below(node, Native.NOTIFIER));
-        Operator.open(source, at.below(node));
+        first.open(notifier);
+        second.open(source);
     }
 }

@@ -8,13 +8,13 @@ import java.util.Objects;
 /** A resource for as long as its source is subscribed to. */
 final class Using extends Operator.Plain {
     private final Supplier<?> supplier;
-    private final Function<Object, ?> source;
+    private final Function<Object, ?> mapper;
     private final Consumer<Object> disposer;
     private final boolean isEager;
 
-    Using(Supplier<?> supplier, Function<Object, ?> source, Consumer<Object> disposer, boolean isEager) {
+    Using(Supplier<?> supplier, Function<Object, ?> mapper, Consumer<Object> disposer, boolean isEager) {
         this.supplier = supplier;
-        this.source = source;
+        this.mapper = mapper;
         this.disposer = disposer;
         this.isEager = isEager;
     }
@@ -24,21 +24,21 @@ final class Using extends Operator.Plain {
     @Override public void open(Place at) {
         Engine engine = at.tree.engine;
         Node node = new Node();
+        Place source = at.below(node);
         if (at.isExchange()) {  // what stands there gives way before the resource is made
-            if (!engine.open(at, Native.OPEN | Native.PASS << 16, node, false, null)) { return; }
-            at = at.below(node);
-            node = new Node();
+            if (engine.open(at, Native.OPEN | Native.PASS << 16, node, false, null)) { source.open(this); }
+            return;
         }
-        Resource resource;
+        Resource resource = new Resource();
         Object below;
         try {
-            resource = new Resource(supplier.get());
+            resource.it = supplier.get();
         } catch (Throwable why) {
             Operator.fail(at, why);
             return;
         }
         try {
-            below = Objects.requireNonNull(source.apply(resource.it), "The sourceSupplier returned a null ObservableSource");
+            below = Objects.requireNonNull(mapper.apply(resource.it), "The sourceSupplier returned a null ObservableSource");
         } catch (Throwable why) {
             Operator.fail(at, resource.releaseBehind(why));
             return;
@@ -49,16 +49,13 @@ final class Using extends Operator.Plain {
         } finally {
             if (!isHeld) { resource.releaseNow(); }
         }
-        if (isHeld) { Operator.open(below, at.below(node)); }
+        if (isHeld) { source.open(below); }
     }
 
     private final class Resource extends Tag {
-        final Object it;
+        Object it;
 
-        Resource(Object it) {
-            super(Using.this.isEager);
-            this.it = it;
-        }
+        Resource() { super(Using.this.isEager); }
 
         @Override void release() throws Throwable { disposer.accept(it); }
 
