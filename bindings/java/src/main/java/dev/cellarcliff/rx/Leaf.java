@@ -19,6 +19,7 @@ final class Leaf extends Node implements Observer<Object> {
     }
 
     private final Engine engine;
+    private final Through.Chain chain;
     /** Until it is closed. */
     private volatile Tree tree;
     private volatile boolean hasEnded;
@@ -27,6 +28,7 @@ final class Leaf extends Node implements Observer<Object> {
     Leaf(Place at) {
         this.engine = at.tree.engine;
         this.tree = at.tree;
+        this.chain = at.chain;
     }
 
     boolean isOpen() { return tree != null; }
@@ -46,7 +48,7 @@ final class Leaf extends Node implements Observer<Object> {
 
     @Override public void onNext(Object item) {
         Tree into = tree;
-        if (into != null && !engine.next(this, into, item)) { tree = null; }
+        if (into != null && !engine.next(this, into, chain == null ? item : new Through.Carried(item, chain))) { tree = null; }
     }
 
     @Override public void onError(Throwable error) {

@@ -26,7 +26,7 @@ final class Merge extends Operator.Plain {
 
     @Override public void open(Place at) {
         Merging merging = new Merging(at, mapper, isSwitch);
-        Place below = at.below(merging);
+        Place below = at.projected(merging);
         if (at.tree.engine.open(at, OPEN | (isSwitch ? SWITCH : FLAT) << 16, merging, true, null)) { below.open(source); }
     }
 }

@@ -31,6 +31,8 @@ final class Parts {
         put("publish", "Publish", it -> new Published(it.get(0)), "source");
         put("refCount", "RefCount", it -> it.get(0) instanceof Published && it.<Integer>get(1) == 1 && it.<Long>get(2) == 0 ? new RefCount(it.get(0), it.of) : null,
             "source", "n", "timeout");
+        put("map", "Map", it -> it.get(0) instanceof Operator ? new Through(it.of, it.get(0), Through.mapping(it.get(1))) : null, "source", "function");
+        put("filter", "Filter", it -> it.get(0) instanceof Operator ? new Through(it.of, it.get(0), Through.filtering(it.get(1))) : null, "source", "predicate");
         put("merge of an array", "FromArray", it -> null, "array");
     }
 

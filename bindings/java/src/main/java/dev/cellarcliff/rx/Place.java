@@ -1,29 +1,41 @@
 package dev.cellarcliff.rx;
 
+import io.reactivex.rxjava3.functions.Function;
+
 /** A place at which a node is opened: below a node, whose key it has once that is open, or a root. */
 final class Place {
     final Tree tree;
     final int place;
     /** The operator that was handed the item which is projected here, if it is. */
     final Merging over;
+    /** What items go through on their way up from here, if anything; and whether they go to the subscribers of a share. */
+    final Through.Chain chain;
+    final boolean isShared;
     private final Node above;
 
-    private Place(Tree tree, int place, Node above, Merging over) {
+    private Place(Tree tree, int place, Node above, Merging over, Through.Chain chain, boolean isShared) {
         this.tree = tree;
         this.place = place;
         this.above = above;
         this.over = over;
+        this.chain = chain;
+        this.isShared = isShared;
     }
 
-    static Place root(Root root) { return new Place(root, Native.ROOT, null, null); }
+    static Place root(Root root) { return new Place(root, Native.ROOT, null, null, null, false); }
 
-    static Place inner(Merging over) { return new Place(over.tree, Native.INNER, over, over); }
+    static Place inner(Merging over) { return new Place(over.tree, Native.INNER, over, over, over.chain, over.isShared); }
 
-    static Place source(Connection connection) { return new Place(connection, Native.SOURCE, connection.node, null); }
+    static Place source(Connection connection) { return new Place(connection, Native.SOURCE, connection.node, null, null, true); }
 
-    Place below(Node node) { return below(node, Native.SOURCE); }
+    /** Below a node that hands items on as they are. */
+    Place below(Node node) { return new Place(tree, Native.SOURCE, node, null, chain, isShared); }
 
-    Place below(Node node, int place) { return new Place(tree, place, node, null); }
+    Place notifier(Node node) { return new Place(tree, Native.NOTIFIER, node, null, null, false); }
+
+    Place projected(Merging merging) { return new Place(tree, Native.SOURCE, merging, null, null, false); }
+
+    Place through(Function<Object, ?> function) { return new Place(tree, place, above, over, new Through.Chain(function, chain), false); }
 
     long slot() { return above == null ? 0 : above.slot; }
 

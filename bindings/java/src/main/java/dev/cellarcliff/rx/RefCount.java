@@ -40,7 +40,7 @@ final class RefCount extends Operator.Plain {
     static void join(Observable<?> source, Share share, Place at) {
         int status;
         do {
-            if (share.engine != at.tree.engine) {
+            if (share.engine != at.tree.engine || at.chain != null) {  // functions go with a leaf's items
                 Operator.openLeaf(source, at);
                 return;
             }

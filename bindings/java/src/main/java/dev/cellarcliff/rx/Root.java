@@ -16,14 +16,30 @@ final class Root extends Tree implements Disposable {
         this.down = down;
     }
 
-    void next(Object item) {
+    void next(Object carried) {
         if (isStopped) { return; }
+        Object item;
+        try {
+            item = Through.through(carried);
+        } catch (Throwable why) {
+            fail(why);
+            return;
+        }
+        if (item == null || isStopped) { return; }
         try {
             down.onNext(item);
         } catch (Throwable why) {
             dispose();
             throw why;
         }
+    }
+
+    /** A function on the way failed: RxJava's disposes of its source, and tells the error. */
+    private void fail(Throwable why) {
+        Observer<Object> told = down;
+        dispose();
+        told.onError(why);
+        if (Errors.isFatal(why)) { throw Errors.thrown(why); }
     }
 
     /** Tells the end, behind what is released before it. */

@@ -216,4 +216,37 @@ class OperatorsTest {
         other.onComplete();
         expect(1, "released", "end", "finally");
     }
+
+    void functions_between_operators_stay_in_one_tree() {
+        int[] called = new int[1];
+        Observable<Integer> shared = held("r", s, true).map(v -> {
+            called[0]++;
+            return v;
+        }).share();
+        Disposable a = told(shared.flatMap(v -> held("inner", other, false)).filter(v -> v > 1).map(v -> 10 / v).switchMap(v -> Observable.just(v).hide()).map(v -> -v).doFinally(() -> log.add("finally")));
+        Disposable b = told(shared.filter(v -> v > 1).takeUntil(Observable.never().filter(v -> true)));
+        s.onNext(1);
+        s.onNext(2);
+        same(2, called[0]);
+        expect("made r", "made inner", "made inner", 2);
+        other.onNext(1);
+        other.onNext(5);
+        expect(-2, -2);
+        same(5L, Engine.current().counts()[4]);  // the subscriptions, the connection, what its map reads, and the share below a filter
+        a.dispose();
+        b.dispose();
+        log.clear();
+    }
+
+    void a_function_that_fails_ends_all() {
+        told(held("r", s, true).map(v -> 10 / v).doFinally(() -> log.add("finally")));
+        s.onNext(5);
+        s.onNext(0);
+        same(true, log.remove("finally"));
+        expect("made r", 2, "released r", "error / by zero");
+        same(false, s.hasObservers());
+        told(held("r", other, true).filter(v -> 10 / v > 0).flatMap(v -> Observable.just(v)));
+        other.onNext(0);
+        expect("made r", "released r", "error / by zero");
+    }
 }

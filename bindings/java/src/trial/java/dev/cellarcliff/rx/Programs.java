@@ -37,14 +37,15 @@ public final class Programs {
         }
 
         /**
-         * Whether the engine tells its items. Subjects of RxJava's tell one within another, its take an end behind a disposal, and what is
-         * mapped from one item that is known it assembles otherwise.
+         * Whether the engine tells its items. Subjects of RxJava's tell one within another, its take an end and its map an item behind a
+         * disposal, and what is mapped from one item that is known it assembles otherwise.
          */
         boolean isEngines() {
             switch (kind) {
-                case MAP: case FILTER: return below[0].isEngines();
+                case MAP: case TAKE: return false;
+                case FILTER: return below[0].isEngines();
                 case FLAT: case SWITCH: return below[0].kind != Kind.JUST && below[0].kind != Kind.EMPTY;
-                default: return kind.ordinal() >= Kind.USING.ordinal() && kind != Kind.TAKE;
+                default: return kind.ordinal() >= Kind.USING.ordinal();
             }
         }
 
@@ -232,8 +233,15 @@ public final class Programs {
                         });
                     });
                 }
-                case MAP: return build(op.below[0]).map(v -> v + 1);
-                case FILTER: return build(op.below[0]).filter(v -> v % 3 != number);
+                case MAP: return build(op.below[0]).map(v -> {
+                    inside();
+                    if (v % 13 == 12) { throw new Exception("map"); }
+                    return v + 1;
+                });
+                case FILTER: return build(op.below[0]).filter(v -> {
+                    if (v % 13 == 11) { throw new Exception("filter"); }
+                    return v % 3 != number;
+                });
                 default: return build(op.below[0]).take(1 + number);
             }
         }
