@@ -249,4 +249,31 @@ class OperatorsTest {
         other.onNext(0);
         expect("made r", "released r", "error / by zero");
     }
+
+    void what_an_item_opens_on_its_two_ways_is_released() {
+        Observable<Integer> shared = s.share();
+        Disposable d = told(Observable.merge(shared, shared.map(v -> -v)).switchMap(v -> v > 0 ? held("first", Observable.error(new Exception("7")), true) : held("second", Observable.never(), true)));
+        s.onNext(1);
+        d.dispose();
+        expect("made first", "released first", "error 7");
+        same(false, s.hasObservers());
+    }
+
+    void a_share_that_fails_midway_connects_for_nobody_no_more() {
+        Observable<Integer> shared = held("r", s, true).share();
+        Observable<Integer> checked = shared.flatMap(v -> {
+            if (v == 2) { throw new Exception("7"); }
+            return Observable.just(v);
+        }).share();
+        Disposable a = told(checked), b = told(shared.switchMap(v -> checked));
+        s.onNext(1);
+        s.onNext(2);
+        a.dispose();
+        b.dispose();
+        same(2L, log.stream().filter("error 7"::equals).count());
+        same(1L, log.stream().filter("made r"::equals).count());
+        same(1L, log.stream().filter("released r"::equals).count());
+        same(false, s.hasObservers());
+        log.clear();
+    }
 }
