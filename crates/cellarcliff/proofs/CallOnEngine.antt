@@ -1,13 +1,26 @@
--- A call on the engine that a handle keeps, which was taken out and is put back.
+-- A call on what a handle keeps, which was taken out and is put back.
 use Rattle.std.proofs.Common.{◌≡◌, ◌∙◌, ℕ, Option, Some, sym, ap}
 use Rattle.rx_engine.specs.States.{IsPromised}
 use Rattle.rx_cellar.specs.declared.cellar.Cellar.{Cellar}
-use Rattle.cellarcliff.specs.Calls.{IsCalled, calls, IsLooked, looks}
+use Rattle.rx_turns.specs.declared.turns.Turns.{Turns}
+use Rattle.rx_turns.specs.States.{TurnState, turn_state}
+use Rattle.cellarcliff.specs.Calls.{IsCalled, calls, IsLooked, looks, cellar_in}
+use Rattle.cellarcliff.specs.Steps.{IsTurned, turns}
 
-pub called : {Says : Cellar → Cellar → ℕ → Type 0} {IsBlank : Type 0} {old new : Option Cellar} {was is on : Cellar} {status : ℕ}
-    → old ≡ Some was → new ≡ Some is → on ≡ was → IsPromised is.engine → Says on is status → IsCalled Says IsBlank old new status
-called taken put same promised says = calls (taken ∙ ap (λ (k : Cellar). Some k) (sym same)) put promised says
+pub called : {Says : Cellar → Cellar → ℕ → Type 0} {IsBlank : Type 0} {old new : Option Turns} {was is on : Turns} {status : ℕ}
+    → old ≡ Some was → new ≡ Some is → on ≡ was → IsPromised is.cellar.engine → Says on.cellar is.cellar status →
+    IsCalled Says IsBlank (cellar_in old) (cellar_in new) status
+called taken put same promised says = calls (ap cellar_in (taken ∙ ap (λ (k : Turns). Some k) (sym same))) (ap cellar_in put) promised says
 
-pub looked : {Says : Cellar → ℕ → Type 0} {IsBlank : Type 0} {old new : Option Cellar} {was seen : Cellar} {status : ℕ}
-    → old ≡ Some was → new ≡ Some was → seen ≡ was → Says seen status → IsLooked Says IsBlank old new status
-looked taken put same says = looks (taken ∙ ap (λ (k : Cellar). Some k) (sym same)) (put ∙ ap (λ (k : Cellar). Some k) (sym same)) says
+pub kept : {old new : Option Turns} {was : Turns} → old ≡ Some was → new ≡ Some was → new ≡ old
+kept taken put = put ∙ sym taken
+
+pub looked : {Says : Cellar → ℕ → Type 0} {IsBlank : Type 0} {old new : Option Turns} {was seen : Turns} {status : ℕ}
+    → old ≡ Some was → new ≡ Some was → seen ≡ was → Says seen.cellar status → IsLooked Says IsBlank (cellar_in old) (cellar_in new) status
+looked taken put same says =
+    looks (ap cellar_in (taken ∙ ap (λ (k : Turns). Some k) (sym same))) (ap cellar_in (put ∙ ap (λ (k : Turns). Some k) (sym same))) says
+
+pub turned : {Says : TurnState → TurnState → ℕ → Type 0} {IsBlank : Type 0} {old new : Option Turns} {was is on : Turns} {status : ℕ}
+    → old ≡ Some was → new ≡ Some is → on ≡ was → IsPromised is.cellar.engine → Says (turn_state on) (turn_state is) status →
+    IsTurned Says IsBlank old new status
+turned taken put same promised says = turns (taken ∙ ap (λ (k : Turns). Some k) (sym same)) put promised says

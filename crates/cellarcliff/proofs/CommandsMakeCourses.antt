@@ -27,7 +27,6 @@ use Rattle.rx_engine.proofs.Laws.PlainCalls.{next_plain}
 use Rattle.rx_pool.specs.declared.search.Share.{Share}
 use Rattle.rx_book.specs.declared.answer.At.{At}
 use Rattle.rx_courses.specs.Courses.{is_refused, has_done, has_held, has_used, has_opened, has_put, has_subscribed, has_connected, has_made_hubs, has_checkpointed}
-use Rattle.rx_courses.specs.Courses.{takes}
 use Rattle.rx_cellar.specs.declared.making.Made.{Made}
 use Rattle.rx_cellar.specs.declared.asked.OwnKind.{OwnKind}
 use Rattle.rx_cellar.specs.declared.asked.OwnKind.TheVariants.{Leaf as OwnLeaf, Pass as OwnPass, Flat as OwnFlat, Switch as OwnSwitch, Until as OwnUntil}
@@ -39,7 +38,6 @@ use Rattle.rx_cellar.specs.Asking.{kind_of}
 use Rattle.rx_cellar.specs.Cellars.{Tidies, IsTidyIf, IsTried, at_once, once_more, IsTriedAgain, behind_one, behind_none}
 use Rattle.rx_cellar.specs.Crossings.{effect_of}
 use Rattle.rx_cellar.specs.Makings.{shown, Shows, WithHubs, found_one as found_hub, made_none, made_all, IsPerformed, Outcome, of_made, of_given, ComesTo}
-use Rattle.cellarcliff.specs.Calls.{makes}
 use Rattle.cellarcliff.specs.Courses.{Seen, handed_in, tag_asked, told_first}
 use Rattle.cellarcliff.specs.Courses.{IsEngineCourse}
 use Rattle.cellarcliff.proofs.EngineCourses.{unchanged, by_command, by_take, and_then}

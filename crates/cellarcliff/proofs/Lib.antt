@@ -14,5 +14,6 @@ mod NothingLeftToTell
 mod RefusalsChangeNothing
 mod ReleasesTold
 mod ToldInOrder
+pub mod Turned
 pub mod Values
 mod WhatWaits

@@ -31,7 +31,7 @@ use denote.Struct.Owning.{shape}
 use Rattle.std.specs.declared.alloc.Allocator.{Ghosts}
 use Rattle.std.specs.declared.alloc.Global.{Global}
 use Rattle.cellarcliff.specs.Ownership.{block_token, owns_unless_null}
-use Rattle.rx_cellar.specs.contracts.cellar.Cellar as cellar
+use Rattle.rx_turns.specs.contracts.turns.Turns as turns
 use Rattle.cellarcliff.specs.contracts.handle.CellarHandle as handle
 use Rattle.cellarcliff.specs.contracts.kept.Kept as kept
 use Rattle.cellarcliff.specs.contracts.live_handle.LiveHandle as live_handle
@@ -113,15 +113,15 @@ BookHandle = live_handle.the_row
 
 module _ {M : Type 1} {𝓤 : Ura M} {𝓛 : Logic 𝓤} {K : Type 0} {Γ : List (Item 𝓤)} {G : Goal 𝓤 𝓛.H} where
   pub engine_out : K → (d : EngineHandle.Denot) (vs : List Val)
-      → (vs ≡ alone (ptr_val d.at) ∷ [] → Seq K 𝓛 (‵ (owns_unless_null cellar.the_row d.at d.kept) ∷ Γ) G)
+      → (vs ≡ alone (ptr_val d.at) ∷ [] → Seq K 𝓛 (‵ (owns_unless_null turns.the_row d.at d.kept) ∷ Γ) G)
       → Seq K 𝓛 (‵ (EngineHandle.own_val d vs) ∷ Γ) G
   engine_out t d vs k =
-      pointer_out handle.the_type.name handle.the_type.args handle.the_type.types t d.at (owns_unless_null cellar.the_row d.at d.kept) vs k
+      pointer_out handle.the_type.name handle.the_type.args handle.the_type.types t d.at (owns_unless_null turns.the_row d.at d.kept) vs k
 
-  pub engine_in : K → (p : Ptr) (k : Option (cellar.the_row).Denot)
+  pub engine_in : K → (p : Ptr) (k : Option (turns.the_row).Denot)
       → Step K 𝓛 (‵ (EngineHandle.own_val (record { at = p; kept = k }) (alone (ptr_val p) ∷ [])) ∷ Γ) G (‵
-      (owns_unless_null cellar.the_row p k) ∷ Γ) G
-  engine_in t p k = pointer_in handle.the_type.name handle.the_type.args handle.the_type.types t p (owns_unless_null cellar.the_row p k)
+      (owns_unless_null turns.the_row p k) ∷ Γ) G
+  engine_in t p k = pointer_in handle.the_type.name handle.the_type.args handle.the_type.types t p (owns_unless_null turns.the_row p k)
 
   pub live_out : K → (d : BookHandle.Denot) (vs : List Val)
       → (vs ≡ alone (ptr_val d.at) ∷ [] → Seq K 𝓛 (‵ (owns_unless_null kept.the_row d.at d.kept) ∷ Γ) G)

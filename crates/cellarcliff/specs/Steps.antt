@@ -1,21 +1,18 @@
 -- A step, a pass and a stop of a face, on the turns that a handle keeps.
-use Rattle.std.specs.Prelude.{◌≡◌, ℕ, ◌==◌, Bool, true, false, List, [], ◌∷◌, Option, Some, None, if◌then◌else◌}
-use Rattle.std.proofs.Math.Bool.{not}
+use Rattle.std.specs.Prelude.{◌≡◌, ℕ, Bool, List, [], ◌∷◌, Option, Some, None, if◌then◌else◌}
 use Rattle.rx_resource.specs.declared.Resource.{Ghosts}
 use Rattle.rx_resource.specs.declared.token.Token.{Token}
 use Rattle.rx_engine.specs.States.{IsPromised}
-use Rattle.rx_cellar.specs.Codes.{no_node}
 use Rattle.rx_cellar.specs.declared.shapes.Command.{Command}
 use Rattle.rx_cellar.specs.declared.shapes.Answer.{Answer}
-use Rattle.rx_cellar.specs.declared.shapes.Effect.{Effect}
 use Rattle.rx_cellar.specs.declared.cellar.Cellar.{Cellar}
 use Rattle.rx_cellar.specs.Serving.{IsRest}
 use Rattle.rx_turns.specs.declared.agenda.Turn.{Turn}
 use Rattle.rx_turns.specs.declared.agenda.Task.{Task}
-use Rattle.rx_turns.specs.Calls.{TurnStep}
 use Rattle.rx_turns.specs.declared.turns.Turns.{Turns}
+use Rattle.rx_turns.specs.Agendas.{HasNothing}
 use Rattle.rx_turns.specs.States.{TurnState, turn_state}
-use Rattle.rx_turns.specs.Calls.{IsTurnStep, IsTurnPass, IsTurnStop}
+use Rattle.rx_turns.specs.Calls.{TurnStep, IsTurnStep, IsTurnPass, IsTurnStop}
 use Rattle.cellarcliff.specs.declared.stepping.Stack.{Stack}
 use Rattle.cellarcliff.specs.declared.stepping.Stepped.{Stepped}
 
@@ -26,6 +23,23 @@ turn_of s = record { by = s.by; depth = s.depth }
 -- nothing was done, and nothing is to be done: all counts are 0, and the rest stays as it was
 abbrev pub no_step : Stepped → Stepped
 no_step s = record s { is_connected = 0; copies = 0; closed = 0; handed = 0; own = 0; spare = 0 }
+
+-- the answer before a command is made: what a refused one leaves is as the caller's memory has it
+abbrev pub answer_in : Stepped → Answer
+answer_in s = record {
+  node = s.node;
+  other = s.other;
+  is_connected = 0;
+  hub = s.hub;
+  copies = 0;
+  closed = 0;
+  due = 0;
+  handed = 0;
+  closings = s.closings;
+  lanes = 0 ∷ 0 ∷ 0 ∷ 0 ∷ 0 ∷ 0 ∷ 0 ∷ 0 ∷ [];
+  effect = record { user = 0; value = 0; by = 0; kind = 0; carries = 0 };
+  spare = 0 ∷ 0 ∷ [];
+}
 
 -- what a command answered
 abbrev pub made_told : Answer → Stepped → Stepped
@@ -50,19 +64,15 @@ pub data IsTurned (Says : TurnState → TurnState → ℕ → Type 0) (IsBlank :
       IsTurned Says IsBlank old new status
   turns_none : old ≡ None → new ≡ None → IsBlank → status ≡ 1 → IsTurned Says IsBlank old new status
 
--- a step, and what it tells; of a step without a command no answer is told
-abbrev pub told_of_made : Option Command → Answer → Stepped → Stepped
-told_of_made None a s = s
-told_of_made (Some c) a s = made_told a s
-
+-- a step, and what it tells. Of a command that was refused, and where there is none, all that it tells of it is `no_step`
 pub record IsStepTold (g : Ghosts Token) (stack : Stack) (c : Option Command) (s t : TurnState) (a b : Stepped) (status : ℕ) : Type 0 where
-  pub blank : Answer
   pub made : Answer
   pub step : TurnStep
-  pub steps : IsTurnStep g (turn_of stack) stack.begun c s t blank made step
-  pub told : b ≡ handed_told step.handed step.is_own (told_of_made c made (no_step a))
+  pub steps : IsTurnStep g (turn_of stack) stack.begun c s t (answer_in a) made step
+  pub told : b ≡ handed_told step.handed step.is_own (made_told made (no_step a))
   pub status_is : status ≡ step.status
 
+-- a pass and a stop
 abbrev pub IsPassTold : Stack → (from : ℕ) → (now_is : Bool) → TurnState → TurnState → (status : ℕ) → Type 0
 IsPassTold stack from now_is s t status = IsTurnPass (turn_of stack) stack.begun from now_is s t × (status ≡ 0)
 
@@ -72,3 +82,13 @@ IsStopTold stack s t status = IsTurnStop (turn_of stack) stack.begun s t × (sta
 -- the closings of the last accepted command, from one on
 abbrev pub AreClosingsTold : (from : ℕ) → Cellar → (words words' : List ℕ) → (count status : ℕ) → Type 0
 AreClosingsTold from s words words' count status = IsRest 0 from s.engine words words' count status
+
+-- a new engine: nothing is due to anybody, and no ticket was given
+pub record HasNoTurn (s : TurnState) : Type 0 where
+  pub nothing : (turn : Turn) → HasNothing s.agenda turn
+  pub tickets : s.tickets ≡ 0
+  pub astray : s.astray ≡ None
+
+abbrev pub IsUnturned : Option Turns → Type 0
+IsUnturned None = ⊥
+IsUnturned (Some t) = HasNoTurn (turn_state t)

@@ -1,11 +1,12 @@
 //! An engine from its beginning to its end.
 
-ghost use Rattle.std.specs.Prelude.{◌≡◌, None};
+ghost use Rattle.std.specs.Prelude.{◌≡◌, ◌≢◌, None};
 ghost use Rattle.rx_resource.specs.contracts.token.TokenResource.TheImpl.{ghosts};
 ghost use Rattle.rx_cellar.specs.Crossings.{no_answer};
 ghost use Rattle.rx_cellar.specs.Cellars.{IsCommandMade};
 ghost use Rattle.rx_cellar.specs.Behind.{IsMadeBehind};
 ghost use Rattle.cellarcliff.specs.Calls.{cellar_in, IsCalled, IsMade, IsFinished, size_of};
+ghost use Rattle.cellarcliff.specs.Steps.{IsUnturned};
 
 use crate::handle::CellarHandle;
 use rx_cellar::{Answer, Command, DONE, HELD, NO_MEMORY, NOTHING_KEPT, UNTAKEN};
@@ -44,7 +45,9 @@ pub extern "C" fn cellar_size(which: u32) -> u32
 /// Makes an engine in a handle that keeps nothing.
 #[unsafe(no_mangle)]
 pub extern "C" fn cellar_new(alloc: Global, handle: &mut CellarHandle, max_events: u32) -> u8
-    ensures { IsMade max_events (cellar_in handle.old.kept) (cellar_in handle.new.kept) result }
+    ensures made { IsMade max_events (cellar_in handle.old.kept) (cellar_in handle.new.kept) result }
+    ensures begins { result ≡ 0 → IsUnturned handle.new.kept }
+    ensures keeps { result ≢ 0 → handle.new.kept ≡ handle.old.kept }
 {
     if let Some(kept) = handle.take(alloc) {
         handle.put(kept);
@@ -104,7 +107,8 @@ pub extern "C" fn cellar_make_behind(
 /// Frees the engine if nothing is open or held and no effect waits. Else nothing is done, and the status is 6.
 #[unsafe(no_mangle)]
 pub extern "C" fn cellar_finish(alloc: Global, handle: &mut CellarHandle) -> u8
-    ensures { IsFinished (cellar_in handle.old.kept) (cellar_in handle.new.kept) result }
+    ensures finished { IsFinished (cellar_in handle.old.kept) (cellar_in handle.new.kept) result }
+    ensures keeps { result ≢ 0 → handle.new.kept ≡ handle.old.kept }
 {
     let Some(kept) = handle.take(alloc) else {
         return NOTHING_KEPT;

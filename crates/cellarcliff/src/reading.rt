@@ -15,7 +15,8 @@ use std::alloc::Global;
 /// What there is.
 #[unsafe(no_mangle)]
 pub extern "C" fn cellar_totals(alloc: Global, handle: &mut CellarHandle, totals: &mut Totals) -> u8
-    ensures { IsLooked (λ s n. IsTotalled s totals.new n) (totals.new ≡ no_totals) (cellar_in handle.old.kept) (cellar_in handle.new.kept) result }
+    ensures told { IsLooked (λ s n. IsTotalled s totals.new n) (totals.new ≡ no_totals) (cellar_in handle.old.kept) (cellar_in handle.new.kept) result }
+    ensures keeps { handle.new.kept ≡ handle.old.kept }
 {
     let Some(kept) = handle.take(alloc) else {
         *totals = no_totals();
@@ -34,7 +35,8 @@ pub extern "C" fn cellar_event(
     place: u64,
     event: &mut Event,
 ) -> u8
-    ensures { IsLooked (λ s n. IsEventAnswered place s event.new n) (event.new ≡ no_event) (cellar_in handle.old.kept) (cellar_in handle.new.kept) result }
+    ensures told { IsLooked (λ s n. IsEventAnswered place s event.new n) (event.new ≡ no_event) (cellar_in handle.old.kept) (cellar_in handle.new.kept) result }
+    ensures keeps { handle.new.kept ≡ handle.old.kept }
 {
     let Some(kept) = handle.take(alloc) else {
         *event = no_event();
@@ -54,8 +56,9 @@ pub extern "C" fn cellar_dump(
     buffer: &mut [u8],
     told: &mut u64,
 ) -> u8
-    ensures { IsLooked (λ s n. IsHandedOver s.engine.book buffer.old buffer.new told.new n) (TellsNoText buffer.old buffer.new told.new)
+    ensures told { IsLooked (λ s n. IsHandedOver s.engine.book buffer.old buffer.new told.new n) (TellsNoText buffer.old buffer.new told.new)
         (cellar_in handle.old.kept) (cellar_in handle.new.kept) result }
+    ensures keeps { handle.new.kept ≡ handle.old.kept }
 {
     let Some(kept) = handle.take(alloc) else {
         *told = 0;

@@ -4,11 +4,11 @@ ghost use Rattle.std.specs.Prelude.{◌≡◌, ◌==◌, Some, None};
 ghost use Rattle.std.proofs.Math.Bool.{not};
 ghost use Rattle.rx_resource.specs.contracts.token.TokenResource.TheImpl.{ghosts};
 ghost use Rattle.cellarcliff.specs.Calls.{cellar_in, IsLooked, IsNoRest};
-ghost use Rattle.cellarcliff.specs.Steps.{turn_of, no_step, made_told, handed_told, IsTurned, IsStepTold, IsPassTold, IsStopTold};
+ghost use Rattle.cellarcliff.specs.Steps.{turn_of, no_step, answer_in, made_told, handed_told, IsTurned, IsStepTold, IsPassTold, IsStopTold};
 ghost use Rattle.cellarcliff.specs.Steps.{AreClosingsTold};
 
 use crate::handle::CellarHandle;
-use rx_cellar::{Answer, Command, DONE, Effect, NOTHING_KEPT, NumberedKey, no_node};
+use rx_cellar::{Answer, Command, DONE, Effect, NOTHING_KEPT, NumberedKey};
 use rx_turns::{Task, Turn};
 use std::alloc::Global;
 
@@ -70,7 +70,7 @@ impl Stepped {
 
     // What is to be done now.
     fn tell_handed(&mut self, handed: &Option<Task>, is_own: bool)
-        ensures { self.new ≡ handed_told handed is_own self.old }
+        ensures { self.new ≡ handed_told handed.now is_own self.old }
     {
         match handed {
             Some(task) => {
@@ -94,18 +94,20 @@ fn turn_of(stack: &Stack) -> Turn
     }
 }
 
-// The answer of no command.
-fn blank() -> Answer {
+// The answer of no command: what a refused one leaves is as the caller's memory has it.
+fn answer_in(step: &Stepped) -> Answer
+    ensures { result ≡ answer_in step.now }
+{
     Answer {
-        node: no_node(),
-        other: no_node(),
+        node: step.node,
+        other: step.other,
         is_connected: 0,
-        hub: 0,
+        hub: step.hub,
         copies: 0,
         closed: 0,
         due: 0,
         handed: 0,
-        closings: [0; 8],
+        closings: step.closings,
         lanes: [0; 8],
         effect: Effect {
             user: 0,
@@ -134,7 +136,7 @@ pub extern "C" fn cellar_step(
     let Some(mut kept) = handle.take(alloc) else {
         return NOTHING_KEPT;
     };
-    let mut made = blank();
+    let mut made = answer_in(step);
     let mut handed = None;
     let done = kept.step(turn_of(stack), stack.begun, command, &mut made, &mut handed);
     handle.put(kept);
@@ -206,8 +208,9 @@ pub extern "C" fn cellar_closings(
     words: &mut [u64],
     count: &mut u64,
 ) -> u8
-    ensures { IsLooked (λ s n. AreClosingsTold from s words.old words.new count.new n) (IsNoRest words.old words.new count.new)
+    ensures told { IsLooked (λ s n. AreClosingsTold from s words.old words.new count.new n) (IsNoRest words.old words.new count.new)
         (cellar_in handle.old.kept) (cellar_in handle.new.kept) result }
+    ensures keeps { handle.new.kept ≡ handle.old.kept }
 {
     let Some(kept) = handle.take(alloc) else {
         *count = 0;

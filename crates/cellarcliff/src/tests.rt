@@ -10,4 +10,5 @@ mod memory;
 mod numbers;
 mod refused_memory;
 mod showing;
+mod steps;
 mod texts;

@@ -1,8 +1,8 @@
 //! An engine behind a handle, driven by tables of commands.
 
 use crate::{
-    CellarHandle, cellar_drop, cellar_finish, cellar_make, cellar_new, cellar_rest, cellar_take,
-    cellar_totals,
+    CellarHandle, Stack, Stepped, cellar_drop, cellar_finish, cellar_make, cellar_new, cellar_next,
+    cellar_rest, cellar_step, cellar_take, cellar_totals,
 };
 use rx_cellar::{Answer, Command, Effect, NumberedKey, Totals, no_node, no_totals};
 use std::alloc::{AllocError, Global};
@@ -127,11 +127,31 @@ fn no_answer_yet() -> Answer {
     }
 }
 
-// A handle, the last answer, and the keys that the commands so far gave: of a node, and then of a resource, a lease or a
-// connection.
+fn nothing_stepped() -> Stepped {
+    Stepped {
+        node: no_node(),
+        other: no_node(),
+        is_connected: 0,
+        hub: 0,
+        copies: 0,
+        closed: 0,
+        closings: [0; 8],
+        handed: 0,
+        own: 0,
+        ticket: 0,
+        spare: 0,
+        effect: no_effect(),
+    }
+}
+
+// A handle, whether its commands are made by turns, the last answer, and the keys that the commands so far gave: of a node,
+// and then of a resource, a lease or a connection.
 pub(super) struct Bench {
     pub(super) alloc: Global,
     pub(super) handle: CellarHandle,
+    pub(super) by_turns: bool,
+    pub(super) stack: Stack,
+    pub(super) step: Stepped,
     pub(super) answer: Answer,
     pub(super) keys: Vec<NumberedKey>,
 }
@@ -142,9 +162,23 @@ impl Bench {
         Bench {
             alloc,
             handle: CellarHandle::empty(),
+            by_turns: false,
+            stack: Stack {
+                by: BY,
+                depth: 1,
+                begun: 0,
+            },
+            step: nothing_stepped(),
             answer: no_answer_yet(),
             keys: Vec::new(alloc),
         }
+    }
+
+    // The same, whose commands are made by turns.
+    pub(super) fn by_turns(alloc: Global) -> Bench {
+        let mut bench = Bench::new(alloc);
+        bench.by_turns = true;
+        bench
     }
 
     // An engine whose history has at most so many events.
@@ -179,10 +213,54 @@ impl Bench {
         }
     }
 
+    // Makes a command in a turn; its answer stands where that of one by lanes does.
+    pub(super) fn make_in_turn(&mut self, command: &Command) -> u8 {
+        let status = cellar_step(
+            self.alloc,
+            &mut self.handle,
+            &self.stack,
+            command,
+            &mut self.step,
+        );
+        self.answer.node = self.step.node;
+        self.answer.other = self.step.other;
+        self.answer.is_connected = self.step.is_connected;
+        self.answer.copies = self.step.copies;
+        self.answer.closed = self.step.closed;
+        self.answer.handed = self.step.handed;
+        status
+    }
+
+    // Makes a command.
+    pub(super) fn make_once(&mut self, command: &Command) -> u8 {
+        if self.by_turns {
+            self.make_in_turn(command)
+        } else {
+            cellar_make(self.alloc, &mut self.handle, command, &mut self.answer)
+        }
+    }
+
+    // What is to be done next in the turn.
+    pub(super) fn next(&mut self) -> u8 {
+        cellar_next(self.alloc, &mut self.handle, &self.stack, &mut self.step)
+    }
+
+    // Does what the turn was handed, and all that comes next.
+    pub(super) fn go_on(&mut self, told: &mut Told) {
+        for _ in 0..u64::MAX {
+            if self.step.handed != 1 {
+                return;
+            }
+            self.stack.begun = self.step.ticket;
+            told.hear(self.step.effect);
+            self.next();
+        }
+    }
+
     // Makes a command, and keeps the keys that it gives.
     pub(super) fn make(&mut self, command: &Command) -> Result<u8, AllocError> {
         self.keys.reserve(2)?;
-        let status = cellar_make(self.alloc, &mut self.handle, command, &mut self.answer);
+        let status = self.make_once(command);
         if status == 0 {
             match command.what {
                 OPEN => {
@@ -229,6 +307,10 @@ impl Bench {
 
     // Hears what was handed out, and takes what there is of each lane that the last answer names.
     pub(super) fn serve(&mut self, told: &mut Told) -> Result<(), AllocError> {
+        if self.by_turns {
+            self.go_on(told);
+            return Ok(());
+        }
         if self.answer.handed == 1 {
             told.hear(self.answer.effect);
         }
@@ -285,6 +367,9 @@ impl Bench {
         let Bench {
             alloc,
             mut handle,
+            by_turns: _,
+            stack: _,
+            step: _,
             answer: _,
             keys: _keys,
         } = self;

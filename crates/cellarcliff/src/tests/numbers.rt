@@ -70,6 +70,48 @@ impl Bench {
     }
 }
 
+impl Bench {
+    // Begins what the turn was handed, and asks for more.
+    fn heard(&mut self) -> Shown {
+        let it = shown(self.step.effect);
+        let is_handed = self.step.handed == 1;
+        self.stack.begun = self.step.ticket;
+        self.next();
+        if is_handed { it } else { (9, 0, 0, 0, 9) }
+    }
+
+    // The same as `hears`, in turns of a stack of this number.
+    fn hears_in_turn(&mut self, number: u64) -> Result<[Shown; 3], AllocError> {
+        self.keys.clear();
+        self.stack.by = number;
+        for what in [OPEN, HOLD, NEXT] {
+            let node = if what == OPEN { 0 } else { 1 };
+            self.step((what, ROOT, LEAF, node, number))?;
+        }
+        let item = self.heard();
+        self.step((COMPLETE, 0, 0, 1, 0))?;
+        let end = self.heard();
+        let release = self.heard();
+        Ok([item, end, release])
+    }
+}
+
+#[test]
+fn numbers_of_all_64_bits_come_back_in_turns(rt: HostRuntime) {
+    let mut bench = Bench::by_turns(rt.alloc());
+    bench.begin(0);
+    let mut heard = [Ok([(9, 0, 0, 0, 9); 3]); 5];
+    for (at, number) in LARGE.iter().enumerate() {
+        heard[at] = bench.hears_in_turn(*number);
+    }
+    bench.close();
+    for (at, number) in LARGE.iter().enumerate() {
+        let it = *number;
+        let wanted = [(0, it, it, it, 1), (2, it, 0, it, 0), (5, it, 0, it, 0)];
+        assert_eq!(rt; heard[at], Ok(wanted), "at {at}");
+    }
+}
+
 #[test]
 fn numbers_of_all_64_bits_come_back(rt: HostRuntime) {
     let mut bench = Bench::new(rt.alloc());

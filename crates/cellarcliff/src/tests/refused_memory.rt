@@ -7,7 +7,7 @@ use super::bench::{
     GIVE_BACK, HOLD, INNER, LEAF, LEASE, NEXT, NOTIFIER, OPEN, PASS, PUT, REMOVE, ROOT, SHARED,
     SHUT, SOURCE, SWITCH, Step, Told, UNTIL, USING, no_effect, nothing_told,
 };
-use crate::{cellar_give_up, cellar_make, cellar_take};
+use crate::{cellar_give_up, cellar_take};
 use rx_cellar::Totals;
 use rx_scarce::{MOST_BLOCKS, Scarce};
 use std::alloc::AllocError;
@@ -117,7 +117,7 @@ impl Bench {
     fn is_refused_at_last(&mut self, step: Step) -> bool {
         let command = self.command(step);
         for _ in 0..MOST_BLOCKS {
-            let status = cellar_make(self.alloc, &mut self.handle, &command, &mut self.answer);
+            let status = self.make_once(&command);
             if status != 0 {
                 return status == 4;
             }
@@ -191,6 +191,22 @@ const FEW_EVENTS: u32 = 400;
 #[test]
 fn commands_go_so_over_checkpoints_too(rt: HostRuntime) {
     let mut bench = Bench::new(rt.alloc());
+    let seen = bench.seen(FEW_EVENTS);
+    bench.close();
+    assert_eq!(rt; seen, Ok((None, true, true)));
+}
+
+#[test]
+fn a_step_that_is_refused_memory_changes_nothing_and_goes_through_later(rt: HostRuntime) {
+    let mut bench = Bench::by_turns(rt.alloc());
+    let seen = bench.seen(0);
+    bench.close();
+    assert_eq!(rt; seen, Ok((None, true, true)));
+}
+
+#[test]
+fn steps_go_so_over_checkpoints_too(rt: HostRuntime) {
+    let mut bench = Bench::by_turns(rt.alloc());
     let seen = bench.seen(FEW_EVENTS);
     bench.close();
     assert_eq!(rt; seen, Ok((None, true, true)));

@@ -4,7 +4,7 @@ use Rattle.cellarcliff.proofs.Common.{lit, no_more, and_then, returns, enter, al
 use Rattle.cellarcliff.proofs.Common.{null_ptr, types_at, nothing, alive, walk_of, proved_at, leaves}
 use Rattle.cellarcliff.proofs.Values.{alone, alone_good, engine_in}
 use Rattle.cellarcliff.proofs.handle.CellarHandle.empty.Statement.{statement}
-use Rattle.rx_cellar.specs.contracts.cellar.Cellar as kept
+use Rattle.rx_turns.specs.contracts.turns.Turns as kept
 use Rattle.cellarcliff.specs.contracts.handle.CellarHandle.empty.{ended, clauses}
 use Rattle.cellarcliff.specs.contracts.handle.CellarHandle.empty.Key.{name as #self}
 use Rattle.cellarcliff.proofs.handle.CellarHandle.empty.Code as code

@@ -6,7 +6,7 @@ use Rattle.cellarcliff.proofs.Common.{types_at, plain, nothing, alive, Stays, st
 use Rattle.std.specs.contracts.alloc.Global as heap
 use Rattle.std.proofs.alloc.Global.TheLaws as heap_laws
 use Rattle.cellarcliff.proofs.Values.{both, alone, alone_good, Loose, loose_good, loose_out, engine_in}
-use Rattle.rx_cellar.specs.contracts.cellar.Cellar as kept
+use Rattle.rx_turns.specs.contracts.turns.Turns as kept
 use Rattle.cellarcliff.specs.contracts.handle.CellarHandle.holding.{ended, clauses}
 use Rattle.cellarcliff.specs.contracts.handle.CellarHandle.holding.Key.{name as #self}
 use Rattle.cellarcliff.proofs.handle.CellarHandle.holding.Statement.{statement}

@@ -9,7 +9,7 @@ use Rattle.cellarcliff.proofs.Common.{Good, Some-of, none_of, proved_at, leaves,
 use Rattle.std.specs.contracts.alloc.Global as heap
 use Rattle.std.proofs.alloc.Global.TheLaws as heap_laws
 use Rattle.cellarcliff.proofs.Values.{both, alone, alone_good, al, Loose, loose_good, loose_in, EngineHandle, engine_out, either}
-use Rattle.rx_cellar.specs.contracts.cellar.Cellar as kept
+use Rattle.rx_turns.specs.contracts.turns.Turns as kept
 use Rattle.cellarcliff.specs.contracts.handle.CellarHandle.into_loose.{ended, clauses}
 use Rattle.cellarcliff.specs.contracts.handle.CellarHandle.into_loose.Key.{name as #self}
 use Rattle.cellarcliff.proofs.handle.CellarHandle.into_loose.Statement.{statement}
