@@ -16,4 +16,8 @@ mod ReleasesTold
 mod ToldInOrder
 pub mod Turned
 pub mod Values
+mod TurnsMakeCourses
+mod TurnsToldOnce
+mod TurnsOwnTickets
+mod TurnsKeepOrder
 mod WhatWaits

@@ -139,7 +139,7 @@ asked_refused g asked by s t a b status (is_done o u v tidies made counts tells)
 asked_refused g asked by s t a b status (is_refused why u tidies made same) not_done =
     (leaves_on (tidy g (is_due s) s u tidies) (tried g asked by u t (Err why) why made refl), same)
 
-call_refused : (g : Ghosts Token) (asked : Option Asked) (by : ℕ) (s t : Cellar) (a b : Answer) (status : ℕ) → IsMadeIf g asked by s t a b status → status ≢ 0 →
+pub call_refused : (g : Ghosts Token) (asked : Option Asked) (by : ℕ) (s t : Cellar) (a b : Answer) (status : ℕ) → IsMadeIf g asked by s t a b status → status ≢ 0 →
     Leaves g s t × (b ≡ a)
 call_refused g None by s t a b status (five, same, none) not_done = (tidy g false s t same, none)
 call_refused g (Some asked) by s t a b status is not_done = asked_refused g asked by s t a b status is not_done

@@ -46,7 +46,9 @@
 //! - Each call on an engine is one line of `specs/Calls.antt`: what the handle keeps before and after it, and what is
 //!   told. Any calls on one handle are a course of its engine ([`calls_are_courses`], `specs/Courses.antt`): each tag is
 //!   released once, each effect told once, by one caller at a time and in order in its lane, and a root hears
-//!   nothing behind its end. A refused command changes nothing ([`refused_calls_change_nothing`]).
+//!   nothing behind its end. A refused command changes nothing ([`refused_calls_change_nothing`]). The same holds of
+//!   calls by turns ([`turns_are_courses`], `specs/TurnCourses.antt`), and a step that hands out nothing leaves nothing
+//!   ([`steps_leave_nothing`]).
 //! - Each answer of an audit or a run is one line of `Answers` (`specs/`): the text is the verdict on the
 //!   history of which the input is a dump, what `rx_script` says of a scenario, or the picture that `rx_svg` tells of
 //!   a history, and a status comes only for its cause. An explanation has a text for just the inputs that `rxbook`
@@ -88,7 +90,9 @@ pub use handle::CellarHandle;
 pub use laws::{
     answers_are_handed_out_once, calls_are_courses, effects_are_told_in_order,
     effects_are_told_once, lanes_are_served_one_by_one, refused_calls_change_nothing,
-    roots_hear_in_order, tags_are_released_once,
+    refused_steps_change_nothing, roots_hear_in_order, steps_leave_nothing, tags_are_released_once,
+    tickets_are_own, turns_are_courses, turns_serve_one_by_one, turns_tell_each_effect_once,
+    turns_tell_in_order, turns_tell_roots_in_order,
 };
 pub use live::{
     cellar_live_drop, cellar_live_end, cellar_live_new, cellar_live_read, cellar_live_send,

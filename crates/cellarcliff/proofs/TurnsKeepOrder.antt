@@ -1,0 +1,143 @@
+-- What holds of courses of the engine holds of the calls by turns; and what a step leaves.
+use Rattle.std.proofs.Common.{◌≡◌, ◌≢◌, ℕ, ◌==◌, Bool, true, false, List, Option, Some, None, refl, sym, ap, ◌∙◌, subst, arith}
+use Rattle.std.proofs.lemmas.Bool.{false≢true, false_from_ne_true, eqb-true}
+use Rattle.rx_resource.specs.declared.Resource.{Ghosts}
+use Rattle.rx_resource.specs.declared.token.Token.{Token}
+use Rattle.rx_courses.specs.RootsTold.{TellsEachRoot}
+use Rattle.rx_courses.specs.Serving.{NothingIsStuck, ServesOneAtATime}
+use Rattle.rx_courses.specs.Tellings.{TellsInOrder}
+use Rattle.rx_cellar.specs.declared.shapes.Command.{Command}
+use Rattle.rx_cellar.specs.declared.shapes.Answer.{Answer}
+use Rattle.rx_cellar.specs.declared.cellar.Cellar.{Cellar}
+use Rattle.rx_cellar.specs.Asking.{asked_of}
+use Rattle.rx_cellar.specs.Crossings.{no_answer}
+use Rattle.rx_turns.specs.declared.agenda.Turn.{Turn}
+use Rattle.rx_turns.specs.declared.agenda.Task.{Task}
+use Rattle.rx_turns.specs.Agendas.{has_nothing}
+use Rattle.rx_turns.specs.States.{TurnState, turn_state}
+use Rattle.rx_turns.specs.Making.{words_due, made_for, ComesIf, IsMadeBy, MakesIn, is_made, is_made_bare, finds_no_line}
+use Rattle.rx_turns.specs.Calls.{TurnGoesOn}
+use Rattle.rx_turns.specs.Promises.{NothingIsLeft, NothingIsAstray}
+use Rattle.cellarcliff.specs.declared.stepping.Stepped.{Stepped}
+use Rattle.cellarcliff.specs.Refusals.{KeepsAllElse, is_as_before}
+use Rattle.cellarcliff.specs.Steps.{turn_of, no_step, answer_in, made_told, handed_told}
+use Rattle.cellarcliff.specs.TurnsServed.{AreTurnsInOrder, AreRootsToldInTurns, AreTurnsServedOneByOne, HasAllDone, StepsLeaveNothing}
+use Rattle.cellarcliff.specs.TurnsServed.{RefusedStepsChangeNothing}
+use Rattle.cellarcliff.proofs.RefusalsChangeNothing.{call_refused}
+use Rattle.cellarcliff.proofs.TurnsMakeCourses.{said, by_turns, shows_course}
+use Rattle.cellarcliff.proofs.TurnsToldOnce.{new_engine, no_roles}
+
+pub turns_in_order : (g : Ghosts Token) → TellsInOrder g → NothingIsStuck g → AreTurnsInOrder g
+turns_in_order g law stuck max_events made first last shown new course less =
+    let shows = shows_course g max_events made first last shown new course less in
+    let lanes = (new_engine max_events made first new).lanes in
+    let is = shows.is_shown in
+    record {
+      is_shown = is;
+      in_order = λ honest name. law name first.cellar.engine last.cellar.engine lanes is.is_course.course honest;
+      left_named = λ honest name l found left_there.
+          stuck first.cellar.engine last.cellar.engine lanes is.is_course.course honest name l found left_there;
+    }
+
+pub roots_told : (g : Ghosts Token) → TellsEachRoot g → AreRootsToldInTurns g
+roots_told g law max_events made first last shown new course less =
+    let shows = shows_course g max_events made first last shown new course less in
+    let fresh = new_engine max_events made first new in
+    let none = no_roles first.cellar.engine.parts.hears.list (let no_name = fresh.names in omega (arith, no_name)) in
+    let is = shows.is_shown in
+    record {
+      is_shown = is;
+      roots = λ n word name honest only. law n word name first.cellar.engine last.cellar.engine fresh.lanes none is.is_course.course honest only;
+    }
+
+pub served_one_by_one : (g : Ghosts Token) → ServesOneAtATime g → AreTurnsServedOneByOne g
+served_one_by_one g law s t shown kept course =
+    let goes = by_turns kept course in
+    record {
+      seen = goes.seen;
+      is_course = goes.course;
+      alone = λ by name l found serves_it on. law s.cellar.engine t.cellar.engine goes.course.course by name l found serves_it on;
+    }
+
+-- a step that hands out nothing tells so
+none_handed : (turn : Turn) (s t : TurnState) (handed : Option Task) → TurnGoesOn turn t s handed → handed ≡ None → TurnGoesOn turn t s None
+none_handed turn s t handed goes is = subst (λ (o : Option Task). TurnGoesOn turn t s o) is goes
+
+all_done : NothingIsLeft → NothingIsAstray → (turn : Turn) (s t : TurnState) → TurnGoesOn turn t s None → HasAllDone turn t
+all_done left astray turn s t goes = let none = left turn s t goes in record {
+  own = none.0;
+  deeper = none.1;
+  astray = λ outermost. astray turn s t outermost goes;
+}
+
+unhanded : (handed : Option Task) (is_own : Bool) (made : Answer) (a : Stepped) → (handed_told handed is_own (made_told made (no_step a))).handed ≡ 0 → handed ≡ None
+unhanded None is_own made a none = refl
+unhanded (Some h) is_own made a none = absurd (omega (arith, none))
+
+pub steps_leave_nothing : (g : Ghosts Token) → NothingIsLeft → NothingIsAstray → StepsLeaveNothing g
+steps_leave_nothing g left astray stack c a b s t status on none =
+    let k = (said s t status on).0 in
+    all_done left astray (turn_of stack) k.steps.made (turn_state t)
+    (none_handed (turn_of stack) k.steps.made (turn_state t) k.step.handed k.steps.goes_on
+    (unhanded k.step.handed k.step.is_own k.made a (sym (ap (λ (x : Stepped). x.handed) k.told) ∙ none)))
+
+-- refused steps ----------------------------------------------------------------------------------------------
+
+-- what was made of the engine, before the turn goes on
+record Refuses (g : Ghosts Token) (s t : TurnState) (a b : Answer) (is_own : Bool) : Type 0 where
+  engine : KeepsAllElse g s.cellar.engine t.cellar.engine
+  released : t.cellar.released ≡ s.cellar.released
+  nothing_told : b ≡ no_answer a
+  no_own : is_own ≡ false
+
+module _ (g : Ghosts Token) (turn : Turn) (c : Command) where
+  not_come : (done : Bool) (words : List ℕ) (b : Answer) (s t : TurnState) (is_own : Bool) → done ≡ false → ComesIf done turn words b s t is_own →
+      (t ≡ s) × (is_own ≡ false)
+  not_come true words b s t is_own undone comes = absurd (false≢true (sym undone))
+  not_come false words b s t is_own undone comes = comes
+
+  made_refuses : (is_free : Bool) (s u t : TurnState) (a b : Answer) (status : ℕ) (is_own : Bool) → u.cellar ≡ s.cellar →
+      IsMadeBy g turn is_free c u t a b status is_own → status ≢ 0 → Refuses g s t a b is_own
+  made_refuses is_free s u t a b status is_own before by undone =
+      let asked = made_for is_free turn c in
+      let kept = call_refused g (asked_of asked) asked.by u.cellar by.cellar (no_answer a) b status by.made undone in
+      let none = not_come (status == 0) (words_due by.cellar) b (record u { cellar = by.cellar }) t is_own
+      (false_from_ne_true (status == 0) (λ zero_is. undone (eqb-true status 0 zero_is))) by.comes in
+      let after = ap (λ (x : TurnState). x.cellar) none.0 in
+      record {
+        engine = subst (λ (x : Cellar). KeepsAllElse g x.engine t.cellar.engine) before
+            (subst (λ (x : Cellar). KeepsAllElse g u.cellar.engine x.engine) (sym after) kept.0.engine);
+        released = ap (λ (x : Cellar). x.released) after ∙ kept.0.released ∙ ap (λ (x : Cellar). x.released) before;
+        nothing_told = kept.1;
+        no_own = none.1;
+      }
+
+  refuses : (s t : TurnState) (a b : Answer) (status : ℕ) (is_own : Bool) → MakesIn g turn c s t a b status is_own → status ≢ 0 → Refuses g s t a b is_own
+  refuses s t a b _ _ (is_made u status is_own line by) undone =
+      made_refuses (has_nothing s.agenda turn) s u t a b status is_own (ap (λ (x : TurnState). x.cellar) line.only) by undone
+  refuses s t a b _ _ (is_made_bare u status none may loses only by) undone =
+      made_refuses true s u t a b status false (ap (λ (x : TurnState). x.cellar) only) by undone
+  refuses s t a b _ _ (finds_no_line full may loses only none) undone =
+      let same = ap (λ (x : TurnState). x.cellar) only in
+      record {
+        engine = subst (λ (x : Cellar). KeepsAllElse g s.cellar.engine x.engine) (sym same) is_as_before;
+        released = ap (λ (x : Cellar). x.released) same;
+        nothing_told = none;
+        no_own = refl;
+      }
+
+pub refused_steps_change_nothing : (g : Ghosts Token) → RefusedStepsChangeNothing g
+refused_steps_change_nothing g stack c a b s t status on undone =
+    let k = (said s t status on).0 in
+    let steps = k.steps in
+    let kept = refuses g (turn_of stack) c steps.marked steps.made (answer_in a) k.made k.step.status k.step.is_own steps.makes
+    (λ zero_is. undone (k.status_is ∙ zero_is)) in
+    let marked = ap (λ (x : TurnState). x.cellar) steps.marks.only in
+    record {
+      between = steps.made;
+      engine = subst (λ (x : Cellar). KeepsAllElse g x.engine steps.made.cellar.engine) marked kept.engine;
+      released = kept.released ∙ ap (λ (x : Cellar). x.released) marked;
+      handed = k.step.handed;
+      goes_on = steps.goes_on;
+      told = k.told ∙ (λ i. handed_told k.step.handed (kept.no_own i) (made_told (kept.nothing_told i) (no_step a)));
+    }

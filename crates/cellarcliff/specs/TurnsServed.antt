@@ -1,0 +1,94 @@
+-- What holds of lanes and roots over the calls by turns on one handle, of stacks that have nothing more, and of steps that are refused.
+use Rattle.std.specs.Prelude.{◌≡◌, ◌≢◌, ◌⊎◌, ℕ, true, false, List, ◌++◌, Option, Some, None}
+use Rattle.rx_resource.specs.declared.Resource.{Ghosts}
+use Rattle.rx_resource.specs.declared.token.Token.{Token}
+use Rattle.rx_lanes.specs.declared.names.LaneName.{LaneName}
+use Rattle.rx_lanes.specs.Lane.{Lane, is_left}
+use Rattle.rx_lanes.specs.State.{lane}
+use Rattle.rx_roles.specs.declared.effect.Effect.{Effect as Sent}
+use Rattle.rx_engine.specs.States.{State, IsPromised}
+use Rattle.rx_courses.specs.Courses.{all_effects}
+use Rattle.rx_courses.specs.RootsTold.{AllOpenOnly, TellsARoot}
+use Rattle.rx_courses.specs.Serving.{ends_serving, ServesAlone, named_there}
+use Rattle.rx_courses.specs.Tellings.{IsHonest, told_there, line_at, those_there, but_releases}
+use Rattle.rx_cellar.specs.declared.shapes.Command.{Command}
+use Rattle.rx_turns.specs.declared.agenda.Turn.{Turn}
+use Rattle.rx_turns.specs.declared.agenda.Task.{Task}
+use Rattle.rx_turns.specs.declared.turns.Turns.{Turns}
+use Rattle.rx_turns.specs.Rows.{is_deeper}
+use Rattle.rx_turns.specs.Agendas.{HasNothing}
+use Rattle.rx_turns.specs.States.{TurnState, turn_state}
+use Rattle.rx_turns.specs.Calls.{TurnGoesOn}
+use Rattle.rx_turns.specs.Courses.{Seen, IsEngineCourse}
+use Rattle.rx_turns.specs.Promises.{LackedRoom}
+use Rattle.cellarcliff.specs.declared.stepping.Stack.{Stack}
+use Rattle.cellarcliff.specs.declared.stepping.Stepped.{Stepped}
+use Rattle.cellarcliff.specs.Refusals.{KeepsAllElse}
+use Rattle.cellarcliff.specs.Steps.{turn_of, no_step, handed_told, IsStepTold}
+use Rattle.cellarcliff.specs.TurnCourses.{Shown, OnTurns, TurnsCourse, IsShownCourse, AllTurns}
+
+-- where what comes back is what was told last of its lane: of each lane all but releases, which may come before their turn, was told, or waits
+-- there, in the order in which the commands put it there; and a lane that has something, and that nobody serves, was named by an answer since
+-- somebody was last given something of it
+pub record TellsTurnsInOrder (g : Ghosts Token) (s t : State) (shown : List Shown) : Type 0 where
+  pub is_shown : IsShownCourse g s t shown
+  pub in_order : IsHonest is_shown.is_course.course → (name : LaneName) →
+      but_releases (told_there name is_shown.is_course.course ++ line_at name t.parts.lanes) ≡
+      but_releases (those_there name (all_effects is_shown.is_course.course))
+  pub left_named : IsHonest is_shown.is_course.course → (name : LaneName) (l : Lane Sent) → lane t.parts.lanes name ≡ Some l → is_left l ≡ true →
+      named_there name is_shown.is_course.course ≡ true
+
+abbrev pub AreTurnsInOrder : Ghosts Token → Type 0
+AreTurnsInOrder g = AllTurns g (λ s t shown. TellsTurnsInOrder g s t shown)
+
+-- and of a root that alone has its word in its lane: what was told there under this word, and then what waits, are its notes, in order, items
+-- and at most one end, and nothing behind it
+pub record TellsRootsOfTurns (g : Ghosts Token) (s t : State) (shown : List Shown) : Type 0 where
+  pub is_shown : IsShownCourse g s t shown
+  pub roots : (n word : ℕ) (name : LaneName) → IsHonest is_shown.is_course.course → AllOpenOnly n word name is_shown.is_course.course →
+      TellsARoot n word name is_shown.is_course.course
+
+abbrev pub AreRootsToldInTurns : Ghosts Token → Type 0
+AreRootsToldInTurns g = AllTurns g (λ s t shown. TellsRootsOfTurns g s t shown)
+
+-- who serves a lane serves it alone until he ends that
+pub record ServesTurnsOneByOne (g : Ghosts Token) (s t : State) : Type 0 where
+  pub seen : List Seen
+  pub is_course : IsEngineCourse g s t seen
+  pub alone : (by : ℕ) (name : LaneName) (l : Lane Sent) → lane s.parts.lanes name ≡ Some l → l.server ≡ Some by →
+      ends_serving by name is_course.course ≡ false → ServesAlone by name t
+
+-- of any calls on one handle, from whenever on
+abbrev pub AreTurnsServedOneByOne : Ghosts Token → Type 0
+AreTurnsServedOneByOne g = (s t : Turns) (shown : List Shown) → IsPromised s.cellar.engine → TurnsCourse g s shown t →
+    ServesTurnsOneByOne g s.cellar.engine t.cellar.engine
+
+-- nothing is stuck ---------------------------------------------------------------------------------------
+
+-- the turn has nothing any more, nor has a call deeper on its stack; and at depth 1 nothing is astray, but for want of room
+pub record HasAllDone (turn : Turn) (t : TurnState) : Type 0 where
+  pub own : HasNothing t.agenda turn
+  pub deeper : (u : Turn) → is_deeper turn u ≡ true → HasNothing t.agenda u
+  pub astray : turn.depth ≡ 1 → (t.astray ≡ None) ⊎ LackedRoom turn t
+
+-- of any step that hands out nothing
+abbrev pub StepsLeaveNothing : Ghosts Token → Type 0
+StepsLeaveNothing g = (stack : Stack) (c : Option Command) (step step' : Stepped) (s t : Turns) (status : ℕ) →
+    OnTurns (λ s t n. IsStepTold g stack c s t step step' n) (step' ≡ no_step step) s t status → step'.handed ≡ 0 → HasAllDone (turn_of stack) (turn_state t)
+
+-- refused steps ------------------------------------------------------------------------------------------
+
+-- nothing is told of the command, and nothing of the engine changed by it but room, a checkpoint and hubs, when the turn goes on
+pub record IsRefusedStep (g : Ghosts Token) (stack : Stack) (s t : TurnState) (step step' : Stepped) : Type 0 where
+  pub between : TurnState
+  pub engine : KeepsAllElse g s.cellar.engine between.cellar.engine
+  pub released : between.cellar.released ≡ s.cellar.released
+  pub handed : Option Task
+  pub goes_on : TurnGoesOn (turn_of stack) t between handed
+  pub told : step' ≡ handed_told handed false (no_step step)
+
+-- of any step whose status is not 0
+abbrev pub RefusedStepsChangeNothing : Ghosts Token → Type 0
+RefusedStepsChangeNothing g = (stack : Stack) (command : Command) (step step' : Stepped) (s t : Turns) (status : ℕ) →
+    OnTurns (λ s t n. IsStepTold g stack (Some command) s t step step' n) (step' ≡ no_step step) s t status → status ≢ 0 →
+    IsRefusedStep g stack (turn_state s) (turn_state t) step step'
