@@ -554,6 +554,17 @@ class Memory(Face):
         return self.cellar.step(stack, c)
 
 
+@believes('what is disposed of from within is released before the call returns', 'astray', 'astray=200')
+class AtOnce(Steady):
+    def by(self):
+        return 1
+
+    def dispose(self):
+        user = self.one_of(self.roots)
+        super().dispose()
+        check(user is None or self.disposed != user or not self.tags & {*self.resources[user]}, f'{user} is not released')
+
+
 @believes('what is gone is answered so', 'before', 'before=50')
 class Gone(Face):
     def step(self):

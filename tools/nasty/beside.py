@@ -16,13 +16,14 @@ from model import courses
 from model.cellar import Cellar, Told
 from model.courses import Beside, Course, Followed
 from model.definitions import Connect, Hub, Open
-from model.engine import DONE, MOST, REFUSED, Answer, Command, Effect, is_own, last_before
+from model.engine import APPLY, CONNECT, DONE, HOLD, LEASE, MOST, NEXT, OPEN, PUT, REFUSED, USING, Answer, Command, Effect, is_own, last_before
 from model.history import forget
 from model.scenario import Differs
 from model.crossing import numbers_of
 from model.turns import Stack, Stepped, Turn
 
 NO_MEMORY = REFUSED['NoMemory']
+ASKS = (OPEN, USING, HOLD, APPLY, LEASE, CONNECT, NEXT, PUT)  # what may be refused memory
 
 
 class CameTo(ctypes.Structure):
@@ -81,7 +82,7 @@ class FreeEngine(Followed):
         told = self.way.told[len(self.h):]
         if not self.hubs and told and isinstance(told[0], Hub):
             self.make_hubs()
-        if said.status == NO_MEMORY:
+        if said.status == NO_MEMORY and c.what in ASKS:
             return Answer(NO_MEMORY)
         answer = super().made(c)
         answer.hub = said.hub if answer.status == DONE else 0

@@ -68,8 +68,6 @@ static bool is_at_once(struct kept *kept, const struct outcome *it) {
 static uint8_t made(struct kept *kept, struct turn *turn, const struct cellar_command *command, struct cellar_stepped *step) {
   struct engine *engine = &kept->engine;
   forgets(kept);
-  if (is_refused(&engine->book.chooser, LINES))
-    return CELLAR_NO_MEMORY;
   struct outcome it = engine_command(engine, command);
   if (it.status)
     return it.status;

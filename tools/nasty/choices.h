@@ -25,8 +25,8 @@
   ROW(CHECKPOINTS, "checkpoints", 100, "but for a checkpoint, which may be refused and is then made by a later command")              \
   ROW(FULL, "full", 0, "A command that finds the history full answers it where the checkpoint is refused memory")                     \
   ROW(MEMORY, "memory", 0, "Only CELLAR_OPEN .. and cellar_dump may answer CELLAR_NO_MEMORY")                                         \
-  ROW(LINES, "lines", 0, "A step of any command may answer it where more turns have something than ever before")                      \
-  ROW(BEFORE, "before", 0, "CELLAR_OPEN, CELLAR_USING, CELLAR_HOLD and CELLAR_CONNECT may answer it before a cause of their own")
+  ROW(ASTRAY, "astray", 0, "Whatever is told may have to wait for memory: a later step of depth 1 hands it out")                      \
+  ROW(BEFORE, "before", 0, "CELLAR_OPEN .. and CELLAR_PUT may answer it before any other cause")
 
 enum choice {
 #define ROW(id, name, often, open) id,

@@ -461,12 +461,11 @@ static void tidies(struct engine *engine) {
 struct outcome engine_command(struct engine *engine, const struct cellar_command *c) {
   struct chooser *chooser = &engine->book.chooser;
   struct plan plan;
+  if (asks_for_memory(c) && is_refused(chooser, BEFORE))
+    return (struct outcome){.status = CELLAR_NO_MEMORY};
   if (!is_known(c))
     return (struct outcome){.status = CELLAR_NO_SUCH_CODE};
   tidies(engine);
-  bool enters = c->what == CELLAR_OPEN || c->what == CELLAR_USING || c->what == CELLAR_HOLD || c->what == CELLAR_CONNECT;
-  if (enters && is_refused(chooser, BEFORE))
-    return (struct outcome){.status = CELLAR_NO_MEMORY};
   uint8_t status = against(engine, c, &plan);
   if (status == CELLAR_FULL) {
     if (is_refused(chooser, FULL))

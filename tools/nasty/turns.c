@@ -42,6 +42,10 @@ static void removes(struct turn *turn, uint64_t lane) {
 }
 
 void turn_claims(struct turns *turns, struct turn *turn, struct claim claim) {
+  if (choose(turns->chooser, ASTRAY, 2)) {
+    turns->is_astray = true;
+    return;
+  }
   for (size_t i = 0; i < turns->many; i++)
     removes(turns->at[i], claim.lane);
   turn->due = grown(turn->due, &turn->room, turn->many, sizeof *turn->due);
