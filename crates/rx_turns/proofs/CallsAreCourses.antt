@@ -24,10 +24,10 @@ use Rattle.rx_turns.specs.Agendas.{in_hand, has_nothing, LosesNothing}
 use Rattle.rx_turns.specs.States.{TurnState}
 use Rattle.rx_turns.specs.Serving.{HandsOut, AsksLane, gives_one, gives_none, TakesOff, Drops, TakesDue, nothing_due, has_one, has_none}
 use Rattle.rx_turns.specs.Serving.{Serves, hands_again, goes_on, ends_lane, serves_none, ServesDeeper, none_deeper, deeper_has_one, deeper_has_none}
-use Rattle.rx_turns.specs.Making.{words_due, made_for, lane_at_once, Comes, comes_at_once, all_wait, ComesIf, MakesIn, is_made}
+use Rattle.rx_turns.specs.Making.{words_due, made_for, lane_at_once, Comes, comes_at_once, all_wait, ComesIf, MakesOnLine, makes_there, finds_no_room, MakesIn, is_made}
 use Rattle.rx_turns.specs.Making.{is_made_bare, finds_no_line}
 use Rattle.rx_turns.specs.Ending.{LetsLaneGo, holds_none, stays_in_hand, lets_inner_go, gives_lane_up, EndsTurn, StopsDeeper, all_ended, one_ended}
-use Rattle.rx_turns.specs.Ending.{LeavesTo}
+use Rattle.rx_turns.specs.Ending.{LeavesTo, is_claimed, stays_due}
 use Rattle.rx_turns.specs.Calls.{HasNoted, PicksUp, none_astray, ends_walk, finds_no_room, finds_one, GoesDeeper, serves_inner, has_no_more, looks_around}
 use Rattle.rx_turns.specs.Calls.{TurnGoesOn, serves_own, serves_no_more, MakesAny}
 use Rattle.rx_turns.specs.Courses.{Seen, was_told, came_back, seen_told, seen_back, IsEngineCourse, tag_done, HandsFrom, IsHandedOf, hands_none, hands_new, hands_old}
@@ -61,6 +61,10 @@ same_state : (g : Ghosts Token) (s t : TurnState) → t ≡ s → Stays g s t
 same_state g s t same =
     by_agenda g s t (ap (λ (x : TurnState). x.cellar) same) (ap (λ (x : TurnState). x.tickets) same)
     (all_stay s t None (λ u. ap (λ (x : TurnState). in_hand x.agenda u) same))
+
+by_two : (g : Ghosts Token) (s t u : TurnState) → Stays g s t → Stays g t u → Stays g s u
+by_two g s t u p q =
+    record { course = and_then p.course q.course; tickets = q.tickets ∙ p.tickets; hands = then_hands s t u None p.hands q.hands }
 
 by_dues : (g : Ghosts Token) (s t : TurnState) → ChangesDues s t → Stays g s t
 by_dues g s t changes = by_agenda g s t changes.cellar changes.tickets (all_stay s t None changes.hands)
@@ -269,14 +273,20 @@ module _ (g : Ghosts Token) (turn : Turn) (tags : List Seen) (s u t : TurnState)
 
 made_in : (g : Ghosts Token) (turn : Turn) (c : Command) (s t : TurnState) (a b : Answer) (status : ℕ) (is_own : Bool) →
     MakesIn g turn c s t a b status is_own → MakesCourse g turn (tag_done (Some c) status) s t
-made_in g turn c s t a b _ _ (is_made u status is_own admits by) =
-    let is_free = has_nothing s.agenda turn in
-    let made = made_course g (made_for is_free turn c) u.cellar by.cellar a b status by.stood by.made in
-    let due = handed_with by.cellar.engine.parts.lanes.due b in
-    let p = subst (λ (xs : List Seen). IsEngineCourse g u.cellar.engine by.cellar.engine (xs ++ due)) (same_tag is_free turn c status) made in
-    come_if g turn (tag_done (Some c) status) s u t by.cellar b (by_room g s u admits.loses admits.only)
-    (subst (λ (x : Cellar). IsEngineCourse g x.engine by.cellar.engine (tag_done (Some c) status ++ due)) (ap (λ (x : TurnState). x.cellar) admits.only) p)
-    is_own (status == 0) by.comes (none_handed_with g (made_for is_free turn c) u.cellar by.cellar a b status by.made)
+made_in g turn c s t a b status is_own (is_made u _ _ admits there) = on_line (has_nothing s.agenda turn) status is_own there where
+  on_line : (is_free : Bool) (status : ℕ) (is_own : Bool) → MakesOnLine g turn is_free c u t a b status is_own →
+      MakesCourse g turn (tag_done (Some c) status) s t
+  on_line is_free _ _ (makes_there v status is_own loses only by) =
+      let made = made_course g (made_for is_free turn c) v.cellar by.cellar a b status by.stood by.made in
+      let due = handed_with by.cellar.engine.parts.lanes.due b in
+      let p = subst (λ (xs : List Seen). IsEngineCourse g v.cellar.engine by.cellar.engine (xs ++ due)) (same_tag is_free turn c status) made in
+      let cellar = ap (λ (x : TurnState). x.cellar) only ∙ ap (λ (x : TurnState). x.cellar) admits.only in
+      come_if g turn (tag_done (Some c) status) s v t by.cellar b
+      (by_two g s u v (by_room g s u admits.loses admits.only) (by_room g u v loses only))
+      (subst (λ (x : Cellar). IsEngineCourse g x.engine by.cellar.engine (tag_done (Some c) status ++ due)) cellar p)
+      is_own (status == 0) by.comes (none_handed_with g (made_for is_free turn c) v.cellar by.cellar a b status by.made)
+  on_line is_free _ _ (finds_no_room many opening full loses only none) =
+      let stays = by_two g s u t (by_room g s u admits.loses admits.only) (by_room g u t loses only) in takes_none stays.course stays.tickets stays.hands
 made_in g turn c s t a b _ _ (is_made_bare u status full asks loses only by) =
     let made = made_course g (made_for true turn c) u.cellar by.cellar a b status by.stood by.made in
     let due = handed_with by.cellar.engine.parts.lanes.due b in
@@ -451,7 +461,8 @@ all_stopped g turn t _ (one_ended s v u deep ends rest) = ends_then g s v t (end
 
 left_to : (g : Ghosts Token) (left : Option ℕ) (turn : Turn) (s t : TurnState) → LeavesTo left turn s t → Stays g s t
 left_to g None turn s t same = same_state g s t same
-left_to g (Some word) turn s t claims = by_dues g s t (claimed_dues turn word s t claims)
+left_to g (Some word) turn s t (is_claimed where_is claims) = by_dues g s t (claimed_dues turn word s t claims)
+left_to g (Some word) turn s t (stays_due e inside stands same) = same_state g s t same
 
 pub calls_are_courses : (g : Ghosts Token) → CallsAreCourses g
 calls_are_courses g = record {

@@ -50,6 +50,9 @@ claimed turn place word line rows lists left joined words is within leaves joins
   places_are = omega (arith, members);
 }
 
+pub loses_none : (a : DueLists) → LosesNothing a a
+loses_none a = record { due = λ t. refl; hands = λ t. refl; words = λ p. refl; places_are = omega arith }
+
 -- more room changes nothing
 pub loses_on : (a b c : DueLists) → LosesNothing a b → LosesNothing b c → LosesNothing a c
 loses_on a b c l m = record {

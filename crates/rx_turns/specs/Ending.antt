@@ -1,11 +1,11 @@
 -- A turn that goes on no more: its lane is given up, and nothing is due to it.
-use Rattle.std.specs.Prelude.{◌≡◌, ℕ, ◌==◌, ◌||◌, Bool, true, false, List, [], ◌∷◌, Option, Some, None, is_some, if◌then◌else◌}
-use Rattle.rx_slots.specs.Lists.{head_of}
+use Rattle.std.specs.Prelude.{◌≡◌, ℕ, ◌==◌, ◌||◌, ◌⊎◌, Bool, true, false, List, [], ◌∷◌, Option, Some, None, is_some, if◌then◌else◌}
+use Rattle.rx_slots.specs.Lists.{head_of, is_in, list_at}
 use Rattle.rx_engine.specs.States.{IsPromised}
 use Rattle.rx_cellar.specs.declared.shapes.Effect.{Effect}
 use Rattle.rx_cellar.specs.declared.cellar.Cellar.{Cellar}
 use Rattle.rx_cellar.specs.Serving.{IsGivenUp}
-use Rattle.rx_cellar.specs.Words.{is_inside}
+use Rattle.rx_cellar.specs.Words.{is_inside, place_in}
 use Rattle.rx_turns.specs.declared.agenda.Turn.{Turn}
 use Rattle.rx_turns.specs.declared.agenda.Task.{Task}
 use Rattle.rx_turns.specs.Rows.{is_deeper}
@@ -62,10 +62,19 @@ pub data StopsDeeper (turn : Turn) (t : TurnState) : TurnState → Type 0 where
   all_ended : ((u : Turn) → is_deeper turn u ≡ true → TurnIsOver t.agenda u) → StopsDeeper turn t t
   one_ended : (s v : TurnState) (u : Turn) → is_deeper turn u ≡ true → EndsTurn u s v → StopsDeeper turn t v → StopsDeeper turn t s
 
+-- on no list is this place
+abbrev pub IsDueToNobody : DueLists → ℕ → Type 0
+IsDueToNobody a place = (e : ℕ) → is_in place (list_at a.lists e) ≡ false
+
+-- what is left under a word is due to a turn; but of a lane that its stack serves further out, nothing more where the whole lane is due already
+pub data LeavesWord (word : ℕ) (turn : Turn) (s t : TurnState) : Type 0 where
+  is_claimed : (is_inside word ≡ false) ⊎ IsDueToNobody s.agenda (place_in word) → IsMadeDue turn word s t → LeavesWord word turn s t
+  stays_due : (e : ℕ) → is_inside word ≡ true → is_in (place_in word) (list_at s.agenda.lists e) ≡ true → t ≡ s → LeavesWord word turn s t
+
 -- what is left is due to a turn
 abbrev pub LeavesTo : Option ℕ → Turn → TurnState → TurnState → Type 0
 LeavesTo None turn s t = t ≡ s
-LeavesTo (Some word) turn s t = IsMadeDue turn word s t
+LeavesTo (Some word) turn s t = LeavesWord word turn s t
 
 -- the call of this depth on the same stack
 abbrev pub at_depth : Turn → (depth : ℕ) → Turn

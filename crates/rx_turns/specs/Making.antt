@@ -1,5 +1,5 @@
 -- A command that a turn makes, and what is due to it then.
-use Rattle.std.specs.Prelude.{◌≡◌, ℕ, ◌==◌, ◌&&◌, ◌||◌, nat_lt, Bool, true, false, List, [], ◌∷◌, map, Option, Some, None, slice_get, if◌then◌else◌}
+use Rattle.std.specs.Prelude.{◌≡◌, ℕ, ◌≤◌, ◌==◌, ◌&&◌, ◌||◌, nat_lt, Bool, true, false, List, [], ◌∷◌, map, Option, Some, None, slice_get, if◌then◌else◌}
 use Rattle.std.proofs.Math.Bool.{not}
 use Rattle.rx_resource.specs.declared.Resource.{Ghosts}
 use Rattle.rx_resource.specs.declared.token.Token.{Token}
@@ -15,7 +15,7 @@ use Rattle.rx_cellar.specs.Words.{word_of_due, place_in}
 use Rattle.rx_turns.specs.declared.agenda.Turn.{Turn}
 use Rattle.rx_turns.specs.declared.agenda.Task.{Task}
 use Rattle.rx_turns.specs.Rows.{HasLine}
-use Rattle.rx_turns.specs.Agendas.{LosesNothing, Claims, LaneHasRoom, has_nothing}
+use Rattle.rx_turns.specs.Agendas.{LosesNothing, Claims, LaneHasRoom, lanes_fit, has_nothing}
 use Rattle.rx_turns.specs.States.{TurnState}
 use Rattle.rx_turns.specs.Serving.{HandsOut}
 
@@ -69,10 +69,22 @@ pub record IsMadeBy (g : Ghosts Token) (turn : Turn) (is_free : Bool) (c : Comma
 abbrev pub may_ask : (what : ℕ) → Bool
 may_ask what = nat_lt what 4 || what == 9 || what == 11 || what == 14 || what == 16
 
+-- what opens lanes
+abbrev pub opens : (what : ℕ) → Bool
+opens what = nat_lt what 2 || what == 9
+
+-- by a turn that has a line it is made; or, where it opens lanes, of which there may be more than there is room for, there was no memory for these, and
+-- nothing changed
+pub data MakesOnLine (g : Ghosts Token) (turn : Turn) (is_free : Bool) (c : Command) (s t : TurnState) (a b : Answer) : (status : ℕ) → (is_own : Bool) → Type 0 where
+  makes_there : (u : TurnState) (status : ℕ) (is_own : Bool) → LosesNothing s.agenda u.agenda → u ≡ record s { agenda = u.agenda } →
+      IsMadeBy g turn is_free c u t a b status is_own → MakesOnLine g turn is_free c s t a b status is_own
+  finds_no_room : (many : ℕ) → opens c.what ≡ true → (many ≤ lanes_fit s.agenda → ⊥) → LosesNothing s.agenda t.agenda →
+      t ≡ record s { agenda = t.agenda } → b ≡ no_answer a → MakesOnLine g turn is_free c s t a b (refusal_status NoMemory) false
+
 -- it is made; or, only where the turn has no line, there was no memory for one: then what may be refused for that is, and nothing changed; what
 -- ends or closes is made all the same, and what comes of it is due as far as there is room
 pub data MakesIn (g : Ghosts Token) (turn : Turn) (c : Command) (s t : TurnState) (a b : Answer) : (status : ℕ) → (is_own : Bool) → Type 0 where
-  is_made : (u : TurnState) (status : ℕ) (is_own : Bool) → GivesLine turn s u → IsMadeBy g turn (has_nothing s.agenda turn) c u t a b status is_own →
+  is_made : (u : TurnState) (status : ℕ) (is_own : Bool) → GivesLine turn s u → MakesOnLine g turn (has_nothing s.agenda turn) c u t a b status is_own →
       MakesIn g turn c s t a b status is_own
   is_made_bare : (u : TurnState) (status : ℕ) → (HasLine turn s.agenda.rows → ⊥) → may_ask c.what ≡ false → LosesNothing s.agenda u.agenda →
       u ≡ record s { agenda = u.agenda } → IsMadeBy g turn true c u t a b status false → MakesIn g turn c s t a b status false

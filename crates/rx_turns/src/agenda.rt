@@ -1,8 +1,8 @@
 //! What is due to whom.
 
-ghost use Rattle.std.specs.Prelude.{◌≡◌, ◌<◌, ◌≤◌, ◌+◌, ◌^◌, [], true, false, length, Some, None};
+ghost use Rattle.std.specs.Prelude.{◌≡◌, ◌<◌, ◌≤◌, ◌+◌, ◌^◌, ℕ, [], true, false, length, Some, None};
 ghost use Rattle.std.specs.Prelude.{OnOk, IsOk, IfSome, is_none, slice_index_or, vec_capacity};
-ghost use Rattle.rx_slots.specs.Lists.{list_at, head_of};
+ghost use Rattle.rx_slots.specs.Lists.{list_at, head_of, is_in};
 ghost use Rattle.rx_turns.specs.Rows.{is_of, own_line, row_on, HaveOneRowEach, KeepsRows, HasLine, Grows, TellsAlike, AreListed};
 ghost use Rattle.rx_turns.specs.Rows.{IsToldOf, is_by, begun_by, with_begun, is_deeper, is_before, nearer};
 ghost use Rattle.rx_turns.specs.Agendas.{IsAgenda};
@@ -384,6 +384,11 @@ impl Agenda {
         self.lists.admit(places)
     }
 
+    /// How many lines there are.
+    pub(crate) fn turns(&self) -> usize {
+        self.rows.len()
+    }
+
     /// The first lane that is due to a turn.
     #[inline(always)]
     pub(crate) fn first(&self, turn: Turn) -> Option<usize>
@@ -478,6 +483,14 @@ impl Agenda {
     {
         let line = own_line(&self.rows, turn);
         self.rows[line].in_hand = hand;
+    }
+
+    /// Whether the lane of a place is due to anybody.
+    pub(crate) fn is_due(&self, place: usize) -> bool
+        ensures stands { result ≡ true → (e : ℕ) × (is_in place (list_at (seen self.now).lists e) ≡ true) }
+        ensures free { result ≡ false → (e : ℕ) → is_in place (list_at (seen self.now).lists e) ≡ false }
+    {
+        !self.lists.is_free(place)
     }
 
     /// Makes a lane due to nobody.

@@ -5,9 +5,10 @@ ghost use Rattle.rx_cellar.specs.Words.{is_inside};
 ghost use Rattle.rx_turns.specs.Rows.{HasLine};
 ghost use Rattle.rx_turns.specs.Agendas.{in_hand};
 ghost use Rattle.rx_turns.specs.States.{turn_state};
-ghost use Rattle.rx_turns.specs.Ending.{at_depth, left_under, astray_if, GivesBack, LetsLaneGo, LeavesTo, EndsTurn, StopsDeeper};
+ghost use Rattle.rx_turns.specs.Ending.{at_depth, left_under, astray_if, GivesBack, LetsLaneGo, LeavesWord, LeavesTo, EndsTurn, StopsDeeper};
 
 use crate::agenda::{Task, Turn};
+use crate::making::place_of;
 use crate::turns::Turns;
 use rx_cellar::Cellar;
 
@@ -95,12 +96,21 @@ impl Turns {
         }
     }
 
+    // What is left under a word is due to a turn, but where the whole lane is due already.
+    fn leave_under(&mut self, word: u64, turn: Turn)
+        ensures { LeavesWord word turn (turn_state self.old) (turn_state self.new) }
+    {
+        if word < INSIDE || !self.agenda.is_due(place_of(word)) {
+            self.claim(turn, word);
+        }
+    }
+
     // What is left is due to a turn.
     pub(crate) fn leave(&mut self, left: Option<u64>, turn: Turn)
         ensures { LeavesTo left turn (turn_state self.old) (turn_state self.new) }
     {
         match left {
-            Some(word) => self.claim(turn, word),
+            Some(word) => self.leave_under(word, turn),
             None => {}
         }
     }

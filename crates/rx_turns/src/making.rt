@@ -1,20 +1,27 @@
 //! A command that a turn makes.
 
-ghost use Rattle.std.specs.Prelude.{◌≡◌, ◌==◌, ◌<◌, ◌^◌, true, false, None, length, slice_get};
+ghost use Rattle.std.specs.Prelude.{◌≡◌, ◌==◌, ◌<◌, ◌≤◌, ◌^◌, ℕ, true, false, None, length, slice_get};
 ghost use Rattle.rx_cellar.specs.Words.{place_in};
 ghost use Rattle.rx_turns.specs.States.{turn_state};
+ghost use Rattle.rx_turns.specs.Agendas.{LosesNothing, lanes_fit};
 ghost use Rattle.rx_turns.specs.Rows.{HasLine};
-ghost use Rattle.rx_turns.specs.Making.{may_ask, words_due, IsMadeDue, AreMadeDue, made_for, lane_at_once};
-ghost use Rattle.rx_turns.specs.Making.{Comes, ComesIf, IsMadeBy, MakesIn};
+ghost use Rattle.rx_turns.specs.Making.{may_ask, opens, words_due, IsMadeDue, AreMadeDue, made_for, lane_at_once};
+ghost use Rattle.rx_turns.specs.Making.{Comes, ComesIf, IsMadeBy, MakesOnLine, MakesIn};
 
 use crate::agenda::Turn;
 use crate::turns::Turns;
 use rx_book::Resource;
 use rx_cellar::{Answer, Cellar, Command, NO_MEMORY};
 use rx_resource::Token;
+use std::cmp::min;
 
 // A lane's place is below this.
 const PLACES: u64 = 536_870_912;
+
+// So many lanes at most are thought to have effects left of nodes that are closed, and so many more a command may open.
+const LEFT: u64 = 65_536;
+
+const MORE: usize = 8;
 
 /// What a command came to.
 #[derive(Clone, Copy)]
@@ -40,6 +47,25 @@ fn may_ask(what: u8) -> bool
     ensures { result ≡ may_ask what }
 {
     what < 4 || what == 9 || what == 11 || what == 14 || what == 16
+}
+
+// What opens lanes.
+fn opens(what: u8) -> bool
+    ensures { result ≡ opens what }
+{
+    what < 2 || what == 9
+}
+
+// So many lanes there may be behind a command that opens some: two for each node that is open or opened, those that have effects left, and
+// those that are served.
+fn lanes_wanted(cellar: &Cellar, turns: usize) -> usize {
+    let totals = cellar.totals();
+    let of_nodes = (totals.nodes as usize).saturating_mul(2);
+    let with_effects = min(totals.effects, LEFT) as usize;
+    of_nodes
+        .saturating_add(with_effects)
+        .saturating_add(turns)
+        .saturating_add(MORE)
 }
 
 // The command as a turn makes it: by its word, and an item waits in its lane, but where the turn has nothing else.
@@ -181,6 +207,42 @@ impl Turns {
         status
     }
 
+    // Lets the lanes be due that a command may open, so that what ends or closes them asks for no memory.
+    fn make_room(&mut self) -> bool
+        ensures kept { LosesNothing (turn_state self.old).agenda (turn_state self.new).agenda }
+        ensures only { turn_state self.new ≡ record (turn_state self.old) { agenda = (turn_state self.new).agenda } }
+        ensures lines { self.new.agenda.rows ≡ self.old.agenda.rows }
+        ensures none { result ≡ false → (many : ℕ) × (many ≤ lanes_fit (turn_state self.old).agenda → ⊥) }
+    {
+        let many = lanes_wanted(&self.cellar, self.agenda.turns());
+        self.agenda.widen(many).is_ok()
+    }
+
+    // Makes a command in a turn that has a line, where there is room for the lanes that it may open.
+    fn make_there(
+        &mut self,
+        turn: Turn,
+        is_free: bool,
+        command: &Command,
+        answer: &mut Answer,
+    ) -> Done
+        requires { HasLine turn self.old.agenda.rows.items }
+        ensures { MakesOnLine ⟦<Token as Resource>⟧ turn is_free command.now (turn_state self.old) (turn_state self.new)
+            answer.old answer.new result.status result.is_own }
+    {
+        if !opens(command.what) {
+            return self.make_by(turn, is_free, command, answer);
+        }
+        if self.make_room() {
+            return self.make_by(turn, is_free, command, answer);
+        }
+        answer.clear();
+        Done {
+            status: NO_MEMORY,
+            is_own: false,
+        }
+    }
+
     // Makes a command in a turn.
     #[inline(always)]
     pub(crate) fn make(&mut self, turn: Turn, command: &Command, answer: &mut Answer) -> Done
@@ -189,7 +251,7 @@ impl Turns {
     {
         let is_free = self.agenda.is_free(turn);
         match self.agenda.admit(turn) {
-            Ok(()) => self.make_by(turn, is_free, command, answer),
+            Ok(()) => self.make_there(turn, is_free, command, answer),
             Err(_) => {
                 if may_ask(command.what) {
                     answer.clear();

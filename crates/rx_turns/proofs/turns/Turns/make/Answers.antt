@@ -7,8 +7,8 @@ use Rattle.rx_turns.proofs.turns.Turns.make.Goals as goal
 
 pub returns-in-Ok : goal.returns-in-Ok
 returns-in-Ok c =
-    is_made (record (turn_state c.args.self.now) { agenda = seen c.admit.new.self }) c.make_by.result.status c.make_by.result.is_own
-    (record { line = c.in-Ok.ensures.ok; loses = c.in-Ok.ensures.kept; only = refl }) (rw (← c.is_free-is_free.ensures) c.make_by.ensures)
+    is_made (record (turn_state c.args.self.now) { agenda = seen c.admit.new.self }) c.make_there.result.status c.make_there.result.is_own
+    (record { line = c.in-Ok.ensures.ok; loses = c.in-Ok.ensures.kept; only = refl }) (rw (← c.is_free-is_free.ensures) c.make_there.ensures)
 
 pub returns-then-may_ask : goal.returns-then-may_ask
 returns-then-may_ask c =
