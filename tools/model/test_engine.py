@@ -176,6 +176,16 @@ class Examples(unittest.TestCase):
                 self.one.depth = 1
                 self.assertEqual(self.told(self.one), [(E_NEXT, 7, 2)][len(here):])
 
+    def test_a_lane_that_is_due_whole_stays_so(self):
+        root = self.make(OPEN, user=7).made.node
+        self.make(HOLD, node=root, value=42)
+        self.begins(self.make(NEXT, node=root, value=1))
+        self.begins(self.make(DISPOSE, node=root))
+        self.engine.let_pass(self.one, 1, False)
+        self.engine.let_pass(self.one, 2, True)
+        self.one.depth = 1
+        self.assertEqual(self.told(self.one), [(E_GONE, 7, 0)])
+
     def test_an_item_waits_where_its_turn_has_something_else(self):
         first, second = (self.make(OPEN, user=word).made.node for word in (7, 8))
         self.assertIsNone(self.engine.step(self.one).task)

@@ -73,7 +73,8 @@ class Turns(Engine):
         """The call of this depth lets its lane go; what is left there is the turn's that calls, or stays with that one."""
         self.note(stack)
         outer = Turn(stack.by, depth)
-        if claim := self.let_go(outer):
+        claim = self.let_go(outer)
+        if claim and not (claim.inside and self.is_due(claim.lane)):  # what is due whole stays so
             self.claim(stack.turn() if now else outer, claim)
 
     def stop(self, stack: Stack) -> None:
@@ -95,6 +96,9 @@ class Turns(Engine):
         """The lane is due to this turn, behind all others, and to no other turn."""
         self.due = {it: [one for one in claims if one.lane != claim.lane] for it, claims in self.due.items()}
         self.due.setdefault(turn, []).append(claim)
+
+    def is_due(self, lane: int) -> bool:
+        return any(claim.lane == lane for claims in self.due.values() for claim in claims)
 
     def is_free(self, turn: Turn) -> bool:
         return turn not in self.hands and not self.due.get(turn)

@@ -134,7 +134,8 @@ uint8_t cellar_pass(struct cellar *handle, const struct cellar_stack *stack, uin
     return CELLAR_NOTHING_KEPT;
   turns_note(&kept->turns, stack);
   struct claim left;
-  if (turn_lets_go(&kept->turns, turn_of(&kept->turns, stack->by, from), &left))
+  bool is_left = turn_lets_go(&kept->turns, turn_of(&kept->turns, stack->by, from), &left);
+  if (is_left && !(left.inside && lane_is_due(&kept->turns, left.lane))) /* what is due whole stays so */
     turn_claims(&kept->turns, turn_of(&kept->turns, stack->by, now ? stack->depth : from), left);
   return CELLAR_DONE;
 }

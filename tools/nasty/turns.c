@@ -107,10 +107,10 @@ static struct turn *deeper(const struct turns *turns, uint64_t by, uint64_t dept
   return found;
 }
 
-static bool is_due(const struct turns *turns, const struct lane *lane) {
+bool lane_is_due(const struct turns *turns, uint64_t lane) {
   for (size_t i = 0; i < turns->many; i++)
     for (size_t j = 0; j < turns->at[i]->many; j++)
-      if (turns->at[i]->due[j].lane == lane->number)
+      if (turns->at[i]->due[j].lane == lane)
         return true;
   return false;
 }
@@ -126,7 +126,7 @@ static const struct lane *left_lane(const struct turns *turns) {
       continue;
     if (told && told->handed && lane_has_first(lane, &told->effect))
       return lane;
-    if (!is_due(turns, lane) && (many++ == 0 || choose(turns->chooser, LEFT, many)))
+    if (!lane_is_due(turns, lane->number) && (many++ == 0 || choose(turns->chooser, LEFT, many)))
       found = lane;
   }
   return found;

@@ -34,6 +34,7 @@ struct turn *turn_of(struct turns *turns, uint64_t by, uint64_t depth);
 /* What its stack began last is told. */
 void turns_note(struct turns *turns, const struct cellar_stack *stack);
 bool turn_is_free(const struct turns *turns, const struct turn *turn);
+bool lane_is_due(const struct turns *turns, uint64_t lane);
 /* A lane is due to a turn, behind all others, and to no other turn; or, for want of memory, it is astray. */
 void turn_claims(struct turns *turns, struct turn *turn, struct claim claim);
 /* A turn was handed an effect of a lane. */
