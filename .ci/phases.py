@@ -4,7 +4,7 @@
     .ci/phases rt must-fail NAME  runs that, as an example
     .ci/phases --aloud            runs `rt ci` and passes on what it says, as .ci/run does: first comes how long it
                                   will take; the line that ends a crate gets its times; behind what was proved come
-                                  the lines of .ci/replay, which the last line counts too, and no table follows
+                                  .ci/replay and .ci/play, which the last line counts too, and no table follows
 
 It looks twice a second at the programs that the command starts. A phase is the proof of a crate, the
 proof of its tests, its edits or its runs. The first table has a line for each crate, the second a line
@@ -30,6 +30,7 @@ TICK = os.sysconf("SC_CLK_TCK")
 PAGE = os.sysconf("SC_PAGE_SIZE")
 KINDS = ("proof", "tests", "edits", "runs")
 ENDS = re.compile(r"rt: (\w+)(?:(: its tests) are)? (?:NOT )?(?:proved|PROVED)$")
+SCRIPTS = (".ci/replay", ".ci/play")  # over the programs that were proved
 LAST = re.compile(r"(\d+) passed, (\d+) failed")
 
 
@@ -271,7 +272,7 @@ def what_is_new(proved, phases, now):
 
 
 def aloud(command):
-    """Runs the command and passes on what it says, a line at a time; behind `rt ci` it compares what is stored."""
+    """Runs the command and passes on what it says, a line at a time; behind `rt ci` it runs the scripts."""
     is_gate = command == ["rt", "ci"]
     if is_gate:
         print(f"gate: {expected.sentence()}", flush=True)
@@ -293,12 +294,12 @@ def aloud(command):
         stop(gate)
     status = gate.wait()
     if last:
-        differs = subprocess.run([".ci/replay"], check=False).returncode != 0
-        status = status or differs
+        differ = sum(subprocess.run([it], check=False).returncode != 0 for it in SCRIPTS)
+        status = status or differ
         if not status:
             # (so that an install takes what was proved here)
             subprocess.run(["tools/proved", "mark"], check=False)
-        print(f"{int(last[1]) + (not differs)} passed, {int(last[2]) + differs} failed", flush=True)
+        print(f"{int(last[1]) + len(SCRIPTS) - differ} passed, {int(last[2]) + differ} failed", flush=True)
     return status
 
 
