@@ -1,8 +1,7 @@
-//! A book behind a desk: that each call of a desk can succeed, threads, and storms.
+//! A book behind a desk: seats, threads, and storms.
 //!
 //! What is tried at a desk is a [`trials::Trial`]; a test is a table of them, with the lines that each has to tell.
 
-mod accepted_calls;
 mod closed_keys;
 mod desk_calls;
 mod endless;

@@ -1,11 +1,11 @@
 //! That what is closed refuses, from eight threads at the same time.
 
-use super::desk_calls::{Call, Deed, NO_SLOTS, key_of, make_all};
+use super::desk_calls::{Call, NO_SLOTS, key_of, make_all};
 use super::parts::{seats_beside, tell};
 use super::trials::{Trial, assert_all};
 use rx_book::{Key, Refused, ResKey};
 use rx_crew::Desk;
-use rx_event::{Kind, Place, Refusal};
+use rx_event::{Kind, Refusal};
 use rx_ledger::Seat;
 use rx_resource::{Life, Resource as _, Sample};
 use std::alloc::Global;
@@ -55,10 +55,7 @@ fn refused_rounds<I: Ledger, A: Ledger, K: Ledger>(
 }
 
 // A root that is a leaf, and is closed.
-static CLOSES: [Call; 2] = [
-    Call::Open(Place::Root, Kind::Leaf),
-    Call::At(0, Deed::Dispose),
-];
+static CLOSES: [Call; 2] = [Call::Open(Kind::Leaf), Call::Dispose(0)];
 
 // Eight threads call at a desk whose one root was closed.
 pub(super) fn eight_refused<
@@ -85,7 +82,7 @@ pub(super) fn eight_refused<
 static REFUSED: [(Trial, &str); 1] = [(
     Trial::Closed,
     "\
-(0, None)
+Ok(0)
 Ok(1)
 [100, 100, 100, 100, 100, 100, 100, 100]
 Ok(Totals { items: 0, accepted: 0, taken: 0, held: 0, waiting: 0, len: 2 })

@@ -2,54 +2,30 @@
 
 use super::parts::{number_of, tell};
 use super::ticks::Ticks;
-use rx_book::{At, Key, LeaseKey, Opened, ResKey};
+use rx_book::{At, Key, LeaseKey, ResKey};
 use rx_crew::{Desk, Floor, feed};
-use rx_event::{Kind, Mode, Place, Refusal, Terminal};
+use rx_event::{Kind, Refusal, Terminal};
 use rx_ledger::Seat;
 use rx_resource::{Resource as _, Sample};
 use std::alloc::Global;
 use std::sync::Wait;
 use std::sync::ledger::Ledger;
 
-// A call, which names nodes, resources and leases by their numbers. A resource is named by its tag where it
-// is handed in.
+// A call, which names nodes, resources and leases by their numbers, and a resource that is handed in by its tag. What is opened is a root.
 #[derive(Clone, Copy)]
 pub(super) enum Call {
-    Open(Place, Kind),
-    Using(Place, u64),
-    Holding(Place, Kind, u64),
+    Open(Kind),
+    Using(u64),
     Hold(u64, u64),
-    At(u64, Deed),
-    On(u64, Use),
-    Hub(Hub),
+    Dispose(u64),
+    Lease(u64),
+    GiveBack(u64),
+    Checkpoint,
     Ask(Ask),
     // What is seen of the first resource that waits: its number, its tag and its uses.
     Take,
     // A feed at a node, of a source of so many items and then this end, of so many turns.
     Feed(u64, u32, Terminal, u64),
-}
-
-// What is done at a node.
-#[derive(Clone, Copy)]
-pub(super) enum Deed {
-    Next(i64),
-    Dispose,
-}
-
-// What is done with a resource or, for the last, with a lease.
-#[derive(Clone, Copy)]
-pub(super) enum Use {
-    Apply(u64),
-    Lease,
-    GiveBack,
-}
-
-// What is done with hubs, and with the whole book.
-#[derive(Clone, Copy)]
-pub(super) enum Hub {
-    Make(Mode),
-    Connect(u64),
-    Checkpoint,
 }
 
 // What a floor is asked.
@@ -79,15 +55,6 @@ pub(super) fn key_of(slots: &Slots, number: u64) -> Key {
     Key { slot, number }
 }
 
-fn at_of(slots: &Slots, place: Place) -> At {
-    match place {
-        Place::Root => At::Root,
-        Place::Source(number) => At::Source(key_of(slots, number)),
-        Place::Inner(number) => At::Inner(key_of(slots, number)),
-        Place::Notifier(number) => At::Notifier(key_of(slots, number)),
-    }
-}
-
 // The number of a key that was given out, of which the slot is kept.
 fn keep(slots: &mut Slots, number: u64, slot: u64) -> u64 {
     if let Some(place) = slots.get_mut(number as usize) {
@@ -96,26 +63,13 @@ fn keep(slots: &mut Slots, number: u64, slot: u64) -> u64 {
     number
 }
 
-// A node that was opened: its number, and that of the connection that came with it.
-fn keep_both(slots: &mut Slots, opened: Opened) -> (u64, Option<u64>) {
-    let number = keep(slots, opened.key.number, opened.key.slot);
-    match opened.connected {
-        Some(key) => (number, Some(keep(slots, key.number, key.slot))),
-        None => (number, None),
-    }
-}
-
-fn open_node<I: Ledger, A: Ledger, K: Ledger>(
+fn open_root<I: Ledger, A: Ledger, K: Ledger>(
     floor: &mut Floor<Sample, I, A, K>,
     slots: &mut Slots,
-    place: Place,
     kind: Kind,
-    told: &mut String,
-) {
-    match floor.open(at_of(slots, place), kind) {
-        Ok(opened) => tell(told, keep_both(slots, opened)),
-        Err(why) => tell(told, why),
-    }
+) -> Result<u64, Refusal> {
+    let opened = floor.open(At::Root, kind)?;
+    Ok(keep(slots, opened.key.number, opened.key.slot))
 }
 
 // The release of that of the tag 3 meets a fault.
@@ -126,33 +80,16 @@ fn sample_of(tag: u64) -> Sample {
     }
 }
 
-fn open_with<I: Ledger, A: Ledger, K: Ledger>(
+fn open_using<I: Ledger, A: Ledger, K: Ledger>(
     floor: &mut Floor<Sample, I, A, K>,
     seat: &mut Seat<I, A, K>,
     slots: &mut Slots,
-    at: At,
     tag: u64,
 ) -> Result<u64, Refusal> {
-    match floor.open_using(seat, at, sample_of(tag)) {
+    match floor.open_using(seat, At::Root, sample_of(tag)) {
         Ok(opened) => {
             keep(slots, opened.res.number, opened.res.slot);
             Ok(keep(slots, opened.key.number, opened.key.slot))
-        }
-        Err(refused) => Err(refused.why),
-    }
-}
-
-fn open_holding<I: Ledger, A: Ledger, K: Ledger>(
-    floor: &mut Floor<Sample, I, A, K>,
-    seat: &mut Seat<I, A, K>,
-    slots: &mut Slots,
-    (at, kind): (At, Kind),
-    tag: u64,
-) -> Result<u64, Refusal> {
-    match floor.open_holding(seat, at, kind, sample_of(tag)) {
-        Ok(holding) => {
-            keep(slots, holding.res.number, holding.res.slot);
-            Ok(keep_both(slots, holding.opened).0)
         }
         Err(refused) => Err(refused.why),
     }
@@ -171,49 +108,14 @@ fn hold_at<I: Ledger, A: Ledger, K: Ledger>(
     }
 }
 
-fn do_at<I: Ledger, A: Ledger, K: Ledger>(
-    floor: &mut Floor<Sample, I, A, K>,
-    seat: &mut Seat<I, A, K>,
-    node: Key,
-    deed: Deed,
-) -> Result<u64, Refusal> {
-    match deed {
-        Deed::Next(value) => floor.next(seat, node, value),
-        Deed::Dispose => floor.dispose(node),
-    }
-}
-
-fn do_on<I: Ledger, A: Ledger, K: Ledger>(
+fn lease_of<I: Ledger, A: Ledger, K: Ledger>(
     floor: &mut Floor<Sample, I, A, K>,
     slots: &mut Slots,
     number: u64,
-    deed: Use,
 ) -> Result<u64, Refusal> {
     let slot = slot_of(slots, number);
-    let res = ResKey { slot, number };
-    match deed {
-        Use::Apply(word) => floor.apply(res, word),
-        Use::GiveBack => floor.give_back(LeaseKey { slot, number }),
-        Use::Lease => match floor.lease(res) {
-            Ok(lease) => Ok(keep(slots, lease.number, lease.slot)),
-            Err(why) => Err(why),
-        },
-    }
-}
-
-fn do_hub<I: Ledger, A: Ledger, K: Ledger>(
-    floor: &mut Floor<Sample, I, A, K>,
-    slots: &mut Slots,
-    deed: Hub,
-) -> Result<u64, Refusal> {
-    match deed {
-        Hub::Make(mode) => floor.hub(mode),
-        Hub::Connect(hub) => match floor.connect(hub) {
-            Ok(key) => Ok(keep(slots, key.number, key.slot)),
-            Err(why) => Err(why),
-        },
-        Hub::Checkpoint => floor.checkpoint(),
-    }
+    let lease = floor.lease(ResKey { slot, number })?;
+    Ok(keep(slots, lease.number, lease.slot))
 }
 
 fn ask_floor<I: Ledger, A: Ledger, K: Ledger>(
@@ -258,24 +160,19 @@ fn answer_of<I: Ledger, A: Ledger, K: Ledger>(
     call: Call,
 ) -> Option<Result<u64, Refusal>> {
     match call {
-        Call::Using(place, tag) => {
-            let at = at_of(slots, place);
-            Some(open_with(floor, seat, slots, at, tag))
-        }
-        Call::Holding(place, kind, tag) => {
-            let at = at_of(slots, place);
-            Some(open_holding(floor, seat, slots, (at, kind), tag))
-        }
+        Call::Open(kind) => Some(open_root(floor, slots, kind)),
+        Call::Using(tag) => Some(open_using(floor, seat, slots, tag)),
         Call::Hold(node, tag) => {
             let node = key_of(slots, node);
             Some(hold_at(floor, seat, slots, node, tag))
         }
-        Call::At(node, deed) => {
-            let node = key_of(slots, node);
-            Some(do_at(floor, seat, node, deed))
+        Call::Dispose(node) => Some(floor.dispose(key_of(slots, node))),
+        Call::Lease(number) => Some(lease_of(floor, slots, number)),
+        Call::GiveBack(number) => {
+            let slot = slot_of(slots, number);
+            Some(floor.give_back(LeaseKey { slot, number }))
         }
-        Call::On(number, deed) => Some(do_on(floor, slots, number, deed)),
-        Call::Hub(deed) => Some(do_hub(floor, slots, deed)),
+        Call::Checkpoint => Some(floor.checkpoint()),
         _ => None,
     }
 }
@@ -289,7 +186,6 @@ fn make_call<I: Ledger, A: Ledger, K: Ledger>(
     told: &mut String,
 ) {
     match call {
-        Call::Open(place, kind) => open_node(floor, slots, place, kind, told),
         Call::Ask(asked) => ask_floor(floor, asked, told),
         Call::Take => tell(told, take_one(floor, seat)),
         _ => {

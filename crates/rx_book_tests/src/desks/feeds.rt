@@ -2,13 +2,13 @@
 
 use super::desk_calls::{Ask, Call};
 use super::trials::{Trial, assert_all};
-use rx_event::{Kind, Place, Terminal};
+use rx_event::{Kind, Terminal};
 
 const DONE: Terminal = Terminal::Completed;
 
 // Of no turn, of one turn and of many, and once the leaf has ended.
 static STOPPED: [Call; 5] = [
-    Call::Open(Place::Root, Kind::Leaf),
+    Call::Open(Kind::Leaf),
     Call::Feed(0, 1, DONE, 0),
     Call::Feed(0, 1, DONE, 1),
     Call::Feed(0, 1, DONE, 9),
@@ -16,7 +16,7 @@ static STOPPED: [Call; 5] = [
 ];
 
 const STOPPED_TOLD: &str = "\
-(0, None)
+Ok(0)
 (Turns, [])
 (Turns, [Receipt { place: 1, event: Item(0, 5) }])
 (Done, [Receipt { place: 2, event: Item(0, 5) }, Receipt { place: 3, event: End(0, Completed) }])
@@ -34,9 +34,9 @@ fn a_feed_stops_at_its_turns_at_the_end_and_when_refused(rt: HostRuntime) {
 
 // Of a source that fails, of one that begins with its end, and of a node that is no leaf.
 static WRITTEN: [Call; 14] = [
-    Call::Open(Place::Root, Kind::Pass),
-    Call::Open(Place::Root, Kind::Leaf),
-    Call::Open(Place::Root, Kind::Leaf),
+    Call::Open(Kind::Pass),
+    Call::Open(Kind::Leaf),
+    Call::Open(Kind::Leaf),
     Call::Feed(1, 1, Terminal::Error(7), 9),
     Call::Feed(2, 0, DONE, 9),
     Call::Feed(0, 1, DONE, 9),
@@ -51,9 +51,9 @@ static WRITTEN: [Call; 14] = [
 ];
 
 const WRITTEN_TOLD: &str = "\
-(0, None)
-(1, None)
-(2, None)
+Ok(0)
+Ok(1)
+Ok(2)
 (Done, [Receipt { place: 3, event: Item(1, 5) }, Receipt { place: 4, event: End(1, Error(7)) }])
 (Done, [Receipt { place: 5, event: End(2, Completed) }])
 (Refused(WrongKind), [])

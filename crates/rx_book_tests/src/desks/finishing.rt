@@ -1,9 +1,9 @@
 //! What a desk says at its end of its seats and of the receipts that it is shown.
 
-use super::desk_calls::{Call, Deed, Hub, NO_SLOTS, make_all};
+use super::desk_calls::{Call, NO_SLOTS, make_all};
 use super::trials::{Trial, assert_all};
 use rx_crew::Desk;
-use rx_event::{Event, Kind, Place};
+use rx_event::{Event, Kind};
 use rx_ledger::{Receipt, Seat};
 use rx_resource::Sample;
 use std::alloc::Global;
@@ -11,10 +11,10 @@ use std::sync::Wait;
 use std::sync::ledger::Ledger;
 
 // Seat A accepts a resource at root 0 and unsubscribes that.
-static ACCEPTS: [Call; 2] = [Call::Using(Place::Root, 7), Call::At(0, Deed::Dispose)];
+static ACCEPTS: [Call; 2] = [Call::Using(7), Call::Dispose(0)];
 
 // Seat B takes and releases; a leaf stays open.
-static TAKES_IT: [Call; 2] = [Call::Take, Call::Open(Place::Root, Kind::Leaf)];
+static TAKES_IT: [Call; 2] = [Call::Take, Call::Open(Kind::Leaf)];
 
 // Both do so, and those that are to be there at the end are answered, together.
 pub(super) fn work<I: Ledger, A: Ledger, K: Ledger>(
@@ -56,7 +56,7 @@ static AGREED: [(Trial, &str); 1] = [(
 Ok(0)
 Ok(2)
 Some((1, 7, 0))
-(4, None)
+Ok(4)
 Ok(Totals { items: 0, accepted: 1, taken: 1, held: 0, waiting: 0, len: 5 })
 Some(4)
 Closed { released: 0, faults: 0 }
@@ -78,18 +78,14 @@ const CLOSES_LEAF_TOLD: &str = "\
 Ok(0)
 Ok(2)
 Some((1, 7, 0))
-(4, None)
+Ok(4)
 Err(Receipt { place: 2 })
 Some(4)
 Closed { released: 0, faults: 0 }
 ";
 
 // A checkpoint takes the events before it away, so that a receipt of one stands no longer.
-const PAUSED: [Call; 3] = [
-    Call::Using(Place::Root, 7),
-    Call::Hub(Hub::Checkpoint),
-    Call::At(0, Deed::Dispose),
-];
+const PAUSED: [Call; 3] = [Call::Using(7), Call::Checkpoint, Call::Dispose(0)];
 
 const ACCEPTS_IT: Receipt = Receipt {
     place: 1,
@@ -122,7 +118,7 @@ const NONE_ACCEPTED: &str = "\
 Ok(0)
 Ok(2)
 Some((1, 7, 0))
-(4, None)
+Ok(4)
 Err(Accepted { shares: 0, book: 1 })
 Some(4)
 Closed { released: 0, faults: 0 }
@@ -135,7 +131,7 @@ static LEFT_OUT: [(Trial, &str); 3] = [
 Ok(0)
 Ok(2)
 Some((1, 7, 0))
-(4, None)
+Ok(4)
 Err(Taken { shares: 0, book: 1 })
 Some(4)
 Closed { released: 0, faults: 0 }

@@ -1,9 +1,8 @@
 //! A lease on a desk, which any thread may give back.
 
-use super::desk_calls::{Call, Deed, NO_SLOTS, Slots, Use, make_all};
+use super::desk_calls::{Call, NO_SLOTS, Slots, make_all};
 use super::trials::{Trial, assert_all};
 use rx_crew::Desk;
-use rx_event::Place;
 use rx_ledger::Seat;
 use rx_resource::Sample;
 use std::alloc::Global;
@@ -13,14 +12,10 @@ use std::thread;
 use std::thread::Threads;
 
 // Leases a resource and closes its node.
-static LEASES: [Call; 3] = [
-    Call::Using(Place::Root, 7),
-    Call::On(1, Use::Lease),
-    Call::At(0, Deed::Dispose),
-];
+static LEASES: [Call; 3] = [Call::Using(7), Call::Lease(1), Call::Dispose(0)];
 
 // Gives the lease back, and releases what waits then.
-static RETURNS: [Call; 2] = [Call::On(2, Use::GiveBack), Call::Take];
+static RETURNS: [Call; 2] = [Call::GiveBack(2), Call::Take];
 
 // Does that, and answers what is told of it.
 fn give_back<I: Ledger, A: Ledger, K: Ledger>(

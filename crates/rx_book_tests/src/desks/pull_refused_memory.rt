@@ -7,7 +7,7 @@ use super::ticks::Ticks;
 use super::trials::{Trial, assert_all};
 use rx_book::Key;
 use rx_crew::{Desk, Stop, feed};
-use rx_event::{Kind, Place, Refusal, Terminal};
+use rx_event::{Kind, Refusal, Terminal};
 use rx_ledger::Seat;
 use rx_resource::Sample;
 use rx_scarce::{MOST_BLOCKS, Scarce};
@@ -95,10 +95,7 @@ fn refusals<I: Ledger, A: Ledger, K: Ledger>(
 }
 
 // Two roots that are leaves.
-static ROOTS: [Call; 2] = [
-    Call::Open(Place::Root, Kind::Leaf),
-    Call::Open(Place::Root, Kind::Leaf),
-];
+static ROOTS: [Call; 2] = [Call::Open(Kind::Leaf), Call::Open(Kind::Leaf)];
 
 // Feeds a root as many items as make two thousand.
 fn fill_up<I: Ledger, A: Ledger, K: Ledger>(
@@ -134,8 +131,8 @@ pub(super) fn feed_in_the_end<I: Ledger, A: Ledger, K: Ledger>(
 static WANTED: [(Trial, &str); 1] = [(
     Trial::Want,
     "\
-(0, None)
-(1, None)
+Ok(0)
+Ok(1)
 true
 Ok(Totals { items: 2000, accepted: 0, taken: 0, held: 0, waiting: 0, len: 2003 })
 Some(1)

@@ -4,13 +4,13 @@
 ghost use Rattle.rx_resource.specs.declared.Life.{Life};
 ghost use Rattle.rx_ledger.specs.Shares.{OpensFromBlank};
 
-use super::desk_calls::{Call, Deed, NO_SLOTS, key_of, make_all};
+use super::desk_calls::{Call, NO_SLOTS, key_of, make_all};
 use super::parts::{Open, blanks, tell};
 use super::ticks::Ticks;
 use super::trials::{Trial, assert_all};
 use rx_book::{At, Book, Key};
 use rx_crew::{Desk, Floor, Gate, feed, worker};
-use rx_event::{Kind, Place, Refusal, Terminal};
+use rx_event::{Kind, Refusal, Terminal};
 use rx_ledger::Seat;
 use rx_resource::{Life, Resource, Sample};
 use std::alloc::Global;
@@ -200,10 +200,10 @@ impl Gate for Pair {
 
 // Two resources of roots that are closed.
 static LAID_OUT: [Call; 4] = [
-    Call::Using(Place::Root, 1),
-    Call::At(0, Deed::Dispose),
-    Call::Using(Place::Root, 2),
-    Call::At(3, Deed::Dispose),
+    Call::Using(1),
+    Call::Dispose(0),
+    Call::Using(2),
+    Call::Dispose(3),
 ];
 
 // Two workers release one resource each, the first of which waits for the second. Tells whether they met.
@@ -286,7 +286,7 @@ fn feed_meanwhile<I: Ledger, A: Ledger, K: Ledger>(
 }
 
 // A root that is a leaf, and holds a resource.
-static HOLDS: [Call; 2] = [Call::Open(Place::Root, Kind::Leaf), Call::Hold(0, 1)];
+static HOLDS: [Call; 2] = [Call::Open(Kind::Leaf), Call::Hold(0, 1)];
 
 // One thread waits for the bell, the other feeds a leaf that holds a resource. Tells whether the first was woken.
 pub(super) fn wakes<
@@ -318,7 +318,7 @@ pub(super) fn wakes<
 static WOKEN: [(Trial, &str); 1] = [(
     Trial::Bell,
     "\
-(0, None)
+Ok(0)
 Ok(1)
 true
 Ok(Totals { items: 1, accepted: 1, taken: 0, held: 0, waiting: 1, len: 4 })

@@ -1,10 +1,9 @@
 //! A worker by itself: why it stops, and what it counts.
 
-use super::desk_calls::{Call, Deed, NO_SLOTS, make_all};
+use super::desk_calls::{Call, NO_SLOTS, make_all};
 use super::parts::tell;
 use super::trials::{Trial, assert_all};
 use rx_crew::{Desk, Gate, worker};
-use rx_event::Place;
 use rx_ledger::Seat;
 use rx_resource::Sample;
 use std::alloc::Global;
@@ -45,12 +44,12 @@ fn work_once<I: Ledger, A: Ledger, K: Ledger>(
 
 // Three resources, one of them faulty, of roots that are closed.
 static LAID_OUT: [Call; 6] = [
-    Call::Using(Place::Root, 2),
-    Call::At(0, Deed::Dispose),
-    Call::Using(Place::Root, 3),
-    Call::At(3, Deed::Dispose),
-    Call::Using(Place::Root, 4),
-    Call::At(6, Deed::Dispose),
+    Call::Using(2),
+    Call::Dispose(0),
+    Call::Using(3),
+    Call::Dispose(3),
+    Call::Using(4),
+    Call::Dispose(6),
 ];
 
 // Three workers where three resources wait, one of them faulty: one of no turn, one of one turn, and one of many
