@@ -85,7 +85,11 @@ export class Crossing {
   }
 
   /** Throws RangeError where the stack has no room for a command and for what leads to it; with `is_item`, for an item first. */
-  room(is_item = false) { this.#glue.room(is_item ? 3 : 1); }
+  room(is_item = false) {
+    // to look for more at once takes less time
+    if (!is_item) try { return this.#glue.all(0); } catch { /* less will do */ }
+    this.#glue.room(is_item ? 3 : 1);
+  }
 
   // Commands. Each answers its status, and first does what was put off for want of stack.
 
