@@ -49,6 +49,7 @@ function kept(it) {
     if (is_dead) return { run, wrong: 'the engine dies' };
     if (run.twice > 0) return { run, wrong: 'a resource is released twice', count };
     if (left > 0) return { run, wrong: 'a resource is never released', count };
+    if (after.effects !== before.effects) return { run, wrong: 'something is never told' };
     return { run, wrong: after.nodes !== before.nodes || after.held !== before.held ? 'something stays open' : null };
   } catch (error) {
     if (!/the engine stopped within a call/.test(error.message)) throw error;
