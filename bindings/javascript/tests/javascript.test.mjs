@@ -12,6 +12,22 @@ export const tests = {
     s.next(1);
     s.next(2);
   }, [1]),
+  'who leaves as it hears its end, between two items of an array, has released all': test((rx, say) => {
+    let inner = null;
+    const source = new rx.Subject(), sub = new rx.Observable((it) => {
+      inner = it;
+      return source.pipe(rx.finalize(() => say('released'))).subscribe(it);
+    });
+    sub.subscribe({ complete: () => {
+      rx.of(1, 2).pipe(rx.map((x) => { if (x === 2) inner.unsubscribe(); return x; })).subscribe(say);
+      say('told');
+    } });
+    source.complete();
+    const s = new rx.Subject();
+    s.subscribe((x) => { if (x === 1) s.next(2); });
+    s.subscribe(say);
+    s.next(1);
+  }, [1, 'released', 2, 'told', 1, 2], [1, 'released', 2, 'told', 2, 1]),
   'behind a function that leaves its own subscription no other is called': test((rx, say) => {
     for (const operator of [rx.map, rx.filter, rx.tap, rx.takeWhile, rx.first, rx.every, (leave) => rx.scan(leave, 0)]) {
       const s = new rx.Subject(), leave = () => { sub.unsubscribe(); return true; }, sub = s.pipe(operator(leave), rx.map(say)).subscribe(say);

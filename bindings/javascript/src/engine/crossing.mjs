@@ -395,6 +395,7 @@ export class Crossing {
   /** Tells what stands behind the end that is being told by the call of this depth: what was held is released now. Where there is no room it is once the
    *  end has been told. */
   releases(depth) {
+    this.begins();
     try {
       this.#glue.all(0);
       this.#pass(depth, 1);
