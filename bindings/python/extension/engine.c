@@ -83,7 +83,7 @@ typedef struct Leaf {
 typedef struct {
   PyObject_HEAD
   PyObject *down, *down_next, *steps; /* steps: functions, of each a kind: 0 map, 1 filter */
-  Leaf *leaf;                         /* down, where that is a leaf */
+  Leaf *leaf;                         /* not held: where items go on to, if that is a leaf */
   Py_ssize_t many;
   char *kinds;
 } Chain;
@@ -491,11 +491,13 @@ static int end_leaf(Leaf *leaf, PyObject *error) {
   int failed = command(leaf->core, &c, error, &status);
   return failed || !status || status == CELLAR_GONE ? failed : refused(status);
 }
-/* An item through functions: a new reference to what comes out; NULL where nothing does, with `failed` -1 where that is raised. */
+/* An item through functions, until one ends what they stand at: a new reference to what comes out; NULL where nothing does, with `failed` -1
+ * where that is raised. */
 static PyObject *through(Chain *chain, PyObject *value, int *failed) {
   *failed = 0;
   Py_INCREF(value);
   for (Py_ssize_t i = 0; i < chain->many; i++) {
+    if (chain->leaf ? chain->leaf->is_stopped : !chain->down_next && ((Root *)chain->down)->is_stopped) return Py_DECREF(value), NULL;
     PyObject *answer = CALL1(ITEM(chain->steps, i), value);
     int passes = !answer ? -1 : !chain->kinds[i] || answer == Py_True ? 1 : answer == Py_False ? 0 : PyObject_IsTrue(answer);
     if (passes > 0 && !chain->kinds[i]) {
@@ -536,6 +538,11 @@ static PyObject *none_or_null(int status) {
   Py_RETURN_NONE;
 }
 static PyObject *leaf_next(Leaf *self, PyObject *value) { return none_or_null(emit(here_is(), self, value)); }
+/* The leaf whose `on_next` this is, or NULL. */
+static Leaf *leaf_of(PyObject *next) {
+  int is_leafs = Py_TYPE(next) == &PyCFunction_Type && PyCFunction_GetFunction(next) == (PyCFunction)leaf_next;
+  return is_leafs ? (Leaf *)PyCFunction_GetSelf(next) : NULL;
+}
 static PyObject *leaf_error(Leaf *self, PyObject *error) { return none_or_null(end_leaf(self, error)); }
 static PyObject *leaf_completed(Leaf *self, PyObject *unused) { return (void)unused, none_or_null(end_leaf(self, NULL)); }
 static int leaf_init(Leaf *self, PyObject *given, PyObject *named) {
@@ -571,6 +578,7 @@ static int chain_init(Chain *self, PyObject *given, PyObject *named) {
   memcpy(self->kinds, PyBytes_AsString(kinds), self->many);
   if (Py_TYPE(down) == leaf_type) self->leaf = (Leaf *)down;
   else if (!is_a(down, root_type) && !(self->down_next = PyObject_GetAttr(down, s_on_next))) return -1;
+  if (self->down_next) self->leaf = leaf_of(self->down_next);
   return 0;
 }
 static PyObject *chain_next(Chain *self, PyObject *value) { return none_or_null(chain_tell(here_is(), self, value)); }
@@ -648,8 +656,7 @@ static int root_init(Root *self, PyObject *given, PyObject *named) {
   PyObject *core, *next, *error, *completed;
   if (!PyArg_ParseTuple(given, "OOOO", &core, &next, &error, &completed)) return -1;
   self->core = (Core *)new_of(core), self->on_next = new_of(next), self->on_error = new_of(error), self->on_completed = new_of(completed);
-  int is_leafs = Py_TYPE(next) == &PyCFunction_Type && PyCFunction_GetFunction(next) == (PyCFunction)leaf_next;
-  self->target = new_of(is_leafs ? PyCFunction_GetSelf(next) : next);
+  self->target = new_of(leaf_of(next) ? (PyObject *)leaf_of(next) : next);
   return 0;
 }
 static PyObject *root_disposed(Root *self, PyObject *unused) { return (void)unused, none_or_null(root_dispose(self)); }
@@ -789,7 +796,8 @@ static int subject_tell(Subject *self, uint8_t what, PyObject *value) {
   Core *core = (Core *)new_of((PyObject *)self->first->core);
   Turn *floor;
   struct Mine *here = enter(&floor);
-  int status = self->one && what == CELLAR_NEXT ? tell_up(here, self->one, value) : tell_all(here, all, what, value);
+  int is_one = self->one && what == CELLAR_NEXT;
+  int status = !is_one ? tell_all(here, all, what, value) : self->first->is_stopped ? 0 : tell_up(here, self->one, value);
   status = leave(here, floor, status, 0);
   drop((PyObject *)core), drop(all);
   return status;

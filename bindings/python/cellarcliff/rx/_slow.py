@@ -488,11 +488,15 @@ class Leaf:
 class Chain:
     def __init__(self, down: Any, kinds: bytes, steps: Tuple[Any, ...]):
         self.down, self._steps = down, tuple(zip(kinds, steps))
+        at = down if isinstance(down, (Leaf, Root)) else getattr(down.on_next, "__self__", None)
+        self._at = at if isinstance(at, (Leaf, Root)) else None
 
     def through(self, value: Any) -> Any:
-        """What comes out, in a tuple; None where nothing does."""
+        """What comes out, in a tuple; None where nothing does. Behind one that ends what they stand at no function is called."""
         try:
             for kind, function in self._steps:
+                if self._at is not None and self._at.is_stopped:
+                    return None
                 if kind == 0:
                     value = function(value)
                 elif not function(value):
