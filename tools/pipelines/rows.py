@@ -31,10 +31,21 @@ def waits(program, ours, theirs):
     return plain(ours["notes"]) == plain(theirs["notes"]) and (has("shared", "replay", "replay_counted")(program) or len(set(program["subjects"])) > 1)
 
 
+def by_order(program, ours, theirs):
+    """RxPY subtracts items, of which not all can be."""
+    return has("min", "max", "min_by", "max_by")(program) and "TypeError" in str(theirs["notes"]) and "TypeError" not in str(ours["notes"])
+
+
+def opens_no_more(program, ours, theirs):
+    """RxPY subscribes to a later source once the whole has ended, and disposes of that."""
+    return ours["notes"] == theirs["notes"] and ours["made"] < theirs["made"]
+
+
 ROWS = [
     ("by two ways to one operator", by_two_ways),
     ("an item that waits is told behind the release", waits),
-    ("expand of observables that tell at once", has("expand")),
+    ("the least and the greatest by their order", by_order),
+    ("nothing is opened after the end", opens_no_more),
     ("time_interval hands the subscription's scheduler on", has("time_interval")),
     ("skip_until ends with its source", has("skip_until")),
     ("zip pairs what waits", has("zip", "zip_of", "publish_value")),

@@ -189,10 +189,10 @@ class World:
         return gate
 
     def concat_map(self, mapper):
-        """RxPY has it in two."""
+        """RxPY has it in two, and a mapper that is called as its turn comes by a third."""
         if self.is_ours:
             return self.ops.concat_map(mapper)
-        return self.rx.pipe(self.ops.map(mapper), self.ops.merge(max_concurrent=1))
+        return self.rx.pipe(self.ops.map(lambda it: self.rx.defer(lambda _: mapper(it))), self.ops.merge(max_concurrent=1))
 
     # what is done
 

@@ -150,8 +150,13 @@ def two_ways_to_one_operator(k, told):
     subject.on_next(2)
 
 
-def expand_of_what_tells_at_once(k, told):
-    k.rx.repeat_value(1, 2).pipe(k.ops.expand(lambda it: k.rx.of((it,)) if it == 1 else k.rx.empty())).subscribe(told.append)
+def the_least_text(k, told):
+    k.rx.of("b", "a").pipe(k.ops.min()).subscribe(told.append, lambda error: told.append("error"))
+
+
+def a_source_behind_the_end(k, told):
+    other = k.rx.using(lambda: told.append("made") or k.disposable.Disposable(lambda: told.append("released")), lambda _: k.rx.never())
+    k.rx.fork_join(k.rx.empty(), other).subscribe(told.append, None, lambda: told.append("completed"))
 
 
 def filter_indexed_without_a_predicate(k, told):
@@ -182,7 +187,8 @@ ROWS = {
     a_composition_completes: ([1, "completed", "released"], [1, "released", "completed"]),
     a_subject_is_dropped: ([], ["released"]),
     two_ways_to_one_operator: ([(1, 1), (2, 1), (2, 2)], [(1, 1), (1, 2), (2, 2)]),
-    expand_of_what_tells_at_once: ([1, 1, (1,), (1,)], [1, (1,), 1, (1,)]),
+    the_least_text: (["error"], ["a"]),
+    a_source_behind_the_end: (["completed", "made", "released"], ["completed"]),
     filter_indexed_without_a_predicate: (["error"], [1]),
     one_of_a_group_raises: (["a", "raised"], ["a", "b", "raised"]),
 }

@@ -9,6 +9,7 @@ from .._link import Link, Linked
 from .._observable import Observable, to_observable
 from .._typing import B, Operator, same
 from ..nodes import open_in_turn
+from ..scheduler import ImmediateScheduler
 from ..sources import FromIterable
 from .items import NOTHING
 
@@ -354,7 +355,7 @@ def expand(mapper: Callable[[Any], Any]) -> Operator[Any]:
                     return
                 is_at_it = True
                 while waiting and not link.is_stopped:
-                    link.subscribe(waiting.popleft(), on_next, None, on_completed)
+                    link.subscribe(waiting.popleft(), on_next, None, on_completed, link.scheduler or ImmediateScheduler.singleton())
                 is_at_it = False
 
             def on_next(value: Any) -> None:
