@@ -9,7 +9,7 @@ from .._link import Link, Linked
 from .._observable import Observable, to_observable
 from .._typing import B, Operator, same
 from ..nodes import open_in_turn
-from ..scheduler import ImmediateScheduler
+from ..scheduler import CurrentThreadScheduler, ImmediateScheduler
 from ..sources import FromIterable
 from .items import NOTHING
 
@@ -62,7 +62,9 @@ class InTurn(Observable[Any]):
             except Exception as error:
                 link.on_error(error)
             else:
-                link.subscribe(source, link.on_next, failed if self._on_error else None, ended if self._on_end else None)
+                # as RxPY has it, what is told however the one before ended is told by this thread's scheduler
+                own = CurrentThreadScheduler.singleton() if self._on_error and self._on_end else None
+                link.subscribe(source, link.on_next, failed if self._on_error else None, ended if self._on_end else None, link.scheduler or own)
 
         def ended() -> None:
             link.follow(lambda: start(link, follow))
