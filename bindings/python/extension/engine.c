@@ -109,22 +109,25 @@ static PyObject *s_on_next, *s_on_error, *s_on_completed, *s_dispose, *s_check, 
 static PyObject *refuse, *unhandled; /* what a status is raised by, and what hears of an error that nobody raises */
 static unsigned generation;
 
-/* A call on an engine that is under way in this thread, and the one further out. */
-typedef struct Turn {
+/* A call on an engine that is under way in this thread. */
+typedef struct {
   Core *core;
   struct cellar_stack stack;
-  struct Turn *outer;
-  PyObject *behind; /* what comes behind it, if it is the outermost within a call of the package */
 } Turn;
+/* What a call of the package puts back as it ends: how many turns are further out than itself, and what comes behind these. */
+typedef struct {
+  uint64_t floor;
+  PyObject *behind;
+} Outer;
 
-/* This thread: how deep it is in calls of the package, what was raised meanwhile, the turns under way, those further out than the
- * innermost of these calls, the one of which an effect is told, and what sources put off: till the call further out goes on, or behind
- * what is told; then its lane may be let go. */
+/* This thread: how deep it is in calls of the package, what was raised meanwhile; the innermost turn, that of which an effect is told, how many
+ * are further out than the innermost call of the package, and what comes behind the others; and what sources put off: till the call further
+ * out goes on, or behind what is told; then its lane may be let go. */
 static _Thread_local struct Mine {
   int depth, is_closing, lets_go;
-  uint64_t ident;
-  PyObject *errors, *trampoline, *put_off;
-  Turn *turn, *floor, *telling;
+  uint64_t ident, floor;
+  PyObject *errors, *trampoline, *put_off, *behind;
+  Turn turn, telling;
 } mine;
 /* Asked once on the way of an item: to find what is a thread's own takes a call each time. */
 static __attribute__((noinline)) struct Mine *here_is(void) {
@@ -212,15 +215,16 @@ static int caught(uint64_t by) {
   Py_DECREF(error);
   return 0;
 }
-static struct Mine *enter(Turn **floor) {
+static struct Mine *enter(Outer *outer) {
   struct Mine *here = here_is();
-  here->depth++, *floor = here->floor, here->floor = here->turn;
+  *outer = (Outer){here->floor, here->behind};
+  here->depth++, here->floor = here->turn.stack.depth, here->behind = NULL;
   return here;
 }
 /* The end of a call. The outermost raises the first of what observers and releases raised, unless something is raised already, or the
  * caller needs the answer. */
-static int leave(struct Mine *here, Turn *floor, int failed, int is_quiet) {
-  here->floor = floor;
+static int leave(struct Mine *here, const Outer *outer, int failed, int is_quiet) {
+  here->floor = outer->floor, here->behind = outer->behind;
   if (--here->depth || !here->errors) return failed;
   PyObject *errors = here->errors, *first = failed ? caught_one() : NULL;
   here->errors = NULL;
@@ -261,37 +265,36 @@ static void take_in_closed(Core *core, const struct cellar_stepped *s) {
     for (uint64_t i = 0; i < count; i++) put_closed(core, more[i]);
   }
 }
-static void begin(struct Mine *here, Core *core, Turn *turn) {
-  Turn *it = here->turn;
-  while (it && it->core != core) it = it->outer;
-  *turn = (Turn){core, {here->ident, it ? it->stack.depth + 1 : 1, it ? it->stack.begun : 0}, here->turn, NULL};
-  here->turn = turn;
+/* Begins a turn: the one further out. */
+static Turn begin(struct Mine *here, Core *core) {
+  Turn outer = here->turn;
+  here->turn = (Turn){core, {here->ident, outer.stack.depth + 1, outer.core == core ? outer.stack.begun : 0}};
+  return outer;
 }
-/* Makes a command in a turn that has begun, and takes in what it closed: the status. */
-static uint8_t make(Turn *turn, const struct cellar_command *c, struct cellar_stepped *s) {
-  Core *core = turn->core;
+/* Makes a command in the turn that has begun, and takes in what it closed: the status. */
+static uint8_t make(struct Mine *here, const struct cellar_command *c, struct cellar_stepped *s) {
+  Core *core = here->turn.core;
   if (core->generation != generation) return memset(s, 0, sizeof *s), CELLAR_GONE;
-  uint8_t status = calls.step(&core->engine, &turn->stack, c, s);
+  uint8_t status = calls.step(&core->engine, &here->turn.stack, c, s);
   if (!status && s->closed) take_in_closed(core, s);
   return status;
 }
-static int do_all(struct Mine *here, Turn *turn, struct cellar_stepped *s, int is_own);
-static int do_behind(struct Mine *here, PyObject *behind, int failed);
+static int do_all(struct Mine *here, struct cellar_stepped *s, int is_own);
+static int do_behind(struct Mine *here, int failed);
 /* The end of a turn: does what was handed out, and what comes of it. */
-static inline int end(struct Mine *here, Turn *turn, struct cellar_stepped *s, int is_own) {
-  int failed = s->handed || turn->core->many ? do_all(here, turn, s, is_own) : 0;
-  here->turn = turn->outer;
-  return turn->behind ? do_behind(here, turn->behind, failed) : failed;
+static inline int end(struct Mine *here, const Turn *outer, struct cellar_stepped *s, int is_own) {
+  int failed = s->handed || here->turn.core->many ? do_all(here, s, is_own) : 0;
+  here->turn = *outer;
+  return here->behind && outer->stack.depth == here->floor ? do_behind(here, failed) : failed;
 }
 /* Makes a command of this value, or of none, and does what comes of it. */
 static int command(Core *core, const struct cellar_command *c, PyObject *value, uint8_t *status) {
   struct Mine *here = here_is();
   struct cellar_stepped s;
-  Turn turn;
-  begin(here, core, &turn);
-  *status = make(&turn, c, &s);
+  Turn outer = begin(here, core);
+  *status = make(here, c, &s);
   if (value) keep(core, value, s.copies);
-  return end(here, &turn, &s, 0);
+  return end(here, &outer, &s, 0);
 }
 
 /* Telling ----------------------------------------------------------------------------------------------------------------------*/
@@ -386,31 +389,32 @@ static int go_on(PyObject *queue) {
   Py_DECREF(it);
   return status;
 }
-/* What a turn tells counts as told: its lane is free. */
-static void let_pass(Turn *telling) {
-  struct cellar_stack deeper = {telling->stack.by, telling->stack.depth + 1, telling->stack.begun};
-  calls.pass(&telling->core->engine, &deeper, telling->stack.depth, 0);
+/* What is told counts as told: its lane is free. */
+static void let_pass(struct Mine *here) {
+  struct cellar_stack deeper = here->telling.stack;
+  deeper.depth++;
+  calls.pass(&here->telling.core->engine, &deeper, deeper.depth - 1, 0);
 }
 /* Does what was handed out, and what comes next, until nothing does: 0, or -1 where what is no Exception goes on. */
-static int do_each(struct Mine *here, Turn *turn, struct cellar_stepped *s, int is_own) {
-  Core *core = turn->core;
+static int do_each(struct Mine *here, struct cellar_stepped *s, int is_own) {
+  Core *core = here->turn.core;
   struct cellar_effect *e = &s->effect;
-  Turn *telling = here->telling;
+  Turn telling = here->telling;
   PyObject *put_off = here->put_off;
   int status = 0, lets_go = here->lets_go;
-  here->telling = turn, here->lets_go = 0, here->put_off = NULL;
+  here->telling = here->turn, here->lets_go = 0, here->put_off = NULL;
   do {
     PyObject *value = e->carries && e->value ? word(e->value) : NULL;
-    turn->stack.begun = s->ticket;
+    here->turn.stack.begun = here->telling.stack.begun = s->ticket;
     status = e->kind <= CELLAR_E_PROJECT ? tell_item(here, core, e, value, is_own) : tell(core, e, value);
     if (status) status = caught(e->by);
     while (!status && is_some(here->put_off)) {
-      if (here->lets_go && core->generation == generation) let_pass(turn);
+      if (here->lets_go && core->generation == generation) let_pass(here);
       if (go_on(here->put_off)) status = caught(e->by);
     }
     is_own = 0;
     if (status || core->generation != generation) break;
-    calls.next(&core->engine, &turn->stack, s);
+    calls.next(&core->engine, &here->turn.stack, s);
   } while (s->handed);
   Py_XDECREF(here->put_off);
   here->telling = telling, here->lets_go = lets_go, here->put_off = put_off;
@@ -443,17 +447,18 @@ static int hear_closed(Core *core) {
   return status;
 }
 /* Closings first. An interrupt leaves the rest to the next call that reaches the engine. */
-static int do_all(struct Mine *here, Turn *turn, struct cellar_stepped *s, int is_own) {
-  Core *core = turn->core;
+static int do_all(struct Mine *here, struct cellar_stepped *s, int is_own) {
+  Core *core = here->turn.core;
   if (core->generation != generation) return 0;
   int status = core->many ? hear_closed(core) : 0;
-  if (!status && s->handed) status = do_each(here, turn, s, is_own);
-  if (status && core->generation == generation) calls.stop(&core->engine, &turn->stack);
+  if (!status && s->handed) status = do_each(here, s, is_own);
+  if (status && core->generation == generation) calls.stop(&core->engine, &here->turn.stack);
   return status;
 }
-/* Each of what comes behind a turn, also where something was interrupted. */
-static int do_behind(struct Mine *here, PyObject *behind, int failed) {
-  PyObject *error = failed ? caught_one() : NULL;
+/* Each of what comes behind, also where something was interrupted. */
+static int do_behind(struct Mine *here, int failed) {
+  PyObject *error = failed ? caught_one() : NULL, *behind = here->behind;
+  here->behind = NULL;
   for (Py_ssize_t i = 0; i < PyList_Size(behind); i++)
     if (plain(CALL0(PyList_GetItem(behind, i))) && caught(here->ident)) {
       if (error) PyErr_Clear();
@@ -473,13 +478,12 @@ static int emit(struct Mine *here, Leaf *leaf, PyObject *value) {
   Core *core = leaf->core;
   struct cellar_command c = {.what = CELLAR_NEXT, .node = leaf->node, .value = (uintptr_t)value};
   struct cellar_stepped s;
-  Turn turn;
-  begin(here, core, &turn);
-  uint8_t status = make(&turn, &c, &s);
+  Turn outer = begin(here, core);
+  uint8_t status = make(here, &c, &s);
   int is_own = s.own && !core->many;
   if (!is_own) keep(core, value, s.copies);
   if (status == CELLAR_GONE) leaf->is_stopped = 1;
-  int failed = end(here, &turn, &s, is_own);
+  int failed = end(here, &outer, &s, is_own);
   return failed || !status || status == CELLAR_GONE ? failed : refused(status);
 }
 /* The leaf completes, or fails. */
@@ -610,16 +614,16 @@ static int emitter_init(Emitter *self, PyObject *given, PyObject *named) {
 }
 static PyObject *emitter_next(Emitter *self, PyObject *value) {
   if (self->leaf->is_stopped) Py_RETURN_NONE;
-  Turn *floor;
-  struct Mine *here = enter(&floor);
-  return none_or_null(leave(here, floor, tell_up(here, self->up, value), 0));
+  Outer outer;
+  struct Mine *here = enter(&outer);
+  return none_or_null(leave(here, &outer, tell_up(here, self->up, value), 0));
 }
 static PyObject *emitter_end(Emitter *self, PyObject *error) {
   if (self->leaf->is_stopped) Py_RETURN_NONE;
-  Turn *floor;
-  struct Mine *here = enter(&floor);
+  Outer outer;
+  struct Mine *here = enter(&outer);
   int status = plain(PyObject_CallMethodObjArgs(self->up, error ? s_on_error : s_on_completed, error, NULL));
-  return none_or_null(leave(here, floor, status, 0));
+  return none_or_null(leave(here, &outer, status, 0));
 }
 static PyObject *emitter_completed(Emitter *self, PyObject *unused) { return (void)unused, emitter_end(self, NULL); }
 static PyObject *emitter_is_stopped(Emitter *self, void *unused) { return (void)unused, PyBool_FromLong(self->leaf->is_stopped); }
@@ -664,9 +668,9 @@ static PyObject *root_disposed(Root *self, PyObject *unused) { return (void)unus
 static PyObject *root_unsubscribe(Root *self, PyObject *unused) {
   (void)unused;
   if (!self->core) Py_RETURN_NONE;
-  Turn *floor;
-  struct Mine *here = enter(&floor);
-  return none_or_null(leave(here, floor, root_dispose(self), 0));
+  Outer outer;
+  struct Mine *here = enter(&outer);
+  return none_or_null(leave(here, &outer, root_dispose(self), 0));
 }
 static PyObject *root_next(Root *self, PyObject *value) {
   if (self->is_stopped) Py_RETURN_NONE;
@@ -734,20 +738,19 @@ static int put_all(struct Mine *here, Core *core, Told *it, uint8_t what) {
   struct cellar_command c = {.what = what};
   struct cellar_stepped s = {.handed = 0};
   uint8_t refusal = 0;
-  Turn turn;
-  begin(here, core, &turn);
+  Turn outer = begin(here, core);
   for (Py_ssize_t i = 0; i < it->many; i++) {
     Leaf *leaf = it->leaves[i];
     PyObject *value = it->values[i];
     if (!value || leaf->is_stopped) continue;
     if (what != CELLAR_NEXT) leaf->is_stopped = 1;
     c.node = leaf->node, c.value = what == CELLAR_COMPLETE ? 0 : (uintptr_t)value;
-    uint8_t status = make(&turn, &c, &s);
+    uint8_t status = make(here, &c, &s);
     if (status == CELLAR_GONE) leaf->is_stopped = 1;
     else if (status) refusal = status;
     else if (c.value) keep(core, value, s.copies);
   }
-  int failed = end(here, &turn, &s, 0);
+  int failed = end(here, &outer, &s, 0);
   return failed || !refusal ? failed : refused(refusal);
 }
 static int tell_all(struct Mine *here, PyObject *all, uint8_t what, PyObject *value) {
@@ -794,11 +797,11 @@ static int subject_tell(Subject *self, uint8_t what, PyObject *value) {
     return 0;
   }
   Core *core = (Core *)new_of((PyObject *)self->first->core);
-  Turn *floor;
-  struct Mine *here = enter(&floor);
+  Outer outer;
+  struct Mine *here = enter(&outer);
   int is_one = self->one && what == CELLAR_NEXT;
   int status = !is_one ? tell_all(here, all, what, value) : self->first->is_stopped ? 0 : tell_up(here, self->one, value);
-  status = leave(here, floor, status, 0);
+  status = leave(here, &outer, status, 0);
   drop((PyObject *)core), drop(all);
   return status;
 }
@@ -936,17 +939,16 @@ static int opened(Core *core, Opening *it) {
   struct Mine *here = here_is();
   struct cellar_command *c = &it->c;
   struct cellar_stepped s;
-  Turn turn;
   PyObject *thing = it->thing;
   uint64_t roles = thing == Py_None ? 0 : roles_of(c);
   it->status = CELLAR_NO_MEMORY;
   if (c->flags & CELLAR_WISHES && reserve(core)) return -1;
   if (roles) c->user = (uintptr_t)thing, keep(core, thing, roles);
-  begin(here, core, &turn);
-  it->status = make(&turn, c, &s);
+  Turn outer = begin(here, core);
+  it->status = make(here, c, &s);
   if (it->status) {
     for (; roles; roles--) let_go(core, thing);
-    return end(here, &turn, &s, 0);
+    return end(here, &outer, &s, 0);
   }
   if (c->flags & CELLAR_WISHES) core->wishes++;
   if (it->node) it->node->node = s.node;
@@ -962,9 +964,9 @@ static int opened(Core *core, Opening *it) {
     }
   }
   it->c.hub = s.hub;
-  if (it->share && PyObject_SetAttr(it->share, s_connection, (PyObject *)it->other)) return calls.stop(&core->engine, &turn.stack), here->turn = turn.outer, -1;
-  if (it->is_exchange && here->telling && here->telling->core == core && core->generation == generation) let_pass(here->telling);
-  return end(here, &turn, &s, 0);
+  if (it->share && PyObject_SetAttr(it->share, s_connection, (PyObject *)it->other)) return calls.stop(&core->engine, &here->turn.stack), here->turn = outer, -1;
+  if (it->is_exchange && here->telling.core == core) let_pass(here);
+  return end(here, &outer, &s, 0);
 }
 /* what, the node above, (root, what closes, what projects) or None, a release or None, whether it takes the place of something: the key. */
 static PyObject *core_open(Core *self, PyObject *const *given, Py_ssize_t many) {
@@ -1078,13 +1080,13 @@ static PyObject *core_put(Core *self, PyObject *const *given, Py_ssize_t many) {
 }
 /* A turn of no command: `passes` where what is told counts as told before, so that what stands behind it is this turn's. */
 static int go_through(Core *core, int passes) {
+  struct Mine *here = here_is();
   struct cellar_stepped s = {.handed = 0};
-  Turn turn;
   if (core->generation != generation) return 0;
-  begin(here_is(), core, &turn);
-  if (passes) calls.pass(&core->engine, &turn.stack, mine.telling->stack.depth, 1);
-  calls.next(&core->engine, &turn.stack, &s);
-  return end(here_is(), &turn, &s, 0);
+  Turn outer = begin(here, core);
+  if (passes) here->turn.stack.begun = here->telling.stack.begun, calls.pass(&core->engine, &here->turn.stack, here->telling.stack.depth, 1);
+  calls.next(&core->engine, &here->turn.stack, &s);
+  return end(here, &outer, &s, 0);
 }
 /* Does what is to be done, also what interrupted calls left. */
 static PyObject *core_serve_left(Core *self, PyObject *unused) { return (void)unused, none_or_null(go_through(self, 0)); }
@@ -1153,12 +1155,12 @@ static PyObject *module_trampolined(PyObject *module, PyObject *given) {
 static PyObject *within(PyObject *given, Root *root) {
   PyObject *call, *rest = split(given, &call, root ? 2 : 1);
   if (!rest) return NULL;
-  Turn *floor;
-  struct Mine *here = enter(&floor);
+  Outer outer;
+  struct Mine *here = enter(&outer);
   PyObject *answer = root ? trampolined(call, rest) : PyObject_CallObject(call, rest);
   Py_DECREF(rest);
   if (!answer && root) dispose_and_go_on(root);
-  if (leave(here, floor, answer ? 0 : -1, root && !root->is_over)) Py_CLEAR(answer);
+  if (leave(here, &outer, answer ? 0 : -1, root && !root->is_over)) Py_CLEAR(answer);
   return answer;
 }
 /* A root, a function and its arguments, which opens it: where that is interrupted nothing stays open. What was raised meanwhile is raised
@@ -1171,7 +1173,7 @@ static PyObject *behind_the_lane(PyObject *given, int lets_go) {
   PyObject *call, *rest = split(given, &call, 1), *answer;
   if (!rest) return NULL;
   if (mine.trampoline) answer = PyObject_CallObject(call, rest);
-  else if (!mine.telling || (!mine.put_off && !(mine.put_off = PyList_New(0)))) answer = trampolined(call, rest);
+  else if (!mine.telling.core || (!mine.put_off && !(mine.put_off = PyList_New(0)))) answer = trampolined(call, rest);
   else {
     mine.trampoline = mine.put_off;
     mine.lets_go |= lets_go;
@@ -1216,17 +1218,15 @@ static PyObject *raised(PyObject *module, PyObject *error) {
 /* Calls this behind all that the turns under way come to, of the innermost call of the package: so what they release is released. */
 static PyObject *behind(PyObject *module, PyObject *call) {
   (void)module;
-  Turn *turn = mine.turn;
-  if (turn == mine.floor) return none_or_null(plain(CALL0(call)));
-  while (turn->outer != mine.floor) turn = turn->outer;
-  if (!turn->behind && !(turn->behind = PyList_New(0))) return NULL;
-  return none_or_null(PyList_Append(turn->behind, call));
+  if (mine.turn.stack.depth == mine.floor) return none_or_null(plain(CALL0(call)));
+  if (!mine.behind && !(mine.behind = PyList_New(0))) return NULL;
+  return none_or_null(PyList_Append(mine.behind, call));
 }
 /* Tells what stands behind what is told to a root: of one that has ended, what it held. */
 static PyObject *finish(PyObject *module, PyObject *root) {
   (void)module;
   Core *core = ((Root *)root)->core;
-  return none_or_null(mine.telling && mine.telling->core == core ? go_through(core, 1) : 0);
+  return none_or_null(mine.telling.core == core ? go_through(core, 1) : 0);
 }
 static PyObject *forked(PyObject *module, PyObject *unused) {
   (void)module, (void)unused;
