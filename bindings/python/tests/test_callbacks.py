@@ -214,9 +214,22 @@ class Releases(Case):
     def test_a_factory_that_fails_is_heard_by_functions_behind_it(self):
         def fails():
             raise KeyError("no resource")
-        told = []
-        rx.of(0).pipe(ops.flat_map(lambda _: rx.using(fails, rx.of).pipe(ops.materialize(), ops.map(lambda it: it.kind)))).subscribe(told.append)
-        self.assertEqual(told, ["E"])
+        for flat in ops.flat_map, ops.flat_map_latest:
+            told = []
+            rx.of(0).pipe(flat(lambda _: rx.using(fails, rx.of).pipe(ops.materialize(), ops.map(lambda it: it.kind)))).subscribe(told.append)
+            self.assertEqual(told, ["E"])
+
+    def test_a_factory_that_fails_in_an_exchange_ends_the_subscription(self):
+        resources, told, log = iter((1, 0, 1)), [], []
+
+        def factory():
+            return 1 // next(resources) and Disposable(lambda: log.append("released"))
+        subject = Subject()
+        subject.pipe(ops.flat_map_latest(lambda it: rx.using(factory, lambda _: rx.of(it).pipe(ops.concat(rx.never()))))).subscribe(
+            told.append, lambda error: told.append(type(error)))
+        for value in 1, 2, 3:
+            subject.on_next(value)
+        self.assertEqual((told, log), ([1, ZeroDivisionError], ["released"]))
 
 
 class InSteps(Case):

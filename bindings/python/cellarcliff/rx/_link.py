@@ -64,7 +64,12 @@ class Link:
         roots, self._roots, self.on_next = self._roots, {}, noop
         for it in reversed(tuple(roots)):
             it.dispose()
-        self.later(tell)
+
+        def tell_last() -> None:
+            self.leaf.is_stopped = False
+            tell()
+        self.leaf.is_stopped = True  # a function behind it may have more to say
+        self.engine.put(self._keeper, tell_last)
 
     def _heard_end(self, root: Any, call: Call, *error: Any) -> None:
         """A source has ended: items that come of it are told before what the source held is released."""

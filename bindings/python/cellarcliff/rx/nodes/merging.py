@@ -31,23 +31,22 @@ class Merging(Observable[Any]):
         # whether it is closed: an item may stand in its lane meanwhile, and is not projected then
         node_is = Leaf(engine.core)
 
-        def opens(value: Any) -> None:
+        def opens(value: Any, at: At) -> None:
             observable = to_observable(mapper(value))
-            if node_is.is_stopped:
-                return
-            at = At(engine, INNER, node, None, scheduler, is_switch, top)
-            C.projected(observable._open, at)
+            if not node_is.is_stopped:
+                C.projected(observable._open, at)
 
         def project(value: Any) -> None:
             if node_is.is_stopped:
                 return
+            at = At(engine, INNER, node, None, scheduler, is_switch, top)
             try:
-                opens(value)
+                opens(value, at)
             except Refused as why:
                 if why.name not in ("Gone", "NothingOwed"):
                     engine.fail(node, why)
             except Exception as error:
-                engine.fail(node, error)
+                engine.fail(node, error) if at.node is None else engine.failed(at, error)
             except BaseException:
                 engine.decline(node)
                 raise

@@ -3,6 +3,7 @@ from __future__ import annotations
 
 from typing import Any, Callable, Tuple
 
+from ..._refused import Refused
 from .._engine import At
 from .._functions import Around
 from .._observable import Observable, open_below, to_observable
@@ -26,10 +27,10 @@ class Using(Around):
     def _open(self, at: At) -> None:
         try:
             below, resource = at.engine.using(at, self._make_resource)
-        except Exception as error:
-            if at.node is not None or hasattr(error, "name"):  # the engine's, not the factory's
-                raise
-            self._wrap(Throw(error, None))._open(at)
+        except Refused:
+            raise
+        except Exception as error:  # where it takes the place of something, that has given way already
+            self._wrap(Throw(error, None))._open(at if at.node is None else at.inside(at.node))
             return
         open_below(self._wrap(made(self._make_source, resource)), below)
 
