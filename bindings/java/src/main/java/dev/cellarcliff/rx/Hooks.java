@@ -1,6 +1,9 @@
 package dev.cellarcliff.rx;
 
+import io.reactivex.rxjava3.core.Completable;
+import io.reactivex.rxjava3.core.Maybe;
 import io.reactivex.rxjava3.core.Observable;
+import io.reactivex.rxjava3.core.Single;
 import io.reactivex.rxjava3.functions.Function;
 import io.reactivex.rxjava3.observables.ConnectableObservable;
 import io.reactivex.rxjava3.plugins.RxJavaPlugins;
@@ -11,6 +14,9 @@ import java.util.List;
 public final class Hooks {
     private static Hook<Observable> observable = new Hook<>(null);
     private static Hook<ConnectableObservable> connectable = new Hook<>(null);
+    private static Hook<Single> single = new Hook<>(null);
+    private static Hook<Maybe> maybe = new Hook<>(null);
+    private static Hook<Completable> completable = new Hook<>(null);
 
     private Hooks() { }
 
@@ -19,17 +25,21 @@ public final class Hooks {
         if (RxJavaPlugins.getOnObservableAssembly() == observable) { return; }
         uninstall();
         Engine.current();
-        observable = new Hook<>(RxJavaPlugins.getOnObservableAssembly());
-        connectable = new Hook<>(RxJavaPlugins.getOnConnectableObservableAssembly());
-        RxJavaPlugins.setOnObservableAssembly(observable);
-        RxJavaPlugins.setOnConnectableObservableAssembly(connectable);
+        RxJavaPlugins.setOnObservableAssembly(observable = new Hook<>(RxJavaPlugins.getOnObservableAssembly()));
+        RxJavaPlugins.setOnConnectableObservableAssembly(connectable = new Hook<>(RxJavaPlugins.getOnConnectableObservableAssembly()));
+        RxJavaPlugins.setOnSingleAssembly(single = new Hook<>(RxJavaPlugins.getOnSingleAssembly()));
+        RxJavaPlugins.setOnMaybeAssembly(maybe = new Hook<>(RxJavaPlugins.getOnMaybeAssembly()));
+        RxJavaPlugins.setOnCompletableAssembly(completable = new Hook<>(RxJavaPlugins.getOnCompletableAssembly()));
     }
 
     /** What is assembled from now on has RxJava's operators, or those of the hooks that were there before. */
     public static synchronized void uninstall() {
-        observable.isOn = connectable.isOn = false;
+        observable.isOn = connectable.isOn = single.isOn = maybe.isOn = completable.isOn = false;
         if (RxJavaPlugins.getOnObservableAssembly() == observable) { RxJavaPlugins.setOnObservableAssembly(observable.before); }
         if (RxJavaPlugins.getOnConnectableObservableAssembly() == connectable) { RxJavaPlugins.setOnConnectableObservableAssembly(connectable.before); }
+        if (RxJavaPlugins.getOnSingleAssembly() == single) { RxJavaPlugins.setOnSingleAssembly(single.before); }
+        if (RxJavaPlugins.getOnMaybeAssembly() == maybe) { RxJavaPlugins.setOnMaybeAssembly(maybe.before); }
+        if (RxJavaPlugins.getOnCompletableAssembly() == completable) { RxJavaPlugins.setOnCompletableAssembly(completable.before); }
     }
 
     /** Operators that stay RxJava's, since this version of RxJava has them otherwise or does not show their fields; and why. */
@@ -42,10 +52,9 @@ public final class Hooks {
 
         Hook(Function<? super T, ? extends T> before) { this.before = before; }
 
-        @SuppressWarnings("unchecked")
         @Override public T apply(T given) throws Throwable {
             T first = before == null ? given : before.apply(given);
-            return isOn ? (T) Parts.exchange((Observable<?>) first) : first;
+            return isOn ? Parts.exchange(first) : first;
         }
     }
 }

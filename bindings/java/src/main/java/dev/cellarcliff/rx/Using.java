@@ -10,13 +10,17 @@ final class Using extends Operator.Plain {
     private final Supplier<?> supplier;
     private final Function<Object, ?> mapper;
     private final Consumer<Object> disposer;
-    private final boolean isEager;
+    private final boolean isEager, failsFirst;
 
-    Using(Supplier<?> supplier, Function<Object, ?> mapper, Consumer<Object> disposer, boolean isEager) {
+    Using(Supplier<?> supplier, Function<Object, ?> mapper, Consumer<Object> disposer, boolean isEager) { this(supplier, mapper, disposer, isEager, false); }
+
+    /** If it fails first, what is late is released behind the error of its own source function too, as RxJava's Single, Maybe, Completable do. */
+    Using(Supplier<?> supplier, Function<Object, ?> mapper, Consumer<Object> disposer, boolean isEager, boolean failsFirst) {
         this.supplier = supplier;
         this.mapper = mapper;
         this.disposer = disposer;
         this.isEager = isEager;
+        this.failsFirst = failsFirst && !isEager;
     }
 
     @Override public int level() { return Merge.UNSEEN; }
@@ -40,7 +44,11 @@ final class Using extends Operator.Plain {
         try {
             below = Objects.requireNonNull(mapper.apply(resource.it), "The sourceSupplier returned a null ObservableSource");
         } catch (Throwable why) {
-            Operator.fail(at, resource.releaseBehind(why));
+            try {
+                Operator.fail(at, failsFirst ? why : resource.releaseBehind(why));
+            } finally {
+                if (failsFirst) { resource.releaseNow(); }
+            }
             return;
         }
         boolean isHeld = false;

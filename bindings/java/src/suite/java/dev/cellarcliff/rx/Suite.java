@@ -1,6 +1,9 @@
 package dev.cellarcliff.rx;
 
+import io.reactivex.rxjava3.core.Completable;
+import io.reactivex.rxjava3.core.Maybe;
 import io.reactivex.rxjava3.core.Observable;
+import io.reactivex.rxjava3.core.Single;
 import io.reactivex.rxjava3.functions.Function;
 import io.reactivex.rxjava3.observables.ConnectableObservable;
 import io.reactivex.rxjava3.plugins.RxJavaPlugins;
@@ -57,6 +60,12 @@ public final class Suite {
             Hooks.install();
             Function<? super Observable, ? extends Observable> all = RxJavaPlugins.getOnObservableAssembly();
             Function<? super ConnectableObservable, ? extends ConnectableObservable> shares = RxJavaPlugins.getOnConnectableObservableAssembly();
+            Function<? super Single, ? extends Single> singles = RxJavaPlugins.getOnSingleAssembly();
+            Function<? super Maybe, ? extends Maybe> maybes = RxJavaPlugins.getOnMaybeAssembly();
+            Function<? super Completable, ? extends Completable> completables = RxJavaPlugins.getOnCompletableAssembly();
+            RxJavaPlugins.setOnSingleAssembly(given -> counted(made, given, singles.apply(given)));
+            RxJavaPlugins.setOnMaybeAssembly(given -> counted(made, given, maybes.apply(given)));
+            RxJavaPlugins.setOnCompletableAssembly(given -> counted(made, given, completables.apply(given)));
             RxJavaPlugins.setOnObservableAssembly(given -> counted(made, given, all.apply(given)));
             RxJavaPlugins.setOnConnectableObservableAssembly(given -> counted(made, given, shares.apply(given)));
         }
