@@ -41,12 +41,12 @@ static size_t needed(uint8_t what) {
   return what <= CELLAR_NEXT || what == CELLAR_CONNECT ? 160 : what <= CELLAR_ERROR ? 144 : 128;
 }
 
-/* The status, and above it whether there is an effect, whether it is the command's own item, its kind, whether it carries a value, and
- * whether there are closings or values to keep. */
+/* The status, and above it whether there is an effect, whether it is the command's own item, which then needs not be kept, whether it carries
+ * a value, whether there are closings or values to keep, and its kind. */
 static jlong told(const struct desk *desk, uint8_t status) {
   const struct cellar_stepped *step = &desk->step;
   return status | (jlong)step->handed << 8 | (jlong)step->own << 9 | (jlong)(step->effect.carries != 0) << 10 |
-         (jlong)(step->closed != 0 || step->copies != 0) << 11 | (jlong)step->effect.kind << 16;
+         (jlong)(step->closed != 0 || step->copies > step->own) << 11 | (jlong)step->effect.kind << 16;
 }
 
 #define STATIC JNIEnv *env, jclass class

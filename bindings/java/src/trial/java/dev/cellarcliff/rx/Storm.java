@@ -19,8 +19,8 @@ import java.util.function.IntConsumer;
 
 /**
  * Threads: Storm SECONDS [THREADS]. In turns: sources of one observer, whose items have to come all, once, in the order of each source, one
- * at a time; observers of shares that stay, each of which has to get all; and pipelines made at random that come and go while others
- * interrupt the threads. Each resource has to be released once, and nothing may be left. The status is 1 if something is wrong.
+ * at a time; observers of shares that stay, each of which has to get all; pipelines made at random that come and go while others interrupt
+ * the threads; and pipelines that nobody holds any more. Each resource has to be released once, and nothing may be left. The status is 1 if something is wrong.
  */
 public final class Storm {
     private static final AtomicLong made = new AtomicLong(), released = new AtomicLong(), told = new AtomicLong(), pipelines = new AtomicLong();
@@ -178,6 +178,30 @@ public final class Storm {
         for (PublishSubject<Integer> each : subjects) { if (each.hasObservers()) { wrong.add("a subject has an observer yet"); } }
     }
 
+    /** Pipelines that are dropped, not disposed of, while they are told items: each item is told, and behind it all are collected. */
+    private static void dropped(int threads, int many) throws InterruptedException {
+        AtomicLong pushed = new AtomicLong(), heard = new AtomicLong();
+        all(threads, t -> {
+            for (int i = 0; i < many; i++) {
+                PublishSubject<Integer> s = PublishSubject.create(), other = PublishSubject.create();
+                Observable<Integer> shared = s.map(v -> v + 1).share();
+                Observable.merge(shared, other.flatMap(v -> shared.takeUntil(s))).filter(v -> v > 0).takeUntil(Observable.never()).subscribe(v -> heard.incrementAndGet());
+                shared.switchMap(v -> other).subscribe(v -> heard.incrementAndGet());
+                s.publish().connect();
+                for (int k = 0; k < 3; k++) {
+                    s.onNext(k);
+                    pushed.incrementAndGet();
+                }
+            }
+        });
+        if (heard.get() != pushed.get()) { wrong.add("told " + heard + " of " + pushed + " to who was dropped"); }
+        for (int i = 0; i < 200 && Engine.current().counts()[0] > 0; i++) {
+            System.gc();
+            Thread.sleep(10);
+            Engine.current().closeCollected();
+        }
+    }
+
     public static void main(String[] words) throws Exception {
         int threads = words.length > 1 ? Integer.parseInt(words[1]) : 8;
         long until = System.nanoTime() + Integer.parseInt(words[0]) * 1_000_000_000L;
@@ -188,6 +212,7 @@ public final class Storm {
             ordered(threads, items);
             shared(threads, items / 10);
             random(threads, 2, rounds);
+            dropped(threads, items / 20);
             if (made.get() != released.get()) { wrong.add("made " + made + ", released " + released); }
             String left = Arrays.toString(Engine.current().counts());
             if (!left.equals(Arrays.toString(new long[6]))) { wrong.add("left " + left); }
