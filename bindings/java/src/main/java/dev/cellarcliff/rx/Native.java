@@ -10,9 +10,9 @@ final class Native {
     static final int ROOT = 0, SOURCE = 1, INNER = 2, NOTIFIER = 3;
     static final int LEAF = 0, PASS = 1, FLAT = 2, SWITCH = 3, UNTIL = 4, SHARED = 5, PUBLISHED = 6;
     static final int WISHES = 1, LANE_OF_NODE = 2;
-    static final int E_NEXT = 0, E_PROJECT = 1, E_COMPLETED = 2, E_FAILED = 3, E_GONE = 4, E_RELEASE = 5, E_MERGED = 7;
-    static final int DONE = 0, NO_MEMORY = 4, FULL = 16, GONE = 17, NOTHING_OWED = 20, NO_HUB = 22, HUB_ORDER = 23, CONNECTED = 24, NOT_CONNECTED = 25,
-        TOO_MANY = 29, NO_STACK = 255;
+    static final int E_NEXT = 0, E_PROJECT = 1, E_COMPLETED = 2, E_FAILED = 3, E_GONE = 4, E_RELEASE = 5;
+    static final int DONE = 0, NO_MEMORY = 4, FULL = 16, GONE = 17, NOTHING_OWED = 20, NO_HUB = 22, HUB_ORDER = 23, TOO_MANY = 29,
+        NO_STACK = 255;
     static final long UNKNOWN_HUB = -1;
 
     // bits of what a step answers, and places in the buffer

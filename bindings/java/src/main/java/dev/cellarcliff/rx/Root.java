@@ -36,9 +36,8 @@ final class Root extends Tree implements Disposable {
 
     /** A function on the way failed: RxJava's disposes of its source, and tells the error. */
     private void fail(Throwable why) {
-        Observer<Object> told = down;
-        dispose();
-        told.onError(why);
+        engine.dispose(this);
+        tellEnd(why);
         if (Errors.isFatal(why)) { throw Errors.thrown(why); }
     }
 
