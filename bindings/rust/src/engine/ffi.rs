@@ -113,6 +113,14 @@ impl Stepped {
     pub fn handed(&self) -> Option<Handed> {
         (self.handed == 1).then_some(Handed { ticket: self.ticket, effect: self.effect })
     }
+
+    /// As it was handed out before another command came between.
+    pub(crate) fn hand(&mut self, it: Option<Handed>) {
+        self.handed = it.is_some().into();
+        if let Some(Handed { ticket, effect }) = it {
+            (self.ticket, self.effect) = (ticket, effect)
+        }
+    }
 }
 
 /// `struct cellar_totals`.

@@ -37,8 +37,13 @@ enum Due<'a> {
     Nothing,
     Tell(Ref<AThing<'a>>, u32, u64),
     Drop(Box<AHeld<'a>>),
-    Close(Ref<AThing<'a>>, Option<Handed>), // before what was handed out with it is begun
-    CloseAll(Vec<Ref<AThing<'a>>>, Option<Handed>),
+}
+
+/// What a command has closed; and what was handed out with that, which is begun behind it.
+struct Closed<'a> {
+    first: Ref<AThing<'a>>,
+    others: Vec<Ref<AThing<'a>>>,
+    handed: Option<Handed>,
 }
 
 /// What is told behind all that its call is handed out.
@@ -53,7 +58,7 @@ struct State<'a> {
     step: Stepped,
     words: Words<'a>,
     tags: Slab<Box<AHeld<'a>>>,
-    stacks: Vec<Stack>, // on which calls are under way
+    stacks: Vec<Stack>, // where no call is under way it is another's next
     behind: Vec<Behind<'a>>,
 }
 
@@ -66,61 +71,74 @@ impl<'a> State<'a> {
     /// A call begins with a command. Answers its stack, and the status.
     #[inline]
     fn begin(&mut self, by: u64, command: &Command) -> (usize, u8) {
-        let at = self.stack(by).unwrap_or_else(|| {
-            self.stacks.push(Stack { by, ..Stack::default() });
-            self.stacks.len() - 1
-        });
+        let at = self.stack(by).unwrap_or_else(|| self.free_stack(by));
         self.stacks[at].depth += 1;
         (at, self.crossing.step(&self.stacks[at], command, &mut self.step))
     }
 
+    #[cold]
+    fn free_stack(&mut self, by: u64) -> usize {
+        let at = self.stacks.iter().position(|it| it.depth == 0).unwrap_or_else(|| {
+            self.stacks.push(Stack::default());
+            self.stacks.len() - 1
+        });
+        self.stacks[at] = Stack { by, ..Stack::default() };
+        at
+    }
+
     /// What the command of a call has closed comes first.
-    #[inline]
-    fn due(&mut self, at: usize) -> Due<'a> {
-        let handed = self.step.handed();
-        match self.step.closed {
-            0 => self.go_on(at, handed),
-            1 => match self.words.closed(self.step.closings[0]) {
-                Some(it) => {
-                    it.closing();
-                    Due::Close(it, handed)
-                }
-                None => self.go_on(at, handed),
-            },
-            _ => {
-                let all = self.crossing.closings(&self.step).into_iter().filter_map(|it| self.words.closed(it));
-                Due::CloseAll(all.inspect(|it| it.closing()).collect(), handed)
-            }
+    #[inline(always)]
+    fn due(&mut self, at: usize, closed: &mut Option<Closed<'a>>) -> Due<'a> {
+        if self.step.closed > 0 {
+            *closed = self.closed();
         }
+        if closed.is_some() { Due::Nothing } else { self.go_on(at) }
     }
 
-    fn next(&mut self, at: usize) -> Option<Handed> {
-        self.crossing.next(&self.stacks[at], &mut self.step);
-        self.step.handed()
+    fn closed(&mut self) -> Option<Closed<'a>> {
+        let rest = if self.step.closed > 1 { self.crossing.closings(&self.step).split_off(1) } else { Vec::new() };
+        let first = self.words.closed(self.step.closings[0])?;
+        let others: Vec<_> = rest.into_iter().filter_map(|it| self.words.closed(it)).collect();
+        first.closing();
+        others.iter().for_each(|it| it.closing());
+        Some(Closed { first, others, handed: self.step.handed() })
     }
 
-    /// Begins what was handed out; where nothing was, the call ends behind what waits for that.
     #[inline]
-    fn go_on(&mut self, at: usize, mut handed: Option<Handed>) -> Due<'a> {
-        while let Some(Handed { ticket, effect: it }) = handed {
-            self.stacks[at].begun = ticket;
-            let due = match it.kind {
+    fn next(&mut self, by: u64) -> Due<'a> {
+        let at = self.stack(by).expect("a call is under way");
+        self.crossing.next(&self.stacks[at], &mut self.step);
+        self.go_on(at)
+    }
+
+    /// Where nothing was handed out, the call ends behind what waits for that.
+    #[inline]
+    fn go_on(&mut self, at: usize) -> Due<'a> {
+        if self.step.handed == 1 || !self.behind.is_empty() {
+            return self.begin_next(at);
+        }
+        self.stacks[at].depth -= 1;
+        Due::Nothing
+    }
+
+    fn begin_next(&mut self, at: usize) -> Due<'a> {
+        while self.step.handed == 1 {
+            let it = self.step.effect;
+            self.stacks[at].begun = self.step.ticket;
+            let known = match it.kind {
                 effect::RELEASE => self.tags.take(it.user).map(Due::Drop),
                 _ => self.words.told(&it).map(|thing| Due::Tell(thing, it.kind, it.value)),
             };
-            match due {
-                Some(due) => return due,
-                None => handed = self.next(at),
+            if let Some(it) = known {
+                return it;
             }
+            self.crossing.next(&self.stacks[at], &mut self.step);
         }
         let Stack { by, depth, .. } = self.stacks[at];
-        if let Some(at) = self.behind.iter().position(|it| it.by == by && it.depth >= depth) {
-            return Due::Tell(self.behind.remove(at).thing, 0, 0);
+        if let Some(first) = self.behind.iter().position(|it| it.by == by && it.depth >= depth) {
+            return Due::Tell(self.behind.remove(first).thing, 0, 0);
         }
         self.stacks[at].depth -= 1;
-        if depth == 1 {
-            self.stacks.swap_remove(at);
-        }
         Due::Nothing
     }
 }
@@ -164,27 +182,30 @@ impl<'a> Engine<'a> {
     /// An item goes in. Whom it is for hears it at once if nothing stands before it.
     #[inline]
     pub fn emit<V>(&self, node: Key, value: V, to: &impl Inbox<V>) -> Result<(), Refusal> {
-        let (by, mut value) = (by(), Some(value));
-        let (status, due) = self.state.with(|state| {
-            let (at, status) = state.begin(by, &Command { what: what::NEXT, node, ..Command::default() });
-            if state.step.own == 1 {
+        let (by, mut value, mut status, mut is_own, mut closed) = (by(), Some(value), 0, false, None);
+        let mut due = self.state.with(|state| {
+            let at;
+            (at, status) = state.begin(by, &Command { what: what::NEXT, node, ..Command::default() });
+            is_own = state.step.own == 1;
+            if is_own {
                 state.stacks[at].begun = state.step.ticket;
-                return (status, None);
+                return Due::Nothing;
             }
             if state.step.copies > 0 {
                 value.take().into_iter().for_each(|it| to.keep(it));
             }
-            (status, Some(state.due(at)))
+            state.due(at, &mut closed)
         });
         let mut panics = Panics::default();
-        let due = due.unwrap_or_else(|| {
-            if panics.run(|| value.take().into_iter().for_each(|it| to.hear(it))) {
+        if is_own {
+            if panics.run(|| value.into_iter().for_each(|it| to.hear(it))) {
                 panics.run(|| to.panicked());
             }
-            self.next(by)
-        });
-        panics.run(|| drop(value));
-        self.serve(by, due, &mut panics);
+            due = self.state.with(|state| state.next(by));
+        } else {
+            panics.run(|| drop(value));
+        }
+        self.serve(by, closed, due, &mut panics);
         panics.go_on();
         Refusal::unless_done(status)
     }
@@ -193,7 +214,7 @@ impl<'a> Engine<'a> {
     pub fn make(
         &self, mut command: Command, word: Word<'a>, tag: Option<Box<AHeld<'a>>>, keep: impl FnOnce(u64),
     ) -> Result<Made, Refusal> {
-        let (by, has_word, has_tag) = (by(), !word.is_empty(), tag.is_some());
+        let (by, has_word, has_tag, mut closed) = (by(), !word.is_empty(), tag.is_some(), None);
         let (done, due) = self.state.with(|state| {
             if has_word {
                 command.user = state.words.put(word);
@@ -202,24 +223,28 @@ impl<'a> Engine<'a> {
                 command.value = state.tags.put(tag);
             }
             let (at, status) = state.begin(by, &command);
-            let done = if status == 0 {
-                let it = &state.step;
-                keep(it.copies);
-                Ok(Made { node: it.node, other: it.other, is_connected: it.is_connected == 1, hub: it.hub })
-            } else {
-                let (word, tag) = (has_word.then_some(command.user), has_tag.then_some(command.value));
-                Err((Refusal::of(status), word.map(|it| state.words.take(it)), tag.map(|it| state.tags.take(it))))
-            };
-            (done, state.due(at))
+            if status == 0 {
+                keep(state.step.copies);
+            }
+            let it = &state.step;
+            let made = Made { node: it.node, other: it.other, is_connected: it.is_connected == 1, hub: it.hub };
+            (if status == 0 { Ok(made) } else { Err(status) }, state.due(at, &mut closed))
         });
         let mut panics = Panics::default();
-        let done = done.map_err(|(why, word, tag)| {
-            panics.run(|| drop((word, tag)));
-            why
+        let done = done.map_err(|status| {
+            self.give_back(has_word.then_some(command.user), has_tag.then_some(command.value), &mut panics);
+            Refusal::of(status)
         });
-        self.serve(by, due, &mut panics);
+        self.serve(by, closed, due, &mut panics);
         panics.go_on();
         done
+    }
+
+    /// What a command that was refused had is dropped outside the lock.
+    #[cold]
+    fn give_back(&self, word: Option<u64>, tag: Option<u64>, panics: &mut Panics) {
+        let back = self.state.with(|state| (word.map(|it| state.words.take(it)), tag.map(|it| state.tags.take(it))));
+        panics.run(|| drop(back));
     }
 
     /// As a thing that is told of a closing makes a command: it is one more of the call that closed it. What that was handed out already
@@ -277,54 +302,43 @@ impl<'a> Engine<'a> {
         self.tell_behind(Ref::new(Passed(Lock::new(Some(why)))))
     }
 
-    /// Does what a call is handed out, until there is nothing more.
-    fn serve(&self, by: u64, mut due: Due<'a>, panics: &mut Panics) {
-        loop {
-            match due {
-                Due::Nothing => return,
-                Due::Tell(thing, kind, value) => {
-                    if panics.run(|| thing.tell(kind, value)) {
-                        panics.run(|| thing.panicked());
-                    }
-                    panics.run(|| drop(thing));
-                }
-                Due::Drop(resource) => _ = panics.run(|| drop(resource)),
-                Due::Close(thing, handed) => {
-                    self.close(thing, panics);
-                    due = self.go_on(by, handed);
-                    continue;
-                }
-                Due::CloseAll(all, handed) => {
-                    all.into_iter().for_each(|it| self.close(it, panics));
-                    due = self.go_on(by, handed);
-                    continue;
-                }
-            }
-            due = self.next(by);
+    /// Tells what has closed, and does what the call is handed out, until there is nothing more.
+    #[inline(always)]
+    fn serve(&self, by: u64, closed: Option<Closed<'a>>, mut due: Due<'a>, panics: &mut Panics) {
+        if let Some(closed) = closed {
+            due = self.close(by, closed, panics);
+        }
+        while !matches!(due, Due::Nothing) {
+            due = self.act(by, due, panics);
         }
     }
 
-    #[inline]
-    fn next(&self, by: u64) -> Due<'a> {
+    fn close(&self, by: u64, Closed { first, others, handed }: Closed<'a>, panics: &mut Panics) -> Due<'a> {
+        let mut close = |it: Ref<AThing<'a>>| {
+            panics.run(|| it.closed());
+            panics.run(|| drop(it));
+        };
+        close(first);
+        others.into_iter().for_each(close);
         self.state.with(|state| {
             let at = state.stack(by).expect("a call is under way");
-            let handed = state.next(at);
-            state.go_on(at, handed)
+            state.step.hand(handed);
+            state.go_on(at)
         })
     }
 
-    #[inline]
-    fn go_on(&self, by: u64, handed: Option<Handed>) -> Due<'a> {
-        self.state.with(|state| {
-            let at = state.stack(by).expect("a call is under way");
-            state.go_on(at, handed)
-        })
-    }
-
-    #[inline]
-    fn close(&self, thing: Ref<AThing<'a>>, panics: &mut Panics) {
-        panics.run(|| thing.closed());
-        panics.run(|| drop(thing));
+    fn act(&self, by: u64, due: Due<'a>, panics: &mut Panics) -> Due<'a> {
+        match due {
+            Due::Nothing => (),
+            Due::Tell(thing, kind, value) => {
+                if panics.run(|| thing.tell(kind, value)) {
+                    panics.run(|| thing.panicked());
+                }
+                panics.run(|| drop(thing));
+            }
+            Due::Drop(resource) => _ = panics.run(|| drop(resource)),
+        }
+        self.state.with(|state| state.next(by))
     }
 }
 
