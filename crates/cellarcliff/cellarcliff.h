@@ -2,9 +2,9 @@
  * cellarcliff_names.h names the statuses.
  *
  * In one paragraph. A face (the operators of a language) gives each node that it opens a word of its own, each resource a tag,
- * each item a value: numbers or addresses that the engine never reads. It makes one command at a time by cellar_make, under its own
- * lock. A command comes to a status, an answer, and effects, which stand in lanes. Whoever is named by the answer serves those
- * lanes by cellar_take, and does the effects outside the lock, one at a time. The engine calls nobody.
+ * each item a value: numbers or addresses that the engine never reads. It makes one command at a time by cellar_step, under its own
+ * lock. A command comes to a status, an answer, and effects, which stand in lanes. The step, and cellar_next behind it, hand out what the
+ * caller is to do, one effect at a time, which it does outside the lock. The engine calls nobody.
  *
  * WHAT NO PROOF SEES: this header. The exports are proved (crates/cellarcliff); that they have these arguments and layouts is compared
  * by `tools/check-header`, and by the assertions at the end.
@@ -21,16 +21,16 @@
  * NULL             | undefined, but for close, finalize  | undefined; asserts in a debug build | undefined, but for the handle's own
  *                  | and free, which do nothing; a build |                                     | word; CELLAR_ARMOR in the header checks
  *                  | with API_ARMOR answers MISUSE       |                                     | and answers CELLAR_MISUSE
- * a stale handle   | undefined; MISUSE where it is found | undefined                           | a key, a lane's name, a hub: safe,
- *                  |                                     |                                     | and answered as what it is: gone
+ * a stale handle   | undefined; MISUSE where it is found | undefined                           | a key, a ticket, a hub: safe, and
+ *                  |                                     |                                     | answered as what it is: gone
  * growth           | a struct of the library's never     | spare pointers in each struct; a    | no struct changes within a name of
  *                  | changes; new calls (_v2, _v3);      | new name of the library (soname)    | the library; spare fields, which
  *                  | iVersion in structs of the caller's | for each major version              | are zero; new codes; new calls
  * threads          | three modes; by default a mutex of  | one thread for a loop; only         | no lock inside; any thread, one
  *                  | its own                             | uv_async_send from another          | call at a time
- * calling back     | within the call, and the callback   | from uv_run, in its thread          | never: effects are taken
+ * calling back     | within the call, and the callback   | from uv_run, in its thread          | never: effects are handed out
  *                  | may not close what calls it         |                                     |
- * the end          | close refuses BUSY while statements | close each handle, then run once    | shut, serve what is left, finish,
+ * the end          | close refuses BUSY while statements | close each handle, then run once    | shut, do what is left, finish,
  *                  | are open; close_v2 waits as zombie  | more, then uv_loop_close            | which refuses CELLAR_UNTAKEN; drop loses
  * memory           | a hook for the allocator; NOMEM     | a hook; some calls abort            | malloc; CELLAR_NO_MEMORY and nothing
  *                  | from anywhere                       |                                     | changed; closing asks for none
@@ -56,32 +56,29 @@ extern "C" {
  *   (freed memory, a copy of a handle) is undefined with both.
  * Buffers. A buffer is a pointer and a count of its elements, which may be 0; the pointer is not null even then.
  * Numbers. A code that is none of its enum, a flag that the command does not have, and a spare field that is not zero, is answered
- *   CELLAR_NO_SUCH_CODE, before any other cause of the command's, but behind CELLAR_NOTHING_KEPT, and behind what cellar_make_behind
- *   finds in its lane or gives back. Which fields a command reads stands beside it; the others are not looked at.
+ *   CELLAR_NO_SUCH_CODE, before any other cause of the command's, but behind CELLAR_NOTHING_KEPT. Which fields a command reads stands
+ *   beside it; the others are not looked at.
  * Foreign words. A key (cellar_node, cellar_res) of another engine, of something gone, or made up, names nothing: CELLAR_GONE,
- *   CELLAR_NOT_HELD, CELLAR_NO_LEASE. If it happens to be the key of something open, it names that: a key is no secret. A lane's name
- *   that is old or made up has nothing to take, until 17,179,869,184 lanes more were opened: then an old name may be that of another
- *   lane. A hub in a command is a hint: any number may stand there, and none changes an answer. `user`, `value` and `by` are never
- *   read but compared (`by`) and given back.
+ *   CELLAR_NOT_HELD, CELLAR_NO_LEASE. If it happens to be the key of something open, it names that: a key is no secret. A hub in a
+ *   command is a hint: any number may stand there, and none changes an answer. `user` and `value` are never read but given back, `by`,
+ *   `depth` and `begun` are compared.
  * Refusal. With any status but 0 nothing changed that a later call can see (the engine may have made a checkpoint, or hubs for
- *   shares, which its events tell), all counts of the answer are 0, no tag and no value was taken in, and no effect comes of the command.
- *   Of cellar_make_behind this is said of the command, beside the lane that it serves on or gives back. Where memory is refused while
- *   hubs are made, those that were made stay: a share that takes one of them may have few others below it (CELLAR_HUB_ORDER), as long
- *   as it lives.
+ *   shares, which its events tell), all counts of the answer are 0, no tag and no value was taken in, and no effect comes of the command:
+ *   what the step hands out all the same came of others. Where memory is refused while hubs are made, those that were made stay: a
+ *   share that takes one of them may have few others below it (CELLAR_HUB_ORDER), as long as it lives.
  * Order of causes. As docs/reference/refusals.md has it; but whoever subscribes to a share is refused CELLAR_GONE, CELLAR_NO_HUB and
  *   CELLAR_HUB_ORDER, in this order, before all others.
  * Memory. Only CELLAR_OPEN, CELLAR_USING, CELLAR_HOLD, CELLAR_APPLY, CELLAR_LEASE, CELLAR_CONNECT, CELLAR_NEXT, CELLAR_PUT, cellar_new
- *   and cellar_dump may answer CELLAR_NO_MEMORY. CELLAR_OPEN, CELLAR_USING, CELLAR_HOLD and CELLAR_CONNECT may answer it before a cause
- *   of their own. A command that finds the history full answers it where the checkpoint that would make room is refused memory.
- *   Whatever ends or closes, and each call that serves, asks for none, but for a checkpoint, which may be refused and is then made
- *   by a later command.
+ *   and cellar_dump may answer CELLAR_NO_MEMORY, a step before any other cause. A command that finds the history full answers it where
+ *   the checkpoint that would make room is refused memory. Whatever ends or closes is done without memory, but for a checkpoint, which
+ *   may be refused and is then made by a later command. What a command comes to may wait for memory: a step of depth 1 hands it
+ *   out once there is some. cellar_pass and cellar_stop need none.
  * Threads. There is no lock inside. Any thread may call, one call at a time on a handle: a face puts each handle behind one
- *   mutex, holds it for the call and for its own tables, and serves effects without it. Calls on two handles are independent.
- *   A call is short and waits for nobody. A call from within the serving of an effect is one like any other.
+ *   mutex, holds it for the call and for its own tables, and does effects without it. Calls on two handles are independent.
+ *   A call is short and waits for nobody. A call from within the doing of an effect is one like any other.
  * Signals, fork. No call from a signal handler. In the forked child of a process with threads no call but cellar_drop.
- * `by`. A word for who calls: one for each stack of calls. A lane is served by one such word at a time, so two stacks with one
- *   word would serve a lane together. A thread's number will do where a thread has one stack; with greenlets or fibers each has
- *   its own. Zero is a word like any other.
+ * `by`. A word for a stack of calls. A thread's number will do where a thread has one stack; with greenlets or fibers each has its own.
+ *   Two stacks with one word would be told one thing within another. Zero is a word like any other.
  *
  * Growth. Within one name of the shared library (libcellarcliff.so.A.B before 1.0, libcellarcliff.so.A after):
  *   - the size, the layout and the meaning of each struct stay; spare fields are zero from the caller and from the library;
@@ -93,14 +90,14 @@ extern "C" {
  *   - what does not fit becomes a call of another name, beside the old one.
  *   cellar_abi answers the number of the header that the library was built for. A face asks once, by CELLAR_FITS, and refuses to run
  *   where the upper half differs from CELLAR_ABI's, or the lower half is less; CELLAR_ANOTHER says so. */
-#define CELLAR_ABI UINT32_C(0x00020001) /* upper half: counts changes that break; lower half: what was added since */
+#define CELLAR_ABI UINT32_C(0x00030000) /* upper half: counts changes that break; lower half: what was added since */
 
 uint32_t cellar_abi(void);
 #define CELLAR_FITS() (cellar_abi() >> 16 == CELLAR_ABI >> 16 && (cellar_abi() & 0xFFFF) + 1 > (CELLAR_ABI & 0xFFFF))
 #define CELLAR_ANOTHER "the library cellarcliff is of another version than this program was built for"
 
 /* The size in bytes of a struct of this header as the library has it, 0 for a number that is none: 0 cellar, 1 cellar_command,
- * 2 cellar_answer, 3 cellar_effect, 4 cellar_totals, 5 cellar_event, 6 cellar_stack, 7 cellar_stepped. For bindings that have no C compiler. */
+ * 3 cellar_effect, 4 cellar_totals, 5 cellar_event, 6 cellar_stack, 7 cellar_stepped. For bindings that have no C compiler. */
 uint32_t cellar_size(uint32_t which);
 
 /* What crosses ---------------------------------------------------------------------------------------------------------------*/
@@ -138,7 +135,7 @@ enum cellar_what {
   CELLAR_USING = 1,      /* place node user value (the tag)                  -> node, other (the resource). What the opening forces, as
                             a Switch's exchange, stands in the history before the resource */
   CELLAR_HOLD = 2,       /* node value (the tag)                             -> other (the resource) */
-  CELLAR_NEXT = 3,       /* node value                                       -> copies; handed, but for CELLAR_QUEUES */
+  CELLAR_NEXT = 3,       /* node value                                       -> copies */
   CELLAR_COMPLETE = 4,   /* node (a leaf) */
   CELLAR_ERROR = 5,      /* node (a leaf) value                              -> copies */
   CELLAR_FAIL = 6,       /* node (a FlatMap or Switch that owes) value       -> copies */
@@ -161,7 +158,7 @@ enum cellar_flag {
   CELLAR_LANE_OF_NODE = 2,   /* of CELLAR_OPEN and CELLAR_USING at a root: it has the lane that `node` has, which is open (else CELLAR_GONE) */
   CELLAR_OF_PROJECTIONS = 4, /* with the flag before, and of CELLAR_PUT: the lane of what is projected to that node, an open FlatMap or Switch
                                 (else CELLAR_GONE) */
-  CELLAR_QUEUES = 8          /* of CELLAR_NEXT: nothing is handed out, so that one item can be put into many lanes before any is served */
+  CELLAR_QUEUES = 8          /* of CELLAR_NEXT: the item waits in its lane, as it does where its turn has something else */
 };
 /* Which lane a node has. A root: a new one, or what its flags say. A connection: a new one. A node below: that of the node above it.
  * A FlatMap or Switch has a second one besides, a new one, for what is projected to it and its CELLAR_E_MERGED. What is told of a root
@@ -179,7 +176,7 @@ struct cellar_command {
   struct cellar_node node;  /* the node, or the node above; of commands 14 to 17 the resource or the lease */
   uint64_t user;  /* the face's word for the node, or for whom an effect of its own is */
   uint64_t value; /* the item, the error, the tag, or the face's word for the share */
-  uint64_t by;    /* who calls */
+  uint64_t by;    /* not looked at */
   uint64_t spare;
 };
 #define CELLAR_UNKNOWN_HUB UINT64_MAX
@@ -200,43 +197,18 @@ enum cellar_effect_kind {
 };
 
 /* Effects stand in a lane in the order of their commands, and those of one command so: items and ends, then CELLAR_E_GONE and
- * CELLAR_E_MERGED, then releases. Before all these stand the releases of commands whose `by` serves the lane, and first of all what
- * was given back. */
+ * CELLAR_E_MERGED, then releases. Before all these stand the releases of commands from within what is done of that lane, and first of all
+ * what a stopped call did not begin. */
 
 /* An effect: 32 bytes. */
 struct cellar_effect {
-  uint64_t user, value, by; /* `by` is who made the command that it came of */
+  uint64_t user, value, by; /* `by` is the word of the stack that made its command */
   uint32_t kind;            /* enum cellar_effect_kind */
   uint32_t carries;         /* 1 if it carries `value`: the face gives back one of the `copies` of its command; else 0 */
 };
 
-enum { CELLAR_ROOM = 8 };
-
-/* An answer: 256 bytes. The counts are always written; the rest where the status is 0 and the command or a count says so. */
-struct cellar_answer {
-  struct cellar_node node;   /* what was opened */
-  struct cellar_node other;  /* the connection, the resource or the lease */
-  uint64_t is_connected; /* 1 if a connection was opened with the subscriber */
-  uint64_t hub;          /* of a share: its hub, for the next command of that share. No event has this number */
-  uint64_t copies;       /* how many effects carry the value: keep so many references */
-  uint64_t closed;       /* how many nodes were closed that wished to be heard of; the first CELLAR_ROOM stand in `closings` */
-  uint64_t due;          /* how many lanes the caller is to serve; the first CELLAR_ROOM stand in `lanes` */
-  uint64_t handed;       /* of CELLAR_NEXT: 1 if, and only if, all that comes of it is one effect (so nothing is closed by it), the lane of
-                            that has nothing in it, and nobody serves it; then `effect` is the item of this command, of lanes[0], which
-                            the caller serves from now on; `due` counts it. Else 0, as with CELLAR_QUEUES: each effect stands in its
-                            lane. (cellar_make_behind hands out something else, and says so by its status) */
-  uint64_t closings[CELLAR_ROOM]; /* words of nodes. Read them all before the first is acted on */
-  uint64_t lanes[CELLAR_ROOM];    /* names of lanes, in the order in which the command first put something into each; CELLAR_INSIDE is
-                                     set where the caller serves the lane already, further out, and releases stand before the rest
-                                     there, of this command or an earlier one */
-  struct cellar_effect effect;
-  uint64_t spare[2];
-};
-#define CELLAR_INSIDE (UINT64_C(1) << 63)
-
 /* Nodes, resources and leases that are open, held and out; of all tags that ever went in: accepted = held + waiting + taken, where
- * waiting are those whose release stands in a lane, and taken those whose release was taken from it; all events that ever were. The
- * sum holds as long as cellar_give_up is passed nothing but what was taken. */
+ * waiting are those whose release stands in a lane, and taken those whose release was handed out; all events that ever were. */
 struct cellar_totals {
   uint64_t nodes, held, waiting, leases, accepted, taken, events;
   uint64_t effects; /* how many effects stand in lanes, releases among them: what observers are behind with */
@@ -250,7 +222,7 @@ enum cellar_status {
   CELLAR_HELD = 3,          /* cellar_new: the handle keeps an engine already */
   CELLAR_NO_MEMORY = 4,
   CELLAR_NO_SUCH_CODE = 5,
-  CELLAR_UNTAKEN = 6,       /* cellar_finish: an effect waits, or something is open, held or leased. cellar_make_behind: the lane has an effect */
+  CELLAR_UNTAKEN = 6,       /* cellar_finish: an effect waits, or something is open, held or leased */
   CELLAR_SMALL = 7,         /* cellar_dump */
   CELLAR_CUT = 8,           /* cellar_dump: the engine made a checkpoint, so the history is not whole */
   CELLAR_MISUSE = 9,        /* CELLAR_ARMOR alone: a null or misaligned pointer */
@@ -271,41 +243,6 @@ enum cellar_status {
  * resources held where that is more, so that it costs each event little. */
 uint8_t cellar_new(struct cellar *engine, uint32_t max_events);
 
-/* Makes a command. Then, in this order: keep `copies` references to the value; act on the closings; tell the effect that was
- * handed out; serve each lane of the answer until it has none. */
-uint8_t cellar_make(struct cellar *engine, const struct cellar_command *command, struct cellar_answer *answer);
-
-/* Takes the next effect of a lane, for who serves it: 0 or 1. *count is 1 and the effect is written, or 0: then the caller
- * serves the lane no more, or another does, or the name is old. Pass the name as the answer had it, CELLAR_INSIDE included: with
- * it, who serves the lane takes only what stands before the rest, nobody else takes anything, and *count 0 leaves the caller serving
- * further out. */
-uint8_t cellar_take(struct cellar *engine, uint64_t lane, uint64_t by, struct cellar_effect *effect, uint64_t *count);
-
-/* Makes a command behind the serving of a lane, whose caller, the command's `by`, did all that it took of it: one call for a cellar_take
- * that finds none, and a cellar_make. Where the lane has another effect the command is not made, and no checkpoint: CELLAR_UNTAKEN.
- * Then `handed` is 1 and `effect` is that effect, of `lane`, which the caller goes on to serve; all other counts are 0. Do it, and call
- * again, or serve the lane to its end first. With any other status the lane is given back, also where the command was refused. Until
- * the call nobody else is given what comes into the lane: so only for a command that follows at once, as the next item of a loop. */
-uint8_t cellar_make_behind(struct cellar *engine, uint64_t lane, const struct cellar_command *command, struct cellar_answer *answer);
-
-/* Lets others serve a lane that `by` serves, in the midst of serving it: 0, 1, 5 or 17. `count` is how many effects (0 or 1) the
- * caller took and did not tell, which go to the front again, before releases that stand there. *is_left is 1 if the lane has something
- * now. Of the effect all but `carries` is read. CELLAR_NO_SUCH_CODE: a count above 1, or a kind that is none. CELLAR_GONE: `by` does not
- * serve the lane, and nothing was done; an effect that was passed is still the caller's. CELLAR_INSIDE in the name is not looked at: the
- * lane is given up that is served further out. For a Switch's exchange from within its mapper, and behind an interrupt. */
-uint8_t cellar_give_up(struct cellar *engine, uint64_t lane, uint64_t by, const struct cellar_effect *untold, uint64_t count, uint64_t *is_left);
-
-/* A lane that has something and that nobody serves, from this place on (0 at first): 0 or 1. *lane is its name and *next where to go
- * on; *lane is UINT64_MAX if there is none. Only after an interrupt is there ever one that nobody is about to serve. */
-uint8_t cellar_left(struct cellar *engine, uint64_t from, uint64_t *lane, uint64_t *next);
-
-/* The rest of the answer of the last command on this handle whose status was 0, from this place on: its closings (0) or its lanes (1).
- * Before any other command or taking, so under the lock under which the command was made: 0, 1 or 5. *count is the lesser of `room` and of
- * how many there are from that place on; so many are written. */
-uint8_t cellar_rest(struct cellar *engine, uint8_t which, uint64_t from, uint64_t *words, size_t room, uint64_t *count);
-
-/* The calls of a face --------------------------------------------------------------------------------------------------------*/
-
 /* A face gives a command, does what is handed out, and asks again until nothing is. It names no lane. A call from within `tell` is one
  * like any other, one deeper.
  *
@@ -314,19 +251,25 @@ uint8_t cellar_rest(struct cellar *engine, uint8_t which, uint64_t from, uint64_
  *   for (; step.handed; cellar_next(&engine, &stack, &step)) { stack.begun = step.ticket; tell(&step.effect); }
  *   stack.depth--;
  */
-struct cellar_stack { /* one for each stack of calls, as a thread or a fiber has; zeros and `by` at first */
+struct cellar_stack { /* one for each stack of calls on a handle, as a thread or a fiber has; zeros and `by` at first */
   uint64_t by;        /* its word, which no other stack has */
   uint64_t depth;     /* how many of the face's calls are under way on it, this one included: 1 for the outermost */
   uint64_t begun;     /* the ticket of what it began last */
 };
 
-/* What a step answers: 192 bytes. Of the command as struct cellar_answer; all counts are 0 where none was done. */
+enum { CELLAR_ROOM = 8 };
+
+/* What a step answers: 192 bytes. The counts are always written; the rest where the status is 0 and the command or a count says so. */
 struct cellar_stepped {
-  struct cellar_node node, other;
-  uint64_t is_connected, hub, copies, closed;
-  uint64_t closings[CELLAR_ROOM]; /* words of nodes; the rest by cellar_closings. Read them all before the first is acted on */
+  struct cellar_node node;  /* what was opened */
+  struct cellar_node other; /* the connection, the resource or the lease */
+  uint64_t is_connected;    /* 1 if a connection was opened with the subscriber */
+  uint64_t hub;             /* of a share: its hub, for the next command of that share. No event has this number */
+  uint64_t copies;          /* how many effects carry the value: keep so many references */
+  uint64_t closed;          /* how many nodes were closed that wished to be heard of */
+  uint64_t closings[CELLAR_ROOM]; /* their words; the rest by cellar_closings. Read them all before the first is acted on */
   uint64_t handed; /* 1: do `effect`, then ask again at this depth. 0: this turn has nothing more */
-  uint64_t own;    /* 1: `effect` is the item of this very command, alone: who begins it at once keeps no copy of the value for it */
+  uint64_t own;    /* 1: `effect` is the item of this very command, alone, so who begins it at once keeps no copy of the value. 0 says nothing */
   uint64_t ticket; /* of `effect`: 1 or more, and no other effect has it */
   uint64_t spare;
   struct cellar_effect effect;
@@ -335,8 +278,8 @@ struct cellar_stepped {
 /* Notes what was begun; makes the command, by the stack's word (the command's `by` is not looked at): its status; and, whatever the
  * status, hands out the next thing of this turn: first what was handed out at this depth and not begun, once more; then the rest of the lane
  * that it serves; then what each lane has that is due to it, in the order in which the lanes became due; then what calls deeper on this
- * stack did not come to; at depth 1 then what stopped calls left. An item is handed out at once where the turn has nothing else and the item
- * is first in its lane, which nobody serves. */
+ * stack did not come to, the nearest first; at depth 1 then, once a call was stopped, what no call is at, in any
+ * order. An item is handed out at once where the turn has nothing else, and the item is first in its lane, which no call is at. */
 uint8_t cellar_step(struct cellar *engine, const struct cellar_stack *stack, const struct cellar_command *command,
                     struct cellar_stepped *step);
 
@@ -349,7 +292,7 @@ uint8_t cellar_next(struct cellar *engine, const struct cellar_stack *stack, str
 uint8_t cellar_pass(struct cellar *engine, const struct cellar_stack *stack, uint64_t from, uint8_t now);
 
 /* A call that ends in the midst: what it was handed and began is told, what it did not begin stands first in its lane again. All that is
- * due at this depth or deeper is left to the next step of depth 1 on any stack. Asks for no memory: 0 or 1. */
+ * due at this depth or deeper is left to steps of depth 1 on any stack. Asks for no memory: 0 or 1. */
 uint8_t cellar_stop(struct cellar *engine, const struct cellar_stack *stack);
 
 /* The closings of the last command on this handle whose status was 0, from this place on. Before any other command, so under the lock
@@ -387,7 +330,7 @@ uint8_t cellar_event(struct cellar *engine, uint64_t place, struct cellar_event 
 uint8_t cellar_dump(struct cellar *engine, uint8_t *buffer, size_t size, uint64_t *told);
 
 /* Frees the engine if nothing is open, held or leased and no effect waits: 0, 1 or 6. To lose nothing: CELLAR_SHUT until it answers
- * CELLAR_GONE, serve all lanes, then this. */
+ * CELLAR_GONE, do what is handed out, then this. */
 uint8_t cellar_finish(struct cellar *engine);
 
 /* Frees whatever the handle keeps. It cannot fail, and does nothing where there is nothing. What waits is lost: words, values,
@@ -455,28 +398,8 @@ void cellar_live_drop(struct cellar_live *book);
 
 #ifdef CELLAR_ARMOR
 #define CELLAR_FIT(p) ((p) != NULL && (uintptr_t)(p) % 8 == 0)
-static inline uint8_t cellar_make_armored(struct cellar *engine, const struct cellar_command *command, struct cellar_answer *answer) {
-  return CELLAR_FIT(engine) && CELLAR_FIT(command) && CELLAR_FIT(answer) ? cellar_make(engine, command, answer) : (uint8_t)CELLAR_MISUSE;
-}
-static inline uint8_t cellar_take_armored(struct cellar *engine, uint64_t lane, uint64_t by, struct cellar_effect *effect, uint64_t *count) {
-  return CELLAR_FIT(engine) && CELLAR_FIT(effect) && CELLAR_FIT(count) ? cellar_take(engine, lane, by, effect, count) : (uint8_t)CELLAR_MISUSE;
-}
-static inline uint8_t cellar_make_behind_armored(struct cellar *engine, uint64_t lane, const struct cellar_command *command,
-                                             struct cellar_answer *answer) {
-  return CELLAR_FIT(engine) && CELLAR_FIT(command) && CELLAR_FIT(answer) ? cellar_make_behind(engine, lane, command, answer) : (uint8_t)CELLAR_MISUSE;
-}
-static inline uint8_t cellar_give_up_armored(struct cellar *engine, uint64_t lane, uint64_t by, const struct cellar_effect *untold,
-                                         uint64_t count, uint64_t *is_left) {
-  return CELLAR_FIT(engine) && CELLAR_FIT(untold) && CELLAR_FIT(is_left) ? cellar_give_up(engine, lane, by, untold, count, is_left) : (uint8_t)CELLAR_MISUSE;
-}
-static inline uint8_t cellar_rest_armored(struct cellar *engine, uint8_t which, uint64_t from, uint64_t *words, size_t room, uint64_t *count) {
-  return CELLAR_FIT(engine) && CELLAR_FIT(words) && CELLAR_FIT(count) ? cellar_rest(engine, which, from, words, room, count) : (uint8_t)CELLAR_MISUSE;
-}
 static inline uint8_t cellar_new_armored(struct cellar *engine, uint32_t max_events) {
   return CELLAR_FIT(engine) ? cellar_new(engine, max_events) : (uint8_t)CELLAR_MISUSE;
-}
-static inline uint8_t cellar_left_armored(struct cellar *engine, uint64_t from, uint64_t *lane, uint64_t *next) {
-  return CELLAR_FIT(engine) && CELLAR_FIT(lane) && CELLAR_FIT(next) ? cellar_left(engine, from, lane, next) : (uint8_t)CELLAR_MISUSE;
 }
 static inline uint8_t cellar_step_armored(struct cellar *engine, const struct cellar_stack *stack, const struct cellar_command *command,
                                           struct cellar_stepped *step) {
@@ -510,7 +433,6 @@ static inline void cellar_drop_armored(struct cellar *engine) {
   if (CELLAR_FIT(engine)) cellar_drop(engine);
 }
 #define cellar_new(e, m) cellar_new_armored(e, m)
-#define cellar_left(e, f, l, n) cellar_left_armored(e, f, l, n)
 #define cellar_step(e, k, c, s) cellar_step_armored(e, k, c, s)
 #define cellar_next(e, k, s) cellar_next_armored(e, k, s)
 #define cellar_pass(e, k, f, n) cellar_pass_armored(e, k, f, n)
@@ -520,11 +442,6 @@ static inline void cellar_drop_armored(struct cellar *engine) {
 #define cellar_event(e, p, v) cellar_event_armored(e, p, v)
 #define cellar_dump(e, b, s, t) cellar_dump_armored(e, b, s, t)
 #define cellar_finish(e) cellar_finish_armored(e)
-#define cellar_make(e, c, a) cellar_make_armored(e, c, a)
-#define cellar_take(e, l, b, f, n) cellar_take_armored(e, l, b, f, n)
-#define cellar_make_behind(e, l, c, a) cellar_make_behind_armored(e, l, c, a)
-#define cellar_give_up(e, l, b, f, n, i) cellar_give_up_armored(e, l, b, f, n, i)
-#define cellar_rest(e, w, f, d, r, n) cellar_rest_armored(e, w, f, d, r, n)
 #define cellar_drop(e) cellar_drop_armored(e)
 #endif
 
@@ -541,9 +458,6 @@ CELLAR_IS(offsetof(struct cellar_command, level) == 4 && offsetof(struct cellar_
 CELLAR_IS(offsetof(struct cellar_command, node) == 16 && offsetof(struct cellar_command, user) == 32, "cellar_command");
 CELLAR_IS(offsetof(struct cellar_command, value) == 40 && offsetof(struct cellar_command, by) == 48, "cellar_command");
 CELLAR_IS(sizeof(struct cellar_effect) == 32 && offsetof(struct cellar_effect, kind) == 24, "cellar_effect");
-CELLAR_IS(sizeof(struct cellar_answer) == 256, "cellar_answer");
-CELLAR_IS(offsetof(struct cellar_answer, is_connected) == 32 && offsetof(struct cellar_answer, closings) == 80, "cellar_answer");
-CELLAR_IS(offsetof(struct cellar_answer, lanes) == 144 && offsetof(struct cellar_answer, effect) == 208, "cellar_answer");
 CELLAR_IS(sizeof(struct cellar_stack) == 24, "cellar_stack");
 CELLAR_IS(sizeof(struct cellar_stepped) == 192 && offsetof(struct cellar_stepped, closings) == 64, "cellar_stepped");
 CELLAR_IS(offsetof(struct cellar_stepped, handed) == 128 && offsetof(struct cellar_stepped, effect) == 160, "cellar_stepped");

@@ -4,21 +4,12 @@ use Rattle.rx_engine.specs.States.{IsPromised}
 use Rattle.rx_cellar.specs.declared.cellar.Cellar.{Cellar}
 use Rattle.rx_turns.specs.declared.turns.Turns.{Turns}
 use Rattle.rx_turns.specs.States.{TurnState, turn_state}
-use Rattle.cellarcliff.specs.Calls.{IsCalled, calls, IsLooked, looks, cellar_in}
+use Rattle.cellarcliff.specs.Calls.{IsLooked, looks}
 use Rattle.cellarcliff.specs.Steps.{IsTurned, turns}
 
-pub called : {Says : Cellar → Cellar → ℕ → Type 0} {IsBlank : Type 0} {old new : Option Turns} {was is on : Turns} {status : ℕ}
-    → old ≡ Some was → new ≡ Some is → on ≡ was → IsPromised is.cellar.engine → Says on.cellar is.cellar status →
-    IsCalled Says IsBlank (cellar_in old) (cellar_in new) status
-called taken put same promised says = calls (ap cellar_in (taken ∙ ap (λ (k : Turns). Some k) (sym same))) (ap cellar_in put) promised says
-
-pub kept : {old new : Option Turns} {was : Turns} → old ≡ Some was → new ≡ Some was → new ≡ old
-kept taken put = put ∙ sym taken
-
 pub looked : {Says : Cellar → ℕ → Type 0} {IsBlank : Type 0} {old new : Option Turns} {was seen : Turns} {status : ℕ}
-    → old ≡ Some was → new ≡ Some was → seen ≡ was → Says seen.cellar status → IsLooked Says IsBlank (cellar_in old) (cellar_in new) status
-looked taken put same says =
-    looks (ap cellar_in (taken ∙ ap (λ (k : Turns). Some k) (sym same))) (ap cellar_in (put ∙ ap (λ (k : Turns). Some k) (sym same))) says
+    → old ≡ Some was → new ≡ Some was → seen ≡ was → Says seen.cellar status → IsLooked Says IsBlank old new status
+looked taken put same says = looks (taken ∙ ap (λ (k : Turns). Some k) (sym same)) (put ∙ ap (λ (k : Turns). Some k) (sym same)) says
 
 pub turned : {Says : TurnState → TurnState → ℕ → Type 0} {IsBlank : Type 0} {old new : Option Turns} {was is on : Turns} {status : ℕ}
     → old ≡ Some was → new ≡ Some is → on ≡ was → IsPromised is.cellar.engine → Says (turn_state on) (turn_state is) status →

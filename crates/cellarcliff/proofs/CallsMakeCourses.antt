@@ -1,269 +1,397 @@
 -- The calls on a handle that keeps an engine are a course of the engine.
-use Rattle.std.proofs.Common.{◌≡◌, ℕ, ◌++◌, ◌==◌, Bool, false, List, [], ◌∷◌, Option, Some, None, option_map, Ok, Err, refl, sym, ap, subst, ◌∙◌, if◌then◌else◌}
+use Rattle.std.proofs.Common.{◌≡◌, ℕ, ◌+◌, ◌<◌, ◌≤◌, ◌==◌, ◌⊎◌, inl, inr, min, nat_lt, Bool, true, false, List, [], ◌∷◌, ◌++◌, Option, Some, None, refl, sym, ap}
+use Rattle.std.proofs.Common.{subst, ◌∙◌, arith, if◌then◌else◌}
+use Rattle.std.proofs.Math.Bool.{not}
+use Rattle.std.proofs.lemmas.Bool.{false_from_ne_true, lt-ltb, ltb-true}
 use Rattle.std.proofs.lemmas.Option.{same_Some}
 use Rattle.rx_resource.specs.declared.Resource.{Ghosts}
 use Rattle.rx_resource.specs.declared.token.Token.{Token}
-use Rattle.rx_event.specs.declared.refusal.Refusal.{Refusal}
-use Rattle.rx_event.specs.declared.refusal.Refusal.TheVariants.{Full, Gone, WrongKind, PlaceTaken, NothingOwed, NotRoot, NoHub, HubOrder, Connected, NotConnected, NotFresh, NotHeld, HasChild, TooMany, NoLease, Leased, MailLeft, NoMemory}
-use Rattle.rx_lanes.specs.declared.names.LaneName.{LaneName}
-use Rattle.rx_lanes.specs.declared.names.Due.{Due}
-use Rattle.rx_lanes.specs.State.{lane}
-use Rattle.rx_roles.specs.declared.effect.Effect.{Effect as Sent}
-use Rattle.rx_roles.specs.declared.effect.What.{What}
-use Rattle.rx_engine.specs.States.{State, IsPromised}
-use Rattle.rx_cellar.specs.Codes.{refusal_status}
+use Rattle.rx_engine.specs.States.{IsPromised}
 use Rattle.rx_cellar.specs.declared.shapes.Command.{Command}
 use Rattle.rx_cellar.specs.declared.shapes.Answer.{Answer}
 use Rattle.rx_cellar.specs.declared.shapes.Effect.{Effect}
-use Rattle.rx_cellar.specs.declared.making.Made.{Made}
 use Rattle.rx_cellar.specs.declared.asked.Asked.{Asked}
+use Rattle.rx_cellar.specs.declared.asked.Asked.TheVariants.{Open, Subscribe, Using, Hold, Next, Complete, Error, Fail, Decline, Dispose, Connect, Disconnect}
+use Rattle.rx_cellar.specs.declared.asked.Asked.TheVariants.{Put, Shut, Abort, Apply, Remove, Lease, GiveBack}
 use Rattle.rx_cellar.specs.declared.cellar.Cellar.{Cellar}
 use Rattle.rx_cellar.specs.Asking.{asked_of}
-use Rattle.rx_cellar.specs.Behind.{IsMadeBehind, made_behind, found_one}
-use Rattle.rx_cellar.specs.Cellars.{is_due, IsAskedMade, is_done, is_refused as is_not_done}
-use Rattle.rx_cellar.specs.Cellars.{IsMadeIf, told_with}
-use Rattle.rx_cellar.specs.Crossings.{what_of, effect_of, no_answer}
-use Rattle.rx_cellar.specs.Serving.{IsTakenIf, IsTakeTold, Gives, GivesBackIf, IsGivenUpIf, IsGivenUp, effect_or, count_of, given_up_status}
-use Rattle.rx_cellar.specs.Words.{is_inside}
-use Rattle.cellarcliff.specs.Calls.{IsCalled, calls, has_none, IsLooked, looks, looks_at_none}
+use Rattle.rx_cellar.specs.Cellars.{most}
+use Rattle.rx_turns.specs.declared.agenda.Turn.{Turn}
+use Rattle.rx_turns.specs.declared.agenda.Task.{Task}
+use Rattle.rx_turns.specs.declared.turns.Turns.{Turns}
+use Rattle.rx_turns.specs.Agendas.{in_hand}
+use Rattle.rx_turns.specs.States.{TurnState, turn_state}
+use Rattle.rx_turns.specs.Courses.{Seen, handed_in, was_told, came_back, IsEngineCourse, tag_asked, tag_done, WasInHand, IsHandedOf, hands_none}
+use Rattle.rx_turns.specs.Courses.{hands_new, hands_old, IsStepCourse, AreBack, none_back, one_back, IsEndCourse}
+use Rattle.rx_turns.proofs.CallsAreCourses.{calls_are_courses}
+use Rattle.rx_turns.proofs.CoursesTold.{unchanged, and_then}
+use Rattle.cellarcliff.specs.declared.stepping.Stack.{Stack}
+use Rattle.cellarcliff.specs.declared.stepping.Stepped.{Stepped}
 use Rattle.cellarcliff.specs.Calls.{IsMade, makes, is_starved, is_held, finishes, is_untaken, is_absent}
-use Rattle.cellarcliff.specs.Courses.{Seen, was_told, came_back, tag_asked, acts_made, acts_taken, acts_behind, had_back, all_back}
-use Rattle.cellarcliff.specs.Courses.{acts_given_up, lane_of_word}
-use Rattle.cellarcliff.specs.Courses.{IsCellarCall, cellar_make, cellar_make_behind, cellar_take, cellar_give_up, cellar_left, cellar_rest, cellar_totals}
-use Rattle.cellarcliff.specs.Courses.{cellar_event, cellar_dump, cellar_new, cellar_finish, CellarCourse, no_export, exports}
-use Rattle.cellarcliff.specs.Courses.{seen_told, seen_back, IsEngineCourse, AreCallsCourses}
-use Rattle.cellarcliff.proofs.EngineCourses.{unchanged, by_take, by_giving_up, and_then}
-use Rattle.cellarcliff.proofs.CommandsMakeCourses.{told_due, tidy, tried}
+use Rattle.cellarcliff.specs.Steps.{turn_of, no_step, answer_in, made_told, handed_told, turns, turns_none, IsStepTold}
+use Rattle.cellarcliff.specs.Courses.{Shown, gave_tag, was_handed, tag_given, shown_made, shown_handed, OnTurns, IsCellarCall, cellar_step}
+use Rattle.cellarcliff.specs.Courses.{cellar_next, cellar_pass, cellar_stop, cellar_closings, cellar_totals, cellar_event, cellar_dump, cellar_new, cellar_finish}
+use Rattle.cellarcliff.specs.Courses.{CellarCourse, no_call, calls_on, tags_shown, told_from, all_tags, those_told, IsShownCourse, AreCallsCourses}
 
--- a refusal is neither done, nor answered as if the command were not made
-refusals_differ : (why : Refusal) → ((refusal_status why == 0) ≡ false) × ((refusal_status why == 6) ≡ false)
-refusals_differ NoMemory = (refl, refl)
-refusals_differ Full = (refl, refl)
-refusals_differ Gone = (refl, refl)
-refusals_differ WrongKind = (refl, refl)
-refusals_differ PlaceTaken = (refl, refl)
-refusals_differ NothingOwed = (refl, refl)
-refusals_differ NotRoot = (refl, refl)
-refusals_differ NoHub = (refl, refl)
-refusals_differ HubOrder = (refl, refl)
-refusals_differ Connected = (refl, refl)
-refusals_differ NotConnected = (refl, refl)
-refusals_differ NotFresh = (refl, refl)
-refusals_differ NotHeld = (refl, refl)
-refusals_differ HasChild = (refl, refl)
-refusals_differ TooMany = (refl, refl)
-refusals_differ NoLease = (refl, refl)
-refusals_differ Leased = (refl, refl)
-refusals_differ MailLeft = (refl, refl)
+-- lists --------------------------------------------------------------------------------------------------
 
-done_acts : (asked : Asked) (due : List Due) (made : Made) (given : Option Sent) (e : State) (a : Answer) →
-    acts_made (Some asked) 0 due (told_with (record { made = made; given = given }) e (no_answer a)) ≡ tag_asked (Some asked) ++ told_due due given
-done_acts asked due made None e a = refl
-done_acts asked due made (Some sent) e a = refl
+tags-append : (xs ys : List Seen) → all_tags (xs ++ ys) ≡ all_tags xs ++ all_tags ys
+tags-append [] ys = refl
+tags-append (handed_in tag ∷ xs) ys = ap (λ (ns : List ℕ). tag ∷ ns) (tags-append xs ys)
+tags-append (was_told lane e ∷ xs) ys = tags-append xs ys
+tags-append (came_back lane e ∷ xs) ys = tags-append xs ys
 
-refused_acts : (asked : Option Asked) (status : ℕ) (due : List Due) (a : Answer) → (status == 0) ≡ false → acts_made asked status due (no_answer a) ≡ []
-refused_acts asked status due a not_done = ap (λ (b : Bool). (if b then tag_asked asked else []) ++ []) not_done
+told-append : (xs ys : List Seen) → those_told (xs ++ ys) ≡ those_told xs ++ those_told ys
+told-append [] ys = refl
+told-append (handed_in tag ∷ xs) ys = told-append xs ys
+told-append (was_told lane e ∷ xs) ys = ap (λ (es : List Effect). e ∷ es) (told-append xs ys)
+told-append (came_back lane e ∷ xs) ys = told-append xs ys
 
-asked_made : (g : Ghosts Token) (asked : Asked) (by : ℕ) (s t : Cellar) (a b : Answer) (status : ℕ) → IsPromised s.engine →
-    IsAskedMade g asked by s t (no_answer a) b status → IsEngineCourse g s.engine t.engine (acts_made (Some asked) status t.engine.parts.lanes.due b)
-asked_made g asked by s t a b status kept (is_done o u v tidies made counts tells) =
-    let before = tidy g (is_due s) s u kept tidies in
-    subst (λ (x : State). IsEngineCourse g s.engine x (acts_made (Some asked) 0 x.parts.lanes.due b)) (sym (ap (λ (c : Cellar). c.engine) counts))
-    (subst (λ (y : Answer). IsEngineCourse g s.engine v.engine (acts_made (Some asked) 0 v.engine.parts.lanes.due y)) (sym tells)
-    (subst (λ (xs : List Seen). IsEngineCourse g s.engine v.engine xs) (sym (done_acts asked v.engine.parts.lanes.due o.made o.given v.engine a))
-    (and_then before.0 (tried g asked by u v (Ok o) before.1 made))))
-asked_made g asked by s t a b status kept (is_not_done why u tidies made same) =
-    let before = tidy g (is_due s) s u kept tidies in
-    subst (λ (y : Answer). IsEngineCourse g s.engine t.engine (acts_made (Some asked) (refusal_status why) t.engine.parts.lanes.due y)) (sym same)
-    (subst (λ (xs : List Seen). IsEngineCourse g s.engine t.engine xs)
-    (sym (refused_acts (Some asked) (refusal_status why) t.engine.parts.lanes.due a (refusals_differ why).0))
-    (and_then before.0 (tried g asked by u t (Err why) before.1 made)))
+shown_tags-append : (xs ys : List Shown) → tags_shown (xs ++ ys) ≡ tags_shown xs ++ tags_shown ys
+shown_tags-append [] ys = refl
+shown_tags-append (gave_tag tag ∷ xs) ys = ap (λ (ns : List ℕ). tag ∷ ns) (shown_tags-append xs ys)
+shown_tags-append (was_handed ticket e ∷ xs) ys = shown_tags-append xs ys
 
-made : (g : Ghosts Token) (asked : Option Asked) (by : ℕ) (s t : Cellar) (a b : Answer) (status : ℕ) → IsPromised s.engine →
-    IsMadeIf g asked by s t (no_answer a) b status → IsEngineCourse g s.engine t.engine (acts_made asked status t.engine.parts.lanes.due b)
-made g None by s t a b status kept (five, same, none) =
-    subst (λ (y : Answer). IsEngineCourse g s.engine t.engine (acts_made None status t.engine.parts.lanes.due y)) (sym none)
-    (subst (λ (xs : List Seen). IsEngineCourse g s.engine t.engine xs)
-    (sym (refused_acts None status t.engine.parts.lanes.due a (ap (λ (n : ℕ). n == 0) five)))
-    (unchanged g s.engine t.engine (ap (λ (c : Cellar). c.engine) same)))
-made g (Some asked) by s t a b status kept is = asked_made g asked by s t a b status kept is
+-- the highest ticket
+abbrev top : (last : ℕ) → List Shown → ℕ
+top last [] = last
+top last (gave_tag tag ∷ shown) = top last shown
+top last (was_handed ticket e ∷ shown) = if nat_lt last ticket then top ticket shown else top last shown
 
--- no command that is made is answered as if it were not
-asked_not_six : (g : Ghosts Token) (asked : Asked) (by : ℕ) (s t : Cellar) (a b : Answer) (status : ℕ) → IsAskedMade g asked by s t a b status →
-    (status == 6) ≡ false
-asked_not_six g asked by s t a b status (is_done o u v tidies made counts tells) = refl
-asked_not_six g asked by s t a b status (is_not_done why u tidies made same) = (refusals_differ why).1
+from-append : (last : ℕ) (xs ys : List Shown) → told_from last (xs ++ ys) ≡ told_from last xs ++ told_from (top last xs) ys
+from-append last [] ys = refl
+from-append last (gave_tag tag ∷ xs) ys = from-append last xs ys
+from-append last (was_handed ticket e ∷ xs) ys = by_test (nat_lt last ticket) (from-append ticket xs ys) (from-append last xs ys) where
+  by_test : (b : Bool) → told_from ticket (xs ++ ys) ≡ told_from ticket xs ++ told_from (top ticket xs) ys →
+      told_from last (xs ++ ys) ≡ told_from last xs ++ told_from (top last xs) ys →
+      (if b then e ∷ told_from ticket (xs ++ ys) else told_from last (xs ++ ys)) ≡
+      (if b then e ∷ told_from ticket xs else told_from last xs) ++ told_from (if b then top ticket xs else top last xs) ys
+  by_test true new old = ap (λ (es : List Effect). e ∷ es) new
+  by_test false new old = old
 
-made_not_six : (g : Ghosts Token) (asked : Option Asked) (by : ℕ) (s t : Cellar) (a b : Answer) (status : ℕ) → IsMadeIf g asked by s t a b status →
-    (status == 6) ≡ false
-made_not_six g None by s t a b status (five, same, none) = ap (λ (n : ℕ). n == 6) five
-made_not_six g (Some asked) by s t a b status is = asked_not_six g asked by s t a b status is
+top-append : (last : ℕ) (xs ys : List Shown) → top last (xs ++ ys) ≡ top (top last xs) ys
+top-append last [] ys = refl
+top-append last (gave_tag tag ∷ xs) ys = top-append last xs ys
+top-append last (was_handed ticket e ∷ xs) ys = by_test (nat_lt last ticket) (top-append ticket xs ys) (top-append last xs ys) where
+  by_test : (b : Bool) → top ticket (xs ++ ys) ≡ top (top ticket xs) ys → top last (xs ++ ys) ≡ top (top last xs) ys →
+      (if b then top ticket (xs ++ ys) else top last (xs ++ ys)) ≡ top (if b then top ticket xs else top last xs) ys
+  by_test true new old = new
+  by_test false new old = old
 
--- serving ------------------------------------------------------------------------------------------------
+-- tickets ------------------------------------------------------------------------------------------------
 
-abbrev given_acts : Option LaneName → Option Effect → List Seen
-given_acts None given = []
-given_acts (Some name) None = []
-given_acts (Some name) (Some e) = was_told name e ∷ []
+-- no ticket in hand is above the last
+abbrev Below : TurnState → Type 0
+Below s = (turn : Turn) (h : Task) → in_hand s.agenda turn ≡ Some h → h.ticket ≤ s.tickets
 
-taken : (g : Ghosts Token) (o : Option LaneName) (inside : Bool) (by : ℕ) (s t : Cellar) (given : Option Effect) → IsPromised s.engine →
-    IsTakenIf o inside by s t given → IsEngineCourse g s.engine t.engine (given_acts o given)
-taken g None inside by s t given kept (same, none) = unchanged g s.engine t.engine (ap (λ (c : Cellar). c.engine) same)
-taken g (Some name) inside by s t given kept k =
-    by_given k.given (by_take g s.engine t.engine name inside by k.given kept k.take) k.is_shown where
-      by_given : (o : Option Sent) → IsEngineCourse g s.engine t.engine (seen_told name o) → given ≡ option_map effect_of o →
-          IsEngineCourse g s.engine t.engine (given_acts (Some name) given)
-      by_given None p same = subst (λ (x : Option Effect). IsEngineCourse g s.engine t.engine (given_acts (Some name) x)) (sym same) p
-      by_given (Some sent) p same = subst (λ (x : Option Effect). IsEngineCourse g s.engine t.engine (given_acts (Some name) x)) (sym same) p
+abbrev pub handed_shown : Option Task → List Shown
+handed_shown None = []
+handed_shown (Some h) = was_handed h.ticket h.effect ∷ []
 
--- where there was one its count is 1
-counted_acts : (o : Option LaneName) (e : Effect) → acts_taken o 1 e ≡ given_acts o (Some e)
-counted_acts None e = refl
-counted_acts (Some name) e = refl
+record HandsAlike (s t : TurnState) (handed : Option Task) (told : List Seen) : Type 0 where
+  tags : all_tags told ≡ []
+  no_tags : tags_shown (handed_shown handed) ≡ []
+  grows : t.tickets < most → s.tickets ≤ t.tickets
+  told_so : t.tickets < most → Below s → those_told told ≡ told_from s.tickets (handed_shown handed)
+  top_so : t.tickets < most → Below s → top s.tickets (handed_shown handed) ≡ t.tickets
+  is_below : t.tickets < most → Below s → (h : Task) → handed ≡ Some h → h.ticket ≤ t.tickets
 
-uncounted_acts : (o : Option LaneName) (e : Effect) → acts_taken o 0 e ≡ given_acts o None
-uncounted_acts None e = refl
-uncounted_acts (Some name) e = refl
+pub next_above : (m n k l : ℕ) → k ≡ min (n + 1) m → l ≡ k → l < m → n < k
+next_above m n k l is same less = omega (arith, is, same, less)
 
-take_told : (g : Ghosts Token) (word by : ℕ) (s t : Cellar) (effect effect' : Effect) (count status : ℕ) → IsPromised s.engine →
-    IsTakeTold word by s t effect effect' count status → IsEngineCourse g s.engine t.engine (acts_taken (lane_of_word s word) count effect')
-take_told g word by s t effect effect' count status kept k =
-    by_given k.given (taken g (lane_of_word s word) (is_inside word) by s t k.given kept k.taken) k.written k.told where
-      by_given : (o : Option Effect) → IsEngineCourse g s.engine t.engine (given_acts (lane_of_word s word) o) → effect' ≡ effect_or o effect →
-          count ≡ count_of o → IsEngineCourse g s.engine t.engine (acts_taken (lane_of_word s word) count effect')
-      by_given None p written told =
-          subst (λ (n : ℕ). IsEngineCourse g s.engine t.engine (acts_taken (lane_of_word s word) n effect')) (sym told)
-          (subst (λ (xs : List Seen). IsEngineCourse g s.engine t.engine xs) (sym (uncounted_acts (lane_of_word s word) effect')) p)
-      by_given (Some e) p written told =
-          subst (λ (n : ℕ). IsEngineCourse g s.engine t.engine (acts_taken (lane_of_word s word) n effect')) (sym told)
-          (subst (λ (x : Effect). IsEngineCourse g s.engine t.engine (acts_taken (lane_of_word s word) 1 x)) (sym written)
-          (subst (λ (xs : List Seen). IsEngineCourse g s.engine t.engine xs) (sym (counted_acts (lane_of_word s word) e)) p))
+above : (n k : ℕ) → n < k → nat_lt n k ≡ true
+above n k less = lt-ltb n k less
 
-none_given : (o : Option LaneName) → given_acts o None ≡ []
-none_given None = refl
-none_given (Some name) = refl
+not_above : (n k : ℕ) → k ≤ n → nat_lt n k ≡ false
+not_above n k within = false_from_ne_true (nat_lt n k) (λ less. let so = ltb-true n k less in absurd (omega (arith, so, within)))
 
-made_or_found : (g : Ghosts Token) (word : ℕ) (c : Command) (s t : Cellar) (a b : Answer) (status : ℕ) → IsPromised s.engine →
-    IsMadeBehind g word c s t a b status →
-    IsEngineCourse g s.engine t.engine (acts_behind (lane_of_word s word) (asked_of c) status t.engine.parts.lanes.due b)
-made_or_found g word c s t a b status kept (made_behind u n none stands is) =
-    subst (λ (six : Bool). IsEngineCourse g s.engine t.engine
-    (if six then acts_taken (lane_of_word s word) b.handed b.effect else acts_made (asked_of c) n t.engine.parts.lanes.due b))
-    (sym (made_not_six g (asked_of c) c.by u t (no_answer a) b n is))
-    (and_then (subst (λ (xs : List Seen). IsEngineCourse g s.engine u.engine xs) (none_given (lane_of_word s word))
-    (taken g (lane_of_word s word) (is_inside word) c.by s u None kept none)) (made g (asked_of c) c.by u t a b n stands is))
-made_or_found g word c s t a b status kept (found_one given one only) =
-    subst (λ (y : Answer). IsEngineCourse g s.engine t.engine (acts_taken (lane_of_word s word) y.handed y.effect)) (sym only)
-    (subst (λ (xs : List Seen). IsEngineCourse g s.engine t.engine xs) (sym (counted_acts (lane_of_word s word) given))
-    (taken g (lane_of_word s word) (is_inside word) c.by s t (Some given) kept one))
+within_as : (k l n : ℕ) → k ≡ l → k ≤ n → l ≤ n
+within_as k l n same within = omega (arith, same, within)
 
-abbrev sent_back : LaneName → Option Sent → List Seen
-sent_back name None = []
-sent_back name (Some sent) = came_back name (effect_of sent) ∷ []
+on_to : (k l m n : ℕ) → k ≡ l → k ≤ m → m ≤ n → l ≤ n
+on_to k l m n same first more = omega (arith, same, first, more)
 
-gives : (g : Ghosts Token) (name : LaneName) (by : ℕ) (sent : Option Sent) (s t : Cellar) (is_left status : ℕ) → IsPromised s.engine →
-    Gives name by sent s t is_left status → IsEngineCourse g s.engine t.engine (if status == 0 then sent_back name sent else [])
-gives g name by sent s t is_left status kept k =
-    by_answer k.answer sent (by_giving_up g s.engine t.engine name by sent k.answer kept k.give) k.status_is where
-      by_answer : (o : Option Bool) (x : Option Sent) → IsEngineCourse g s.engine t.engine (seen_back name o x) → status ≡ given_up_status o →
-          IsEngineCourse g s.engine t.engine (if status == 0 then sent_back name x else [])
-      by_answer None x p is = subst (λ (n : ℕ). IsEngineCourse g s.engine t.engine (if n == 0 then sent_back name x else [])) (sym is) p
-      by_answer (Some left) None p is = subst (λ (n : ℕ). IsEngineCourse g s.engine t.engine (if n == 0 then [] else [])) (sym is) p
-      by_answer (Some left) (Some e) p is =
-          subst (λ (n : ℕ). IsEngineCourse g s.engine t.engine (if n == 0 then came_back name (effect_of e) ∷ [] else [])) (sym is) p
+at_last : (k l n : ℕ) → n ≡ k → k ≡ l → l ≤ n
+at_last k l n is same = omega (arith, is, same)
 
--- nothing was given up
-not_given_up : (g : Ghosts Token) (s t : Cellar) (status : ℕ) (acts : List Seen) → t ≡ s → (status == 0) ≡ false →
-    IsEngineCourse g s.engine t.engine (if status == 0 then acts else [])
-not_given_up g s t status acts same not_done =
-    subst (λ (b : Bool). IsEngineCourse g s.engine t.engine (if b then acts else [])) (sym not_done)
-    (unchanged g s.engine t.engine (ap (λ (c : Cellar). c.engine) same))
+same_number : (n m : ℕ) → n ≡ m → m ≤ n
+same_number n m same = omega (arith, same)
 
-none_back : (g : Ghosts Token) (o : Option LaneName) (by : ℕ) (s t : Cellar) (is_left status : ℕ) → IsPromised s.engine →
-    GivesBackIf o by None s t is_left status → IsEngineCourse g s.engine t.engine (acts_given_up o status [])
-none_back g None by s t is_left status kept (same, zero, is) = not_given_up g s t status [] same (ap (λ (n : ℕ). n == 0) is)
-none_back g (Some name) by s t is_left status kept k = gives g name by None s t is_left status kept k
+alike_handed : (s t : TurnState) (handed : Option Task) (told : List Seen) → IsHandedOf s t handed told → HandsAlike s t handed told
+alike_handed s t _ _ (hands_none same) = record {
+  tags = refl;
+  no_tags = refl;
+  grows = λ less. same_number t.tickets s.tickets same;
+  told_so = λ less below. refl;
+  top_so = λ less below. sym same;
+  is_below = λ less below h is. absurd (cc);
+}
+alike_handed s t _ _ (hands_new lane h next now_is) = record {
+  tags = refl;
+  no_tags = refl;
+  grows = λ less. let so = next_above most s.tickets h.ticket t.tickets next now_is less in omega (arith, so, now_is);
+  told_so = λ less below.
+      sym (ap (λ (b : Bool). if b then h.effect ∷ [] else []) (above s.tickets h.ticket (next_above most s.tickets h.ticket t.tickets next now_is less)));
+  top_so = λ less below.
+      ap (λ (b : Bool). if b then h.ticket else s.tickets) (above s.tickets h.ticket (next_above most s.tickets h.ticket t.tickets next now_is less))
+      ∙ sym now_is;
+  is_below = λ less below k is. at_last h.ticket k.ticket t.tickets now_is (ap (λ (x : Task). x.ticket) (same_Some h k is));
+}
+alike_handed s t _ _ (hands_old turn h held unbegun same) = record {
+  tags = refl;
+  no_tags = refl;
+  grows = λ less. same_number t.tickets s.tickets same;
+  told_so = λ less below. sym (ap (λ (b : Bool). if b then h.effect ∷ [] else []) (not_above s.tickets h.ticket (below turn h held)));
+  top_so = λ less below. ap (λ (b : Bool). if b then h.ticket else s.tickets) (not_above s.tickets h.ticket (below turn h held)) ∙ sym same;
+  is_below = λ less below k is.
+      on_to h.ticket k.ticket s.tickets t.tickets (ap (λ (x : Task). x.ticket) (same_Some h k is)) (below turn h held) (same_number t.tickets s.tickets same);
+}
 
-abbrev inner : LaneName → Effect → What → Sent
-inner name e what = record { lane = name; user = e.user; value = e.value; by = e.by; what = what }
+still_below : (s t : TurnState) (handed : Option Task) → s.tickets ≤ t.tickets → Below s → ((h : Task) → handed ≡ Some h → h.ticket ≤ t.tickets) →
+    (turn : Turn) (h : Task) → WasInHand s turn h ⊎ (handed ≡ Some h) → h.ticket ≤ t.tickets
+still_below s t handed grows below last turn h (inl was) =
+    on_to was.before.ticket h.ticket s.tickets t.tickets was.ticket (below turn was.before was.was) grows
+still_below s t handed grows below last turn h (inr is) = last h is
 
-one_back : (g : Ghosts Token) (o : Option LaneName) (by : ℕ) (e : Effect) (what : What) (s t : Cellar) (is_left status : ℕ) → IsPromised s.engine →
-    what_of e.kind ≡ Some what → GivesBackIf o by (Some e) s t is_left status → IsEngineCourse g s.engine t.engine (acts_given_up o status (e ∷ []))
-one_back g None by e what s t is_left status kept kind (same, zero, is) = not_given_up g s t status [] same (ap (λ (n : ℕ). n == 0) is)
-one_back g (Some name) by e what s t is_left status kept kind k =
-    subst (λ (w : Option What). IsEngineCourse g s.engine t.engine (if status == 0 then had_back name e w ++ [] else [])) (sym kind)
-    (gives g name by (Some (inner name e what)) s t is_left status kept
-    (subst (λ (x : Option Sent). Gives name by x s t is_left status) (ap (option_map (inner name e)) kind) k))
+-- one call after another ---------------------------------------------------------------------------------
 
-given_up : (g : Ghosts Token) (word by : ℕ) (untold : List Effect) (s t : Cellar) (is_left status : ℕ) → IsPromised s.engine →
-    IsGivenUp word by untold s t is_left status → IsEngineCourse g s.engine t.engine (acts_given_up (lane_of_word s word) status untold)
-given_up g word by [] s t is_left status kept is = none_back g (lane_of_word s word) by s t is_left status kept is
-given_up g word by (e ∷ []) s t is_left status kept is = by_kind (what_of e.kind) refl is where
-  by_kind : (w : Option What) → what_of e.kind ≡ w → IsGivenUpIf (option_map (λ (_ : What). Some e) w) word by s t is_left status →
-      IsEngineCourse g s.engine t.engine (acts_given_up (lane_of_word s word) status (e ∷ []))
-  by_kind None kind (same, zero, five) = not_given_up g s t status (all_back (lane_of_word s word) (e ∷ [])) same (ap (λ (n : ℕ). n == 0) five)
-  by_kind (Some what) kind k = one_back g (lane_of_word s word) by e what s t is_left status kept kind k
-given_up g word by (e ∷ (f ∷ es)) s t is_left status kept (same, zero, five) =
-    not_given_up g s t status (all_back (lane_of_word s word) (e ∷ (f ∷ es))) same (ap (λ (n : ℕ). n == 0) five)
+pub record CallGoes (g : Ghosts Token) (s t : Turns) (shown : List Shown) : Type 0 where
+  pub seen : List Seen
+  pub course : IsEngineCourse g s.cellar.engine t.cellar.engine seen
+  pub promised : IsPromised t.cellar.engine
+  tags : all_tags seen ≡ tags_shown shown
+  grows : t.tickets < most → s.tickets ≤ t.tickets
+  told : t.tickets < most → Below (turn_state s) → those_told seen ≡ told_from s.tickets shown
+  top_is : t.tickets < most → Below (turn_state s) → top s.tickets shown ≡ t.tickets
+  below : t.tickets < most → Below (turn_state s) → Below (turn_state t)
+
+fewer : (n k m : ℕ) → n ≤ k → k < m → n < m
+fewer n k m within less = omega (arith, within, less)
+
+through : (n k m : ℕ) → n ≤ k → k ≤ m → n ≤ m
+through n k m first more = omega (arith, first, more)
+
+goes_then : {g : Ghosts Token} {s t u : Turns} {xs ys : List Shown} → CallGoes g s t xs → CallGoes g t u ys → CallGoes g s u (xs ++ ys)
+goes_then {s = s} {t = t} {u = u} {xs = xs} {ys = ys} p q =
+    let less_so = λ (less : u.tickets < most). fewer t.tickets u.tickets most (q.grows less) less in
+    record {
+      seen = p.seen ++ q.seen;
+      course = and_then p.course q.course;
+      promised = q.promised;
+      tags = tags-append p.seen q.seen ∙ (λ i. p.tags i ++ q.tags i) ∙ sym (shown_tags-append xs ys);
+      grows = λ less. through s.tickets t.tickets u.tickets (p.grows (less_so less)) (q.grows less);
+      told = λ less below.
+          told-append p.seen q.seen
+          ∙ (λ i. p.told (less_so less) below i ++ q.told less (p.below (less_so less) below) i)
+          ∙ (λ i. told_from s.tickets xs ++ told_from ((sym (p.top_is (less_so less) below)) i) ys)
+          ∙ sym (from-append s.tickets xs ys);
+      top_is = λ less below.
+          top-append s.tickets xs ys ∙ ap (λ (n : ℕ). top n ys) (p.top_is (less_so less) below) ∙ q.top_is less (p.below (less_so less) below);
+      below = λ less below. q.below less (p.below (less_so less) below);
+    }
+
+nothing_goes : (g : Ghosts Token) (s : Turns) → IsPromised s.cellar.engine → CallGoes g s s []
+nothing_goes g s kept = record {
+  seen = [];
+  course = unchanged g s.cellar.engine s.cellar.engine refl;
+  promised = kept;
+  tags = refl;
+  grows = λ less. same_number s.tickets s.tickets refl;
+  told = λ less below. refl;
+  top_is = λ less below. refl;
+  below = λ less below. below;
+}
+
+-- a call that looks, and one that is refused
+pub same_turns : {Says : Cellar → ℕ → Type 0} {IsBlank : Type 0} (s t : Turns) (status : ℕ) → IsLooked Says IsBlank (Some s) (Some t) status → Some t ≡ Some s
+same_turns s t status (looks was is says) = is ∙ sym was
+same_turns s t status (looks_at_none was is blank done) = absurd (cc)
+
+pub not_made : (max_events : ℕ) (s t : Turns) (status : ℕ) → IsMade max_events (Some s) (Some t) status → Some t ≡ Some s
+not_made max_events s t status (makes was is new stands done) = absurd (cc)
+not_made max_events s t status (is_starved was is done) = absurd (cc)
+not_made max_events s t status (is_held was same done) = same
+
+pub not_finished : (s t : Turns) (status : ℕ) → IsFinished (Some s) (Some t) status → Some t ≡ Some s
+not_finished s t status (finishes was is over done) = absurd (cc)
+not_finished s t status (is_untaken was same over done) = same
+not_finished s t status (is_absent was is done) = absurd (cc)
+
+stays : (g : Ghosts Token) (s t : Turns) → IsPromised s.cellar.engine → Some t ≡ Some s → CallGoes g s t []
+stays g s t kept same = subst (λ (x : Turns). CallGoes g s x []) (sym (same_Some t s same)) (nothing_goes g s kept)
+
+-- steps --------------------------------------------------------------------------------------------------
+
+-- what is seen of a command's tag, and what its caller sees
+record TagsAlike (seen : List Seen) (shown : List Shown) : Type 0 where
+  tags : all_tags seen ≡ tags_shown shown
+  told : those_told seen ≡ []
+  from : (n : ℕ) → told_from n shown ≡ []
+  same_top : (n : ℕ) → top n shown ≡ n
+
+no_tag : TagsAlike [] []
+no_tag = record { tags = refl; told = refl; from = λ n. refl; same_top = λ n. refl }
+
+one_tag : (tag : ℕ) → TagsAlike (handed_in tag ∷ []) (gave_tag tag ∷ [])
+one_tag tag = record { tags = refl; told = refl; from = λ n. refl; same_top = λ n. refl }
+
+asked_alike : (asked : Option Asked) → TagsAlike (tag_asked asked) (tag_given asked)
+asked_alike None = no_tag
+asked_alike (Some (Open at kind user)) = no_tag
+asked_alike (Some (Subscribe at share hint user)) = no_tag
+asked_alike (Some (Using at user tag)) = one_tag tag
+asked_alike (Some (Hold node tag)) = one_tag tag
+asked_alike (Some (Next leaf value may_hand)) = no_tag
+asked_alike (Some (Complete leaf)) = no_tag
+asked_alike (Some (Error leaf value)) = no_tag
+asked_alike (Some (Fail merging value)) = no_tag
+asked_alike (Some (Decline merging)) = no_tag
+asked_alike (Some (Dispose root)) = no_tag
+asked_alike (Some (Connect share hint user)) = no_tag
+asked_alike (Some (Disconnect word hint)) = no_tag
+asked_alike (Some (Put to user value)) = no_tag
+asked_alike (Some Shut) = no_tag
+asked_alike (Some (Abort node value)) = no_tag
+asked_alike (Some (Apply res)) = no_tag
+asked_alike (Some (Remove res)) = no_tag
+asked_alike (Some (Lease res)) = no_tag
+asked_alike (Some (GiveBack lease)) = no_tag
+
+made_alike : (done : Bool) (asked : Option Asked) → TagsAlike (if done then tag_asked asked else []) (if done then tag_given asked else [])
+made_alike true asked = asked_alike asked
+made_alike false asked = no_tag
+
+pub shown_as : (handed : Option Task) (is_own : Bool) (made : Answer) (a : Stepped) →
+    shown_handed (handed_told handed is_own (made_told made (no_step a))) ≡ handed_shown handed
+shown_as None is_own made a = refl
+shown_as (Some h) is_own made a = refl
+
+step_goes : (g : Ghosts Token) (s t : Turns) (handed : Option Task) (acts : List Seen) (tags : List Shown) → TagsAlike acts tags → IsPromised t.cellar.engine →
+    IsStepCourse g acts (turn_state s) (turn_state t) handed → CallGoes g s t (tags ++ handed_shown handed)
+step_goes g s t handed acts tags alike kept k =
+    let hands = alike_handed (turn_state s) (turn_state t) handed k.told k.handed_so in
+    record {
+      seen = acts ++ k.told;
+      course = k.course;
+      promised = kept;
+      tags = tags-append acts k.told ∙ (λ i. alike.tags i ++ (hands.tags ∙ sym hands.no_tags) i) ∙ sym (shown_tags-append tags (handed_shown handed));
+      grows = hands.grows;
+      told = λ less below.
+          told-append acts k.told ∙ (λ i. alike.told i ++ hands.told_so less below i)
+          ∙ (λ i. (sym (alike.from s.tickets)) i ++ told_from ((sym (alike.same_top s.tickets)) i) (handed_shown handed))
+          ∙ sym (from-append s.tickets tags (handed_shown handed));
+      top_is = λ less below.
+          top-append s.tickets tags (handed_shown handed) ∙ ap (λ (n : ℕ). top n (handed_shown handed)) (alike.same_top s.tickets) ∙ hands.top_so less below;
+      below = λ less below turn h held.
+          still_below (turn_state s) (turn_state t) handed (hands.grows less) below (hands.is_below less below) turn h (k.hands turn h held);
+    }
+
+step_course : (g : Ghosts Token) (stack : Stack) (c : Option Command) (s t : Turns) (a b : Stepped) (status : ℕ) (tags : List Shown) →
+    TagsAlike (tag_done c status) tags → IsPromised t.cellar.engine → IsStepTold g stack c (turn_state s) (turn_state t) a b status →
+    CallGoes g s t (tags ++ shown_handed b)
+step_course g stack c s t a b status tags alike kept k =
+    let went = (calls_are_courses g).steps (turn_of stack) stack.begun c (turn_state s) (turn_state t) (answer_in a) k.made k.step k.steps in
+    let shown_so = ap shown_handed k.told ∙ shown_as k.step.handed k.step.is_own k.made a in
+    subst (λ (xs : List Shown). CallGoes g s t (tags ++ xs)) (sym shown_so)
+    (step_goes g s t k.step.handed (tag_done c status) tags alike kept
+    (subst (λ (n : ℕ). IsStepCourse g (tag_done c n) (turn_state s) (turn_state t) k.step.handed) (sym k.status_is) went))
+
+-- calls that end -----------------------------------------------------------------------------------------
+
+back_tags : (s : TurnState) (acts : List Seen) → AreBack s acts → all_tags acts ≡ []
+back_tags s _ none_back = refl
+back_tags s _ (one_back lane turn h what acts held unbegun kind rest) = back_tags s acts rest
+
+back_told : (s : TurnState) (acts : List Seen) → AreBack s acts → those_told acts ≡ []
+back_told s _ none_back = refl
+back_told s _ (one_back lane turn h what acts held unbegun kind rest) = back_told s acts rest
+
+end_goes : (g : Ghosts Token) (s t : Turns) → IsPromised t.cellar.engine → IsEndCourse g (turn_state s) (turn_state t) → CallGoes g s t []
+end_goes g s t kept k = record {
+  seen = k.back;
+  course = k.course;
+  promised = kept;
+  tags = back_tags (turn_state s) k.back k.back_so;
+  grows = λ less. same_number t.tickets s.tickets k.tickets;
+  told = λ less below. back_told (turn_state s) k.back k.back_so;
+  top_is = λ less below. sym k.tickets;
+  below = λ less below turn h held.
+      still_below (turn_state s) (turn_state t) None (same_number t.tickets s.tickets k.tickets) below (λ other none. absurd (cc)) turn h (k.hands turn h held);
+}
 
 -- exports ------------------------------------------------------------------------------------------------
 
--- what a call said of the engine that the handle keeps
-said : {Says : Cellar → Cellar → ℕ → Type 0} {IsBlank : Type 0} (s t : Cellar) (status : ℕ) → IsCalled Says IsBlank (Some s) (Some t) status →
-    Says s t status × IsPromised t.engine
-said {Says} s t status (calls {s = a} {t = b} was is kept says) =
+-- what a call said of what the handle keeps
+pub said : {Says : TurnState → TurnState → ℕ → Type 0} {IsBlank : Type 0} (s t : Turns) (status : ℕ) → OnTurns Says IsBlank s t status →
+    Says (turn_state s) (turn_state t) status × IsPromised t.cellar.engine
+said {Says} s t status (turns {s = a} {t = b} was is kept says) =
     let from : s ≡ a = same_Some s a was in
     let to : t ≡ b = same_Some t b is in (
-      subst (λ (x : Cellar). Says x t status) (sym from) (subst (λ (y : Cellar). Says a y status) (sym to) says),
-      subst (λ (x : Cellar). IsPromised x.engine) (sym to) kept,
+      subst (λ (x : Turns). Says (turn_state x) (turn_state t) status) (sym from)
+          (subst (λ (y : Turns). Says (turn_state a) (turn_state y) status) (sym to) says),
+      subst (λ (x : Turns). IsPromised x.cellar.engine) (sym to) kept,
     )
-said s t status (has_none was is blank done) = absurd (cc)
+said s t status (turns_none was is blank done) = absurd (cc)
 
-abbrev Goes : Ghosts Token → Cellar → Cellar → List Seen → Type 0
-Goes g s t acts = IsEngineCourse g s.engine t.engine acts × IsPromised t.engine
-
-stays : (g : Ghosts Token) (s t : Cellar) → IsPromised s.engine → t ≡ s → Goes g s t []
-stays g s t kept same =
-    (unchanged g s.engine t.engine (ap (λ (c : Cellar). c.engine) same), subst (λ (x : Cellar). IsPromised x.engine) (sym same) kept)
-
-looked : {Says : Cellar → ℕ → Type 0} {IsBlank : Type 0} (g : Ghosts Token) (s t : Cellar) (status : ℕ) → IsPromised s.engine →
-    IsLooked Says IsBlank (Some s) (Some t) status → Goes g s t []
-looked g s t status kept (looks {s = a} was is says) = stays g s t kept (same_Some t a is ∙ sym (same_Some s a was))
-looked g s t status kept (looks_at_none was is blank done) = absurd (cc)
-
-by_call : {g : Ghosts Token} {s t : Cellar} {acts : List Seen} → IsPromised s.engine → IsCellarCall g s acts t → Goes g s t acts
-by_call {g} {s} {t} kept (cellar_make {status = status} command a b c) =
-    let p = said s t status c in (made g (asked_of command) command.by s t a b status kept p.0, p.1)
-by_call {g} {s} {t} kept (cellar_make_behind {status = status} lane command a b c) =
-    let p = said s t status c in (made_or_found g lane command s t a b status kept p.0, p.1)
-by_call {g} {s} {t} kept (cellar_take {effect = e} {effect' = f} {count = count} {status = status} lane by c) =
-    let p = said s t status c in (take_told g lane by s t e f count status kept p.0, p.1)
-by_call {g} {s} {t} kept (cellar_give_up {is_left = is_left} {status = status} lane by untold c) =
-    let p = said s t status c in (given_up g lane by untold s t is_left status kept p.0, p.1)
-by_call {g} {s} {t} kept (cellar_left {status = status} from c) = looked g s t status kept c
-by_call {g} {s} {t} kept (cellar_rest {status = status} which from c) = looked g s t status kept c
-by_call {g} {s} {t} kept (cellar_totals {status = status} c) = looked g s t status kept c
-by_call {g} {s} {t} kept (cellar_event {status = status} place c) = looked g s t status kept c
-by_call {g} {s} {t} kept (cellar_dump {status = status} c) = looked g s t status kept c
-by_call {g} {s} {t} kept (cellar_new max_events (makes was is new stands done)) = absurd (cc)
-by_call {g} {s} {t} kept (cellar_new max_events (is_starved was is done)) = absurd (cc)
-by_call {g} {s} {t} kept (cellar_new max_events (is_held was same done)) = stays g s t kept (same_Some t s same)
-by_call {g} {s} {t} kept (cellar_finish (finishes was is over done)) = absurd (cc)
-by_call {g} {s} {t} kept (cellar_finish (is_untaken was same over done)) = stays g s t kept (same_Some t s same)
-by_call {g} {s} {t} kept (cellar_finish (is_absent was is done)) = absurd (cc)
+by_call : {g : Ghosts Token} {s t : Turns} {shown : List Shown} → IsPromised s.cellar.engine → IsCellarCall g s shown t → CallGoes g s t shown
+by_call {g} {s} {t} kept (cellar_step {status = status} stack command a b c) =
+    let p = said s t status c in
+    step_course g stack (Some command) s t a b status (shown_made (asked_of command) status) (made_alike (status == 0) (asked_of command)) p.1 p.0
+by_call {g} {s} {t} kept (cellar_next {status = status} stack a b c) =
+    let p = said s t status c in step_course g stack None s t a b status [] no_tag p.1 p.0
+by_call {g} {s} {t} kept (cellar_pass {status = status} stack from now_code c) =
+    let p = said s t status c in
+    end_goes g s t p.1 ((calls_are_courses g).passes (turn_of stack) stack.begun from (not (now_code == 0)) (turn_state s) (turn_state t) p.0.0)
+by_call {g} {s} {t} kept (cellar_stop {status = status} stack c) =
+    let p = said s t status c in end_goes g s t p.1 ((calls_are_courses g).stops (turn_of stack) stack.begun (turn_state s) (turn_state t) p.0.0)
+by_call {g} {s} {t} kept (cellar_closings {status = status} from c) = stays g s t kept (same_turns s t status c)
+by_call {g} {s} {t} kept (cellar_totals {status = status} c) = stays g s t kept (same_turns s t status c)
+by_call {g} {s} {t} kept (cellar_event {status = status} place c) = stays g s t kept (same_turns s t status c)
+by_call {g} {s} {t} kept (cellar_dump {status = status} c) = stays g s t kept (same_turns s t status c)
+by_call {g} {s} {t} kept (cellar_new {status = status} max_events c) = stays g s t kept (not_made max_events s t status c)
+by_call {g} {s} {t} kept (cellar_finish {status = status} c) = stays g s t kept (not_finished s t status c)
 
 -- calls, one after another
-pub by_calls : {g : Ghosts Token} {s t : Cellar} {acts : List Seen} → IsPromised s.engine → CellarCourse g s acts t → Goes g s t acts
-by_calls {g} {s} kept no_export = stays g s s kept refl
-by_calls kept (exports before export) =
+pub by_calls : {g : Ghosts Token} {s t : Turns} {shown : List Shown} → IsPromised s.cellar.engine → CellarCourse g s shown t → CallGoes g s t shown
+by_calls {g} {s} kept no_call = nothing_goes g s kept
+by_calls kept (calls_on before call) =
     let p = by_calls kept before in
-    let q = by_call p.1 export in
-    (and_then p.0 q.0, q.1)
+    goes_then p (by_call p.promised call)
 
-pub promised_new : (max_events made : ℕ) (first : Cellar) → IsMade max_events None (Some first) made → IsPromised first.engine
-promised_new max_events made first (makes {s = s} was is new stands done) = subst (λ (x : Cellar). IsPromised x.engine) (sym (same_Some first s is)) stands
-promised_new max_events made first (is_starved was is done) = absurd (cc)
-promised_new max_events made first (is_held was is done) = absurd (cc)
+-- from the beginning -------------------------------------------------------------------------------------
 
-pub calls_are_courses : (g : Ghosts Token) → AreCallsCourses g
-calls_are_courses g max_events made first last acts making course = (by_calls (promised_new max_events made first making) course).0
+pub record BeginsSo (max_events : ℕ) (first : Turns) : Type 0 where
+  pub promised : IsPromised first.cellar.engine
+  pub new : IsNew max_events first
+
+pub begins_so : (max_events made : ℕ) (first : Turns) → IsMade max_events None (Some first) made → BeginsSo max_events first
+begins_so max_events made first (makes {s = s} was is fresh stands done) =
+    subst (λ (x : Turns). BeginsSo max_events x) (sym (same_Some first s is)) (record { promised = stands; new = fresh })
+begins_so max_events made first (is_starved was is done) = absurd (cc)
+begins_so max_events made first (is_held was is done) = absurd (cc)
+
+none_held : (max_events : ℕ) (first : Turns) → IsNew max_events first → Below (turn_state first)
+none_held max_events first new turn h held = let both : None ≡ Some h = sym (new.nothing turn).1 ∙ held in absurd (cc)
+
+-- with the engine's promise at the end
+pub record ShowsCourse (g : Ghosts Token) (first last : Turns) (shown : List Shown) : Type 0 where
+  pub is_shown : IsShownCourse g first.cellar.engine last.cellar.engine shown
+  pub promised : IsPromised last.cellar.engine
+
+pub shows_course : (g : Ghosts Token) (max_events made : ℕ) (first last : Turns) (shown : List Shown) → IsMade max_events None (Some first) made →
+    CellarCourse g first shown last → last.tickets < most → ShowsCourse g first last shown
+shows_course g max_events made first last shown new course less =
+    let begins = begins_so max_events made first new in
+    let goes = by_calls begins.promised course in
+    record {
+      is_shown = record {
+        seen = goes.seen;
+        is_course = goes.course;
+        tags = goes.tags;
+        told = goes.told less (none_held max_events first begins.new) ∙ ap (λ (n : ℕ). told_from n shown) begins.new.tickets;
+      };
+      promised = goes.promised;
+    }
+
+pub all_calls_are_courses : (g : Ghosts Token) → AreCallsCourses g
+all_calls_are_courses g max_events made first last shown new course less = (shows_course g max_events made first last shown new course less).is_shown

@@ -5,19 +5,14 @@ pub mod OwnedMayBeSent
 pub mod StockIsFresh
 mod AnswersHandedOut
 mod CallsMakeCourses
-mod CommandsMakeCourses
 pub mod Common
 mod CountsOverLanes
-mod EngineCourses
+mod EffectsToldOnce
 mod HeldToTheEnd
 mod NothingLeftToTell
+mod OwnTickets
 mod RefusalsChangeNothing
-mod ReleasesTold
 mod ToldInOrder
 pub mod Turned
 pub mod Values
-mod TurnsMakeCourses
-mod TurnsToldOnce
-mod TurnsOwnTickets
-mod TurnsKeepOrder
 mod WhatWaits

@@ -1,6 +1,5 @@
 -- A command that is refused leaves all as it was, but for room, a checkpoint and hubs.
 use Rattle.std.proofs.Common.{◌≡◌, ◌≢◌, ℕ, Bool, true, false, Option, Some, None, Result, Ok, Err, refl, sym, ap, subst, ◌∙◌}
-use Rattle.std.proofs.lemmas.Option.{same_Some}
 use Rattle.rx_resource.specs.declared.Resource.{Ghosts}
 use Rattle.rx_resource.specs.declared.token.Token.{Token}
 use Rattle.rx_event.specs.declared.refusal.Refusal.{Refusal}
@@ -13,13 +12,10 @@ use Rattle.rx_cellar.specs.declared.asked.Asked.{Asked}
 use Rattle.rx_cellar.specs.declared.asked.Asked.TheVariants.{Open, Subscribe, Using, Hold, Next, Complete, Error, Fail, Decline, Dispose, Connect, Disconnect}
 use Rattle.rx_cellar.specs.declared.asked.Asked.TheVariants.{Put, Shut, Abort, Apply, Remove, Lease, GiveBack}
 use Rattle.rx_cellar.specs.declared.cellar.Cellar.{Cellar}
-use Rattle.rx_cellar.specs.Asking.{asked_of}
 use Rattle.rx_cellar.specs.Cellars.{Tidies, IsTidyIf, is_due, IsTried, at_once, once_more, IsTriedAgain, behind_one, behind_none, IsAskedMade, is_done, is_refused}
 use Rattle.rx_cellar.specs.Cellars.{IsMadeIf}
-use Rattle.rx_cellar.specs.Crossings.{no_answer}
 use Rattle.rx_cellar.specs.Makings.{shown, Shows, WithHubs, found_one, made_none, made_all, IsPerformed, Outcome, ComesTo}
-use Rattle.cellarcliff.specs.Calls.{calls, has_none}
-use Rattle.cellarcliff.specs.Refusals.{KeepsAllElse, is_as_before, got_room, made_checkpoint, made_hubs, IsRefusedCall, RefusedCallsChangeNothing}
+use Rattle.cellarcliff.specs.Refusals.{KeepsAllElse, is_as_before, got_room, made_checkpoint, made_hubs}
 
 -- one after another --------------------------------------------------------------------------------------
 
@@ -143,12 +139,3 @@ pub call_refused : (g : Ghosts Token) (asked : Option Asked) (by : ℕ) (s t : C
     Leaves g s t × (b ≡ a)
 call_refused g None by s t a b status (five, same, none) not_done = (tidy g false s t same, none)
 call_refused g (Some asked) by s t a b status is not_done = asked_refused g asked by s t a b status is not_done
-
-pub refused_calls_change_nothing : (g : Ghosts Token) → RefusedCallsChangeNothing g
-refused_calls_change_nothing g command a b s t status (calls {s = s'} {t = t'} was is kept says) not_done =
-    let made = call_refused g (asked_of command) command.by s' t' (no_answer a) b status says not_done in
-    let seen : IsRefusedCall g s' t' a b =
-    record { nothing_told = made.1; engine = made.0.engine; released = made.0.released } in
-    subst (λ (x : Cellar). IsRefusedCall g x t a b) (sym (same_Some s s' was))
-    (subst (λ (x : Cellar). IsRefusedCall g s' x a b) (sym (same_Some t t' is)) seen)
-refused_calls_change_nothing g command a b s t status (has_none was is blank done) not_done = absurd (cc)

@@ -1,120 +1,143 @@
--- What a caller is told of a lane, in order, is what the engine's course tells there; so what holds of courses holds of the calls.
-use Rattle.std.proofs.Common.{◌≡◌, ◌&&◌, Bool, true, false, List, [], ◌∷◌, ◌++◌, map, Option, Some, None, is_some, refl, sym, ap, ◌∙◌, append-nil, arith, if◌then◌else◌}
-use Rattle.std.specs.Option.{option_to_list}
+-- What holds of courses of the engine holds of the calls; and what a step leaves.
+use Rattle.std.proofs.Common.{◌≡◌, ◌≢◌, ℕ, ◌==◌, Bool, true, false, List, Option, Some, None, refl, sym, ap, ◌∙◌, subst, arith}
+use Rattle.std.proofs.lemmas.Bool.{false≢true, false_from_ne_true, eqb-true}
 use Rattle.rx_resource.specs.declared.Resource.{Ghosts}
 use Rattle.rx_resource.specs.declared.token.Token.{Token}
-use Rattle.rx_lanes.specs.declared.names.LaneName.{LaneName}
-use Rattle.rx_lanes.specs.Courses.{is_name, all_but_last}
-use Rattle.rx_roles.specs.declared.effect.Effect.{Effect as Sent}
-use Rattle.rx_engine.specs.States.{State}
-use Rattle.rx_courses.specs.Courses.{IsCommand, is_refused, has_done, has_held, has_used, has_opened, has_put, has_subscribed, has_connected, has_made_hubs, has_checkpointed}
-use Rattle.rx_courses.specs.Courses.{Course, begins, commands, takes, gives_up}
 use Rattle.rx_courses.specs.RootsTold.{TellsEachRoot}
 use Rattle.rx_courses.specs.Serving.{NothingIsStuck, ServesOneAtATime}
-use Rattle.rx_courses.specs.Tellings.{told_there, TellsInOrder as CoursesTellInOrder}
-use Rattle.rx_cellar.specs.declared.shapes.Effect.{Effect}
-use Rattle.rx_cellar.specs.Crossings.{effect_of}
-use Rattle.cellarcliff.specs.Courses.{Seen, handed_in, was_told, came_back, seen_tag, seen_told, seen_back, seen_of, IsEngineCourse}
-use Rattle.cellarcliff.specs.LanesServed.{told_on, IsToldCourse, AreEffectsToldInOrder, AreRootsTold, AreLanesServedOneByOne}
-use Rattle.cellarcliff.proofs.CallsMakeCourses.{by_calls, promised_new}
-use Rattle.cellarcliff.proofs.ReleasesTold.{fresh, no_roles}
+use Rattle.rx_courses.specs.Tellings.{TellsInOrder}
+use Rattle.rx_cellar.specs.declared.shapes.Command.{Command}
+use Rattle.rx_cellar.specs.declared.shapes.Answer.{Answer}
+use Rattle.rx_cellar.specs.declared.cellar.Cellar.{Cellar}
+use Rattle.rx_cellar.specs.Asking.{asked_of}
+use Rattle.rx_cellar.specs.Crossings.{no_answer}
+use Rattle.rx_turns.specs.declared.agenda.Turn.{Turn}
+use Rattle.rx_turns.specs.declared.agenda.Task.{Task}
+use Rattle.rx_turns.specs.Agendas.{has_nothing}
+use Rattle.rx_turns.specs.States.{TurnState, turn_state}
+use Rattle.rx_turns.specs.Making.{words_due, made_for, ComesIf, IsMadeBy, MakesIn, is_made, is_made_bare, finds_no_line}
+use Rattle.rx_turns.specs.Calls.{TurnGoesOn}
+use Rattle.rx_turns.specs.Promises.{NothingIsLeft, NothingIsAstray}
+use Rattle.cellarcliff.specs.declared.stepping.Stepped.{Stepped}
+use Rattle.cellarcliff.specs.Refusals.{KeepsAllElse, is_as_before}
+use Rattle.cellarcliff.specs.Steps.{turn_of, no_step, answer_in, made_told, handed_told}
+use Rattle.cellarcliff.specs.LanesServed.{AreEffectsToldInOrder, AreRootsTold, AreLanesServedOneByOne, HasAllDone, StepsLeaveNothing}
+use Rattle.cellarcliff.specs.LanesServed.{RefusedCallsChangeNothing}
+use Rattle.cellarcliff.proofs.RefusalsChangeNothing.{call_refused}
+use Rattle.cellarcliff.proofs.CallsMakeCourses.{said, by_calls, begins_so, shows_course}
+use Rattle.cellarcliff.proofs.EffectsToldOnce.{no_roles}
 
-told-append : (lane : LaneName) (es : List Effect) (xs ys : List Seen) → told_on lane es (xs ++ ys) ≡ told_on lane (told_on lane es xs) ys
-told-append lane es [] ys = refl
-told-append lane es (handed_in tag ∷ xs) ys = told-append lane es xs ys
-told-append lane es (was_told name e ∷ xs) ys = told-append lane (if is_name name lane then es ++ e ∷ [] else es) xs ys
-told-append lane es (came_back name e ∷ xs) ys = told-append lane (if is_name name lane then all_but_last es else es) xs ys
-
-tag_none : (lane : LaneName) (es : List Effect) {g : Ghosts Token} {s t : State} (c : IsCommand g s t) → told_on lane es (seen_tag c) ≡ es
-tag_none lane es (is_refused seen) = refl
-tag_none lane es (has_done by value plain done) = refl
-tag_none lane es (has_held node tag by done) = refl
-tag_none lane es (has_used at kind user tag by alone done) = refl
-tag_none lane es (has_opened at kind user by alone done) = refl
-tag_none lane es (has_put to user value by done) = refl
-tag_none lane es (has_subscribed at share user by place done) = refl
-tag_none lane es (has_connected share user by place done) = refl
-tag_none lane es (has_made_hubs by makes_them) = refl
-tag_none lane es (has_checkpointed made) = refl
-
-map-append : (xs ys : List Sent) → map effect_of (xs ++ ys) ≡ map effect_of xs ++ map effect_of ys
-map-append [] ys = refl
-map-append (x ∷ xs) ys = ap (λ (zs : List Effect). effect_of x ∷ zs) (map-append xs ys)
-
-all_but_last_map : (xs : List Sent) → map effect_of (all_but_last xs) ≡ all_but_last (map effect_of xs)
-all_but_last_map [] = refl
-all_but_last_map (x ∷ []) = refl
-all_but_last_map (x ∷ (y ∷ xs)) = ap (λ (zs : List Effect). effect_of x ∷ zs) (all_but_last_map (y ∷ xs))
-
--- one taking, and one giving up
-taken_on : (lane name : LaneName) (xs : List Sent) (o : Option Sent) →
-    told_on lane (map effect_of xs) (seen_told name o) ≡ map effect_of (xs ++ (if is_name name lane then option_to_list o else []))
-taken_on lane name xs None = by_name (is_name name lane) where
-  by_name : (b : Bool) → map effect_of xs ≡ map effect_of (xs ++ (if b then [] else []))
-  by_name true = sym (ap (λ (ys : List Sent). map effect_of ys) (append-nil xs))
-  by_name false = sym (ap (λ (ys : List Sent). map effect_of ys) (append-nil xs))
-taken_on lane name xs (Some e) = by_name (is_name name lane) where
-  by_name : (b : Bool) → (if b then map effect_of xs ++ effect_of e ∷ [] else map effect_of xs) ≡ map effect_of (xs ++ (if b then e ∷ [] else []))
-  by_name true = sym (map-append xs (e ∷ []))
-  by_name false = sym (ap (λ (ys : List Sent). map effect_of ys) (append-nil xs))
-
-given_on : (lane name : LaneName) (xs : List Sent) (is_left : Option Bool) (o : Option Sent) → told_on lane (map effect_of xs) (seen_back name is_left o) ≡
-    map effect_of (if (is_name name lane && (is_some is_left && is_some o)) then all_but_last xs else xs)
-given_on lane name xs None o = by_name (is_name name lane) where
-  by_name : (b : Bool) → map effect_of xs ≡ map effect_of (if (b && false) then all_but_last xs else xs)
-  by_name true = refl
-  by_name false = refl
-given_on lane name xs (Some left) None = by_name (is_name name lane) where
-  by_name : (b : Bool) → map effect_of xs ≡ map effect_of (if (b && false) then all_but_last xs else xs)
-  by_name true = refl
-  by_name false = refl
-given_on lane name xs (Some left) (Some e) = by_name (is_name name lane) where
-  by_name : (b : Bool) → (if b then all_but_last (map effect_of xs) else map effect_of xs) ≡ map effect_of (if (b && true) then all_but_last xs else xs)
-  by_name true = sym (all_but_last_map xs)
-  by_name false = refl
-
-told_all : (lane : LaneName) {g : Ghosts Token} {s t : State} (course : Course g s t) →
-    told_on lane [] (seen_of course) ≡ map effect_of (told_there lane course)
-told_all lane begins = refl
-told_all lane (commands before kept c) =
-    told-append lane [] (seen_of before) (seen_tag c) ∙ tag_none lane (told_on lane [] (seen_of before)) c ∙ told_all lane before
-told_all lane (takes {answer = answer} name inside by before kept take) =
-    told-append lane [] (seen_of before) (seen_told name answer) ∙ ap (λ (es : List Effect). told_on lane es (seen_told name answer)) (told_all lane before)
-    ∙ taken_on lane name (told_there lane before) answer
-told_all lane (gives_up {answer = answer} name by undone before kept give) =
-    told-append lane [] (seen_of before) (seen_back name answer undone)
-    ∙ ap (λ (es : List Effect). told_on lane es (seen_back name answer undone)) (told_all lane before)
-    ∙ given_on lane name (told_there lane before) answer undone
-
-abbrev told_course : (g : Ghosts Token) (s t : State) (acts : List Seen) → IsEngineCourse g s t acts → IsToldCourse g s t acts
-told_course g s t acts is = record {
-  is_course = is;
-  told_so = λ name. ap (λ (xs : List Seen). told_on name [] xs) (sym is.acts_are) ∙ told_all name is.course;
-}
-
--- laws -------------------------------------------------------------------------------------------------------
-
-pub effects_told_in_order : (g : Ghosts Token) → CoursesTellInOrder g → NothingIsStuck g → AreEffectsToldInOrder g
-effects_told_in_order g law stuck max_events made first last acts making course =
-    let goes = by_calls (promised_new max_events made first making) course in
-    let new = fresh max_events made first making in
+pub effects_told_in_order : (g : Ghosts Token) → TellsInOrder g → NothingIsStuck g → AreEffectsToldInOrder g
+effects_told_in_order g law stuck max_events made first last shown new course less =
+    let shows = shows_course g max_events made first last shown new course less in
+    let lanes = (begins_so max_events made first new).new.engine.lanes in
+    let is = shows.is_shown in
     record {
-      told = told_course g first.engine last.engine acts goes.0;
-      in_order = λ honest name. law name first.engine last.engine new.lanes goes.0.course honest;
-      left_named = λ honest name l found left_there. stuck first.engine last.engine new.lanes goes.0.course honest name l found left_there;
+      is_shown = is;
+      in_order = λ honest name. law name first.cellar.engine last.cellar.engine lanes is.is_course.course honest;
+      left_named = λ honest name l found left_there.
+          stuck first.cellar.engine last.cellar.engine lanes is.is_course.course honest name l found left_there;
     }
 
 pub roots_told : (g : Ghosts Token) → TellsEachRoot g → AreRootsTold g
-roots_told g law max_events made first last acts making course =
-    let goes = by_calls (promised_new max_events made first making) course in
-    let new = fresh max_events made first making in
-    let none = no_roles first.engine.parts.hears.list (let no_name = new.names in omega (arith, no_name)) in
+roots_told g law max_events made first last shown new course less =
+    let shows = shows_course g max_events made first last shown new course less in
+    let fresh = (begins_so max_events made first new).new.engine in
+    let none = no_roles first.cellar.engine.parts.hears.list (let no_name = fresh.names in omega (arith, no_name)) in
+    let is = shows.is_shown in
     record {
-      told = told_course g first.engine last.engine acts goes.0;
-      roots = λ n word name honest only. law n word name first.engine last.engine new.lanes none goes.0.course honest only;
+      is_shown = is;
+      roots = λ n word name honest only. law n word name first.cellar.engine last.cellar.engine fresh.lanes none is.is_course.course honest only;
     }
 
 pub served_one_by_one : (g : Ghosts Token) → ServesOneAtATime g → AreLanesServedOneByOne g
-served_one_by_one g law s t acts kept course =
+served_one_by_one g law s t shown kept course =
     let goes = by_calls kept course in
-    record { is_course = goes.0; alone = λ by name l found serves_it on. law s.engine t.engine goes.0.course by name l found serves_it on }
+    record {
+      seen = goes.seen;
+      is_course = goes.course;
+      alone = λ by name l found serves_it on. law s.cellar.engine t.cellar.engine goes.course.course by name l found serves_it on;
+    }
+
+-- a step that hands out nothing tells so
+none_handed : (turn : Turn) (s t : TurnState) (handed : Option Task) → TurnGoesOn turn t s handed → handed ≡ None → TurnGoesOn turn t s None
+none_handed turn s t handed goes is = subst (λ (o : Option Task). TurnGoesOn turn t s o) is goes
+
+all_done : NothingIsLeft → NothingIsAstray → (turn : Turn) (s t : TurnState) → TurnGoesOn turn t s None → HasAllDone turn t
+all_done left astray turn s t goes = let none = left turn s t goes in record {
+  own = none.0;
+  deeper = none.1;
+  astray = λ outermost. astray turn s t outermost goes;
+}
+
+unhanded : (handed : Option Task) (is_own : Bool) (made : Answer) (a : Stepped) → (handed_told handed is_own (made_told made (no_step a))).handed ≡ 0 → handed ≡ None
+unhanded None is_own made a none = refl
+unhanded (Some h) is_own made a none = absurd (omega (arith, none))
+
+pub steps_leave_nothing : (g : Ghosts Token) → NothingIsLeft → NothingIsAstray → StepsLeaveNothing g
+steps_leave_nothing g left astray stack c a b s t status on none =
+    let k = (said s t status on).0 in
+    all_done left astray (turn_of stack) k.steps.made (turn_state t)
+    (none_handed (turn_of stack) k.steps.made (turn_state t) k.step.handed k.steps.goes_on
+    (unhanded k.step.handed k.step.is_own k.made a (sym (ap (λ (x : Stepped). x.handed) k.told) ∙ none)))
+
+-- refused steps ----------------------------------------------------------------------------------------------
+
+-- what was made of the engine, before the turn goes on
+record Refuses (g : Ghosts Token) (s t : TurnState) (a b : Answer) (is_own : Bool) : Type 0 where
+  engine : KeepsAllElse g s.cellar.engine t.cellar.engine
+  released : t.cellar.released ≡ s.cellar.released
+  nothing_told : b ≡ no_answer a
+  no_own : is_own ≡ false
+
+module _ (g : Ghosts Token) (turn : Turn) (c : Command) where
+  not_come : (done : Bool) (words : List ℕ) (b : Answer) (s t : TurnState) (is_own : Bool) → done ≡ false → ComesIf done turn words b s t is_own →
+      (t ≡ s) × (is_own ≡ false)
+  not_come true words b s t is_own undone comes = absurd (false≢true (sym undone))
+  not_come false words b s t is_own undone comes = comes
+
+  made_refuses : (is_free : Bool) (s u t : TurnState) (a b : Answer) (status : ℕ) (is_own : Bool) → u.cellar ≡ s.cellar →
+      IsMadeBy g turn is_free c u t a b status is_own → status ≢ 0 → Refuses g s t a b is_own
+  made_refuses is_free s u t a b status is_own before by undone =
+      let asked = made_for is_free turn c in
+      let kept = call_refused g (asked_of asked) asked.by u.cellar by.cellar (no_answer a) b status by.made undone in
+      let none = not_come (status == 0) (words_due by.cellar) b (record u { cellar = by.cellar }) t is_own
+      (false_from_ne_true (status == 0) (λ zero_is. undone (eqb-true status 0 zero_is))) by.comes in
+      let after = ap (λ (x : TurnState). x.cellar) none.0 in
+      record {
+        engine = subst (λ (x : Cellar). KeepsAllElse g x.engine t.cellar.engine) before
+            (subst (λ (x : Cellar). KeepsAllElse g u.cellar.engine x.engine) (sym after) kept.0.engine);
+        released = ap (λ (x : Cellar). x.released) after ∙ kept.0.released ∙ ap (λ (x : Cellar). x.released) before;
+        nothing_told = kept.1;
+        no_own = none.1;
+      }
+
+  refuses : (s t : TurnState) (a b : Answer) (status : ℕ) (is_own : Bool) → MakesIn g turn c s t a b status is_own → status ≢ 0 → Refuses g s t a b is_own
+  refuses s t a b _ _ (is_made u status is_own line by) undone =
+      made_refuses (has_nothing s.agenda turn) s u t a b status is_own (ap (λ (x : TurnState). x.cellar) line.only) by undone
+  refuses s t a b _ _ (is_made_bare u status none may loses only by) undone =
+      made_refuses true s u t a b status false (ap (λ (x : TurnState). x.cellar) only) by undone
+  refuses s t a b _ _ (finds_no_line full may loses only none) undone =
+      let same = ap (λ (x : TurnState). x.cellar) only in
+      record {
+        engine = subst (λ (x : Cellar). KeepsAllElse g s.cellar.engine x.engine) (sym same) is_as_before;
+        released = ap (λ (x : Cellar). x.released) same;
+        nothing_told = none;
+        no_own = refl;
+      }
+
+pub refused_calls_change_nothing : (g : Ghosts Token) → RefusedCallsChangeNothing g
+refused_calls_change_nothing g stack c a b s t status on undone =
+    let k = (said s t status on).0 in
+    let steps = k.steps in
+    let kept = refuses g (turn_of stack) c steps.marked steps.made (answer_in a) k.made k.step.status k.step.is_own steps.makes
+    (λ zero_is. undone (k.status_is ∙ zero_is)) in
+    let marked = ap (λ (x : TurnState). x.cellar) steps.marks.only in
+    record {
+      between = steps.made;
+      engine = subst (λ (x : Cellar). KeepsAllElse g x.engine steps.made.cellar.engine) marked kept.engine;
+      released = kept.released ∙ ap (λ (x : Cellar). x.released) marked;
+      handed = k.step.handed;
+      goes_on = steps.goes_on;
+      told = k.told ∙ (λ i. handed_told k.step.handed (kept.no_own i) (made_told (kept.nothing_told i) (no_step a)));
+    }

@@ -9,11 +9,12 @@ use Rattle.rx_turns.specs.declared.agenda.Task.{Task}
 use Rattle.rx_cellar.specs.Crossings.{no_answer}
 use Rattle.rx_turns.specs.declared.turns.Turns.{Turns}
 use Rattle.rx_turns.specs.Rows.{own_line, blank}
+use Rattle.rx_turns.specs.Agendas.{HasNothing}
 use Rattle.rx_turns.specs.States.{TurnState, turn_state}
 use Rattle.rx_turns.specs.Calls.{TurnStep, bare_step, IsTurnStep, IsTurnPass, IsTurnStop}
 use Rattle.cellarcliff.specs.declared.stepping.Stack.{Stack}
 use Rattle.cellarcliff.specs.declared.stepping.Stepped.{Stepped}
-use Rattle.cellarcliff.specs.Steps.{turn_of, no_step, answer_in, made_told, handed_told, IsStepTold, HasNoTurn}
+use Rattle.cellarcliff.specs.Steps.{turn_of, no_step, answer_in, made_told, handed_told, IsStepTold}
 
 pub passes_as : {turn other : Turn} {begun from : ℕ} {now_is : Bool} {s t : TurnState} → turn ≡ other → IsTurnPass turn begun from now_is s t →
     IsTurnPass other begun from now_is s t
@@ -47,12 +48,8 @@ module _ {g : Ghosts Token} {s t : TurnState} {cleared : Stepped} {turn : Turn} 
   }
 
 -- a new engine
-pub unturned : (s : Turns) → s.agenda.rows.items ≡ [] → s.agenda.lists.lists ≡ [] → s.tickets ≡ 0 → s.astray ≡ None → HasNoTurn (turn_state s)
-unturned s rows lists tickets astray = record {
-  nothing = λ turn. (
-    ap (λ ls. slice_index_or ls (own_line turn s.agenda.rows.items) []) lists,
-    ap (λ rs. (slice_index_or rs (own_line turn s.agenda.rows.items) blank).in_hand) rows,
-  );
-  tickets = tickets;
-  astray = astray;
-}
+pub nothing_due : (s : Turns) → s.agenda.rows.items ≡ [] → s.agenda.lists.lists ≡ [] → (turn : Turn) → HasNothing (turn_state s).agenda turn
+nothing_due s rows lists turn = (
+  ap (λ ls. slice_index_or ls (own_line turn s.agenda.rows.items) []) lists,
+  ap (λ rs. (slice_index_or rs (own_line turn s.agenda.rows.items) blank).in_hand) rows,
+)

@@ -13,5 +13,3 @@ pub mod Refusals
 pub mod Shown
 pub mod Stages
 pub mod Steps
-pub mod TurnCourses
-pub mod TurnsServed

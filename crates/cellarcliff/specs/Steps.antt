@@ -10,7 +10,6 @@ use Rattle.rx_cellar.specs.Serving.{IsRest}
 use Rattle.rx_turns.specs.declared.agenda.Turn.{Turn}
 use Rattle.rx_turns.specs.declared.agenda.Task.{Task}
 use Rattle.rx_turns.specs.declared.turns.Turns.{Turns}
-use Rattle.rx_turns.specs.Agendas.{HasNothing}
 use Rattle.rx_turns.specs.States.{TurnState, turn_state}
 use Rattle.rx_turns.specs.Calls.{TurnStep, IsTurnStep, IsTurnPass, IsTurnStop}
 use Rattle.cellarcliff.specs.declared.stepping.Stack.{Stack}
@@ -82,13 +81,3 @@ IsStopTold stack s t status = IsTurnStop (turn_of stack) stack.begun s t × (sta
 -- the closings of the last accepted command, from one on
 abbrev pub AreClosingsTold : (from : ℕ) → Cellar → (words words' : List ℕ) → (count status : ℕ) → Type 0
 AreClosingsTold from s words words' count status = IsRest 0 from s.engine words words' count status
-
--- a new engine: nothing is due to anybody, and no ticket was given
-pub record HasNoTurn (s : TurnState) : Type 0 where
-  pub nothing : (turn : Turn) → HasNothing s.agenda turn
-  pub tickets : s.tickets ≡ 0
-  pub astray : s.astray ≡ None
-
-abbrev pub IsUnturned : Option Turns → Type 0
-IsUnturned None = ⊥
-IsUnturned (Some t) = HasNoTurn (turn_state t)

@@ -1,11 +1,8 @@
 //! Laws of the calls on a handle, of an engine or a live book, which no call needs and a caller may cite.
 
-ghost use Rattle.cellarcliff.specs.Courses.{AreCallsCourses, AreEffectsToldOnce, AreTagsReleasedOnce};
-ghost use Rattle.cellarcliff.specs.LanesServed.{AreEffectsToldInOrder, AreRootsTold, AreLanesServedOneByOne};
+ghost use Rattle.cellarcliff.specs.Courses.{AreCallsCourses, AreTicketsOwn, AreEffectsToldOnce};
+ghost use Rattle.cellarcliff.specs.LanesServed.{AreEffectsToldInOrder, AreRootsTold, AreLanesServedOneByOne, StepsLeaveNothing, RefusedCallsChangeNothing};
 ghost use Rattle.cellarcliff.specs.LiveCourses.{AreAnswersHandedOut};
-ghost use Rattle.cellarcliff.specs.Refusals.{RefusedCallsChangeNothing};
-ghost use Rattle.cellarcliff.specs.TurnCourses.{AreTurnsCourses, AreTicketsOwn, AreTurnsToldOnce};
-ghost use Rattle.cellarcliff.specs.TurnsServed.{AreTurnsInOrder, AreRootsToldInTurns, AreTurnsServedOneByOne, StepsLeaveNothing, RefusedStepsChangeNothing};
 
 use rx_book::Resource;
 use rx_courses::{
@@ -18,25 +15,31 @@ use rx_turns::{
     nothing_is_left_where_nothing_is_handed_out,
 };
 
-/// Any calls on one handle, from `cellar_new` on and without `cellar_drop`, are a course of its engine, in which the
-/// same tags are handed in, and the same effects told and given back. So each law of `rx_courses` holds of them.
+/// Any calls on one handle, from `cellar_new` on and without `cellar_drop`, by which fewer than 2^64 - 1 effects were
+/// handed out, are a course of its engine, with the same tags, in which the same effects are told, in the order in which
+/// they were handed out; what came again under a ticket that was given before counts once. So each law of `rx_courses`
+/// holds of them.
 pub fn calls_are_courses()
     ensures { AreCallsCourses ⟦<Token as Resource>⟧ }
 {}
 
-/// Of any calls on one handle, from `cellar_new` until `cellar_finish` is done and without `cellar_drop`: by whatever
-/// test, as many effects were told, by `cellar_take` or with an answer, as the commands put into lanes, and as were
-/// given back by `cellar_give_up`.
+/// Of the same calls: no ticket is given to two effects, and each is 1 or more.
+pub fn tickets_are_own()
+    ensures { AreTicketsOwn ⟦<Token as Resource>⟧ }
+{}
+
+/// Of the same calls, until `cellar_finish` is done: by whatever test, as many effects were handed out as the commands
+/// put into lanes, and as came back, which were not begun; and for each tag, as many releases as it was handed in with
+/// the status 0, and as came back.
 pub fn effects_are_told_once()
     ensures { AreEffectsToldOnce ⟦<Token as Resource>⟧ }
 {
     each_is_told_once();
+    tags_once();
 }
 
-/// Of any calls on one handle, from `cellar_new` on and without `cellar_drop`, where who gives an effect back gives what
-/// was told last of that lane: of each lane all but releases, which may come before their turn, was told, or waits
-/// there, in the order in which the commands put it there; and a lane that has something, and that nobody serves, was
-/// named by an answer.
+/// Of the same calls, where what comes back is what was told last of its lane: of each lane all but releases, which may
+/// come before their turn, was told, or waits there, in the order in which the commands put it there.
 pub fn effects_are_told_in_order()
     ensures { AreEffectsToldInOrder ⟦<Token as Resource>⟧ }
 {
@@ -52,82 +55,10 @@ pub fn roots_hear_in_order()
     roots_are_told_in_order();
 }
 
-/// Of any calls on one handle, from whenever on: who serves a lane serves it alone, and nobody else is given anything of
-/// it, until that caller gives it up, or asks for more and is given nothing.
+/// Of any calls on one handle, from whenever on: who serves a lane serves it alone, and nobody else is given
+/// anything of it, until that stack gives it up, or is given nothing more of it.
 pub fn lanes_are_served_one_by_one()
     ensures { AreLanesServedOneByOne ⟦<Token as Resource>⟧ }
-{
-    lanes_are_served_one_at_a_time();
-}
-
-/// Of any calls on one handle, from `cellar_new` until `cellar_finish` is done and without `cellar_drop`: for each tag,
-/// as many releases of it were told and not given back as it was handed in with the status 0.
-pub fn tags_are_released_once()
-    ensures { AreTagsReleasedOnce ⟦<Token as Resource>⟧ }
-{
-    each_is_told_once();
-    tags_once();
-}
-
-/// A call of `cellar_make` with a status that is not 0 tells nothing, and changes nothing but room, a checkpoint and
-/// the hubs of shares. Where it changed room alone, whatever may follow it may follow the engine before it, and the
-/// other way round (`refused_is_unchanged` of `rx_courses`).
-pub fn refused_calls_change_nothing()
-    ensures { RefusedCallsChangeNothing ⟦<Token as Resource>⟧ }
-{}
-
-/// Of any calls on one handle of a live book, from a new book until the handle keeps nothing and without `cellar_live_drop`: the
-/// texts that were handed out with the status 0 are the answers to the lines that got 0 or 1, in order and each
-/// once, and then that of the end; and each name that an accepted line hands in is released in exactly one of
-/// them behind that, before it is handed in again, and no other name is.
-pub fn answers_are_handed_out_once()
-    ensures { AreAnswersHandedOut }
-{}
-
-/// Any calls by turns on one handle, from `cellar_new` on and without `cellar_drop`, by which fewer than 2^64 - 1 effects were
-/// handed out, are a course of its engine, with the same tags, in which the same effects are told, in the order in which
-/// they were handed out; what came again under a ticket that was given before counts once. So each law of `rx_courses`
-/// holds of them.
-pub fn turns_are_courses()
-    ensures { AreTurnsCourses ⟦<Token as Resource>⟧ }
-{}
-
-/// Of the same calls: no ticket is given to two effects, and each is 1 or more.
-pub fn tickets_are_own()
-    ensures { AreTicketsOwn ⟦<Token as Resource>⟧ }
-{}
-
-/// Of the same calls, until `cellar_finish` is done: by whatever test, as many effects were handed out as the commands
-/// put into lanes, and as came back, which were not begun; and for each tag, as many releases as it was handed in with
-/// the status 0, and as came back.
-pub fn turns_tell_each_effect_once()
-    ensures { AreTurnsToldOnce ⟦<Token as Resource>⟧ }
-{
-    each_is_told_once();
-    tags_once();
-}
-
-/// Of the same calls, where what comes back is what was told last of its lane: of each lane all but releases, which may
-/// come before their turn, was told, or waits there, in the order in which the commands put it there.
-pub fn turns_tell_in_order()
-    ensures { AreTurnsInOrder ⟦<Token as Resource>⟧ }
-{
-    tells_in_order();
-    nothing_is_stuck();
-}
-
-/// Of the same calls, for each root that alone has its word in its lane: what was told there under this word, and then
-/// what waits, are its notes, in order: items, then at most one end, then nothing.
-pub fn turns_tell_roots_in_order()
-    ensures { AreRootsToldInTurns ⟦<Token as Resource>⟧ }
-{
-    roots_are_told_in_order();
-}
-
-/// Of any calls by turns on one handle, from whenever on: who serves a lane serves it alone, and nobody else is given
-/// anything of it, until that stack gives it up, or is given nothing more of it.
-pub fn turns_serve_one_by_one()
-    ensures { AreTurnsServedOneByOne ⟦<Token as Resource>⟧ }
 {
     lanes_are_served_one_at_a_time();
 }
@@ -143,6 +74,14 @@ pub fn steps_leave_nothing()
 
 /// A step with a status that is not 0 tells nothing of its command, and the command changes nothing but room, a
 /// checkpoint and the hubs of shares; then the turn goes on as it would without it.
-pub fn refused_steps_change_nothing()
-    ensures { RefusedStepsChangeNothing ⟦<Token as Resource>⟧ }
+pub fn refused_calls_change_nothing()
+    ensures { RefusedCallsChangeNothing ⟦<Token as Resource>⟧ }
+{}
+
+/// Of any calls on one handle of a live book, from a new book until the handle keeps nothing and without `cellar_live_drop`: the
+/// texts that were handed out with the status 0 are the answers to the lines that got 0 or 1, in order and each
+/// once, and then that of the end; and each name that an accepted line hands in is released in exactly one of
+/// them behind that, before it is handed in again, and no other name is.
+pub fn answers_are_handed_out_once()
+    ensures { AreAnswersHandedOut }
 {}

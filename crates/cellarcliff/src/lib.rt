@@ -43,12 +43,11 @@
 //!
 //! # Promised, and not
 //!
-//! - Each call on an engine is one line of `specs/Calls.antt`: what the handle keeps before and after it, and what is
-//!   told. Any calls on one handle are a course of its engine ([`calls_are_courses`], `specs/Courses.antt`): each tag is
-//!   released once, each effect told once, by one caller at a time and in order in its lane, and a root hears
-//!   nothing behind its end. A refused command changes nothing ([`refused_calls_change_nothing`]). The same holds of
-//!   calls by turns ([`turns_are_courses`], `specs/TurnCourses.antt`), and a step that hands out nothing leaves nothing
-//!   ([`steps_leave_nothing`]).
+//! - Each call on an engine is one line of `specs/Calls.antt` or `specs/Steps.antt`: what the handle keeps before and
+//!   after it, and what is told. Any calls on one handle are a course of its engine ([`calls_are_courses`],
+//!   `specs/Courses.antt`): each tag is released once, each effect told once, under a ticket of its own, by one stack at a
+//!   time and in order in its lane, and a root hears nothing behind its end. A refused command changes nothing
+//!   ([`refused_calls_change_nothing`]), and a step that hands out nothing leaves nothing ([`steps_leave_nothing`]).
 //! - Each answer of an audit or a run is one line of `Answers` (`specs/`): the text is the verdict on the
 //!   history of which the input is a dump, what `rx_script` says of a scenario, or the picture that `rx_svg` tells of
 //!   a history, and a status comes only for its cause. An explanation has a text for just the inputs that `rxbook`
@@ -79,7 +78,6 @@ mod loose;
 mod making;
 mod reading;
 mod running;
-mod serving;
 mod showing;
 mod stepping;
 #[cfg(test)]
@@ -90,21 +88,15 @@ pub use handle::CellarHandle;
 pub use laws::{
     answers_are_handed_out_once, calls_are_courses, effects_are_told_in_order,
     effects_are_told_once, lanes_are_served_one_by_one, refused_calls_change_nothing,
-    refused_steps_change_nothing, roots_hear_in_order, steps_leave_nothing, tags_are_released_once,
-    tickets_are_own, turns_are_courses, turns_serve_one_by_one, turns_tell_each_effect_once,
-    turns_tell_in_order, turns_tell_roots_in_order,
+    roots_hear_in_order, steps_leave_nothing, tickets_are_own,
 };
 pub use live::{
     cellar_live_drop, cellar_live_end, cellar_live_new, cellar_live_read, cellar_live_send,
 };
 pub use live_handle::LiveHandle;
-pub use making::{
-    cellar_abi, cellar_drop, cellar_finish, cellar_make, cellar_make_behind, cellar_new,
-    cellar_size,
-};
+pub use making::{cellar_abi, cellar_drop, cellar_finish, cellar_new, cellar_size};
 pub use reading::{cellar_dump, cellar_event, cellar_totals};
 pub use running::{cellar_run, cellar_run_dump};
-pub use serving::{cellar_give_up, cellar_left, cellar_rest, cellar_take};
 pub use showing::{cellar_explain, cellar_picture, cellar_run_names};
 pub use stepping::{
     Stack, Stepped, cellar_closings, cellar_next, cellar_pass, cellar_step, cellar_stop,

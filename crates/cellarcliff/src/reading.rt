@@ -3,7 +3,7 @@
 ghost use Rattle.std.specs.Prelude.{◌≡◌};
 ghost use Rattle.rx_cellar.specs.Readings.{no_totals};
 ghost use Rattle.rx_cellar.specs.EventsShown.{no_event};
-ghost use Rattle.cellarcliff.specs.Calls.{cellar_in, IsLooked, IsTotalled, IsEventAnswered};
+ghost use Rattle.cellarcliff.specs.Calls.{IsLooked, IsTotalled, IsEventAnswered};
 ghost use Rattle.cellarcliff.specs.Answers.{TellsNoText};
 ghost use Rattle.cellarcliff.specs.Dumps.{IsHandedOver};
 
@@ -15,8 +15,7 @@ use std::alloc::Global;
 /// What there is.
 #[unsafe(no_mangle)]
 pub extern "C" fn cellar_totals(alloc: Global, handle: &mut CellarHandle, totals: &mut Totals) -> u8
-    ensures told { IsLooked (λ s n. IsTotalled s totals.new n) (totals.new ≡ no_totals) (cellar_in handle.old.kept) (cellar_in handle.new.kept) result }
-    ensures keeps { handle.new.kept ≡ handle.old.kept }
+    ensures { IsLooked (λ s n. IsTotalled s totals.new n) (totals.new ≡ no_totals) handle.old.kept handle.new.kept result }
 {
     let Some(kept) = handle.take(alloc) else {
         *totals = no_totals();
@@ -35,8 +34,7 @@ pub extern "C" fn cellar_event(
     place: u64,
     event: &mut Event,
 ) -> u8
-    ensures told { IsLooked (λ s n. IsEventAnswered place s event.new n) (event.new ≡ no_event) (cellar_in handle.old.kept) (cellar_in handle.new.kept) result }
-    ensures keeps { handle.new.kept ≡ handle.old.kept }
+    ensures { IsLooked (λ s n. IsEventAnswered place s event.new n) (event.new ≡ no_event) handle.old.kept handle.new.kept result }
 {
     let Some(kept) = handle.take(alloc) else {
         *event = no_event();
@@ -56,9 +54,8 @@ pub extern "C" fn cellar_dump(
     buffer: &mut [u8],
     told: &mut u64,
 ) -> u8
-    ensures told { IsLooked (λ s n. IsHandedOver s.engine.book buffer.old buffer.new told.new n) (TellsNoText buffer.old buffer.new told.new)
-        (cellar_in handle.old.kept) (cellar_in handle.new.kept) result }
-    ensures keeps { handle.new.kept ≡ handle.old.kept }
+    ensures { IsLooked (λ s n. IsHandedOver s.engine.book buffer.old buffer.new told.new n) (TellsNoText buffer.old buffer.new told.new)
+        handle.old.kept handle.new.kept result }
 {
     let Some(kept) = handle.take(alloc) else {
         *told = 0;

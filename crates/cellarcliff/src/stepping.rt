@@ -3,7 +3,7 @@
 ghost use Rattle.std.specs.Prelude.{◌≡◌, ◌==◌, Some, None};
 ghost use Rattle.std.proofs.Math.Bool.{not};
 ghost use Rattle.rx_resource.specs.contracts.token.TokenResource.TheImpl.{ghosts};
-ghost use Rattle.cellarcliff.specs.Calls.{cellar_in, IsLooked, IsNoRest};
+ghost use Rattle.cellarcliff.specs.Calls.{IsLooked, IsNoRest};
 ghost use Rattle.cellarcliff.specs.Steps.{turn_of, no_step, answer_in, made_told, handed_told, IsTurned, IsStepTold, IsPassTold, IsStopTold};
 ghost use Rattle.cellarcliff.specs.Steps.{AreClosingsTold};
 
@@ -208,9 +208,8 @@ pub extern "C" fn cellar_closings(
     words: &mut [u64],
     count: &mut u64,
 ) -> u8
-    ensures told { IsLooked (λ s n. AreClosingsTold from s words.old words.new count.new n) (IsNoRest words.old words.new count.new)
-        (cellar_in handle.old.kept) (cellar_in handle.new.kept) result }
-    ensures keeps { handle.new.kept ≡ handle.old.kept }
+    ensures { IsLooked (λ s n. AreClosingsTold from s words.old words.new count.new n) (IsNoRest words.old words.new count.new)
+        handle.old.kept handle.new.kept result }
 {
     let Some(kept) = handle.take(alloc) else {
         *count = 0;

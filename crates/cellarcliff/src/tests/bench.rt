@@ -1,10 +1,10 @@
 //! An engine behind a handle, driven by tables of commands.
 
 use crate::{
-    CellarHandle, Stack, Stepped, cellar_drop, cellar_finish, cellar_make, cellar_new, cellar_next,
-    cellar_rest, cellar_step, cellar_take, cellar_totals,
+    CellarHandle, Stack, Stepped, cellar_drop, cellar_finish, cellar_new, cellar_next, cellar_step,
+    cellar_totals,
 };
-use rx_cellar::{Answer, Command, Effect, NumberedKey, Totals, no_node, no_totals};
+use rx_cellar::{Command, Effect, NumberedKey, Totals, no_node, no_totals};
 use std::alloc::{AllocError, Global};
 
 // The numbers of the header.
@@ -110,23 +110,6 @@ pub(super) fn no_effect() -> Effect {
     }
 }
 
-fn no_answer_yet() -> Answer {
-    Answer {
-        node: no_node(),
-        other: no_node(),
-        is_connected: 0,
-        hub: 0,
-        copies: 0,
-        closed: 0,
-        due: 0,
-        handed: 0,
-        closings: [0; 8],
-        lanes: [0; 8],
-        effect: no_effect(),
-        spare: [0; 2],
-    }
-}
-
 fn nothing_stepped() -> Stepped {
     Stepped {
         node: no_node(),
@@ -144,15 +127,13 @@ fn nothing_stepped() -> Stepped {
     }
 }
 
-// A handle, whether its commands are made by turns, the last answer, and the keys that the commands so far gave: of a node,
-// and then of a resource, a lease or a connection.
+// A handle, a stack, the last step, and the keys that the commands so far gave: of a node, and then of a resource, a lease or
+// a connection.
 pub(super) struct Bench {
     pub(super) alloc: Global,
     pub(super) handle: CellarHandle,
-    pub(super) by_turns: bool,
     pub(super) stack: Stack,
     pub(super) step: Stepped,
-    pub(super) answer: Answer,
     pub(super) keys: Vec<NumberedKey>,
 }
 
@@ -162,23 +143,14 @@ impl Bench {
         Bench {
             alloc,
             handle: CellarHandle::empty(),
-            by_turns: false,
             stack: Stack {
                 by: BY,
                 depth: 1,
                 begun: 0,
             },
             step: nothing_stepped(),
-            answer: no_answer_yet(),
             keys: Vec::new(alloc),
         }
-    }
-
-    // The same, whose commands are made by turns.
-    pub(super) fn by_turns(alloc: Global) -> Bench {
-        let mut bench = Bench::new(alloc);
-        bench.by_turns = true;
-        bench
     }
 
     // An engine whose history has at most so many events.
@@ -213,31 +185,15 @@ impl Bench {
         }
     }
 
-    // Makes a command in a turn; its answer stands where that of one by lanes does.
-    pub(super) fn make_in_turn(&mut self, command: &Command) -> u8 {
-        let status = cellar_step(
+    // Makes a command.
+    pub(super) fn make_once(&mut self, command: &Command) -> u8 {
+        cellar_step(
             self.alloc,
             &mut self.handle,
             &self.stack,
             command,
             &mut self.step,
-        );
-        self.answer.node = self.step.node;
-        self.answer.other = self.step.other;
-        self.answer.is_connected = self.step.is_connected;
-        self.answer.copies = self.step.copies;
-        self.answer.closed = self.step.closed;
-        self.answer.handed = self.step.handed;
-        status
-    }
-
-    // Makes a command.
-    pub(super) fn make_once(&mut self, command: &Command) -> u8 {
-        if self.by_turns {
-            self.make_in_turn(command)
-        } else {
-            cellar_make(self.alloc, &mut self.handle, command, &mut self.answer)
-        }
+        )
     }
 
     // What is to be done next in the turn.
@@ -246,7 +202,7 @@ impl Bench {
     }
 
     // Does what the turn was handed, and all that comes next.
-    pub(super) fn go_on(&mut self, told: &mut Told) {
+    pub(super) fn serve(&mut self, told: &mut Told) {
         for _ in 0..u64::MAX {
             if self.step.handed != 1 {
                 return;
@@ -264,16 +220,16 @@ impl Bench {
         if status == 0 {
             match command.what {
                 OPEN => {
-                    self.keys.push(self.answer.node)?;
-                    if self.answer.is_connected == 1 {
-                        self.keys.push(self.answer.other)?;
+                    self.keys.push(self.step.node)?;
+                    if self.step.is_connected == 1 {
+                        self.keys.push(self.step.other)?;
                     }
                 }
                 USING => {
-                    self.keys.push(self.answer.node)?;
-                    self.keys.push(self.answer.other)?;
+                    self.keys.push(self.step.node)?;
+                    self.keys.push(self.step.other)?;
                 }
-                HOLD | LEASE | CONNECT => self.keys.push(self.answer.other)?,
+                HOLD | LEASE | CONNECT => self.keys.push(self.step.other)?,
                 _ => {}
             }
         }
@@ -286,50 +242,6 @@ impl Bench {
         self.make(&command)
     }
 
-    // Takes what there is of a lane.
-    pub(super) fn drain(&mut self, lane: u64, told: &mut Told) {
-        let (mut effect, mut count) = (no_effect(), 1);
-        for _ in 0..u64::MAX {
-            cellar_take(
-                self.alloc,
-                &mut self.handle,
-                lane,
-                BY,
-                &mut effect,
-                &mut count,
-            );
-            if count != 1 {
-                return;
-            }
-            told.hear(effect);
-        }
-    }
-
-    // Hears what was handed out, and takes what there is of each lane that the last answer names.
-    pub(super) fn serve(&mut self, told: &mut Told) -> Result<(), AllocError> {
-        if self.by_turns {
-            self.go_on(told);
-            return Ok(());
-        }
-        if self.answer.handed == 1 {
-            told.hear(self.answer.effect);
-        }
-        let mut lanes = vec![in self.alloc; 0u64; self.answer.due as usize]?;
-        let mut count = 0;
-        cellar_rest(
-            self.alloc,
-            &mut self.handle,
-            1,
-            0,
-            lanes.as_mut_slice(),
-            &mut count,
-        );
-        for lane in lanes.iter() {
-            self.drain(*lane, told);
-        }
-        Ok(())
-    }
-
     // Makes these commands, and serves what comes of them: the number of the first that was not done.
     pub(super) fn run(
         &mut self,
@@ -340,7 +252,7 @@ impl Bench {
             if self.step(*step)? != 0 {
                 return Ok(Some(at));
             }
-            self.serve(told)?;
+            self.serve(told);
         }
         Ok(None)
     }
@@ -357,7 +269,7 @@ impl Bench {
             if self.step((SHUT, 0, 0, 0, 0))? != 0 {
                 break;
             }
-            self.serve(told)?;
+            self.serve(told);
         }
         Ok(cellar_finish(self.alloc, &mut self.handle) == 0)
     }
@@ -367,10 +279,8 @@ impl Bench {
         let Bench {
             alloc,
             mut handle,
-            by_turns: _,
             stack: _,
             step: _,
-            answer: _,
             keys: _keys,
         } = self;
         cellar_drop(alloc, &mut handle);

@@ -1,4 +1,4 @@
-//! Many nodes, many lanes in one answer, many checkpoints.
+//! Many nodes, many lanes of one command, many checkpoints.
 
 use super::bench::{
     Bench, DISPOSE, HOLD, LEAF, NEXT, OPEN, ROOT, SHARED, SOURCE, Told, nothing_told,
@@ -14,11 +14,10 @@ const MANY: u64 = 1_200;
 const EVENTS: u32 = 24;
 
 impl Bench {
-    // So many subscribe to a share, its source emits one item, and all is closed: the lanes that were due, the copies, and
-    // whether nothing was left.
-    fn share(&mut self, told: &mut Told) -> Result<(u64, u64, bool), AllocError> {
+    // So many subscribe to a share, its source emits one item, and all is closed: the copies, and whether nothing was left.
+    fn share(&mut self, told: &mut Told) -> Result<(u64, bool), AllocError> {
         self.step((OPEN, ROOT, SHARED, 0, 77))?;
-        let connection = self.answer.other;
+        let connection = self.step.other;
         for _ in 1..MANY {
             self.step((OPEN, ROOT, SHARED, 0, 77))?;
         }
@@ -27,9 +26,9 @@ impl Bench {
         self.step((OPEN, SOURCE, LEAF, above, 0))?;
         let leaf = self.keys.len();
         self.step((NEXT, 0, 0, leaf, 5))?;
-        let (due, copies) = (self.answer.due, self.answer.copies);
-        self.serve(told)?;
-        Ok((due, copies, self.finish(told)?))
+        let copies = self.step.copies;
+        self.serve(told);
+        Ok((copies, self.finish(told)?))
     }
 
     // Items past the room of a small history: whether each was told.
@@ -38,11 +37,11 @@ impl Bench {
         self.step((HOLD, 0, 0, 1, 7))?;
         for value in 0..20 * EVENTS as u64 {
             let status = self.step((NEXT, 0, 0, 1, value))?;
-            let is_told = self.answer.handed == 1 && self.answer.effect.value == value;
+            let is_told = self.step.handed == 1 && self.step.effect.value == value;
             if status != 0 || !is_told {
                 return Ok(false);
             }
-            self.serve(told)?;
+            self.serve(told);
         }
         Ok(self.step((DISPOSE, 0, 0, 1, 0))? == 0)
     }
@@ -55,7 +54,7 @@ fn an_item_is_told_to_each_of_many_subscribers(rt: HostRuntime) {
     let mut told = nothing_told();
     let shared = bench.share(&mut told);
     bench.close();
-    assert_eq!(rt; shared, Ok((MANY, MANY, true)));
+    assert_eq!(rt; shared, Ok((MANY, true)));
     // an item and a last effect for each
     assert_eq!(rt; (told.all, told.carried), (2 * MANY, MANY));
 }
@@ -66,13 +65,13 @@ fn a_small_history_is_begun_again_many_times(rt: HostRuntime) {
     bench.begin(EVENTS);
     let mut told = nothing_told();
     let went_well = bench.emit_often(&mut told);
-    let served = bench.serve(&mut told);
+    bench.serve(&mut told);
     let totals = bench.totals();
     let mut event = no_event();
     let first = cellar_event(bench.alloc, &mut bench.handle, 0, &mut event);
     let is_over = bench.finish(&mut told);
     bench.close();
-    assert_eq!(rt; (went_well, served, is_over), (Ok(true), Ok(()), Ok(true)));
+    assert_eq!(rt; (went_well, is_over), (Ok(true), Ok(true)));
     // each item, the last effect and the release
     assert_eq!(rt;
         (told.all, told.releases, first),

@@ -1,8 +1,7 @@
 //! Words, tags, values and callers of all 64 bits come back as they went in.
 
-use super::bench::{Bench, COMPLETE, HOLD, LEAF, NEXT, OPEN, ROOT, no_effect};
-use crate::cellar_take;
-use rx_cellar::{Command, Effect};
+use super::bench::{Bench, COMPLETE, HOLD, LEAF, NEXT, OPEN, ROOT};
+use rx_cellar::Effect;
 use std::alloc::AllocError;
 
 const LARGE: [u64; 5] = [
@@ -27,50 +26,6 @@ fn shown(effect: Effect) -> Shown {
 }
 
 impl Bench {
-    fn take(&mut self, lane: u64, by: u64) -> Shown {
-        let (mut effect, mut count) = (no_effect(), 0);
-        cellar_take(
-            self.alloc,
-            &mut self.handle,
-            lane,
-            by,
-            &mut effect,
-            &mut count,
-        );
-        shown(effect)
-    }
-
-    // A root with this word and a resource with this tag hears this item and completes, all by this caller: the item, the end
-    // and the release.
-    fn hears(&mut self, number: u64) -> Result<[Shown; 3], AllocError> {
-        self.keys.clear();
-        for what in [OPEN, HOLD, NEXT] {
-            let node = if what == OPEN { 0 } else { 1 };
-            let command = Command {
-                by: number,
-                ..self.command((what, ROOT, LEAF, node, number))
-            };
-            self.make(&command)?;
-        }
-        let (handed, item, lane) = (self.answer.handed, self.answer.effect, self.answer.lanes[0]);
-        let nothing_more = self.take(lane, number);
-        let command = Command {
-            by: number,
-            ..self.command((COMPLETE, 0, 0, 1, 0))
-        };
-        self.make(&command)?;
-        let lane = self.answer.lanes[0];
-        let (end, release) = (self.take(lane, number), self.take(lane, number));
-        let item = if handed == 1 && nothing_more == shown(no_effect()) {
-            shown(item)
-        } else {
-            nothing_more
-        };
-        Ok([item, end, release])
-    }
-}
-
-impl Bench {
     // Begins what the turn was handed, and asks for more.
     fn heard(&mut self) -> Shown {
         let it = shown(self.step.effect);
@@ -80,8 +35,9 @@ impl Bench {
         if is_handed { it } else { (9, 0, 0, 0, 9) }
     }
 
-    // The same as `hears`, in turns of a stack of this number.
-    fn hears_in_turn(&mut self, number: u64) -> Result<[Shown; 3], AllocError> {
+    // A root with this word and a resource with this tag hears this item and completes, all by this stack: the item, the end
+    // and the release.
+    fn hears(&mut self, number: u64) -> Result<[Shown; 3], AllocError> {
         self.keys.clear();
         self.stack.by = number;
         for what in [OPEN, HOLD, NEXT] {
@@ -93,22 +49,6 @@ impl Bench {
         let end = self.heard();
         let release = self.heard();
         Ok([item, end, release])
-    }
-}
-
-#[test]
-fn numbers_of_all_64_bits_come_back_in_turns(rt: HostRuntime) {
-    let mut bench = Bench::by_turns(rt.alloc());
-    bench.begin(0);
-    let mut heard = [Ok([(9, 0, 0, 0, 9); 3]); 5];
-    for (at, number) in LARGE.iter().enumerate() {
-        heard[at] = bench.hears_in_turn(*number);
-    }
-    bench.close();
-    for (at, number) in LARGE.iter().enumerate() {
-        let it = *number;
-        let wanted = [(0, it, it, it, 1), (2, it, 0, it, 0), (5, it, 0, it, 0)];
-        assert_eq!(rt; heard[at], Ok(wanted), "at {at}");
     }
 }
 

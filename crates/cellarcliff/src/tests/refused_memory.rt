@@ -3,11 +3,11 @@
 //! where none is left.
 
 use super::bench::{
-    ABORT, APPLY, BY, Bench, COMPLETE, CONNECT, DECLINE, DISCONNECT, DISPOSE, ERROR, FAIL, FLAT,
+    ABORT, APPLY, Bench, COMPLETE, CONNECT, DECLINE, DISCONNECT, DISPOSE, ERROR, FAIL, FLAT,
     GIVE_BACK, HOLD, INNER, LEAF, LEASE, NEXT, NOTIFIER, OPEN, PASS, PUT, REMOVE, ROOT, SHARED,
-    SHUT, SOURCE, SWITCH, Step, Told, UNTIL, USING, no_effect, nothing_told,
+    SHUT, SOURCE, SWITCH, Step, Told, UNTIL, USING, nothing_told,
 };
-use crate::{cellar_give_up, cellar_take};
+use crate::cellar_stop;
 use rx_cellar::Totals;
 use rx_scarce::{MOST_BLOCKS, Scarce};
 use std::alloc::AllocError;
@@ -93,8 +93,8 @@ fn is_same(a: Totals, b: Totals) -> bool {
 impl Bench {
     // Whether the last answer tells nothing.
     fn tells_nothing(&self) -> bool {
-        let it = &self.answer;
-        it.copies == 0 && it.closed == 0 && it.due == 0 && it.handed == 0 && it.is_connected == 0
+        let it = &self.step;
+        it.copies == 0 && it.closed == 0 && it.handed == 0 && it.is_connected == 0
     }
 
     // Makes the command again and again, each time with one more block of memory, until it is answered otherwise than for
@@ -157,7 +157,7 @@ impl Bench {
             if !self.is_made(*asks, *step)? {
                 return Ok(Some(at));
             }
-            self.serve(told)?;
+            self.serve(told);
         }
         Ok(None)
     }
@@ -196,64 +196,36 @@ fn commands_go_so_over_checkpoints_too(rt: HostRuntime) {
     assert_eq!(rt; seen, Ok((None, true, true)));
 }
 
-#[test]
-fn a_step_that_is_refused_memory_changes_nothing_and_goes_through_later(rt: HostRuntime) {
-    let mut bench = Bench::by_turns(rt.alloc());
-    let seen = bench.seen(0);
-    bench.close();
-    assert_eq!(rt; seen, Ok((None, true, true)));
-}
-
-#[test]
-fn steps_go_so_over_checkpoints_too(rt: HostRuntime) {
-    let mut bench = Bench::by_turns(rt.alloc());
-    let seen = bench.seen(FEW_EVENTS);
-    bench.close();
-    assert_eq!(rt; seen, Ok((None, true, true)));
-}
-
 impl Bench {
-    // Takes an effect of the first lane that is due where no memory is left, gives it back, and takes it again: the tags of
-    // both.
-    fn taken_twice(&mut self) -> Result<[(u64, u32, u64); 2], AllocError> {
-        let lane = self.answer.lanes[0];
+    // What the last step handed out.
+    fn handed(&self) -> (u64, u32, u64) {
+        (
+            self.step.effect.user,
+            self.step.effect.kind,
+            self.step.handed,
+        )
+    }
+
+    // Stops in the midst where no memory is left, and goes on: what was handed out before that, and behind it.
+    fn handed_twice(&mut self) -> Result<[(u64, u32, u64); 2], AllocError> {
         let _scarce = Scarce::new(self.alloc)?;
-        let (alloc, mut first, mut again) = (self.alloc, no_effect(), no_effect());
-        let (mut counts, mut left) = ([0, 0], 0);
-        cellar_take(
-            alloc,
-            &mut self.handle,
-            lane,
-            BY,
-            &mut first,
-            &mut counts[0],
-        );
-        cellar_give_up(alloc, &mut self.handle, lane, BY, &[first], &mut left);
-        cellar_take(
-            alloc,
-            &mut self.handle,
-            lane,
-            BY + left,
-            &mut again,
-            &mut counts[1],
-        );
-        Ok([
-            (first.user, first.kind, counts[0]),
-            (again.user, again.kind, counts[1]),
-        ])
+        let first = self.handed();
+        cellar_stop(self.alloc, &mut self.handle, &self.stack);
+        self.next();
+        Ok([first, self.handed()])
     }
 }
 
 #[test]
-fn what_is_given_back_is_taken_again_without_memory(rt: HostRuntime) {
+fn what_is_not_begun_comes_again_without_memory(rt: HostRuntime) {
     let mut bench = Bench::new(rt.alloc());
     bench.begin(0);
     let mut told = nothing_told();
     let stuck = bench.run(&[(USING, ROOT, PASS, 0, 9)], &mut told);
     let done = bench.step((DISPOSE, 0, 0, 1, 0));
-    let taken = bench.taken_twice();
+    let handed = bench.handed_twice();
     bench.close();
     assert_eq!(rt; (stuck, done), (Ok(None), Ok(0)));
     // the root was closed without an end; the release comes behind that
-    assert_eq!(rt; taken, Ok([(9, 4, 1), (9, 4, 1)]));
+    assert_eq!(rt; handed, Ok([(9, 4, 1), (9, 4, 1)]));
 }

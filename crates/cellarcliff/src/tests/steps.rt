@@ -73,7 +73,7 @@ impl Bench {
 
 #[test]
 fn a_call_from_within_an_effect_passes_and_goes_on(rt: HostRuntime) {
-    let mut bench = Bench::by_turns(rt.alloc());
+    let mut bench = Bench::new(rt.alloc());
     bench.begin(0);
     let passed = bench.pass_on();
     bench.close();
@@ -83,7 +83,7 @@ fn a_call_from_within_an_effect_passes_and_goes_on(rt: HostRuntime) {
 
 #[test]
 fn what_was_not_begun_comes_again(rt: HostRuntime) {
-    let mut bench = Bench::by_turns(rt.alloc());
+    let mut bench = Bench::new(rt.alloc());
     bench.begin(0);
     let opened = bench.step((OPEN, ROOT, LEAF, 0, 3));
     let stopped = bench.stop_in_the_midst();
@@ -94,11 +94,11 @@ fn what_was_not_begun_comes_again(rt: HostRuntime) {
 
 #[test]
 fn the_words_of_closed_nodes_are_told(rt: HostRuntime) {
-    let mut bench = Bench::by_turns(rt.alloc());
+    let mut bench = Bench::new(rt.alloc());
     bench.begin(0);
     let closings = bench.closings();
     let mut told = nothing_told();
-    bench.go_on(&mut told);
+    bench.serve(&mut told);
     let is_over = bench.finish(&mut told);
     bench.close();
     assert_eq!(rt; closings, Ok((1, 1, [21, 9])));

@@ -1,6 +1,6 @@
 use Rattle.rx_resource.specs.contracts.token.TokenResource.TheImpl.{ghosts}
-use Rattle.cellarcliff.proofs.CallsMakeCourses.{calls_are_courses}
+use Rattle.cellarcliff.proofs.CallsMakeCourses.{all_calls_are_courses}
 use Rattle.cellarcliff.proofs.laws.calls_are_courses.Goals as goal
 
 pub returns : goal.returns
-returns c = calls_are_courses ghosts
+returns c = all_calls_are_courses ghosts

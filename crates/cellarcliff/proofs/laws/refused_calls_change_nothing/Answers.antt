@@ -1,5 +1,5 @@
 use Rattle.rx_resource.specs.contracts.token.TokenResource.TheImpl.{ghosts}
-use Rattle.cellarcliff.proofs.RefusalsChangeNothing.{refused_calls_change_nothing}
+use Rattle.cellarcliff.proofs.ToldInOrder.{refused_calls_change_nothing}
 use Rattle.cellarcliff.proofs.laws.refused_calls_change_nothing.Goals as goal
 
 pub returns : goal.returns

@@ -1,5 +1,5 @@
 use Rattle.rx_resource.specs.contracts.token.TokenResource.TheImpl.{ghosts}
-use Rattle.cellarcliff.proofs.TurnsKeepOrder.{steps_leave_nothing}
+use Rattle.cellarcliff.proofs.ToldInOrder.{steps_leave_nothing}
 use Rattle.cellarcliff.proofs.laws.steps_leave_nothing.Goals as goal
 
 pub returns : goal.returns

@@ -1,5 +1,5 @@
 use Rattle.rx_resource.specs.contracts.token.TokenResource.TheImpl.{ghosts}
-use Rattle.cellarcliff.proofs.TurnsOwnTickets.{tickets_are_own}
+use Rattle.cellarcliff.proofs.OwnTickets.{tickets_are_own}
 use Rattle.cellarcliff.proofs.laws.tickets_are_own.Goals as goal
 
 pub returns : goal.returns

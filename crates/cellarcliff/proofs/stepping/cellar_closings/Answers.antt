@@ -1,8 +1,5 @@
-use Rattle.cellarcliff.proofs.CallOnEngine.{looked, kept}
+use Rattle.cellarcliff.proofs.CallOnEngine.{looked}
 use Rattle.cellarcliff.proofs.stepping.cellar_closings.Goals as goal
 
 pub returns : goal.returns
-returns c = record {
-  told = looked c.in-Some.ensures.taken c.put.ensures.kept c.deref.ensures c.rest-status.ensures;
-  keeps = kept c.in-Some.ensures.taken c.put.ensures.kept;
-}
+returns c = looked c.in-Some.ensures.taken c.put.ensures.kept c.deref.ensures c.rest-status.ensures

@@ -22,9 +22,9 @@ use Rattle.rx_cellar.specs.Beginnings.{IsFresh, limit_of}
 use Rattle.rx_cellar.specs.Crossings.{what_code, effect_of}
 use Rattle.rx_turns.specs.declared.turns.Turns.{Turns}
 use Rattle.rx_turns.specs.Courses.{Seen, handed_in, was_told, came_back, seen_tag, seen_told, seen_back, seen_of}
-use Rattle.cellarcliff.specs.Calls.{IsMade, makes, is_starved, is_held, IsFinished, finishes, is_untaken, is_absent}
-use Rattle.cellarcliff.specs.TurnCourses.{Shown, AreNewTurns, effects_told, all_tags, all_told, all_back, many_of, releases_tag, AreTurnsToldOnce}
-use Rattle.cellarcliff.proofs.TurnsMakeCourses.{ShowsCourse, shows_course}
+use Rattle.cellarcliff.specs.Calls.{IsMade, IsFinished, finishes, is_untaken, is_absent}
+use Rattle.cellarcliff.specs.Courses.{Shown, AreNewTurns, effects_handed, all_tags, those_told, all_back, many_that, releases_tag, AreEffectsToldOnce}
+use Rattle.cellarcliff.proofs.CallsMakeCourses.{begins_so, ShowsCourse, shows_course}
 use Rattle.cellarcliff.proofs.CountsOverLanes.{all_taken, all_returned, told_once}
 use Rattle.cellarcliff.proofs.NothingLeftToTell.{nothing_left}
 
@@ -37,13 +37,13 @@ tags-append tag (was_told name e ∷ xs) ys = tags-append tag xs ys
 tags-append tag (came_back name e ∷ xs) ys = tags-append tag xs ys
 
 module _ (test : Effect → Bool) where
-  told-append : (xs ys : List Seen) → many_of test (all_told (xs ++ ys)) ≡ many_of test (all_told xs) + many_of test (all_told ys)
+  told-append : (xs ys : List Seen) → many_that test (those_told (xs ++ ys)) ≡ many_that test (those_told xs) + many_that test (those_told ys)
   told-append [] ys = omega arith
   told-append (handed_in tag ∷ xs) ys = told-append xs ys
   told-append (was_told name e ∷ xs) ys = let rest = told-append xs ys in omega (arith, rest)
   told-append (came_back name e ∷ xs) ys = told-append xs ys
 
-  back-append : (xs ys : List Seen) → many_of test (all_back (xs ++ ys)) ≡ many_of test (all_back xs) + many_of test (all_back ys)
+  back-append : (xs ys : List Seen) → many_that test (all_back (xs ++ ys)) ≡ many_that test (all_back xs) + many_that test (all_back ys)
   back-append [] ys = omega arith
   back-append (handed_in tag ∷ xs) ys = back-append xs ys
   back-append (was_told name e ∷ xs) ys = back-append xs ys
@@ -54,8 +54,8 @@ module _ (test : Effect → Bool) where
 -- of one command
 record TagCounted (tag times_in : ℕ) (acts : List Seen) : Type 0 where
   once : times tag (all_tags acts) ≡ times_in
-  none_told : (test : Effect → Bool) → many_of test (all_told acts) ≡ 0
-  none_back : (test : Effect → Bool) → many_of test (all_back acts) ≡ 0
+  none_told : (test : Effect → Bool) → many_that test (those_told acts) ≡ 0
+  none_back : (test : Effect → Bool) → many_that test (all_back acts) ≡ 0
 
 no_tag : (tag : ℕ) → TagCounted tag 0 []
 no_tag tag = record { once = refl; none_told = λ test. refl; none_back = λ test. refl }
@@ -77,11 +77,11 @@ by_tag tag (has_checkpointed made) = no_tag tag
 
 -- of one taking, and one giving up
 told_taken : (test : Effect → Bool) (name : LaneName) (o : Option Sent) →
-    many_of test (all_told (seen_told name o)) ≡ counted (λ sent. test (effect_of sent)) (option_to_list o)
+    many_that test (those_told (seen_told name o)) ≡ counted (λ sent. test (effect_of sent)) (option_to_list o)
 told_taken test name None = refl
 told_taken test name (Some sent) = refl
 
-back_taken : (test : Effect → Bool) (name : LaneName) (o : Option Sent) → many_of test (all_back (seen_told name o)) ≡ 0
+back_taken : (test : Effect → Bool) (name : LaneName) (o : Option Sent) → many_that test (all_back (seen_told name o)) ≡ 0
 back_taken test name None = refl
 back_taken test name (Some sent) = refl
 
@@ -90,12 +90,12 @@ tags_taken tag name None = refl
 tags_taken tag name (Some sent) = refl
 
 back_given : (test : Effect → Bool) (name : LaneName) (is_left : Option Bool) (o : Option Sent) →
-    many_of test (all_back (seen_back name is_left o)) ≡ (if is_some is_left then counted (λ sent. test (effect_of sent)) (option_to_list o) else 0)
+    many_that test (all_back (seen_back name is_left o)) ≡ (if is_some is_left then counted (λ sent. test (effect_of sent)) (option_to_list o) else 0)
 back_given test name None o = refl
 back_given test name (Some left) None = refl
 back_given test name (Some left) (Some sent) = refl
 
-told_given : (test : Effect → Bool) (name : LaneName) (is_left : Option Bool) (o : Option Sent) → many_of test (all_told (seen_back name is_left o)) ≡ 0
+told_given : (test : Effect → Bool) (name : LaneName) (is_left : Option Bool) (o : Option Sent) → many_that test (those_told (seen_back name is_left o)) ≡ 0
 told_given test name None o = refl
 told_given test name (Some left) None = refl
 told_given test name (Some left) (Some sent) = refl
@@ -106,7 +106,7 @@ tags_given tag name (Some left) None = refl
 tags_given tag name (Some left) (Some sent) = refl
 
 told_all : (test : Effect → Bool) {g : Ghosts Token} {s t : State} (course : Course g s t) →
-    many_of test (all_told (seen_of course)) ≡ all_taken (λ sent. test (effect_of sent)) course
+    many_that test (those_told (seen_of course)) ≡ all_taken (λ sent. test (effect_of sent)) course
 told_all test begins = refl
 told_all test (commands before kept c) =
     let both = told-append test (seen_of before) (seen_tag c) in let first = told_all test before in let none = (by_tag 0 c).none_told test in
@@ -120,7 +120,7 @@ told_all test (gives_up {answer = answer} name by undone before kept give) =
     omega (arith, both, first, none)
 
 back_all : (test : Effect → Bool) {g : Ghosts Token} {s t : State} (course : Course g s t) →
-    many_of test (all_back (seen_of course)) ≡ all_returned (λ sent. test (effect_of sent)) course
+    many_that test (all_back (seen_of course)) ≡ all_returned (λ sent. test (effect_of sent)) course
 back_all test begins = refl
 back_all test (commands before kept c) =
     let both = back-append test (seen_of before) (seen_tag c) in let first = back_all test before in let none = (by_tag 0 c).none_back test in
@@ -164,16 +164,8 @@ releases_counted tag (e ∷ es) = λ i. (if (release_code e.what i && e.user == 
 
 -- beginning and end ------------------------------------------------------------------------------------------
 
-pub new_engine : (max_events made : ℕ) (first : Turns) → AreNewTurns max_events made first → IsFresh (limit_of max_events) first.cellar.engine
-new_engine max_events made first new = by_making new.made_so where
-  by_making : IsMade max_events None (Some first.cellar) made → IsFresh (limit_of max_events) first.cellar.engine
-  by_making (makes {s = s} was is fresh stands done) =
-      subst (λ (x : Cellar). IsFresh (limit_of max_events) x.engine) (sym (same_Some first.cellar s is)) fresh.engine
-  by_making (is_starved was is done) = absurd (cc)
-  by_making (is_held was is done) = absurd (cc)
-
-over_at_end : (last : Cellar) (done : ℕ) → IsFinished (Some last) None done → is_over last.engine ≡ true
-over_at_end last done (finishes {s = s} was is over zero) = subst (λ (x : Cellar). is_over x.engine ≡ true) (sym (same_Some last s was)) over
+over_at_end : (last : Turns) (done : ℕ) → IsFinished (Some last) None done → is_over last.cellar.engine ≡ true
+over_at_end last done (finishes {s = s} was is over zero) = subst (λ (x : Turns). is_over x.cellar.engine ≡ true) (sym (same_Some last s was)) over
 over_at_end last done (is_untaken was is over six) = absurd (cc)
 over_at_end last done (is_absent was is one) = absurd (cc)
 
@@ -187,23 +179,23 @@ no_holds limit s new = no_roles s.parts.holds.list (let none = new.names in omeg
 -- the law ----------------------------------------------------------------------------------------------------
 
 effects_once : (g : Ghosts Token) → EachIsToldOnce g → (max_events made done : ℕ) (first last : Turns) (shown : List Shown) →
-    (new : AreNewTurns max_events made first) → IsFinished (Some last.cellar) None done → (shows : ShowsCourse g first last shown) → (test : Effect → Bool) →
-    many_of test (effects_told shown) ≡
-    counted (λ sent. test (effect_of sent)) (all_effects shows.is_shown.is_course.course) + many_of test (all_back shows.is_shown.seen)
+    (new : IsMade max_events None (Some first) made) → IsFinished (Some last) None done → (shows : ShowsCourse g first last shown) → (test : Effect → Bool) →
+    many_that test (effects_handed shown) ≡
+    counted (λ sent. test (effect_of sent)) (all_effects shows.is_shown.is_course.course) + many_that test (all_back shows.is_shown.seen)
 effects_once g law max_events made done first last shown new ending shows test =
     let is = shows.is_shown in
-    let none = nothing_left last.cellar.engine shows.promised (over_at_end last.cellar done ending) in
-    let all = told_once g law (λ sent. test (effect_of sent)) first.cellar.engine last.cellar.engine (new_engine max_events made first new).lanes
+    let none = nothing_left last.cellar.engine shows.promised (over_at_end last done ending) in
+    let all = told_once g law (λ sent. test (effect_of sent)) first.cellar.engine last.cellar.engine (begins_so max_events made first new).new.engine.lanes
     (λ n. none.no_effect (λ sent. test (effect_of sent)) n) is.is_course.course in
     let told = told_all test is.is_course.course in
     let back = back_all test is.is_course.course in
-    let told_same = ap (λ (acts : List Seen). many_of test (all_told acts)) is.is_course.acts_are in
-    let back_same = ap (λ (acts : List Seen). many_of test (all_back acts)) is.is_course.acts_are in
-    let shown_same = ap (many_of test) is.told in
+    let told_same = ap (λ (acts : List Seen). many_that test (those_told acts)) is.is_course.acts_are in
+    let back_same = ap (λ (acts : List Seen). many_that test (all_back acts)) is.is_course.acts_are in
+    let shown_same = ap (many_that test) is.told in
     omega (arith, all, told, back, told_same, back_same, shown_same)
 
-pub turns_told_once : (g : Ghosts Token) → EachIsToldOnce g → TagsOnce g → AreTurnsToldOnce g
-turns_told_once g law tags max_events made done first last shown new course ending less =
+pub effects_told_once : (g : Ghosts Token) → EachIsToldOnce g → TagsOnce g → AreEffectsToldOnce g
+effects_told_once g law tags max_events made done first last shown new course ending less =
     let shows = shows_course g max_events made first last shown new course less in
     let is = shows.is_shown in
     let effects = effects_once g law max_events made done first last shown new ending shows in
@@ -211,11 +203,11 @@ turns_told_once g law tags max_events made done first last shown new course endi
       is_shown = is;
       effects = effects;
       releases = λ tag.
-          (let none = (nothing_left last.cellar.engine shows.promised (over_at_end last.cellar done ending)).no_tag tag in
+          (let none = (nothing_left last.cellar.engine shows.promised (over_at_end last done ending)).no_tag tag in
           let all = effects (releases_tag tag) in
           let released = releases_counted tag (all_effects is.is_course.course) in
           let put = tags tag first.cellar.engine last.cellar.engine
-          (no_holds (limit_of max_events) first.cellar.engine (new_engine max_events made first new)) is.is_course.course in
+          (no_holds (limit_of max_events) first.cellar.engine (begins_so max_events made first new).new.engine) is.is_course.course in
           let seen = tags_all tag is.is_course.course in
           let same = ap (λ (acts : List Seen). times tag (all_tags acts)) is.is_course.acts_are in
           let shown_same = ap (times tag) is.tags in

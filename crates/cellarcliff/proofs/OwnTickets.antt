@@ -22,12 +22,12 @@ use Rattle.rx_turns.proofs.CallsAreCourses.{calls_are_courses}
 use Rattle.rx_turns.proofs.HandsKept.{all_stay}
 use Rattle.cellarcliff.specs.declared.stepping.Stack.{Stack}
 use Rattle.cellarcliff.specs.declared.stepping.Stepped.{Stepped}
-use Rattle.cellarcliff.specs.Calls.{makes, is_starved, is_held, finishes, is_untaken, is_absent}
-use Rattle.cellarcliff.specs.Steps.{turn_of, answer_in, IsStepTold, HasNoTurn}
-use Rattle.cellarcliff.specs.TurnCourses.{Shown, gave_tag, was_handed, tag_given, shown_made, shown_handed, IsTurnsCall, cellar_step, cellar_next, cellar_pass}
-use Rattle.cellarcliff.specs.TurnCourses.{cellar_stop, cellar_closings, cellar_totals, cellar_event, cellar_dump, cellar_new, cellar_finish, TurnsCourse, no_call}
-use Rattle.cellarcliff.specs.TurnCourses.{calls_on, WasHanded, AreTicketsOwn}
-use Rattle.cellarcliff.proofs.TurnsMakeCourses.{handed_shown, shown_as, said, new_turns, next_above}
+use Rattle.cellarcliff.specs.Calls.{IsNew}
+use Rattle.cellarcliff.specs.Steps.{turn_of, answer_in, IsStepTold}
+use Rattle.cellarcliff.specs.Courses.{Shown, gave_tag, was_handed, tag_given, shown_made, shown_handed, IsCellarCall, cellar_step, cellar_next, cellar_pass}
+use Rattle.cellarcliff.specs.Courses.{cellar_stop, cellar_closings, cellar_totals, cellar_event, cellar_dump, cellar_new, cellar_finish, CellarCourse, no_call}
+use Rattle.cellarcliff.specs.Courses.{calls_on, WasHanded, AreTicketsOwn}
+use Rattle.cellarcliff.proofs.CallsMakeCourses.{handed_shown, shown_as, said, same_turns, not_made, not_finished, begins_so, next_above}
 
 -- lists --------------------------------------------------------------------------------------------------
 
@@ -119,7 +119,7 @@ stays_hands s t same =
     let is = same_Some t s same in
     ends_hands s t (ap (λ (x : Turns). x.tickets) is) (all_stay (turn_state s) (turn_state t) None (λ u. ap (λ (x : Turns). in_hand (turn_state x).agenda u) is))
 
-by_call : {g : Ghosts Token} {s t : Turns} {more : List Shown} → IsTurnsCall g s more t → CallHands (turn_state s) (turn_state t) more
+by_call : {g : Ghosts Token} {s t : Turns} {more : List Shown} → IsCellarCall g s more t → CallHands (turn_state s) (turn_state t) more
 by_call {g} {s} {t} (cellar_step {status = status} stack command a b c) =
     step_hands g stack (Some command) s t a b status (shown_made (asked_of command) status) (none_made (status == 0) (asked_of command)) (said s t status c).0
 by_call {g} {s} {t} (cellar_next {status = status} stack a b c) = step_hands g stack None s t a b status [] (λ ticket e is. is) (said s t status c).0
@@ -128,18 +128,12 @@ by_call {g} {s} {t} (cellar_pass {status = status} stack from now_code c) =
     ends_hands s t k.tickets k.hands
 by_call {g} {s} {t} (cellar_stop {status = status} stack c) =
     let k = (calls_are_courses g).stops (turn_of stack) stack.begun (turn_state s) (turn_state t) (said s t status c).0.0 in ends_hands s t k.tickets k.hands
-by_call {g} {s} {t} (cellar_closings from c) = stays_hands s t c.keeps
-by_call {g} {s} {t} (cellar_totals c) = stays_hands s t c.keeps
-by_call {g} {s} {t} (cellar_event place c) = stays_hands s t c.keeps
-by_call {g} {s} {t} (cellar_dump c) = stays_hands s t c.keeps
-by_call {g} {s} {t} (cellar_new max_events (makes was is new stands done) keeps) = absurd (cc)
-by_call {g} {s} {t} (cellar_new max_events (is_starved was is done) keeps) = absurd (cc)
-by_call {g} {s} {t} (cellar_new max_events (is_held was same done) keeps) =
-    stays_hands s t (keeps (λ zero_is. let both = sym done ∙ zero_is in absurd (omega (arith, both))))
-by_call {g} {s} {t} (cellar_finish (finishes was is over done) keeps) = absurd (cc)
-by_call {g} {s} {t} (cellar_finish (is_untaken was same over done) keeps) =
-    stays_hands s t (keeps (λ zero_is. let both = sym done ∙ zero_is in absurd (omega (arith, both))))
-by_call {g} {s} {t} (cellar_finish (is_absent was is done) keeps) = absurd (cc)
+by_call {g} {s} {t} (cellar_closings {status = status} from c) = stays_hands s t (same_turns s t status c)
+by_call {g} {s} {t} (cellar_totals {status = status} c) = stays_hands s t (same_turns s t status c)
+by_call {g} {s} {t} (cellar_event {status = status} place c) = stays_hands s t (same_turns s t status c)
+by_call {g} {s} {t} (cellar_dump {status = status} c) = stays_hands s t (same_turns s t status c)
+by_call {g} {s} {t} (cellar_new {status = status} max_events c) = stays_hands s t (not_made max_events s t status c)
+by_call {g} {s} {t} (cellar_finish {status = status} c) = stays_hands s t (not_finished s t status c)
 
 -- of calls, one after another ----------------------------------------------------------------------------
 
@@ -227,7 +221,7 @@ grows s t _ _ (hands_new lane h next now_is) less =
     let so = next_above most s.tickets h.ticket t.tickets next now_is less in omega (arith, so, now_is, less)
 grows s t _ _ (hands_old turn h held unbegun same) less = omega (arith, same, less)
 
-owns_all : {g : Ghosts Token} {s t : Turns} {shown : List Shown} → Owns (turn_state s) [] → TurnsCourse g s shown t → t.tickets < most →
+owns_all : {g : Ghosts Token} {s t : Turns} {shown : List Shown} → Owns (turn_state s) [] → CellarCourse g s shown t → t.tickets < most →
     Owns (turn_state t) shown
 owns_all first no_call less = first
 owns_all first (calls_on {shown = xs} {more = more} {t = t} {u = u} before call) less =
@@ -235,8 +229,8 @@ owns_all first (calls_on {shown = xs} {more = more} {t = t} {u = u} before call)
     owns_on (turn_state t) (turn_state u) xs more
     (owns_all first before (grows (turn_state t) (turn_state u) k.handed k.told k.handed_so less)) less k.handed k.told k.handed_so k.hands k.shown k.shows
 
-nothing_owned : (first : Turns) → HasNoTurn (turn_state first) → Owns (turn_state first) []
-nothing_owned first new = record {
+nothing_owned : (max_events : ℕ) (first : Turns) → IsNew max_events first → Owns (turn_state first) []
+nothing_owned max_events first new = record {
   within = λ ticket e is. absurd is;
   own = λ ticket e f is also. absurd is;
   held = λ turn h held. let both : None ≡ Some h = sym (new.nothing turn).1 ∙ held in absurd (cc);
@@ -244,5 +238,5 @@ nothing_owned first new = record {
 
 pub tickets_are_own : (g : Ghosts Token) → AreTicketsOwn g
 tickets_are_own g max_events made first last shown new course less =
-    let all = owns_all (nothing_owned first (new_turns max_events made first new).no_turn) course less in
+    let all = owns_all (nothing_owned max_events first (begins_so max_events made first new).new) course less in
     record { positive = λ ticket e is. (all.within ticket e is).0; own = all.own }

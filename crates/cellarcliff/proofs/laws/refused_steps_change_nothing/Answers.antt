@@ -1,6 +1,0 @@
-use Rattle.rx_resource.specs.contracts.token.TokenResource.TheImpl.{ghosts}
-use Rattle.cellarcliff.proofs.TurnsKeepOrder.{refused_steps_change_nothing}
-use Rattle.cellarcliff.proofs.laws.refused_steps_change_nothing.Goals as goal
-
-pub returns : goal.returns
-returns c = refused_steps_change_nothing ghosts
