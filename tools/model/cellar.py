@@ -10,8 +10,8 @@ from .crossing import Differs, event_of
 from .definitions import Accept, Event
 from .turns import Stack
 
-ABI, ROOM, NO_SLOT = 0x20001, 8, 2**64 - 1
-SIZES = (8, 64, 256, 32, 64, 32, 24, 192)  # handle, command, answer, effect, totals, event, stack, stepped
+ABI, ROOM, NO_SLOT = 0x30000, 8, 2**64 - 1
+SIZES = (8, 64, 0, 32, 64, 32, 24, 192)  # handle, command, none, effect, totals, event, stack, stepped
 MADE = {0: 1, 1: 3, 2: 2, 9: 2, 16: 2}  # which keys a command makes: 1 node, 2 other
 UNTOLD = 0xAAAAAAAAAAAAAAAA
 CALLS = {  # what each call takes behind the handle

@@ -241,13 +241,6 @@ class Engine:
 
     # Commands
 
-    def make(self, c: Command) -> Answer:
-        """A command, and the item that is handed out with it."""
-        answer = self.made(c)
-        if answer.hands is not None:
-            self.hand(answer, answer.lanes[0])
-        return answer
-
     def hand(self, answer: Answer, due: Due) -> None:
         """The caller takes the item, which stands alone in its lane, and serves that."""
         assert answer.hands is not None
@@ -487,11 +480,6 @@ class Engine:
         found, lane = self.lanes[name].taken(by, inside)
         self.kept(name, lane)
         return found[0].effect if found else None
-
-    def make_behind(self, c: Command, name: int, inside: bool) -> Answer:
-        """A command whose caller did all that it took of a lane. Where the lane has another effect that is handed out in its place."""
-        effect = self.take(name, inside, c.by)
-        return self.made(c) if effect is None else Answer(UNTAKEN, handed=effect)
 
     def give_up(self, name: int, by: int, untold: Effect | None) -> int | None:
         """Whether the lane has something then; None where the word does not serve it."""

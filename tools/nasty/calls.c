@@ -15,7 +15,7 @@ static struct kept *kept_of(const struct cellar *handle) { return (struct kept *
 uint32_t cellar_abi(void) { return CELLAR_ABI; }
 
 uint32_t cellar_size(uint32_t which) {
-  static const uint32_t sizes[] = {sizeof(struct cellar),        sizeof(struct cellar_command), sizeof(struct cellar_answer), sizeof(struct cellar_effect),
+  static const uint32_t sizes[] = {sizeof(struct cellar),        sizeof(struct cellar_command), 0,                           sizeof(struct cellar_effect),
                                    sizeof(struct cellar_totals), sizeof(struct cellar_event),   sizeof(struct cellar_stack),  sizeof(struct cellar_stepped)};
   return which < sizeof sizes / sizeof *sizes ? sizes[which] : 0;
 }
