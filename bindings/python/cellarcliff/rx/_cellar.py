@@ -24,7 +24,7 @@ DEPTH, BEGUN = 1, 2
 COPIES, CLOSED, CLOSINGS = 6, 7, 8
 HANDED, TICKET, EFFECT = 0, 2, 4
 _ROOM, _REST = 8, 16
-_ABI, _SIZES = 0x20001, {0: 8, 1: 64, 3: 32, 4: 64, 5: 32, 6: 24, 7: 192}
+_ABI, _SIZES = 0x30000, {0: 8, 1: 64, 3: 32, 4: 64, 5: 32, 6: 24, 7: 192}
 #: Those that the extension makes, in its order.
 FAST = "abi size new step next pass stop closings totals drop".split()
 _ARGUMENTS = {

@@ -53,7 +53,7 @@ codes! {
 pub const UNKNOWN_HUB: u64 = u64::MAX;
 /// A key that names nothing.
 pub const NOTHING: Key = Key { slot: u64::MAX, number: u64::MAX };
-const ABI: u32 = 0x0002_0001;
+const ABI: u32 = 0x0003_0000;
 
 /// An engine. Dropping it loses what still stands in it, which is numbers.
 pub struct Crossing {
