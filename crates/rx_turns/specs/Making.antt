@@ -70,15 +70,15 @@ abbrev pub may_ask : (what : ℕ) → Bool
 may_ask what = nat_lt what 4 || what == 9 || what == 11 || what == 14 || what == 16
 
 -- what opens lanes
-abbrev pub opens : (what : ℕ) → Bool
-opens what = nat_lt what 2 || what == 9
+abbrev pub opens_lanes : (what : ℕ) → Bool
+opens_lanes what = nat_lt what 2 || what == 9
 
 -- by a turn that has a line it is made; or, where it opens lanes, of which there may be more than there is room for, there was no memory for these, and
 -- nothing changed
 pub data MakesOnLine (g : Ghosts Token) (turn : Turn) (is_free : Bool) (c : Command) (s t : TurnState) (a b : Answer) : (status : ℕ) → (is_own : Bool) → Type 0 where
   makes_there : (u : TurnState) (status : ℕ) (is_own : Bool) → LosesNothing s.agenda u.agenda → u ≡ record s { agenda = u.agenda } →
       IsMadeBy g turn is_free c u t a b status is_own → MakesOnLine g turn is_free c s t a b status is_own
-  finds_no_room : (many : ℕ) → opens c.what ≡ true → (many ≤ lanes_fit s.agenda → ⊥) → LosesNothing s.agenda t.agenda →
+  finds_no_room : (many : ℕ) → opens_lanes c.what ≡ true → (many ≤ lanes_fit s.agenda → ⊥) → LosesNothing s.agenda t.agenda →
       t ≡ record s { agenda = t.agenda } → b ≡ no_answer a → MakesOnLine g turn is_free c s t a b (refusal_status NoMemory) false
 
 -- it is made; or, only where the turn has no line, there was no memory for one: then what may be refused for that is, and nothing changed; what

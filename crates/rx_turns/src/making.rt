@@ -5,7 +5,7 @@ ghost use Rattle.rx_cellar.specs.Words.{place_in};
 ghost use Rattle.rx_turns.specs.States.{turn_state};
 ghost use Rattle.rx_turns.specs.Agendas.{LosesNothing, lanes_fit};
 ghost use Rattle.rx_turns.specs.Rows.{HasLine};
-ghost use Rattle.rx_turns.specs.Making.{may_ask, opens, words_due, IsMadeDue, AreMadeDue, made_for, lane_at_once};
+ghost use Rattle.rx_turns.specs.Making.{may_ask, opens_lanes, words_due, IsMadeDue, AreMadeDue, made_for, lane_at_once};
 ghost use Rattle.rx_turns.specs.Making.{Comes, ComesIf, IsMadeBy, MakesOnLine, MakesIn};
 
 use crate::agenda::Turn;
@@ -50,8 +50,8 @@ fn may_ask(what: u8) -> bool
 }
 
 // What opens lanes.
-fn opens(what: u8) -> bool
-    ensures { result ≡ opens what }
+fn opens_lanes(what: u8) -> bool
+    ensures { result ≡ opens_lanes what }
 {
     what < 2 || what == 9
 }
@@ -230,7 +230,7 @@ impl Turns {
         ensures { MakesOnLine ⟦<Token as Resource>⟧ turn is_free command.now (turn_state self.old) (turn_state self.new)
             answer.old answer.new result.status result.is_own }
     {
-        if !opens(command.what) {
+        if !opens_lanes(command.what) {
             return self.make_by(turn, is_free, command, answer);
         }
         if self.make_room() {
