@@ -27,7 +27,7 @@ use Rattle.rx_turns.proofs.CallsAreCourses.{calls_are_courses}
 use Rattle.rx_turns.proofs.CoursesTold.{unchanged, and_then}
 use Rattle.cellarcliff.specs.declared.stepping.Stack.{Stack}
 use Rattle.cellarcliff.specs.declared.stepping.Stepped.{Stepped}
-use Rattle.cellarcliff.specs.Calls.{IsMade, makes, is_starved, is_held, finishes, is_untaken, is_absent}
+use Rattle.cellarcliff.specs.Calls.{IsLooked, looks, looks_at_none, IsNew, IsMade, makes, is_starved, is_held, IsFinished, finishes, is_untaken, is_absent}
 use Rattle.cellarcliff.specs.Steps.{turn_of, no_step, answer_in, made_told, handed_told, turns, turns_none, IsStepTold}
 use Rattle.cellarcliff.specs.Courses.{Shown, gave_tag, was_handed, tag_given, shown_made, shown_handed, OnTurns, IsCellarCall, cellar_step}
 use Rattle.cellarcliff.specs.Courses.{cellar_next, cellar_pass, cellar_stop, cellar_closings, cellar_totals, cellar_event, cellar_dump, cellar_new, cellar_finish}

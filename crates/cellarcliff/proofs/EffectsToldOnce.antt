@@ -23,7 +23,7 @@ use Rattle.rx_cellar.specs.Crossings.{what_code, effect_of}
 use Rattle.rx_turns.specs.declared.turns.Turns.{Turns}
 use Rattle.rx_turns.specs.Courses.{Seen, handed_in, was_told, came_back, seen_tag, seen_told, seen_back, seen_of}
 use Rattle.cellarcliff.specs.Calls.{IsMade, IsFinished, finishes, is_untaken, is_absent}
-use Rattle.cellarcliff.specs.Courses.{Shown, AreNewTurns, effects_handed, all_tags, those_told, all_back, many_that, releases_tag, AreEffectsToldOnce}
+use Rattle.cellarcliff.specs.Courses.{Shown, effects_handed, all_tags, those_told, all_back, many_that, releases_tag, AreEffectsToldOnce}
 use Rattle.cellarcliff.proofs.CallsMakeCourses.{begins_so, ShowsCourse, shows_course}
 use Rattle.cellarcliff.proofs.CountsOverLanes.{all_taken, all_returned, told_once}
 use Rattle.cellarcliff.proofs.NothingLeftToTell.{nothing_left}

@@ -15,7 +15,7 @@ use Rattle.rx_turns.specs.declared.agenda.Turn.{Turn}
 use Rattle.rx_turns.specs.declared.agenda.Task.{Task}
 use Rattle.rx_turns.specs.Agendas.{has_nothing}
 use Rattle.rx_turns.specs.States.{TurnState, turn_state}
-use Rattle.rx_turns.specs.Making.{words_due, made_for, ComesIf, IsMadeBy, MakesIn, is_made, is_made_bare, finds_no_line}
+use Rattle.rx_turns.specs.Making.{words_due, made_for, ComesIf, IsMadeBy, MakesOnLine, makes_there, finds_no_room, MakesIn, is_made, is_made_bare, finds_no_line}
 use Rattle.rx_turns.specs.Calls.{TurnGoesOn}
 use Rattle.rx_turns.specs.Promises.{NothingIsLeft, NothingIsAstray}
 use Rattle.cellarcliff.specs.declared.stepping.Stepped.{Stepped}
@@ -112,19 +112,27 @@ module _ (g : Ghosts Token) (turn : Turn) (c : Command) where
         no_own = none.1;
       }
 
+  nothing_made : (s t : TurnState) (a b : Answer) → t.cellar ≡ s.cellar → b ≡ no_answer a → Refuses g s t a b false
+  nothing_made s t a b same none = record {
+    engine = subst (λ (x : Cellar). KeepsAllElse g s.cellar.engine x.engine) (sym same) is_as_before;
+    released = ap (λ (x : Cellar). x.released) same;
+    nothing_told = none;
+    no_own = refl;
+  }
+
+  on_line : (is_free : Bool) (s u t : TurnState) (a b : Answer) (status : ℕ) (is_own : Bool) → u.cellar ≡ s.cellar →
+      MakesOnLine g turn is_free c u t a b status is_own → status ≢ 0 → Refuses g s t a b is_own
+  on_line is_free s u t a b _ _ before (makes_there v status is_own loses only by) undone =
+      made_refuses is_free s v t a b status is_own (ap (λ (x : TurnState). x.cellar) only ∙ before) by undone
+  on_line is_free s u t a b _ _ before (finds_no_room many may_open full loses only none) undone =
+      nothing_made s t a b (ap (λ (x : TurnState). x.cellar) only ∙ before) none
+
   refuses : (s t : TurnState) (a b : Answer) (status : ℕ) (is_own : Bool) → MakesIn g turn c s t a b status is_own → status ≢ 0 → Refuses g s t a b is_own
-  refuses s t a b _ _ (is_made u status is_own line by) undone =
-      made_refuses (has_nothing s.agenda turn) s u t a b status is_own (ap (λ (x : TurnState). x.cellar) line.only) by undone
+  refuses s t a b _ _ (is_made u status is_own line on) undone =
+      on_line (has_nothing s.agenda turn) s u t a b status is_own (ap (λ (x : TurnState). x.cellar) line.only) on undone
   refuses s t a b _ _ (is_made_bare u status none may loses only by) undone =
       made_refuses true s u t a b status false (ap (λ (x : TurnState). x.cellar) only) by undone
-  refuses s t a b _ _ (finds_no_line full may loses only none) undone =
-      let same = ap (λ (x : TurnState). x.cellar) only in
-      record {
-        engine = subst (λ (x : Cellar). KeepsAllElse g s.cellar.engine x.engine) (sym same) is_as_before;
-        released = ap (λ (x : Cellar). x.released) same;
-        nothing_told = none;
-        no_own = refl;
-      }
+  refuses s t a b _ _ (finds_no_line full may loses only none) undone = nothing_made s t a b (ap (λ (x : TurnState). x.cellar) only) none
 
 pub refused_calls_change_nothing : (g : Ghosts Token) → RefusedCallsChangeNothing g
 refused_calls_change_nothing g stack c a b s t status on undone =
