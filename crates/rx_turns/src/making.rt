@@ -214,8 +214,16 @@ impl Turns {
         ensures lines { self.new.agenda.rows ≡ self.old.agenda.rows }
         ensures none { result ≡ false → (many : ℕ) × (many ≤ lanes_fit (turn_state self.old).agenda → ⊥) }
     {
+        if self.spare > 0 {
+            self.spare -= 1;
+            return true;
+        }
         let many = lanes_wanted(&self.cellar, self.agenda.turns());
-        self.agenda.widen(many).is_ok()
+        if self.agenda.widen(many.saturating_add(many)).is_err() {
+            return false;
+        }
+        self.spare = many / 3;
+        true
     }
 
     // Makes a command in a turn that has a line, where there is room for the lanes that it may open.

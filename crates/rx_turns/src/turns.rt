@@ -24,6 +24,8 @@ pub struct Turns {
     pub(crate) agenda: Agenda,
     pub(crate) tickets: u64,
     pub(crate) astray: Option<u64>,
+    // For so many openings more there is room for their lanes, without counting anew.
+    pub(crate) spare: usize,
 }
 
 impl Turns {
@@ -45,6 +47,7 @@ impl Turns {
             agenda: Agenda::new(alloc),
             tickets: 0,
             astray: None,
+            spare: 0,
         }
     }
 
