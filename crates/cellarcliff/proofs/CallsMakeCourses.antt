@@ -2,7 +2,7 @@
 use Rattle.std.proofs.Common.{◌≡◌, ℕ, ◌+◌, ◌<◌, ◌≤◌, ◌==◌, ◌⊎◌, inl, inr, min, nat_lt, Bool, true, false, List, [], ◌∷◌, ◌++◌, Option, Some, None, refl, sym, ap}
 use Rattle.std.proofs.Common.{subst, ◌∙◌, arith, if◌then◌else◌}
 use Rattle.std.proofs.Math.Bool.{not}
-use Rattle.std.proofs.lemmas.Bool.{false_from_ne_true, lt-ltb, ltb-true}
+use Rattle.std.proofs.lemmas.Bool.{false≢true, false_from_ne_true, lt-ltb, ltb-true}
 use Rattle.std.proofs.lemmas.Option.{same_Some}
 use Rattle.rx_resource.specs.declared.Resource.{Ghosts}
 use Rattle.rx_resource.specs.declared.token.Token.{Token}
@@ -29,9 +29,9 @@ use Rattle.cellarcliff.specs.declared.stepping.Stack.{Stack}
 use Rattle.cellarcliff.specs.declared.stepping.Stepped.{Stepped}
 use Rattle.cellarcliff.specs.Calls.{IsLooked, looks, looks_at_none, IsNew, IsMade, makes, is_starved, is_held, IsFinished, finishes, is_untaken, is_absent}
 use Rattle.cellarcliff.specs.Steps.{turn_of, no_step, answer_in, made_told, handed_told, turns, turns_none, IsStepTold}
-use Rattle.cellarcliff.specs.Courses.{Shown, gave_tag, was_handed, tag_given, shown_made, shown_handed, OnTurns, IsCellarCall, cellar_step}
+use Rattle.cellarcliff.specs.Courses.{Shown, gave_tag, was_handed, let_go, lets_none_go, tag_given, shown_made, shown_handed, OnTurns, IsCellarCall, cellar_step}
 use Rattle.cellarcliff.specs.Courses.{cellar_next, cellar_pass, cellar_stop, cellar_closings, cellar_totals, cellar_event, cellar_dump, cellar_new, cellar_finish}
-use Rattle.cellarcliff.specs.Courses.{CellarCourse, no_call, calls_on, tags_shown, told_from, all_tags, those_told, IsShownCourse, AreCallsCourses}
+use Rattle.cellarcliff.specs.Courses.{CellarCourse, no_call, calls_on, tags_shown, told_from, all_tags, those_told, all_back, IsShownCourse, AreCallsCourses}
 
 -- lists --------------------------------------------------------------------------------------------------
 
@@ -51,16 +51,37 @@ shown_tags-append : (xs ys : List Shown) → tags_shown (xs ++ ys) ≡ tags_show
 shown_tags-append [] ys = refl
 shown_tags-append (gave_tag tag ∷ xs) ys = ap (λ (ns : List ℕ). tag ∷ ns) (shown_tags-append xs ys)
 shown_tags-append (was_handed ticket e ∷ xs) ys = shown_tags-append xs ys
+shown_tags-append (let_go ∷ xs) ys = shown_tags-append xs ys
+
+back-append : (xs ys : List Seen) → all_back (xs ++ ys) ≡ all_back xs ++ all_back ys
+back-append [] ys = refl
+back-append (handed_in tag ∷ xs) ys = back-append xs ys
+back-append (was_told lane e ∷ xs) ys = back-append xs ys
+back-append (came_back lane e ∷ xs) ys = ap (λ (es : List Effect). e ∷ es) (back-append xs ys)
+
+none_in_first : (xs ys : List Shown) → lets_none_go (xs ++ ys) ≡ true → lets_none_go xs ≡ true
+none_in_first [] ys none = refl
+none_in_first (gave_tag tag ∷ xs) ys none = none_in_first xs ys none
+none_in_first (was_handed ticket e ∷ xs) ys none = none_in_first xs ys none
+none_in_first (let_go ∷ xs) ys none = none
+
+none_in_last : (xs ys : List Shown) → lets_none_go (xs ++ ys) ≡ true → lets_none_go ys ≡ true
+none_in_last [] ys none = none
+none_in_last (gave_tag tag ∷ xs) ys none = none_in_last xs ys none
+none_in_last (was_handed ticket e ∷ xs) ys none = none_in_last xs ys none
+none_in_last (let_go ∷ xs) ys none = absurd (false≢true none)
 
 -- the highest ticket
 abbrev top : (last : ℕ) → List Shown → ℕ
 top last [] = last
 top last (gave_tag tag ∷ shown) = top last shown
 top last (was_handed ticket e ∷ shown) = if nat_lt last ticket then top ticket shown else top last shown
+top last (let_go ∷ shown) = top last shown
 
 from-append : (last : ℕ) (xs ys : List Shown) → told_from last (xs ++ ys) ≡ told_from last xs ++ told_from (top last xs) ys
 from-append last [] ys = refl
 from-append last (gave_tag tag ∷ xs) ys = from-append last xs ys
+from-append last (let_go ∷ xs) ys = from-append last xs ys
 from-append last (was_handed ticket e ∷ xs) ys = by_test (nat_lt last ticket) (from-append ticket xs ys) (from-append last xs ys) where
   by_test : (b : Bool) → told_from ticket (xs ++ ys) ≡ told_from ticket xs ++ told_from (top ticket xs) ys →
       told_from last (xs ++ ys) ≡ told_from last xs ++ told_from (top last xs) ys →
@@ -72,6 +93,7 @@ from-append last (was_handed ticket e ∷ xs) ys = by_test (nat_lt last ticket) 
 top-append : (last : ℕ) (xs ys : List Shown) → top last (xs ++ ys) ≡ top (top last xs) ys
 top-append last [] ys = refl
 top-append last (gave_tag tag ∷ xs) ys = top-append last xs ys
+top-append last (let_go ∷ xs) ys = top-append last xs ys
 top-append last (was_handed ticket e ∷ xs) ys = by_test (nat_lt last ticket) (top-append ticket xs ys) (top-append last xs ys) where
   by_test : (b : Bool) → top ticket (xs ++ ys) ≡ top (top ticket xs) ys → top last (xs ++ ys) ≡ top (top last xs) ys →
       (if b then top ticket (xs ++ ys) else top last (xs ++ ys)) ≡ top (if b then top ticket xs else top last xs) ys
@@ -90,6 +112,7 @@ handed_shown (Some h) = was_handed h.ticket h.effect ∷ []
 
 record HandsAlike (s t : TurnState) (handed : Option Task) (told : List Seen) : Type 0 where
   tags : all_tags told ≡ []
+  none_back : all_back told ≡ []
   no_tags : tags_shown (handed_shown handed) ≡ []
   grows : t.tickets < most → s.tickets ≤ t.tickets
   told_so : t.tickets < most → Below s → those_told told ≡ told_from s.tickets (handed_shown handed)
@@ -120,6 +143,7 @@ same_number n m same = omega (arith, same)
 alike_handed : (s t : TurnState) (handed : Option Task) (told : List Seen) → IsHandedOf s t handed told → HandsAlike s t handed told
 alike_handed s t _ _ (hands_none same) = record {
   tags = refl;
+  none_back = refl;
   no_tags = refl;
   grows = λ less. same_number t.tickets s.tickets same;
   told_so = λ less below. refl;
@@ -128,6 +152,7 @@ alike_handed s t _ _ (hands_none same) = record {
 }
 alike_handed s t _ _ (hands_new lane h next now_is) = record {
   tags = refl;
+  none_back = refl;
   no_tags = refl;
   grows = λ less. let so = next_above most s.tickets h.ticket t.tickets next now_is less in omega (arith, so, now_is);
   told_so = λ less below.
@@ -139,6 +164,7 @@ alike_handed s t _ _ (hands_new lane h next now_is) = record {
 }
 alike_handed s t _ _ (hands_old turn h held unbegun same) = record {
   tags = refl;
+  none_back = refl;
   no_tags = refl;
   grows = λ less. same_number t.tickets s.tickets same;
   told_so = λ less below. sym (ap (λ (b : Bool). if b then h.effect ∷ [] else []) (not_above s.tickets h.ticket (below turn h held)));
@@ -160,6 +186,7 @@ pub record CallGoes (g : Ghosts Token) (s t : Turns) (shown : List Shown) : Type
   pub course : IsEngineCourse g s.cellar.engine t.cellar.engine seen
   pub promised : IsPromised t.cellar.engine
   tags : all_tags seen ≡ tags_shown shown
+  back : lets_none_go shown ≡ true → all_back seen ≡ []
   grows : t.tickets < most → s.tickets ≤ t.tickets
   told : t.tickets < most → Below (turn_state s) → those_told seen ≡ told_from s.tickets shown
   top_is : t.tickets < most → Below (turn_state s) → top s.tickets shown ≡ t.tickets
@@ -179,6 +206,7 @@ goes_then {s = s} {t = t} {u = u} {xs = xs} {ys = ys} p q =
       course = and_then p.course q.course;
       promised = q.promised;
       tags = tags-append p.seen q.seen ∙ (λ i. p.tags i ++ q.tags i) ∙ sym (shown_tags-append xs ys);
+      back = λ none. back-append p.seen q.seen ∙ (λ i. p.back (none_in_first xs ys none) i ++ q.back (none_in_last xs ys none) i);
       grows = λ less. through s.tickets t.tickets u.tickets (p.grows (less_so less)) (q.grows less);
       told = λ less below.
           told-append p.seen q.seen
@@ -196,6 +224,7 @@ nothing_goes g s kept = record {
   course = unchanged g s.cellar.engine s.cellar.engine refl;
   promised = kept;
   tags = refl;
+  back = λ none. refl;
   grows = λ less. same_number s.tickets s.tickets refl;
   told = λ less below. refl;
   top_is = λ less below. refl;
@@ -226,14 +255,15 @@ stays g s t kept same = subst (λ (x : Turns). CallGoes g s x []) (sym (same_Som
 record TagsAlike (seen : List Seen) (shown : List Shown) : Type 0 where
   tags : all_tags seen ≡ tags_shown shown
   told : those_told seen ≡ []
+  none_back : all_back seen ≡ []
   from : (n : ℕ) → told_from n shown ≡ []
   same_top : (n : ℕ) → top n shown ≡ n
 
 no_tag : TagsAlike [] []
-no_tag = record { tags = refl; told = refl; from = λ n. refl; same_top = λ n. refl }
+no_tag = record { tags = refl; told = refl; none_back = refl; from = λ n. refl; same_top = λ n. refl }
 
 one_tag : (tag : ℕ) → TagsAlike (handed_in tag ∷ []) (gave_tag tag ∷ [])
-one_tag tag = record { tags = refl; told = refl; from = λ n. refl; same_top = λ n. refl }
+one_tag tag = record { tags = refl; told = refl; none_back = refl; from = λ n. refl; same_top = λ n. refl }
 
 asked_alike : (asked : Option Asked) → TagsAlike (tag_asked asked) (tag_given asked)
 asked_alike None = no_tag
@@ -275,6 +305,7 @@ step_goes g s t handed acts tags alike kept k =
       course = k.course;
       promised = kept;
       tags = tags-append acts k.told ∙ (λ i. alike.tags i ++ (hands.tags ∙ sym hands.no_tags) i) ∙ sym (shown_tags-append tags (handed_shown handed));
+      back = λ none. back-append acts k.told ∙ (λ i. alike.none_back i ++ hands.none_back i);
       grows = hands.grows;
       told = λ less below.
           told-append acts k.told ∙ (λ i. alike.told i ++ hands.told_so less below i)
@@ -306,12 +337,13 @@ back_told : (s : TurnState) (acts : List Seen) → AreBack s acts → those_told
 back_told s _ none_back = refl
 back_told s _ (one_back lane turn h what acts held unbegun kind rest) = back_told s acts rest
 
-end_goes : (g : Ghosts Token) (s t : Turns) → IsPromised t.cellar.engine → IsEndCourse g (turn_state s) (turn_state t) → CallGoes g s t []
+end_goes : (g : Ghosts Token) (s t : Turns) → IsPromised t.cellar.engine → IsEndCourse g (turn_state s) (turn_state t) → CallGoes g s t (let_go ∷ [])
 end_goes g s t kept k = record {
   seen = k.back;
   course = k.course;
   promised = kept;
   tags = back_tags (turn_state s) k.back k.back_so;
+  back = λ none. absurd (false≢true none);
   grows = λ less. same_number t.tickets s.tickets k.tickets;
   told = λ less below. back_told (turn_state s) k.back k.back_so;
   top_is = λ less below. sym k.tickets;
@@ -388,6 +420,7 @@ shows_course g max_events made first last shown new course less =
         seen = goes.seen;
         is_course = goes.course;
         tags = goes.tags;
+        back = goes.back;
         told = goes.told less (none_held max_events first begins.new) ∙ ap (λ (n : ℕ). told_from n shown) begins.new.tickets;
       };
       promised = goes.promised;

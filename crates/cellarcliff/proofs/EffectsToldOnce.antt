@@ -17,7 +17,6 @@ use Rattle.rx_courses.specs.Courses.{IsCommand, is_refused, has_done, has_held, 
 use Rattle.rx_courses.specs.Courses.{Course, begins, commands, takes, gives_up, all_effects, handed_in as tag_handed_in, all_handed_in, times, TagsOnce}
 use Rattle.rx_courses.specs.Tellings.{counted, EachIsToldOnce}
 use Rattle.rx_cellar.specs.declared.shapes.Effect.{Effect}
-use Rattle.rx_cellar.specs.declared.cellar.Cellar.{Cellar}
 use Rattle.rx_cellar.specs.Beginnings.{IsFresh, limit_of}
 use Rattle.rx_cellar.specs.Crossings.{what_code, effect_of}
 use Rattle.rx_turns.specs.declared.turns.Turns.{Turns}

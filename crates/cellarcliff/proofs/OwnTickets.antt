@@ -24,7 +24,7 @@ use Rattle.cellarcliff.specs.declared.stepping.Stack.{Stack}
 use Rattle.cellarcliff.specs.declared.stepping.Stepped.{Stepped}
 use Rattle.cellarcliff.specs.Calls.{IsNew}
 use Rattle.cellarcliff.specs.Steps.{turn_of, answer_in, IsStepTold}
-use Rattle.cellarcliff.specs.Courses.{Shown, gave_tag, was_handed, tag_given, shown_made, shown_handed, IsCellarCall, cellar_step, cellar_next, cellar_pass}
+use Rattle.cellarcliff.specs.Courses.{Shown, gave_tag, was_handed, let_go, tag_given, shown_made, shown_handed, IsCellarCall, cellar_step, cellar_next, cellar_pass}
 use Rattle.cellarcliff.specs.Courses.{cellar_stop, cellar_closings, cellar_totals, cellar_event, cellar_dump, cellar_new, cellar_finish, CellarCourse, no_call}
 use Rattle.cellarcliff.specs.Courses.{calls_on, WasHanded, AreTicketsOwn}
 use Rattle.cellarcliff.proofs.CallsMakeCourses.{handed_shown, shown_as, said, same_turns, not_made, not_finished, begins_so, next_above}
@@ -34,6 +34,7 @@ use Rattle.cellarcliff.proofs.CallsMakeCourses.{handed_shown, shown_as, said, sa
 in_either : (ticket : ℕ) (e : Effect) (xs ys : List Shown) → WasHanded ticket e (xs ++ ys) → WasHanded ticket e xs ⊎ WasHanded ticket e ys
 in_either ticket e [] ys is = inr is
 in_either ticket e (gave_tag tag ∷ xs) ys is = in_either ticket e xs ys is
+in_either ticket e (let_go ∷ xs) ys is = in_either ticket e xs ys is
 in_either ticket e (was_handed other f ∷ xs) ys (inl here) = inl (inl here)
 in_either ticket e (was_handed other f ∷ xs) ys (inr later) = by_rest (in_either ticket e xs ys later) where
   by_rest : WasHanded ticket e xs ⊎ WasHanded ticket e ys → (((other ≡ ticket) × (f ≡ e)) ⊎ WasHanded ticket e xs) ⊎ WasHanded ticket e ys
@@ -43,6 +44,7 @@ in_either ticket e (was_handed other f ∷ xs) ys (inr later) = by_rest (in_eith
 in_first : (ticket : ℕ) (e : Effect) (xs ys : List Shown) → WasHanded ticket e xs → WasHanded ticket e (xs ++ ys)
 in_first ticket e [] ys is = absurd is
 in_first ticket e (gave_tag tag ∷ xs) ys is = in_first ticket e xs ys is
+in_first ticket e (let_go ∷ xs) ys is = in_first ticket e xs ys is
 in_first ticket e (was_handed other f ∷ xs) ys (inl here) = inl here
 in_first ticket e (was_handed other f ∷ xs) ys (inr later) = inr (in_first ticket e xs ys later)
 
@@ -55,6 +57,7 @@ only_last ticket e xs ys none is = by_either (in_either ticket e xs ys is) where
 in_last : (ticket : ℕ) (e : Effect) (xs ys : List Shown) → WasHanded ticket e ys → WasHanded ticket e (xs ++ ys)
 in_last ticket e [] ys is = is
 in_last ticket e (gave_tag tag ∷ xs) ys is = in_last ticket e xs ys is
+in_last ticket e (let_go ∷ xs) ys is = in_last ticket e xs ys is
 in_last ticket e (was_handed other f ∷ xs) ys is = inr (in_last ticket e xs ys is)
 
 -- of a call ----------------------------------------------------------------------------------------------
@@ -110,14 +113,21 @@ step_hands g stack c s t a b status tags none k =
       shows = λ ticket e is. subst (λ (xs : List Shown). WasHanded ticket e (tags ++ xs)) (sym shown_so) (in_last ticket e tags (handed_shown k.step.handed) is);
     }
 
-ends_hands : (s t : Turns) → t.tickets ≡ s.tickets → HandsFrom (turn_state s) (turn_state t) None → CallHands (turn_state s) (turn_state t) []
-ends_hands s t tickets hands =
-    record { handed = None; told = []; handed_so = hands_none tickets; hands = hands; shown = λ ticket e is. is; shows = λ ticket e is. is }
+ends_hands : (s t : Turns) (more : List Shown) → ((ticket : ℕ) (e : Effect) → WasHanded ticket e more → ⊥) → t.tickets ≡ s.tickets →
+    HandsFrom (turn_state s) (turn_state t) None → CallHands (turn_state s) (turn_state t) more
+ends_hands s t more none tickets hands = record {
+  handed = None;
+  told = [];
+  handed_so = hands_none tickets;
+  hands = hands;
+  shown = λ ticket e is. none ticket e is;
+  shows = λ ticket e is. absurd is;
+}
 
 stays_hands : (s t : Turns) → Some t ≡ Some s → CallHands (turn_state s) (turn_state t) []
 stays_hands s t same =
     let is = same_Some t s same in
-    ends_hands s t (ap (λ (x : Turns). x.tickets) is) (all_stay (turn_state s) (turn_state t) None (λ u. ap (λ (x : Turns). in_hand (turn_state x).agenda u) is))
+    ends_hands s t [] (λ ticket e none. none) (ap (λ (x : Turns). x.tickets) is) (all_stay (turn_state s) (turn_state t) None (λ u. ap (λ (x : Turns). in_hand (turn_state x).agenda u) is))
 
 by_call : {g : Ghosts Token} {s t : Turns} {more : List Shown} → IsCellarCall g s more t → CallHands (turn_state s) (turn_state t) more
 by_call {g} {s} {t} (cellar_step {status = status} stack command a b c) =
@@ -125,9 +135,10 @@ by_call {g} {s} {t} (cellar_step {status = status} stack command a b c) =
 by_call {g} {s} {t} (cellar_next {status = status} stack a b c) = step_hands g stack None s t a b status [] (λ ticket e is. is) (said s t status c).0
 by_call {g} {s} {t} (cellar_pass {status = status} stack from now_code c) =
     let k = (calls_are_courses g).passes (turn_of stack) stack.begun from (not (now_code == 0)) (turn_state s) (turn_state t) (said s t status c).0.0 in
-    ends_hands s t k.tickets k.hands
+    ends_hands s t (let_go ∷ []) (λ ticket e none. none) k.tickets k.hands
 by_call {g} {s} {t} (cellar_stop {status = status} stack c) =
-    let k = (calls_are_courses g).stops (turn_of stack) stack.begun (turn_state s) (turn_state t) (said s t status c).0.0 in ends_hands s t k.tickets k.hands
+    let k = (calls_are_courses g).stops (turn_of stack) stack.begun (turn_state s) (turn_state t) (said s t status c).0.0 in
+    ends_hands s t (let_go ∷ []) (λ ticket e none. none) k.tickets k.hands
 by_call {g} {s} {t} (cellar_closings {status = status} from c) = stays_hands s t (same_turns s t status c)
 by_call {g} {s} {t} (cellar_totals {status = status} c) = stays_hands s t (same_turns s t status c)
 by_call {g} {s} {t} (cellar_event {status = status} place c) = stays_hands s t (same_turns s t status c)

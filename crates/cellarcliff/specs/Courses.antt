@@ -1,5 +1,5 @@
 -- What the calls on one handle come to while it keeps an engine: each constructor is the clause of one export, and what its caller sees.
-use Rattle.std.specs.Prelude.{◌≡◌, ◌≢◌, ◌==◌, ◌⊎◌, ◌≤◌, ◌&&◌, ℕ, ◌<◌, ◌+◌, nat_lt, Bool, List, [], ◌∷◌, ◌++◌, Option, Some, None, if◌then◌else◌}
+use Rattle.std.specs.Prelude.{◌≡◌, ◌==◌, ◌⊎◌, ◌≤◌, ◌&&◌, ℕ, ◌<◌, ◌+◌, nat_lt, Bool, true, false, List, [], ◌∷◌, ◌++◌, Option, Some, None, if◌then◌else◌}
 use Rattle.std.proofs.Math.Bool.{not}
 use Rattle.rx_resource.specs.declared.Resource.{Ghosts}
 use Rattle.rx_resource.specs.declared.token.Token.{Token}
@@ -30,10 +30,11 @@ use Rattle.cellarcliff.specs.Steps.{no_step, IsTurned, IsStepTold, IsPassTold, I
 
 -- what a caller sees -----------------------------------------------------------------------------------
 
--- a tag that it handed in; an effect that it was handed, and its ticket
+-- a tag that it handed in; an effect that it was handed, and its ticket; that it let lanes go, by a pass or a stop
 pub data Shown : Type 0 where
   gave_tag : (tag : ℕ) → Shown
   was_handed : (ticket : ℕ) → Effect → Shown
+  let_go : Shown
 
 abbrev pub tag_given : Option Asked → List Shown
 tag_given (Some (Using at user tag)) = gave_tag tag ∷ []
@@ -65,8 +66,8 @@ pub data IsCellarCall (g : Ghosts Token) (s : Turns) : List Shown → Turns → 
   cellar_next : {t : Turns} {status : ℕ} (stack : Stack) (step step' : Stepped) →
       OnTurns (λ s t n. IsStepTold g stack None s t step step' n) (step' ≡ no_step step) s t status → IsCellarCall g s (shown_handed step') t
   cellar_pass : {t : Turns} {status : ℕ} (stack : Stack) (from now : ℕ) →
-      OnTurns (λ s t n. IsPassTold stack from (not (now == 0)) s t n) Unit s t status → IsCellarCall g s [] t
-  cellar_stop : {t : Turns} {status : ℕ} (stack : Stack) → OnTurns (λ s t n. IsStopTold stack s t n) Unit s t status → IsCellarCall g s [] t
+      OnTurns (λ s t n. IsPassTold stack from (not (now == 0)) s t n) Unit s t status → IsCellarCall g s (let_go ∷ []) t
+  cellar_stop : {t : Turns} {status : ℕ} (stack : Stack) → OnTurns (λ s t n. IsStopTold stack s t n) Unit s t status → IsCellarCall g s (let_go ∷ []) t
   -- calls that look
   cellar_closings : {t : Turns} {words words' : List ℕ} {count status : ℕ} (from : ℕ) →
       LooksAtTurns (λ s n. AreClosingsTold from s words words' count n) (IsNoRest words words' count) s t status → IsCellarCall g s [] t
@@ -91,12 +92,14 @@ abbrev pub tags_shown : List Shown → List ℕ
 tags_shown [] = []
 tags_shown (gave_tag tag ∷ shown) = tag ∷ tags_shown shown
 tags_shown (was_handed ticket e ∷ shown) = tags_shown shown
+tags_shown (let_go ∷ shown) = tags_shown shown
 
 -- the effects that were handed out: what comes again under a ticket that was given before counts once
 abbrev pub told_from : (last : ℕ) → List Shown → List Effect
 told_from last [] = []
 told_from last (gave_tag tag ∷ shown) = told_from last shown
 told_from last (was_handed ticket e ∷ shown) = if nat_lt last ticket then e ∷ told_from ticket shown else told_from last shown
+told_from last (let_go ∷ shown) = told_from last shown
 
 abbrev pub effects_handed : List Shown → List Effect
 effects_handed shown = told_from 0 shown
@@ -120,12 +123,20 @@ all_back (handed_in tag ∷ acts) = all_back acts
 all_back (was_told lane e ∷ acts) = all_back acts
 all_back (came_back lane e ∷ acts) = e ∷ all_back acts
 
--- there is one with the same tags, in which the same effects are told, in the same order
+-- no lane was let go
+abbrev pub lets_none_go : List Shown → Bool
+lets_none_go [] = true
+lets_none_go (gave_tag tag ∷ shown) = lets_none_go shown
+lets_none_go (was_handed ticket e ∷ shown) = lets_none_go shown
+lets_none_go (let_go ∷ shown) = false
+
+-- there is one with the same tags, in which the same effects are told, in the same order; and none came back where no lane was let go
 pub record IsShownCourse (g : Ghosts Token) (s t : State) (shown : List Shown) : Type 0 where
   pub seen : List Seen
   pub is_course : IsEngineCourse g s t seen
   pub tags : all_tags seen ≡ tags_shown shown
   pub told : those_told seen ≡ effects_handed shown
+  pub back : lets_none_go shown ≡ true → all_back seen ≡ []
 
 -- of any calls on one handle, from `cellar_new` on, by which fewer than 2^64 - 1 effects were handed out
 abbrev pub OfAllCalls : Ghosts Token → (State → State → List Shown → Type 0) → Type 0
@@ -142,6 +153,7 @@ abbrev pub WasHanded : (ticket : ℕ) → Effect → List Shown → Type 0
 WasHanded ticket e [] = ⊥
 WasHanded ticket e (gave_tag tag ∷ shown) = WasHanded ticket e shown
 WasHanded ticket e (was_handed other f ∷ shown) = ((other ≡ ticket) × (f ≡ e)) ⊎ WasHanded ticket e shown
+WasHanded ticket e (let_go ∷ shown) = WasHanded ticket e shown
 
 -- each is 1 or more, and no other effect has it
 pub record HasOwnTickets (shown : List Shown) : Type 0 where

@@ -17,8 +17,8 @@ use rx_turns::{
 
 /// Any calls on one handle, from `cellar_new` on and without `cellar_drop`, by which fewer than 2^64 - 1 effects were
 /// handed out, are a course of its engine, with the same tags, in which the same effects are told, in the order in which
-/// they were handed out; what came again under a ticket that was given before counts once. So each law of `rx_courses`
-/// holds of them.
+/// they were handed out; what came again under a ticket that was given before counts once; and where no call passed or
+/// stopped, nothing came back. So each law of `rx_courses` holds of them.
 pub fn calls_are_courses()
     ensures { AreCallsCourses ⟦<Token as Resource>⟧ }
 {}

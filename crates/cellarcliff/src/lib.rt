@@ -2,9 +2,9 @@
 //!
 //! # An engine
 //!
-//! A call takes a [`CellarHandle`] and numbers, and answers a status of `rx_cellar`. Each does what `rx_cellar` says
-//! of the call of its name, on the engine that the handle keeps; where it keeps none nothing is done, and the status
-//! is 1.
+//! A call takes a [`CellarHandle`] and numbers, and answers a status of `rx_cellar`. Each does what `rx_turns` or
+//! `rx_cellar` says of the call of its name, on what the handle keeps; where it keeps nothing, nothing is done, and the
+//! status is 1.
 //!
 //! # Texts
 //!
