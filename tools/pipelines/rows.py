@@ -31,6 +31,11 @@ def waits(program, ours, theirs):
     return plain(ours["notes"]) == plain(theirs["notes"]) and (has("shared", "replay", "replay_counted")(program) or len(set(program["subjects"])) > 1)
 
 
+def replays(program, *_):
+    """RxPY tells what is remembered by the current thread's scheduler."""
+    return has("shared", "replay", "replay_counted", "replay_of")(program) or "ReplaySubject" in program["subjects"]
+
+
 def by_order(program, ours, theirs):
     """RxPY subtracts items, of which not all can be."""
     return has("min", "max", "min_by", "max_by")(program) and "TypeError" in str(theirs["notes"]) and "TypeError" not in str(ours["notes"])
@@ -46,7 +51,10 @@ ROWS = [
     ("an item that waits is told behind the release", waits),
     ("the least and the greatest by their order", by_order),
     ("nothing is opened after the end", opens_no_more),
+    ("delay_with_mapper tells an item once", has("delay_with_mapper")),
+    ("a replay tells at once", replays),
     ("time_interval hands the subscription's scheduler on", has("time_interval")),
+    ("take_until does too", lambda program, *_: has("throttle_first")(program) and has("take_until", "take_until_never")(program)),
     ("skip_until ends with its source", has("skip_until")),
     ("zip pairs what waits", has("zip", "zip_of", "publish_value")),
     ("sample ends with its source", has("sample", "sample_time")),

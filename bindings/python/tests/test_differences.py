@@ -150,6 +150,12 @@ def two_ways_to_one_operator(k, told):
     subject.on_next(2)
 
 
+def a_replay_within_what_subscribes(k, told):
+    hub = k.rx.of(1).pipe(k.ops.replay())
+    hub.connect()
+    k.rx.amb(k.rx.empty(), hub).subscribe(told.append, None, lambda: told.append("completed"))
+
+
 def the_least_text(k, told):
     k.rx.of("b", "a").pipe(k.ops.min()).subscribe(told.append, lambda error: told.append("error"))
 
@@ -187,6 +193,7 @@ ROWS = {
     a_composition_completes: ([1, "completed", "released"], [1, "released", "completed"]),
     a_subject_is_dropped: ([], ["released"]),
     two_ways_to_one_operator: ([(1, 1), (2, 1), (2, 2)], [(1, 1), (1, 2), (2, 2)]),
+    a_replay_within_what_subscribes: (["completed"], [1, "completed"]),
     the_least_text: (["error"], ["a"]),
     a_source_behind_the_end: (["completed", "made", "released"], ["completed"]),
     filter_indexed_without_a_predicate: (["error"], [1]),

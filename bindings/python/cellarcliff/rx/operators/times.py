@@ -236,7 +236,7 @@ def timeout(duetime: Due, other: Any = None, scheduler: Optional[Scheduler] = No
                         turn[0] = -1
                         for it in roots:
                             link.drop(it)
-                        link.follow(lambda: link.subscribe(instead))
+                        link.follow(lambda: link.subscribe(instead, scheduler=scheduler))
                 timer.disposable = _after(link, clk, duetime, due)
 
             def won() -> bool:
@@ -421,22 +421,28 @@ def take_until_with_time(end_time: Due, scheduler: Optional[Scheduler] = None) -
     return take_with_time(due, scheduler)
 
 
-def _opened(link: Link, source: Any, due: Any, scheduler: Any) -> None:
+def _opened(link: Link, source: Any, due: Any, scheduler: Any, is_source_first: bool) -> None:
     is_open = [False]
-    link.hold(_after(link, clock(link, scheduler), due, lambda: is_open.__setitem__(0, True)))
+
+    def wait() -> None:
+        link.hold(_after(link, clock(link, scheduler), due, lambda: is_open.__setitem__(0, True)))
+    if not is_source_first:
+        wait()
     link.subscribe(source, lambda value: link.on_next(value) if is_open[0] else None)
+    if is_source_first:
+        wait()
 
 
 @same
 def skip_with_time(duration: Span, scheduler: Optional[Scheduler] = None) -> Operator[Any]:
     """The items behind so long."""
-    return lambda source: Linked(lambda link: _opened(link, source, duration, scheduler), source)
+    return lambda source: Linked(lambda link: _opened(link, source, duration, scheduler, False), source)
 
 
 @same
 def skip_until_with_time(start_time: Due, scheduler: Optional[Scheduler] = None) -> Operator[Any]:
     """The items behind a time, or behind so long."""
-    return lambda source: Linked(lambda link: _opened(link, source, start_time, scheduler), source)
+    return lambda source: Linked(lambda link: _opened(link, source, start_time, scheduler, True), source)
 
 
 class _LastOf(Stage):
