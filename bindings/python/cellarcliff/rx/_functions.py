@@ -34,6 +34,15 @@ class Stage:
     def on_completed(self) -> None:
         self.down.on_completed()
 
+    def fail(self, error: Exception) -> None:
+        """The function raised this: nothing is told behind it."""
+        down, self.down = self.down, _Deaf
+        down.on_error(error)
+
+
+class _Deaf:
+    on_next = on_error = on_completed = staticmethod(noop)
+
 
 #: What makes stages, the observer's side first: each of what is below it.
 Makes = Sequence[Any]

@@ -32,7 +32,7 @@ class _TakeWhile(Stage):
         try:
             passes = self._predicate(value)
         except Exception as error:
-            self.down.on_error(error)
+            self.fail(error)
             return
         if passes or self._inclusive:
             self.down.on_next(value)
@@ -84,7 +84,7 @@ class _SkipWhile(Function):
             try:
                 self._is_passing = not self._function(value)
             except Exception as error:
-                self.down.on_error(error)
+                self.fail(error)
                 return
         if self._is_passing:
             self.down.on_next(value)
@@ -114,7 +114,7 @@ class _Do(Stage):
             try:
                 self._on_next(value)
             except Exception as error:
-                self.down.on_error(error)
+                self.fail(error)
                 return
         self.down.on_next(value)
 
@@ -131,7 +131,7 @@ class _Do(Stage):
             try:
                 self._on_completed()
             except Exception as error:
-                self.down.on_error(error)
+                self.fail(error)
                 return
         self.down.on_completed()
 
@@ -163,7 +163,7 @@ class _Distinct(Stage):
             key = value if self._key is None else self._key(value)
             is_new = self._is_new(key)
         except Exception as error:
-            self.down.on_error(error)
+            self.fail(error)
             return
         if is_new:
             if self._is_latest:
@@ -247,7 +247,7 @@ class Each(Function):
         try:
             value = self._function(value)
         except Exception as error:
-            self.down.on_error(error)
+            self.fail(error)
         else:
             self.down.on_next(value)
 
@@ -259,7 +259,7 @@ class _Those(Function):
         try:
             passes = self._function(value)
         except Exception as error:
-            self.down.on_error(error)
+            self.fail(error)
         else:
             if passes:
                 self.down.on_next(value)

@@ -23,13 +23,13 @@ class _AtEnd(Stage):
         try:
             self._add(value)
         except Exception as error:
-            self.down.on_error(error)
+            self.fail(error)
 
     def on_completed(self) -> None:
         try:
             it = self._result()
         except Exception as error:
-            self.down.on_error(error)
+            self.fail(error)
             return
         if it is not NOTHING:
             self.down.on_next(it)
@@ -50,7 +50,7 @@ class _Found(Stage):
         try:
             it = self._find(value)
         except Exception as error:
-            self.down.on_error(error)
+            self.fail(error)
             return
         if it is not NOTHING:
             self._is_done = True
@@ -63,7 +63,7 @@ class _Found(Stage):
         try:
             it = self._default()
         except Exception as error:
-            self.down.on_error(error)
+            self.fail(error)
         else:
             self.down.on_next(it)
             self.down.on_completed()
