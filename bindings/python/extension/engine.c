@@ -153,9 +153,13 @@ static int plain(PyObject *answer) {
 static void keep(Core *core, PyObject *it, uint64_t times) {
   for (core->kept += (int64_t)times; times; times--) Py_INCREF(it);
 }
-/* What was raised stays so. */
-static void drop(PyObject *it) {
+/* What was raised stays so, where something may be. */
+static inline void drop(PyObject *it, int failed) {
   PyObject *type, *value, *trace;
+  if (!failed) {
+    Py_DECREF(it);
+    return;
+  }
   PyErr_Fetch(&type, &value, &trace);
   Py_DECREF(it);
   PyErr_Restore(type, value, trace);
@@ -163,7 +167,7 @@ static void drop(PyObject *it) {
 /* Gives a reference of the engine's back. */
 static void let_go(Core *core, PyObject *it) {
   core->kept--;
-  drop(it);
+  drop(it, 1);
 }
 static int refused(uint8_t status) {
   if (status == CELLAR_NO_MEMORY) return PyErr_NoMemory(), -1;
@@ -357,7 +361,7 @@ static int tell(Core *core, const struct cellar_effect *e, PyObject *value) {
     case CELLAR_E_RELEASE: status = release(user); break;
     case CELLAR_E_PUT: status = plain(CALL0(ITEM(user, 0))); break;
   }
-  drop(user);
+  drop(user, status);
   if (e->kind == CELLAR_E_RELEASE || e->kind == CELLAR_E_PUT) let_go(core, user);
   else let_go_word(core, user);
   if (e->carries && value) let_go(core, value);
@@ -368,9 +372,8 @@ static inline int tell_item(struct Mine *here, Core *core, const struct cellar_e
   PyObject *user = word(e->user);
   Py_INCREF(user);
   int status = e->kind == CELLAR_E_NEXT ? root_tell(here, (Root *)ITEM(user, 0), value) : plain(CALL1(ITEM(user, 2), value));
-  if (status) drop(user);
-  else Py_DECREF(user);
-  if (value && !is_own) let_go(core, value);
+  drop(user, status);
+  if (value && !is_own) core->kept--, drop(value, status);
   return status;
 }
 static int is_some(PyObject *queue) { return queue && PyList_Size(queue) > 0; }
@@ -802,7 +805,7 @@ static int subject_tell(Subject *self, uint8_t what, PyObject *value) {
   int is_one = self->one && what == CELLAR_NEXT;
   int status = !is_one ? tell_all(here, all, what, value) : self->first->is_stopped ? 0 : tell_up(here, self->one, value);
   status = leave(here, &outer, status, 0);
-  drop((PyObject *)core), drop(all);
+  drop((PyObject *)core, status), drop(all, status);
   return status;
 }
 /* One argument, by its place or as `value`. */
@@ -1246,7 +1249,7 @@ static PyObject *pull(PyObject *module, PyObject *const *given, Py_ssize_t many)
       Py_RETURN_TRUE;
     }
     int status = tell_up(here, given[0], value);
-    drop(value);
+    drop(value, status);
     if (status || PyErr_CheckSignals()) return NULL;
     if (!(count & 4095)) { /* where neither side is Python, no other thread would come */
       Py_BEGIN_ALLOW_THREADS
