@@ -97,11 +97,9 @@ impl<'a> State<'a> {
 
     fn closed(&mut self) -> Option<Closed<'a>> {
         let rest = if self.step.closed > 1 { self.crossing.closings(&self.step).split_off(1) } else { Vec::new() };
-        let first = self.words.closed(self.step.closings[0])?;
-        let others: Vec<_> = rest.into_iter().filter_map(|it| self.words.closed(it)).collect();
-        first.closing();
-        others.iter().for_each(|it| it.closing());
-        Some(Closed { first, others, handed: self.step.handed() })
+        let all = std::iter::once(self.step.closings[0]).chain(rest).filter_map(|it| self.words.closed(it));
+        let mut all = all.inspect(|it| it.closing());
+        Some(Closed { first: all.next()?, others: all.collect(), handed: self.step.handed() })
     }
 
     #[inline]
@@ -265,7 +263,7 @@ impl<'a> Engine<'a> {
     pub fn tell_behind(&self, thing: Ref<AThing<'a>>) {
         let by = by();
         self.state.with(|state| {
-            let depth = state.stack(by).map_or(1, |at| state.stacks[at].depth);
+            let depth = state.stack(by).map_or(1, |at| state.stacks[at].depth.max(1));
             state.behind.push(Behind { by, depth, thing })
         })
     }
