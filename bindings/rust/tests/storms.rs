@@ -1,5 +1,5 @@
 //! Storms of eight threads. Under helgrind they are built with `--cfg cellarcliff_helgrind`, which tells it of the locks that it cannot see.
-use cellarcliff::sync::{Observable, Subject};
+use cellarcliff::sync::{Emitter, Observable, Subject};
 use std::panic::{catch_unwind, AssertUnwindSafe};
 use std::sync::atomic::{AtomicIsize, AtomicUsize, Ordering::SeqCst};
 use std::thread;
@@ -60,6 +60,41 @@ fn eight_threads_emit_into_a_share_and_beside_it_and_each_item_is_told_once() {
     storm(move |thread| (0..500).for_each(|it| if thread % 2 == 0 { &subject } else { &other }.next(thread as usize * 500 + it)));
     drop((first, second));
     assert_eq!((TOLD[0].load(SeqCst), TOLD[1].load(SeqCst)), (4000, 7_998_000));
+}
+
+#[test]
+fn what_waits_in_skip_last_is_told_in_the_order_in_which_each_of_eight_threads_emitted_it() {
+    static LAST: [AtomicUsize; 8] = [const { AtomicUsize::new(0) }; 8];
+    let subject = Subject::<(u32, usize)>::new();
+    let subscription = subject.observable().skip_last(3).each(|(thread, it)| assert_eq!(LAST[thread as usize].swap(it, SeqCst) + 1, it));
+    let emits = subject.clone();
+    storm(move |thread| (1..=500).for_each(|it| emits.next((thread, it))));
+    drop(subscription);
+    assert_eq!(LAST.iter().map(|it| it.load(SeqCst)).sum::<usize>(), 4000 - 3);
+}
+
+/// A resource of a source, which finds that closed.
+struct Closed(Emitter<'static, u32>);
+
+impl Drop for Closed {
+    fn drop(&mut self) {
+        assert!(self.0.is_closed());
+    }
+}
+
+#[test]
+fn a_resource_finds_its_source_closed_whichever_of_eight_threads_releases_it() {
+    let subject = Subject::<u32>::new();
+    let whole = subject.observable().merge_with(Observable::create(Closed));
+    let emits = subject.clone();
+    storm(move |thread| {
+        for round in 0..60 {
+            let subscription = whole.each(|_| thread::yield_now());
+            emits.next(thread + round);
+            drop(subscription);
+        }
+    });
+    assert_eq!(subject.observers(), 0);
 }
 
 #[test]
