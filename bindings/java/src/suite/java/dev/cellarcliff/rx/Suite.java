@@ -91,7 +91,12 @@ public final class Suite {
             if (isLoud) { Thread.getAllStackTraces().forEach((thread, frames) -> System.out.println(thread + " " + Arrays.toString(frames).replace(", ", "\n    "))); }
         }
         one.shutdownNow();
-        String left = Arrays.toString(verdict.equals("late") ? new long[6] : engine.counts()), took = (System.nanoTime() - began) / 1_000_000 + " ms";
+        long[] counts = engine.counts();
+        for (int i = 0; i < 200 && counts[2] + counts[3] + counts[5] > 0; i++) {  // threads of schedulers tell yet
+            Thread.sleep(10);
+            counts = engine.counts();
+        }
+        String left = Arrays.toString(verdict.equals("late") ? new long[6] : counts), took = (System.nanoTime() - began) / 1_000_000 + " ms";
         System.out.println("TEST\t" + String.join("\t", type.getSimpleName(), test, verdict, made.toString(), left, took, why));
         System.out.flush();
         return !verdict.equals("late");
