@@ -1,13 +1,12 @@
-//! Devices that are watched: JSON from a reader, text to a writer, and whose fault a fault is.
+//! Devices that are watched: bytes from a reader, text to a writer, and whose fault a fault is; and JSON values.
 //!
 //! # Vocabulary
 //!
 //! - A [`Watched`] reader or writer notes how often the device behind it was called, whether a call
 //!   failed, and whether one moved no byte, so that a contract can say whose fault a fault is
 //!   (`specs/Device.antt`).
-//! - [`read_all`] reads a device to its end, [`value_of`] gives the JSON value of which bytes are the text,
-//!   and [`read_value`] does both; what a device gave is said in `specs/Input.antt`. [`write_text`] writes
-//!   a whole text.
+//! - [`read_all`] reads a device to its end, and [`value_of`] gives the JSON value of which bytes are the text; what a
+//!   device gave is said in `specs/Input.antt`. [`write_text`] writes a whole text.
 //! - [`parse_in_place`] reads a JSON text without a copy of what stands in it, and a [`Part`] looks into that;
 //!   `specs/Part.antt` says for which JSON value it stands.
 //! - A [`ScriptError`] says why a text was not read or written, a [`ShapeError`] why a JSON value is not
@@ -37,6 +36,6 @@ pub use fault::ScriptError;
 pub use part::Part;
 pub use reading::{MOST_BYTES, MOST_TURNS, read_all};
 pub use shape::ShapeError;
-pub use value::{read_value, value_of};
+pub use value::value_of;
 pub use watched::Watched;
 pub use writing::{WriteFault, write_text};

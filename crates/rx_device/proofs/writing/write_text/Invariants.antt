@@ -12,6 +12,7 @@ invariant-loop-done g l = record {
   unhurt : has_failed l.writer ≡ has_failed l.initial.writer;
   moved : has_stopped l.writer ≡ has_stopped l.initial.writer;
   bound : turns_of l.writer ≤ turns_of l.initial.writer + l.done;
+  unasked : length l.text ≡ 0 → l.writer ≡ l.initial.writer;
 }
 
 abbrev pub decreases-loop-done : goal.decreases-loop-done
