@@ -22,12 +22,6 @@ pub record TellsRun (scenario : List ℕ) (form : Form) (text : List ℕ) (statu
   pub output : IsOutputOf value stock form text
   pub says : status ≡ 0
 
--- the bytes are the text of a value of which nothing is to be written in this form
-pub record IsUnwritten (form : Form) (scenario : List ℕ) : Type 0 where
-  pub value : Data
-  pub json : IsJsonOf scenario value
-  pub none : GivesNoOutput value form
-
 -- the bytes are too many, or no JSON text, or one that is no scenario, or a scenario that has nothing to be written in this form
 abbrev pub HasNothingToWrite : Form → List ℕ → Type 0
 HasNothingToWrite form scenario = (most_bytes < length scenario) ⊎ ((value : Data) → IsJsonOf scenario value → GivesNoOutput value form)

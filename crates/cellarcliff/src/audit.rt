@@ -1,27 +1,29 @@
 //! The audit of a dump.
 
-ghost use Rattle.std.specs.Prelude.{◌≡◌, [], IfOk, IsErrOf};
+ghost use Rattle.std.specs.Prelude.{IfOk, IsErrOf, string_bytes};
 ghost use Rattle.rx_device.specs.declared.fault.ScriptError.{ScriptError};
 ghost use Rattle.cellarcliff.specs.Answers.{AnswersText};
 ghost use Rattle.cellarcliff.specs.Audited.{TellsVerdict, HasNoHistory};
 
-use crate::handing::hand_out;
-use rx_device::{ScriptError, Watched};
+use crate::handing::{Said, hand_out};
+use rx_device::{MOST_BYTES, ScriptError};
 use rx_dump::check;
 use std::alloc::Global;
 
-// Judges a dump, writes the text of the verdict, and answers its status.
-fn verdict_on(alloc: Global, dump: &[u8], text: &mut Vec<u8>) -> Result<u8, ScriptError>
-    requires { text.old.items ≡ [] }
-    ensures ok { IfOk result (TellsVerdict dump.now text.new.items) }
+// The verdict on the history of a dump.
+fn verdict_on(alloc: Global, dump: &[u8]) -> Result<Said, ScriptError>
+    ensures ok { IfOk result (λ s. TellsVerdict dump.now (string_bytes s.text) s.status) }
     ensures syntax { IsErrOf result ScriptError.Syntax → HasNoHistory dump.now }
     ensures shape { IsErrOf result ScriptError.Shape → HasNoHistory dump.now }
 {
-    let mut left = dump;
-    let mut input = Watched::new(&mut left);
-    let mut output = Watched::new(text);
-    let is_lawful = check(alloc, &mut input, &mut output)?;
-    Ok(if is_lawful { 0 } else { 5 })
+    if dump.len() > MOST_BYTES {
+        return Err(ScriptError::Syntax);
+    }
+    let judgement = check(alloc, dump)?;
+    Ok(Said {
+        text: judgement.text,
+        status: if judgement.is_lawful { 0 } else { 5 },
+    })
 }
 
 /// Judges the dump and writes the verdict on its history to the front of `buffer`, as
@@ -38,7 +40,5 @@ pub extern "C" fn cellar_audit(
 ) -> u8
     ensures { AnswersText (TellsVerdict dump.now) (HasNoHistory dump.now) buffer.old buffer.new told.new result }
 {
-    let mut text = Vec::new(alloc);
-    let outcome = verdict_on(alloc, dump, &mut text);
-    hand_out(outcome, text.as_slice(), buffer, told)
+    hand_out(verdict_on(alloc, dump), buffer, told)
 }

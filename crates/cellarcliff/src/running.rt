@@ -1,14 +1,15 @@
 //! The run of a scenario.
 
-ghost use Rattle.std.specs.Prelude.{◌≡◌, [], IfOk, IsErrOf, map};
+ghost use Rattle.std.specs.Prelude.{◌≡◌, IfOk, IsErrOf, map, string_bytes};
 ghost use Rattle.rx_device.specs.declared.fault.ScriptError.{ScriptError};
 ghost use Rattle.rx_script.specs.declared.Form.{Form};
+ghost use Rattle.rx_script.specs.Running.{HasNoOutput};
 ghost use Rattle.rx_script.specs.Stage.{ware_of};
 ghost use Rattle.cellarcliff.specs.Answers.{AnswersText};
-ghost use Rattle.cellarcliff.specs.Ran.{TellsRun, HasNothingToWrite, IsUnwritten, stock};
+ghost use Rattle.cellarcliff.specs.Ran.{TellsRun, HasNothingToWrite, stock};
 
-use crate::handing::hand_out;
-use rx_device::{ScriptError, Watched};
+use crate::handing::{Said, hand_out};
+use rx_device::{MOST_BYTES, ScriptError};
 use rx_resource::Resource;
 use rx_script::{Form, Stocked, run, stock};
 use std::alloc::{AllocError, Global};
@@ -22,26 +23,20 @@ fn fresh_stock(alloc: Global) -> Result<Vec<Stocked>, AllocError>
     Ok(made)
 }
 
-// Runs a scenario, writes what the form says, and answers the status of a run that is done.
-fn carry_out(
-    alloc: Global,
-    scenario: &[u8],
-    form: Form,
-    text: &mut Vec<u8>,
-) -> Result<u8, ScriptError>
-    requires { text.old.items ≡ [] }
-    ensures ok { IfOk result (TellsRun scenario.now form text.new.items) }
+// Runs a scenario: what the form says of it.
+fn carry_out(alloc: Global, scenario: &[u8], form: Form) -> Result<Said, ScriptError>
+    ensures ok { IfOk result (λ s. TellsRun scenario.now form (string_bytes s.text) s.status) }
     ensures syntax { IsErrOf result ScriptError.Syntax → HasNothingToWrite form scenario.now }
-    ensures shape { IsErrOf result ScriptError.Shape → IsUnwritten form scenario.now }
+    ensures shape { IsErrOf result ScriptError.Shape → HasNoOutput scenario.now form }
 {
+    if scenario.len() > MOST_BYTES {
+        return Err(ScriptError::Syntax);
+    }
     let Ok(stock) = fresh_stock(alloc) else {
         return Err(ScriptError::Memory);
     };
-    let mut left = scenario;
-    let mut input = Watched::new(&mut left);
-    let mut output = Watched::new(text);
-    run(alloc, &mut input, &mut output, stock, form)?;
-    Ok(0)
+    let text = run(alloc, scenario, stock, form)?;
+    Ok(Said { text, status: 0 })
 }
 
 /// Runs a scenario and hands out what the form says.
@@ -49,9 +44,7 @@ pub fn run_in(alloc: Global, scenario: &[u8], form: Form, buffer: &mut [u8], tol
     ensures { AnswersText (TellsRun scenario.now form)
         (HasNothingToWrite form scenario.now) buffer.old buffer.new told.new result }
 {
-    let mut text = Vec::new(alloc);
-    let outcome = carry_out(alloc, scenario, form, &mut text);
-    hand_out(outcome, text.as_slice(), buffer, told)
+    hand_out(carry_out(alloc, scenario, form), buffer, told)
 }
 
 /// Runs the scenario on a new book and writes its report to the front of `buffer`, as `rxbook run`

@@ -1,18 +1,18 @@
 //! What is shown of an input: a history with its names, its picture, and what is wrong.
 
-ghost use Rattle.std.specs.Prelude.{◌≡◌, [], IfOk, IsErrOf, string_bytes};
+ghost use Rattle.std.specs.Prelude.{IfOk, IsErrOf, string_bytes};
 ghost use Rattle.rx_device.specs.declared.fault.ScriptError.{ScriptError};
 ghost use Rattle.rx_script.specs.declared.Form.{Form};
 ghost use Rattle.cellarcliff.specs.Answers.{AnswersText};
 ghost use Rattle.cellarcliff.specs.Ran.{TellsRun, HasNothingToWrite};
 ghost use Rattle.cellarcliff.specs.Shown.{TellsPicture, HasNoDump, TellsFault};
 
-use crate::handing::hand_out;
+use crate::handing::{Said, hand_out};
 use crate::running::run_in;
-use rx_device::{MOST_BYTES, ScriptError, ShapeError, value_of};
+use rx_device::{MOST_BYTES, ScriptError};
 use rx_explain::explain;
 use rx_script::Form;
-use rx_svg::picture_of;
+use rx_svg::draw;
 use std::alloc::Global;
 
 /// Runs the scenario on a new book and writes its history before the closing with the names of its nodes, hubs and
@@ -32,22 +32,17 @@ pub extern "C" fn cellar_run_names(
     run_in(alloc, scenario, Form::NamedDump, buffer, told)
 }
 
-// Makes the text the picture of the history whose dump is in the input, and answers the status of one that is drawn.
-fn draw(alloc: Global, input: &[u8], text: &mut String) -> Result<u8, ScriptError>
-    ensures ok { IfOk result (TellsPicture input.now (string_bytes text.new)) }
+// The picture of the history whose dump is in the input.
+fn drawn(alloc: Global, input: &[u8]) -> Result<Said, ScriptError>
+    ensures ok { IfOk result (λ s. TellsPicture input.now (string_bytes s.text) s.status) }
     ensures syntax { IsErrOf result ScriptError.Syntax → HasNoDump input.now }
     ensures shape { IsErrOf result ScriptError.Shape → HasNoDump input.now }
 {
     if input.len() > MOST_BYTES {
         return Err(ScriptError::Syntax);
     }
-    let value = value_of(alloc, input)?;
-    *text = match picture_of(alloc, &value) {
-        Ok(picture) => picture,
-        Err(ShapeError::Shape) => return Err(ScriptError::Shape),
-        Err(ShapeError::Memory) => return Err(ScriptError::Memory),
-    };
-    Ok(0)
+    let text = draw(alloc, input)?;
+    Ok(Said { text, status: 0 })
 }
 
 /// Draws the history and writes the picture, an SVG document, to the front of `buffer`, as `rxbook picture` does; `told`
@@ -64,24 +59,21 @@ pub extern "C" fn cellar_picture(
 ) -> u8
     ensures { AnswersText (TellsPicture input.now) (HasNoDump input.now) buffer.old buffer.new told.new result }
 {
-    let mut text = String::new(alloc);
-    let outcome = draw(alloc, input, &mut text);
-    hand_out(outcome, text.as_bytes(), buffer, told)
+    hand_out(drawn(alloc, input), buffer, told)
 }
 
-// Makes the empty text what is wrong with the input, and answers whether something is, as a status.
-fn tell(alloc: Global, input: &[u8], text: &mut String) -> Result<u8, ScriptError>
-    requires { string_bytes text.old ≡ [] }
-    ensures ok { IfOk result (TellsFault input.now (string_bytes text.new)) }
+// What is wrong with the input; no text where nothing is.
+fn fault_in(alloc: Global, input: &[u8]) -> Result<Said, ScriptError>
+    ensures ok { IfOk result (λ s. TellsFault input.now (string_bytes s.text) s.status) }
     ensures no_syntax { ¬ IsErrOf result ScriptError.Syntax }
     ensures no_shape { ¬ IsErrOf result ScriptError.Shape }
 {
     match explain(alloc, input) {
-        Ok(Some(told)) => {
-            *text = told;
-            Ok(5)
-        }
-        Ok(None) => Ok(0),
+        Ok(Some(text)) => Ok(Said { text, status: 5 }),
+        Ok(None) => Ok(Said {
+            text: String::new(alloc),
+            status: 0,
+        }),
         Err(_) => Err(ScriptError::Memory),
     }
 }
@@ -100,7 +92,5 @@ pub extern "C" fn cellar_explain(
 ) -> u8
     ensures { AnswersText (TellsFault input.now) ⊥ buffer.old buffer.new told.new result }
 {
-    let mut text = String::new(alloc);
-    let outcome = tell(alloc, input, &mut text);
-    hand_out(outcome, text.as_bytes(), buffer, told)
+    hand_out(fault_in(alloc, input), buffer, told)
 }

@@ -3,4 +3,4 @@ pub mod Fronts
 pub mod Literals
 pub mod NotBegunWithoutMemory
 pub mod Numbers
-pub mod SaidOfWhatWasRead
+pub mod OutcomesOfAnswers

@@ -3,53 +3,54 @@ use Rattle.rx_cli.proofs.Common.{◌≡◌, [], ◌∷◌, map, codes, refl, fau
 use Rattle.clap.specs.declared.error.kind.ErrorKind.TheVariants.{ValueValidation}
 use Rattle.rx_dump.specs.declared.judging.Labels.TheVariants.{Numbers, Names}
 use Rattle.rx_script.specs.declared.Form.TheVariants.{Report, Dump, NamedDump}
-use Rattle.rx_cli.specs.declared.request.Order.TheVariants.{Run, Trace, Audit, Explain, Picture, Live, Storm}
+use Rattle.rx_cli.specs.declared.request.Order.TheVariants.{Say, Live, Storm}
+use Rattle.rx_cli.specs.declared.request.Asked.TheVariants.{Run, Trace, Audit, Explain, Picture}
 use Rattle.rx_cli.specs.Words.{Orders, greatest_storm, storms_beyond, questions, answers, file_words, refusals_of_files}
 
-pub alone : Orders (codes "rxbook" ∷ []) (Run Report)
+pub alone : Orders (codes "rxbook" ∷ []) (Say (Run Report))
 unfolding clap_on_literals
 alone = record { taken = refl; named = refl }
 
-pub with_run : Orders (codes "rxbook" ∷ codes "run" ∷ []) (Run Report)
+pub with_run : Orders (codes "rxbook" ∷ codes "run" ∷ []) (Say (Run Report))
 unfolding clap_on_literals
 with_run = record { taken = refl; named = refl }
 
 pub with_dump : Orders (codes "rxbook" ∷ codes "run" ∷ codes "--dump" ∷ [])
-    (Run Dump)
+    (Say (Run Dump))
 unfolding clap_on_literals
 with_dump = record { taken = refl; named = refl }
 
 pub with_names : Orders (codes "rxbook" ∷ codes "run" ∷ codes "--names" ∷ [])
-    (Run NamedDump)
+    (Say (Run NamedDump))
 unfolding clap_on_literals
 with_names = record { taken = refl; named = refl }
 
 pub with_both : Orders (codes "rxbook" ∷ codes "run" ∷ codes "--dump" ∷ codes "--names" ∷ [])
-    (Run NamedDump)
+    (Say (Run NamedDump))
 unfolding clap_on_literals
 with_both = record { taken = refl; named = refl }
 
-pub with_trace : Orders (codes "rxbook" ∷ codes "run" ∷ codes "--trace" ∷ []) Trace
+pub with_trace : Orders (codes "rxbook" ∷ codes "run" ∷ codes "--trace" ∷ []) (Say Trace)
 unfolding clap_on_literals
 with_trace = record { taken = refl; named = refl }
 
-pub with_trace_and_names : Orders (codes "rxbook" ∷ codes "run" ∷ codes "--names" ∷ codes "--trace" ∷ []) Trace
+pub with_trace_and_names : Orders (codes "rxbook" ∷ codes "run" ∷ codes "--names" ∷ codes "--trace" ∷ []) (Say Trace)
 unfolding clap_on_literals
 with_trace_and_names = record { taken = refl; named = refl }
 
-pub with_audit : Orders (codes "rxbook" ∷ codes "audit" ∷ []) (Audit Numbers)
+pub with_audit : Orders (codes "rxbook" ∷ codes "audit" ∷ []) (Say (Audit Numbers))
 unfolding clap_on_literals
 with_audit = record { taken = refl; named = refl }
 
-pub with_audit_names : Orders (codes "rxbook" ∷ codes "audit" ∷ codes "--names" ∷ []) (Audit Names)
+pub with_audit_names : Orders (codes "rxbook" ∷ codes "audit" ∷ codes "--names" ∷ []) (Say (Audit Names))
 unfolding clap_on_literals
 with_audit_names = record { taken = refl; named = refl }
 
-pub with_explain : Orders (codes "rxbook" ∷ codes "explain" ∷ []) Explain
+pub with_explain : Orders (codes "rxbook" ∷ codes "explain" ∷ []) (Say Explain)
 unfolding clap_on_literals
 with_explain = record { taken = refl; named = refl }
 
-pub with_picture : Orders (codes "rxbook" ∷ codes "picture" ∷ []) Picture
+pub with_picture : Orders (codes "rxbook" ∷ codes "picture" ∷ []) (Say Picture)
 unfolding clap_on_literals
 with_picture = record { taken = refl; named = refl }
 

@@ -1,6 +1,5 @@
 pub mod Told
+pub mod Said
 pub mod Served
 pub mod Status
 pub mod Words
-pub mod Explained
-pub mod Pictured

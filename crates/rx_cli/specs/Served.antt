@@ -1,141 +1,68 @@
 -- What a call of the program does with its streams. A prime marks a stream after the call.
-use Rattle.std.specs.Prelude.{◌≡◌, ◌≢◌, ◌⊎◌, ℕ, Bool, true, false, List, Result, OnOk, IfOk, IfErr, IsErrOf, codes}
+use Rattle.std.specs.Prelude.{◌≡◌, ◌≢◌, ◌⊎◌, ℕ, Bool, true, false, List, [], Result, OnOk, IfOk, IfErr, IsErrOf, codes}
 use Rattle.std.specs.Io.KnownBytes.{Appends}
 use Rattle.clap.specs.declared.error.kind.ErrorKind.{ErrorKind}
 use Rattle.clap.specs.declared.error.kind.ErrorKind.TheVariants.{DisplayHelp, DisplayVersion, OutOfMemory}
-use Rattle.rx_audit.specs.declared.verdict.Verdict.{Verdict}
 use Rattle.rx_device.specs.declared.fault.ScriptError.{ScriptError}
 use Rattle.rx_device.specs.declared.fault.ScriptError.TheVariants.{Read, Write, Syntax, Shape}
 use Rattle.rx_device.specs.declared.watched.Watched.{Watched}
 use Rattle.rx_device.specs.Device.{device_of, has_failed, has_stopped, HasReadFault, HasWriteFault, AppendsPrefix}
-use Rattle.rx_device.specs.Input.{GivesTooMuch, GivesNoJson}
-use Rattle.rx_dump.specs.Verdict.{is_lawful}
-use Rattle.rx_dump.specs.declared.judging.Labels.{Labels}
-use Rattle.rx_dump.specs.Judged.{JudgesNamed, GivesNoHistory}
-use Rattle.rx_script.specs.declared.Form.{Form}
-use Rattle.rx_script.specs.declared.Form.TheVariants.{Report}
+use Rattle.rx_device.specs.Input.{GivesWhole, GivesTooMuch, GivesNoJson}
 use Rattle.rx_script.specs.Stage.{Ware}
-use Rattle.rx_script.specs.Running.{Runs, LacksOutput}
-use Rattle.rx_trace.specs.Running.{IsTraced}
 use Rattle.rx_storm.specs.declared.StormFault.{StormFault}
 use Rattle.rx_storm.specs.declared.StormFault.TheVariants.{Memory as NoMemory, Thread as NoThread, Write as NoWrite}
 use Rattle.rx_storm.specs.Storms.{Tells as TellsFigures, TellsFront}
-use Rattle.rx_cli.specs.Explained.{Says}
-use Rattle.rx_cli.specs.Pictured.{Draws, GivesNothingToDraw}
-use Rattle.rx_cli.specs.Status.{line_of, status_of, audit_status_of, said_status_of, storm_status_of, storm_line_of}
+use Rattle.rx_cli.specs.declared.request.Asked.{Asked}
+use Rattle.rx_cli.specs.Said.{IsSaid, IsSentence, LacksWhat, takes_any}
+use Rattle.rx_cli.specs.Status.{line_of, status_of, storm_status_of, storm_line_of}
 use Rattle.rx_cli.specs.Told.{Bytes, IsTextWritten}
 
--- ---- a run
+-- ---- what is asked of an input
 
--- the scenario was read from the input and run with this stock, and this is what came of it: its report or dump
--- is written where the outcome is Ok, and a front of it with a write fault; every other fault comes for its cause,
--- with nothing written
-pub record Ran {I O : Type 0} (remaining : I → Bytes) (contents : O → Bytes) (stock : List Ware) (form : Form)
-    (input input' : Watched I) (output output' : Watched O) (outcome : Result (Unit {0}) ScriptError) : Type 0 where
-  pub ok : OnOk outcome (Runs stock form (remaining (device_of input)) (remaining (device_of input'))
-      (Appends (contents (device_of output)) (contents (device_of output'))))
-  pub stopped : OnOk outcome (has_stopped input' ≡ true)
-  pub unhurt : OnOk outcome ((has_failed input' ≡ false) × (has_failed output' ≡ false))
+-- the reader gave an input and has nothing left, and this is said of it; or it gave more than an input may be, of which an explanation
+-- says so
+pub data SaysOfGiven {I : Type 0} (remaining : I → Bytes) (stock : List Ware) (asked : Asked) (input input' : Watched I)
+    (text : List ℕ) (status : ℕ) : Type 0 where
+  of_whole : {given : List ℕ} → GivesWhole (remaining (device_of input)) (remaining (device_of input')) given
+      → has_stopped input' ≡ true → has_failed input' ≡ false → IsSaid stock asked given text status
+      → SaysOfGiven remaining stock asked input input' text status
+  of_too_much : GivesTooMuch (remaining (device_of input)) (remaining (device_of input')) → takes_any asked ≡ true → IsSentence text status
+      → SaysOfGiven remaining stock asked input input' text status
+
+-- the same, and it was written in this way: whole, or a front of it
+abbrev pub TellsOfGiven : {I : Type 0} (remaining : I → Bytes) (stock : List Ware) (asked : Asked) (input input' : Watched I)
+    (Writes : List ℕ → Type 0) (status : ℕ) → Type 0
+TellsOfGiven remaining stock asked input input' Writes status =
+    (text : List ℕ) × SaysOfGiven remaining stock asked input input' text status × Writes text
+
+-- the reader gave JSON that does not have what is asked
+pub record GivesLacking {I : Type 0} (remaining : I → Bytes) (asked : Asked) (input input' : Watched I) : Type 0 where
+  pub given : List ℕ
+  pub whole : GivesWhole (remaining (device_of input)) (remaining (device_of input')) given
+  pub lacks : LacksWhat asked given
+
+-- the input was read, and this is what came of it: what is said of it is written where the outcome is Ok, which is the status, and a
+-- front of it with a write fault; every other fault comes for its cause, with nothing written, and so does an empty text
+pub record IsAnswered {I O : Type 0} (remaining : I → Bytes) (contents : O → Bytes) (stock : List Ware) (asked : Asked)
+    (input input' : Watched I) (output output' : Watched O) (outcome : Result ℕ ScriptError) : Type 0 where
+  pub ok : IfOk outcome (TellsOfGiven remaining stock asked input input'
+      (λ text. Appends (contents (device_of output)) (contents (device_of output')) text × (text ≡ [] → output' ≡ output)))
+  pub unhurt : OnOk outcome (has_failed output' ≡ false)
   pub moved : OnOk outcome (has_stopped output' ≡ false)
-  pub front : IsErrOf outcome Write → Runs stock form (remaining (device_of input)) (remaining (device_of input'))
-      (AppendsPrefix (contents (device_of output)) (contents (device_of output')))
+  pub front : IsErrOf outcome Write → (status : ℕ) × TellsOfGiven remaining stock asked input input'
+      (AppendsPrefix (contents (device_of output)) (contents (device_of output'))) status
   pub silent : IfErr outcome (λ e. e ≢ Write → output' ≡ output)
   pub read : IsErrOf outcome Read → HasReadFault input'
   pub write : IsErrOf outcome Write → HasWriteFault output'
-  pub syntax : IsErrOf outcome Syntax → GivesTooMuch (remaining (device_of input)) (remaining (device_of input'))
-      ⊎ GivesNoJson (remaining (device_of input)) (remaining (device_of input'))
-  pub shape : IsErrOf outcome Shape → LacksOutput form (remaining (device_of input)) (remaining (device_of input'))
+  pub syntax : IsErrOf outcome Syntax → (takes_any asked ≡ false) × (GivesTooMuch (remaining (device_of input)) (remaining (device_of input'))
+      ⊎ GivesNoJson (remaining (device_of input)) (remaining (device_of input')))
+  pub shape : IsErrOf outcome Shape → GivesLacking remaining asked input input'
 
 -- the status and the line tell this outcome
 pub record TellsOutcome {E : Type 0} (contents : E → Bytes) (errors errors' : Watched E)
-    (outcome : Result (Unit {0}) ScriptError) (status : ℕ) : Type 0 where
+    (outcome : Result ℕ ScriptError) (status : ℕ) : Type 0 where
   pub says : status ≡ status_of outcome
   pub line : IsTextWritten contents errors errors' (line_of outcome)
-
--- ---- a traced run
-
--- the same of a scenario that is traced: its trace is written where the outcome is Ok, and a front of it with a write fault
-pub record Traced {I O : Type 0} (remaining : I → Bytes) (contents : O → Bytes) (stock : List Ware)
-    (input input' : Watched I) (output output' : Watched O) (outcome : Result (Unit {0}) ScriptError) : Type 0 where
-  pub ok : OnOk outcome (IsTraced stock (remaining (device_of input)) (remaining (device_of input'))
-      (Appends (contents (device_of output)) (contents (device_of output'))))
-  pub stopped : OnOk outcome (has_stopped input' ≡ true)
-  pub unhurt : OnOk outcome ((has_failed input' ≡ false) × (has_failed output' ≡ false))
-  pub moved : OnOk outcome (has_stopped output' ≡ false)
-  pub front : IsErrOf outcome Write → IsTraced stock (remaining (device_of input)) (remaining (device_of input'))
-      (AppendsPrefix (contents (device_of output)) (contents (device_of output')))
-  pub silent : IfErr outcome (λ e. e ≢ Write → output' ≡ output)
-  pub read : IsErrOf outcome Read → HasReadFault input'
-  pub write : IsErrOf outcome Write → HasWriteFault output'
-  pub syntax : IsErrOf outcome Syntax → GivesTooMuch (remaining (device_of input)) (remaining (device_of input'))
-      ⊎ GivesNoJson (remaining (device_of input)) (remaining (device_of input'))
-  pub shape : IsErrOf outcome Shape → LacksOutput Report (remaining (device_of input)) (remaining (device_of input'))
-
--- ---- an audit
-
--- the dump, alone or beside names, was read from the input and judged, and this is what came of it: the text of the
--- verdict on its history, with these labels, is written where the outcome is Ok, which is whether the verdict is that it
--- is lawful, and a front of that text with a write fault; every other fault comes for its cause, with nothing written
-pub record Audited {I O : Type 0} (remaining : I → Bytes) (contents : O → Bytes) (labels : Labels)
-    (input input' : Watched I) (output output' : Watched O) (outcome : Result Bool ScriptError) : Type 0 where
-  pub verdict : IfOk outcome (λ lawful. (v : Verdict) × (lawful ≡ is_lawful v)
-      × JudgesNamed labels v (remaining (device_of input)) (remaining (device_of input'))
-      (Appends (contents (device_of output)) (contents (device_of output'))))
-  pub stopped : OnOk outcome (has_stopped input' ≡ true)
-  pub unhurt : OnOk outcome ((has_failed input' ≡ false) × (has_failed output' ≡ false))
-  pub moved : OnOk outcome (has_stopped output' ≡ false)
-  pub front : IsErrOf outcome Write → (v : Verdict)
-      × JudgesNamed labels v (remaining (device_of input)) (remaining (device_of input'))
-      (AppendsPrefix (contents (device_of output)) (contents (device_of output')))
-  pub silent : IfErr outcome (λ e. e ≢ Write → output' ≡ output)
-  pub read : IsErrOf outcome Read → HasReadFault input'
-  pub write : IsErrOf outcome Write → HasWriteFault output'
-  pub syntax : IsErrOf outcome Syntax → GivesTooMuch (remaining (device_of input)) (remaining (device_of input'))
-      ⊎ GivesNoJson (remaining (device_of input)) (remaining (device_of input'))
-  pub shape : IsErrOf outcome Shape → GivesNoHistory (remaining (device_of input)) (remaining (device_of input'))
-
--- the status and the line tell this outcome
-pub record TellsAudit {E : Type 0} (contents : E → Bytes) (errors errors' : Watched E)
-    (outcome : Result Bool ScriptError) (status : ℕ) : Type 0 where
-  pub says : status ≡ audit_status_of outcome
-  pub line : IsTextWritten contents errors errors' (line_of outcome)
-
--- ---- an explanation
-
--- the input was read, and a sentence on it is written where it is one that the program does not accept, which the outcome
--- is where it is Ok; every fault but a write fault comes with nothing written, and none is that the input is faulty
-pub record Explained {I O : Type 0} (remaining : I → Bytes) (contents : O → Bytes)
-    (input input' : Watched I) (output output' : Watched O) (outcome : Result Bool ScriptError) : Type 0 where
-  pub ok : IfOk outcome (λ said. Says said (remaining (device_of input)) (remaining (device_of input'))
-      (contents (device_of output)) (contents (device_of output')))
-  pub unsaid : IfOk outcome (λ said. said ≡ false → output' ≡ output)
-  pub silent : IfErr outcome (λ e. e ≢ Write → output' ≡ output)
-  pub read : IsErrOf outcome Read → HasReadFault input'
-  pub write : IsErrOf outcome Write → HasWriteFault output'
-  pub never : IfErr outcome (λ e. (e ≢ Syntax) × (e ≢ Shape))
-
--- the status and the line tell this outcome
-pub record TellsSaid {E : Type 0} (contents : E → Bytes) (errors errors' : Watched E)
-    (outcome : Result Bool ScriptError) (status : ℕ) : Type 0 where
-  pub says : status ≡ said_status_of outcome
-  pub line : IsTextWritten contents errors errors' (line_of outcome)
-
--- ---- a picture
-
--- the dump, alone or beside names, was read from the input, and the picture of its history is written where the outcome
--- is Ok, and a front of it with a write fault; every other fault comes for its cause, with nothing written
-pub record Drawn {I O : Type 0} (remaining : I → Bytes) (contents : O → Bytes)
-    (input input' : Watched I) (output output' : Watched O) (outcome : Result (Unit {0}) ScriptError) : Type 0 where
-  pub ok : OnOk outcome (Draws (remaining (device_of input)) (remaining (device_of input'))
-      (Appends (contents (device_of output)) (contents (device_of output'))))
-  pub front : IsErrOf outcome Write → Draws (remaining (device_of input)) (remaining (device_of input'))
-      (AppendsPrefix (contents (device_of output)) (contents (device_of output')))
-  pub silent : IfErr outcome (λ e. e ≢ Write → output' ≡ output)
-  pub read : IsErrOf outcome Read → HasReadFault input'
-  pub write : IsErrOf outcome Write → HasWriteFault output'
-  pub syntax : IsErrOf outcome Syntax → GivesTooMuch (remaining (device_of input)) (remaining (device_of input'))
-      ⊎ GivesNoJson (remaining (device_of input)) (remaining (device_of input'))
-  pub shape : IsErrOf outcome Shape → GivesNothingToDraw (remaining (device_of input)) (remaining (device_of input'))
 
 -- ---- a storm
 

@@ -19,25 +19,14 @@ fault_line Syntax = codes "rxbook: faulty input\n"
 fault_line Shape = codes "rxbook: faulty input\n"
 fault_line Memory = codes "rxbook: out of memory\n"
 
-abbrev pub status_of : {T : Type 0} → Result T ScriptError → ℕ
-status_of (Ok x) = 0
+-- of what is asked of an input, which answers its status
+abbrev pub status_of : Result ℕ ScriptError → ℕ
+status_of (Ok status) = status
 status_of (Err e) = fault_status e
-
--- of an audit, which answers whether its verdict is lawful
-abbrev pub audit_status_of : Result Bool ScriptError → ℕ
-audit_status_of (Ok true) = 0
-audit_status_of (Ok false) = 5
-audit_status_of (Err e) = fault_status e
 
 abbrev pub line_of : {T : Type 0} → Result T ScriptError → List ℕ
 line_of (Ok x) = []
 line_of (Err e) = fault_line e
-
--- of an explanation, which answers whether there was something to say
-abbrev pub said_status_of : Result Bool ScriptError → ℕ
-said_status_of (Ok true) = 3
-said_status_of (Ok false) = 0
-said_status_of (Err e) = fault_status e
 
 -- of a storm, which answers whether the threads agree with the book
 abbrev pub storm_status_of : Result Bool StormFault → ℕ

@@ -10,7 +10,8 @@ use Rattle.clap.specs.declared.error.kind.ErrorKind.{ErrorKind}
 use Rattle.clap.specs.declared.error.kind.ErrorKind.TheVariants.{DisplayHelp, DisplayVersion}
 use Rattle.clap.specs.declared.error.kind.ErrorKind.TheVariants.{InvalidSubcommand, UnknownArgument}
 use Rattle.rx_cli.specs.declared.request.Order.{Order}
-use Rattle.rx_cli.specs.declared.request.Order.TheVariants.{Run, Trace, Audit, Explain, Picture, Live, Storm}
+use Rattle.rx_cli.specs.declared.request.Order.TheVariants.{Say, Live, Storm}
+use Rattle.rx_cli.specs.declared.request.Asked.TheVariants.{Run, Trace, Audit, Explain, Picture}
 use Rattle.rx_dump.specs.declared.judging.Labels.{Labels}
 use Rattle.rx_dump.specs.declared.judging.Labels.TheVariants.{Numbers, Names}
 use Rattle.rx_script.specs.declared.Form.{Form}
@@ -77,7 +78,7 @@ form_of rows = form_by (first_of (codes "dump") rows) (first_of (codes "names") 
 
 -- a run with the flag for the trace is traced, whatever the other flags; a trace has the names in it
 abbrev pub run_by : (trace : Option Text) → Form → Order
-run_by trace form = if is_set trace then Trace else Run form
+run_by trace form = Say (if is_set trace then Trace else Run form)
 
 abbrev pub run_of : List Row → Order
 run_of rows = run_by (first_of (codes "trace") rows) (form_of rows)
@@ -103,11 +104,11 @@ storm_by rows =
 
 -- the order of the subcommand that was matched, with its options: of one of these, or else a run; without one a report
 abbrev pub order_of_subcommand : Option (Text × List Row) → Order
-order_of_subcommand None = Run Report
+order_of_subcommand None = Say (Run Report)
 order_of_subcommand (Some p) =
-    if bytes_eq p.0 (codes "audit") then Audit (audit_labels p.1)
-    else if bytes_eq p.0 (codes "explain") then Explain
-    else if bytes_eq p.0 (codes "picture") then Picture
+    if bytes_eq p.0 (codes "audit") then Say (Audit (audit_labels p.1))
+    else if bytes_eq p.0 (codes "explain") then Say Explain
+    else if bytes_eq p.0 (codes "picture") then Say Picture
     else if bytes_eq p.0 (codes "live") then Live
     else if bytes_eq p.0 (codes "storm") then storm_by p.1
     else run_of p.1

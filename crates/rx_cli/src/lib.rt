@@ -55,11 +55,11 @@
 //!   and the status stays.
 #![tactic(auto)]
 
-mod drawing;
-mod explaining;
+mod answering;
 mod lines;
 mod program;
 mod request;
+mod said;
 mod statuses;
 mod telling;
 mod usage;
@@ -68,9 +68,9 @@ mod words;
 
 pub use lines::keep;
 pub use program::serve;
-pub use request::Order;
-pub use rx_dump::{Labels, judge};
-pub use rx_script::{Closed, Form, ScriptError, Watched, close, run, stock};
+pub use request::{Asked, Order};
+pub use rx_device::Watched;
+pub use rx_script::stock;
 pub use statuses::{out_of_memory, weathered};
 pub use usage::refuse_bytes;
 pub use word_laws::words_have_their_orders;

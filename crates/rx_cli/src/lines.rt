@@ -1,13 +1,13 @@
 //! A live book: lines in, lines out.
-ghost use Rattle.std.specs.Prelude.{Result};
+ghost use Rattle.std.specs.Prelude.{◌≡◌, ℕ, Result, IfOk};
 ghost use Rattle.rx_device.specs.declared.fault.ScriptError.{ScriptError};
 ghost use Rattle.rx_device.specs.Device.{KeepsDevice};
 ghost use Rattle.rx_cli.specs.Served.{TellsOutcome};
 
 use crate::statuses::ended;
 use memchr::memchr;
+use rx_device::{ScriptError, Watched};
 use rx_live::{Live, faulty_text};
-use rx_script::{ScriptError, Watched};
 use std::alloc::{AllocError, Global};
 use std::io::{Read, Result as IoResult, Write};
 
@@ -224,7 +224,9 @@ fn serve_lines<R: Read, W: Write>(
     alloc: Global,
     input: &mut R,
     output: &mut W,
-) -> Result<(), ScriptError> {
+) -> Result<u8, ScriptError>
+    ensures { IfOk result (λ status. status ≡ 0) }
+{
     let Ok(mut line) = Line::new(alloc) else {
         return Err(ScriptError::Memory);
     };
@@ -239,7 +241,7 @@ fn serve_lines<R: Read, W: Write>(
     let closed = end(&mut live, output);
     served?;
     match closed {
-        Ok(()) => Ok(()),
+        Ok(()) => Ok(0),
         Err(_) => Err(ScriptError::Write),
     }
 }
@@ -253,7 +255,7 @@ pub fn keep<R: Read, W: Write, E: Write>(
     output: &mut W,
     errors: &mut Watched<'_, E>,
 ) -> u8
-    ensures told { (outcome : Result (Unit {0}) ScriptError)
+    ensures told { (outcome : Result ℕ ScriptError) × IfOk outcome (λ status. status ≡ 0)
         × TellsOutcome E.contents errors.old errors.new outcome result }
     ensures same_errors { KeepsDevice errors.old errors.new }
 {

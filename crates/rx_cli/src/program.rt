@@ -4,30 +4,25 @@ ghost use Rattle.std.specs.List.{All};
 ghost use Rattle.clap.specs.Words.{IsAmong, fault_of};
 ghost use Rattle.clap.specs.declared.error.kind.ErrorKind.{ErrorKind};
 ghost use Rattle.rx_device.specs.declared.fault.ScriptError.{ScriptError};
-ghost use Rattle.rx_dump.specs.declared.judging.Labels.{Labels as Label};
 ghost use Rattle.rx_resource.specs.declared.Life.{Life};
-ghost use Rattle.rx_script.specs.declared.Form.{Form};
 ghost use Rattle.rx_storm.specs.declared.StormFault.{StormFault};
+ghost use Rattle.rx_cli.specs.declared.request.Asked.{Asked};
 ghost use Rattle.rx_cli.specs.declared.request.Order.{Order};
 ghost use Rattle.rx_cli.specs.Words.{rxbook, Orders};
 ghost use Rattle.rx_device.specs.Device.{IsUnasked, KeepsDevice};
 ghost use Rattle.rx_script.specs.Stage.{ware_of};
-ghost use Rattle.rx_cli.specs.Served.{Ran, Traced, TellsOutcome, Audited, TellsAudit, Explained, TellsSaid, Drawn};
-ghost use Rattle.rx_cli.specs.Served.{Stormed, TellsStorm, LacksMemory, RefusedBy};
+ghost use Rattle.rx_cli.specs.Served.{IsAnswered, TellsOutcome, Stormed, TellsStorm, LacksMemory, RefusedBy};
 
-use crate::drawing::draw;
-use crate::explaining::say;
+use crate::answering::answer;
 use crate::request::Order;
-use crate::statuses::{ended, explained, judged, out_of_memory, weathered};
+use crate::statuses::{ended, out_of_memory, weathered};
 use crate::usage::refuse;
 use crate::words::order;
 use clap::error::ErrorKind;
 use rx_crew::Gate;
-use rx_dump::judge;
+use rx_device::Watched;
 use rx_resource::Resource;
-use rx_script::{Watched, run};
 use rx_storm::storm;
-use rx_trace::trace;
 use std::alloc::Global;
 use std::convert::AsStr;
 use std::io::{Read, Write};
@@ -47,18 +42,15 @@ impl Gate for Open {
 /// first word is the program's name. None comes where they order a live book: then nothing is done, and [`keep`] keeps it
 /// over streams of its own.
 ///
-/// A run writes to `output` the report of the scenario that `input` has left, or its dump, alone or with its
-/// names, or a front of it where `output` fails, or nothing. An audit writes the verdict on the history of which
-/// `input` has a dump left, alone or beside names, or a front of it, or nothing; it tells the names where the words
-/// ask for them. An explanation writes a sentence on an input that the program does not accept, or a front of it, or
-/// nothing. A picture is drawn of the history of which `input` has a dump left, alone or beside names, and is written, or a
-/// front of it, or nothing. A storm writes its figures, or a front of them, or nothing, and reads nothing. Neither stream
-/// was used through its watch before.
+/// What is asked of an input is written to `output`, or a front of it where `output` fails, or nothing: the report of
+/// the scenario that `input` has left, its trace, or its dump, alone or with its names; the verdict on the history of
+/// which it has a dump left, alone or beside names, with the names where the words ask for them; the picture of that; or a
+/// sentence on an input that the program does not accept. A storm writes its figures, or a front of them, or nothing, and
+/// reads nothing. Neither stream was used through its watch before.
 ///
-/// A run's status is 0 where it is done, 1 where a stream failed, 3 where the input is no scenario, 4
-/// where memory was refused. An audit's is 0 where the verdict is lawful and 5 where it is another,
-/// and else as a run's, with 3 where the input is no dump; so is a picture's. An explanation's is 0 where the program
-/// accepts the input and 3 where it does not, and else as a run's. A storm's is 0 where its threads agree with the
+/// The status of what is asked is 0 where it is done, 1 where a stream failed, 3 where the input is no scenario, or no dump,
+/// 4 where memory was refused. An audit's is 5 where the verdict is another than lawful, and an explanation's 3 where the
+/// program does not accept the input. A storm's is 0 where its threads agree with the
 /// book, 5 where they do not, 4 where memory was refused, and else 1 where the output failed or a thread could
 /// not be started. Words that `clap` refuses give 2, and a request for help or for the version 0, or 1 where the
 /// output refuses its text, or 4 where memory is refused for it; then nothing is read. Each status but 0, and 5
@@ -82,27 +74,10 @@ pub fn serve<T: Threads + Wait + Sync, S: AsStr, R: Resource, I: Read, O: Write,
     requires live { All (λ r. R.life_of r ≡ Life.Live) stock.items }
     requires unused { All (λ r. R.uses_of r ≡ 0) stock.items }
 
-    ensures ran { (form : Form) → Orders (map S.text words.now) (Order.Run form)
-        → (outcome : Result (Unit {0}) ScriptError)
-        × Ran I.remaining O.contents (map (ware_of R.Resource) stock.items) form
+    ensures answered { (asked : Asked) → Orders (map S.text words.now) (Order.Say asked)
+        → (outcome : Result ℕ ScriptError)
+        × IsAnswered I.remaining O.contents (map (ware_of R.Resource) stock.items) asked
         input.old input.new output.old output.new outcome
-        × IsSomeAnd result (TellsOutcome E.contents errors.old errors.new outcome) }
-    ensures traced { Orders (map S.text words.now) Order.Trace
-        → (outcome : Result (Unit {0}) ScriptError)
-        × Traced I.remaining O.contents (map (ware_of R.Resource) stock.items)
-        input.old input.new output.old output.new outcome
-        × IsSomeAnd result (TellsOutcome E.contents errors.old errors.new outcome) }
-    ensures audited { (labels : Label) → Orders (map S.text words.now) (Order.Audit labels)
-        → (outcome : Result Bool ScriptError)
-        × Audited I.remaining O.contents labels input.old input.new output.old output.new outcome
-        × IsSomeAnd result (TellsAudit E.contents errors.old errors.new outcome) }
-    ensures explained { Orders (map S.text words.now) Order.Explain
-        → (outcome : Result Bool ScriptError)
-        × Explained I.remaining O.contents input.old input.new output.old output.new outcome
-        × IsSomeAnd result (TellsSaid E.contents errors.old errors.new outcome) }
-    ensures drawn { Orders (map S.text words.now) Order.Picture
-        → (outcome : Result (Unit {0}) ScriptError)
-        × Drawn I.remaining O.contents input.old input.new output.old output.new outcome
         × IsSomeAnd result (TellsOutcome E.contents errors.old errors.new outcome) }
     ensures left { Orders (map S.text words.now) Order.Live
         → (input.new ≡ input.old) × (output.new ≡ output.old) × (((result ≡ None) × (errors.new ≡ errors.old))
@@ -127,11 +102,10 @@ pub fn serve<T: Threads + Wait + Sync, S: AsStr, R: Resource, I: Read, O: Write,
     ensures same_errors { KeepsDevice errors.old errors.new }
 {
     match order(alloc, words) {
-        Ok(Order::Run(form)) => Some(ended(errors, run(alloc, input, output, stock, form))),
-        Ok(Order::Trace) => Some(ended(errors, trace(alloc, input, output, stock))),
-        Ok(Order::Audit(labels)) => Some(judged(errors, judge(alloc, input, output, labels))),
-        Ok(Order::Explain) => Some(explained(errors, say(alloc, input, output))),
-        Ok(Order::Picture) => Some(ended(errors, draw(alloc, input, output))),
+        Ok(Order::Say(asked)) => {
+            let outcome = answer(alloc, asked, stock, input, output);
+            Some(ended(errors, outcome))
+        }
         Ok(Order::Live) => None,
         Ok(
             Order::Storm {

@@ -6,17 +6,8 @@ use rx_script::Form;
 /// What the words of a command line order.
 #[derive(Clone, Copy)]
 pub enum Order {
-    /// Read a scenario from standard input, run it, and write what the form says.
-    Run(Form),
-    /// Read a scenario from standard input, run it, and write its trace.
-    Trace,
-    /// Read a dump from standard input, alone or beside names, judge its history, and write the verdict with these
-    /// labels.
-    Audit(Labels),
-    /// Read an input, and write what is wrong with it.
-    Explain,
-    /// Read a dump, alone or beside names, and write the picture of its history.
-    Picture,
+    /// Read standard input to its end, and write what is asked of it.
+    Say(Asked),
     /// Keep a live book: a line in, a line out.
     Live,
     /// Run a storm of threads at one book, and write its figures.
@@ -28,4 +19,19 @@ pub enum Order {
         /// How many items each source emits, 0 to 10,000.
         items: u64,
     },
+}
+
+/// What is asked of an input.
+#[derive(Clone, Copy)]
+pub enum Asked {
+    /// What the run of a scenario gives in this form.
+    Run(Form),
+    /// The trace of a scenario.
+    Trace,
+    /// The verdict on the history of a dump, alone or beside names, with these labels.
+    Audit(Labels),
+    /// What is wrong with it.
+    Explain,
+    /// The picture of the history of a dump, alone or beside names.
+    Picture,
 }

@@ -1,11 +1,11 @@
 //! The exit statuses, and the lines on standard error that go with them.
 ghost use Rattle.std.specs.Prelude.{◌≡◌, codes};
-ghost use Rattle.rx_cli.specs.Status.{fault_line, fault_status, status_of, audit_status_of, said_status_of, line_of, storm_status_of, storm_line_of};
+ghost use Rattle.rx_cli.specs.Status.{fault_line, fault_status, status_of, line_of, storm_status_of, storm_line_of};
 ghost use Rattle.rx_device.specs.Device.{KeepsDevice};
 ghost use Rattle.rx_cli.specs.Told.{IsTextWritten};
 
 use crate::telling::tell;
-use rx_script::{ScriptError, Watched};
+use rx_device::{ScriptError, Watched};
 use rx_storm::StormFault;
 use std::io::Write;
 
@@ -56,47 +56,19 @@ fn storm_status(outcome: Result<bool, StormFault>) -> u8
     }
 }
 
-/// The exit status of a run that ended so; where it failed, its line is written to `errors`. A write
+/// The exit status of what ended so; where it failed, its line is written to `errors`. A write
 /// that fails there changes nothing.
-pub fn ended<E: Write>(errors: &mut Watched<'_, E>, outcome: Result<(), ScriptError>) -> u8
+pub fn ended<E: Write>(errors: &mut Watched<'_, E>, outcome: Result<u8, ScriptError>) -> u8
     ensures status { result ≡ status_of outcome }
     ensures line { IsTextWritten E.contents errors.old errors.new (line_of outcome) }
     ensures same_errors { KeepsDevice errors.old errors.new }
 {
     match outcome {
-        Ok(()) => 0,
+        Ok(status) => status,
         Err(error) => {
             tell(errors, fault_line(&error).as_bytes());
             fault_status(&error)
         }
-    }
-}
-
-/// The exit status of an audit that ended so: 0 where the verdict is lawful, 5 where it is another.
-/// Where the audit failed, the status and the line are those of its fault.
-pub fn judged<E: Write>(errors: &mut Watched<'_, E>, outcome: Result<bool, ScriptError>) -> u8
-    ensures status { result ≡ audit_status_of outcome }
-    ensures line { IsTextWritten E.contents errors.old errors.new (line_of outcome) }
-    ensures same_errors { KeepsDevice errors.old errors.new }
-{
-    match outcome {
-        Ok(true) => 0,
-        Ok(false) => 5,
-        Err(error) => ended(errors, Err(error)),
-    }
-}
-
-/// The exit status of an explanation that ended so: 3 where there was something to say, 0 where there was not. Where it
-/// failed, the status and the line are those of its fault.
-pub fn explained<E: Write>(errors: &mut Watched<'_, E>, outcome: Result<bool, ScriptError>) -> u8
-    ensures status { result ≡ said_status_of outcome }
-    ensures line { IsTextWritten E.contents errors.old errors.new (line_of outcome) }
-    ensures same_errors { KeepsDevice errors.old errors.new }
-{
-    match outcome {
-        Ok(true) => 3,
-        Ok(false) => 0,
-        Err(error) => ended(errors, Err(error)),
     }
 }
 

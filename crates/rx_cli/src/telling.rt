@@ -2,7 +2,7 @@
 ghost use Rattle.rx_device.specs.Device.{KeepsDevice};
 ghost use Rattle.rx_cli.specs.Told.{IsTextWritten};
 
-use rx_script::{Watched, write_text};
+use rx_device::{Watched, write_text};
 use std::io::Write;
 
 /// Writes the text, or a front of it where the stream fails or takes no byte; the rest is lost.

@@ -9,7 +9,7 @@ ghost use Rattle.rx_cli.specs.Served.{RefusedBy, is_help};
 use crate::statuses::{ended, out_of_memory};
 use crate::telling::tell;
 use clap::error::ErrorKind;
-use rx_script::{ScriptError, Watched, write_text};
+use rx_device::{ScriptError, Watched, write_text};
 use std::alloc::Global;
 use std::io::Write;
 

@@ -6,6 +6,7 @@ ghost use Rattle.clap.specs.declared.error.kind.ErrorKind.{ErrorKind};
 ghost use Rattle.rx_dump.specs.declared.judging.Labels.{Labels};
 ghost use Rattle.rx_script.specs.declared.Form.{Form};
 ghost use Rattle.rx_cli.specs.declared.request.Order.{Order};
+ghost use Rattle.rx_cli.specs.declared.request.Asked.{Asked};
 ghost use Rattle.rx_cli.specs.Words.{Orders, rxbook, greatest_storm, storms_beyond};
 ghost use Rattle.rx_cli.specs.Words.{questions, answers, file_words, refusals_of_files};
 
@@ -16,20 +17,20 @@ ghost use Rattle.rx_cli.specs.Words.{questions, answers, file_words, refusals_of
 /// beyond its range is refused. The words `--help` and `--version` ask for help and for the version, and the name of
 /// a file is refused.
 pub fn words_have_their_orders()
-    ensures alone { Orders (codes "rxbook" ∷ []) (Order.Run Form.Report) }
-    ensures with_run { Orders (codes "rxbook" ∷ codes "run" ∷ []) (Order.Run Form.Report) }
-    ensures with_dump { Orders (codes "rxbook" ∷ codes "run" ∷ codes "--dump" ∷ []) (Order.Run Form.Dump) }
-    ensures with_names { Orders (codes "rxbook" ∷ codes "run" ∷ codes "--names" ∷ []) (Order.Run Form.NamedDump) }
+    ensures alone { Orders (codes "rxbook" ∷ []) (Order.Say (Asked.Run Form.Report)) }
+    ensures with_run { Orders (codes "rxbook" ∷ codes "run" ∷ []) (Order.Say (Asked.Run Form.Report)) }
+    ensures with_dump { Orders (codes "rxbook" ∷ codes "run" ∷ codes "--dump" ∷ []) (Order.Say (Asked.Run Form.Dump)) }
+    ensures with_names { Orders (codes "rxbook" ∷ codes "run" ∷ codes "--names" ∷ []) (Order.Say (Asked.Run Form.NamedDump)) }
     ensures with_both { Orders (codes "rxbook" ∷ codes "run" ∷ codes "--dump" ∷ codes "--names" ∷ [])
-        (Order.Run Form.NamedDump) }
-    ensures with_trace { Orders (codes "rxbook" ∷ codes "run" ∷ codes "--trace" ∷ []) Order.Trace }
+        (Order.Say (Asked.Run Form.NamedDump)) }
+    ensures with_trace { Orders (codes "rxbook" ∷ codes "run" ∷ codes "--trace" ∷ []) (Order.Say Asked.Trace) }
     ensures with_trace_and_names { Orders (codes "rxbook" ∷ codes "run" ∷ codes "--names" ∷ codes "--trace" ∷ [])
-        Order.Trace }
-    ensures with_audit { Orders (codes "rxbook" ∷ codes "audit" ∷ []) (Order.Audit Labels.Numbers) }
+        (Order.Say Asked.Trace) }
+    ensures with_audit { Orders (codes "rxbook" ∷ codes "audit" ∷ []) (Order.Say (Asked.Audit Labels.Numbers)) }
     ensures with_audit_names { Orders (codes "rxbook" ∷ codes "audit" ∷ codes "--names" ∷ [])
-        (Order.Audit Labels.Names) }
-    ensures with_explain { Orders (codes "rxbook" ∷ codes "explain" ∷ []) Order.Explain }
-    ensures with_picture { Orders (codes "rxbook" ∷ codes "picture" ∷ []) Order.Picture }
+        (Order.Say (Asked.Audit Labels.Names)) }
+    ensures with_explain { Orders (codes "rxbook" ∷ codes "explain" ∷ []) (Order.Say Asked.Explain) }
+    ensures with_picture { Orders (codes "rxbook" ∷ codes "picture" ∷ []) (Order.Say Asked.Picture) }
     ensures with_live { Orders (codes "rxbook" ∷ codes "live" ∷ []) Order.Live }
     ensures with_storm { Orders (codes "rxbook" ∷ codes "storm" ∷ []) (Order.Storm 4 3 100) }
     ensures with_greatest { Orders greatest_storm (Order.Storm 64 16 10000) }

@@ -5,7 +5,7 @@ ghost use Rattle.rx_cli.specs.Words.{rxbook, run_app, audit_app, explain_app, pi
 ghost use Rattle.rx_cli.specs.Words.{is_set, form_by, form_of, run_by, run_of, labels_by, audit_labels, number_by};
 ghost use Rattle.rx_cli.specs.Words.{storm_by, order_of_subcommand, IsInRange};
 
-use crate::request::Order;
+use crate::request::{Asked, Order};
 use clap::builder::ValueParser;
 use clap::{Arg, ArgAction, ArgMatches, Command, Error};
 use rx_dump::Labels;
@@ -222,11 +222,11 @@ fn run_by(trace: Option<&str>, form: Form) -> Order
     ensures is { result ≡ run_by (option_map (λ s. s.now) trace.entry) form }
     ensures in_range { IsInRange result }
 {
-    if is_set(trace) {
-        Order::Trace
+    Order::Say(if is_set(trace) {
+        Asked::Trace
     } else {
-        Order::Run(form)
-    }
+        Asked::Run(form)
+    })
 }
 
 // The order of a run with these options.
@@ -289,10 +289,10 @@ fn order_in(matches: &ArgMatches<'_>) -> Order
     ensures in_range { IsInRange result }
 {
     match matches.subcommand() {
-        None => Order::Run(Form::Report),
-        Some(("audit", options)) => Order::Audit(labels_in(options)),
-        Some(("explain", _)) => Order::Explain,
-        Some(("picture", _)) => Order::Picture,
+        None => Order::Say(Asked::Run(Form::Report)),
+        Some(("audit", options)) => Order::Say(Asked::Audit(labels_in(options))),
+        Some(("explain", _)) => Order::Say(Asked::Explain),
+        Some(("picture", _)) => Order::Say(Asked::Picture),
         Some(("live", _)) => Order::Live,
         Some(("storm", options)) => storm_in(options),
         Some((_, options)) => run_in(options),

@@ -3,7 +3,6 @@ pub use Rattle.std.proofs.Common.{Some, None, flat_map, Option, option_and_then,
 pub use Rattle.rx_event.proofs.Laws.Common.{◌≡◌, List, ◌∷◌, ap, arith, [], sym, ◌∙◌, ◌++◌, option_map, refl, subst, length, ℕ, map, pos, rules, take, true}
 pub use Rattle.rx_event.proofs.Laws.Common.{and_parts, append_assoc, drop, false, inr, list_all, suc, ◌-◌, ◌<◌, ◌==◌, ◌≤◌}
 pub use Rattle.json.{proofs.Grammar.value_is, specs.Json.after_end_array, specs.Lex.tokens, specs.Reads.token_of, specs.Token.Token, specs.Token.begin_array}
-pub use Rattle.rx_device.specs.{Device.device_of, Input.GivesJson, declared.fault.ScriptError.TheVariants.Syntax}
 pub use Rattle.rx_dump.specs.{Dump.following_event_text, History.each_event, History.count, Verdict.number_text}
 pub use Rattle.rx_dump.specs.Tokens.{AreEvents, IsEvent, in_dump, in_event, AreItems, IsAlone, IsValue, IsTextOf}
 unfoldable pub use Rattle.rx_dump.specs.History.{event_of, has_count, history_of}

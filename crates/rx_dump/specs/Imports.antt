@@ -1,7 +1,7 @@
 -- The names of other modules that most definitions here cite, passed on from one place. Declares nothing.
 pub use Rattle.json.specs.Token.{Token, begin_array}
 pub use Rattle.rx_audit.specs.declared.verdict.Verdict.{Verdict}
-pub use Rattle.rx_device.specs.Input.{GivesJson, GivesNoJson, GivesTooMuch, IsJsonOf}
+pub use Rattle.rx_device.specs.Input.{IsJsonOf}
 pub use Rattle.rx_event.specs.Imports.{Bool, IsTrue, List, None, Option, Some, [], false, flat_map, length, list_all, map, nat_lt, option_and_then}
 pub use Rattle.rx_event.specs.Imports.{option_map, option_map_or, suc, true, ℕ, ℤ}
 pub use Rattle.rx_event.specs.declared.event.Event.{Event}

@@ -1,8 +1,8 @@
--- What a judge makes of its input, said of the bytes of it, or of those that a reader had and has left.
-use Rattle.std.specs.Prelude.{◌≡◌, ℕ, Bool, None, Option, List}
+-- What a judge makes of its input.
+use Rattle.std.specs.Prelude.{◌≡◌, ℕ, Bool, None, List}
 use Rattle.serde_json.specs.Data.{Data, null}
 use Rattle.rx_audit.specs.declared.verdict.Verdict.{Verdict}
-use Rattle.rx_device.specs.Input.{IsJsonOf, GivesJson}
+use Rattle.rx_device.specs.Input.{IsJsonOf}
 use Rattle.rx_dump.specs.History.{history_of}
 use Rattle.rx_dump.specs.Checking.{IsVerdictOn}
 use Rattle.rx_dump.specs.Verdict.{is_lawful}
@@ -32,19 +32,4 @@ IsJudgement labels input lawful text = (v : Verdict) × (lawful ≡ is_lawful v)
 pub record IsNoHistory (input : List ℕ) : Type 0 where
   pub value : Data
   pub json : IsJsonOf input value
-  pub no_dump : history_of (dump_in value) ≡ None
-
--- the reader gave a dump, with or without names, the verdict is that on its history, and what tells it was written in
--- this way: whole, or a front of it
-pub record JudgesNamed (labels : Labels) (v : Verdict) (given left : Option (List ℕ))
-    (Writes : List ℕ → Type 0) : Type 0 where
-  pub value : Data
-  pub gave : GivesJson given left value
-  pub verdict : IsVerdictOn (dump_in value) v
-  pub written : Writes (named_verdict (name_in_object (names_for labels value)) v)
-
--- the reader gave JSON that has no dump
-pub record GivesNoHistory (old new : Option (List ℕ)) : Type 0 where
-  pub value : Data
-  pub gave : GivesJson old new value
   pub no_dump : history_of (dump_in value) ≡ None

@@ -1,21 +1,25 @@
 //! From a dump's bytes to the text of its verdict.
 
-ghost use Rattle.std.specs.Prelude.{◌≡◌, ◌≢◌, ◌⊎◌, IfOk, IfErr, OnOk, IsErrOf};
-ghost use Rattle.std.specs.Io.KnownBytes.{Appends};
-ghost use Rattle.rx_dump.specs.Imports.{false, true, Data, Verdict, IsJsonOf, GivesTooMuch, GivesNoJson};
-ghost use Rattle.rx_device.specs.Device.{device_of, KeepsDevice, has_failed, has_stopped, HasReadFault, HasWriteFault, IsUnasked, AppendsPrefix};
-ghost use Rattle.rx_dump.specs.Verdict.{is_lawful};
-ghost use Rattle.rx_dump.specs.Checking.{Judges, GivesNoDump};
-ghost use Rattle.rx_dump.specs.Inputs.{IsDumpOf, IsVerdictOf, IsNoDump};
+ghost use Rattle.std.specs.Prelude.{◌≢◌, string_bytes, IfOk, IfErr, IsErrOf};
+ghost use Rattle.rx_dump.specs.Imports.{Data, IsJsonOf};
+ghost use Rattle.rx_dump.specs.Inputs.{IsDumpOf, IsVerdictOf, IsChecked, IsNoDump};
 
 use crate::history::history_of;
 use crate::reading::history_of_input;
 use crate::verdict::{is_lawful, verdict_text};
 use rx_audit::{Verdict, audit};
-use rx_device::{ScriptError, ShapeError, Watched, read_all, value_of, write_text};
+use rx_device::{ScriptError, ShapeError, value_of};
 use rx_event::Event;
 use std::alloc::Global;
-use std::io::{Read, Write};
+
+/// The text of a verdict, and whether that is `lawful`.
+#[derive(Drop)]
+pub struct Judgement {
+    /// The text.
+    pub text: String,
+    /// Whether the history is lawful, and operators have nothing left to do.
+    pub is_lawful: bool,
+}
 
 // The history of which the input is a dump, by the JSON value of the whole, which tells what is wrong
 // where there is none.
@@ -48,15 +52,14 @@ fn history_from(alloc: Global, input: &[u8]) -> Result<Vec<Event>, ScriptError>
     }
 }
 
-// The verdict on the history of which the input is a dump. The input is dropped before the audit begins.
-fn verdict_on(alloc: Global, input: Vec<u8>) -> Result<Verdict, ScriptError>
-    ensures ok { IfOk result (IsVerdictOf input.items) }
-    ensures syntax { IsErrOf result ScriptError.Syntax → (d : Data) → ¬ IsJsonOf input.items d }
-    ensures shape { IsErrOf result ScriptError.Shape → IsNoDump input.items }
+// The verdict on the history of which the input is a dump.
+fn verdict_on(alloc: Global, input: &[u8]) -> Result<Verdict, ScriptError>
+    ensures ok { IfOk result (IsVerdictOf input.now) }
+    ensures syntax { IsErrOf result ScriptError.Syntax → (d : Data) → ¬ IsJsonOf input.now d }
+    ensures shape { IsErrOf result ScriptError.Shape → IsNoDump input.now }
     ensures never { IfErr result (λ e. (e ≢ ScriptError.Read) × (e ≢ ScriptError.Write)) }
 {
-    let history = history_from(alloc, input.as_slice())?;
-    drop(input);
+    let history = history_from(alloc, input)?;
     match audit(alloc, history.as_slice()) {
         Ok(verdict) => Ok(verdict),
         // `TooMany` is out of reach: an event takes more than one of the 16,777,216 bytes that an input has at most.
@@ -64,54 +67,24 @@ fn verdict_on(alloc: Global, input: Vec<u8>) -> Result<Verdict, ScriptError>
     }
 }
 
-/// Decides whether the history is lawful of which the reader has a dump left, in JSON, and writes the
-/// verdict. The answer is true where the history is lawful and operators have nothing left to do.
+/// The verdict on the history of which the input is a dump, in JSON.
 ///
 /// A dump is an array of events with any spaces between its parts, and an event an array: what it is,
 /// then its parts. The verdict is `lawful` and three lines with the numbers of the open nodes and of
 /// the resources that are held and that wait, or `unlawful` and the first place whose event may not
 /// follow those before it, or `unsettled`.
-///
-/// Only with [`ScriptError::Write`] is anything but a whole verdict written: a front of one.
-pub fn check<R: Read, W: Write>(
-    alloc: Global,
-    reader: &mut Watched<'_, R>,
-    writer: &mut Watched<'_, W>,
-) -> Result<bool, ScriptError>
-    requires reader { IsUnasked reader.old }
-    requires writer { IsUnasked writer.old }
-
-    ensures ok { IfOk result (λ lawful. (v : Verdict) × (lawful ≡ is_lawful v)
-        × Judges v (R.remaining (device_of reader.old)) (R.remaining (device_of reader.new))
-        (Appends (W.contents (device_of writer.old)) (W.contents (device_of writer.new)))) }
-    ensures stopped { OnOk result (has_stopped reader.new ≡ true) }
-    ensures unhurt { OnOk result ((has_failed reader.new ≡ false) × (has_failed writer.new ≡ false)) }
-    ensures moved { OnOk result (has_stopped writer.new ≡ false) }
-
-    ensures read { IsErrOf result ScriptError.Read → HasReadFault reader.new }
-    ensures write { IsErrOf result ScriptError.Write → HasWriteFault writer.new }
-    ensures syntax { IsErrOf result ScriptError.Syntax
-        → GivesTooMuch (R.remaining (device_of reader.old)) (R.remaining (device_of reader.new))
-        ⊎ GivesNoJson (R.remaining (device_of reader.old)) (R.remaining (device_of reader.new)) }
-    ensures shape { IsErrOf result ScriptError.Shape
-        → GivesNoDump (R.remaining (device_of reader.old)) (R.remaining (device_of reader.new)) }
-
-    // With a write fault a front of the verdict is written, and with any other fault nothing.
-    ensures front { IsErrOf result ScriptError.Write → (v : Verdict)
-        × Judges v (R.remaining (device_of reader.old)) (R.remaining (device_of reader.new))
-        (AppendsPrefix (W.contents (device_of writer.old)) (W.contents (device_of writer.new))) }
-    ensures silent { IfErr result (λ e. e ≢ ScriptError.Write → writer.new ≡ writer.old) }
-
-    ensures same_reader { KeepsDevice reader.old reader.new }
-    ensures same_writer { KeepsDevice writer.old writer.new }
+pub fn check(alloc: Global, input: &[u8]) -> Result<Judgement, ScriptError>
+    ensures ok { IfOk result (λ j. IsChecked input.now j.is_lawful (string_bytes j.text)) }
+    ensures syntax { IsErrOf result ScriptError.Syntax → (d : Data) → ¬ IsJsonOf input.now d }
+    ensures shape { IsErrOf result ScriptError.Shape → IsNoDump input.now }
+    ensures never { IfErr result (λ e. (e ≢ ScriptError.Read) × (e ≢ ScriptError.Write)) }
 {
-    let input = read_all(alloc, reader)?;
     let verdict = verdict_on(alloc, input)?;
     let Ok(text) = verdict_text(alloc, &verdict) else {
         return Err(ScriptError::Memory);
     };
-    if write_text(writer, text.as_str().as_bytes()).is_err() {
-        return Err(ScriptError::Write);
-    }
-    Ok(is_lawful(&verdict))
+    Ok(Judgement {
+        text,
+        is_lawful: is_lawful(&verdict),
+    })
 }

@@ -1,9 +1,9 @@
--- What a run makes of its input, said of the bytes that a reader had and has left, and of those that a writer held and holds.
-use Rattle.std.specs.Prelude.{◌≡◌, ℕ, ◌≤◌, Some, None, Option, List, false, true}
+-- What a run makes of its input.
+use Rattle.std.specs.Prelude.{◌≡◌, ℕ, ◌≤◌, Some, None, List, false, true}
 use Rattle.serde_json.specs.Data.{Data}
 use Rattle.rx_event.specs.Kept.{nothing_kept}
 use Rattle.rx_event.specs.Totals.{accepted_count}
-use Rattle.rx_device.specs.Input.{IsJsonOf, GivesJson}
+use Rattle.rx_device.specs.Input.{IsJsonOf}
 use Rattle.rx_scenario.specs.Scenario.{steps_of, Script}
 use Rattle.rx_scenario.specs.Reading.{scenario_of}
 use Rattle.rx_script.specs.declared.Form.{Form}
@@ -40,14 +40,6 @@ pub record IsOutputOfInput (input : List ℕ) (stock : List Ware) (form : Form) 
   pub json : IsJsonOf input value
   pub output : IsOutputOf value stock form text
 
--- the reader gave a scenario, and what is to be written of it was written in this way: whole, or a front of it
-pub record Runs (stock : List Ware) (form : Form) (given left : Option (List ℕ)) (Writes : List ℕ → Type 0) : Type 0 where
-  pub value : Data
-  pub gave : GivesJson given left value
-  pub text : List ℕ
-  pub output : IsOutputOf value stock form text
-  pub written : Writes text
-
 -- nothing is to be written: the value is no scenario, or one that lacks this form
 pub data GivesNoOutput (value : Data) (form : Form) : Type 0 where
   no_scenario : scenario_of value ≡ None → GivesNoOutput value form
@@ -57,10 +49,4 @@ pub data GivesNoOutput (value : Data) (form : Form) : Type 0 where
 pub record HasNoOutput (input : List ℕ) (form : Form) : Type 0 where
   pub value : Data
   pub json : IsJsonOf input value
-  pub none : GivesNoOutput value form
-
--- the reader gave JSON of which nothing is to be written in this form
-pub record LacksOutput (form : Form) (old new : Option (List ℕ)) : Type 0 where
-  pub value : Data
-  pub gave : GivesJson old new value
   pub none : GivesNoOutput value form

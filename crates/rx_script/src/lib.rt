@@ -1,10 +1,10 @@
 //! Scenarios of subscriptions at work, and their reports and dumps.
 //!
 //! A scenario (`rx_scenario`) says, step by step, what to do with a book of subscriptions. [`run`] reads
-//! one, carries it out on a new book with the caller's resources, closes the book, and writes a report:
-//! which steps were refused and why, what each node was told, and what became of each resource; or it
-//! writes the dump of the history before the closing (`rx_dump`), which [`check`] judges, alone or with the
-//! names that the scenario gives to numbers in it.
+//! one, carries it out on a new book with the caller's resources, closes the book, and gives a report:
+//! which steps were refused and why, what each node was told, and what became of each resource; or
+//! the dump of the history before the closing (`rx_dump`), alone or with the names that the scenario gives to
+//! numbers in it.
 //!
 //! # Vocabulary
 //!
@@ -33,25 +33,22 @@
 //!   stand for, and the stock that is left. `rx_agenda` defines which step comes
 //!   next, `specs/` a course as a relation (`Course`), and the report of one (`Report`); what a run makes
 //!   of its input is said in `Running`.
-//! - A [`Watched`] reader or writer notes whether the device behind it failed, so that the contract of
-//!   [`run`] can say whose fault a fault is (`rx_device`).
 //! - To **close** a book is to give back all leases, to dispose of all that is open, and to take and release
 //!   all that waits then.
 //!
 //! # Promised, and not
 //!
-//! - Where [`run`] answers Ok, no call of a device failed, the reader was read to its end, and what was
-//!   written is the report of a course of the scenario that its bytes are, or the dump of that course's
-//!   history, alone or with the names of its nodes, hubs and resources (`NamedDumps`), and nothing else. A
+//! - Where [`run`] answers Ok, the text is the report of a course of the scenario that the bytes are, or the dump of that
+//!   course's history, alone or with the names of its nodes, hubs and resources (`NamedDumps`), and nothing else. A
 //!   scenario that has a checkpoint anywhere has no dump, which is `Shape`:
 //!   a dump is a history from place 0. Each error comes only for its cause, and a cause of `Syntax` or `Shape`
-//!   is never passed over. With an error nothing was written, but for a front of the text with `Write`.
+//!   is never passed over; `Read` and `Write` never come.
 //! - Where no step was refused `Full`, that report is, but for the count of faults, the one of the
 //!   **canonical course**, of which a scenario with a stock has just one: it has no limit of events,
 //!   what is forced comes in one order in it, and it drains by rising number. So no report shows an order
 //!   that the code chose ([`courses_are_reported_alike`]).
 //! - [`close`] leaves nothing open, held or waiting, and no lease out, and takes no memory.
-//! - `run` closes its book in every outcome and before the first byte is written; that it does so where
+//! - `run` closes its book in every outcome; that it does so where
 //!   it answers an error is tested and not proved. So it is that `Memory` is given only where memory
 //!   was really refused, and that the faults of a report are those that the resources answered: proved
 //!   is that there are at most as many as accepted resources.
@@ -86,12 +83,11 @@ pub use engine::{Engine, begin};
 pub use noting::next_note;
 pub use running::run;
 pub use rx_book::Closed;
-pub use rx_device::{MOST_BYTES, MOST_TURNS, ScriptError, Watched, WriteFault, write_text};
-pub use rx_dump::{a_dump_is_read_back, check};
+pub use rx_device::ScriptError;
 pub use text::cause_name;
 pub use theorems::{courses_are_reported_alike, each_scenario_has_one_canonical_course};
 
-/// What a run writes.
+/// What a run gives.
 #[derive(Clone, Copy, Debug, PartialEq, Eq)]
 pub enum Form {
     /// What became of each node and resource, and the totals.

@@ -2,13 +2,11 @@
 
 ghost use Rattle.rx_event.specs.declared.event.Event.{Event as Happening};
 ghost use Rattle.rx_event.specs.Kept.{nothing_kept};
-ghost use Rattle.std.specs.Prelude.{◌≡◌, ◌≢◌, ◌≤◌, ◌⊎◌, ◌++◌, ℕ, List, false, true, map, string_bytes, IfOk, IfErr, OnOk, IsErrOf};
-ghost use Rattle.std.specs.Io.KnownBytes.{Appends};
+ghost use Rattle.std.specs.Prelude.{◌≡◌, ◌≢◌, ◌≤◌, ◌++◌, ℕ, List, false, true, map, string_bytes, IfOk, IfErr, OnOk, IsErrOf};
 ghost use Rattle.serde_json.specs.Data.{Data};
 ghost use Rattle.rx_event.specs.Totals.{accepted_count};
 ghost use Rattle.rx_register.specs.State.{greatest_limit};
-ghost use Rattle.rx_device.specs.Device.{device_of, KeepsDevice, has_failed, has_stopped, HasReadFault, HasWriteFault, IsUnasked, AppendsPrefix};
-ghost use Rattle.rx_device.specs.Input.{IsJsonOf, GivesTooMuch, GivesNoJson};
+ghost use Rattle.rx_device.specs.Input.{IsJsonOf};
 ghost use Rattle.rx_device.specs.Part.{part_data};
 ghost use Rattle.rx_scenario.specs.Scenario.{step_of, steps_of, script_of};
 ghost use Rattle.rx_scenario.specs.Reading.{scenario_of};
@@ -19,7 +17,7 @@ ghost use Rattle.rx_script.specs.Report.{unclosed_report, output, lacks_form};
 ghost use Rattle.rx_dump.specs.Dump.{dump};
 ghost use Rattle.rx_script.specs.Engine.{stage_of, IsHistoryOf, IsSound};
 ghost use Rattle.rx_script.specs.Outputs.{has_history, unclosed_output, closing, IsCarriedOut};
-ghost use Rattle.rx_script.specs.Running.{IsReportedCanonically, IsOutputOf, IsOutputOfInput, HasNoOutput, Runs, GivesNoOutput, LacksOutput};
+ghost use Rattle.rx_script.specs.Running.{IsReportedCanonically, IsOutputOf, IsOutputOfInput, HasNoOutput, GivesNoOutput};
 
 use crate::Form;
 use crate::closing::close;
@@ -32,12 +30,11 @@ use crate::text::{push_all_refused, push_closed, push_totals};
 use json::Scratch;
 use rx_agenda::Answer;
 use rx_book::Book;
-use rx_device::{Part, ScriptError, ShapeError, Watched, parse_in_place, read_all, write_text};
+use rx_device::{Part, ScriptError, ShapeError, parse_in_place};
 use rx_dump::push_dump;
 use rx_resource::Resource;
 use rx_scenario::{Scenario, Step, has_checkpoint, scenario_of};
 use std::alloc::{AllocError, Global};
-use std::io::{Read, Write};
 
 // All lines of the report but the last.
 #[tactic(auto, unfolding(crate::specs::Report::unclosed_report))]
@@ -193,8 +190,13 @@ fn output_of<S: Resource>(
     }
 }
 
-// What is written of the scenario whose text the input is.
-fn output_of_input<S: Resource>(
+/// Runs the scenario that the input is, in JSON, on a new book, with these resources as its stock, and gives what
+/// the form says: its report, or the dump of its history before the closing, alone or with the names of the run. A
+/// scenario with a checkpoint has no dump, since the book lets events go there; that is `Shape`.
+///
+/// The book is closed in every outcome: each resource that it accepted was released once. Those that it never accepted
+/// are dropped unreleased.
+pub fn run<S: Resource>(
     alloc: Global,
     input: &[u8],
     stock: Vec<S>,
@@ -211,57 +213,5 @@ fn output_of_input<S: Resource>(
         Ok(text) => Ok(text),
         Err(ShapeError::Shape) => Err(ScriptError::Shape),
         Err(ShapeError::Memory) => Err(ScriptError::Memory),
-    }
-}
-
-/// Runs the scenario that the reader has left, in JSON, on a new book, with these resources as its
-/// stock, and writes what the form says: its report, or the dump of its history before the closing, alone
-/// or with the names of the run. A scenario with a checkpoint has no dump, since the book lets events go
-/// there; that is `Shape`.
-///
-/// The book is closed in every outcome, and before the first byte is written: each resource that it
-/// accepted was released once. Those that it never accepted are dropped unreleased. Only with
-/// [`ScriptError::Write`] is anything but the whole written: a front of it. A write that takes no byte is such a
-/// fault.
-pub fn run<R: Read, W: Write, S: Resource>(
-    alloc: Global,
-    reader: &mut Watched<'_, R>,
-    writer: &mut Watched<'_, W>,
-    stock: Vec<S>,
-    form: Form,
-) -> Result<(), ScriptError>
-    requires reader { IsUnasked reader.old }
-    requires writer { IsUnasked writer.old }
-
-    ensures ok { OnOk result (Runs (map (ware_of S.Resource) stock.items) form
-        (R.remaining (device_of reader.old)) (R.remaining (device_of reader.new))
-        (Appends (W.contents (device_of writer.old)) (W.contents (device_of writer.new)))) }
-    ensures stopped { OnOk result (has_stopped reader.new ≡ true) }
-    ensures unhurt { OnOk result ((has_failed reader.new ≡ false) × (has_failed writer.new ≡ false)) }
-    ensures moved { OnOk result (has_stopped writer.new ≡ false) }
-
-    ensures read { IsErrOf result ScriptError.Read → HasReadFault reader.new }
-    ensures write { IsErrOf result ScriptError.Write → HasWriteFault writer.new }
-    ensures syntax { IsErrOf result ScriptError.Syntax
-        → GivesTooMuch (R.remaining (device_of reader.old)) (R.remaining (device_of reader.new))
-        ⊎ GivesNoJson (R.remaining (device_of reader.old)) (R.remaining (device_of reader.new)) }
-    ensures shape { IsErrOf result ScriptError.Shape
-        → LacksOutput form (R.remaining (device_of reader.old)) (R.remaining (device_of reader.new)) }
-
-    // With a write fault a front of it is written, and with any other fault nothing.
-    ensures front { IsErrOf result ScriptError.Write
-        → Runs (map (ware_of S.Resource) stock.items) form
-        (R.remaining (device_of reader.old)) (R.remaining (device_of reader.new))
-        (AppendsPrefix (W.contents (device_of writer.old)) (W.contents (device_of writer.new))) }
-    ensures silent { IfErr result (λ e. e ≢ ScriptError.Write → writer.new ≡ writer.old) }
-
-    ensures same_reader { KeepsDevice reader.old reader.new }
-    ensures same_writer { KeepsDevice writer.old writer.new }
-{
-    let input = read_all(alloc, reader)?;
-    let text = output_of_input(alloc, input.as_slice(), stock, form)?;
-    match write_text(writer, text.as_str().as_bytes()) {
-        Ok(()) => Ok(()),
-        Err(_) => Err(ScriptError::Write),
     }
 }

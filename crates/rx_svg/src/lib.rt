@@ -10,7 +10,7 @@
 //! alone, nor of the names of numbers: markup in a name is written as references, and each byte of a control
 //! character or of a letter beyond ASCII as a question mark.
 //!
-//! [`picture_of`] reads the history from a JSON value: a dump, or an object with a dump and the names of numbers.
+//! [`draw`] reads the history from a text: a dump, or an object with a dump and the names of numbers.
 //!
 //! Not promised: what a browser makes of it.
 //!
@@ -27,5 +27,5 @@ mod pieces;
 mod strokes;
 mod svg;
 
-pub use pictured::picture_of;
+pub use pictured::draw;
 pub use svg::{named_picture, picture};

@@ -3,7 +3,7 @@
 use super::same::same;
 use super::scarce::scarce_after;
 use super::streams::{Narrow, Source};
-use rx_cli::serve;
+use rx_cli::{keep, serve};
 use rx_device::Watched;
 use rx_script::stock;
 use std::alloc::{AllocError, Global};
@@ -492,6 +492,32 @@ static STUCK: [Row; 2] = [
 fn an_output_that_fails_is_a_write_fault(rt: HostRuntime) -> Result<(), Fail> {
     assert_rows(&rt, rt.alloc(), Flaw::Full, &FULL)?;
     assert_rows(&rt, rt.alloc(), Flaw::Stuck, &STUCK)
+}
+
+const CLOSED: &str = "{\"closed\":true}\n";
+
+#[test]
+fn a_live_book_says_which_stream_failed(rt: HostRuntime) {
+    for (fails_at, room, status, output, errors) in [
+        (u64::MAX, MUCH, 0, CLOSED, ""),
+        (0, MUCH, 1, CLOSED, "rxbook: read fault\n"),
+        (u64::MAX, 0, 1, "", WRITE_FAULT),
+    ] {
+        let mut reader = Source::new(b"", MUCH, fails_at);
+        let mut told = Narrow::new(rt.alloc(), MUCH, room, false);
+        let mut faults = Narrow::new(rt.alloc(), MUCH, MUCH, false);
+        let found = keep(
+            rt.alloc(),
+            &mut reader,
+            &mut told,
+            &mut Watched::new(&mut faults),
+        );
+        same(
+            &rt,
+            (found, told.taken.as_slice(), faults.taken.as_slice()),
+            (status, output.as_bytes(), errors.as_bytes()),
+        );
+    }
 }
 
 static UNTOLD: [Row; 2] = [

@@ -2,7 +2,7 @@
 
 use super::same::same;
 use super::streams::{Narrow, Source};
-use rx_device::{MOST_BYTES, MOST_TURNS, ScriptError, Watched, WriteFault, read_value, write_text};
+use rx_device::{MOST_BYTES, MOST_TURNS, ScriptError, Watched, WriteFault, read_all, write_text};
 use std::alloc::{AllocError, Global};
 use std::test::Fail;
 
@@ -16,7 +16,7 @@ fn read_once(
     fails_at: u64,
 ) -> (Option<ScriptError>, u64) {
     let mut source = Source::new(bytes, piece, fails_at);
-    let fault = read_value(alloc, &mut Watched::new(&mut source)).err();
+    let fault = read_all(alloc, &mut Watched::new(&mut source)).err();
     (fault, source.asked)
 }
 
@@ -32,10 +32,10 @@ fn a_reader_fails_where_it_was_asked_and_failed(rt: HostRuntime) {
     }
 }
 
-// An empty array, and spaces behind it up to this length.
-fn padded(alloc: Global, length: usize) -> Result<Vec<u8>, AllocError> {
-    let mut text = b"[]".to_vec(alloc)?;
-    for _ in 2..length {
+// So many spaces.
+fn spaces(alloc: Global, length: usize) -> Result<Vec<u8>, AllocError> {
+    let mut text = Vec::new(alloc);
+    for _ in 0..length {
         text.push(b' ')?;
     }
     Ok(text)
@@ -46,10 +46,10 @@ fn padded(alloc: Global, length: usize) -> Result<Vec<u8>, AllocError> {
 // meets their bound that goes on giving bytes, and all meet its end.
 #[test]
 fn the_slowest_reader_is_read_within_the_bound_on_turns(rt: HostRuntime) -> Result<(), Fail> {
-    let longest = padded(rt.alloc(), MOST_BYTES)?;
+    let longest = spaces(rt.alloc(), MOST_BYTES)?;
     let (fault, asked) = read_once(rt.alloc(), longest.as_slice(), 1, u64::MAX);
     assert!(rt; fault.is_none());
-    let longer = padded(rt.alloc(), MOST_BYTES + 1)?;
+    let longer = spaces(rt.alloc(), MOST_BYTES + 1)?;
     let (too_long, asked_of_longer) = read_once(rt.alloc(), longer.as_slice(), 1, u64::MAX);
     assert!(rt; matches!(too_long, Some(ScriptError::Syntax)));
     let most = MOST_BYTES as u64;

@@ -1,7 +1,6 @@
 //! Runs of scenarios.
 
-mod caller;
-mod faults;
 mod sights;
 mod steps;
+mod stock;
 mod want;

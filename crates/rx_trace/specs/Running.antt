@@ -1,7 +1,7 @@
--- What a traced run makes of its input, said of the bytes that a reader had and has left, and of those that a writer held and holds.
-use Rattle.std.specs.Prelude.{◌≡◌, ℕ, Some, Option, List}
+-- What a traced run makes of its input.
+use Rattle.std.specs.Prelude.{◌≡◌, ℕ, Some, List}
 use Rattle.serde_json.specs.Data.{Data}
-use Rattle.rx_device.specs.Input.{IsJsonOf, GivesJson}
+use Rattle.rx_device.specs.Input.{IsJsonOf}
 use Rattle.rx_scenario.specs.Scenario.{Script}
 use Rattle.rx_scenario.specs.Reading.{scenario_of}
 use Rattle.rx_script.specs.Stage.{Ware}
@@ -18,11 +18,3 @@ pub record IsTraceOfInput (input : List ℕ) (stock : List Ware) (text : List �
   pub value : Data
   pub json : IsJsonOf input value
   pub trace : IsTraceOfValue value stock text
-
--- the reader gave a scenario, and its trace was written in this way: whole, or a front of it
-pub record IsTraced (stock : List Ware) (given left : Option (List ℕ)) (Writes : List ℕ → Type 0) : Type 0 where
-  pub value : Data
-  pub gave : GivesJson given left value
-  pub text : List ℕ
-  pub trace : IsTraceOfValue value stock text
-  pub written : Writes text

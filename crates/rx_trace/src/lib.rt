@@ -1,7 +1,7 @@
 //! Traces: a scenario as it goes, a line a step.
 //!
 //! [`trace`] reads a scenario and carries it out as `rx_script` does: each step by [`rx_script::take_step`], in the
-//! order of its agenda. It writes a JSON object a line for each step that was executed, and one for the closing of
+//! order of its agenda. It gives a JSON object a line for each step that was executed, and one for the closing of
 //! the book, in place of the report.
 //!
 //! # Vocabulary
@@ -16,10 +16,10 @@
 //!
 //! # Promised, and not
 //!
-//! - Where [`trace`] answers Ok, the reader gave a scenario, and what was written is the trace of a course of it,
+//! - Where [`trace`] answers Ok, the bytes are a scenario, and the text is the trace of a course of it,
 //!   which is a course as [`rx_script::run`] reports one, and nothing else. Each line is exactly the one that the
 //!   stages before and after its step give (`specs/Line.antt`). A scenario is traced just where it is reported. Each
-//!   error comes only for its cause, and with an error nothing was written, but for a front of the text with `Write`.
+//!   error comes only for its cause; `Read` and `Write` never come.
 //! - That the book is closed in every outcome is tested alone, and so is that `Memory` comes only where memory was
 //!   refused.
 //! - A name is looked for from the first on, so a line takes time with the number of names.
@@ -32,4 +32,3 @@ mod told;
 mod tracing;
 
 pub use running::trace;
-pub use rx_device::{ScriptError, Watched};

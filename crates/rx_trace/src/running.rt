@@ -1,14 +1,12 @@
 //! From a scenario's bytes to its trace.
 
-ghost use Rattle.std.specs.Prelude.{◌≡◌, ◌≢◌, ◌≤◌, ◌⊎◌, ◌++◌, List, false, true, map, string_bytes, IfOk, IfErr, OnOk, IsErrOf};
-ghost use Rattle.std.specs.Io.KnownBytes.{Appends};
+ghost use Rattle.std.specs.Prelude.{◌≡◌, ◌≢◌, ◌≤◌, ◌++◌, List, map, string_bytes, IfOk, IfErr, OnOk, IsErrOf};
 ghost use Rattle.serde_json.specs.Data.{Data};
-ghost use Rattle.rx_device.specs.Device.{device_of, KeepsDevice, has_failed, has_stopped, HasReadFault, HasWriteFault, IsUnasked, AppendsPrefix};
-ghost use Rattle.rx_device.specs.Input.{IsJsonOf, GivesTooMuch, GivesNoJson};
+ghost use Rattle.rx_device.specs.Input.{IsJsonOf};
 ghost use Rattle.rx_device.specs.Part.{part_data};
 ghost use Rattle.rx_scenario.specs.Scenario.{script_of};
 ghost use Rattle.rx_script.specs.declared.Form.{Form};
-ghost use Rattle.rx_script.specs.Running.{GivesNoOutput, HasNoOutput, LacksOutput};
+ghost use Rattle.rx_script.specs.Running.{GivesNoOutput, HasNoOutput};
 ghost use Rattle.rx_script.specs.Stage.{ware_of};
 ghost use Rattle.rx_event.specs.declared.event.Event.{Event};
 ghost use Rattle.rx_event.specs.Kept.{nothing_kept};
@@ -18,18 +16,17 @@ ghost use Rattle.rx_script.specs.Engine.{stage_of};
 ghost use Rattle.rx_trace.specs.Line.{closing_text};
 ghost use Rattle.rx_trace.specs.Taken.{AreHandedOut};
 ghost use Rattle.rx_trace.specs.Traced.{IsTraceOf};
-ghost use Rattle.rx_trace.specs.Running.{IsTraceOfValue, IsTraceOfInput, IsTraced};
+ghost use Rattle.rx_trace.specs.Running.{IsTraceOfValue, IsTraceOfInput};
 
 use crate::handed::HandedOut;
 use crate::told::{left_names, push_list};
 use crate::tracing::trace_course;
 use json::Scratch;
-use rx_device::{Part, ScriptError, ShapeError, Watched, parse_in_place, read_all, write_text};
+use rx_device::{Part, ScriptError, ShapeError, parse_in_place};
 use rx_resource::Resource;
 use rx_scenario::{Scenario, scenario_of};
 use rx_script::{Engine, begin, close};
 use std::alloc::{AllocError, Global};
-use std::io::{Read, Write};
 
 // Writes the line of the closing, which hands out what was not handed out before.
 fn push_closing<S: Resource>(
@@ -88,12 +85,9 @@ fn trace_of<S: Resource>(
     }
 }
 
-// The trace of the scenario whose text the input is.
-fn trace_of_input<S: Resource>(
-    alloc: Global,
-    input: &[u8],
-    stock: Vec<S>,
-) -> Result<String, ScriptError>
+/// Runs the scenario that the input is, in JSON, on a new book, with these resources as its stock, and gives its trace. The
+/// book is closed in every outcome, as [`rx_script::run`] closes it.
+pub fn trace<S: Resource>(alloc: Global, input: &[u8], stock: Vec<S>) -> Result<String, ScriptError>
     ensures ok { IfOk result (λ s. IsTraceOfInput input.now (map (ware_of S.Resource) stock.items) (string_bytes s)) }
     ensures syntax { IsErrOf result ScriptError.Syntax → (d : Data) → ¬ IsJsonOf input.now d }
     ensures shape { IsErrOf result ScriptError.Shape → HasNoOutput input.now Form.Report }
@@ -105,54 +99,5 @@ fn trace_of_input<S: Resource>(
         Ok(text) => Ok(text),
         Err(ShapeError::Shape) => Err(ScriptError::Shape),
         Err(ShapeError::Memory) => Err(ScriptError::Memory),
-    }
-}
-
-/// Runs the scenario that the reader has left, in JSON, on a new book, with these resources as its stock, and
-/// writes its trace.
-///
-/// The book is closed in every outcome, and before the first byte is written: each resource that it
-/// accepted was released once. Those that it never accepted are dropped unreleased. Only with
-/// [`ScriptError::Write`] is anything but the whole written: a front of it. A write that takes no byte is such a
-/// fault.
-pub fn trace<R: Read, W: Write, S: Resource>(
-    alloc: Global,
-    reader: &mut Watched<'_, R>,
-    writer: &mut Watched<'_, W>,
-    stock: Vec<S>,
-) -> Result<(), ScriptError>
-    requires reader { IsUnasked reader.old }
-    requires writer { IsUnasked writer.old }
-
-    ensures ok { OnOk result (IsTraced (map (ware_of S.Resource) stock.items)
-        (R.remaining (device_of reader.old)) (R.remaining (device_of reader.new))
-        (Appends (W.contents (device_of writer.old)) (W.contents (device_of writer.new)))) }
-    ensures stopped { OnOk result (has_stopped reader.new ≡ true) }
-    ensures unhurt { OnOk result ((has_failed reader.new ≡ false) × (has_failed writer.new ≡ false)) }
-    ensures moved { OnOk result (has_stopped writer.new ≡ false) }
-
-    ensures read { IsErrOf result ScriptError.Read → HasReadFault reader.new }
-    ensures write { IsErrOf result ScriptError.Write → HasWriteFault writer.new }
-    ensures syntax { IsErrOf result ScriptError.Syntax
-        → GivesTooMuch (R.remaining (device_of reader.old)) (R.remaining (device_of reader.new))
-        ⊎ GivesNoJson (R.remaining (device_of reader.old)) (R.remaining (device_of reader.new)) }
-    ensures shape { IsErrOf result ScriptError.Shape
-        → LacksOutput Form.Report (R.remaining (device_of reader.old)) (R.remaining (device_of reader.new)) }
-
-    // With a write fault a front of it is written, and with any other fault nothing.
-    ensures front { IsErrOf result ScriptError.Write
-        → IsTraced (map (ware_of S.Resource) stock.items)
-        (R.remaining (device_of reader.old)) (R.remaining (device_of reader.new))
-        (AppendsPrefix (W.contents (device_of writer.old)) (W.contents (device_of writer.new))) }
-    ensures silent { IfErr result (λ e. e ≢ ScriptError.Write → writer.new ≡ writer.old) }
-
-    ensures same_reader { KeepsDevice reader.old reader.new }
-    ensures same_writer { KeepsDevice writer.old writer.new }
-{
-    let input = read_all(alloc, reader)?;
-    let text = trace_of_input(alloc, input.as_slice(), stock)?;
-    match write_text(writer, text.as_str().as_bytes()) {
-        Ok(()) => Ok(()),
-        Err(_) => Err(ScriptError::Write),
     }
 }

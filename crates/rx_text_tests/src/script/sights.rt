@@ -1,9 +1,7 @@
-//! Resources of the tests, and how a scenario is run over streams.
+//! Resources of the tests.
 
-use rx_resource::{Resource, Tracked, Tracker};
-use rx_script::{Form, ScriptError, Watched, run};
+use rx_resource::{Tracked, Tracker};
 use std::alloc::{AllocError, Global};
-use std::io::{Read, Write};
 
 // The fault that the release of a resource of this tag meets.
 fn fault_of(tag: u64) -> Option<u32> {
@@ -51,21 +49,4 @@ pub fn heard_count(trackers: &[Tracker]) -> usize {
         }
     }
     count
-}
-
-/// Runs what a stream gives into another.
-pub fn run_over<R: Read, W: Write, S: Resource>(
-    alloc: Global,
-    reader: &mut R,
-    writer: &mut W,
-    stock: Vec<S>,
-    form: Form,
-) -> Result<(), ScriptError> {
-    run(
-        alloc,
-        &mut Watched::new(reader),
-        &mut Watched::new(writer),
-        stock,
-        form,
-    )
 }

@@ -1,8 +1,7 @@
 //! The greatest number of steps. That one more is refused stands among the mistakes of `rx_replay`.
 
-use super::sights::run_over;
 use rx_resource::Sample;
-use rx_script::Form;
+use rx_script::{Form, run};
 use std::alloc::{AllocError, Global};
 use std::test::Fail;
 
@@ -22,9 +21,7 @@ fn drains(alloc: Global, steps: u32) -> Result<String, AllocError> {
 #[test]
 fn a_scenario_has_at_most_65_536_steps(rt: HostRuntime) -> Result<(), Fail> {
     let text = drains(rt.alloc(), MOST)?;
-    let mut input = text.as_str().as_bytes();
-    let mut output: Vec<u8> = Vec::new(rt.alloc());
     let stock: Vec<Sample> = Vec::new(rt.alloc());
-    run_over(rt.alloc(), &mut input, &mut output, stock, Form::Report)?;
+    run(rt.alloc(), text.as_bytes(), stock, Form::Report)?;
     Ok(())
 }

@@ -1,11 +1,11 @@
 //! Memory refused, at many of the places where a run asks for some, before and after its resources are
 //! accepted: its closing takes none.
 
-use super::sights::{are_released_once, heard_count, run_over, stock_by, trackers};
+use super::sights::{are_released_once, heard_count, stock_by, trackers};
 use crate::same::same;
 use crate::scarce::scarce_after;
 use rx_resource::{Tracked, Tracker};
-use rx_script::{Form, ScriptError};
+use rx_script::{Form, ScriptError, run};
 use std::alloc::{AllocError, Global};
 use std::process::Abort;
 use std::test::Fail;
@@ -118,26 +118,21 @@ fn rest_of_room(alloc: Global, steps: usize) -> Result<Vec<u8>, AllocError> {
     Vec::with_capacity(alloc, ROOM.saturating_sub(steps.saturating_mul(STEP)))
 }
 
-// One run: how many resources had heard a word where it was refused memory, wrote nothing and released what it
-// accepted; None where it was done.
-fn refused_after(
-    alloc: Global,
-    course: Course,
-    form: Form,
-    output: &mut Vec<u8>,
-) -> Result<Option<usize>, Fail> {
+// What came of a run: what it gave, or how many resources had heard a word where it was refused memory and released
+// what it accepted.
+#[derive(Drop)]
+enum Outcome {
+    Done(String),
+    Refused(usize),
+}
+
+// One run.
+fn run_one(alloc: Global, course: Course, form: Form) -> Result<Outcome, Fail> {
     let Course { trackers, stock } = course;
-    let mut input = SCENARIO.as_bytes();
-    match run_over(alloc, &mut input, output, stock, form) {
-        Ok(()) => Ok(None),
+    match run(alloc, SCENARIO.as_bytes(), stock, form) {
+        Ok(text) => Ok(Outcome::Done(text)),
         Err(ScriptError::Memory) => match closed_count(&trackers) {
-            Some(heard) => {
-                if output.is_empty() {
-                    Ok(Some(heard))
-                } else {
-                    Err(Fail::from("it wrote"))
-                }
-            }
+            Some(heard) => Ok(Outcome::Refused(heard)),
             None => Err(Fail::from("a resource was not released once")),
         },
         Err(_) => Err(Fail::from("it is refused for another cause")),
@@ -146,21 +141,19 @@ fn refused_after(
 
 // A run where there is enough memory.
 fn run_once(alloc: Global, form: Form) -> Result<(), Fail> {
-    let mut output: Vec<u8> = Vec::new(alloc);
-    match refused_after(alloc, new_course(alloc)?, form, &mut output)? {
-        Some(_) => Err(Fail::from("it is refused where there is enough")),
-        None => Ok(()),
+    match run_one(alloc, new_course(alloc)?, form)? {
+        Outcome::Done(_) => Ok(()),
+        Outcome::Refused(_) => Err(Fail::from("it is refused where there is enough")),
     }
 }
 
-// Runs, each with a step of memory more, until one is done: whether one was refused before a resource heard its
-// word, and one when all had.
+// Runs, each with a step of memory more, until one is done: what it gave, whether one was refused before a resource
+// heard its word, and one when all had.
 fn run_in_the_end(
     alloc: Global,
     courses: &mut Vec<Course>,
     form: Form,
-    output: &mut Vec<u8>,
-) -> Result<(bool, bool), Fail> {
+) -> Result<(String, bool, bool), Fail> {
     let room = rest_of_room(alloc, 0)?;
     let _scarce = scarce_after(alloc, run_once(alloc, form))?;
     drop(room);
@@ -169,39 +162,38 @@ fn run_in_the_end(
     for steps in 0..RUNS {
         let course = courses.pop().ok_or("no run is left")?;
         let _rest = rest_of_room(alloc, steps)?;
-        match refused_after(alloc, course, form, output)? {
-            Some(heard) => {
+        match run_one(alloc, course, form)? {
+            Outcome::Refused(heard) => {
                 early = early || heard == 0;
                 late = late || heard == 3;
             }
-            None => return Ok((early, late)),
+            Outcome::Done(text) => return Ok((text, early, late)),
         }
     }
     Err(Fail::from("no run is done"))
 }
 
-// Such runs in this form, the last of which writes this text.
-fn assert_written(rt: &impl Abort, alloc: Global, form: Form, text: &str) -> Result<(), Fail> {
-    let mut output: Vec<u8> = Vec::with_capacity(alloc, 4096)?;
+// Such runs in this form, the last of which gives this text.
+fn assert_given(rt: &impl Abort, alloc: Global, form: Form, text: &str) -> Result<(), Fail> {
     let mut courses = courses(alloc)?;
-    let refused = run_in_the_end(alloc, &mut courses, form, &mut output)?;
-    same(rt, output.as_slice(), text.as_bytes());
-    same(rt, refused, (true, true));
+    let (given, early, late) = run_in_the_end(alloc, &mut courses, form)?;
+    same(rt, given.as_str(), text);
+    assert!(rt; early && late);
     Ok(())
 }
 
 #[test]
-fn a_run_without_memory_writes_nothing_and_releases_what_it_accepted(
+fn a_run_without_memory_gives_nothing_and_releases_what_it_accepted(
     rt: HostRuntime,
 ) -> Result<(), Fail> {
-    assert_written(&rt, rt.alloc(), Form::Report, REPORT)
+    assert_given(&rt, rt.alloc(), Form::Report, REPORT)
 }
 
 #[test]
 fn a_dump_without_memory_is_not_begun_and_what_was_accepted_is_released(
     rt: HostRuntime,
 ) -> Result<(), Fail> {
-    assert_written(&rt, rt.alloc(), Form::Dump, DUMP)
+    assert_given(&rt, rt.alloc(), Form::Dump, DUMP)
 }
 
 #[test]
@@ -209,5 +201,5 @@ fn names_without_memory_are_not_begun_and_what_was_accepted_is_released(
     rt: HostRuntime,
 ) -> Result<(), Fail> {
     let text = format!(in rt.alloc(); "{{\"dump\":{DUMP}{NAMES}")?;
-    assert_written(&rt, rt.alloc(), Form::NamedDump, text.as_str())
+    assert_given(&rt, rt.alloc(), Form::NamedDump, text.as_str())
 }

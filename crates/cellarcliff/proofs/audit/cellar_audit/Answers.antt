@@ -1,7 +1,6 @@
-use Rattle.cellarcliff.proofs.OutcomeIsAnswer.{answered_through}
+use Rattle.cellarcliff.proofs.OutcomeIsAnswer.{answered}
 use Rattle.cellarcliff.proofs.audit.cellar_audit.Goals as goal
 
 pub returns : goal.returns
 returns c =
-    let told = c.verdict_on-outcome.ensures in
-    answered_through _ c.as_slice.ensures.value told.ok told.syntax told.shape c.hand_out.ensures
+    answered _ c.verdict_on.ensures.ok c.verdict_on.ensures.syntax c.verdict_on.ensures.shape c.hand_out.ensures

@@ -1,9 +1,0 @@
-use Rattle.rx_script.proofs.Common.{Err, ap}
-use Rattle.rx_script.proofs.running.output_of_input.Goals as goal
-
-pub returns-in-Err-Shape-clause-shape : goal.returns-in-Err-Shape-clause-shape
-returns-in-Err-Shape-clause-shape g c = λ is. record {
-  value = _;
-  json = c.in_ok-value.ensures.ok;
-  none = rw c.new.ensures at (c.in-Err-Shape.ensures.shape (ap Err c.in-Err-Shape.field-0-is));
-}
