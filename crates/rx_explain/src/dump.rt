@@ -2,7 +2,8 @@
 
 use crate::walk::{Stop, Walk, tell};
 use crate::wanted::{Wanted, shown};
-use crate::words::{ENDS, EVENTS, KINDS, MODES, PLACES};
+use crate::words::{ENDS, EVENTS};
+use rx_scenario::{KINDS, MODES, PLACES};
 use serde_json::Value;
 use std::alloc::Global;
 

@@ -3,9 +3,8 @@
 
 use crate::walk::{Walk, inside, numbered, tell};
 use crate::wanted::{Wanted, quoted, shown};
-use crate::words::{
-    COMMANDS, KINDS, MODES, OF_SCENARIOS, OF_STEPS, PLACES, is_among, members_of, nearest,
-};
+use crate::words::{COMMANDS, OF_SCENARIOS, OF_STEPS, members_of};
+use rx_scenario::{KINDS, MODES, PLACES, is_among, nearest};
 use serde_json::Value;
 use std::alloc::{AllocError, Global};
 use std::collections::HashSet;

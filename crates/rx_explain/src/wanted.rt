@@ -1,6 +1,6 @@
 //! What is expected of a value, and what is said where it is something else.
 
-use crate::words::{is_among, nearest};
+use rx_scenario::{is_among, is_name, nearest};
 use serde_json::Value;
 use std::alloc::{AllocError, Global};
 
@@ -22,15 +22,6 @@ pub enum Wanted {
 /// The longest text that is shown.
 const MOST_SHOWN: usize = 40;
 
-fn is_name(text: &str) -> bool {
-    let bytes = text.as_bytes();
-    1 <= bytes.len()
-        && bytes.len() <= 32
-        && bytes.iter().all(
-            |byte| matches!(*byte, b'0'..=b'9' | b'A'..=b'Z' | b'a'..=b'z' | b'-' | b'_'),
-        )
-}
-
 fn is_within(number: Option<u64>, least: u64, most: u64) -> bool {
     match number {
         Some(number) => least <= number && number <= most,
@@ -42,7 +33,7 @@ impl Wanted {
     /// Whether the value is what is expected.
     pub fn fits(self, value: &Value) -> bool {
         match self {
-            Wanted::Name => value.as_str().is_some_and(is_name),
+            Wanted::Name => value.as_str().is_some_and(|text| is_name(text)),
             Wanted::Number(least, most) => is_within(value.as_u64(), least, most),
             Wanted::Item => value.as_i64().is_some(),
             Wanted::Word(list) => value.as_str().is_some_and(|word| is_among(word, list)),

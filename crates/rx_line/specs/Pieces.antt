@@ -6,37 +6,15 @@ use Rattle.serde_json.specs.Written.{compact_text}
 use Rattle.rx_note.specs.declared.note.Terminal.TheVariants.{Completed, Error}
 use Rattle.rx_note.specs.declared.note.Note.{Note}
 use Rattle.rx_note.specs.declared.note.Note.TheVariants.{Next, Project, End}
-use Rattle.rx_event.specs.declared.refusal.Refusal.{Refusal}
-use Rattle.rx_event.specs.declared.refusal.Refusal.TheVariants.{NoMemory, Full, Gone, WrongKind, PlaceTaken, NothingOwed, NotRoot, NoHub, HubOrder}
-use Rattle.rx_event.specs.declared.refusal.Refusal.TheVariants.{Connected, NotConnected, NotFresh, NotHeld, HasChild, TooMany, NoLease, Leased, MailLeft}
+use Rattle.rx_scenario.specs.RefusalWords.{refusal_word}
 use Rattle.rx_scenario.specs.Scenario.{Name}
 use Rattle.rx_line.specs.declared.outcome.Cause.{Cause}
 use Rattle.rx_line.specs.declared.outcome.Cause.TheVariants.{NoName, NameTaken, Book}
 
-abbrev pub refusal_name : Refusal → List ℕ
-refusal_name NoMemory = codes "NoMemory"
-refusal_name Full = codes "Full"
-refusal_name Gone = codes "Gone"
-refusal_name WrongKind = codes "WrongKind"
-refusal_name PlaceTaken = codes "PlaceTaken"
-refusal_name NothingOwed = codes "NothingOwed"
-refusal_name NotRoot = codes "NotRoot"
-refusal_name NoHub = codes "NoHub"
-refusal_name HubOrder = codes "HubOrder"
-refusal_name Connected = codes "Connected"
-refusal_name NotConnected = codes "NotConnected"
-refusal_name NotFresh = codes "NotFresh"
-refusal_name NotHeld = codes "NotHeld"
-refusal_name HasChild = codes "HasChild"
-refusal_name TooMany = codes "TooMany"
-refusal_name NoLease = codes "NoLease"
-refusal_name Leased = codes "Leased"
-refusal_name MailLeft = codes "MailLeft"
-
 abbrev pub cause_name : Cause → List ℕ
 cause_name NoName = codes "NoName"
 cause_name NameTaken = codes "NameTaken"
-cause_name (Book why) = refusal_name why
+cause_name (Book why) = refusal_word why
 
 -- a refused command
 unfoldable pub refused_text : Cause → List ℕ

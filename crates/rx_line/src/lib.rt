@@ -22,7 +22,6 @@
 
 mod free;
 mod names;
-mod near;
 mod order;
 mod outcome;
 mod pieces;

@@ -2,13 +2,14 @@
 
 ghost use Rattle.std.specs.Prelude.{◌≡◌, ◌++◌, ◌+◌, ◌≤◌, length, string_bytes, IfOk};
 ghost use Rattle.std.specs.String.{string_len, string_capacity};
-ghost use Rattle.rx_line.specs.Pieces.{refusal_name, cause_name, faulty_text, to_text, next_text};
+ghost use Rattle.rx_line.specs.Pieces.{cause_name, faulty_text, to_text, next_text};
 ghost use Rattle.rx_line.specs.Pieces.{project_text, completed_text, error_text, note_text, ok_text, refused_text};
 
 use crate::outcome::Cause;
 use itoa::Buffer;
-use rx_event::{Refusal, Terminal};
+use rx_event::Terminal;
 use rx_note::Note;
+use rx_scenario::refusal_word;
 use serde_json::Value;
 use std::alloc::{AllocError, Global};
 
@@ -18,32 +19,6 @@ const PIECE: usize = 32;
 
 const NOTE: usize = 48;
 
-fn refusal_name(why: Refusal) -> &'static str
-    ensures name { result.now ≡ refusal_name why }
-    ensures short { length result.now ≤ 12 }
-{
-    match why {
-        Refusal::NoMemory => "NoMemory",
-        Refusal::Full => "Full",
-        Refusal::Gone => "Gone",
-        Refusal::WrongKind => "WrongKind",
-        Refusal::PlaceTaken => "PlaceTaken",
-        Refusal::NothingOwed => "NothingOwed",
-        Refusal::NotRoot => "NotRoot",
-        Refusal::NoHub => "NoHub",
-        Refusal::HubOrder => "HubOrder",
-        Refusal::Connected => "Connected",
-        Refusal::NotConnected => "NotConnected",
-        Refusal::NotFresh => "NotFresh",
-        Refusal::NotHeld => "NotHeld",
-        Refusal::HasChild => "HasChild",
-        Refusal::TooMany => "TooMany",
-        Refusal::NoLease => "NoLease",
-        Refusal::Leased => "Leased",
-        Refusal::MailLeft => "MailLeft",
-    }
-}
-
 // The name of a cause.
 fn cause_name(why: Cause) -> &'static str
     ensures name { result.now ≡ cause_name why }
@@ -52,7 +27,7 @@ fn cause_name(why: Cause) -> &'static str
     match why {
         Cause::NoName => "NoName",
         Cause::NameTaken => "NameTaken",
-        Cause::Book(why) => refusal_name(why),
+        Cause::Book(why) => refusal_word(why),
     }
 }
 

@@ -1,56 +1,25 @@
 //! What is wrong with a JSON value that is no command. Nothing is proved of what it says.
 
-use crate::near::Nearest;
 use rx_device::Part;
-use rx_scenario::is_name;
+use rx_scenario::{KINDS, MODES, PLACES, is_among, is_name, members_of, nearest};
 use std::alloc::{AllocError, Global};
 
 const NAME: &str = "a name of 1 to 32 letters, digits, - and _ is expected";
 
 const CODE: &str = "a whole number from 0 to 4294967295 is expected";
 
-// The commands, and the members of each besides `do`.
-static MEMBERS: [(&str, &str); 21] = [
-    ("using", "name, place, of, res"),
-    ("open", "name, place, of, kind, hub, connection, res"),
-    ("hold", "node, res"),
-    ("apply", "res, word"),
-    ("remove", "res"),
-    ("lease", "res, name"),
-    ("return", "lease"),
-    ("next", "node, value"),
-    ("end", "node, error"),
-    ("abort", "node, error"),
-    ("fail", "node, error"),
-    ("decline", "node"),
-    ("dispose", "node"),
-    ("is", "node"),
-    ("hub", "name, mode"),
-    ("connect", "hub, name"),
-    ("disconnect", "hub"),
-    ("drain", ""),
-    ("checkpoint", ""),
-    ("list", ""),
-    ("dump", ""),
-];
+// The commands of a live book.
+const COMMANDS: &str =
+    "using, open, hold, apply, remove, lease, return, next, end, abort, fail, decline, dispose, is, hub, connect, disconnect, drain, checkpoint, list, dump";
 
 // The members of a command, besides `do`.
-fn members_of(command: &str) -> Option<&'static str> {
-    for &(known, members) in &MEMBERS {
-        if known == command {
-            return Some(members);
-        }
+fn own_members(command: &str) -> Option<&'static str> {
+    match command {
+        "open" => Some("name, place, of, kind, hub, connection, res"),
+        "is" => Some("node"),
+        "list" | "dump" => Some(""),
+        _ => members_of(command),
     }
-    None
-}
-
-fn is_among(member: &str, members: &str) -> bool {
-    for known in members.split(", ") {
-        if known == member {
-            return true;
-        }
-    }
-    false
 }
 
 fn has_name(value: Part<'_, '_>) -> bool {
@@ -134,9 +103,9 @@ fn number_fault(object: Part<'_, '_>, member: &str) -> Option<&'static str> {
 // The words that may stand there, if only these may.
 fn words_of(member: &str) -> &'static str {
     match member {
-        "place" => "root, source, inner, notifier",
-        "kind" => "leaf, pass, flat, switch, until, sub",
-        "mode" => "auto, manual",
+        "place" => PLACES,
+        "kind" => KINDS,
+        "mode" => MODES,
         _ => "",
     }
 }
@@ -175,19 +144,12 @@ fn stranger<'a>(object: Part<'_, 'a>, own: &str) -> Option<&'a str> {
     None
 }
 
-// What is said of the word that is nearest to the one that stands there.
-fn near_value(alloc: Global, object: Part<'_, '_>, member: &str) -> Result<String, AllocError> {
-    let word = object.get(member).and_then(Part::as_str).unwrap_or("");
-    Nearest::to(word).or_of(words_of(member)).told(alloc)
-}
-
-// What is said of the command that is nearest to this word.
-fn near_command(alloc: Global, word: &str) -> Result<String, AllocError> {
-    let mut nearest = Nearest::to(word);
-    for &(known, _) in &MEMBERS {
-        nearest = nearest.or(known);
+// What is said of the word of a list that is nearest to this one; nothing where none is near.
+fn hint(alloc: Global, word: &str, list: &'static str) -> Result<String, AllocError> {
+    match nearest(word, list) {
+        Some(known) => format!(in alloc; "; the nearest is {known}"),
+        None => Ok(String::new(alloc)),
     }
-    nearest.told(alloc)
 }
 
 // What is wrong with an object that has this word for its command.
@@ -198,7 +160,7 @@ fn command_fault(
     own: &'static str,
 ) -> Result<String, AllocError> {
     if let Some(member) = stranger(object, own) {
-        let near = Nearest::to(member).or_of(own).told(alloc)?;
+        let near = hint(alloc, member, own)?;
         return format!(in alloc; "{member}: {command} has no such member{near}");
     }
     for member in own.split(", ") {
@@ -206,7 +168,8 @@ fn command_fault(
             break;
         }
         if let Some(told) = member_fault(object, command, member) {
-            let near = near_value(alloc, object, member)?;
+            let word = object.get(member).and_then(Part::as_str).unwrap_or("");
+            let near = hint(alloc, word, words_of(member))?;
             return format!(in alloc; "{member}: {told}{near}");
         }
     }
@@ -221,10 +184,10 @@ pub fn fault_of(alloc: Global, value: Part<'_, '_>) -> Result<String, AllocError
     let Some(command) = value.get("do").and_then(Part::as_str) else {
         return String::from_str(alloc, "do: the name of a command is expected");
     };
-    match members_of(command) {
+    match own_members(command) {
         Some(own) => command_fault(alloc, value, command, own),
         None => {
-            let near = near_command(alloc, command)?;
+            let near = hint(alloc, command, COMMANDS)?;
             format!(in alloc; "do: there is no such command here{near}")
         }
     }

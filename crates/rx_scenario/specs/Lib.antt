@@ -1,3 +1,4 @@
 pub mod Scenario
 pub mod Reading
 pub mod Checkpoints
+pub mod RefusalWords

@@ -10,6 +10,9 @@
 //! - Contracts see names as their bytes (`specs/Scenario.antt`). Which JSON values are scenarios, and
 //!   which scenario, is defined in `specs/Reading.antt`; [`scenario_of`] decides it.
 //!
+//! - [`refusal_word`] gives the word that stands for a refusal in reports, traces and answers
+//!   (`specs/RefusalWords.antt`); [`nearest`] the word of a list that is nearest to a misspelt one, for what is said of it.
+//!
 //! # Promised, and not
 //!
 //! - [`scenario_of`] gives the scenario that a value is, and `Shape` where it is none, exactly; so does
@@ -24,8 +27,12 @@
 
 mod checkpoints;
 mod reading;
+mod refusals;
 mod scenario;
+mod words;
 
 pub use checkpoints::has_checkpoint;
 pub use reading::{action_in, is_name, is_object_of, kind_in, name_in, scenario_of, site_in};
+pub use refusals::refusal_word;
 pub use scenario::{Action, Command, Scenario, Site, Sort, Step, Ticks};
+pub use words::{KINDS, MODES, PLACES, is_among, members_of, nearest};

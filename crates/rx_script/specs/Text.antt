@@ -4,9 +4,6 @@ use Rattle.std.specs.Fmt.{decimal, signed_decimal}
 use Rattle.rx_note.specs.declared.note.Terminal.TheVariants.{Completed, Error}
 use Rattle.rx_note.specs.declared.note.Note.{Note}
 use Rattle.rx_note.specs.declared.note.Note.TheVariants.{Next, Project, End}
-use Rattle.rx_event.specs.declared.refusal.Refusal.{Refusal}
-use Rattle.rx_event.specs.declared.refusal.Refusal.TheVariants.{NoMemory, Full, Gone, WrongKind, PlaceTaken, NothingOwed, NotRoot, NoHub, HubOrder}
-use Rattle.rx_event.specs.declared.refusal.Refusal.TheVariants.{Connected, NotConnected, NotFresh, NotHeld, HasChild, TooMany, NoLease, Leased, MailLeft}
 use Rattle.rx_agenda.specs.declared.answer.Answer.{Answer}
 use Rattle.rx_agenda.specs.declared.answer.Answer.TheVariants.{Accepted, Refused}
 use Rattle.rx_agenda.specs.declared.answer.Cause.{Cause}
@@ -15,29 +12,10 @@ use Rattle.rx_script.specs.declared.line.Whereabouts.{Whereabouts}
 use Rattle.rx_script.specs.declared.line.Whereabouts.TheVariants.{Held, Waiting, Taken}
 use Rattle.rx_script.specs.declared.line.Account.{Account}
 use Rattle.rx_script.specs.declared.line.Totals.{Totals}
+use Rattle.rx_scenario.specs.RefusalWords.{refusal_word}
 use Rattle.rx_scenario.specs.Scenario.{Name}
 
 -- refused steps ------------------------------------------------------------------------------------
-
-abbrev pub refusal_word : Refusal → List ℕ
-refusal_word NoMemory = codes "NoMemory"
-refusal_word Full = codes "Full"
-refusal_word Gone = codes "Gone"
-refusal_word WrongKind = codes "WrongKind"
-refusal_word PlaceTaken = codes "PlaceTaken"
-refusal_word NothingOwed = codes "NothingOwed"
-refusal_word NotRoot = codes "NotRoot"
-refusal_word NoHub = codes "NoHub"
-refusal_word HubOrder = codes "HubOrder"
-refusal_word Connected = codes "Connected"
-refusal_word NotConnected = codes "NotConnected"
-refusal_word NotFresh = codes "NotFresh"
-refusal_word NotHeld = codes "NotHeld"
-refusal_word HasChild = codes "HasChild"
-refusal_word TooMany = codes "TooMany"
-refusal_word NoLease = codes "NoLease"
-refusal_word Leased = codes "Leased"
-refusal_word MailLeft = codes "MailLeft"
 
 abbrev pub cause_word : Cause → List ℕ
 cause_word NoName = codes "NoName"

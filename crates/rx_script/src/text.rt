@@ -1,40 +1,16 @@
 //! The lines of a report, each written behind a text.
 
 ghost use Rattle.std.specs.Prelude.{◌≡◌, ◌++◌, flat_map, string_bytes, OnOk};
-ghost use Rattle.rx_script.specs.Text.{refusal_word, cause_word, refused_line, note_in_line, node_line};
+ghost use Rattle.rx_script.specs.Text.{cause_word, refused_line, note_in_line, node_line};
 ghost use Rattle.rx_script.specs.Text.{whereabouts_text, leases_text, res_line, totals_line, closed_line};
 ghost use Rattle.rx_script.specs.Lines.{refused_lines};
 
 use crate::line::{Account, Totals, Whereabouts};
 use rx_agenda::{Answer, Cause};
-use rx_event::{Refusal, Terminal};
+use rx_event::Terminal;
 use rx_note::Note;
+use rx_scenario::refusal_word;
 use std::alloc::AllocError;
-
-fn refusal_word(why: Refusal) -> &'static str
-    ensures { result.now ≡ refusal_word why }
-{
-    match why {
-        Refusal::NoMemory => "NoMemory",
-        Refusal::Full => "Full",
-        Refusal::Gone => "Gone",
-        Refusal::WrongKind => "WrongKind",
-        Refusal::PlaceTaken => "PlaceTaken",
-        Refusal::NothingOwed => "NothingOwed",
-        Refusal::NotRoot => "NotRoot",
-        Refusal::NoHub => "NoHub",
-        Refusal::HubOrder => "HubOrder",
-        Refusal::Connected => "Connected",
-        Refusal::NotConnected => "NotConnected",
-        Refusal::NotFresh => "NotFresh",
-        Refusal::NotHeld => "NotHeld",
-        Refusal::HasChild => "HasChild",
-        Refusal::TooMany => "TooMany",
-        Refusal::NoLease => "NoLease",
-        Refusal::Leased => "Leased",
-        Refusal::MailLeft => "MailLeft",
-    }
-}
 
 /// The name of a cause.
 pub fn cause_name(why: Cause) -> &'static str
