@@ -17,7 +17,7 @@ from .scenario import Book, Canonical
 from .texts import dump_of, events_of, form_of, scenario_of
 
 KINDS = ('leaf', 'pass', 'flat', 'switch', 'until', 'sub')
-DATA = pathlib.Path(__file__).resolve().parents[2] / 'crates/rx_replay/data'
+DATA = pathlib.Path(__file__).resolve().parents[2] / 'examples/stored'
 LONG = 45  # events or steps of a stored case with which a random one may begin
 
 

@@ -20,7 +20,7 @@ from .plants import PLANTS
 from .scenario import Canonical, Course, Differs, Longest
 from .texts import Faulty, command_of, dump_of, events_of, json_of, scenario_of
 
-data = pathlib.Path(__file__).resolve().parents[2] / 'crates/rx_replay/data'
+data = pathlib.Path(__file__).resolve().parents[2] / 'examples/stored'
 FEW = 120  # events or steps of a stored case: what searches a longer history takes too long
 
 

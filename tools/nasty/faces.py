@@ -53,7 +53,7 @@ def try_all(folder: pathlib.Path, scratch: pathlib.Path, settings: str, library:
     """The library reads the texts."""
     nasty, package, failed = scratch / 'libcellarcliff.so', scratch / 'package', 0
     told = dict(CELLAR_NASTY=settings, **({'CELLAR_NASTY_TEXTS': os.path.abspath(library)} if library else {}))
-    over = dict(CELLARCLIFF_LIBRARY='1', CELLARCLIFF_EXAMPLES=str(top / 'crates/rx_replay/data'), CELLAR_LIBRARY=str(nasty), PYTHONPATH=str(package), **told)
+    over = dict(CELLARCLIFF_LIBRARY='1', CELLARCLIFF_EXAMPLES=str(top / 'examples/stored'), CELLAR_LIBRARY=str(nasty), PYTHONPATH=str(package), **told)
     shutil.copytree(top / 'bindings/python', package, ignore=shutil.ignore_patterns('__pycache__', '*.abi3.so'))
     python = '/usr/bin/python3' if subprocess.run(['/usr/bin/python3', '-c', 'import rx'], capture_output=True).returncode == 0 else sys.executable
     tests = [python, '-B', '-m', 'unittest']

@@ -21,7 +21,7 @@ from model.history import forget
 from .crates import TOP
 from .engine import Gone, Module
 
-data = TOP / 'crates/rx_replay/data'
+data = TOP / 'examples/stored'
 KINDS = {'json': 'scenarios', 'dump': 'histories', 'lines': 'sessions of a live book', 'input': 'faulty inputs'}
 PARTS = {'lines': 'lines'}  # what a session is made of
 STORED = [('.json', '.report', 'run'), ('.json', '.dump', 'dump'), ('.json', '.named-dump', 'names'), ('.dump', '.verdict', 'audit'),

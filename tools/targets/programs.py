@@ -9,7 +9,7 @@ from typing import Any
 
 from .crates import TOP
 
-PROGRAMS, DATA, STORM = TOP / 'bindings/c', TOP / 'crates/rx_replay/data', '5'
+PROGRAMS, DATA, STORM = TOP / 'bindings/c', TOP / 'examples/stored', '5'
 FLAGS = ['-std=c11', '-O2', '-Wall', '-Wextra', '-Werror', '-pedantic', f'-I{TOP}/crates/cellarcliff']
 DRAWN = 'pictures/forgotten-screen'
 # A program, its words, what is linked beside the library, and its input and output as they are stored.

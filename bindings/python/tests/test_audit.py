@@ -6,7 +6,7 @@ import unittest
 
 from cellarcliff import audit
 
-EXAMPLES = pathlib.Path(os.environ.get("CELLARCLIFF_EXAMPLES") or pathlib.Path(__file__).resolve().parents[3] / "crates/rx_replay/data")
+EXAMPLES = pathlib.Path(os.environ.get("CELLARCLIFF_EXAMPLES") or pathlib.Path(__file__).resolve().parents[3] / "examples/stored")
 
 
 def text(name):

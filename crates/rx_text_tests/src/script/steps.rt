@@ -1,4 +1,4 @@
-//! The greatest number of steps. That one more is refused stands among the mistakes of `rx_replay`.
+//! The greatest number of steps. That one more is refused stands among the mistakes of examples/stored.
 
 use rx_resource::Sample;
 use rx_script::{Form, run};
