@@ -3,8 +3,8 @@
 
 Usage: tools/model/try_pages.py, from anywhere; it takes a second. A claim is a sentence of the page, which has to stand in
 its section, and what it says of the section's example. Each fault is a line; the last line counts them, and the status is 1
-where there is one. docs/dev/model.md is compared too: each function that it names is there, and each name at the head of a section of
-the page has its place in the table of functions.
+where there is one. Each name at the head of a section of the page is one of the model, or stands in OTHERS, below, with what
+the model has for it.
 """
 import pathlib
 import re
@@ -21,7 +21,30 @@ from model.texts import event_of, json_of
 
 docs = pathlib.Path(__file__).resolve().parents[2] / 'docs'
 PAGE = docs / 'explanation/definitions.md'
-REFUSALS, OURS = docs / 'reference/refusals.md', docs / 'dev/model.md'
+REFUSALS = docs / 'reference/refusals.md'
+
+# The names at the heads of sections for which the model has no function, and what stands for them; a law is proved and not run.
+OTHERS = {
+    1: '`places`: what `nodes`, `hubs` and `resources` list',
+    8: '`accepts`: `is_grammatical`, as a word that computes',
+    9: '`IsDue`: that `forced` has it',
+    10: '`IsFree`, `IsHubbed`: that `not_free`, `not_hubbed` say nothing',
+    12: '`IsForcedOn`, `IsStepOf`: parts of `is_step`',
+    13: '`open_count`: the length of `open_nodes`',
+    14: '`IsRefusal`: that `first_cause` gives it',
+    15: '`Label`, `State`, `IsPromised`, `GoesFirst`, `Request`, `stands`, `Accepts`, `Answers`, '
+        '`opening_holding_causes`, `IsOpenedHolding`: `Book`',
+    16: '`PlacedStep`, `Executed`, `ComesBefore`, `IsHeld`, `IsStepDue`, `IsCancelled`, `IsInOrder`, '
+        '`AreCancelsAnswered`, `Stage`, `after`, `Manner`, `Executes`, `Plays`, `IsCourseIn`, `IsCourseOf`, '
+        '`IsCanonicalCourseOf`: `Course` runs a scenario; they say which courses are one of it',
+    18: '`IsVerdict`: that `verdict` gives it',
+    19: '`marks_of`, `terminal_due`, `due_at`, `after_source`: what the code keeps; `was_opened`, `is_fired`, '
+        '`source_completed`, `owed` say the same',
+    20: '`stored`: `over`; `source_opened`, `notifier_opened`: `was_opened`; `event_since`, `Started`',
+    21: '`IsRead`, `CheckpointsAgree`, `checkpoints_change_nothing`: laws',
+    22: '`AreAlike`, `StepsAreDetermined`, `steps_are_determined`, `numbers_do_not_matter`, '
+        '`callers_see_no_numbers`, `one_order_comes_to_an_end`: laws',
+}
 
 
 def ends(h):
@@ -148,7 +171,7 @@ def example(text):
 
 
 def main():
-    page, faults = sections(PAGE.read_text(encoding='utf-8')), []
+    page, faults, names = sections(PAGE.read_text(encoding='utf-8')), [], set()
     for section, sentence, holds in CLAIMS:
         text = page.get(section, '')
         events = example(text)
@@ -161,17 +184,16 @@ def main():
         r'\w+', page[14].partition('in this order: ')[2].partition('.')[0])
     if tuple(order) != calls.REFUSAL_ORDER:
         faults.append(f'the order of refusals is not {", ".join(order)}')
-    names, table = set(), re.findall(r'^\| (\d+) [^|]*\|([^|]*)\|([^|]*)\|$', OURS.read_text(encoding='utf-8'), re.M)
-    ours = {int(n): (set(re.findall(r'`(\w+)`', here)), set(re.findall(r'`(\w+)`', others))) for n, here, others in table}
+    table = {n: set(re.findall(r'`(\w+)`', text)) for n, text in OTHERS.items()}
+    has = lambda name: any(hasattr(it, name) for it in (definitions, calls, model.events, scenario, Course))
     for section, text in page.items():
-        here, others = ours.get(section, (set(), set()))
-        names |= here
-        head = re.sub(r'`(specs|crates)/[^`]*`', '', text.strip().split('\n\n')[0])
-        for name in re.findall(r'`(\w+)`', head):
-            if not {name, re.sub('(?<!^)(?=[A-Z])', '_', name).lower(), name.upper()} & (here | others):
-                faults.append(f'{OURS.name} has nothing beside {name} of section {section}')
-    faults += [f'{OURS.name}: the model has no {name}' for name in sorted(names)
-               if not any(hasattr(it, name) for it in (definitions, calls, model.events, scenario, Course))]
+        head = re.findall(r'`(\w+)`', re.sub(r'`(specs|crates)/[^`]*`', '', text.strip().split('\n\n')[0]))
+        names |= set(head)
+        for name in head:
+            here = any(map(has, (name, re.sub('(?<!^)(?=[A-Z])', '_', name).lower(), name.upper())))
+            if not here and name not in table.get(section, ()):
+                faults.append(f'OTHERS has nothing for {name} of section {section}')
+        faults += [f'OTHERS: the model has no {name}' for name in sorted(table.get(section, set()) - set(head)) if not has(name)]
     for fault in faults:
         print(fault)
     print(f'{len(CLAIMS)} claims and {len(names)} names, {len(faults)} faults')
