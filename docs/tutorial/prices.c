@@ -92,8 +92,8 @@ static void merge(void) {
   next(names, 10);
   next(names, 11);
   next(lines, 103);
-  MAKE(.what = CELLAR_COMPLETE, .node = names);
   MAKE(.what = CELLAR_COMPLETE, .node = lines);
+  MAKE(.what = CELLAR_COMPLETE, .node = names);
 }
 
 /* A file for each item; the new one takes the place of the old one (Switch). */

@@ -37,8 +37,8 @@ function merge() {
   names.next(10);
   names.next(11);
   lines.next(103);
-  names.complete();
   lines.complete();
+  names.complete();
 }
 
 /** A file for each item; the new one takes the place of the old one (Switch). */

@@ -46,8 +46,8 @@ def merge():
     names.on_next(10)
     names.on_next(11)
     lines.on_next(103)
-    names.on_completed()
     lines.on_completed()
+    names.on_completed()
 
 
 def latest():

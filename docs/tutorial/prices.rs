@@ -54,8 +54,8 @@ fn merge() {
     names.next(10);
     names.next(11);
     lines.next(103);
-    names.completed();
     lines.completed();
+    names.completed();
 }
 
 /// A file for each item; the new one takes the place of the old one (Switch).
