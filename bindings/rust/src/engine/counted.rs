@@ -1,6 +1,7 @@
 //! The calls of cellarcliff.h in Rust, for the tests of this crate's own code: a small engine that keeps count. It looks at each pointer,
-//! word, handle and stack, and lets no two calls on one handle run at once. What no face may rely on it does by chance, if it is made for
-//! a seed: which lane is first, whether an item is handed out at once, how tickets grow.
+//! word, handle and stack, and lets no two calls on one handle run at once. What the header leaves open it does by chance, if it is made for
+//! a seed: whether an item is told to be the own one, how tickets grow, what is first among the ends, the releases and the closings of
+//! one command, which slots and hubs there are.
 #![allow(unsafe_op_in_unsafe_fn)]
 
 use super::ffi::{Command, Effect, Handle, Key, Stack, Stepped, Totals};
@@ -74,6 +75,7 @@ enum Rank {
 #[derive(Default)]
 struct Counted {
     chance: u64, // 0: none
+    slot: u64,   // of the first key
     nodes: BTreeMap<u64, Node>,
     lanes: Vec<Lane>,
     made: u64,
@@ -127,13 +129,17 @@ impl Counted {
             _ => Rank::Note,
         };
         self.copies += value.is_some() as u64;
-        self.comes.push((rank, lane, Effect { user, value: value.unwrap_or(0), by, kind, carries: value.is_some() as u32 }));
+        let (carries, value) = (value.is_some().into(), value.unwrap_or_else(|| self.any(usize::MAX) as u64));
+        self.comes.push((rank, lane, Effect { user, value, by, kind, carries }));
     }
 
     /// What comes of a command stands in its lanes, and the caller is to serve those that nobody serves.
     fn spread(&mut self, by: u64) {
         let mut touched = vec![];
         let mut comes = std::mem::take(&mut self.comes);
+        if comes.iter().all(|it| it.2.kind != effect::NEXT) {
+            self.shuffle(&mut comes) // those who hear an item stand in the order in which they came
+        }
         comes.sort_by_key(|it| it.0);
         for (rank, lane, it) in comes {
             let at = &mut self.lanes[lane as usize];
@@ -268,7 +274,11 @@ impl Counted {
     fn insert(&mut self, node: Node) -> Key {
         self.nodes.insert(self.made, node);
         self.made += 1;
-        Key { slot: 7, number: self.made - 1 }
+        self.key(self.made - 1)
+    }
+
+    fn key(&self, number: u64) -> Key {
+        Key { slot: self.slot.wrapping_mul(number | 1), number }
     }
 
     fn connect(&mut self, share: Share) -> Key {
@@ -309,7 +319,7 @@ impl Counted {
                 self.let_go(connection, by);
                 return 0;
             }
-            _ if it.node.slot != 7 || !self.nodes.contains_key(&number) => return GONE,
+            _ if it.node != self.key(number) || !self.nodes.contains_key(&number) => return GONE,
             what::HOLD => return self.hold(number, it.value),
             what::NEXT => self.next(number, by, it.value),
             what::COMPLETE => self.end(number, by, None),
@@ -349,6 +359,14 @@ impl Counted {
         (self.chance >> 33) as usize % below
     }
 
+    /// Some order, or the one that it has.
+    fn shuffle<T>(&mut self, all: &mut [T]) {
+        for at in (1..all.len()).rev() {
+            let many = self.any(at + 1);
+            all.swap(at, at - many)
+        }
+    }
+
     /// What this stack began last is begun. It began nothing that was not handed out.
     fn note(&mut self, stack: &Stack) {
         assert!(stack.depth > 0 && stack.begun <= self.ticket, "{stack:?}");
@@ -372,7 +390,9 @@ impl Counted {
             (self.closings, self.due, self.copies) = (vec![], vec![], 0);
             status = self.perform(&Command { by: stack.by, ..*it }, step);
             self.spread(stack.by);
-            (step.copies, step.closed) = (self.copies, self.closings.len() as u64);
+            let mut closings = std::mem::take(&mut self.closings);
+            self.shuffle(&mut closings);
+            (step.hub, step.copies, step.closed, self.closings) = (self.any(usize::MAX) as u64, self.copies, closings.len() as u64, closings);
             step.closings.iter_mut().zip(&self.closings).for_each(|(to, word)| *to = *word);
             step.own = self.is_own(it, turn).into();
             for (lane, is_inside) in std::mem::take(&mut self.due) {
@@ -406,8 +426,7 @@ impl Counted {
             self.tasks.remove(&turn);
         }
         loop {
-            let due: Vec<_> = (0..self.agenda.len()).filter(|at| self.agenda[*at].0 == turn).collect();
-            let first = if due.is_empty() { return None } else { due[self.any(due.len())] };
+            let first = self.agenda.iter().position(|it| it.0 == turn)?;
             let (_, lane, is_inside) = self.agenda.remove(first);
             if let Some(it) = self.hand(turn, lane, is_inside, is_inside.then_some(turn.0)) {
                 return Some(it);
@@ -465,7 +484,8 @@ pub unsafe extern "C" fn cellar_new(engine: *mut Handle, max_events: u32) -> u8 
     }
     let mut count = count();
     count.made += 1;
-    let it = Counted { chance: max_events.into(), ..Counted::default() };
+    let chance = u64::from(max_events);
+    let it = Counted { chance, slot: 7 + chance.wrapping_mul(0x9E37_79B9_7F4A_7C15), ..Counted::default() };
     (*engine).at = count.made;
     let at = count.made;
     count.live.insert(at, it);
