@@ -92,6 +92,8 @@ const required = watched('required.cjs', "const { Subject } = require('rxjs'), {
 check('a program that requires', required.rows.some((it) => it.includes('required.cjs:3')), required.stderr);
 const grows = watched('grows.mjs', "import { Subject } from 'rxjs';\nconst s = new Subject();\ns.subscribe();\nfor (let i = 0; i < 3; i++) {\n  s.subscribe(console.log);\n  process.kill(process.pid, 'SIGUSR2');\n  await new Promise((resolve) => setTimeout(resolve, 50));\n}\n");
 check('what grows comes first', grows.rows.at(-2)?.startsWith('  GROWS 3 subscriptions') && grows.rows.at(-2).endsWith(', 3)'), grows.stderr);
+const named = watched('named.mjs', "import { NEVER } from 'rxjs';\nconst one = { subscribes() {\n  NEVER.subscribe();\n} }, { subscribes: other } = one;\none.subscribes();\nprocess.kill(process.pid, 'SIGUSR2');\nawait new Promise((resolve) => setTimeout(resolve, 50));\nother();\nnew one.subscribes.constructor('it', 'it()')(other);\n");
+check('one line once, whatever calls its function', named.rows.length === 2 && named.rows[1].startsWith('  GROWS 3 subscriptions, made at named.mjs:3') && named.rows[1].endsWith('(at each report: 1, 3)'), named.stderr);
 const inner = watched('inner.mjs', "import { NEVER, Subject, mergeMap } from 'rxjs';\nconst s = new Subject();\ns.pipe(mergeMap(() => NEVER)).subscribe();\nfor (let i = 0; i < 2; i++) {\n  s.next(i);\n  process.kill(process.pid, 'SIGUSR2');\n  await new Promise((resolve) => setTimeout(resolve, 50));\n}\n");
 check('what grows below a subscription', /^ {2}GROWS what stands below these \(nodes at each report: \d+, \d+\)$/m.test(inner.stderr), inner.stderr);
 check('the status of the program', watched('status.mjs', "import 'rxjs';\nprocess.exit(7);\n").status === 7, 'another');

@@ -7,19 +7,20 @@ let reports = 0;
 // Whether these only grow from report to report.
 const grow = (counts) => counts.length > 1 && counts[counts.length - 1] > counts[0] && counts.every((it, i) => i === 0 || it >= counts[i - 1]);
 
-const shownFile = (file) => {
-  const near = relative(process.cwd(), file);
-  return near.startsWith('..') ? file : near;
+const near = (file) => {
+  const found = relative(process.cwd(), file);
+  return found.startsWith('..') ? file : found;
 };
-const shown = (place) => (place === null ? 'a place that no stack tells' : `${shownFile(place.file)}:${place.line}${place.function ? ` in ${place.function}` : ''}`);
+const lineOf = (place) => (place === null ? 'a place that no stack tells' : `${near(place.file)}:${place.line}`);
 const seconds = (from) => ((Date.now() - from) / 1000).toFixed(1);
 
-/** Rows of what is open: first what only grows, then what there is most of. A teardown of a subscription that is told already is not told again. */
+/** Rows of what is open, one for what a line made, whatever the stack calls the function there: first what only grows, then what there is most of. A
+ *  teardown of a subscription that is told already is not told again. */
 function rows(open) {
-  const groups = new Map(), subscribed = new Set(open.filter((it) => it.what === 'subscription').map((it) => shown(it.place)));
+  const groups = new Map(), subscribed = new Set(open.filter((it) => it.what === 'subscription').map((it) => lineOf(it.place)));
   for (const it of open) {
-    if (it.what === 'teardown' && subscribed.has(shown(it.place))) continue;
-    const name = `${it.what}, made at ${shown(it.place)}`;
+    const line = lineOf(it.place), name = `${it.what}, made at ${line}`;
+    if (it.what === 'teardown' && subscribed.has(line)) continue;
     if (!groups.has(name)) groups.set(name, []);
     groups.get(name).push(it);
   }
@@ -29,11 +30,10 @@ function rows(open) {
     counted.get(name).push(groups.get(name)?.length ?? 0);
   }
   const found = [...groups].map(([name, its]) => {
-    const counts = counted.get(name).slice(-6), many = its.length;
-    const grows = grow(counts);
-    const [what, ...rest] = name.split(', made at ');
-    const words = `${many} ${what}${many > 1 ? 's' : ''}, made at ${rest.join(', made at ')}, ${many > 1 ? 'the oldest ' : ''}for ${seconds(Math.min(...its.map((it) => it.since)))} s`;
-    return { grows, many, text: `${grows ? 'GROWS ' : ''}${words}${counts.length > 1 ? ` (at each report: ${counts.join(', ')})` : ''}` };
+    const counts = counted.get(name).slice(-6), many = its.length, grows = grow(counts), [{ what, place }] = its;
+    const words = `${many} ${what}${many > 1 ? 's' : ''}, made at ${lineOf(place)}${place?.function ? ` in ${place.function}` : ''}`;
+    const since = `${many > 1 ? 'the oldest ' : ''}for ${seconds(Math.min(...its.map((it) => it.since)))} s`;
+    return { grows, many, text: `${grows ? 'GROWS ' : ''}${words}, ${since}${counts.length > 1 ? ` (at each report: ${counts.join(', ')})` : ''}` };
   });
   return found.sort((a, b) => b.grows - a.grows || b.many - a.many);
 }
