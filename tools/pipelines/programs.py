@@ -102,6 +102,9 @@ KINDS = "Subject Subject Subject BehaviorSubject ReplaySubject AsyncSubject".spl
 LEAVES = "subject subject subject subject shared of of from_iterable range just empty never throw repeat_value generate from_callable timer interval".split()
 #: Whose inner sources an interrupt ends in the midst of their items.
 COLD = {"concat_map_just", "merge_2_just", "flat_map_just", "flat_map_indexed"}
+#: What stays where its subject is dropped: what nobody feeds, and parts of the items.
+STAYS = {*TIMED, "never", "lasting", "create", "take_until_never", "windows", "groups", "window", "window_when", "window_toggle", "window_with_count",
+         "group_by", "group_by_until"}
 #: Of which the page of differences has a row: rarely asked of RxPY.
 ROWED = ("expand time_interval zip_of zip publish_value skip_until sample sample_time publish_of publish_counted share share_of partition replay_counted multicast_counted "
          "publish_value_counted").split()
@@ -298,6 +301,8 @@ def as_python(program, package="cellarcliff.rx"):
     lines += [f"    w.shared.append({written(it)})" for it in program["shared"]]
     lines += [f"    w.pipelines.append({written(it)})" for it in program["pipelines"]]
     first, steps = program["first"], program["steps"]
+    done = [it for deeds in [first, *steps, *(those for calls in program["deeds"].values() for those in calls.values())] for it in deeds]
+    lines.append(f"    w.kept, w.is_collected = {set(it[1] for it in done if it[0] == 'dispose')}, {not STAYS & set(forms(program))}")
     is_plain = program["manner"] == "plain"
     lines += [f"    w.begin({first}, is_calm={is_plain})", f"    w.run({', '.join(map(str, steps))})"]
     if is_plain:

@@ -1,6 +1,7 @@
 """The Python package under random programs: by the extension, beside ctypes and RxPY, each in a process of its own."""
 import ast
 import collections
+import gc
 import itertools
 import json
 import os
@@ -39,6 +40,9 @@ def run_one(program, package):
     """What a program comes to over this package."""
     from .world import World
     space = {}
+    gc.collect()
+    gc.freeze()  # so that all of the program is collected again and again, at any moment
+    gc.set_threshold(20, 2, 2)
     world = World(package)
     exec(compile(programs.as_python(program), "program", "exec"), space)
     signal.setitimer(signal.ITIMER_REAL, SECONDS)

@@ -4,6 +4,7 @@ A program is plain Python: it sets `deeds`, which say what a callback does at it
 steps. World takes RxPY or this package by name, so one text runs over both.
 """
 import collections
+import gc
 import importlib
 import itertools
 import os
@@ -132,6 +133,7 @@ class World:
         self.counts, self.subscriptions, self.reached = collections.Counter(), {}, collections.Counter()
         self.emitted, self.depth, self.is_spoiled, self.is_ordered, self.many_threads = [], threading.local(), False, True, 1
         self.lock, self.notes, self.is_calm = threading.RLock(), 0, False
+        self.kept, self.is_collected = set(), False  # whose subscriptions are not dropped; whether nothing stays where all is dropped
         if self.is_ours:
             self.rx.set_error_hook(lambda error: self.hooked.append(type(error).__name__))
 
@@ -237,7 +239,9 @@ class World:
     def do_subscribe(self, i, k):
         it = Observer(self, f"{i}:{k}", k)
         self.subscriptions[k] = it, None
-        self.subscriptions[k] = it, self.pipelines[i].subscribe_(it.on_next, it.on_error, it.on_completed, self.clock if i % 4 == 3 else None)
+        subscription = self.pipelines[i].subscribe_(it.on_next, it.on_error, it.on_completed, self.clock if i % 4 == 3 else None)
+        if k in self.kept:
+            self.subscriptions[k] = it, subscription
 
     def do_dispose(self, k):
         it, subscription = self.subscriptions.get(k, (None, None))
@@ -284,7 +288,7 @@ class World:
         self.is_calm = False
 
     def run(self, *threads):
-        """Does the steps of each thread, closes all, and looks whether anything is left."""
+        """Does the steps of each thread."""
         self.many_threads = len(threads)
         if len(threads) == 1:
             for at, it in enumerate(threads[0]):
@@ -304,11 +308,18 @@ class World:
         self.is_calm = True
         self.told = [[it.name, [list(note) for note in it.heard]] for it in self.observers]
         if self.is_ours:
-            self.close()
+            self.step("close", ("serve",))
+        self.heard_before_the_end = [list(it.heard) for it in self.observers]
 
     def close(self):
-        self.step("close", ("serve",))
-        self.heard_before_the_end = [list(it.heard) for it in self.observers]
+        """Drops all, looks whether that is collected, closes what is open, and looks whether anything is left."""
+        for it in self.subjects, self.shared, self.pipelines, self.subscriptions:
+            it.clear()
+        self.clock = None
+        gc.collect()
+        is_extension = self.is_ours and importlib.import_module("cellarcliff.rx._crossing").IS_EXTENSION
+        if self.is_collected and is_extension and self.engine.counts().nodes:
+            self.wrong("something stays that nobody can tell anything")
         for _ in range(3):
             try:
                 self.engine.close()
@@ -351,6 +362,8 @@ class World:
                         last[by, i] = at[str(value)]
 
     def report(self):
-        """What is compared, and what was reached."""
+        """What is compared, and what was reached. The program has ended, and holds nothing any more."""
+        if self.is_ours:
+            self.close()
         return {"notes": self.told, "raised": [it for it in self.raised if it[0] != "close"], "made": len(self.resources),
                 "found": self.found, "hooked": sorted(self.hooked), "reached": dict(self.reached), "is_long": self.notes > LONGEST}

@@ -29,8 +29,6 @@ static inline PyObject *CALL1(PyObject *f, PyObject *it) {
 
 /* The calls, in the order of `FAST` in rx/_cellar.py. */
 static struct {
-  uint32_t (*abi)(void);
-  uint32_t (*size)(uint32_t);
   uint8_t (*begin)(struct cellar *, uint32_t);
   uint8_t (*step)(struct cellar *, const struct cellar_stack *, const struct cellar_command *, struct cellar_stepped *);
   uint8_t (*next)(struct cellar *, const struct cellar_stack *, struct cellar_stepped *);
@@ -55,6 +53,7 @@ typedef struct {
   unsigned generation;                /* a child of a fork has no part in an engine of its parent */
 } Core;
 
+typedef struct Leaf Leaf;
 typedef struct {
   PyObject_HEAD
   Core *core;
@@ -62,23 +61,26 @@ typedef struct {
   PyObject *head, *on_next, *on_error, *on_completed; /* head: the first of the functions through which its notes go, or NULL */
   PyObject *target;                                   /* what an item is told to: a leaf, functions, or a function */
   PyObject *references;                               /* weak ones */
-  PyObject *thing;                                    /* not held: its word in the engine, which has so many references to it */
-  int owed;
-  char is_keyed, is_stopped, is_over, is_solo;        /* is_solo: one subject alone feeds it, and holds it */
+  PyObject *thing;                                    /* not held: its word in the engine */
+  int owed;                                           /* how many references to that the engine has for the root's part */
+  Leaf *below;                                        /* not held: the first of those that are open below it */
+  char is_keyed, is_stopped, is_over;
 } Root;
 
 typedef struct Subject Subject;
 
-typedef struct Leaf {
+struct Leaf {
   PyObject_HEAD
   Core *core;
   struct cellar_node node;
-  Subject *owner;      /* not held: a subject that goes sets it to NULL */
-  PyObject *on_closed; /* what is called once the node has closed, or NULL */
-  PyObject *thing;     /* as of a root, where its word is not the root's */
+  Subject *owner;           /* not held: a subject that goes sets it to NULL */
+  PyObject *on_closed;      /* what is called once the node has closed, or NULL */
+  PyObject *thing;          /* as of a root */
   int owed;
-  char is_keyed, is_stopped, is_solo;
-} Leaf;
+  PyObject *above;          /* the root or leaf that is held while this is open, or NULL */
+  Leaf *below, *next, **at; /* not held: those that are open below it, and its place among those below the same */
+  char is_stopped, is_fed;  /* is_fed: who can tell it something holds it */
+};
 
 typedef struct {
   PyObject_HEAD
@@ -174,16 +176,36 @@ static int refused(uint8_t status) {
   return plain(PyObject_CallFunction(refuse, "i", status));
 }
 
-/* How many references the engine has to a word, for the collector of cycles: where one subject alone can tell something, it counts as
- * that subject's what the engine holds for it. So an object that subscribes to its own subject is collected with it. */
-static int *owed_of(PyObject *thing) {
-  PyObject *hears = ITEM(thing, 0), *close = ITEM(thing, 1);
-  if (is_a(hears, root_type)) return ((Root *)hears)->thing == thing ? &((Root *)hears)->owed : NULL;
-  return Py_TYPE(close) == leaf_type && ((Leaf *)close)->thing == thing ? &((Leaf *)close)->owed : NULL;
+/* The collector of cycles. What is open of a subscription is one whole: a leaf holds what is above it, and what is above counts as its own the
+ * references that the engine has to the words of those that are open below it, and to its own while there are any. So all of it is collected
+ * once nobody can tell any of it something, and then its root is disposed of. What nobody feeds stays, and so does what has closed, until it
+ * has heard so. */
+static Leaf **below_of(PyObject *it) { return is_a(it, root_type) ? &((Root *)it)->below : &((Leaf *)it)->below; }
+static void put_below(Leaf *leaf) {
+  if (!leaf->above) return;
+  leaf->at = below_of(leaf->above);
+  if ((leaf->next = *leaf->at)) leaf->next->at = &leaf->next;
+  *leaf->at = leaf;
 }
-static void let_go_word(Core *core, PyObject *thing) {
-  int *owed = owed_of(thing);
-  if (owed) --*owed;
+static void take_out(Leaf *leaf) {
+  if (leaf->at && (*leaf->at = leaf->next)) leaf->next->at = leaf->at;
+  leaf->at = NULL;
+}
+static int visit_below(Leaf *leaf, visitproc visit, void *arg) {
+  for (; leaf; leaf = leaf->next)
+    for (int i = 0; (leaf->is_fed || leaf->below) && i < leaf->owed; i++) Py_VISIT(leaf->thing);
+  return 0;
+}
+/* The root that hears of nothing but this leaf: a new reference to it, or to None. */
+static PyObject *alone(Leaf *leaf, void *Py_UNUSED(unused)) {
+  while (leaf->at && *below_of(leaf->above) == leaf && !leaf->next) {
+    if (is_a(leaf->above, root_type)) return new_of(leaf->above);
+    leaf = (Leaf *)leaf->above;
+  }
+  Py_RETURN_NONE;
+}
+static void let_go_word(Core *core, PyObject *thing, int *owed) {
+  --*owed;
   let_go(core, thing);
 }
 
@@ -257,8 +279,9 @@ static int reserve(Core *core) {
   return 0;
 }
 static void put_closed(Core *core, uint64_t it) {
-  PyObject *close = ITEM(word(it), 1);
-  if (is_a(close, leaf_type)) ((Leaf *)close)->is_stopped = 1;
+  Leaf *leaf = (Leaf *)ITEM(word(it), 1);
+  leaf->is_stopped = 1;
+  take_out(leaf);
   core->closed[(core->first + core->many++) & (core->room - 1)] = it;
 }
 static void take_in_closed(Core *core, const struct cellar_stepped *s) {
@@ -363,7 +386,7 @@ static int tell(Core *core, const struct cellar_effect *e, PyObject *value) {
   }
   drop(user, status);
   if (e->kind == CELLAR_E_RELEASE || e->kind == CELLAR_E_PUT) let_go(core, user);
-  else let_go_word(core, user);
+  else let_go_word(core, user, e->kind == CELLAR_E_MERGED ? &((Leaf *)ITEM(user, 1))->owed : &((Root *)ITEM(user, 0))->owed);
   if (e->carries && value) let_go(core, value);
   return status;
 }
@@ -429,22 +452,22 @@ static int hear_closed(Core *core) {
   if (mine.is_closing) return 0;
   mine.is_closing = 1;
   while (!status && core->many) {
-    PyObject *it = word(core->closed[core->first]), *close = ITEM(it, 1);
+    PyObject *it = word(core->closed[core->first]);
+    Leaf *leaf = (Leaf *)ITEM(it, 1);
     core->first = (core->first + 1) & (core->room - 1);
     core->many--, core->wishes--;
-    if (is_a(close, leaf_type)) {
-      Subject *owner = ((Leaf *)close)->owner;
-      if (owner) {
-        ((Leaf *)close)->owner = NULL;
-        Py_CLEAR(owner->all);
-        if (PyDict_DelItem(owner->ups, close)) PyErr_Clear();
-      }
-      PyObject *call = ((Leaf *)close)->on_closed;
-      ((Leaf *)close)->on_closed = NULL;
-      if (call && plain(CALL0(call))) status = caught(me());
-      Py_XDECREF(call);
-    } else if (plain(CALL0(close))) status = caught(me());
-    let_go_word(core, it);
+    Subject *owner = leaf->owner;
+    if (owner) {
+      leaf->owner = NULL;
+      Py_CLEAR(owner->all);
+      if (PyDict_DelItem(owner->ups, (PyObject *)leaf)) PyErr_Clear();
+    }
+    PyObject *call = leaf->on_closed;
+    leaf->on_closed = NULL;
+    if (call && plain(CALL0(call))) status = caught(me());
+    Py_XDECREF(call);
+    Py_CLEAR(leaf->above);
+    let_go_word(core, it, &leaf->owed);
   }
   mine.is_closing = 0;
   return status;
@@ -551,9 +574,8 @@ static Leaf *leaf_of(PyObject *next) {
   return is_leafs ? (Leaf *)PyCFunction_GetSelf(next) : NULL;
 }
 static PyObject *leaf_error(Leaf *self, PyObject *error) { return none_or_null(end_leaf(self, error)); }
-static PyObject *leaf_completed(Leaf *self, PyObject *unused) { return (void)unused, none_or_null(end_leaf(self, NULL)); }
-static int leaf_init(Leaf *self, PyObject *given, PyObject *named) {
-  (void)named;
+static PyObject *leaf_completed(Leaf *self, PyObject *Py_UNUSED(unused)) { return none_or_null(end_leaf(self, NULL)); }
+static int leaf_init(Leaf *self, PyObject *given, PyObject *Py_UNUSED(named)) {
   PyObject *core;
   if (!PyArg_ParseTuple(given, "O", &core)) return -1;
   self->core = (Core *)new_of(core);
@@ -562,21 +584,20 @@ static int leaf_init(Leaf *self, PyObject *given, PyObject *named) {
 static PyMethodDef leaf_methods[] = {{"on_next", (PyCFunction)leaf_next, METH_O, NULL}, {"on_error", (PyCFunction)leaf_error, METH_O, NULL},
                                      {"on_completed", (PyCFunction)leaf_completed, METH_NOARGS, NULL}, {NULL, NULL, 0, NULL}};
 static PyMemberDef leaf_members[] = {{"number", T_ULONGLONG, offsetof(Leaf, node.number), READONLY, NULL}, {"is_stopped", T_BOOL, offsetof(Leaf, is_stopped), 0, NULL}, {"on_closed", T_OBJECT, offsetof(Leaf, on_closed), 0, NULL},
-                                     {"is_solo", T_BOOL, offsetof(Leaf, is_solo), 0, NULL},
+                                     {"is_fed", T_BOOL, offsetof(Leaf, is_fed), 0, NULL}, {"above", T_OBJECT, offsetof(Leaf, above), 0, NULL},
                                      {NULL, 0, 0, 0, NULL}};
 static int leaf_traverse(Leaf *self, visitproc visit, void *arg) {
-  Py_VISIT(Py_TYPE(self)); Py_VISIT(self->core); Py_VISIT(self->on_closed);
-  for (int i = 0; self->is_solo && i < self->owed; i++) Py_VISIT(self->thing);
-  return 0;
+  Py_VISIT(Py_TYPE(self)); Py_VISIT(self->core); Py_VISIT(self->on_closed); Py_VISIT(self->above);
+  return visit_below(self->below, visit, arg);
 }
 static int leaf_clear(Leaf *self) {
   self->is_stopped = 1;
-  Py_CLEAR(self->core); Py_CLEAR(self->on_closed);
+  take_out(self);
+  Py_CLEAR(self->core); Py_CLEAR(self->on_closed); Py_CLEAR(self->above);
   return 0;
 }
 
-static int chain_init(Chain *self, PyObject *given, PyObject *named) {
-  (void)named;
+static int chain_init(Chain *self, PyObject *given, PyObject *Py_UNUSED(named)) {
   PyObject *down, *kinds, *steps;
   if (!PyArg_ParseTuple(given, "OO!O!", &down, &PyBytes_Type, &kinds, &PyTuple_Type, &steps)) return -1;
   self->down = new_of(down), self->steps = new_of(steps);
@@ -590,8 +611,7 @@ static int chain_init(Chain *self, PyObject *given, PyObject *named) {
 }
 static PyObject *chain_next(Chain *self, PyObject *value) { return none_or_null(chain_tell(here_is(), self, value)); }
 static PyObject *chain_error(Chain *self, PyObject *error) { return PyObject_CallMethodObjArgs(self->down, s_on_error, error, NULL); }
-static PyObject *chain_completed(Chain *self, PyObject *unused) {
-  (void)unused;
+static PyObject *chain_completed(Chain *self, PyObject *Py_UNUSED(unused)) {
   return PyObject_CallMethodObjArgs(self->down, s_on_completed, NULL);
 }
 static PyMethodDef chain_methods[] = {{"on_next", (PyCFunction)chain_next, METH_O, NULL}, {"on_error", (PyCFunction)chain_error, METH_O, NULL},
@@ -608,8 +628,7 @@ static int chain_clear(Chain *self) {
 }
 
 /* What create() gives, and timers have: what is emitted from anywhere is told before the call ends. */
-static int emitter_init(Emitter *self, PyObject *given, PyObject *named) {
-  (void)named;
+static int emitter_init(Emitter *self, PyObject *given, PyObject *Py_UNUSED(named)) {
   PyObject *up, *leaf;
   if (!PyArg_ParseTuple(given, "OO!", &up, leaf_type, &leaf)) return -1;
   self->up = new_of(up), self->leaf = (Leaf *)new_of(leaf);
@@ -628,15 +647,15 @@ static PyObject *emitter_end(Emitter *self, PyObject *error) {
   int status = plain(PyObject_CallMethodObjArgs(self->up, error ? s_on_error : s_on_completed, error, NULL));
   return none_or_null(leave(here, &outer, status, 0));
 }
-static PyObject *emitter_completed(Emitter *self, PyObject *unused) { return (void)unused, emitter_end(self, NULL); }
-static PyObject *emitter_is_stopped(Emitter *self, void *unused) { return (void)unused, PyBool_FromLong(self->leaf->is_stopped); }
-static PyObject *emitter_dispose(PyObject *self, PyObject *unused) {
-  (void)self, (void)unused;
+static PyObject *emitter_completed(Emitter *self, PyObject *Py_UNUSED(unused)) { return emitter_end(self, NULL); }
+static PyObject *emitter_is_stopped(Emitter *self, void *Py_UNUSED(unused)) { return PyBool_FromLong(self->leaf->is_stopped); }
+static PyObject *emitter_dispose(PyObject *Py_UNUSED(self), PyObject *Py_UNUSED(unused)) {
   Py_RETURN_NONE;
 }
 static PyMethodDef emitter_methods[] = {
     {"on_next", (PyCFunction)emitter_next, METH_O, NULL}, {"on_error", (PyCFunction)emitter_end, METH_O, NULL},
     {"on_completed", (PyCFunction)emitter_completed, METH_NOARGS, NULL}, {"dispose", emitter_dispose, METH_NOARGS, NULL}, {NULL, NULL, 0, NULL}};
+static PyGetSetDef leaf_getset[] = {{"alone", (getter)alone, NULL, NULL, NULL}, {NULL, NULL, NULL, NULL, NULL}};
 static PyGetSetDef emitter_getset[] = {{"is_stopped", (getter)emitter_is_stopped, NULL, NULL, NULL}, {NULL, NULL, NULL, NULL, NULL}};
 static int emitter_traverse(Emitter *self, visitproc visit, void *arg) {
   Py_VISIT(Py_TYPE(self)); Py_VISIT(self->up); Py_VISIT(self->leaf);
@@ -658,18 +677,16 @@ static int root_dispose(Root *root) {
   int failed = command(root->core, &c, NULL, &status);
   return failed || !status || status == CELLAR_GONE ? failed : refused(status);
 }
-static int root_init(Root *self, PyObject *given, PyObject *named) {
-  (void)named;
+static int root_init(Root *self, PyObject *given, PyObject *Py_UNUSED(named)) {
   PyObject *core, *next, *error, *completed;
   if (!PyArg_ParseTuple(given, "OOOO", &core, &next, &error, &completed)) return -1;
   self->core = (Core *)new_of(core), self->on_next = new_of(next), self->on_error = new_of(error), self->on_completed = new_of(completed);
   self->target = new_of(leaf_of(next) ? (PyObject *)leaf_of(next) : next);
   return 0;
 }
-static PyObject *root_disposed(Root *self, PyObject *unused) { return (void)unused, none_or_null(root_dispose(self)); }
+static PyObject *root_disposed(Root *self, PyObject *Py_UNUSED(unused)) { return none_or_null(root_dispose(self)); }
 /* The same as a call of the user's. */
-static PyObject *root_unsubscribe(Root *self, PyObject *unused) {
-  (void)unused;
+static PyObject *root_unsubscribe(Root *self, PyObject *Py_UNUSED(unused)) {
   if (!self->core) Py_RETURN_NONE;
   Outer outer;
   struct Mine *here = enter(&outer);
@@ -680,10 +697,9 @@ static PyObject *root_next(Root *self, PyObject *value) {
   return CALL1(self->on_next, value);
 }
 static PyObject *root_error(Root *self, PyObject *error) { return none_or_null(root_end(self, error)); }
-static PyObject *root_completed(Root *self, PyObject *unused) { return (void)unused, none_or_null(root_end(self, NULL)); }
-static PyObject *root_head(Root *self, void *unused) { return (void)unused, new_of(self->head ? self->head : Py_None); }
-static int root_set_head(Root *self, PyObject *it, void *unused) {
-  (void)unused;
+static PyObject *root_completed(Root *self, PyObject *Py_UNUSED(unused)) { return none_or_null(root_end(self, NULL)); }
+static PyObject *root_head(Root *self, void *Py_UNUSED(unused)) { return new_of(self->head ? self->head : Py_None); }
+static int root_set_head(Root *self, PyObject *it, void *Py_UNUSED(unused)) {
   PyObject *target = Py_TYPE(it) == chain_type ? new_of(it) : PyObject_GetAttr(it, s_on_next), *head = self->head, *before = self->target;
   if (!target) return -1;
   self->head = new_of(it), self->target = target;
@@ -695,14 +711,20 @@ static PyMethodDef root_methods[] = {
     {"on_completed", (PyCFunction)root_completed, METH_NOARGS, NULL}, {"dispose", (PyCFunction)root_disposed, METH_NOARGS, NULL},
     {"unsubscribe", (PyCFunction)root_unsubscribe, METH_NOARGS, NULL}, {NULL, NULL, 0, NULL}};
 static PyGetSetDef root_getset[] = {{"head", (getter)root_head, (setter)root_set_head, NULL, NULL}, {NULL, NULL, NULL, NULL, NULL}};
-static PyMemberDef root_members[] = {{"is_stopped", T_BOOL, offsetof(Root, is_stopped), 0, NULL}, {"is_over", T_BOOL, offsetof(Root, is_over), 0, NULL}, {"is_solo", T_BOOL, offsetof(Root, is_solo), 0, NULL},
+static PyMemberDef root_members[] = {{"is_stopped", T_BOOL, offsetof(Root, is_stopped), 0, NULL}, {"is_over", T_BOOL, offsetof(Root, is_over), 0, NULL},
                                      {"number", T_ULONGLONG, offsetof(Root, node.number), READONLY, NULL},
                                      {"__weaklistoffset__", T_PYSSIZET, offsetof(Root, references), READONLY, NULL}, {NULL, 0, 0, 0, NULL}};
 static int root_traverse(Root *self, visitproc visit, void *arg) {
   Py_VISIT(Py_TYPE(self)); Py_VISIT(self->core); Py_VISIT(self->head); Py_VISIT(self->target);
   Py_VISIT(self->on_next); Py_VISIT(self->on_error); Py_VISIT(self->on_completed);
-  for (int i = 0; self->is_solo && i < self->owed; i++) Py_VISIT(self->thing);
-  return 0;
+  for (int i = 0; self->below && i < self->owed; i++) Py_VISIT(self->thing);
+  return visit_below(self->below, visit, arg);
+}
+/* Nobody can tell it anything any more. */
+static void root_finalize(PyObject *self) {
+  PyObject *error = PyErr_Occurred() ? caught_one() : NULL;
+  if (plain(root_unsubscribe((Root *)self, NULL))) PyErr_WriteUnraisable(self);
+  if (error) raise_again(error);
 }
 static int root_clear(Root *self) {
   self->is_stopped = self->is_over = 1;
@@ -716,23 +738,19 @@ static int root_clear(Root *self) {
 /* Those that are told, what each is told, or NULL where nothing comes out of its functions, and its leaf. */
 typedef struct {
   Py_ssize_t many, ready; /* so many are there, and of so many it is known what they are told */
-  PyObject **values, *here[16];
-  Leaf **leaves, *here_too[16];
+  struct { PyObject *value; Leaf *leaf; } *of, here[16];
 } Told;
 
 static int told_begin(Told *it, Py_ssize_t many) {
-  int is_short = many <= (Py_ssize_t)(sizeof it->here / sizeof *it->here);
   it->many = many, it->ready = 0;
-  it->values = is_short ? it->here : PyMem_Malloc(many * sizeof *it->values);
-  it->leaves = is_short ? it->here_too : PyMem_Malloc(many * sizeof *it->leaves);
-  return it->values && it->leaves ? 0 : (PyErr_NoMemory(), -1);
+  it->of = many <= (Py_ssize_t)(sizeof it->here / sizeof *it->here) ? it->here : PyMem_Malloc(many * sizeof *it->of);
+  return it->of ? 0 : (PyErr_NoMemory(), -1);
 }
 /* What was raised stays so. */
 static int told_end(Told *it, int status) {
   PyObject *error = status ? caught_one() : NULL;
-  for (Py_ssize_t i = 0; i < it->ready; i++) Py_XDECREF(it->values[i]);
-  if (it->values != it->here) PyMem_Free(it->values);
-  if (it->leaves != it->here_too) PyMem_Free(it->leaves);
+  for (Py_ssize_t i = 0; i < it->ready; i++) Py_XDECREF(it->of[i].value);
+  if (it->of != it->here) PyMem_Free(it->of);
   if (error) raise_again(error);
   return status;
 }
@@ -743,8 +761,8 @@ static int put_all(struct Mine *here, Core *core, Told *it, uint8_t what) {
   uint8_t refusal = 0;
   Turn outer = begin(here, core);
   for (Py_ssize_t i = 0; i < it->many; i++) {
-    Leaf *leaf = it->leaves[i];
-    PyObject *value = it->values[i];
+    Leaf *leaf = it->of[i].leaf;
+    PyObject *value = it->of[i].value;
     if (!value || leaf->is_stopped) continue;
     if (what != CELLAR_NEXT) leaf->is_stopped = 1;
     c.node = leaf->node, c.value = what == CELLAR_COMPLETE ? 0 : (uintptr_t)value;
@@ -762,15 +780,15 @@ static int tell_all(struct Mine *here, PyObject *all, uint8_t what, PyObject *va
   Core *core = ((Leaf *)ITEM(ITEM(all, 0), 1))->core;
   for (; !status && it.ready < it.many; it.ready++) { /* functions first */
     PyObject *pair = ITEM(all, it.ready), *up = ITEM(pair, 0);
-    Leaf *leaf = it.leaves[it.ready] = (Leaf *)ITEM(pair, 1);
+    Leaf *leaf = it.of[it.ready].leaf = (Leaf *)ITEM(pair, 1);
     if (leaf->core != core) is_one = 0;
-    if (what != CELLAR_NEXT || up == (PyObject *)leaf) it.values[it.ready] = new_of(value);
-    else it.values[it.ready] = leaf->is_stopped ? NULL : through((Chain *)up, value, &status);
+    if (what != CELLAR_NEXT || up == (PyObject *)leaf) it.of[it.ready].value = new_of(value);
+    else it.of[it.ready].value = leaf->is_stopped ? NULL : through((Chain *)up, value, &status);
   }
   if (!status && is_one) status = put_all(here, core, &it, what);
   else /* an engine was exchanged meanwhile */
     for (Py_ssize_t i = 0; !status && i < it.many; i++)
-      if (it.values[i]) status = what == CELLAR_NEXT ? emit(here, it.leaves[i], it.values[i]) : end_leaf(it.leaves[i], what == CELLAR_ERROR ? value : NULL);
+      if (it.of[i].value) status = what == CELLAR_NEXT ? emit(here, it.of[i].leaf, it.of[i].value) : end_leaf(it.of[i].leaf, what == CELLAR_ERROR ? value : NULL);
   return told_end(&it, status);
 }
 /* Those that have subscribed: a new reference. */
@@ -856,7 +874,7 @@ static PyObject *subject_join(Subject *self, PyObject *const *given, Py_ssize_t 
     for (Py_ssize_t i = 0; !status && i < many_items; i++) status = tell_up(here_is(), given[0], ITEM(PyList_GetItem(items, i), 1));
   else if (many_items) { /* put into its lane before anybody can emit */
     for (status = told_begin(&it, many_items); !status && it.ready < many_items; it.ready++)
-      it.leaves[it.ready] = leaf, it.values[it.ready] = new_of(ITEM(PyList_GetItem(items, it.ready), 1));
+      it.of[it.ready].leaf = leaf, it.of[it.ready].value = new_of(ITEM(PyList_GetItem(items, it.ready), 1));
     status = told_end(&it, status ? status : put_all(here_is(), leaf->core, &it, CELLAR_NEXT));
   }
   Py_XDECREF(items);
@@ -870,15 +888,13 @@ static int forget(Subject *self) {
     if (Py_TYPE(key) == leaf_type) ((Leaf *)key)->owner = NULL;
   return 0;
 }
-static PyObject *subject_forget(Subject *self, PyObject *unused) {
-  (void)unused;
+static PyObject *subject_forget(Subject *self, PyObject *Py_UNUSED(unused)) {
   forget(self);
   Py_CLEAR(self->all);
   PyDict_Clear(self->ups);
   Py_RETURN_NONE;
 }
-static PyObject *subject_new(PyTypeObject *type, PyObject *given, PyObject *named) {
-  (void)given, (void)named;
+static PyObject *subject_new(PyTypeObject *type, PyObject *Py_UNUSED(given), PyObject *Py_UNUSED(named)) {
   Subject *self = (Subject *)PyType_GenericAlloc(type, 0);
   if (self && !(self->ups = PyDict_New())) Py_CLEAR(self);
   if (self) self->limit = -1;
@@ -957,13 +973,13 @@ static int opened(Core *core, Opening *it) {
   if (it->node) it->node->node = s.node;
   if (it->other) it->other->node = s.other;
   it->is_connected = s.is_connected && c->what == CELLAR_OPEN;
-  if (thing != Py_None && c->what != CELLAR_CONNECT) {
+  if (thing != Py_None) {
     PyObject *hears = ITEM(thing, 0), *close = ITEM(thing, 1);
-    int is_root = c->place == CELLAR_ROOT && is_a(hears, root_type);
-    if (is_root) ((Root *)hears)->node = s.node, ((Root *)hears)->is_keyed = 1, ((Root *)hears)->thing = thing, ((Root *)hears)->owed = (int)roles;
+    int is_root = c->place == CELLAR_ROOT && c->what != CELLAR_CONNECT;
+    if (is_root) ((Root *)hears)->node = s.node, ((Root *)hears)->is_keyed = 1, ((Root *)hears)->thing = thing, ((Root *)hears)->owed = 1;
     if (Py_TYPE(close) == leaf_type) {
-      ((Leaf *)close)->node = s.node, ((Leaf *)close)->is_keyed = 1;
-      if (!is_root) ((Leaf *)close)->thing = thing, ((Leaf *)close)->owed = (int)roles;
+      ((Leaf *)close)->node = s.node, ((Leaf *)close)->thing = thing, ((Leaf *)close)->owed = (int)roles - is_root;
+      put_below((Leaf *)close);
     }
   }
   it->c.hub = s.hub;
@@ -1092,17 +1108,15 @@ static int go_through(Core *core, int passes) {
   return end(here, &outer, &s, 0);
 }
 /* Does what is to be done, also what interrupted calls left. */
-static PyObject *core_serve_left(Core *self, PyObject *unused) { return (void)unused, none_or_null(go_through(self, 0)); }
-static PyObject *core_totals(Core *self, PyObject *unused) {
-  (void)unused;
+static PyObject *core_serve_left(Core *self, PyObject *Py_UNUSED(unused)) { return none_or_null(go_through(self, 0)); }
+static PyObject *core_totals(Core *self, PyObject *Py_UNUSED(unused)) {
   struct cellar_totals t = {0};
   if (self->generation == generation) calls.totals(&self->engine, &t);
   return Py_BuildValue("(KKKKKKKK)", t.nodes, t.held, t.waiting, t.leases, t.accepted, t.taken, t.events, t.effects);
 }
 /* Where the engine is, for the calls that ctypes makes on it as well: none is on the way of an item. */
-static PyObject *core_address(Core *self, void *unused) { return (void)unused, PyLong_FromVoidPtr(&self->engine); }
-static PyObject *core_new(PyTypeObject *type, PyObject *given, PyObject *named) {
-  (void)named;
+static PyObject *core_address(Core *self, void *Py_UNUSED(unused)) { return PyLong_FromVoidPtr(&self->engine); }
+static PyObject *core_new(PyTypeObject *type, PyObject *given, PyObject *Py_UNUSED(named)) {
   unsigned long events = 0;
   if (!PyArg_ParseTuple(given, "|k", &events)) return NULL;
   Core *self = (Core *)PyType_GenericAlloc(type, 0);
@@ -1149,8 +1163,7 @@ static PyObject *split(PyObject *given, PyObject **first, Py_ssize_t from) {
   *first = ITEM(given, from - 1);
   return PyTuple_GetSlice(given, from, MANY(given));
 }
-static PyObject *module_trampolined(PyObject *module, PyObject *given) {
-  (void)module;
+static PyObject *module_trampolined(PyObject *Py_UNUSED(module), PyObject *given) {
   PyObject *call, *rest = split(given, &call, 1), *answer = rest ? trampolined(call, rest) : NULL;
   Py_XDECREF(rest);
   return answer;
@@ -1168,9 +1181,9 @@ static PyObject *within(PyObject *given, Root *root) {
 }
 /* A root, a function and its arguments, which opens it: where that is interrupted nothing stays open. What was raised meanwhile is raised
  * where the subscription is over, and else heard by the hook, so that the caller gets his disposable. */
-static PyObject *subscribe(PyObject *module, PyObject *given) { return (void)module, within(given, (Root *)ITEM(given, 0)); }
+static PyObject *subscribe(PyObject *Py_UNUSED(module), PyObject *given) { return within(given, (Root *)ITEM(given, 0)); }
 /* A call of the user's: what observers and releases raise meanwhile is raised at its end. */
-static PyObject *module_call(PyObject *module, PyObject *given) { return (void)module, within(given, NULL); }
+static PyObject *module_call(PyObject *Py_UNUSED(module), PyObject *given) { return within(given, NULL); }
 /* Calls: what sources put off meanwhile comes behind what the lane that is served tells now, unless a call further out goes on with it. */
 static PyObject *behind_the_lane(PyObject *given, int lets_go) {
   PyObject *call, *rest = split(given, &call, 1), *answer;
@@ -1187,12 +1200,11 @@ static PyObject *behind_the_lane(PyObject *given, int lets_go) {
   return answer;
 }
 /* What is projected is opened. */
-static PyObject *projected(PyObject *module, PyObject *given) { return (void)module, behind_the_lane(given, 0); }
+static PyObject *projected(PyObject *Py_UNUSED(module), PyObject *given) { return behind_the_lane(given, 0); }
 /* What an operator subscribes to as its lane is served emits into that lane: so that it is told at once, the lane is let go for it. */
-static PyObject *fed(PyObject *module, PyObject *given) { return (void)module, behind_the_lane(given, 1); }
+static PyObject *fed(PyObject *Py_UNUSED(module), PyObject *given) { return behind_the_lane(given, 1); }
 /* With nothing put off behind what is under way. */
-static PyObject *apart(PyObject *module, PyObject *given) {
-  (void)module;
+static PyObject *apart(PyObject *Py_UNUSED(module), PyObject *given) {
   PyObject *call, *rest = split(given, &call, 1), *before = mine.trampoline;
   if (!rest) return NULL;
   mine.trampoline = NULL;
@@ -1201,44 +1213,37 @@ static PyObject *apart(PyObject *module, PyObject *given) {
   Py_DECREF(rest);
   return answer;
 }
-static PyObject *put_off(PyObject *module, PyObject *call) {
-  (void)module;
+static PyObject *put_off(PyObject *Py_UNUSED(module), PyObject *call) {
   if (!mine.trampoline) Py_RETURN_FALSE;
   if (PyList_Append(mine.trampoline, call)) return NULL;
   Py_RETURN_TRUE;
 }
 /* What this thread puts off, if somebody goes on with it. */
-static PyObject *queue(PyObject *module, PyObject *unused) {
-  (void)module, (void)unused;
+static PyObject *queue(PyObject *Py_UNUSED(module), PyObject *Py_UNUSED(unused)) {
   return new_of(mine.trampoline ? mine.trampoline : Py_None);
 }
 /* Something was raised by what is none of a call's own. */
-static PyObject *raised(PyObject *module, PyObject *error) {
-  (void)module;
+static PyObject *raised(PyObject *Py_UNUSED(module), PyObject *error) {
   raise_again(new_of(error));
   return none_or_null(caught(me()));
 }
 /* Calls this behind all that the turns under way come to, of the innermost call of the package: so what they release is released. */
-static PyObject *behind(PyObject *module, PyObject *call) {
-  (void)module;
+static PyObject *behind(PyObject *Py_UNUSED(module), PyObject *call) {
   if (mine.turn.stack.depth == mine.floor) return none_or_null(plain(CALL0(call)));
   if (!mine.behind && !(mine.behind = PyList_New(0))) return NULL;
   return none_or_null(PyList_Append(mine.behind, call));
 }
 /* Tells what stands behind what is told to a root: of one that has ended, what it held. */
-static PyObject *finish(PyObject *module, PyObject *root) {
-  (void)module;
+static PyObject *finish(PyObject *Py_UNUSED(module), PyObject *root) {
   Core *core = ((Root *)root)->core;
   return none_or_null(mine.telling.core == core ? go_through(core, 1) : 0);
 }
-static PyObject *forked(PyObject *module, PyObject *unused) {
-  (void)module, (void)unused;
+static PyObject *forked(PyObject *Py_UNUSED(module), PyObject *Py_UNUSED(unused)) {
   generation++;
   Py_RETURN_NONE;
 }
 /* What is told, its leaf, and an iterator: its items, until the leaf is closed. Whether it came to its end. */
-static PyObject *pull(PyObject *module, PyObject *const *given, Py_ssize_t many) {
-  (void)module;
+static PyObject *pull(PyObject *Py_UNUSED(module), PyObject *const *given, Py_ssize_t many) {
   if (many != 3 || Py_TYPE(given[1]) != leaf_type) return PyErr_Format(PyExc_TypeError, "what is told, its leaf and an iterator are wanted");
   Leaf *leaf = (Leaf *)given[1];
   struct Mine *here = here_is();
@@ -1261,22 +1266,13 @@ static PyObject *pull(PyObject *module, PyObject *const *given, Py_ssize_t many)
 
 /* The module -------------------------------------------------------------------------------------------------------------------*/
 
-static PyObject *bind(PyObject *module, PyObject *given) {
-  (void)module;
-  void *found[sizeof calls / sizeof(void *)];
-  PyObject *addresses;
-  if (!PyArg_ParseTuple(given, "OOO", &addresses, &refuse, &unhandled)) return NULL;
+static PyObject *bind(PyObject *Py_UNUSED(module), PyObject *given) {
+  const char *addresses;
+  Py_ssize_t size;
+  if (!PyArg_ParseTuple(given, "y#OO", &addresses, &size, &refuse, &unhandled)) return NULL;
+  if (size != sizeof calls) return PyErr_Format(PyExc_ImportError, "the extension is of another version than this package");
+  memcpy(&calls, addresses, sizeof calls);
   Py_INCREF(refuse), Py_INCREF(unhandled);
-  for (size_t i = 0; i < sizeof found / sizeof *found; i++) {
-    PyObject *address = PySequence_GetItem(addresses, (Py_ssize_t)i);
-    if (!address) return NULL;
-    found[i] = PyLong_AsVoidPtr(address);
-    Py_DECREF(address);
-  }
-  memcpy(&calls, found, sizeof calls);
-  uint32_t abi = calls.abi();
-  int fits = abi >> 16 == CELLAR_ABI >> 16 && (abi & 0xFFFF) + 1 > (CELLAR_ABI & 0xFFFF);
-  if (!fits || calls.size(1) != sizeof(struct cellar_command) || calls.size(7) != sizeof(struct cellar_stepped)) return PyErr_Format(PyExc_ImportError, "libcellarcliff is of another version than this package");
   Py_RETURN_NONE;
 }
 #define DEALLOC(Name, clear, more) \
@@ -1290,8 +1286,8 @@ DEALLOC(Chain, chain_clear, PyMem_Free(self->kinds))
 static PyType_Slot core_slots[] = {{Py_tp_new, core_new}, {Py_tp_dealloc, core_dealloc}, {Py_tp_methods, core_methods}, {Py_tp_getset, core_getset}, {Py_tp_members, core_members}, {0, NULL}};
 static PyMemberDef key_members[] = {{"number", T_ULONGLONG, offsetof(Key, node.number), READONLY, NULL}, {NULL, 0, 0, 0, NULL}};
 static PyType_Slot key_slots[] = {{Py_tp_members, key_members}, {0, NULL}};
-static PyType_Slot root_slots[] = {COLLECTED(Root, root), {Py_tp_init, root_init}, {Py_tp_getset, root_getset}, {Py_tp_members, root_members}, {0, NULL}};
-static PyType_Slot leaf_slots[] = {COLLECTED(Leaf, leaf), {Py_tp_init, leaf_init}, {Py_tp_members, leaf_members}, {0, NULL}};
+static PyType_Slot root_slots[] = {COLLECTED(Root, root), {Py_tp_finalize, root_finalize}, {Py_tp_init, root_init}, {Py_tp_getset, root_getset}, {Py_tp_members, root_members}, {0, NULL}};
+static PyType_Slot leaf_slots[] = {COLLECTED(Leaf, leaf), {Py_tp_init, leaf_init}, {Py_tp_getset, leaf_getset}, {Py_tp_members, leaf_members}, {0, NULL}};
 static PyType_Slot chain_slots[] = {COLLECTED(Chain, chain), {Py_tp_init, chain_init}, {Py_tp_members, chain_members}, {0, NULL}};
 static PyType_Slot subject_slots[] = {COLLECTED(Subject, subject), {Py_tp_new, subject_new}, {Py_tp_members, subject_members}, {0, NULL}};
 static PyType_Slot emitter_slots[] = {COLLECTED(Emitter, emitter), {Py_tp_init, emitter_init}, {Py_tp_getset, emitter_getset}, {0, NULL}};

@@ -339,17 +339,46 @@ class Small(Case):
 
             def hear(self, value):
                 self.heard = value
-        for operators in (), (ops.map(lambda it: it), ops.scan(lambda _, it: it)):
+        inner = rx.just
+        for operators in ((), (ops.map(lambda it: it), ops.scan(lambda _, it: it)), (ops.flat_map(inner),), (ops.flat_map_latest(inner), ops.map(str)),
+                          (ops.share(),), (ops.replay(buffer_size=1), ops.ref_count()), (ops.concat(rx.never()),), (lambda it: it.pipe(ops.merge(Subject())),),
+                          (ops.concat_map(inner), ops.share(), ops.flat_map(inner)), (ops.retry(), lambda it: it.pipe(ops.take_until(Subject()))),
+                          (ops.start_with(1), ops.scan(lambda _, it: it)), (ops.buffer_with_count(1), ops.map(len)), (ops.pairwise(), ops.repeat())):
             views = [View(operators) for _ in range(20)]
             known = [weakref.ref(it) for it in views]
             gc.collect()
-            for it in views:
-                it.subject.on_next(1)
-            self.assertEqual([it.heard for it in views], [1] * 20)
+            for value in 1, 1:
+                for it in views:
+                    it.subject.on_next(value)
+            self.assertEqual([it() is not None for it in known], [True] * 20)
+            self.assertGreaterEqual(self.engine.counts().nodes, 20)
             del views, it
             gc.collect()
-            self.assertEqual([it() for it in known], [None] * 20)
-            self.assertEqual((self.engine.counts().nodes, self.engine.core.kept), (0, 0))
+            self.assertEqual([it() for it in known], [None] * 20, operators)
+            self.assertEqual((self.engine.counts().nodes, self.engine.core.kept), (0, 0), operators)
+
+    def test_what_is_collected_as_an_end_is_told_loses_no_end(self):
+        ends = (lambda it: it.on_completed()), (lambda it: it.on_error(KeyError()))
+        for operators in (), (ops.map(str),), (ops.flat_map(rx.just),), (ops.share(),), (ops.to_list(),), (ops.concat(rx.of(1)), ops.to_list()):
+            for end in ends:
+                log, subject = [], Subject()
+
+                class Hears:
+                    def on_next(self, _):
+                        gc.collect()
+
+                    def on_error(self, _):
+                        gc.collect()
+                        log.append("end")
+
+                    def on_completed(self):
+                        self.on_error(None)
+                for _ in range(4):
+                    held = rx.using(lambda: Disposable(lambda: log.append("released")), lambda _: subject)
+                    held.pipe(*operators).subscribe(Hears())
+                subject.on_next(1)
+                end(subject)
+                self.assertEqual(sorted(log), ["end"] * 4 + ["released"] * 4, operators)
 
     def test_an_engine_that_was_exchanged_is_closed_at_the_end(self):
         from cellarcliff.rx import _engine

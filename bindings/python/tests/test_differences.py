@@ -127,7 +127,7 @@ def an_iterable_behind_the_end(k, told):
 
 def a_loop_that_waits_for_another_thread(k, told):
     async def main():
-        await asyncio.wait_for(k.rx.timer(0.02).pipe(k.ops.to_future()), 8)  # which is the loop's next event
+        await asyncio.wait_for(k.rx.timer(0.3).pipe(k.ops.to_future()), 8)  # which is the loop's next event
     begin = time.monotonic()
     asyncio.run(main())
     told.append("at once" if time.monotonic() - begin < 7 else "with the loop's next event")

@@ -36,7 +36,8 @@ def bind(refuse: Callable[[int], Any], unhandled: Callable[[BaseException], Any]
         return
     if IS_EXTENSION:
         library = _cellar.library()
-        C.bind([ctypes.cast(getattr(library, f"cellar_{it}"), ctypes.c_void_p).value for it in _cellar.FAST], refuse, unhandled)
+        calls = [ctypes.cast(getattr(library, f"cellar_{it}"), ctypes.c_void_p).value for it in _cellar.FAST]
+        C.bind(bytes((ctypes.c_void_p * len(calls))(*calls)), refuse, unhandled)
     else:
         C.bind(None, refuse, unhandled)
     _is_bound = True

@@ -56,7 +56,7 @@ class Totals(NamedTuple):
 class At:
     """A place at which an observable opens something."""
 
-    __slots__ = ("engine", "place", "above", "root", "scheduler", "is_exchange", "flags", "top", "node", "solo")
+    __slots__ = ("engine", "place", "above", "root", "scheduler", "is_exchange", "flags", "top", "node", "holder")
 
     def __init__(self, engine: "Engine", place: int, above: Any, root: Any, scheduler: Any, is_exchange: bool = False, top: Any = None,
                  flags: int = 0):
@@ -65,16 +65,16 @@ class At:
         self.top = top if root is None else root  # the root of the subscription, if there is one
         self.flags = flags
         self.node: Any = None  # what was opened here
-        self.solo: Any = root  # the root, where nothing but this source feeds it
+        self.holder: Any = root  # the nearest root or leaf above, or what was opened here: what is open below holds it
 
     def below(self, place: int, above: Any) -> "At":
-        return At(self.engine, place, above, None, self.scheduler, False, self.top)
+        at = At(self.engine, place, above, None, self.scheduler, False, self.top)
+        at.holder = self.holder
+        return at
 
     def inside(self, above: Any) -> "At":
         """The place below a node that has this source alone."""
-        at = At(self.engine, SOURCE, above, None, self.scheduler, False, self.top)
-        at.solo = self.solo
-        return at
+        return self.below(SOURCE, above)
 
 
 class Engine:
@@ -87,9 +87,14 @@ class Engine:
         self.core = C.Core(max_events)
 
     def open(self, at: At, kind: int, close: Any = None, project: Optional[Callable[[Any], Any]] = None) -> Any:
-        """Opens a node: `close` is a leaf that stops, or is called, as it closes; `project` is given what a FlatMap or Switch is to
-        project."""
+        """Opens a node: `close` is a leaf that stops as it closes, or what is called then; `project` is given what a FlatMap or Switch
+        is to project."""
         root = at.root
+        if close is not None:
+            if type(close) is not Leaf:
+                call, close = close, Leaf(self.core)
+                close.on_closed = call
+            close.above, at.holder = at.holder, close
         what = OPEN | at.place << 8 | kind << 16 | (at.flags | (WISHES if close is not None else 0)) << 24
         at.node = self.core.open(what, at.above, None if root is close is project is None else (root, close, project), None, at.is_exchange)
         return at.node
@@ -160,20 +165,20 @@ class Engine:
 
     # shares
 
-    def share(self, at: At, share: Any, level: int) -> Tuple[int, Any]:
-        """Opens a subscriber of a share: the status, and the connection if there is a new one."""
-        root = at.root
-        status, node, connection, hub = self.core.share(OPEN | at.place << 8 | share.kind << 16 | at.flags << 24 | level << 32, at.above,
-                                                        None if root is None else (root, None, None), share.word, share.hub, None, at.is_exchange)
+    def share(self, at: At, share: Any, leaf: Any, level: int) -> Tuple[int, Any]:
+        """Opens a subscriber of a share, with the leaf that stops as it closes: the status, and the connection if there is a new one."""
+        leaf.above = at.holder
+        status, node, connection, hub = self.core.share(OPEN | at.place << 8 | share.kind << 16 | (at.flags | WISHES) << 24 | level << 32, at.above,
+                                                        (at.root, leaf, None), share.word, share.hub, None, at.is_exchange)
         if status == 0:
             at.node, share.hub = node, hub
         elif status not in (HUB_ORDER, NO_HUB):
             refuse(status)
         return status, connection
 
-    def connect(self, share: Any, level: int, closed: Callable[[], Any]) -> Any:
-        """The connection, if there was none."""
-        status, _, connection, hub = self.core.share(CONNECT | WISHES << 24 | level << 32, None, (None, closed, None), share.word, share.hub, share, False)
+    def connect(self, share: Any, leaf: Any, level: int) -> Any:
+        """The connection, if there was none, with the leaf that is called as it closes."""
+        status, _, connection, hub = self.core.share(CONNECT | WISHES << 24 | level << 32, None, (None, leaf, None), share.word, share.hub, share, False)
         if status == CONNECTED:
             return None
         if status:

@@ -150,12 +150,14 @@ class _Relay:
         self._node_is = Leaf(engine.core)
         self._node = engine.open(at, FLAT, self._node_is, self._project)
         self._inner = at.below(INNER, self._node)
-        below = engine.open(at.below(SOURCE, self._node), UNTIL if is_ending else PASS, self._source_closed)
+        within = at.below(SOURCE, self._node)
+        below = engine.open(within, UNTIL if is_ending else PASS, self._source_closed)
         if is_ending:
             self._stop = Leaf(engine.core)
-            engine.open(at.below(NOTIFIER, below), LEAF, self._stop)
+            self._stop.is_fed = True
+            engine.open(within.below(NOTIFIER, below), LEAF, self._stop)
         self._up = chained(makes, self)
-        open_below(core, at.below(SOURCE, below))
+        open_below(core, within.below(SOURCE, below))
 
     def _project(self, value: Any) -> None:
         if self._node_is.is_stopped:
@@ -187,6 +189,7 @@ class _Relay:
     def on_next(self, value: Any) -> None:
         if self._leaf is None:
             self._leaf = Leaf(self._engine.core)
+            self._leaf.is_fed = True
             self._engine.open(self._inner, LEAF, self._leaf)
         else:
             self._engine.decline(self._node)
@@ -210,13 +213,11 @@ def linked(core: Observable[Any], at: At, makes: Makes) -> None:
     """A source which a subscription of its own feeds; that goes when the source does."""
     engine, leaf = at.engine, Leaf(at.engine.core)
     root = Root(engine.core, noop, noop, noop)
-    leaf.on_closed = root.dispose
+    leaf.is_fed, leaf.on_closed = True, root.dispose
     engine.open(at, LEAF, leaf)
     root.head = chained(makes, _Last(leaf, root))
     if not leaf.is_stopped:
-        inner = At(engine, ROOT, None, root, at.scheduler)
-        inner.solo = at.solo
-        C.subscribe(root, open_root, core, inner)
+        C.subscribe(root, open_root, core, At(engine, ROOT, None, root, at.scheduler))
 
 
 class _Last:

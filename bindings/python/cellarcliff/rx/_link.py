@@ -5,7 +5,7 @@ order, with no lock. When the leaf goes the roots go, and with them what they ho
 """
 from __future__ import annotations
 
-from typing import Any, Callable, Dict, Optional, Tuple
+from typing import Any, Callable, Dict, List, Optional, Tuple
 
 from ._cellar import LEAF, ROOT
 from ._engine import LANE_OF_NODE, At, C, Leaf, Root
@@ -19,14 +19,15 @@ Call = Callable[..., Any]
 class Link:
     """What an operator's function is given: what it tells goes to the observer."""
 
-    __slots__ = ("engine", "scheduler", "leaf", "up", "on_next", "_keeper", "_roots", "_is_ending")
+    __slots__ = ("engine", "scheduler", "leaf", "up", "on_next", "_keeper", "_roots", "_held", "_is_ending")
 
     def __init__(self, at: At, makes: Any):
         self.engine, self.scheduler = at.engine, at.scheduler
         self.leaf = leaf = Leaf(at.engine.core)
         self._roots: Dict[Any, None] = {}
+        self._held: List[Any] = []  # timers
         self._is_ending = False  # whether the end of a source is being heard
-        leaf.on_closed = self._closed
+        leaf.is_fed, leaf.on_closed = True, self._closed
         self.engine.open(at, LEAF, leaf)
         self._keeper = Root(at.engine.core, noop, noop, noop)
         self.engine.open(At(at.engine, ROOT, None, self._keeper, None), LEAF)
@@ -34,9 +35,11 @@ class Link:
         self.on_next = self.up.on_next
 
     def _closed(self) -> None:
-        roots, self._roots = self._roots, {}
+        roots, self._roots, held, self._held = self._roots, {}, self._held, []
         for it in (*reversed(tuple(roots)), self._keeper):
             it.dispose()
+        for it in held:
+            _dispose(it)
 
     # what is told
 
@@ -122,9 +125,13 @@ class Link:
         """Calls this once all that the commands under way released is released: for what takes the place of something."""
         C.behind(lambda: self.later(call))
 
-    def hold(self, disposable: Any) -> Any:
+    def hold(self, timer: Any) -> Any:
         """Something that is disposed of when the operator goes."""
-        return self.engine.hold(self._keeper, lambda: disposable)
+        if self.is_over:
+            _dispose(timer)
+        else:
+            self._held.append(timer)
+        return timer
 
     def schedule(self, scheduler: Any, due: Any, call: Call) -> Any:
         """Calls this in the operator's lane, at once by the scheduler or after so long: a disposable."""
@@ -136,6 +143,13 @@ class Link:
         """Calls this behind what was told."""
         if not self.leaf.is_stopped:
             self.engine.put(self.leaf, call)
+
+
+def _dispose(timer: Any) -> None:
+    try:
+        timer.dispose()
+    except Exception as error:
+        C.raised(error)
 
 
 class _Last:

@@ -181,8 +181,9 @@ class Core:
         if not status:
             for it in closings:
                 close = self.things[it][1]
-                if type(close) is Leaf:
-                    close.is_stopped = True
+                above, close.above, close.is_stopped = close.above, None, True
+                if above is not None:
+                    above.below -= 1
             self._closed.extend(closings)
             if known is not None:
                 known(answer)
@@ -245,16 +246,13 @@ class Core:
                     break
                 close = self.things[word][1]
                 try:
-                    if type(close) is Leaf:
-                        owner, close.owner = close.owner, None
-                        subject = owner() if owner is not None else None
-                        if subject is not None:
-                            subject._ups.pop(close, None)
-                        call, close.on_closed = close.on_closed, None
-                        if call is not None:
-                            call()
-                    else:
-                        close()
+                    owner, close.owner = close.owner, None
+                    subject = owner() if owner is not None else None
+                    if subject is not None:
+                        subject._ups.pop(close, None)
+                    call, close.on_closed = close.on_closed, None
+                    if call is not None:
+                        call()
                 except Exception as error:
                     _caught(error, get_ident())
                 finally:
@@ -294,10 +292,12 @@ class Core:
 
         def known(a: List[int]) -> None:
             if thing is not None and command != CONNECT:
-                if place == 0 and isinstance(thing[0], Root):
+                if place == 0:
                     thing[0].node = a[0], a[1]
-                if type(thing[1]) is Leaf:
+                if thing[1] is not None:
                     thing[1].node = a[0], a[1]
+                    if thing[1].above is not None:
+                        thing[1].above.below += 1
             if share is not None:
                 share.connection = Key((a[2], a[3]))
         status, a = self.turn(self.make, (what, hub, *(above.node if above is not None else (0, 0)), user, value), 0, known, is_exchange)
@@ -403,6 +403,7 @@ class Root:
         self.core, self._on_next, self._on_error, self._on_completed = core, on_next, on_error, on_completed
         self.head: Any = None
         self.node: Any = None
+        self.below = 0
         self.is_stopped = self.is_over = False
 
     number = Key.number
@@ -459,7 +460,20 @@ class Leaf:
         self.node: Any = None
         self.owner: Any = None
         self.on_closed: Optional[Callable[[], Any]] = None
-        self.is_stopped = False
+        self.above: Any = None  # the root or leaf above, while this is open
+        self.below = 0          # how many are open below it
+        self.is_stopped = self.is_fed = False
+
+    @property
+    def alone(self) -> Any:
+        """The root that hears of nothing but this leaf, or None."""
+        it = self
+        while type(it) is Leaf:
+            above = it.above
+            if it.is_stopped or above is None or above.below != 1:
+                return None
+            it = above
+        return it
 
     number = Key.number
 

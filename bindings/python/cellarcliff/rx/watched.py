@@ -189,10 +189,11 @@ class Watched(Engine):
             kept[0].node = node.number
         return answer.resource if isinstance(answer, _Kept) else answer
 
-    def connect(self, share: Any, level: int, closed: Callable[[], Any]) -> Any:
+    def connect(self, share: Any, leaf: Any, level: int) -> Any:
         made = Made("connection", repr(share.source), None, None, self._skipped)
+        leaf.on_closed = self._keep(made, leaf.on_closed)
         try:
-            connection = super().connect(share, level, self._keep(made, closed))
+            connection = super().connect(share, leaf, level)
         except BaseException:
             self._kept.pop(id(made), None)
             raise

@@ -40,6 +40,7 @@ class Merging(Observable[Any]):
             if node_is.is_stopped:
                 return
             at = At(engine, INNER, node, None, scheduler, is_switch, top)
+            at.holder = node_is
             try:
                 opens(value, at)
             except Refused as why:

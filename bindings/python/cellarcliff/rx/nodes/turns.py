@@ -23,6 +23,7 @@ class _Outer(Observable[Any]):
 
     def _open_with(self, at: At, makes: Any) -> bool:
         self._engine, self._scheduler, self._leaf = at.engine, at.scheduler, Leaf(at.engine.core)
+        self._leaf.is_fed = True
         self._engine.open(at, LEAF, self._leaf)
         try:
             self._rest: Iterator[Any] = iter(self._sources())

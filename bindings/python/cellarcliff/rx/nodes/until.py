@@ -32,7 +32,5 @@ class Until(Observable[Any]):
 
     def _open(self, at: At) -> None:
         node = at.engine.open(at, UNTIL)
-        source = at.below(SOURCE, node)
-        source.solo = at.solo
-        open_below(self._source, source)
+        open_below(self._source, at.below(SOURCE, node))
         open_below(self._notifier, at.below(NOTIFIER, node))

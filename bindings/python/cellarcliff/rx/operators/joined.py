@@ -8,6 +8,7 @@ from .._engine import C
 from .._link import Link, Linked
 from .._observable import Observable, to_observable
 from .._typing import B, Operator, same
+from ..disposable import MultipleAssignmentDisposable
 from ..nodes import open_in_turn
 from ..scheduler import CurrentThreadScheduler, ImmediateScheduler
 from ..sources import FromIterable
@@ -17,12 +18,15 @@ if TYPE_CHECKING:
     from .._typing import Source
 
 
-def start(link: Link, call: Callable[[], Any]) -> None:
-    """As RxPY's current thread scheduler does it: behind what is under way."""
-    if link.scheduler is not None:
-        link.hold(link.schedule(link.scheduler, None, call))
-    else:
-        C.fed(C.put_off, lambda: link.later(call))
+def starting(link: Link) -> Callable[[Callable[[], Any]], None]:
+    """What does something behind what is under way, as RxPY's current thread scheduler does it; or by the subscription's scheduler."""
+    if link.scheduler is None:
+        return lambda call: C.fed(C.put_off, lambda: link.later(call))
+    turn = link.hold(MultipleAssignmentDisposable())
+
+    def start(call: Callable[[], Any]) -> None:
+        turn.disposable = link.schedule(link.scheduler, None, call)
+    return start
 
 
 class InTurn(Observable[Any]):
@@ -46,6 +50,7 @@ class InTurn(Observable[Any]):
         if link.is_stopped:
             return True
         last: List[Any] = [None]
+        start = starting(link)
         try:
             sources: Iterator[Any] = iter(self._sources())
         except Exception as error:
@@ -67,12 +72,12 @@ class InTurn(Observable[Any]):
                 link.subscribe(source, link.on_next, failed if self._on_error else None, ended if self._on_end else None, link.scheduler or own)
 
         def ended() -> None:
-            link.follow(lambda: start(link, follow))
+            link.follow(lambda: start(follow))
 
         def failed(error: Exception) -> None:
             last[0] = error
             ended()
-        start(link, follow)
+        start(follow)
         return True
 
 
@@ -378,9 +383,11 @@ def expand(mapper: Callable[[Any], Any]) -> Operator[Any]:
                 if not many:
                     link.on_completed()
 
+            start = starting(link)
+
             def go_on() -> None:
                 """At once, or by the scheduler that the subscription has."""
-                work() if link.scheduler is None else start(link, work)
+                work() if link.scheduler is None else start(work)
             go_on()
         return Linked(run, source, name="expand")
     return operate

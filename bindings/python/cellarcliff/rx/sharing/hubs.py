@@ -3,10 +3,10 @@ from __future__ import annotations
 
 import threading
 from itertools import count
-from typing import Any, List, Optional
+from typing import Any, Callable, Dict, List, Optional
 
 from .._cellar import HUB_ORDER, NO_HUB, PUBLISHED, SHARED, SOURCE, UNKNOWN_HUB
-from .._engine import At, C, Engine, current, refuse
+from .._engine import At, C, Engine, Leaf, current, refuse
 from .._functions import linked
 from .._observable import Observable, open_below, to_observable
 from ..disposable import CompositeDisposable, Disposable
@@ -22,6 +22,7 @@ class _Share:
         self.source, self.kind, self.word = source, kind, next(_words)
         self.hub = UNKNOWN_HUB  # the last that it had
         self.connection: Any = None
+        self._subscribers: Dict[Any, None] = {}  # their leaves: held by what is below the connection
         self._level: Optional[int] = None
 
     @property
@@ -33,20 +34,40 @@ class _Share:
 
     def open(self, at: At) -> int:
         """Opens a subscriber: 0, HUB_ORDER where the order of hubs forbids it there, or NO_HUB."""
-        status, connection = at.engine.share(at, self, self.level)
+        leaf = self._leaf(at.engine, lambda: self._subscribers.pop(leaf, None))
+        self._subscribers[leaf] = None
+        status = NO_HUB
+        try:
+            status, connection = at.engine.share(at, self, leaf, self.level)
+        finally:
+            if status:
+                del self._subscribers[leaf]
         if connection is not None:
-            open_below(self.source, At(at.engine, SOURCE, connection, None, at.scheduler))
+            self._open_source(at.engine, connection, self._leaf(at.engine, self._closed), at.scheduler)
         return status
+
+    @staticmethod
+    def _leaf(engine: Engine, closed: Callable[[], Any]) -> Any:
+        leaf = Leaf(engine.core)
+        leaf.is_fed, leaf.on_closed = True, closed
+        return leaf
+
+    def _open_source(self, engine: Engine, connection: Any, leaf: Any, scheduler: Any) -> None:
+        """Opens the source below a connection, whose leaf is held by what feeds it."""
+        at = At(engine, SOURCE, connection, None, scheduler)
+        at.holder = leaf
+        open_below(self.source, at)
 
     def _closed(self) -> None:
         self.connection = None
 
     def connect(self, engine: Engine, scheduler: Any) -> Any:
         """The connection, which is made if there is none."""
-        connection = engine.connect(self, self.level, self._closed)
+        leaf = self._leaf(engine, self._closed)
+        connection = engine.connect(self, leaf, self.level)
         if connection is None:
             return self.connection
-        C.trampolined(open_below, self.source, At(engine, SOURCE, connection, None, scheduler))
+        C.trampolined(self._open_source, engine, connection, leaf, scheduler)
         return connection
 
     def disconnect(self, engine: Engine, connection: Any) -> None:

@@ -52,7 +52,6 @@ class Subject(_Base, Observable[S], Observer):
 
     def __init__(self) -> None:
         self.exception: Optional[Exception] = None
-        self._solos: Any = None
 
     def __init_subclass__(cls, **words: Any) -> None:
         super().__init_subclass__(**words)
@@ -89,14 +88,8 @@ class Subject(_Base, Observable[S], Observer):
     def _open_here(self, at: At, makes: Any) -> bool:
         self.check_disposed()
         leaf = Leaf(at.engine.core)
+        leaf.is_fed = True
         at.engine.open(at, LEAF, leaf)
-        if at.solo is not None:
-            if self._solos is None:
-                self._solos = {}
-            solos = self._solos
-            solos[leaf] = at.solo
-            leaf.is_solo = at.solo.is_solo = True
-            leaf.on_closed = lambda: solos.pop(leaf, None)
         up = chained(makes, leaf) if makes else leaf
         if not leaf.is_stopped and not self._join(up, leaf):
             self._tell_end(up)
@@ -137,10 +130,10 @@ class Subject(_Base, Observable[S], Observer):
 
     def __del__(self) -> None:
         """Nobody can tell its subscribers anything any more: those that hear of nothing else go."""
-        solos = self.__dict__.get("_solos")
-        if solos:
-            for root in tuple(solos.values()):
-                root.dispose()
+        for leaf in tuple(self._ups):
+            root = leaf.alone
+            if root is not None:
+                root.unsubscribe()
 
     def __repr__(self) -> str:
         state = "disposed" if self.is_disposed else "ended" if self.is_stopped else "open"
