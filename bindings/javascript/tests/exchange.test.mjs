@@ -49,6 +49,15 @@ const test = (of, is) => ({ of: async (rx) => {
 }, is });
 
 export const tests = {
+  'an inner observable that takeUntil ends is released before the next one is made, and before the whole ends': test((rx, say) => {
+    const stop = new rx.Subject(), held = (n) => new rx.Observable(() => {
+      say(`made ${n}`);
+      return () => say(`released ${n}`);
+    });
+    rx.of(1, 2).pipe(rx.concatMap((n) => held(n).pipe(rx.finalize(() => say(`finally ${n}`)), rx.takeUntil(stop)))).subscribe({ complete: () => say('end') });
+    stop.next();
+    stop.next();
+  }, ['made 1', 'released 1', 'finally 1', 'made 2', 'released 2', 'finally 2', 'end']),
   'switchMap releases the inner observable before it calls the function': test((rx, say) => {
     const words = new rx.Subject();
     words.pipe(rx.switchMap((word) => {

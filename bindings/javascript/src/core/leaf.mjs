@@ -22,16 +22,24 @@ export const TERMINAL = {
   },
 };
 
-/** What is released, innermost first, before the end of an inner observable is counted: the resources from its end up to where it is merged. */
+/** What is released, innermost first, before the end of an inner observable is counted: the resources from its end up to where it is merged, where
+ *  there is nothing above. A node that another observable ends has no tag. */
 export class Inner {
   constructor(tag, above) {
     this.tag = tag;
     this.above = above;
+    this.leaf = null; // the end below
+  }
+  releases() {
+    const { leaf } = this;
+    if (leaf === null || leaf.isStopped) return;
+    leaf.isStopped = true;
+    releases(leaf);
   }
 }
 function releases(leaf) {
   if (leaf._tag !== null) realm.engine.remove(leaf._tag);
-  for (let it = leaf._inner; it.tag !== null; it = it.above) realm.engine.remove(it.tag);
+  for (let it = leaf._inner; it.above !== null; it = it.above) if (it.tag !== null) realm.engine.remove(it.tag);
 }
 
 /** A function on items, or several ends: it passes on to the one above it. `hooked` if it ends by itself or does something at an end. */
@@ -62,6 +70,7 @@ export class Leaf extends Subscriber {
     this.hears = hears; // where this leaf is the whole tree, else null
     this._subject = this._before = this._after = null; // whose list it is on, and between which
     this._many = false; // whether its source tells items in one go
+    if (inner !== null) for (let it = inner; it.above !== null; it = it.above) it.leaf = this;
   }
 
   // An end that there is no room for is refused before anything is changed; before the book an item may be told at it.

@@ -1,6 +1,7 @@
 // TakeUntil of the engine, and what leaves out items until another observable tells.
 import { NOTIFIER, SOURCE, UNTIL } from '../engine/codes.mjs';
-import { Stage, TERMINAL, failing } from '../core/leaf.mjs';
+import { Inner, Stage, TERMINAL, failing } from '../core/leaf.mjs';
+import { realm } from '../engine/realm.mjs';
 import { Link } from '../core/link.mjs';
 import { Observable } from '../core/observable.mjs';
 import { LEFT, Place, openAt, openLeaf, openNode, settled } from '../core/place.mjs';
@@ -12,9 +13,20 @@ import { innerFrom } from '../sources/from.mjs';
 /** Whether it opens a leaf and nothing else. */
 const isLeaf = (it) => !it.operator && !it.source && (it._open === Observable.prototype._open || it._open === Subject.prototype._open);
 
-/** The end of a notifier says nothing: it only leaves. */
+/** An item of a notifier is the end; within what is merged what that releases is released before it is counted. The end of a notifier says nothing: it
+ *  only leaves. */
 class Notifies extends Stage {
-  constructor(up) { super(up, true); }
+  constructor(up, ends) {
+    super(up, true);
+    this.ends = ends;
+  }
+  next(value, leaf) {
+    if (this.ends !== null) {
+      realm.engine.room(true);
+      this.ends.releases();
+    }
+    this.up.next(value, leaf);
+  }
   complete(leaf) { leaf.unsubscribe(); }
 }
 
@@ -31,8 +43,9 @@ export function takeUntil(notifier) {
   return operator((at, source) => {
     const other = innerFrom(notifier), place = settled(at), body = { over: false, shut() { this.over = true; } }, thing = place && openNode(place, UNTIL, body);
     if (!thing) return;
-    notifies(other, new Place(NOTIFIER, thing, null, new Notifies(TERMINAL)));
-    if (thing !== LEFT && !body.over) openAt(source, new Place(SOURCE, thing, null, place._way, null, place._inner));
+    const ends = place._inner && new Inner(null, place._inner);
+    notifies(other, new Place(NOTIFIER, thing, null, new Notifies(TERMINAL, ends)));
+    if (thing !== LEFT && !body.over) openAt(source, new Place(SOURCE, thing, null, place._way, null, ends));
   });
 }
 
