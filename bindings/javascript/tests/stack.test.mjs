@@ -18,6 +18,7 @@ function deepest() {
 
 /** Runs it at many depths; what was wrong. Each answers what is to be left, and says `ended` or what was thrown. */
 async function atDepths(rx, make) {
+  rx.close?.(); // what other tests have forgotten may go meanwhile
   const wrong = [], most = deepest(), errors = [];
   rx.config.onUnhandledError = (error) => errors.push(error);
   let thrown = 0, told = 0;

@@ -65,6 +65,8 @@ export class Leaf extends Subscriber {
     this.slot = this.top = this.lo = this.hi = -1;
     this.owed = 0;
     this.engine = null;
+    this.above = null;
+    this.loose = null;
     this.leaves = leaves;
     this._inner = inner;
     this.hears = hears; // where this leaf is the whole tree, else null
@@ -100,6 +102,7 @@ export class Leaf extends Subscriber {
     }
   }
 
+  isForgettable() { return true; }
   /** The engine has closed it. */
   shut() {
     this.closed = this.isStopped = true;

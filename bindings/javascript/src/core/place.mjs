@@ -44,6 +44,7 @@ function opens(at, kind, thing, flags, tag, share) {
     engine.begins();
     if (hears === null || !hears.closed) {
       if (engine.tracing && hears !== null && isAsked(hears)) traced(thing, hears.asked ?? 'subscription');
+      if (at._place !== ROOT) thing.above = at._above;
       status = engine.open(at._place, kind, flags, at._above, thing, tag, share);
     }
   } catch (error) {

@@ -4,7 +4,7 @@ import { Tag } from '../engine/thing.mjs';
 import { traced } from '../engine/tracing.mjs';
 import { reportUnhandledError, stopped, unheard } from './config.mjs';
 import { UnsubscriptionError } from './errors.mjs';
-import { Subscription, finalizeOne, isSubscription } from './subscription.mjs';
+import { Own, Subscription, finalizeOne, isSubscription } from './subscription.mjs';
 import { isFunction, noop } from './util.mjs';
 
 const SILENT = { closed: true, next: noop, error(error) { throw error; }, complete: noop };
@@ -50,6 +50,7 @@ class Finalizers extends Tag {
     super();
     this.of = of;
   }
+  isForgettable() { return this.of._finalizers === null || this.of._finalizers.every(isOwn); }
   release() {
     const { of } = this;
     of._tag = null;
@@ -58,6 +59,9 @@ class Finalizers extends Tag {
     if (errors !== null) thrown(errors);
   }
 }
+
+/** Whether it holds nothing itself: what a subscriber holds is held by the tree that it hears. */
+const isOwn = (it) => it instanceof Own || (it instanceof Subscriber && it.initialTeardown === undefined);
 
 /** A subscription that hears: what it is told goes to `destination`, and nothing behind the end. */
 export class Subscriber extends Subscription {
@@ -123,7 +127,12 @@ export class Subscriber extends Subscription {
 
   add(teardown) {
     super.add(teardown);
-    if (this._tag === null && this._thing !== null && this._finalizers !== null) this._hold();
+    if (this._tag !== null) realm.engine.changes(this._tag);
+    else if (this._thing !== null && this._finalizers !== null) this._hold();
+  }
+  remove(teardown) {
+    super.remove(teardown);
+    if (this._tag !== null) realm.engine.changes(this._tag);
   }
 
   // Its finalizers are one resource of its node, released with that.

@@ -16,6 +16,12 @@ export function finalizeOne(finalizer, errors) {
   return errors;
 }
 
+/** A teardown of an operator: where nobody can hear any more it need not be done. */
+export class Own {
+  constructor(act) { this.act = act; }
+  unsubscribe() { this.act(); }
+}
+
 /** A resource, or several: what is added to it is released with it, in order. */
 export class Subscription {
   constructor(initialTeardown) {

@@ -13,6 +13,7 @@ import {
 import { LAYOUT } from './glue.mjs';
 import { Table } from './table.mjs';
 import { Tag } from './thing.mjs';
+import { Things } from './things.mjs';
 
 const STOPPED = 'cellarcliff: the engine stopped within a call';
 const MOST = 100000; // items from within one command, each because of the one before: what goes on behind that never ends
@@ -23,7 +24,7 @@ const OTHER_AT = 4, CONNECTED_AT = 8, HUB_AT = 10, COPIES_AT = 12, CLOSED_AT = 1
 
 export class Crossing {
   #realm; #wasm; #glue; #base; #places; #c; #a; #words;
-  #things = new Table(); #values = new Table();
+  #things = new Things(this); #values = new Table();
   #depth = 0; #made = 0; // how many calls are under way, and how many commands were given
   #is_begun = false; // whether what the last command hands out can be told now
   #postponed = null;
@@ -143,10 +144,15 @@ export class Crossing {
     thing.engine = this;
     thing.owed = owed;
     thing.slot = a[0], thing.top = a[1], thing.lo = a[2], thing.hi = a[3];
-    if (tag !== null) this.#named(tag);
+    if (tag !== null) {
+      this.#named(tag);
+      tag.above = thing;
+    }
     if (share !== null) {
       share.hub = a[HUB_AT], share.hubHigh = a[HUB_AT + 1];
-      share.connection = a[CONNECTED_AT] !== 0 ? this.#named(share.make(this)) : null;
+      share.isNew = a[CONNECTED_AT] !== 0;
+      if (share.isNew) share.connection = this.#named(share.make(this));
+      thing.above = share.connection;
     }
     this.#does(undefined);
     return DONE;
@@ -170,6 +176,7 @@ export class Crossing {
     try { status = this.#make(HOLD, node, 0, word); } finally { if (status !== DONE) this.#things.free(word); }
     if (status !== DONE) return this.#refused(status);
     this.#named(tag);
+    tag.above = node;
     this.#does(undefined);
     return DONE;
   }
@@ -331,7 +338,18 @@ export class Crossing {
     return found;
   }
 
-  #drop(word, thing) { if (--thing.owed === 0) this.#things.free(word); }
+  #drop(word, thing) {
+    if (--thing.owed !== 0) return;
+    this.#things.free(word);
+    if (thing.loose !== null) this.#things.left(thing);
+  }
+
+  /** A tree that nobody can hear, and that holds nothing of the program's, is left. */
+  forgets(root) {
+    if (this.dead === null) try { this.#ends(DISPOSE, root); } catch (error) { this.#report(error); }
+  }
+  /** A tag holds something else than it did. */
+  changes(tag) { this.#things.anew(tag); }
 
   /** What cannot be done for want of stack is done once there is more: with the next command, or in a turn of its own. */
   #postpone(act) {
@@ -442,7 +460,9 @@ export class Crossing {
 /** What is done once, when its turn comes. */
 class Errand {
   owed = 1;
+  loose = null;
   constructor(act) { this.act = act; }
+  isForgettable() { return false; }
 }
 /** A key that names nothing. */
 export const NOWHERE = { slot: -1, top: -1, lo: -1, hi: -1 };

@@ -12,6 +12,7 @@ export class Table {
   }
 
   get(word) { return this.#items[word]; }
+  put(word, item) { this.#items[word] = item; }
 
   free(word) {
     this.#items[word] = null;

@@ -7,10 +7,14 @@ export class Thing {
     this.slot = this.top = this.lo = this.hi = -1; // a key that names nothing, until it is open
     this.owed = 0; // how many last effects its word is owed
     this.engine = null; // in which it is open
+    this.above = null; // the node above it; of a subscriber of a share its connection
+    this.members = null; // of a connection: its subscribers that nothing else need keep
+    this.loose = null; // what stands for it in the table, once that does not keep it
     this.leaves = null; // what is called once it has closed, behind its body
     this.hears = hears;
     this.body = body;
   }
+  isForgettable() { return true; }
   /** The engine has closed it. */
   shut() { if (this.body !== null) this.body.shut(this); }
 }
@@ -20,6 +24,11 @@ export class Tag {
   constructor(release) {
     this.owed = 1;
     this.slot = this.top = this.lo = this.hi = 0;
+    this.above = null; // the node that holds it
+    this.loose = null;
+    this.word = 0; // once it is old
     if (release !== undefined) this.release = release;
   }
+  /** Whether all of it is the package's own, and nothing of it is to be done where nobody can hear any more. */
+  isForgettable() { return false; }
 }

@@ -4,7 +4,7 @@ import { Observable } from '../core/observable.mjs';
 import { operate } from '../core/operator.mjs';
 import { ReplaySubject } from '../core/replay-subject.mjs';
 import { AsyncSubject, BehaviorSubject, Subject } from '../core/subject.mjs';
-import { Subscription } from '../core/subscription.mjs';
+import { Own, Subscription } from '../core/subscription.mjs';
 import { SafeSubscriber } from '../core/subscriber.mjs';
 import { isFunction } from '../core/util.mjs';
 import { defer } from '../sources/simple.mjs';
@@ -20,7 +20,7 @@ export function connectable(source, config = {}) {
     const mine = subject, it = connection = new SafeSubscriber({
       next: (value) => mine.next(value), error: (error) => mine.error(error), complete: () => mine.complete(),
     });
-    if (resetOnDisconnect) it.add(() => { if (subject === mine) subject = connector(); });
+    if (resetOnDisconnect) it.add(new Own(() => { if (subject === mine) subject = connector(); }));
     defer(() => source).subscribe(it);
     return it;
   };

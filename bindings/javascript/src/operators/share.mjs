@@ -5,6 +5,7 @@ import { TERMINAL } from '../core/leaf.mjs';
 import { Place, linked, openAt, openNode, openUsing } from '../core/place.mjs';
 import { operate, operator } from '../core/operator.mjs';
 import { SafeSubscriber } from '../core/subscriber.mjs';
+import { Own } from '../core/subscription.mjs';
 import { ReplaySubject } from '../core/replay-subject.mjs';
 import { Subject } from '../core/subject.mjs';
 import { innerFrom } from '../sources/from.mjs';
@@ -15,14 +16,21 @@ let words = 0;
 class Share {
   word = (words = words % 0xfffffffe + 1);
   hub = -1; hubHigh = -1;
-  connection = null;
+  connection = null; // the last one
+  isNew = false; // whether the last command made it
   status = DONE; // of the last command
   constructor(level) { this.level = level; }
   make(engine) {
     const made = new Thing(null, null);
     made.engine = engine;
+    made.members = new Set();
     return made;
   }
+}
+
+/** Counts who leaves. */
+class Leaves extends Tag {
+  isForgettable() { return true; }
 }
 
 /** How many shares stand one below another in an observable, as far as can be seen. */
@@ -42,15 +50,15 @@ function shared() {
       if (place === null || place._hears.closed) return;
       if (many === 0) {
         if (openNode(place, SHARED, null, null, share) !== null) {
-          const { connection } = share;
-          share.connection = null;
-          if (connection !== null) openAt(it, new Place(SOURCE, connection));
+          const { connection, isNew } = share;
+          share.isNew = false;
+          if (isNew) openAt(it, new Place(SOURCE, connection));
           return;
         }
         if (share.status !== NO_HUB && share.status !== HUB_ORDER) return;
         other = bySubject({})(it);
       }
-      const below = openUsing(place, new Tag(() => { many--; }));
+      const below = openUsing(place, new Leaves(() => { many--; }));
       if (below === null) return;
       many++;
       openAt(other, below);
@@ -92,9 +100,9 @@ class BySubject {
     this.many++;
     if (!this.isOver()) this.cancels();
     const mine = (this.subject ??= this.connector());
-    to.add(() => {
+    to.add(new Own(() => {
       if (--this.many === 0 && !this.isOver()) this.reset = resetBy(() => this.resetsAndLeaves(), this.on.nobody);
-    });
+    }));
     mine.subscribe(to);
     if (this.connection || this.many === 0) return;
     this.connection = this.connects(mine);

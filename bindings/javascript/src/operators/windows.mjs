@@ -3,7 +3,7 @@ import { Link } from '../core/link.mjs';
 import { Observable } from '../core/observable.mjs';
 import { operate } from '../core/operator.mjs';
 import { Subject } from '../core/subject.mjs';
-import { Subscription } from '../core/subscription.mjs';
+import { Own, Subscription } from '../core/subscription.mjs';
 import { isFunction, noop, popScheduler } from '../core/util.mjs';
 import { innerFrom } from '../sources/from.mjs';
 import { asyncScheduler } from '../schedulers/async.mjs';
@@ -28,7 +28,7 @@ export const window = (boundaries) => operate((source, to) => {
     now.complete();
     to.next((now = new Subject()));
   }, noop, fails));
-  return lets;
+  return new Own(lets);
 });
 
 export function windowCount(size, startWindowEvery = 0) {
@@ -87,7 +87,7 @@ export function windowTime(span, ...words) {
         if (most <= ++record.seen) closes(record);
       }
     }, () => ends((it) => it.complete()), (error) => ends((it) => it.error(error))));
-    return () => { records = []; };
+    return new Own(() => { records = []; });
   });
 }
 
@@ -196,10 +196,10 @@ class Grouping extends Link {
     const made = new Observable((subscriber) => {
       this.many++;
       const inner = group.subscribe(subscriber);
-      return () => {
+      return new Own(() => {
         inner.unsubscribe();
         if (--this.many === 0 && this.is_left) this.unsubscribe();
-      };
+      });
     });
     made.key = key;
     return made;

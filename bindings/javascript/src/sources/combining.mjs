@@ -1,6 +1,7 @@
 // Several observables at once. What stands behind an input that has failed is subscribed to, and left at once, as by RxJS; not so of `zip` and `race`.
 import { Link } from '../core/link.mjs';
 import { Observable } from '../core/observable.mjs';
+import { Own } from '../core/subscription.mjs';
 import { flatList, identity, inputsOf, objectOf, popFunction, popNumber, popScheduler, spreading } from '../core/util.mjs';
 import { mergeAll } from '../operators/flat.mjs';
 import { map } from '../operators/items.mjs';
@@ -84,7 +85,7 @@ export function zip(...words) {
   return new Observable((to) => {
     let buffers = inputs.map(() => []);
     const completed = inputs.map(() => false);
-    to.add(() => { buffers = null; });
+    to.add(new Own(() => { buffers = null; }));
     for (let i = 0; i < inputs.length && !done(to); i++) {
       innerFrom(inputs[i]).subscribe(new Link(to, (value) => {
         buffers[i].push(value);

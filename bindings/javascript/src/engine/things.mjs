@@ -1,0 +1,100 @@
+// What the words of an engine stand for. What a program has forgotten is forgotten here too: the table keeps what was taken in lately, and the rest only
+// as long as the program does. That keeps a leaf by its source, the nodes above by the leaf (`above`), who hears by the root, and the root by the
+// subscription. A resource of the program is kept until it is released, and with it what holds it and all above that.
+import { Table } from './table.mjs';
+
+const LATELY = 256; // a power of two
+const NUMBERS = 0x3fffffff;
+
+/** In the place of what was forgotten. */
+const NOBODY = {
+  hears: { hear() {}, heardEnd() {}, heardError() {}, heardGone() {} }, body: { project() {} }, leaves: null, shut() {}, release() {},
+};
+
+/** In the table for what that does not keep: it is kept again as soon as the engine speaks of it. */
+class Loose {
+  constructor(it, word, things) {
+    this.it = new WeakRef(it);
+    this.word = word;
+    this.things = things;
+    this.rest = it.owed;
+    this.slot = it.slot, this.top = it.top, this.lo = it.lo, this.hi = it.hi;
+  }
+  is() {
+    const it = this.it.deref();
+    if (it !== undefined) this.things.again(this.word, this, it);
+    return it ?? NOBODY;
+  }
+  get loose() { return this; }
+  get hears() { return this.is().hears; }
+  get body() { return this.is().body; }
+  get leaves() { return this.is().leaves; }
+  get owed() { return this.it.deref()?.owed ?? this.rest; }
+  set owed(many) {
+    const it = this.it.deref();
+    if (it === undefined) this.rest = many; else it.owed = many;
+  }
+  shut() { this.is().shut(); }
+  release() { this.is().release(); }
+}
+
+export class Things extends Table {
+  #engine; #forgotten; #taken = 0; #lately = new Int32Array(LATELY);
+  #when = [0]; // by word, when it was taken in
+
+  constructor(engine) {
+    super();
+    this.#engine = engine;
+    this.#forgotten = new FinalizationRegistry((it) => { if (this.get(it.word) === it) engine.forgets(it); });
+  }
+
+  take(item) {
+    const word = super.take(item);
+    this.#enters(word);
+    return word;
+  }
+  #enters(word) {
+    const now = this.#taken = (this.#taken + 1) & NUMBERS, at = now & (LATELY - 1), old = this.#lately[at];
+    this.#when[word] = now;
+    this.#lately[at] = word;
+    if (old !== 0 && this.#when[old] === ((now - LATELY) & NUMBERS)) this.#loosens(old);
+  }
+
+  // Whatever is under watch is kept, so that it can be told.
+  #loosens(word) {
+    const it = this.get(word);
+    if (it === null || it instanceof Loose) return;
+    it.word = word;
+    if (this.#engine.tracing || !it.isForgettable()) return;
+    if (it.loose === null) {
+      it.loose = new Loose(it, word, this);
+      if (it.hears) this.#forgotten.register(it, it.loose); // a root: without it nobody hears the tree
+    }
+    if (isOfShare(it)) it.above.members.add(it);
+    this.put(word, it.loose);
+  }
+  /** It is kept, as one that was taken in now. */
+  again(word, loose, it) {
+    if (this.get(word) !== loose) return;
+    this.put(word, it);
+    this.#enters(word);
+  }
+  /** What a tag holds is another: whether it may be forgotten is looked at anew. */
+  anew(tag) {
+    if (tag.word === 0) return;
+    const { word } = tag, there = this.get(word);
+    if (there !== tag && (there === null || there !== tag.loose)) return;
+    tag.word = 0;
+    this.put(word, tag);
+    this.#enters(word);
+  }
+  /** Behind the last effect that has its word. */
+  left(of) {
+    const it = of instanceof Loose ? of.it.deref() : of;
+    if (it !== undefined && isOfShare(it)) it.above.members.delete(it);
+  }
+
+  all() { return super.all().flatMap((it) => (it instanceof Loose ? it.it.deref() ?? [] : it)); }
+}
+/** A subscriber of a share: its connection keeps it. */
+const isOfShare = (it) => !!it.hears && it.above !== null;
