@@ -1,5 +1,7 @@
 // What comes next comes behind what was before: an inner observable, whatever operators it passes through, is released before the next one is projected,
 // subscribed to or counted.
+import { inAnyOrder } from './runner.mjs';
+
 const INNERS = {
   plain: () => (x) => x,
   finalize: (rx) => rx.finalize(() => {}),
@@ -42,11 +44,11 @@ function told(rx, wrap, make) {
   return list;
 }
 const IN_TURN = ['made 1', 'released 1', 'made 2', 'released 2', 'made 3', 'released 3'];
-const test = (of, is) => ({ of: async (rx) => {
+const test = (of, is, elsewhere) => ({ of: async (rx) => {
   const list = [];
   await of(rx, (it) => list.push(it));
   return list;
-}, is });
+}, is, elsewhere });
 
 export const tests = {
   'an inner observable that takeUntil ends is released before the next one is made, and before the whole ends': test((rx, say) => {
@@ -80,7 +82,7 @@ export const tests = {
     const source = new rx.Subject(), last = (it) => rx.finalize(() => say(it));
     source.pipe(last('a'), rx.tap({ complete() {} }), last('b'), rx.catchError(() => rx.EMPTY), last('c'), rx.withLatestFrom(rx.of(1)), last('d')).subscribe({ complete: () => say('end') });
     source.complete();
-  }, ['end', 'a', 'b', 'c', 'd']),
+  }, ['end', 'a', 'b', 'c', 'd'], ([end, ...finalizers]) => end === 'end' && inAnyOrder(['a', 'b', 'c', 'd'])(finalizers)),
   'who leaves as it hears the end has released all': test((rx, say) => {
     const source = new rx.Subject(), whole = new rx.Subscriber({ complete: () => {
       whole.unsubscribe();
@@ -131,7 +133,7 @@ export const tests = {
     for (const source of [rx.NEVER.pipe(rx.finalize(fails('a')), rx.finalize(fails('b'))), rx.using(() => ({ unsubscribe: fails('c') }), () => rx.NEVER)]) {
       try { source.subscribe().unsubscribe(); } catch (error) { say([error.name, ...error.errors.map((it) => it.message)]); }
     }
-  }, [['UnsubscriptionError', 'a', 'b'], ['UnsubscriptionError', 'c']]),
+  }, [['UnsubscriptionError', 'a', 'b'], ['UnsubscriptionError', 'c']], ([both, one]) => inAnyOrder(['UnsubscriptionError', 'a', 'b'])(both) && one[1] === 'c'),
   'a subject throws at once what its observer throws, where a program wants that': test((rx, say) => {
     const subject = new rx.Subject();
     rx.config.useDeprecatedSynchronousErrorHandling = true;
@@ -173,7 +175,7 @@ export const only_ours = {
     a.subscribe(() => { if (heard < 3) return; a.complete(); });
     a.next(2);
     say(a.observed);
-  }, ['RangeError true', false]),
+  }, ['RangeError true', false], ([error, observed]) => error.startsWith('RangeError') && !observed), // how many it counts hangs on what the engine calls its own item
   'a loop of 50,000 items, each from within the one before, ends by itself; so does one item with 200,000 from within': test((rx, say) => {
     const subject = new rx.Subject(), many = new rx.Subject();
     let last = 0, heard = 0;

@@ -1,14 +1,16 @@
 // Small ways in which RxJS 7.5.7 leaks, runs on or is silent: what it tells (`rxjs`), and what this package tells.
+import { inAnyOrder } from './runner.mjs';
+
 const quiet = (rx, list) => { rx.config.onUnhandledError = (error) => list.push(`unhandled ${error.message ?? error}`); };
 const turn = (ms = 5) => new Promise((resolve) => { setTimeout(resolve, ms); });
-const test = (of, is, rxjs = is) => ({ of: async (rx) => {
+const test = (of, is, rxjs = is, elsewhere) => ({ of: async (rx) => {
   const list = [];
   quiet(rx, list);
   try { await of(rx, (it) => list.push(it)); } catch (error) { list.push(`thrown ${error.message ?? error}`); }
   await turn();
   rx.config.onUnhandledError = null;
   return list;
-}, is, rxjs });
+}, is, rxjs, elsewhere });
 const resource = (say, name = 'r') => ({ unsubscribe: () => say(`${name} released`) });
 const made = (rx, say, name, source) => rx.using(() => (say(`${name} made`), resource(say, name)), () => source);
 
@@ -100,7 +102,8 @@ export const tests = {
     shared.pipe(rx.finalize(() => { throw new Error('x'); })).subscribe({ complete: () => say('first') });
     made(rx, say, 'r', shared).subscribe({ complete: () => say('second') });
     s.complete();
-  }, ['r made', 'first', 'second', 'r released', 'unhandled x'], ['r made', 'first', 'unhandled 1 errors occurred during unsubscription:\n1) Error: x']),
+  }, ['r made', 'first', 'second', 'r released', 'unhandled x'], ['r made', 'first', 'unhandled 1 errors occurred during unsubscription:\n1) Error: x'],
+  inAnyOrder(['r made', 'first', 'second', 'r released', 'unhandled x'])),
   'debounce: the selector emits into the source': test((rx, say) => {
     const s = new rx.Subject();
     const sub = s.pipe(rx.debounce((x) => { if (x === 1) s.next(2); return made(rx, say, `r${x}`, rx.NEVER); })).subscribe();
