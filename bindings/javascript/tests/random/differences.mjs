@@ -1,7 +1,7 @@
 // Why two runs of one program differ. A fault of RxJS has a name, with a predicate on what happened in both runs; it looks at how often
 // things happen, since what comes of a fault comes in some order. The manner of the package is a row: a predicate on the program alone.
 import { OPERATORS, SOURCES } from './mix.mjs';
-import { compared, inOrderButReleases, isHeard, isReleasedEarlier } from './running.mjs';
+import { compared, inOrderButReleases, isHeard, isReleaseOrMade, isReleasedEarlier } from './running.mjs';
 
 const parts = (line) => {
   const [step, who, ...rest] = line.split(' ');
@@ -76,12 +76,14 @@ function areMadeBehindNobody(more, lines) {
   const at = lines.indexOf(more[0]), last = lines.slice(0, Math.max(at, 0)).findLastIndex((it) => it.includes(' begins subscribe '));
   return more.length > 0 && more.every((it) => parts(it).who === 'made' || isHeard(parts(it).who)) && last >= 0 && stepOf(lines[last]) === stepOf(more[0]) && hearing(lines.slice(0, last)).size === 0;
 }
-/** Whether RxJS does the same where the notifier for a reset of a share tells in place of its error. */
-const isKeptByError = (lines, runs) => runs !== undefined && compared(runs(false, true)[0].lines) === compared(lines);
+/** Whether RxJS does the same where the notifier for a reset of a share tells in place of its error, and what is repeated leaves what was before. */
+const isSameMended = (lines, runs) => runs !== undefined && compared(runs(false, true)[0].lines) === compared(lines);
 
-// `runs` makes both runs again, where what callbacks tell is put off until the step has returned, or notifiers for a reset do not fail.
+// `runs` makes both runs again, where what callbacks tell is put off until the step has returned, or what RxJS does wrong is mended in the program.
 /** What RxJS 7.5.7 does and the package is to be without. */
 export const FAULTS = {
+  'RxJS goes on with what was before, beside what is repeated': ({ it: { whole } }, { lines: b }, runs) =>
+    hasWord(whole, (name) => name === 'repeatWhen' || name === 'retryWhen') && isSameMended(b, runs),
   'RxJS leaves a resource open': ({ lines: a, left: open }, { lines: b, left }) => {
     const more = beyond(wanted(b), wanted(a));
     return (areReleases(more) || more.length === 0) && open - left >= Math.max(more.length, 1) && ofOwnResources(beyond(wanted(a), wanted(b))) && compared(a, isHeard) === compared(b, isHeard);
@@ -89,7 +91,7 @@ export const FAULTS = {
   // what the package does first and RxJS does not is that it releases, where nobody hears, or releases and makes it anew, or makes it as one comes
   // before whom nobody heard
   'RxJS keeps a source for nobody': ({ lines: a }, { lines: b }, runs) => {
-    if (isKeptByError(b, runs)) return true;
+    if (isSameMended(b, runs)) return true;
     const step = firstUnlike(a, b), [until, others] = [upTo(wanted(a), step), upTo(wanted(b), step)], more = beyond(others, until);
     return ofOwnResources(beyond(until, others)) && ((areReleases(more) && hearing(upTo(b, step)).size === 0) || areAnew(more, until) || areMadeBehindNobody(more, b));
   },
@@ -122,6 +124,8 @@ const isOfSeveral = (name) => /[oiO]/.test((OPERATORS[name] ?? SOURCES[name] ?? 
 /** What the package does in its own manner, by the programs in which that can be seen; where nothing but an order may differ, that is looked at too. */
 export const ROWS = {
   'one end releases several observables in the order of the tree': ({ whole }, a, b) => hasWord(whole, isOfSeveral) && inOrderButReleases(a.lines) === inOrderButReleases(b.lines),
+  'a notifier for a reset is subscribed to as who had subscribed is released': ({ whole }, a, b) => hasWord(whole, (name) => name === 'share with words')
+    && inOrderButReleases(a.lines, isReleaseOrMade) === inOrderButReleases(b.lines, isReleaseOrMade),
   'a source that ends, or is left, as it is subscribed to is torn down behind the tree': ({ whole, within }, a, b) => compared(a.lines) === compared(b.lines)
     && (within.some(({ where }) => where === 'make') || hasWord(whole, (name) => name === 'at once')
       || (hasWord(whole, (name) => AT_ONCE.includes(name)) && (inOrderButReleases(a.lines) === inOrderButReleases(b.lines) || isReleasedEarlier(a.lines, b.lines)))),

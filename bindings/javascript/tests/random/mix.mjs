@@ -111,10 +111,10 @@ const AGAIN = {
   catchError: ['i', ({ rx }, i) => rx.catchError(i)],
   repeat: ['n', ({ rx }, n) => rx.repeat(n)],
   'repeat with a delay': ['no', ({ rx }, n, o) => rx.repeat({ count: n, delay: () => o })],
-  repeatWhen: ['no', ({ rx }, n, o) => rx.repeatWhen((ends) => rx.concatMap(() => o)(ends).pipe(rx.take(n)))],
+  repeatWhen: ['no', ({ rx, mends }, n, o) => oneAtATime(rx, mends, rx.repeatWhen((ends) => rx.concatMap(() => o)(ends).pipe(rx.take(n))))],
   retry: ['n', ({ rx }, n) => rx.retry(n)],
   'retry with a delay': ['nob', ({ rx }, n, o, b) => rx.retry({ count: n, delay: () => o, resetOnSuccess: b })],
-  retryWhen: ['no', ({ rx }, n, o) => rx.retryWhen((ends) => rx.concatMap(() => o)(ends).pipe(rx.take(n)))],
+  retryWhen: ['no', ({ rx, mends }, n, o) => oneAtATime(rx, mends, rx.retryWhen((ends) => rx.concatMap(() => o)(ends).pipe(rx.take(n))))],
   onErrorResumeNext: ['o', ({ ops }, o) => ops.onErrorResumeNext(o)],
 };
 
@@ -177,5 +177,14 @@ const SHARING = {
   publishLast: ['', ({ rx }) => rx.pipe(rx.publishLast(), rx.refCount())],
   publishReplay: ['n', ({ rx }, n) => rx.pipe(rx.publishReplay(n + 1), rx.refCount())],
 };
+
+/** With `mends` what is subscribed to again leaves what was before. */
+const oneAtATime = (rx, mends, again) => (mends ? (source) => rx.defer(() => {
+  let last = null;
+  return again(new rx.Observable((to) => {
+    last?.unsubscribe();
+    return (last = source.subscribe(to));
+  }));
+}) : again);
 
 export const OPERATORS = { ...ITEMS, ...ENDS, ...FLAT, ...AGAIN, ...OTHERS, ...TIMES, ...LISTS, ...SHARING };

@@ -15,7 +15,8 @@ function shown(it) {
 const TELLS = ['next', 'complete', 'error'];
 
 export class Run {
-  /** With `puts_off` what callbacks tell is told as soon as the step has returned; with `mends` a notifier for a reset tells in place of its error. */
+  /** With `puts_off` what callbacks tell is told as soon as the step has returned; with `mends` a notifier for a reset tells in place of its error,
+   *  and what is repeated leaves what was before. */
   constructor(rx, ops, it, puts_off = false, mends = false) {
     Object.assign(this, { rx, ops, it, puts_off, mends, put_off: [], lines: [], step: 0, resources: 0, functions: 0, open: new Map(), twice: 0, is_on: false, subscriptions: {}, connectables: [], frame: 0 });
     this.counted = Object.fromEntries(WHERE.map((where) => [where, 0]));
@@ -221,12 +222,13 @@ const isMark = (line) => MARKS.includes(line.split(' ')[1]) || line.startsWith('
 /** All that happens, in its order: what is compared. */
 export const inOrder = (lines) => lines.filter((it) => !isMark(it)).join(', ');
 const isRelease = (line) => /^\d+ (released|finalized|tapped \d+ (left|finalized))/.test(line);
+export const isReleaseOrMade = (line) => isRelease(line) || line.includes(' made ');
 /** The same, where releases that stand behind each other have no order. */
-export function inOrderButReleases(lines) {
+export function inOrderButReleases(lines, isOne = isRelease) {
   const told = [];
   let run = [];
   for (const it of [...lines.filter((one) => !isMark(one)), null]) {
-    if (it !== null && isRelease(it)) run.push(it);
+    if (it !== null && isOne(it)) run.push(it);
     else {
       told.push(...run.sort(), it);
       run = [];
