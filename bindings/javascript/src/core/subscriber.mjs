@@ -50,7 +50,7 @@ class Finalizers extends Tag {
     super();
     this.of = of;
   }
-  isForgettable() { return this.of._finalizers === null || this.of._finalizers.every(isOwn); }
+  isForgettable() { return this.of._finalizers === null || this.of._finalizers.every(holdsNothing); }
   release() {
     const { of } = this;
     of._tag = null;
@@ -61,7 +61,7 @@ class Finalizers extends Tag {
 }
 
 /** Whether it holds nothing itself: what a subscriber holds is held by the tree that it hears. */
-const isOwn = (it) => it instanceof Own || (it instanceof Subscriber && it.initialTeardown === undefined);
+const holdsNothing = (it) => it instanceof Own || (it instanceof Subscriber && it.initialTeardown === undefined);
 
 /** A subscription that hears: what it is told goes to `destination`, and nothing behind the end. */
 export class Subscriber extends Subscription {
