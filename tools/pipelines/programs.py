@@ -306,7 +306,8 @@ def as_python(program, package="cellarcliff.rx"):
     is_plain = program["manner"] == "plain"
     lines += [f"    w.begin({first}, is_calm={is_plain})", f"    w.run({', '.join(map(str, steps))})"]
     if is_plain:
-        lines.append(f"    w.expects({ways(program)})")
+        # inner observables of one bound have no order between them, where several threads tell them
+        lines.append(f"    w.expects({ways(program)}, {len(steps) == 1 or 'merge_2_just' not in forms(program)})")
     lines += ["", "", "if __name__ == '__main__':", f"    w = World({package!r})", "    program(w)", "    print(w.report())"]
     return "\n".join(lines) + "\n"
 

@@ -335,9 +335,9 @@ class World:
         if any(not it.released for it in self.resources):
             self.wrong("a resource is never released")
 
-    def expects(self, ways):
-        """Each observer, by its k, hears each item of each subject so many times: `ways` has that by subject. In one thread it hears those of
-        a subject in the order in which they were emitted; of several in that of each."""
+    def expects(self, ways, is_ordered):
+        """Each observer, by its k, hears each item of each subject so many times: `ways` has that by subject. Where they are ordered, it hears in
+        one thread those of a subject in the order in which they were emitted; of several in that of each."""
         if self.is_spoiled or self.notes > LONGEST:
             return
         for it, heard in zip(self.observers, self.heard_before_the_end):
@@ -352,7 +352,7 @@ class World:
                 self.wrong("an item is lost")
             if told - wanted:
                 self.wrong("an item is doubled, or told to another")
-            if self.is_ordered and ways[it.k] and max(ways[it.k].values()) == 1 and wanted == told:
+            if is_ordered and self.is_ordered and ways[it.k] and max(ways[it.k].values()) == 1 and wanted == told:
                 at = {note[1].rstrip("!"): n for n, note in enumerate(heard)}
                 last = {}
                 for by, i, value in self.emitted:

@@ -64,7 +64,7 @@ typedef struct {
   PyObject *thing;                                    /* not held: its word in the engine */
   int owed;                                           /* how many references to that the engine has for the root's part */
   Leaf *below;                                        /* not held: the first of those that are open below it */
-  char is_keyed, is_stopped, is_over;
+  char is_keyed, is_stopped, is_over, is_told; /* is_told: an item is told to it now */
 } Root;
 
 typedef struct Subject Subject;
@@ -85,6 +85,7 @@ struct Leaf {
 typedef struct {
   PyObject_HEAD
   PyObject *down, *down_next, *steps; /* steps: functions, of each a kind: 0 map, 1 filter */
+  PyObject *relay;                    /* the leaf of the relay that they stand at, or NULL */
   Leaf *leaf;                         /* not held: where items go on to, if that is a leaf */
   Py_ssize_t many;
   char *kinds;
@@ -344,9 +345,12 @@ static int dispose_and_go_on(Root *root) {
 static inline int root_tell(struct Mine *here, Root *root, PyObject *value) {
   if (root->is_stopped) return 0;
   PyObject *target = new_of(root->target);
+  char outer = root->is_told;
+  root->is_told = 1;
   int status = Py_TYPE(target) == leaf_type    ? emit(here, (Leaf *)target, value)
                : Py_TYPE(target) == chain_type ? chain_tell(here, (Chain *)target, value)
                                                : plain(CALL1(target, value));
+  root->is_told = outer;
   Py_DECREF(target);
   return status && PyErr_ExceptionMatches(PyExc_Exception) ? dispose_and_go_on(root) : status;
 }
@@ -527,7 +531,8 @@ static PyObject *through(Chain *chain, PyObject *value, int *failed) {
   *failed = 0;
   Py_INCREF(value);
   for (Py_ssize_t i = 0; i < chain->many; i++) {
-    if (chain->leaf ? chain->leaf->is_stopped : !chain->down_next && ((Root *)chain->down)->is_stopped) return Py_DECREF(value), NULL;
+    Leaf *leaf = chain->leaf ? chain->leaf : (Leaf *)chain->relay;
+    if (leaf ? leaf->is_stopped : !chain->down_next && ((Root *)chain->down)->is_stopped) return Py_DECREF(value), NULL;
     PyObject *answer = CALL1(ITEM(chain->steps, i), value);
     int passes = !answer ? -1 : !chain->kinds[i] || answer == Py_True ? 1 : answer == Py_False ? 0 : PyObject_IsTrue(answer);
     if (passes > 0 && !chain->kinds[i]) {
@@ -607,6 +612,7 @@ static int chain_init(Chain *self, PyObject *given, PyObject *Py_UNUSED(named)) 
   if (Py_TYPE(down) == leaf_type) self->leaf = (Leaf *)down;
   else if (!is_a(down, root_type) && !(self->down_next = PyObject_GetAttr(down, s_on_next))) return -1;
   if (self->down_next) self->leaf = leaf_of(self->down_next);
+  if (self->down_next && !self->leaf && !(self->relay = PyObject_GetAttrString(down, "node_is"))) PyErr_Clear();
   return 0;
 }
 static PyObject *chain_next(Chain *self, PyObject *value) { return none_or_null(chain_tell(here_is(), self, value)); }
@@ -618,11 +624,11 @@ static PyMethodDef chain_methods[] = {{"on_next", (PyCFunction)chain_next, METH_
                                       {"on_completed", (PyCFunction)chain_completed, METH_NOARGS, NULL}, {NULL, NULL, 0, NULL}};
 static PyMemberDef chain_members[] = {{"down", T_OBJECT, offsetof(Chain, down), READONLY, NULL}, {NULL, 0, 0, 0, NULL}};
 static int chain_traverse(Chain *self, visitproc visit, void *arg) {
-  Py_VISIT(Py_TYPE(self)); Py_VISIT(self->down); Py_VISIT(self->down_next); Py_VISIT(self->steps);
+  Py_VISIT(Py_TYPE(self)); Py_VISIT(self->down); Py_VISIT(self->down_next); Py_VISIT(self->steps); Py_VISIT(self->relay);
   return 0;
 }
 static int chain_clear(Chain *self) {
-  Py_CLEAR(self->down); Py_CLEAR(self->down_next); Py_CLEAR(self->steps);
+  Py_CLEAR(self->down); Py_CLEAR(self->down_next); Py_CLEAR(self->steps); Py_CLEAR(self->relay);
   self->leaf = NULL, self->many = 0;
   return 0;
 }
@@ -711,7 +717,7 @@ static PyMethodDef root_methods[] = {
     {"on_completed", (PyCFunction)root_completed, METH_NOARGS, NULL}, {"dispose", (PyCFunction)root_disposed, METH_NOARGS, NULL},
     {"unsubscribe", (PyCFunction)root_unsubscribe, METH_NOARGS, NULL}, {NULL, NULL, 0, NULL}};
 static PyGetSetDef root_getset[] = {{"head", (getter)root_head, (setter)root_set_head, NULL, NULL}, {NULL, NULL, NULL, NULL, NULL}};
-static PyMemberDef root_members[] = {{"is_stopped", T_BOOL, offsetof(Root, is_stopped), 0, NULL}, {"is_over", T_BOOL, offsetof(Root, is_over), 0, NULL},
+static PyMemberDef root_members[] = {{"is_stopped", T_BOOL, offsetof(Root, is_stopped), 0, NULL}, {"is_over", T_BOOL, offsetof(Root, is_over), 0, NULL}, {"is_told", T_BOOL, offsetof(Root, is_told), READONLY, NULL},
                                      {"number", T_ULONGLONG, offsetof(Root, node.number), READONLY, NULL},
                                      {"__weaklistoffset__", T_PYSSIZET, offsetof(Root, references), READONLY, NULL}, {NULL, 0, 0, 0, NULL}};
 static int root_traverse(Root *self, visitproc visit, void *arg) {

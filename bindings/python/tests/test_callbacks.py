@@ -188,6 +188,27 @@ class Releases(Case):
                     self.assertEqual([released for _, released in told], [False], (name, place, what))
                     self.assertTrue(told[0][0].is_released)
 
+    def test_items_at_an_end_that_comes_of_an_item(self):
+        behind = {"a list": lambda it: it.pipe(ops.buffer_with_count(2)), "the last": lambda it: it.pipe(ops.element_at(0), ops.last()),
+                  "a list of a window": lambda it: it.pipe(ops.window_with_count(2), ops.flat_map(lambda part: part.pipe(ops.to_list()))),
+                  "of a merge": lambda it: rx.merge(it, rx.never()).pipe(ops.take(1))}
+        for what, operate in behind.items():
+            log = []
+            held = rx.using(lambda: Disposable(lambda: log.append("released")), lambda _: rx.of(1, 2)).pipe(ops.take(1))
+            operate(held).subscribe(lambda it: log.append("item"))
+            self.assertEqual(log, ["item", "released"], what)
+
+    def test_a_part_of_the_items_is_told_before_what_it_holds_is_released(self):
+        for operate in ops.group_by(lambda _: 0), ops.window_with_count(2), ops.window(rx.never()):
+            for part in [ops.take(2), ops.to_list()], [ops.take(2)], [ops.count()]:
+                log, source = [], Subject()
+                source.pipe(operate, ops.flat_map(lambda it: it.pipe(*part, ops.finally_action(lambda: log.append("released"))))).subscribe(
+                    lambda it: log.append("item"))
+                source.on_next(1)
+                source.on_next(2)
+                source.on_completed()
+                self.assertEqual(log.index("released"), 2 if len(part) == 1 and log[1] == "item" else 1, (operate, log))
+
     def test_a_notifier_that_completes_is_released(self):
         log = []
         source = Subject()

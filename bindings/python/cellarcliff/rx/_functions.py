@@ -140,15 +140,15 @@ class _Relay:
     """Functions in the midst of a tree: a FlatMap whose items go through them, and out of one inner source. So the engine
     closes all of it in one."""
 
-    __slots__ = ("_engine", "_node", "_inner", "_leaf", "_stop", "_up", "_is_owed", "_node_is")
+    __slots__ = ("_engine", "_node", "_inner", "_leaf", "_stop", "_up", "_is_owed", "node_is")
 
     def __init__(self, core: Observable[Any], at: At, makes: Makes, is_ending: bool):
         engine = self._engine = at.engine
         self._leaf: Any = None
         self._stop: Any = None  # the notifier that ends the source
         self._is_owed = False
-        self._node_is = Leaf(engine.core)
-        self._node = engine.open(at, FLAT, self._node_is, self._project)
+        self.node_is = Leaf(engine.core)
+        self._node = engine.open(at, FLAT, self.node_is, self._project)
         self._inner = at.below(INNER, self._node)
         within = at.below(SOURCE, self._node)
         below = engine.open(within, UNTIL if is_ending else PASS, self._source_closed)
@@ -160,7 +160,7 @@ class _Relay:
         open_below(core, within.below(SOURCE, below))
 
     def _project(self, value: Any) -> None:
-        if self._node_is.is_stopped:
+        if self.node_is.is_stopped:
             return
         self._is_owed = True
         try:
@@ -177,7 +177,7 @@ class _Relay:
 
     def _source_closed(self) -> None:
         """The source is closed. If it failed, or something further out closed it, so is all else; what was projected comes first."""
-        if not self._node_is.is_stopped:
+        if not self.node_is.is_stopped:
             self._engine.put(self._node, self._over, True)
 
     def _over(self) -> None:

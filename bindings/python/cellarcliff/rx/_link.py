@@ -77,7 +77,7 @@ class Link:
     def _heard_end(self, root: Any, call: Call, *error: Any) -> None:
         """A source has ended: items that come of it are told before what the source held is released."""
         self._roots.pop(root, None)
-        if not root.is_over:  # it failed as it was subscribed to
+        if not (root.is_over or root.is_told):  # it failed as it was subscribed to
             self.later(lambda: call(*error))
         elif not self.is_over:
             self._is_ending = True
@@ -138,11 +138,6 @@ class Link:
         def action(*_: Any) -> None:
             C.call(self.later, call)
         return scheduler.schedule(action) if due is None else scheduler.schedule_relative(due, action)
-
-    def behind(self, call: Call) -> None:
-        """Calls this behind what was told."""
-        if not self.leaf.is_stopped:
-            self.engine.put(self.leaf, call)
 
 
 def _dispose(timer: Any) -> None:

@@ -404,17 +404,20 @@ class Root:
         self.head: Any = None
         self.node: Any = None
         self.below = 0
-        self.is_stopped = self.is_over = False
+        self.is_stopped = self.is_over = self.is_told = False
 
     number = Key.number
 
     def told_next(self, value: Any) -> None:
         if not self.is_stopped:
+            outer, self.is_told = self.is_told, True
             try:
                 (self._on_next if self.head is None else self.head.on_next)(value)
             except Exception:
                 self.dispose()
                 raise
+            finally:
+                self.is_told = outer
 
     def told_end(self, error: Any) -> None:
         self.is_over = True
@@ -503,7 +506,7 @@ class Chain:
     def __init__(self, down: Any, kinds: bytes, steps: Tuple[Any, ...]):
         self.down, self._steps = down, tuple(zip(kinds, steps))
         at = down if isinstance(down, (Leaf, Root)) else getattr(down.on_next, "__self__", None)
-        self._at = at if isinstance(at, (Leaf, Root)) else None
+        self._at = at if isinstance(at, (Leaf, Root)) else getattr(down, "node_is", None)
 
     def through(self, value: Any) -> Any:
         """What comes out, in a tuple; None where nothing does. Behind one that ends what they stand at no function is called."""

@@ -21,11 +21,25 @@ from .times import clock
 class Parted(Link):
     """A link whose subscriptions stay for as long as a part of it is subscribed to."""
 
-    __slots__ = ("_many", "_is_left")
+    __slots__ = ("_many", "_is_left", "_behind")
 
     def __init__(self, at: At, makes: Any):
-        self._many, self._is_left = 0, False
+        self._many, self._is_left, self._behind = 0, False, 0
         super().__init__(at, makes)
+
+    def tell(self, subject: Any, call: Callable[[], Any]) -> None:
+        """Tells a part something, by this call: behind the part itself, where that may not be told yet."""
+        if self.is_stopped or not self._behind and getattr(subject, "_ups", None):
+            call()
+            return
+
+        def told() -> None:
+            try:
+                call()
+            finally:
+                self._behind -= 1
+        self._behind += 1
+        self.engine.put(self.leaf, told)
 
     def _closed(self) -> None:
         self._is_left = True
@@ -102,20 +116,13 @@ class Window:
         link.on_next(GroupedObservable(None, self.subject, link))
 
     def on_next(self, value: Any) -> None:
-        self._tell(lambda: self.subject.on_next(value))
+        self.link.tell(self.subject, lambda: self.subject.on_next(value))
 
     def on_error(self, error: Exception) -> None:
-        self._tell(lambda: self.subject.on_error(error))
+        self.link.tell(self.subject, lambda: self.subject.on_error(error))
 
     def on_completed(self) -> None:
-        self._tell(self.subject.on_completed)
-
-    def _tell(self, call: Callable[[], Any]) -> None:
-        """Behind the window itself, where that is not told yet."""
-        if self.link.is_stopped:
-            call()
-        else:
-            self.link.behind(call)
+        self.link.tell(self.subject, self.subject.on_completed)
 
 
 class Buffer:
@@ -418,15 +425,9 @@ def group_by_until(key_mapper: Callable[[Any], Any], element_mapper: Optional[Ca
         def run(link: Any) -> None:
             groups: Dict[Any, Any] = {}
 
-            def tell(call: Callable[[], Any]) -> None:
-                if link.is_stopped:
-                    call()
-                else:
-                    link.behind(call)
-
             def fail(error: Exception) -> None:
                 for it in tuple(groups.values()):
-                    tell(partial(it.on_error, error))
+                    link.tell(it, partial(it.on_error, error))
                 groups.clear()
                 link.on_error(error)
 
@@ -446,7 +447,7 @@ def group_by_until(key_mapper: Callable[[Any], Any], element_mapper: Optional[Ca
                         link.drop(it)
                     if groups.get(key) is subject:
                         del groups[key]
-                        tell(subject.on_completed)
+                        link.tell(subject, subject.on_completed)
                 held.append(link.subscribe(duration, due, fail, due))
 
             def on_next(value: Any) -> None:
@@ -458,11 +459,11 @@ def group_by_until(key_mapper: Callable[[Any], Any], element_mapper: Optional[Ca
                     fail(error)
                     return
                 if subject is not None:
-                    tell(lambda: subject.on_next(element))
+                    link.tell(subject, lambda: subject.on_next(element))
 
             def on_completed() -> None:
                 for it in tuple(groups.values()):
-                    tell(it.on_completed)
+                    link.tell(it, it.on_completed)
                 groups.clear()
                 link.on_completed()
             link.subscribe(source, on_next, fail, on_completed)
