@@ -6,6 +6,8 @@ import io.reactivex.rxjava3.core.Observer;
 import java.lang.ref.Reference;
 import java.lang.ref.ReferenceQueue;
 import java.nio.ByteBuffer;
+import java.util.ArrayList;
+import java.util.List;
 
 /**
  * An engine of the library, and the objects for which its words stand. A command is made under the lock, and what it came to is read there;
@@ -16,13 +18,13 @@ import java.nio.ByteBuffer;
  * nothing fails.
  */
 final class Engine {
-    private static volatile Engine current = new Engine();
+    private static volatile Engine current = new Engine(new Spares());
 
     /** The engine of what is subscribed to now. */
     static Engine current() { return current; }
 
     /** For tests: what comes from now on has an engine of its own. */
-    static Engine renew() { return current = new Engine(); }
+    static Engine renew() { return current = new Engine(new Spares()); }
 
     private final long desk = Native.open();
     private final ByteBuffer memory;
@@ -35,16 +37,37 @@ final class Engine {
     private int active;
     private boolean isLeft;
     private Tree pinned;
-    private Engine spare;
+    private final Spares spares;
+    private static final int MOST_GUARDS = 1024;
+    private Guard guards;
+    private int guardCount;
+    /** Those that have room for what waits, of which the engine was not told yet. */
+    private Bounded toGoOn;
 
-    private Engine() {
+    private Engine(Spares spares) {
+        this.spares = spares;
         if (desk == 0) { throw new OutOfMemoryError("cellarcliff: no memory for an engine"); }
         memory = Native.memory(desk);
         Errors.prepare();
+        Guard.prepare();
     }
 
-    /** Another engine, for shares that find no hub in this one. */
-    private Engine spare() { return spare == null ? spare = new Engine() : spare; }
+    /** Further engines, for shares that find no hub in one: each share tries all that there are, from the one on that had room last. */
+    private static final class Spares {
+        private final List<Engine> all = new ArrayList<>();
+        private int latest;
+
+        synchronized Engine next(Share share) {
+            if (share.tried == all.size()) {
+                all.add(new Engine(this));
+                latest = all.size() - 1;
+            } else if (share.tried > 0) {
+                latest = (latest + 1) % all.size();
+            }
+            share.tried++;
+            return all.get(latest);
+        }
+    }
 
     // a step and what it came to: all under the lock -------------------------------------------------------------------------
 
@@ -60,8 +83,24 @@ final class Engine {
         }
         if (stack.depth == 1) { active++; }
         stack.status = (int) told & 255;
-        if ((told & MORE) != 0) { readClosings(stack, told, (int) head & 255, value); }
-        hand(stack, told, value);
+        int copies = (told & (MORE | OWN)) == 0 ? 0 : (int) memory.getLong(COPIES);
+        if ((told & MORE) != 0) { readClosings(stack, (int) head & 255, value); }
+        if (copies > 0 && ((told & OWN) == 0 || toGoOn != null)) { values.put(value, copies); }
+        hand(stack, toGoOn == null ? told : goOn(stack, told), value);
+    }
+
+    /** Has those that are to go on go on behind what stands in their lanes. What was handed out and not begun comes again. */
+    private long goOn(Stack stack, long told) {
+        for (Bounded it; (it = toGoOn) != null;) {
+            long again = Native.step(desk, stack.by, stack.depth, stack.begun, PUT | (long) OF_PROJECTIONS << 24, 0, it.slot, it.number, it.word, 0);
+            if (again == NO_STACK) { break; }
+            told = again;
+            if (((int) again & 255) == NO_MEMORY) { break; }
+            toGoOn = it.toGoOnNext;
+            it.toGoOnNext = null;
+            it.isToGoOn = false;
+        }
+        return told;
     }
 
     private void next(Stack stack) {
@@ -74,9 +113,8 @@ final class Engine {
         while (pinned != null) { unpin(pinned); }
     }
 
-    private void readClosings(Stack stack, long told, int what, Object value) {
-        int copies = (int) memory.getLong(COPIES), closed = (int) memory.getLong(CLOSED);
-        if (copies > 0 && (told & OWN) == 0) { values.put(value, copies); }
+    private void readClosings(Stack stack, int what, Object value) {
+        int closed = (int) memory.getLong(CLOSED);
         Thing last = null;
         for (int i = 0, from = 0, at = CLOSINGS, many = ROOM; i < closed; i++) {
             if (i - from == many) {
@@ -104,12 +142,13 @@ final class Engine {
         stack.from = memory.getLong(BY);
         stack.kind = (int) (told >>> KIND) & 255;
         long user = memory.getLong(USER);
-        stack.tree = trees.get((int) (user >>> 32)).get();
-        stack.value = (told & CARRIES) == 0 ? null : (told & OWN) != 0 ? value : values.take((int) memory.getLong(VALUE));
+        stack.tree = trees.get((int) (user >>> 32)).tree();
+        stack.value = (told & CARRIES) == 0 || stack.kind == E_PUT ? null : (told & OWN) != 0 ? value : values.take((int) memory.getLong(VALUE));
         switch (stack.kind) {
             case E_NEXT:
                 break;
             case E_PROJECT:
+            case E_PUT:
                 stack.thing = stack.tree == null ? null : stack.tree.things.get((int) user);
                 break;
             case E_COMPLETED:
@@ -122,8 +161,11 @@ final class Engine {
                 stack.thing = told(user);
                 if (stack.thing != null) { hold(stack.tree, (Tag) stack.thing, -1); }
                 break;
-            default:
+            case E_MERGED:
                 stack.thing = told(user);
+                if (stack.thing != null) { ((Merging) stack.thing).over(); }
+                break;
+            default:
         }
     }
 
@@ -136,7 +178,7 @@ final class Engine {
     /** The thing of a word that is told for the last time; null if its tree was collected. */
     private Thing told(long word) {
         Tree.Ref ref = trees.get((int) (word >>> 32));
-        Tree tree = ref.get();
+        Tree tree = ref.tree();
         Thing thing = tree == null ? null : tree.things.take((int) word);
         settled(ref);
         return thing;
@@ -146,8 +188,10 @@ final class Engine {
         if (--ref.owed > 0) { return; }
         trees.take(ref.index);
         ref.index = -1;
-        Tree tree = ref.get();
-        if (tree != null && tree.isPinned) { unpin(tree); }
+        Tree tree = ref.tree();
+        if (tree == null) { return; }
+        if (tree.isPinned) { unpin(tree); }
+        if (tree.guard != null) { unguard(tree); }
     }
 
     private static final int NO_THING = -1;
@@ -167,8 +211,52 @@ final class Engine {
 
     private void takeBack(long word) {
         Tree.Ref ref = trees.get((int) (word >>> 32));
-        if ((int) word != NO_THING) { ref.get().things.take((int) word); }
+        if ((int) word != NO_THING) { ref.tree().things.take((int) word); }
         settled(ref);
+    }
+
+    /** Gives a tree a guard; it has one beforehand. The lock is held. */
+    private void guard(Tree tree) {
+        if (tree.guard != null) { return; }
+        Guard guard = guards == null ? new Guard() : guards;
+        if (guards != null) { guardCount--; }
+        guards = guard.next;
+        guard.next = null;
+        guard.tree = tree;
+        tree.guard = guard;
+        tree.ref.isGuarded = true;
+    }
+
+    private void unguard(Tree tree) {
+        Guard guard = tree.guard;
+        tree.guard = null;
+        tree.ref.isGuarded = false;
+        guard.tree = null;
+        if (guardCount == MOST_GUARDS) { return; }
+        guardCount++;
+        guard.next = guards;
+        guards = guard;
+    }
+
+    /** Nobody can reach a tree, says its guard: whether something of it is to be told yet. */
+    synchronized boolean isAbandoned(Tree tree) {
+        tree.guard = null;  // a guard is finalized once
+        find(tree);
+        return tree.ref.owed > 0 && tree.ref.closedBy >= 0;
+    }
+
+    /** The tree, and those that its closing may close: their references may have been cleared with its own. */
+    private static void find(Tree tree) {
+        if (tree.ref.owed == 0 || !tree.ref.find(tree)) { return; }
+        for (int i = 0; i < tree.things.top(); i++) {
+            Thing thing = tree.things.get(i);
+            if (thing instanceof Share.Subscriber && ((Share.Subscriber) thing).share.connection != null) { find(((Share.Subscriber) thing).share.connection); }
+        }
+    }
+
+    /** Disposes of a tree that nobody can reach. */
+    void disposeOf(Tree tree) {
+        if (tree instanceof Root) { ((Root) tree).dispose(); } else { disconnect((Connection) tree); }
     }
 
     /** Holds a tree until no call is under way, or until all of it is told: what another call has to tell it may be behind its closing. */
@@ -267,6 +355,9 @@ final class Engine {
             case E_PROJECT:
                 ((Merging) thing).project(value);
                 break;
+            case E_PUT:
+                ((Bounded) thing).goOn();
+                break;
             case E_COMPLETED:
             case E_FAILED:
                 ((Root) tree).end(stack, (Throwable) value);
@@ -332,8 +423,8 @@ final class Engine {
     /** Answers an item that is projected by an error: whether that was still to be answered. */
     boolean fail(Merging merging, Throwable error) { return make(FAIL, merging, merging.tree, error); }
 
-    /** Answers an item that is projected by nothing. */
-    void decline(Merging merging) { make(DECLINE, merging, merging.tree, null); }
+    /** Answers an item that is projected by nothing: whether that was still to be answered. */
+    boolean decline(Merging merging) { return make(DECLINE, merging, merging.tree, null); }
 
     /** Ends a node below which nothing could be opened, if there is nothing. */
     void abort(Node node, Tree tree, Throwable error) { command(ABORT, node, tree, error); }
@@ -385,12 +476,15 @@ final class Engine {
         int status;
         synchronized (this) {
             makeRoom(tree, 2);
-            if (tag != null && tree.releases == null) { tree.releases = new Tree.Releases(); }
+            if (tag != null) {
+                if (tree.releases == null) { tree.releases = new Tree.Releases(); }
+                guard(tree);
+            }
             long user = at.isRoot() || hasWord ? word(tree, hasWord ? node : null) : 0, value = tag == null ? 0 : word(tree, tag);
             if (at.isRoot() && hasWord) { tree.ref.owed++; }
             boolean isDone = false;
             try {
-                step(stack, head | at.place << 8 | (hasWord && (head & 0xFF_0000) == LEAF << 16 ? (long) WISHES << 24 : 0), 0, at.slot(), at.number(), user, value, null);
+                step(stack, head | at.place << 8, 0, at.slot(), at.number(), user, value, null);
                 isDone = stack.status == DONE;
             } finally {
                 if (!isDone) {
@@ -402,6 +496,7 @@ final class Engine {
             status = stack.status;
             if (isDone) {
                 opened(stack, at, node);
+                if (hasWord) { node.opened(user); }
                 if (tag != null) { hold(tree, tag, 1); }
             }
         }
@@ -420,7 +515,7 @@ final class Engine {
             root.ref.closedBy = DISPOSE;
             root.ref.slot = node.slot;
             root.ref.number = node.number;
-        } else if (at.over != null) {
+        } else if (at.over != null && at.over.letsOthersIn()) {
             Native.pass(desk, stack.by, stack.depth, stack.begun, false);
         }
     }
@@ -429,6 +524,25 @@ final class Engine {
     private void leave(Place at) {
         if (at.isRoot() && ((Root) at.tree).isDisposed()) { dispose((Root) at.tree); }
     }
+
+    // so many inner sources at a time ---------------------------------------------------------------------------------------------
+
+    /** An inner source was closed. The lock is held. */
+    void left(Bounded merging) {
+        if (!merging.leave() || merging.isToGoOn) { return; }
+        merging.isToGoOn = true;
+        merging.toGoOnNext = toGoOn;
+        toGoOn = merging;
+    }
+
+    synchronized void leave(Bounded merging) { merging.leave(); }
+
+    synchronized void enqueue(Bounded merging, Object it) { merging.enqueue(it); }
+
+    synchronized Object enter(Bounded merging) { return merging.enter(); }
+
+    /** It has ended, so nothing that waits is wanted any more. */
+    synchronized void over(Bounded merging) { merging.over(); }
 
     // shares ----------------------------------------------------------------------------------------------------------------------
 
@@ -445,6 +559,7 @@ final class Engine {
             if (share.engine != this) { return NO_HUB; }
             if (share.hasEnded) { return ENDED; }
             makeRoom(tree, 1);
+            guard(tree);
             long user = word(tree, node), flags = WISHES, slot = at.slot(), number = at.number();
             Share.Subscriber beside = at.isRoot() ? share.beside() : null;
             if (at.isRoot()) { tree.ref.owed++; }
@@ -475,7 +590,7 @@ final class Engine {
                 node.join();
                 opened(stack, at, node);
             } else if (status == NO_HUB) {
-                share.engine = spare();
+                share.engine = spares.next(share);
             }
         }
         serve(stack, tree, null);
@@ -517,7 +632,7 @@ final class Engine {
                 share.hasEnded = false;
                 share.error = null;
             } else if (status == NO_HUB) {
-                share.engine = spare();
+                share.engine = spares.next(share);
             }
         }
         serve(stack, made, null);
@@ -569,7 +684,7 @@ final class Engine {
         for (Tree.Ref ref; (ref = (Tree.Ref) collected.poll()) != null;) {
             Stack stack = stacks.get();
             synchronized (this) {
-                if (ref.owed == 0 || ref.closedBy < 0) { continue; }
+                if (ref.owed == 0 || ref.closedBy < 0 || ref.isGuarded) { continue; }
                 if (ref.closedBy == DISPOSE) {
                     step(stack, DISPOSE, 0, ref.slot, ref.number, 0, 0, null);
                 } else {

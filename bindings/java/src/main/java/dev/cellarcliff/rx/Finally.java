@@ -1,14 +1,13 @@
 package dev.cellarcliff.rx;
 
-import io.reactivex.rxjava3.core.ObservableSource;
 import io.reactivex.rxjava3.functions.Action;
 
 /** An action behind the end, or behind the disposal: a resource that is there already. */
 final class Finally extends Operator.Plain {
-    private final ObservableSource<?> source;
+    private final Object source;
     private final Action action;
 
-    Finally(ObservableSource<?> source, Action action) {
+    Finally(Object source, Action action) {
         this.source = source;
         this.action = action;
     }

@@ -1,6 +1,7 @@
 package dev.cellarcliff.rx;
 
 import io.reactivex.rxjava3.core.Completable;
+import io.reactivex.rxjava3.core.Flowable;
 import io.reactivex.rxjava3.core.Maybe;
 import io.reactivex.rxjava3.core.Observable;
 import io.reactivex.rxjava3.core.Single;
@@ -14,6 +15,7 @@ import java.util.List;
 public final class Hooks {
     private static Hook<Observable> observable = new Hook<>(null);
     private static Hook<ConnectableObservable> connectable = new Hook<>(null);
+    private static Hook<Flowable> flowable = new Hook<>(null);
     private static Hook<Single> single = new Hook<>(null);
     private static Hook<Maybe> maybe = new Hook<>(null);
     private static Hook<Completable> completable = new Hook<>(null);
@@ -27,6 +29,7 @@ public final class Hooks {
         Engine.current();
         RxJavaPlugins.setOnObservableAssembly(observable = new Hook<>(RxJavaPlugins.getOnObservableAssembly()));
         RxJavaPlugins.setOnConnectableObservableAssembly(connectable = new Hook<>(RxJavaPlugins.getOnConnectableObservableAssembly()));
+        RxJavaPlugins.setOnFlowableAssembly(flowable = new Hook<>(RxJavaPlugins.getOnFlowableAssembly()));
         RxJavaPlugins.setOnSingleAssembly(single = new Hook<>(RxJavaPlugins.getOnSingleAssembly()));
         RxJavaPlugins.setOnMaybeAssembly(maybe = new Hook<>(RxJavaPlugins.getOnMaybeAssembly()));
         RxJavaPlugins.setOnCompletableAssembly(completable = new Hook<>(RxJavaPlugins.getOnCompletableAssembly()));
@@ -34,9 +37,10 @@ public final class Hooks {
 
     /** What is assembled from now on has RxJava's operators, or those of the hooks that were there before. */
     public static synchronized void uninstall() {
-        observable.isOn = connectable.isOn = single.isOn = maybe.isOn = completable.isOn = false;
+        observable.isOn = connectable.isOn = flowable.isOn = single.isOn = maybe.isOn = completable.isOn = false;
         if (RxJavaPlugins.getOnObservableAssembly() == observable) { RxJavaPlugins.setOnObservableAssembly(observable.before); }
         if (RxJavaPlugins.getOnConnectableObservableAssembly() == connectable) { RxJavaPlugins.setOnConnectableObservableAssembly(connectable.before); }
+        if (RxJavaPlugins.getOnFlowableAssembly() == flowable) { RxJavaPlugins.setOnFlowableAssembly(flowable.before); }
         if (RxJavaPlugins.getOnSingleAssembly() == single) { RxJavaPlugins.setOnSingleAssembly(single.before); }
         if (RxJavaPlugins.getOnMaybeAssembly() == maybe) { RxJavaPlugins.setOnMaybeAssembly(maybe.before); }
         if (RxJavaPlugins.getOnCompletableAssembly() == completable) { RxJavaPlugins.setOnCompletableAssembly(completable.before); }

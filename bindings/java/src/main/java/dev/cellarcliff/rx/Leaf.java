@@ -1,13 +1,15 @@
 package dev.cellarcliff.rx;
 
+import io.reactivex.rxjava3.core.FlowableSubscriber;
 import io.reactivex.rxjava3.core.Observer;
 import io.reactivex.rxjava3.disposables.Disposable;
 import io.reactivex.rxjava3.exceptions.ProtocolViolationException;
 import java.lang.invoke.MethodHandles;
 import java.lang.invoke.VarHandle;
+import org.reactivestreams.Subscription;
 
 /** A node that tells the engine what a source of RxJava's tells. It disposes of the source once it is closed, unless the source has ended. */
-final class Leaf extends Node implements Observer<Object> {
+final class Leaf extends Node implements Observer<Object>, FlowableSubscriber<Object> {
     private static final VarHandle UPSTREAM;
 
     static {
@@ -24,11 +26,14 @@ final class Leaf extends Node implements Observer<Object> {
     private volatile Tree tree;
     private volatile boolean hasEnded;
     private volatile Disposable upstream;
+    /** Whoever asks it for items, a few at a time. */
+    private final Bounded asker;
 
     Leaf(Place at) {
         this.engine = at.tree.engine;
         this.tree = at.tree;
         this.chain = at.chain;
+        this.asker = at.asker();
     }
 
     boolean isOpen() { return tree != null; }
@@ -44,6 +49,12 @@ final class Leaf extends Node implements Observer<Object> {
         if (UPSTREAM.compareAndSet(this, null, given)) { return; }
         given.dispose();
         if (upstream != Disposable.disposed()) { Errors.hear(new ProtocolViolationException("Disposable already set!")); }
+    }
+
+    /** A Flowable is asked for everything, or for what the operator above has room for. */
+    @Override public void onSubscribe(Subscription given) {
+        onSubscribe(Disposable.fromSubscription(given));
+        if (isOpen()) { given.request(asker == null ? Long.MAX_VALUE : asker.asksOf(given)); }
     }
 
     @Override public void onNext(Object item) {

@@ -4,7 +4,7 @@ import io.reactivex.rxjava3.functions.Function;
 import java.util.Objects;
 
 /** The node of a flatMap or a switchMap. */
-final class Merging extends Node {
+class Merging extends Node {
     final Tree tree;
     final boolean isSwitch;
     /** What items of the inner sources go through. */
@@ -20,22 +20,36 @@ final class Merging extends Node {
         this.isShared = at.isShared;
     }
 
+    /** Whether items that come as an inner source is opened are projected at once. */
+    boolean letsOthersIn() { return true; }
+
+    /** Nothing more is projected. The lock is held. */
+    void over() { }
+
     /** Opens what the item is mapped to. */
-    void project(Object carried) {
+    final void project(Object carried) {
         try {
             Object item = Through.through(carried);
             if (item == null) {
                 tree.engine.decline(this);
-                return;
+                declined();
+            } else {
+                start(item);
             }
-            Operator.open(Objects.requireNonNull(mapper.apply(item), "The mapper returned a null ObservableSource"), Place.inner(this));
         } catch (Throwable why) {
             fail(why);
         }
     }
 
+    /** An item did not get as far as to be mapped. */
+    void declined() { }
+
+    void start(Object item) throws Throwable { Operator.open(mapped(item), Place.inner(this)); }
+
+    final Object mapped(Object item) throws Throwable { return Objects.requireNonNull(mapper.apply(item), "The mapper returned a null source"); }
+
     /** What an item is mapped to cannot be had. */
-    void fail(Throwable why) {
+    final void fail(Throwable why) {
         boolean isTold = tree.engine.fail(this, why);
         if (Errors.isFatal(why) || !isTold) { Errors.hear(why); }
     }

@@ -6,11 +6,11 @@ import java.nio.ByteOrder;
 /** The calls of the library, by JNI, and its numbers. One call at a time on a desk: see src/main/c/crossing.c for what each answers. */
 final class Native {
     // commands, places and kinds of nodes, flags: a command's head is what | place << 8 | kind << 16 | flags << 24 | level << 32
-    static final int OPEN = 0, USING = 1, NEXT = 3, COMPLETE = 4, ERROR = 5, FAIL = 6, DECLINE = 7, DISPOSE = 8, CONNECT = 9, DISCONNECT = 10, ABORT = 13;
+    static final int OPEN = 0, USING = 1, NEXT = 3, COMPLETE = 4, ERROR = 5, FAIL = 6, DECLINE = 7, DISPOSE = 8, CONNECT = 9, DISCONNECT = 10, PUT = 11, ABORT = 13;
     static final int ROOT = 0, SOURCE = 1, INNER = 2, NOTIFIER = 3;
     static final int LEAF = 0, PASS = 1, FLAT = 2, SWITCH = 3, UNTIL = 4, SHARED = 5, PUBLISHED = 6;
-    static final int WISHES = 1, LANE_OF_NODE = 2;
-    static final int E_NEXT = 0, E_PROJECT = 1, E_COMPLETED = 2, E_FAILED = 3, E_GONE = 4, E_RELEASE = 5;
+    static final int WISHES = 1, LANE_OF_NODE = 2, OF_PROJECTIONS = 4;
+    static final int E_NEXT = 0, E_PROJECT = 1, E_COMPLETED = 2, E_FAILED = 3, E_GONE = 4, E_RELEASE = 5, E_PUT = 6, E_MERGED = 7;
     static final int DONE = 0, NO_MEMORY = 4, FULL = 16, GONE = 17, NOTHING_OWED = 20, NO_HUB = 22, HUB_ORDER = 23, TOO_MANY = 29,
         NO_STACK = 255;
     static final long UNKNOWN_HUB = -1;

@@ -2,11 +2,13 @@ package dev.cellarcliff.rx;
 
 import static dev.cellarcliff.rx.Native.LEAF;
 import static dev.cellarcliff.rx.Native.OPEN;
+import static dev.cellarcliff.rx.Native.WISHES;
 
 import io.reactivex.rxjava3.core.Observable;
 import io.reactivex.rxjava3.core.ObservableSource;
 import io.reactivex.rxjava3.core.Observer;
 import io.reactivex.rxjava3.functions.Supplier;
+import org.reactivestreams.Publisher;
 
 /** An operator whose nodes are the engine's. What it reads that is none becomes a leaf. */
 interface Operator {
@@ -35,41 +37,38 @@ interface Operator {
         } else if (source instanceof Supplier && at.over != null && !at.over.isSwitch) {
             openItem((Supplier<?>) source, at);
         } else {
-            openLeaf((ObservableSource<?>) source, at);
+            openLeaf(source, at);
         }
     }
 
     @SuppressWarnings("unchecked")
-    static void openLeaf(ObservableSource<?> source, Place at) {
+    static void openLeaf(Object source, Place at) {
         Leaf leaf = new Leaf(at);
-        if (!at.tree.engine.open(at, OPEN | LEAF << 16, leaf, true, null) || !leaf.isOpen()) { return; }
+        if (!at.tree.engine.open(at, OPEN | LEAF << 16 | WISHES << 24, leaf, true, null) || !leaf.isOpen()) { return; }
         try {
-            ((ObservableSource<Object>) source).subscribe(leaf);
+            if (source instanceof Publisher) { ((Publisher<Object>) source).subscribe(leaf); } else { ((ObservableSource<Object>) source).subscribe(leaf); }
         } catch (Throwable why) {
             leaf.onError(why);
             if (Errors.isFatal(why)) { throw why; }
         }
     }
 
-    /** One item, or none, that is known at once. */
-    private static void openItem(Supplier<?> source, Place at) {
+    /** One item, or none, that is known at once: whether its operator is open yet. */
+    static boolean openItem(Supplier<?> source, Place at) {
         Engine engine = at.tree.engine;
         Object item;
         try {
             item = source.get();
         } catch (Throwable why) {
             at.over.fail(why);
-            return;
+            return false;
         }
-        if (item == null) {
-            engine.decline(at.over);
-            return;
-        }
+        if (item == null) { return engine.decline(at.over); }
         Leaf leaf = new Leaf(at);
-        if (engine.open(at, OPEN | LEAF << 16, leaf, false, null)) {
-            leaf.onNext(item);
-            leaf.onComplete();
-        }
+        if (!engine.open(at, OPEN | LEAF << 16, leaf, false, null)) { return false; }
+        leaf.onNext(item);
+        leaf.onComplete();
+        return true;
     }
 
     /** How a connection ended, for who comes behind its end. */

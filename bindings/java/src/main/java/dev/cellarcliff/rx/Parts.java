@@ -1,10 +1,15 @@
 package dev.cellarcliff.rx;
 
+import static dev.cellarcliff.rx.Merge.Manner.CONCAT;
+import static dev.cellarcliff.rx.Merge.Manner.FLAT;
+import static dev.cellarcliff.rx.Merge.Manner.SWITCH;
+
 import io.reactivex.rxjava3.core.CompletableSource;
 import io.reactivex.rxjava3.core.MaybeSource;
 import io.reactivex.rxjava3.core.Observable;
 import io.reactivex.rxjava3.core.SingleSource;
 import io.reactivex.rxjava3.functions.Function;
+import io.reactivex.rxjava3.internal.util.ErrorMode;
 import java.lang.reflect.Field;
 import java.util.ArrayList;
 import java.util.HashMap;
@@ -23,27 +28,39 @@ final class Parts {
 
     static {
         put("using", "observable.ObservableUsing", it -> new Using(it.get(0), it.get(1), it.get(2), it.get(3)), "resourceSupplier", "sourceSupplier", "disposer", "eager");
-        put("flatMap", "observable.ObservableFlatMap", it -> it.<Boolean>get(2) || !it.isUnbounded(3) ? null : new Merge(it.get(0), it.get(1), false),
-            "source", "mapper", "delayErrors", "maxConcurrency");
-        put("switchMap", "observable.ObservableSwitchMap", it -> it.<Boolean>get(2) ? null : new Merge(it.get(0), it.get(1), true), "source", "mapper", "delayErrors");
+        put("flatMap", "observable.ObservableFlatMap", it -> it.failsAtOnce(2) ? new Merge(it.get(0), it.get(1), FLAT, it.most(3)) : null, "source", "mapper", "delayErrors", "maxConcurrency");
+        put("switchMap", "observable.ObservableSwitchMap", it -> it.failsAtOnce(2) ? new Merge(it.get(0), it.get(1), SWITCH) : null, "source", "mapper", "delayErrors");
+        put("concatMap", "observable.ObservableConcatMap", it -> it.failsAtOnce(2) ? new Merge(it.get(0), it.get(1), CONCAT) : null, "source", "mapper", "delayErrors");
         put("takeUntil", "observable.ObservableTakeUntil", it -> new Until(it.get(0), it.get(1)), "source", "other");
         put("doFinally", "observable.ObservableDoFinally", it -> new Finally(it.get(0), it.get(1)), "source", "onFinally");
         put("publish", "observable.ObservablePublish", it -> new Published(it.get(0)), "source");
         put("refCount", "observable.ObservableRefCount", it -> it.get(0) instanceof Published && it.<Integer>get(1) == 1 && it.<Long>get(2) == 0 ? new RefCount(it.get(0), (Observable<?>) it.of) : null,
             "source", "n", "timeout");
-        put("map", "observable.ObservableMap", it -> it.get(0) instanceof Operator ? new Through((Observable<?>) it.of, it.get(0), Through.mapping(it.get(1))) : null, "source", "function");
-        put("filter", "observable.ObservableFilter", it -> it.get(0) instanceof Operator ? new Through((Observable<?>) it.of, it.get(0), Through.filtering(it.get(1))) : null, "source", "predicate");
-        put("flatMapSingle", "observable.ObservableFlatMapSingle", it -> it.merge(Parts::ofSingle, false), "source", "mapper", "delayErrors");
-        put("flatMapMaybe", "observable.ObservableFlatMapMaybe", it -> it.merge(Parts::ofMaybe, false), "source", "mapper", "delayErrors");
-        put("switchMapSingle", "mixed.ObservableSwitchMapSingle", it -> it.merge(Parts::ofSingle, true), "source", "mapper", "delayErrors");
-        put("switchMapMaybe", "mixed.ObservableSwitchMapMaybe", it -> it.merge(Parts::ofMaybe, true), "source", "mapper", "delayErrors");
+        put("map", "observable.ObservableMap", it -> it.through(Through::mapping), "source", "function");
+        put("filter", "observable.ObservableFilter", it -> it.through(Through::filtering), "source", "predicate");
+        put("flatMapSingle", "observable.ObservableFlatMapSingle", it -> it.merge(Parts::ofSingle, FLAT), "source", "mapper", "delayErrors");
+        put("flatMapMaybe", "observable.ObservableFlatMapMaybe", it -> it.merge(Parts::ofMaybe, FLAT), "source", "mapper", "delayErrors");
+        put("switchMapSingle", "mixed.ObservableSwitchMapSingle", it -> it.merge(Parts::ofSingle, SWITCH), "source", "mapper", "delayErrors");
+        put("switchMapMaybe", "mixed.ObservableSwitchMapMaybe", it -> it.merge(Parts::ofMaybe, SWITCH), "source", "mapper", "delayErrors");
+        put("concatMapSingle", "mixed.ObservableConcatMapSingle", it -> it.merge(Parts::ofSingle, CONCAT), "source", "mapper", "errorMode");
+        put("concatMapMaybe", "mixed.ObservableConcatMapMaybe", it -> it.merge(Parts::ofMaybe, CONCAT), "source", "mapper", "errorMode");
         put("Single.using", "single.SingleUsing", it -> it.using(Parts::ofSingle).singleOrError(), "resourceSupplier", "singleFunction", "disposer", "eager");
         put("Maybe.using", "maybe.MaybeUsing", it -> it.using(Parts::ofMaybe).singleElement(), "resourceSupplier", "sourceSupplier", "resourceDisposer", "eager");
         put("Completable.using", "completable.CompletableUsing", it -> it.using(Parts::ofCompletable).ignoreElements(), "resourceSupplier", "completableFunction", "disposer", "eager");
         put("Single.doFinally", "single.SingleDoFinally", it -> new Finally(ofSingle(it.get(0)), it.get(1)).singleOrError(), "source", "onFinally");
         put("Maybe.doFinally", "maybe.MaybeDoFinally", it -> new Finally(ofMaybe(it.get(0)), it.get(1)).singleElement(), "source", "onFinally");
         put("Completable.doFinally", "completable.CompletableDoFinally", it -> new Finally(ofCompletable(it.get(0)), it.get(1)).ignoreElements(), "source", "onFinally");
-        put("merge of an array", "observable.ObservableFromArray", it -> null, "array");
+        flowable("using", "Using", it -> new Using(it.get(0), it.get(1), it.get(2), it.get(3)), "resourceSupplier", "sourceSupplier", "disposer", "eager");
+        flowable("flatMap", "FlatMap", it -> it.failsAtOnce(2) ? it.asking(FLAT, it.most(3), it.most(3)) : null, "source", "mapper", "delayErrors", "maxConcurrency");
+        flowable("switchMap", "SwitchMap", it -> it.failsAtOnce(2) ? new Merge(it.get(0), it.get(1), SWITCH) : null, "source", "mapper", "delayErrors");
+        flowable("concatMap", "ConcatMap", it -> it.failsAtOnce(2) ? it.asking(CONCAT, 1, it.get(3)) : null, "source", "mapper", "errorMode", "prefetch");
+        flowable("concat", "ConcatArray", it -> it.<Boolean>get(1) ? null : new Merge(Observable.fromArray(it.<Object[]>get(0)), source -> source, CONCAT), "sources", "delayError");
+        flowable("takeUntil", "TakeUntil", it -> new Until(it.get(0), it.get(1)), "source", "other");
+        flowable("doFinally", "DoFinally", it -> new Finally(it.get(0), it.get(1)), "source", "onFinally");
+        flowable("map", "Map", it -> it.through(Through::mapping), "source", "mapper");
+        flowable("filter", "Filter", it -> it.through(Through::filtering), "source", "predicate");
+        put("Flowable.merge of an array", "flowable.FlowableFromArray", it -> null, "array");
+        put("merge and concat of an array", "observable.ObservableFromArray", it -> null, "array");
     }
 
     private final java.util.function.Function<Given, Object> make;
@@ -66,6 +83,13 @@ final class Parts {
         } catch (ReflectiveOperationException | RuntimeException why) {
             MISSING.add(operator + ": " + why);
         }
+    }
+
+    private static void flowable(String operator, String name, java.util.function.Function<Given, Operator> make, String... fields) {
+        put("Flowable." + operator, "flowable.Flowable" + name, it -> {
+            Operator ours = make.apply(it);
+            return ours == null ? null : new Asked(it.of, ours);
+        }, fields);
     }
 
     private static Field field(Class<?> type, String name) throws NoSuchFieldException {
@@ -114,9 +138,9 @@ final class Parts {
             }
         }
 
-        Observable<?> merge(Function<Object, Observable<?>> of, boolean isSwitch) {
+        Observable<?> merge(Function<Object, Observable<?>> of, Merge.Manner manner) {
             Function<Object, ?> mapper = get(1);
-            return this.<Boolean>get(2) ? null : new Merge(get(0), item -> of.apply(mapper.apply(item)), isSwitch);
+            return failsAtOnce(2) ? new Merge(get(0), item -> of.apply(mapper.apply(item)), manner) : null;
         }
 
         Observable<?> using(Function<Object, Observable<?>> of) {
@@ -124,13 +148,32 @@ final class Parts {
             return new Using(get(0), resource -> of.apply(source.apply(resource)), get(2), get(3), true);
         }
 
-        /** Whether so many at a time are all that there are. */
-        boolean isUnbounded(int i) {
-            int most = get(i);
-            if (most == Integer.MAX_VALUE) { return true; }
-            Observable<?> source = get(0);
+        /** A function on items of an operator. */
+        <T> Operator through(java.util.function.Function<T, Function<Object, ?>> function) {
+            return get(0) instanceof Operator ? new Through(of, get(0), function.apply(get(1))) : null;
+        }
+
+        /** A Flowable's, which asks its source for so many items at first unless it asks for all. */
+        Operator asking(Merge.Manner manner, int most, int asks) { return new Merge(get(0), get(1), manner, most, most == Integer.MAX_VALUE ? 0 : asks); }
+
+        /** The array that it reads, if that is all that it reads. */
+        private Object[] array() {
+            Object source = get(0);
             Parts array = ALL.get(source.getClass());
-            return array != null && array.fields[0].getName().equals("array") && new Given(source, array.fields).<Object[]>get(0).length <= most;
+            return array != null && array.fields[0].getName().equals("array") ? new Given(source, array.fields).get(0) : null;
+        }
+
+        /** How many at a time, if there are more. */
+        int most(int i) {
+            int most = get(i);
+            Object[] all = array();
+            return all != null && all.length <= most ? Integer.MAX_VALUE : most;
+        }
+
+        /** Whether an error ends all at once, by an operator's word for that; an array has none that could wait. */
+        boolean failsAtOnce(int i) {
+            Object word = get(i);
+            return word instanceof Boolean ? !(Boolean) word : word == ErrorMode.IMMEDIATE || word == ErrorMode.BOUNDARY && array() != null;
         }
     }
 }

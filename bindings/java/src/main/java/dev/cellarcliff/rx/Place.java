@@ -37,6 +37,9 @@ final class Place {
 
     Place through(Function<Object, ?> function) { return new Place(tree, place, above, over, new Through.Chain(function, chain), false); }
 
+    /** What asks for items here, a few at a time, if something does. */
+    Bounded asker() { return place == Native.SOURCE && above instanceof Bounded && ((Bounded) above).asks() ? (Bounded) above : null; }
+
     long slot() { return above == null ? 0 : above.slot; }
 
     long number() { return above == null ? 0 : above.number; }

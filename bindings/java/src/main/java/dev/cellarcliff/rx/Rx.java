@@ -30,20 +30,29 @@ public final class Rx {
     }
 
     /** Merges what the items are mapped to. */
-    public static <T, R> ObservableTransformer<T, R> flatMap(Function<? super T, ? extends ObservableSource<? extends R>> mapper) {
-        return source -> (Observable<R>) new Merge(source, (Function<Object, ?>) mapper, false);
+    public static <T, R> ObservableTransformer<T, R> flatMap(Function<? super T, ? extends ObservableSource<? extends R>> mapper) { return flatMap(mapper, Integer.MAX_VALUE); }
+
+    /** Merges what the items are mapped to, of which at most so many are subscribed to at a time: one or more. */
+    public static <T, R> ObservableTransformer<T, R> flatMap(Function<? super T, ? extends ObservableSource<? extends R>> mapper, int most) {
+        if (most < 1) { throw new IllegalArgumentException("at most " + most + " sources at a time"); }
+        return source -> (Observable<R>) new Merge(source, (Function<Object, ?>) mapper, Merge.Manner.FLAT, most);
+    }
+
+    /** What the items are mapped to, one after another. */
+    public static <T, R> ObservableTransformer<T, R> concatMap(Function<? super T, ? extends ObservableSource<? extends R>> mapper) {
+        return source -> (Observable<R>) new Merge(source, (Function<Object, ?>) mapper, Merge.Manner.CONCAT);
     }
 
     /** The latest of what the items are mapped to. */
     public static <T, R> ObservableTransformer<T, R> switchMap(Function<? super T, ? extends ObservableSource<? extends R>> mapper) {
-        return source -> (Observable<R>) new Merge(source, (Function<Object, ?>) mapper, true);
+        return source -> (Observable<R>) new Merge(source, (Function<Object, ?>) mapper, Merge.Manner.SWITCH);
     }
 
     /** Merges sources. */
     @SafeVarargs
     public static <T> Observable<T> merge(ObservableSource<? extends T>... sources) {
         Function<Object, ?> same = source -> source;
-        return (Observable<T>) new Merge(Observable.fromArray(sources), same, false);
+        return (Observable<T>) new Merge(Observable.fromArray(sources), same, Merge.Manner.FLAT);
     }
 
     /** The source until the notifier tells something. */

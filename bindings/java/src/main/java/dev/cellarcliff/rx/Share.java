@@ -12,6 +12,8 @@ final class Share {
     final long word = WORDS.incrementAndGet();
     volatile Engine engine = Engine.current();
     long hub = Native.UNKNOWN_HUB;
+    /** How many further engines it has tried. */
+    int tried;
     /** The last connection. */
     Connection connection;
     /** Whether a connection that was made by hand ended, and its error, until that is forgotten. */

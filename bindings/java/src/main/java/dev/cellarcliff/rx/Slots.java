@@ -5,12 +5,18 @@ import java.util.Arrays;
 /** Objects by small numbers, each with a count of how often it is taken. Room is made beforehand, so that nothing else here can fail. */
 final class Slots<T> {
     private static final Object[] NONE = {};
+    private static final int[] NO_COUNTS = {};
+    /** More room than this is given back where nothing is left. */
+    private static final int KEPT = 1024;
 
     private Object[] items = NONE;
-    private int[] counts = {};  // of a free number: the next one that is free
+    private int[] counts = NO_COUNTS;  // of a free number: the next one that is free
     private int free = -1, top, used;
 
     int used() { return used; }
+
+    /** All numbers are less. */
+    int top() { return top; }
 
     void makeRoom(int many) {
         if (items.length - used >= many) { return; }
@@ -18,6 +24,13 @@ final class Slots<T> {
         Object[] more = Arrays.copyOf(items, length);
         counts = Arrays.copyOf(counts, length);
         items = more;
+    }
+
+    private void clear() {
+        items = NONE;
+        counts = NO_COUNTS;
+        top = 0;
+        free = -1;
     }
 
     /** The number that the next one gets. */
@@ -42,7 +55,7 @@ final class Slots<T> {
             items[at] = null;
             counts[at] = free;
             free = at;
-            used--;
+            if (--used == 0 && items.length > KEPT) { clear(); }
         }
         return item;
     }

@@ -1,7 +1,6 @@
 package dev.cellarcliff.rx;
 
 import io.reactivex.rxjava3.core.Observable;
-import io.reactivex.rxjava3.core.ObservableSource;
 import io.reactivex.rxjava3.core.Observer;
 import io.reactivex.rxjava3.functions.Function;
 import io.reactivex.rxjava3.functions.Predicate;
@@ -12,11 +11,10 @@ import java.util.Objects;
  * handed it, and goes through them there. Otherwise it is RxJava's own.
  */
 final class Through extends Operator.Plain {
-    private final Observable<?> theirs;
-    private final ObservableSource<?> source;
+    private final Object theirs, source;
     private final Function<Object, ?> function;
 
-    Through(Observable<?> theirs, ObservableSource<?> source, Function<Object, ?> function) {
+    Through(Object theirs, Object source, Function<Object, ?> function) {
         this.theirs = theirs;
         this.source = source;
         this.function = function;

@@ -5,7 +5,7 @@ import java.lang.ref.WeakReference;
 
 /**
  * What is open below one subscription, or below one connection of a share. Whatever can tell it something holds it; the engine does not, so
- * that what nobody can reach is collected.
+ * that what nobody can reach is collected. What holds resources, or subscribes to a share, is disposed of then: it has a guard.
  */
 abstract class Tree {
     final Engine engine;
@@ -15,6 +15,9 @@ abstract class Tree {
     Releases releases;
     /** How many resources are held here that are released before the end, and behind it. */
     int eager, late;
+    /** If something was held here, or subscribes to a share. */
+    Guard guard;
+    Tree abandonedNext;
     // the list of what the engine holds
     boolean isPinned;
     Tree pinnedBefore, pinnedAfter;
@@ -32,8 +35,20 @@ abstract class Tree {
         /** How it is closed once it is collected: nothing, a root, or a connection that was made by hand. */
         int closedBy = -1;
         long slot, number, word, hub;
+        /** Its guard says when nobody can reach it; and then it is here, until the last of it is told. */
+        boolean isGuarded;
+        private Tree found;
 
         Ref(Tree tree, ReferenceQueue<Tree> collected) { super(tree, collected); }
+
+        Tree tree() { return found == null ? get() : found; }
+
+        /** It is there again, if it was collected. */
+        boolean find(Tree tree) {
+            if (tree() != null) { return false; }
+            found = tree;
+            return true;
+        }
     }
 
     /**

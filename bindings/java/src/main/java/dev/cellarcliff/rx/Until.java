@@ -1,12 +1,10 @@
 package dev.cellarcliff.rx;
 
-import io.reactivex.rxjava3.core.ObservableSource;
-
 /** takeUntil: its source until the notifier tells something. */
 final class Until extends Operator.Plain {
-    private final ObservableSource<?> source, notifier;
+    private final Object source, notifier;
 
-    Until(ObservableSource<?> source, ObservableSource<?> notifier) {
+    Until(Object source, Object notifier) {
         this.source = source;
         this.notifier = notifier;
     }

@@ -1,6 +1,7 @@
 package dev.cellarcliff.rx;
 
 import io.reactivex.rxjava3.core.Completable;
+import io.reactivex.rxjava3.core.Flowable;
 import io.reactivex.rxjava3.core.Maybe;
 import io.reactivex.rxjava3.core.Observable;
 import io.reactivex.rxjava3.core.Single;
@@ -60,9 +61,11 @@ public final class Suite {
             Hooks.install();
             Function<? super Observable, ? extends Observable> all = RxJavaPlugins.getOnObservableAssembly();
             Function<? super ConnectableObservable, ? extends ConnectableObservable> shares = RxJavaPlugins.getOnConnectableObservableAssembly();
+            Function<? super Flowable, ? extends Flowable> flowables = RxJavaPlugins.getOnFlowableAssembly();
             Function<? super Single, ? extends Single> singles = RxJavaPlugins.getOnSingleAssembly();
             Function<? super Maybe, ? extends Maybe> maybes = RxJavaPlugins.getOnMaybeAssembly();
             Function<? super Completable, ? extends Completable> completables = RxJavaPlugins.getOnCompletableAssembly();
+            RxJavaPlugins.setOnFlowableAssembly(given -> counted(made, given, flowables.apply(given)));
             RxJavaPlugins.setOnSingleAssembly(given -> counted(made, given, singles.apply(given)));
             RxJavaPlugins.setOnMaybeAssembly(given -> counted(made, given, maybes.apply(given)));
             RxJavaPlugins.setOnCompletableAssembly(given -> counted(made, given, completables.apply(given)));

@@ -199,11 +199,11 @@ class FaultsTest {
         expectReleased(2);
     }
 
-    void what_nobody_can_reach_is_collected() throws Exception {
+    void what_nobody_can_reach_is_released() throws Exception {
         Engine engine = Engine.current();
         for (int i = 0; i < 2000; i++) {
             PublishSubject<Integer> s = PublishSubject.create();
-            Observable<Integer> shared = s.share();
+            Observable<Integer> shared = i % 2 == 0 ? s.share() : held(s).takeUntil(Observable.never()).share();
             Observable.merge(held(s.flatMap(Observable::just)), shared, shared.switchMap(v -> s)).takeUntil(Observable.never()).subscribe();
             shared.subscribe();
             s.publish().connect();
@@ -214,7 +214,7 @@ class FaultsTest {
             Thread.sleep(10);
             engine.closeCollected();
         }
-        same(2000, made.get());
+        expectReleased(2000 + 1000);
     }
 
     void what_somebody_can_reach_stays() throws Exception {

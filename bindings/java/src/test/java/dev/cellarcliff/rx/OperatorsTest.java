@@ -2,10 +2,13 @@ package dev.cellarcliff.rx;
 
 import static dev.cellarcliff.rx.Tests.same;
 
+import io.reactivex.rxjava3.core.Flowable;
 import io.reactivex.rxjava3.core.Observable;
 import io.reactivex.rxjava3.disposables.Disposable;
 import io.reactivex.rxjava3.functions.Function;
+import io.reactivex.rxjava3.processors.PublishProcessor;
 import io.reactivex.rxjava3.subjects.PublishSubject;
+import io.reactivex.rxjava3.subscribers.TestSubscriber;
 import java.util.ArrayList;
 import java.util.List;
 
@@ -29,10 +32,10 @@ class OperatorsTest {
         same(List.of(), Hooks.missing());
         Function<Integer, Observable<Integer>> mapper = Observable::just;
         for (Observable<?> each : List.of(held("r", s, true), s.flatMap(mapper), s.switchMap(mapper), s.takeUntil(other), s.doFinally(() -> { }), s.publish(), s.share(),
-                Observable.merge(s, other), s.mergeWith(other))) {
+                Observable.merge(s, other), s.mergeWith(other), s.flatMap(mapper, 2), s.concatMap(mapper), Observable.concat(s, other))) {
             same(true, each instanceof Operator);
         }
-        for (Observable<?> each : List.of(s.flatMap(mapper, true), s.flatMap(mapper, 2), s.switchMapDelayError(mapper), s.publish().refCount(2), s.map(v -> v))) {
+        for (Observable<?> each : List.of(s.flatMap(mapper, true), s.concatMapDelayError(mapper), s.switchMapDelayError(mapper), s.publish().refCount(2), s.map(v -> v))) {
             same(false, each instanceof Operator);
         }
         Hooks.uninstall();
@@ -98,6 +101,94 @@ class OperatorsTest {
         expect(1, -1, 7, 8, "end");
     }
 
+    void so_many_at_a_time() {
+        List<PublishSubject<Integer>> inners = List.of(PublishSubject.create(), PublishSubject.create(), PublishSubject.create(), PublishSubject.create());
+        told(s.flatMap(v -> {
+            log.add("mapped " + v);
+            return held(String.valueOf(v), inners.get(v), v % 2 == 0);
+        }, 2));
+        for (int i = 0; i < 4; i++) { s.onNext(i); }
+        s.onComplete();
+        expect("mapped 0", "made 0", "mapped 1", "made 1", "mapped 2", "mapped 3");
+        inners.get(1).onNext(10);
+        inners.get(1).onComplete();
+        expect(10, "released 1", "made 2");
+        inners.get(0).onComplete();
+        expect("released 0", "made 3");
+        inners.get(3).onComplete();
+        inners.get(2).onComplete();
+        expect("released 3", "released 2", "end");
+    }
+
+    void one_after_another() {
+        told(s.concatMap(v -> {
+            log.add("mapped " + v);
+            return v == 0 ? held("r", other, true) : v < 3 ? Observable.just(v) : Observable.empty();
+        }));
+        for (int i = 0; i < 4; i++) { s.onNext(i); }
+        s.onComplete();
+        other.onNext(7);
+        other.onComplete();
+        expect("mapped 0", "made r", 7, "released r", "mapped 1", 1, "mapped 2", 2, "mapped 3", "end");
+    }
+
+    void a_flowable_that_is_asked_for_everything_is_the_engines() {
+        PublishProcessor<Integer> p = PublishProcessor.create();
+        Flowable<Integer> all = Flowable.using(() -> log.add("made"), it -> p, it -> log.add("released")).map(v -> v + 1).switchMap(v -> Flowable.just(v)).doFinally(() -> log.add("finally"));
+        all.subscribe(log::add);
+        same(2L, Engine.current().counts()[1]);
+        p.onNext(1);
+        p.onComplete();
+        expect("made", 2, "released", "finally");
+        PublishProcessor<Integer> q = PublishProcessor.create();
+        TestSubscriber<Integer> few = Flowable.using(() -> log.add("made"), it -> q, it -> log.add("released")).test(1);
+        same(0L, Engine.current().counts()[1]);
+        q.onNext(1);
+        few.assertValue(1).cancel();
+        expect("made", "released");
+    }
+
+    void a_flowable_is_asked_for_as_many_as_there_is_room_for() {
+        List<PublishProcessor<Integer>> inners = List.of(PublishProcessor.create(), PublishProcessor.create(), PublishProcessor.create());
+        Flowable<Integer> source = Flowable.range(0, 3).doOnRequest(v -> log.add("asked for " + v));
+        source.filter(v -> v < 3).flatMap(v -> inners.get(v), 2).subscribe(log::add, why -> log.add(why), () -> log.add("end"));
+        expect("asked for 2");
+        inners.get(0).onComplete();
+        expect("asked for 1");
+        inners.get(2).onNext(5);
+        inners.get(1).onComplete();
+        inners.get(2).onComplete();
+        log.removeIf("asked for 1"::equals);
+        expect(5, "end");
+        int[] told = new int[1];
+        Flowable.range(0, 100_000).concatMap(v -> v % 2 == 0 ? Flowable.just(v).hide() : Flowable.just(v)).subscribe(v -> told[0]++);
+        same(100_000, told[0]);
+    }
+
+    void what_waits_is_forgotten_where_it_ends() {
+        Disposable d = told(s.concatMap(v -> held(String.valueOf(v), other, true)));
+        s.onNext(0);
+        s.onNext(1);
+        d.dispose();
+        other.onComplete();
+        expect("made 0", "released 0");
+        PublishSubject<Integer> t = PublishSubject.create(), inner = PublishSubject.create();
+        told(t.concatMap(v -> inner));
+        t.onNext(0);
+        t.onNext(1);
+        inner.onError(new Exception("inner"));
+        expect("error inner");
+        same(false, t.hasObservers());
+    }
+
+    void a_hundred_thousand_wait_for_their_turn() {
+        int[] told = new int[1];
+        Observable.range(0, 100_000).concatMap(v -> v == 0 ? other : v % 2 == 0 ? Observable.just(v).hide() : Observable.just(v)).subscribe(v -> told[0]++);
+        same(0, told[0]);
+        other.onComplete();
+        same(99_999, told[0]);
+    }
+
     void flat_map_of_one_item_and_of_none() {
         told(s.flatMap(v -> v % 2 == 0 ? Observable.empty() : Observable.just(v)));
         s.onNext(1);
@@ -111,7 +202,7 @@ class OperatorsTest {
         told(s.flatMap(v -> v == 2 ? null : other));
         s.onNext(1);
         s.onNext(2);
-        expect("error The mapper returned a null ObservableSource");
+        expect("error The mapper returned a null source");
         same(false, s.hasObservers() || other.hasObservers());
         PublishSubject<Integer> t = PublishSubject.create();
         told(t.switchMap(v -> { throw new Exception("mapper"); }));

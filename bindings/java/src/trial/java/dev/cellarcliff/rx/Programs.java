@@ -1,5 +1,7 @@
 package dev.cellarcliff.rx;
 
+import io.reactivex.rxjava3.core.BackpressureStrategy;
+import io.reactivex.rxjava3.core.Flowable;
 import io.reactivex.rxjava3.core.Observable;
 import io.reactivex.rxjava3.core.Observer;
 import io.reactivex.rxjava3.disposables.Disposable;
@@ -7,22 +9,26 @@ import io.reactivex.rxjava3.plugins.RxJavaPlugins;
 import io.reactivex.rxjava3.subjects.PublishSubject;
 import java.util.ArrayList;
 import java.util.Arrays;
+import java.util.Collections;
 import java.util.List;
 import java.util.Random;
+import java.util.concurrent.CopyOnWriteArrayList;
+import java.util.concurrent.CyclicBarrier;
+import java.util.concurrent.atomic.AtomicInteger;
 
 /**
- * Programs made at random: Programs MANY [SEED] [beside|shared|wild]. Each is a few pipelines over subjects, and actions: an item, an end, a
- * subscription, a disposal; observers act as well.
+ * Programs made at random: Programs MANY [SEED] [beside|shared|wild|four]. Each is a few pipelines over subjects, and actions: an item, an end, a
+ * subscription, a disposal; observers act as well. Of every second seed the pipelines are Flowables.
  *
  * beside: no source has two observers, and no notifier ends as it is subscribed to; RxJava's own operators run the same program, and all that
  * is told, made and released is compared at every action. shared: with shares, and observers that push; how many programs RxJava tells otherwise is counted. wild: observers, mappers,
- * suppliers and releases push, end, subscribe, dispose and raise. Of all three each resource has to be released once, nobody is told
+ * suppliers and releases push, end, subscribe, dispose and raise. four: the same, and four threads act at once. Of all each resource has to be released once, nobody is told
  * anything behind an end or a disposal or within another item, and nothing may be left.
  */
 public final class Programs {
     private Programs() { }
 
-    enum Kind { FRESH, HOT, JUST, RANGE, EMPTY, ERROR, NEVER, USING, FLAT, SWITCH, UNTIL, FINALLY, MAP, FILTER, TAKE, SHARE }
+    enum Kind { FRESH, HOT, JUST, RANGE, EMPTY, ERROR, NEVER, USING, FLAT, TWO, CONCAT, SWITCH, UNTIL, FINALLY, MAP, FILTER, TAKE, SHARE }
 
     /** A pipeline. */
     static final class Op {
@@ -44,8 +50,17 @@ public final class Programs {
             switch (kind) {
                 case MAP: case TAKE: return false;
                 case FILTER: return below[0].isEngines();
-                case FLAT: case SWITCH: return below[0].kind != Kind.JUST && below[0].kind != Kind.EMPTY;
+                case FLAT: case TWO: case CONCAT: case SWITCH: return below[0].kind != Kind.JUST && below[0].kind != Kind.EMPTY;
                 default: return kind.ordinal() >= Kind.USING.ordinal();
+            }
+        }
+
+        /** Whether RxJava's concatMap polls it: then a doFinally there acts when the next item is wanted, and not at the end. */
+        boolean isPolled() {
+            switch (kind) {
+                case JUST: case RANGE: case EMPTY: return true;
+                case MAP: case FILTER: case FINALLY: return below[0].isPolled();
+                default: return false;
             }
         }
 
@@ -67,11 +82,12 @@ public final class Programs {
         @Override public String toString() { return what + " " + whom + " " + value; }
     }
 
-    enum Manner { BESIDE, SHARED, WILD }
+    enum Manner { BESIDE, SHARED, WILD, FOUR }
 
     /** What is made of a seed. */
     static final class Program {
         final Manner manner;
+        final boolean isFlowable;
         final Random random;
         final List<Op> shares = new ArrayList<>(), roots = new ArrayList<>();
         final List<Action> actions = new ArrayList<>();
@@ -80,6 +96,7 @@ public final class Programs {
 
         Program(long seed, Manner manner) {
             this.manner = manner;
+            isFlowable = seed % 2 == 0;
             random = new Random(seed);
             if (manner != Manner.BESIDE) {
                 for (int i = random.nextInt(3); i > 0; i--) { shares.add(new Op(Kind.SHARE, 0, op(2))); }
@@ -89,6 +106,8 @@ public final class Programs {
             for (int i = 4 + random.nextInt(10); i > 0; i--) { actions.add(action(false)); }
             for (int i = 0; i < within.length; i++) { within[i] = random.nextInt(3) == 0 ? action(true) : new Action(Do.NOTHING, 0, 0); }
         }
+
+        boolean isWild() { return manner == Manner.WILD || manner == Manner.FOUR; }
 
         private Op op(int depth) {
             int number = random.nextInt(3);
@@ -103,7 +122,9 @@ public final class Programs {
                     default: return new Op(Kind.HOT, number);
                 }
             }
-            switch (random.nextInt(10)) {
+            switch (random.nextInt(12)) {
+                case 10: return new Op(Kind.TWO, number, op(depth - 1), op(depth - 1), op(depth - 1));
+                case 11: return new Op(Kind.CONCAT, number, op(depth - 1), op(depth - 1), op(depth - 1));
                 case 0: case 1: return new Op(Kind.USING, random.nextInt(8), op(depth - 1));
                 case 2: case 3: return new Op(Kind.FLAT, number, op(depth - 1), op(depth - 1), op(depth - 1));
                 case 4: case 5: return new Op(Kind.SWITCH, number, op(depth - 1), op(depth - 1), op(depth - 1));
@@ -116,7 +137,7 @@ public final class Programs {
         private Action action(boolean isWithin) {
             int whom = random.nextInt(6), value = random.nextInt(20), which = random.nextInt(20);
             if (isWithin && manner == Manner.BESIDE) { return new Action(which < 3 ? Do.DISPOSE : Do.NOTHING, whom, 0); }
-            if (isWithin && manner == Manner.WILD && which == 19) { return new Action(Do.RAISE, 0, 0); }
+            if (isWithin && isWild() && which == 19) { return new Action(Do.RAISE, 0, 0); }
             return new Action(which < 12 ? Do.PUSH : which < 14 ? Do.COMPLETE : which < 15 ? Do.FAIL : which < 17 ? Do.SUBSCRIBE : Do.DISPOSE, whom, value);
         }
     }
@@ -124,39 +145,45 @@ public final class Programs {
     /** A run of a program. */
     static final class Run {
         final Program program;
-        final List<String> log = new ArrayList<>(), wrong = new ArrayList<>();
-        final List<PublishSubject<Integer>> subjects = new ArrayList<>();
-        final List<Seen> seen = new ArrayList<>();
+        final List<String> log = Collections.synchronizedList(new ArrayList<>()), wrong = Collections.synchronizedList(new ArrayList<>());
+        final List<PublishSubject<Integer>> subjects = new CopyOnWriteArrayList<>();
+        final List<Seen> seen = new CopyOnWriteArrayList<>();
         final java.util.Map<Op, Observable<Integer>> shares = new java.util.IdentityHashMap<>();
         final List<Observable<Integer>> roots = new ArrayList<>();
-        int made, released, callbacks, deep;
+        final AtomicInteger made = new AtomicInteger(), released = new AtomicInteger(), callbacks = new AtomicInteger();
+        final ThreadLocal<int[]> deep = ThreadLocal.withInitial(() -> new int[1]);
 
         Run(Program program) {
             this.program = program;
             for (int i = 0; i < 3; i++) { subjects.add(PublishSubject.create()); }
             for (Op share : program.shares) { shares.put(share, build(share.below[0]).share()); }
-            for (Op root : program.roots) { roots.add(build(root)); }
+            for (Op root : program.roots) { roots.add(program.isFlowable ? flowable(root).toObservable() : build(root)); }
         }
 
         void say(String what) { log.add(what); }
 
         int[] make() {
-            say("made " + made);
-            return new int[] {made++, 0};
+            int number = made.getAndIncrement();
+            say("made " + number);
+            return new int[] {number, 0};
         }
 
         void release(int[] it) {
-            released++;
+            released.getAndIncrement();
             say("released " + it[0]);
-            if (it[1]++ > 0) { wrong.add("released twice " + it[0]); }
+            synchronized (it) {
+                if (it[1]++ > 0) { wrong.add("released twice " + it[0]); }
+            }
         }
 
         /** A callback does what the program has for it. */
         void callback(boolean mayRaise) {
             if (program.manner == Manner.BESIDE && !mayRaise) { return; }
-            if (callbacks >= program.within.length || deep > 3) { return; }
-            Action action = program.within[callbacks++];
-            deep++;
+            int[] depth = deep.get();
+            int at = depth[0] > 3 ? program.within.length : callbacks.getAndIncrement();
+            if (at >= program.within.length) { return; }
+            Action action = program.within[at];
+            depth[0]++;
             try {
                 if (action.what == Do.RAISE) {
                     if (mayRaise) { throw new IllegalStateException("raised"); }
@@ -164,22 +191,85 @@ public final class Programs {
                     act(action);
                 }
             } finally {
-                deep--;
+                depth[0]--;
             }
         }
 
         /** Callbacks that are not an observer's: quiet unless the program is wild. */
-        void inside() { if (program.manner == Manner.WILD) { callback(true); } }
+        void inside() { if (program.isWild()) { callback(true); } }
 
         void act(Action action) {
             switch (action.what) {
                 case PUSH: subjects.get(action.whom % subjects.size()).onNext(action.value); break;
                 case COMPLETE: subjects.get(action.whom % subjects.size()).onComplete(); break;
                 case FAIL: subjects.get(action.whom % subjects.size()).onError(new Exception("f" + action.value)); break;
-                case SUBSCRIBE: if (seen.size() < 12) { Seen it = new Seen(seen.size()); seen.add(it); roots.get(it.root = action.whom % roots.size()).subscribe(it); } break;
+                case SUBSCRIBE: if (seen.size() < 12) { Seen it = new Seen(seen.size(), action.whom % roots.size()); seen.add(it); roots.get(it.root).subscribe(it); } break;
                 case DISPOSE: if (!seen.isEmpty()) { seen.get(action.whom % seen.size()).dispose(); } break;
                 default:
             }
+        }
+
+        Flowable<Integer> flowable(Op op) {
+            int number = op.number;
+            switch (op.kind) {
+                case USING: {
+                    Flowable<Integer> below = flowable(op.below[0]);
+                    return Flowable.using(() -> supply(number), it -> source(number, below), it -> dispose(number, it), number % 2 == 0);
+                }
+                case FLAT: case TWO: case CONCAT: case SWITCH: {
+                    Flowable<Integer> one = flowable(op.below[1]), other = flowable(op.below[2]), first = flowable(op.below[0]), source = op.below[0].isPolled() ? first.hide() : first;
+                    io.reactivex.rxjava3.functions.Function<Integer, Flowable<Integer>> mapper = v -> isFirst(v) ? one : other;
+                    return op.kind == Kind.FLAT ? source.flatMap(mapper) : op.kind == Kind.TWO ? source.flatMap(mapper, 2)
+                        : op.kind == Kind.CONCAT ? source.concatMap(mapper) : source.switchMap(mapper);
+                }
+                case UNTIL: return flowable(op.below[0]).takeUntil(flowable(op.below[1]));
+                case FINALLY: {
+                    Flowable<Integer> below = flowable(op.below[0]);
+                    return Flowable.defer(() -> {
+                        int[] it = make();
+                        return below.doFinally(() -> dispose(0, it));
+                    });
+                }
+                case MAP: return flowable(op.below[0]).map(this::mapped);
+                case FILTER: return flowable(op.below[0]).filter(v -> isIn(number, v));
+                case TAKE: return flowable(op.below[0]).take(1 + number);
+                default: return build(op).toFlowable(BackpressureStrategy.BUFFER);
+            }
+        }
+
+        private int[] supply(int number) throws Exception {
+            inside();
+            if (number == 7) { throw new Exception("make"); }
+            return make();
+        }
+
+        private <T> T source(int number, T below) throws Exception {
+            inside();
+            if (number == 6) { throw new Exception("source"); }
+            return below;
+        }
+
+        private void dispose(int number, int[] it) throws Exception {
+            release(it);
+            inside();
+            if (number == 5) { throw new Exception("release"); }
+        }
+
+        private boolean isFirst(int v) throws Exception {
+            inside();
+            if (v % 11 == 10) { throw new Exception("mapper"); }
+            return v % 2 == 0;
+        }
+
+        private int mapped(int v) throws Exception {
+            inside();
+            if (v % 13 == 12) { throw new Exception("map"); }
+            return v + 1;
+        }
+
+        private boolean isIn(int number, int v) throws Exception {
+            if (v % 13 == 11) { throw new Exception("filter"); }
+            return v % 3 != number;
         }
 
         Observable<Integer> build(Op op) {
@@ -199,60 +289,39 @@ public final class Programs {
                 case SHARE: return shares.get(op);
                 case USING: {
                     Observable<Integer> below = build(op.below[0]);
-                    return Observable.using(() -> {
-                        inside();
-                        if (number == 7) { throw new Exception("make"); }
-                        return make();
-                    }, it -> {
-                        inside();
-                        if (number == 6) { throw new Exception("source"); }
-                        return below;
-                    }, it -> {
-                        release(it);
-                        inside();
-                        if (number == 5) { throw new Exception("release"); }
-                    }, number % 2 == 0);
+                    return Observable.using(() -> supply(number), it -> source(number, below), it -> dispose(number, it), number % 2 == 0);
                 }
-                case FLAT: case SWITCH: {
+                case FLAT: case TWO: case CONCAT: case SWITCH: {
                     Observable<Integer> one = build(op.below[1]), other = build(op.below[2]);
-                    io.reactivex.rxjava3.functions.Function<Integer, Observable<Integer>> mapper = v -> {
-                        inside();
-                        if (v % 11 == 10) { throw new Exception("mapper"); }
-                        return v % 2 == 0 ? one : other;
-                    };
-                    return op.kind == Kind.FLAT ? build(op.below[0]).flatMap(mapper) : build(op.below[0]).switchMap(mapper);
+                    io.reactivex.rxjava3.functions.Function<Integer, Observable<Integer>> mapper = v -> isFirst(v) ? one : other;
+                    Observable<Integer> source = op.below[0].isPolled() ? build(op.below[0]).hide() : build(op.below[0]);
+                    return op.kind == Kind.FLAT ? source.flatMap(mapper) : op.kind == Kind.TWO ? source.flatMap(mapper, 2)
+                        : op.kind == Kind.CONCAT ? source.concatMap(mapper) : source.switchMap(mapper);
                 }
                 case UNTIL: return build(op.below[0]).takeUntil(build(op.below[1]));
                 case FINALLY: {
                     Observable<Integer> below = build(op.below[0]);
                     return Observable.defer(() -> {
                         int[] it = make();
-                        return below.doFinally(() -> {
-                            release(it);
-                            inside();
-                        });
+                        return below.doFinally(() -> dispose(0, it));
                     });
                 }
-                case MAP: return build(op.below[0]).map(v -> {
-                    inside();
-                    if (v % 13 == 12) { throw new Exception("map"); }
-                    return v + 1;
-                });
-                case FILTER: return build(op.below[0]).filter(v -> {
-                    if (v % 13 == 11) { throw new Exception("filter"); }
-                    return v % 3 != number;
-                });
+                case MAP: return build(op.below[0]).map(this::mapped);
+                case FILTER: return build(op.below[0]).filter(v -> isIn(number, v));
                 default: return build(op.below[0]).take(1 + number);
             }
         }
 
         final class Seen implements Observer<Integer>, Disposable {
-            final int number;
-            int root;
-            private Disposable given;
-            boolean isIn, isOver, isDisposed;
+            final int number, root;
+            private volatile Disposable given;
+            private final AtomicInteger in = new AtomicInteger();
+            private volatile boolean isOver, isDisposed;
 
-            Seen(int number) { this.number = number; }
+            Seen(int number, int root) {
+                this.number = number;
+                this.root = root;
+            }
 
             @Override public void dispose() {
                 isDisposed = true;
@@ -268,18 +337,18 @@ public final class Programs {
 
             private void told(String what, boolean isEnd) {
                 if (program.roots.get(root).isEngines()) {
-                    if (isIn) { wrong.add(number + " told " + what + " within an item"); }
+                    if (in.get() > 0) { wrong.add(number + " told " + what + " within an item"); }
                     if (isOver) { wrong.add(number + " told " + what + " behind its end"); }
-                    if (isDisposed) { wrong.add(number + " told " + what + " behind its disposal"); }
+                    if (isDisposed && program.manner != Manner.FOUR) { wrong.add(number + " told " + what + " behind its disposal"); }
                 }
                 if (isDisposed) { return; }
                 say(number + " " + what);
                 isOver = isEnd;
-                isIn = true;
+                in.incrementAndGet();
                 try {
-                    callback(true);
+                    callback(!isEnd || !program.isFlowable);  // an RxJava's doFinally, as a Flowable has where it is asked for a few items, does not act then
                 } finally {
-                    isIn = false;
+                    in.decrementAndGet();
                 }
             }
 
@@ -296,11 +365,43 @@ public final class Programs {
         /** What came of each action. */
         List<List<String>> go() {
             List<List<String>> all = new ArrayList<>();
-            for (Action action : program.actions) { all.add(took(() -> act(action))); }
+            if (program.manner == Manner.FOUR) { all.add(took(this::actAtOnce)); } else { for (Action action : program.actions) { all.add(took(() -> act(action))); } }
             for (int i = 0; i < seen.size(); i++) { all.add(took(seen.get(i)::dispose)); }
-            if (made != released) { wrong.add("made " + made + " released " + released); }
+            if (made.get() != released.get()) { wrong.add("made " + made + " released " + released); }
             for (PublishSubject<Integer> subject : subjects) { if (subject.hasObservers()) { wrong.add("a subject has an observer yet"); } }
             return all;
+        }
+
+        /** Four threads act at once. */
+        private void actAtOnce() {
+            AtomicInteger next = new AtomicInteger();
+            CyclicBarrier together = new CyclicBarrier(4);
+            Thread[] all = new Thread[4];
+            for (int t = 0; t < all.length; t++) {
+                all[t] = new Thread(() -> {
+                    try {
+                        together.await();
+                    } catch (Exception why) {
+                        wrong.add(why.toString());
+                    }
+                    for (int i; (i = next.getAndIncrement()) < 4 * program.actions.size();) {
+                        try {
+                            act(program.actions.get(i % program.actions.size()));
+                        } catch (IllegalStateException | NullPointerException why) {
+                            // as a callback raised it
+                        }
+                    }
+                });
+                all[t].setUncaughtExceptionHandler((thread, why) -> wrong.add("raised " + why));
+                all[t].start();
+            }
+            for (Thread each : all) {
+                try {
+                    each.join();
+                } catch (InterruptedException why) {
+                    wrong.add(why.toString());
+                }
+            }
         }
 
         private List<String> took(Runnable action) {
@@ -308,7 +409,7 @@ public final class Programs {
             try {
                 action.run();
             } catch (IllegalStateException | NullPointerException why) {
-                if (program.manner != Manner.WILD) { throw why; }
+                if (!program.isWild()) { throw why; }
             }
             return new ArrayList<>(log);
         }
@@ -337,7 +438,7 @@ public final class Programs {
         RxJavaPlugins.setErrorHandler(why -> { });
         for (long at = seed; at < seed + many; at++) {
             Program program = new Program(at, manner);
-            List<List<String>> theirs = manner == Manner.WILD ? null : new Run(program).go();
+            List<List<String>> theirs = program.isWild() ? null : new Run(program).go();
             Hooks.install();
             Run run = new Run(program);
             List<List<String>> ours = run.go();
