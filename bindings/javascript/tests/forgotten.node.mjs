@@ -64,6 +64,18 @@ export const only_ours = {
       rx.close();
     }
     console.log(JSON.stringify(lost));`), is: {} },
+  'what was told when it was not kept any more is collected later': { of: () => program(`
+    let sources = Array.from({ length: MANY }, () => new rx.Subject());
+    sources.forEach((it) => it.subscribe(hear));
+    await gone();
+    sources.forEach((it) => it.next(1));
+    sources = null;
+    const again = () => new rx.Subject().subscribe(hear).unsubscribe();
+    await gone();
+    const early = rx.counts().nodes;
+    for (let i = 0; i < 1024; i++) again();
+    await gone();
+    console.log(JSON.stringify([early, rx.counts().nodes]));`), is: [40, 0] },
   'more shares than an engine serves are collected': { of: () => program(`
     const forgets = () => {
       const s = new rx.Subject();

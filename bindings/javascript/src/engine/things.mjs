@@ -4,7 +4,8 @@
 import { Table } from './table.mjs';
 
 const LATELY = 256; // a power of two
-const NUMBERS = 0x3fffffff;
+/** How many are taken in until what was not kept, and was spoken of, is looked at again: by how often that was so. So what is told much costs little. */
+const WAITS = [1024, 4096, 16384];
 
 /** In the place of what was forgotten. */
 const NOBODY = {
@@ -18,6 +19,7 @@ class Loose {
     this.word = word;
     this.things = things;
     this.rest = it.owed;
+    this.times = 0; // how often it was kept again
     this.slot = it.slot, this.top = it.top, this.lo = it.lo, this.hi = it.hi;
   }
   is() {
@@ -40,7 +42,8 @@ class Loose {
 
 export class Things extends Table {
   #engine; #forgotten; #taken = 0; #lately = new Int32Array(LATELY);
-  #when = [0]; // by word, when it was taken in
+  #when = [0]; // by word, when it was taken in, or is due
+  #again = WAITS.map(() => []); #due = Infinity; // words that are kept again, and when each is due
 
   constructor(engine) {
     super();
@@ -54,10 +57,20 @@ export class Things extends Table {
     return word;
   }
   #enters(word) {
-    const now = this.#taken = (this.#taken + 1) & NUMBERS, at = now & (LATELY - 1), old = this.#lately[at];
+    const now = ++this.#taken, at = now & (LATELY - 1), old = this.#lately[at];
     this.#when[word] = now;
     this.#lately[at] = word;
-    if (old !== 0 && this.#when[old] === ((now - LATELY) & NUMBERS)) this.#loosens(old);
+    if (old !== 0 && this.#when[old] === now - LATELY) this.#loosens(old);
+    if (now >= this.#due) this.#looksAgain(now);
+  }
+  #looksAgain(now) {
+    this.#due = Infinity;
+    for (const list of this.#again) {
+      let at = 0;
+      for (; at < list.length && list[at + 1] <= now; at += 2) if (this.#when[list[at]] === list[at + 1]) this.#loosens(list[at]);
+      list.splice(0, at);
+      if (list.length) this.#due = Math.min(this.#due, list[1]);
+    }
   }
 
   // Whatever is under watch is kept, so that it can be told.
@@ -73,11 +86,14 @@ export class Things extends Table {
     if (isOfShare(it)) it.above.members.add(it);
     this.put(word, it.loose);
   }
-  /** It is kept, as one that was taken in now. */
+  /** It is kept, for a while. */
   again(word, loose, it) {
     if (this.get(word) !== loose) return;
     this.put(word, it);
-    this.#enters(word);
+    const at = Math.min(loose.times++, WAITS.length - 1), due = this.#taken + WAITS[at];
+    this.#when[word] = due;
+    this.#again[at].push(word, due);
+    this.#due = Math.min(this.#due, due);
   }
   /** What a tag holds is another: whether it may be forgotten is looked at anew. */
   anew(tag) {
