@@ -14,7 +14,7 @@ import tempfile
 import time
 
 from . import programs
-from .rows import ROWS
+from .rows import ROWS, planted
 
 TOP = pathlib.Path(__file__).resolve().parents[2]
 PYTHON = "/usr/bin/python3"  # which has RxPY, if any has
@@ -156,7 +156,7 @@ class Judge:
         self.ours = Runner(package, [OURS, THEIRS] if with_rxpy else [OURS])
         self.slow = Runner(package, [OURS], CELLARCLIFF_CTYPES="1") if with_ctypes else None
         self.compared, self.excused = collections.Counter(), collections.Counter()
-        self.reached = collections.Counter()
+        self.reached, self.planted, self.let_pass = collections.Counter(), collections.Counter(), collections.Counter()
 
     def findings(self, program, found, slow):
         """Names of what is wrong, and of the rows by which it differs from RxPY."""
@@ -186,7 +186,15 @@ class Judge:
                 rows = [name for name, holds in ROWS if holds(program, ours, theirs)]
                 if not rows:
                     wrong.append(f"RxPY differs: {what}")
+            else:
+                self.plants(program, ours, theirs)
         return wrong, rows
+
+    def plants(self, program, ours, theirs):
+        """Where both agree: which rows let pass a fault that is planted."""
+        for fault, planted_in in planted(ours):
+            self.planted[fault] += 1
+            self.let_pass.update(name for name, holds in ROWS if holds(program, planted_in, theirs))
 
     def judged(self, program):
         """One program by itself: what is wrong with it."""
@@ -267,6 +275,7 @@ def trial(words, judge):
     judge.end()
     print(f"{many} programs in {time.monotonic() - began:.0f} s, from {words.first}: " + ", ".join(f"{it} {n}" for it, n in manners.items()))
     print(f"compared: {dict(judge.compared)}; {rowed} differ from RxPY by a row of the page ({100 * rowed / max(1, judge.compared['RxPY']):.2f} %): {dict(judge.excused)}")
+    print(f"planted where both agree: {dict(judge.planted)}; let pass by a row: {dict(judge.let_pass)}")
     print("reached: " + ", ".join(f"{it} {n}" for it, n in sorted(judge.reached.items())))
     print(f"{len(forms)} of {len(programs.FORMS)} words; least often: " + ", ".join(f"{it} {n}" for it, n in forms.most_common()[:-9:-1])
           + "; never: " + (", ".join(sorted(set(programs.FORMS) - set(forms))) or "none"))

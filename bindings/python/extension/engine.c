@@ -593,6 +593,7 @@ static PyMemberDef leaf_members[] = {{"number", T_ULONGLONG, offsetof(Leaf, node
                                      {NULL, 0, 0, 0, NULL}};
 static int leaf_traverse(Leaf *self, visitproc visit, void *arg) {
   Py_VISIT(Py_TYPE(self)); Py_VISIT(self->core); Py_VISIT(self->on_closed); Py_VISIT(self->above);
+  for (int i = 0; !self->above && self->below && i < self->owed; i++) Py_VISIT(self->thing); /* a connection's */
   return visit_below(self->below, visit, arg);
 }
 static int leaf_clear(Leaf *self) {

@@ -73,10 +73,18 @@ class Scheduler:
 
         def tick(_: Any, __: Any = None) -> None:
             nonlocal state
-            if not current.is_disposed:
-                current.disposable = self.schedule_relative(seconds, tick)
+            if current.is_disposed:
+                return
+            began = self.now
+            try:
                 answer = action(state)
                 state = state if answer is None else answer
+            except Exception:
+                current.dispose()
+                raise
+            finally:  # behind what the action schedules, and also where it is interrupted
+                if not current.is_disposed:
+                    current.disposable = self.schedule_relative(max(0.0, seconds - (self.now - began).total_seconds()), tick)
         current.disposable = self.schedule_relative(seconds, tick)
         return current
 

@@ -22,6 +22,7 @@ class _Share:
         self.source, self.kind, self.word = source, kind, next(_words)
         self.hub = UNKNOWN_HUB  # the last that it had
         self.connection: Any = None
+        self._engine: Any = None  # in which that is
         self._subscribers: Dict[Any, None] = {}  # their leaves: held by what is below the connection
         self._level: Optional[int] = None
 
@@ -61,9 +62,14 @@ class _Share:
     def _closed(self) -> None:
         self.connection = None
 
+    def __del__(self) -> None:
+        """Nothing feeds it any more, and nobody can disconnect it."""
+        if self.connection is not None:
+            C.call(self._engine.disconnect, self)
+
     def connect(self, engine: Engine, scheduler: Any) -> Any:
         """The connection, which is made if there is none."""
-        leaf = self._leaf(engine, self._closed)
+        leaf, self._engine = self._leaf(engine, self._closed), engine
         connection = engine.connect(self, leaf, self.level)
         if connection is None:
             return self.connection
