@@ -41,6 +41,7 @@ final class Engine {
     private static final int MOST_GUARDS = 1024;
     private Guard guards;
     private int guardCount;
+    private long rounds;
     /** Those that have room for what waits, of which the engine was not told yet. */
     private Bounded toGoOn;
 
@@ -189,6 +190,7 @@ final class Engine {
         trees.take(ref.index);
         ref.index = -1;
         Tree tree = ref.tree();
+        ref.lose();
         if (tree == null) { return; }
         if (tree.isPinned) { unpin(tree); }
         if (tree.guard != null) { unguard(tree); }
@@ -240,18 +242,28 @@ final class Engine {
 
     /** Nobody can reach a tree, says its guard: whether something of it is to be told yet. */
     synchronized boolean isAbandoned(Tree tree) {
-        tree.guard = null;  // a guard is finalized once
         find(tree);
         return tree.ref.owed > 0 && tree.ref.closedBy >= 0;
     }
 
-    /** The tree, and those that its closing may close: their references may have been cleared with its own. */
-    private static void find(Tree tree) {
-        if (tree.ref.owed == 0 || !tree.ref.find(tree)) { return; }
-        for (int i = 0; i < tree.things.top(); i++) {
-            Thing thing = tree.things.get(i);
-            if (thing instanceof Share.Subscriber && ((Share.Subscriber) thing).share.connection != null) { find(((Share.Subscriber) thing).share.connection); }
+    /** The tree is there again, and so are all of its shares' that were collected with it: what is told of one may be told of the others. */
+    private void find(Tree tree) {
+        rounds++;
+        for (Tree last = isFound(tree) ? tree : null, at = last, next; at != null; at = next) {
+            for (int i = 0; i < at.things.top(); i++) {
+                Thing thing = at.things.get(i);
+                if (thing instanceof Share.Subscriber) { last = ((Share.Subscriber) thing).share.find(this, rounds, last); }
+            }
+            next = at.foundNext;
+            at.foundNext = null;
         }
+    }
+
+    /** Whether it was collected, and is there again. Its guard is finalized once, so it is used no more. */
+    boolean isFound(Tree tree) {
+        if (tree.ref.owed == 0 || !tree.ref.find(tree)) { return false; }
+        tree.guard = null;
+        return true;
     }
 
     /** Disposes of a tree that nobody can reach. */

@@ -45,6 +45,7 @@ final class Guard {
                     found.abandonedNext = null;
                 }
                 found.engine.disposeOf(found);
+                found.engine.closeCollected();
             } catch (Throwable why) {  // whatever is raised, others are disposed of
                 tell(why);
             }

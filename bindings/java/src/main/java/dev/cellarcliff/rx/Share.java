@@ -14,6 +14,8 @@ final class Share {
     long hub = Native.UNKNOWN_HUB;
     /** How many further engines it has tried. */
     int tried;
+    /** In which round its connection and subscribers were looked for last. */
+    private long found;
     /** The last connection. */
     Connection connection;
     /** Whether a connection that was made by hand ended, and its error, until that is forgotten. */
@@ -31,6 +33,21 @@ final class Share {
     void forget() {
         hasEnded = false;
         error = null;
+    }
+
+    /** Its connection and subscribers are there again, if they were collected: the last of a chain, to which they come. */
+    Tree find(Engine by, long round, Tree last) {
+        if (found == round) { return last; }
+        found = round;
+        Tree tail = connection == null ? last : found(by, connection, last);
+        for (Subscriber each = first; each != null; each = each.after) { tail = found(by, each.tree, tail); }
+        return tail;
+    }
+
+    private static Tree found(Engine by, Tree tree, Tree last) {
+        if (!by.isFound(tree)) { return last; }
+        last.foundNext = tree;
+        return tree;
     }
 
     /** A subscription of which the lane can be another's too: one that has nothing but this share. */

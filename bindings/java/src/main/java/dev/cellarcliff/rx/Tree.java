@@ -17,7 +17,7 @@ abstract class Tree {
     int eager, late;
     /** If something was held here, or subscribes to a share. */
     Guard guard;
-    Tree abandonedNext;
+    Tree abandonedNext, foundNext;
     // the list of what the engine holds
     boolean isPinned;
     Tree pinnedBefore, pinnedAfter;
@@ -42,6 +42,9 @@ abstract class Tree {
         Ref(Tree tree, ReferenceQueue<Tree> collected) { super(tree, collected); }
 
         Tree tree() { return found == null ? get() : found; }
+
+        /** All of it is told. */
+        void lose() { found = null; }
 
         /** It is there again, if it was collected. */
         boolean find(Tree tree) {

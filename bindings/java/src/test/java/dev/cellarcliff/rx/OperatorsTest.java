@@ -165,6 +165,23 @@ class OperatorsTest {
         same(100_000, told[0]);
     }
 
+    void disposables_are_disposed_of_once() {
+        CompositeDisposable all = new CompositeDisposable();
+        SerialDisposable latest = new SerialDisposable();
+        Disposable kept = Disposable.fromAction(() -> log.add("kept"));
+        all.addAll(latest, kept, Disposable.fromAction(() -> log.add("other")));
+        latest.set(Disposable.fromAction(() -> log.add("first")));
+        latest.set(Disposable.fromAction(() -> log.add("second")));
+        expect("first");
+        same(true, all.delete(kept));
+        all.dispose();
+        same(true, log.remove("second") && log.remove("other"));
+        latest.set(Disposable.fromAction(() -> log.add("late")));
+        same(false, all.add(Disposable.fromAction(() -> log.add("later"))));
+        expect("late", "later");
+        same(false, kept.isDisposed());
+    }
+
     void what_waits_is_forgotten_where_it_ends() {
         Disposable d = told(s.concatMap(v -> held(String.valueOf(v), other, true)));
         s.onNext(0);

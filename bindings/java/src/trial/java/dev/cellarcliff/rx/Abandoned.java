@@ -41,9 +41,10 @@ public final class Abandoned {
     }
 
     private static void settle() throws InterruptedException {
-        for (int i = 0; i < 20; i++) {
+        for (int i = 0, told = -1; i < 20 || released.get() != told; i++) {
+            told = released.get();
             System.gc();
-            Thread.sleep(20);
+            Thread.sleep(100);
             Engine.current().closeCollected();
         }
     }

@@ -1,38 +1,8 @@
 package io.reactivex.rxjava3.disposables;
 
-import dev.cellarcliff.rx.Held;
-
-/** In the place of RxJava's class, over the engine. */
-public final class SerialDisposable implements Disposable {
-    private final Held held = new Held(true);
-    private Held.Member latest;
-
+/** In the place of RxJava's class, the engine's. */
+public final class SerialDisposable extends dev.cellarcliff.rx.SerialDisposable {
     public SerialDisposable() { }
 
-    public SerialDisposable(Disposable first) { set(first); }
-
-    public boolean set(Disposable next) { return exchange(next, false); }
-
-    public boolean replace(Disposable next) { return exchange(next, true); }
-
-    private boolean exchange(Disposable next, boolean isKept) {
-        Held.Member member;
-        synchronized (this) {
-            if (isKept && latest != null) { latest.keep(); }
-            member = held.hold(next == null ? Disposable.empty() : next);
-            if (member != null) { latest = next == null ? null : member; }
-        }
-        if (member == null && next != null) { next.dispose(); }
-        held.disposeOfRest();
-        return member != null;
-    }
-
-    public synchronized Disposable get() { return held.isOver() ? Disposable.disposed() : latest == null ? null : latest.one; }
-
-    @Override public void dispose() {
-        held.end();
-        held.disposeOfRest();
-    }
-
-    @Override public boolean isDisposed() { return held.isOver(); }
+    public SerialDisposable(Disposable first) { super(first); }
 }

@@ -10,15 +10,15 @@ import java.util.Queue;
 import java.util.concurrent.ConcurrentLinkedQueue;
 
 /** Disposables as the engine's resources, each of a source that goes on until it is let go: all of them as a flatMap has them, or the latest as a switchMap. */
-public final class Held {
+final class Held {
     private final PublishSubject<Member> members = PublishSubject.create();
     private final Queue<Disposable> out = new ConcurrentLinkedQueue<>();
     private final Disposable all;
     private volatile boolean isOver;
 
     /** One that is held, or was. */
-    public final class Member {
-        public final Disposable one;
+    final class Member {
+        final Disposable one;
         private final PublishSubject<Object> until = PublishSubject.create();
         private volatile boolean isIn, isKept;
 
@@ -30,34 +30,34 @@ public final class Held {
         }
 
         /** Lets it go without disposing of it. */
-        public void keep() { isKept = true; }
+        void keep() { isKept = true; }
 
         /** Lets it go. */
-        public void end() { until.onComplete(); }
+        void end() { until.onComplete(); }
     }
 
-    public Held(boolean isLatest) {
+    Held(boolean isLatest) {
         io.reactivex.rxjava3.functions.Function<Member, io.reactivex.rxjava3.core.Observable<Object>> held = member ->
             Rx.using(member::in, it -> member.until, it -> { if (!member.isKept) { out.add(it); } });
         all = members.compose(isLatest ? Rx.switchMap(held) : Rx.flatMap(held)).subscribe();
     }
 
     /** Holds one: null where this is over. One call at a time; `disposeOfRest` has to follow, outside any lock. */
-    public Member hold(Disposable one) {
+    Member hold(Disposable one) {
         Member member = new Member(one);
         members.onNext(member);
         return member.isIn ? member : null;
     }
 
-    public boolean isOver() { return isOver; }
+    boolean isOver() { return isOver; }
 
-    public void end() {
+    void end() {
         isOver = true;
         all.dispose();
     }
 
     /** Disposes of what was let go. */
-    public void disposeOfRest() {
+    void disposeOfRest() {
         List<Throwable> failed = new ArrayList<>();
         for (Disposable one; (one = out.poll()) != null;) {
             try {
