@@ -58,10 +58,10 @@ static jboolean JNICALL fits_(STATIC) {
   return CELLAR_FITS();
 }
 
-static jlong JNICALL open_(STATIC) {
+static jlong JNICALL open_(STATIC, jint events) {
   UNUSED;
   struct desk *desk = calloc(1, sizeof *desk);
-  if (desk && cellar_new(&desk->engine, 0)) {
+  if (desk && cellar_new(&desk->engine, (uint32_t)events)) {
     free(desk);
     desk = NULL;
   }
@@ -118,13 +118,29 @@ static void JNICALL totals_(STATIC, jlong at) {
   cellar_totals(&desk->engine, &desk->totals);
 }
 
+/* The history, or NULL where it is not whole, or memory is refused. */
+static jbyteArray JNICALL dump_(STATIC, jlong at) {
+  (void)class;
+  struct cellar *engine = &((struct desk *)at)->engine;
+  uint64_t size = 0;
+  uint8_t none = 0;
+  jbyteArray told = NULL;
+  cellar_dump(engine, &none, 0, &size);
+  uint8_t *bytes = malloc(size + 1);
+  if (bytes && !cellar_dump(engine, bytes, size, &size) && size <= INT32_MAX && (told = (*env)->NewByteArray(env, (jsize)size)))
+    (*env)->SetByteArrayRegion(env, told, 0, (jsize)size, (const jbyte *)bytes);
+  free(bytes);
+  return told;
+}
+
 /* All are linked as the library is loaded: to link one at its first call the JVM would ask for memory in the midst of a step. */
 #define CALL(name, given, answers) {(char *)#name, (char *)"(" given ")" answers, (void *)name##_}
 JNIEXPORT jint JNICALL JNI_OnLoad(JavaVM *machine, void *reserved) {
   static const JNINativeMethod calls[] = {
-      CALL(fits, "", "Z"),          CALL(open, "", "J"),        CALL(buffer, "J", "Ljava/nio/ByteBuffer;"),
+      CALL(fits, "", "Z"),          CALL(open, "I", "J"),        CALL(buffer, "J", "Ljava/nio/ByteBuffer;"),
       CALL(step, "JJJJJJJJJJ", "J"), CALL(next, "JJJJ", "J"),    CALL(pass, "JJJJZ", "V"),
       CALL(stop, "JJJJ", "V"),      CALL(closings, "JJ", "J"), CALL(totals, "J", "V"),
+      CALL(dump, "J", "[B"),
   };
   JNIEnv *env;
   (void)reserved;

@@ -6,6 +6,7 @@ import io.reactivex.rxjava3.core.Observer;
 import java.lang.ref.Reference;
 import java.lang.ref.ReferenceQueue;
 import java.nio.ByteBuffer;
+import java.nio.charset.StandardCharsets;
 import java.util.ArrayList;
 import java.util.List;
 
@@ -18,15 +19,20 @@ import java.util.List;
  * nothing fails.
  */
 final class Engine {
-    private static volatile Engine current = new Engine(new Spares());
+    private static volatile Engine current = new Engine(new Spares(), 0, null);
 
     /** The engine of what is subscribed to now. */
     static Engine current() { return current; }
 
     /** For tests: what comes from now on has an engine of its own. */
-    static Engine renew() { return current = new Engine(new Spares()); }
+    static Engine renew() { return renew(0, null); }
 
-    private final long desk = Native.open();
+    /** What comes from now on has an engine with a history of so many events. */
+    static Engine renew(int events, History history) { return current = new Engine(new Spares(), events, history); }
+
+    private final long desk;
+    /** If it is kept. */
+    private final History history;
     private final ByteBuffer memory;
     private final ThreadLocal<Stack> stacks = ThreadLocal.withInitial(Stack::new);
     private final Slots<Tree.Ref> trees = new Slots<>();
@@ -45,8 +51,10 @@ final class Engine {
     /** Those that have room for what waits, of which the engine was not told yet. */
     private Bounded toGoOn;
 
-    private Engine(Spares spares) {
+    private Engine(Spares spares, int events, History history) {
         this.spares = spares;
+        this.history = history;
+        desk = Native.open(events);
         if (desk == 0) { throw new OutOfMemoryError("cellarcliff: no memory for an engine"); }
         memory = Native.memory(desk);
         Errors.prepare();
@@ -60,7 +68,7 @@ final class Engine {
 
         synchronized Engine next(Share share) {
             if (share.tried == all.size()) {
-                all.add(new Engine(this));
+                all.add(new Engine(this, 0, null));
                 latest = all.size() - 1;
             } else if (share.tried > 0) {
                 latest = (latest + 1) % all.size();
@@ -508,6 +516,7 @@ final class Engine {
             status = stack.status;
             if (isDone) {
                 opened(stack, at, node);
+                if (history != null && tag != null) { history.name(memory.getLong(OTHER + 8), "resource " + tree.line); }
                 if (hasWord) { node.opened(user); }
                 if (tag != null) { hold(tree, tag, 1); }
             }
@@ -521,6 +530,7 @@ final class Engine {
     private void opened(Stack stack, Place at, Node node) {
         node.slot = memory.getLong(NODE);
         node.number = memory.getLong(NODE + 8);
+        if (history != null && (at.isRoot() || node instanceof Share.Subscriber)) { history.name(node.number, at.tree.line); }
         if (at.isRoot()) {
             Root root = (Root) at.tree;
             root.isOpen = true;
@@ -564,6 +574,7 @@ final class Engine {
         Tree tree = at.tree;
         Share.Subscriber node = new Share.Subscriber(share, at);
         Connection made = share.kind == SHARED ? new Connection(share, this) : null;
+        if (made != null) { made.line = tree.line; }
         Place source = made == null ? null : Place.source(made);
         boolean isConnected = false;
         int status;
@@ -617,6 +628,7 @@ final class Engine {
 
     /** Connects a share by hand: the connection that there is now. It is new if it is `made`. */
     Connection connect(Share share, Connection made) {
+        if (history != null) { made.line = History.line(); }
         Stack stack = stacks.get();
         int status;
         synchronized (this) {
@@ -677,6 +689,7 @@ final class Engine {
         Engine engine = source.engine();
         engine.closeCollected();
         Root root = new Root(engine, observer);
+        if (engine.history != null) { root.line = History.line(); }
         observer.onSubscribe(root);
         if (root.isDisposed()) {
             source.isNotOpened();
@@ -705,6 +718,12 @@ final class Engine {
             }
             serve(stack, null, null);
         }
+    }
+
+    /** The history with its names; null where it is not whole. */
+    synchronized String history() {
+        byte[] dump = history == null ? null : Native.dump(desk);
+        return dump == null ? null : history.with(new String(dump, StandardCharsets.US_ASCII));
     }
 
     /** What is open: nodes, resources that are held, resources that are still to be released, effects; then trees and values kept here. */

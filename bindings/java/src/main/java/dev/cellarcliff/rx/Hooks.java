@@ -26,6 +26,7 @@ public final class Hooks {
     public static synchronized void install() {
         if (RxJavaPlugins.getOnObservableAssembly() == observable) { return; }
         uninstall();
+        History.keepAsAsked();
         Engine.current();
         RxJavaPlugins.setOnObservableAssembly(observable = new Hook<>(RxJavaPlugins.getOnObservableAssembly()));
         RxJavaPlugins.setOnConnectableObservableAssembly(connectable = new Hook<>(RxJavaPlugins.getOnConnectableObservableAssembly()));

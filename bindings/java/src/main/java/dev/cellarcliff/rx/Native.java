@@ -30,8 +30,8 @@ final class Native {
     static ByteBuffer memory(long desk) { return buffer(desk).order(ByteOrder.nativeOrder()); }
 
     private static native boolean fits();
-    /** A desk, or 0 where memory was refused. */
-    static native long open();
+    /** A desk whose history has so many events, or as many as it chooses for 0; or 0 where memory was refused. */
+    static native long open(int events);
     private static native ByteBuffer buffer(long desk);
     static native long step(long desk, long by, long depth, long begun, long head, long hub, long slot, long number, long user, long value);
     static native long next(long desk, long by, long depth, long begun);
@@ -39,4 +39,6 @@ final class Native {
     static native void stop(long desk, long by, long depth, long begun);
     static native long closings(long desk, long from);
     static native void totals(long desk);
+    /** The history; null where it is not whole. */
+    static native byte[] dump(long desk);
 }

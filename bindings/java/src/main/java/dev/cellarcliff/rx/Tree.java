@@ -9,6 +9,8 @@ import java.lang.ref.WeakReference;
  */
 abstract class Tree {
     final Engine engine;
+    /** Where it was subscribed to, if the history is kept. */
+    String line;
     final Ref ref;
     final Slots<Thing> things = new Slots<>();
     /** If something was held here: made beforehand, since an end may not fail. */

@@ -182,6 +182,18 @@ class OperatorsTest {
         same(false, kept.isDisposed());
     }
 
+    void the_history_says_where_what_is_open_was_subscribed_to() {
+        same(true, Engine.current().history() == null);
+        Engine kept = Engine.renew(1 << 16, new History());
+        Disposable d = held("r", s, true).share().subscribe();
+        int line = new Throwable().getStackTrace()[0].getLineNumber() - 1;
+        String text = History.text();
+        same(true, text.startsWith("{\"dump\":[[") && text.contains("\"resource OperatorsTest.java:" + line + '"') && text.contains("\"OperatorsTest.java:" + line + '"'));
+        d.dispose();
+        same("[0, 0, 0, 0, 0, 0]", java.util.Arrays.toString(kept.counts()));
+        log.clear();
+    }
+
     void what_waits_is_forgotten_where_it_ends() {
         Disposable d = told(s.concatMap(v -> held(String.valueOf(v), other, true)));
         s.onNext(0);
