@@ -148,6 +148,88 @@ class FaultsTest {
         expectReleased(1);
     }
 
+    /** Raises what is planted as it is called for the so-manieth time. */
+    private static final class Planted {
+        private final Throwable error;
+        private int left;
+        boolean isRaised;
+
+        Planted(Throwable error, int at) {
+            this.error = error;
+            left = at;
+        }
+
+        void step() {
+            if (left-- != 0) { return; }
+            isRaised = true;
+            throw io.reactivex.rxjava3.internal.util.ExceptionHelper.wrapOrThrow(error);
+        }
+    }
+
+    private Observable<Integer> planted(Observable<Integer> source, boolean isEager, Planted fault) {
+        return Observable.using(() -> {
+            fault.step();
+            return made.incrementAndGet();
+        }, it -> {
+            fault.step();
+            return source;
+        }, it -> {
+            released.incrementAndGet();
+            fault.step();
+        }, isEager);
+    }
+
+    /** Each callback of a pipeline raises in its turn, as it is subscribed to, told items, and ended or disposed of: what was made is released, and a second pipeline goes on. */
+    void what_is_raised_at_any_step_loses_nothing() {
+        for (int way = 0; way < 3; way++) {
+            for (Throwable error : List.of(new OutOfMemoryError("planted"), new StackOverflowError(), new IllegalStateException("planted"), new LinkageError("planted"))) {
+                for (int at = 0;; at++) {
+                    Planted fault = new Planted(error, at);
+                    PublishSubject<Integer> s = PublishSubject.create(), other = PublishSubject.create();
+                    Observable<Integer> shared = planted(s, true, fault).share();
+                    Observable<Integer> all = planted(shared.filter(v -> {
+                        fault.step();
+                        return true;
+                    }).flatMap(v -> {
+                        fault.step();
+                        return planted(Observable.just(v).hide(), false, fault);
+                    }).concatMap(v -> {
+                        fault.step();
+                        return v == 1 ? other : Observable.just(v);
+                    }).switchMap(v -> planted(Observable.just(v), true, fault)).takeUntil(Observable.never()).doFinally(fault::step), true, fault);
+                    int[] told = new int[1];
+                    Disposable[] given = new Disposable[1];
+                    Observer<Integer> observer = new Observer<Integer>() {
+                        @Override public void onSubscribe(Disposable it) {
+                            given[0] = it;
+                            fault.step();
+                        }
+                        @Override public void onNext(Integer v) { fault.step(); }
+                        @Override public void onError(Throwable why) { fault.step(); }
+                        @Override public void onComplete() { fault.step(); }
+                    };
+                    Disposable[] second = {Disposable.disposed()};
+                    int ending = way;
+                    for (Runnable each : List.<Runnable>of(() -> second[0] = shared.subscribe(v -> told[0]++, why -> { }), () -> all.subscribe(observer), () -> s.onNext(1), () -> s.onNext(2), other::onComplete, () -> {
+                        if (ending == 0) { s.onComplete(); } else if (ending == 1) { s.onError(new Exception("end")); }
+                    }, () -> { if (given[0] != null) { given[0].dispose(); } }, () -> second[0].dispose())) {
+                        try {
+                            each.run();
+                        } catch (Throwable why) {
+                            same(true, fault.isRaised);
+                        }
+                    }
+                    same(true, told[0] == 2 || fault.isRaised);
+                    same(false, s.hasObservers() || other.hasObservers());
+                    expectReleased(made.get());
+                    same(java.util.Arrays.toString(new long[6]), java.util.Arrays.toString(Engine.current().counts()));
+                    if (!fault.isRaised) { break; }
+                }
+            }
+        }
+        Tests.strays.clear();
+    }
+
     void an_interrupt_within_an_observer_loses_nothing() throws Exception {
         PublishSubject<Integer> s = PublishSubject.create();
         CountDownLatch isIn = new CountDownLatch(1);
