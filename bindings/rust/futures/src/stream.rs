@@ -31,7 +31,23 @@ struct Shared<T, E> {
     room: std::sync::Condvar,
 }
 
-/// The items of an observable; an error is the last. Dropping it disposes of the subscription.
+/// What the observer has. As that is dropped, though it heard no end, the stream has one.
+struct Hears<T, E>(Arc<Shared<T, E>>);
+
+impl<T, E> Drop for Hears<T, E> {
+    fn drop(&mut self) {
+        let mut queue = self.0.lock();
+        queue.end.get_or_insert(Ok(()));
+        let waker = if queue.is_over { None } else { queue.waker.take() };
+        drop(queue);
+        if let Some(it) = waker {
+            it.wake()
+        }
+    }
+}
+
+/// The items of an observable; an error is the last. It ends too where its subscription is closed by a panic. Dropping it disposes of the
+/// subscription.
 pub struct Items<T, E> {
     shared: Arc<Shared<T, E>>,
     subscription: Option<Subscription<'static>>,
@@ -78,8 +94,8 @@ impl<T: Send + 'static, E: Send + 'static> IntoStream for Observable<'static, T,
 pub fn into_stream<T: Send + 'static, E: Send + 'static>(source: &Observable<'static, T, E>, room: usize, overflow: Overflow) -> Items<T, E> {
     let queue = Queue { items: VecDeque::with_capacity(room.max(1)), end: None, is_over: false, lost: 0, waker: None };
     let shared = Arc::new(Shared { queue: Mutex::new(queue), room: Default::default() });
-    let to = shared.clone();
-    let subscription = source.observe(move |note| to.hear(note, room.max(1), overflow));
+    let hears = Hears(shared.clone());
+    let subscription = source.observe(move |note| hears.hear(note, room.max(1), overflow));
     Items { shared, subscription: Some(subscription) }
 }
 
@@ -87,16 +103,18 @@ impl<T, E> Shared<T, E> {
     fn lock(&self) -> std::sync::MutexGuard<'_, Queue<T, E>> {
         self.queue.lock().unwrap_or_else(PoisonError::into_inner)
     }
+}
 
+impl<T, E> Hears<T, E> {
     fn hear(&self, note: Note<T, E>, room: usize, overflow: Overflow) {
-        let mut queue = self.lock();
+        let mut queue = self.0.lock();
         let mut lost = None;
         match note {
             Note::Completed => queue.end = Some(Ok(())),
             Note::Error(error) => queue.end = Some(Err(error)),
             Note::Next(item) => {
                 while overflow == Overflow::Wait && queue.items.len() >= room && !queue.is_over {
-                    queue = self.room.wait(queue).unwrap_or_else(PoisonError::into_inner);
+                    queue = self.0.room.wait(queue).unwrap_or_else(PoisonError::into_inner);
                 }
                 if queue.items.len() < room {
                     queue.items.push_back(item);

@@ -21,7 +21,7 @@ impl<T> Drop for Task<T> {
 }
 
 /// Spawns a task for each subscription, which is given the end of the engine. It is aborted once, when the subscription closes: at
-/// its next await, if it is at work then.
+/// its next await, if it is at work then. One that panics tells nothing more.
 pub fn task<T: Send + 'static, E: Send + 'static, W: Future<Output = ()> + Send + 'static>(
     on: Handle, work: impl Fn(Emitter<'static, T, E>) -> W + Send + Sync + 'static,
 ) -> Observable<'static, T, E> {

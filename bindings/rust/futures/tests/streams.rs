@@ -4,10 +4,12 @@ use cellarcliff::Note;
 use cellarcliff_futures::*;
 use futures::executor::block_on;
 use futures::stream::{self, FusedStream, Stream, StreamExt};
+use std::future::Future;
+use std::panic::{catch_unwind, resume_unwind, AssertUnwindSafe};
 use std::pin::Pin;
 use std::sync::atomic::{AtomicUsize, Ordering::SeqCst};
-use std::sync::Arc;
-use std::task::{Context, Poll};
+use std::sync::{Arc, Mutex};
+use std::task::{Context, Poll, Wake, Waker};
 use std::time::Duration;
 
 fn runtime() -> tokio::runtime::Runtime {
@@ -152,4 +154,82 @@ fn a_stream_goes_through_an_observable_and_is_a_stream_again() {
     let shared = source.filter(|it| it % 2 == 0).share();
     let mut all = shared.into_stream(100, Overflow::Newest);
     assert_eq!((block_on(all.by_ref().collect::<Vec<_>>()).len(), all.is_terminated()), (50, true));
+}
+
+type Spawned = Pin<Box<dyn Future<Output = ()> + Send>>;
+
+/// A waker that panics.
+struct Panics;
+
+impl Wake for Panics {
+    fn wake(self: Arc<Self>) {
+        resume_unwind(Box::new("a waker"))
+    }
+}
+
+fn panics(work: impl FnOnce()) -> &'static str {
+    catch_unwind(AssertUnwindSafe(work)).expect_err("it panics").downcast_ref::<&str>().unwrap()
+}
+
+/// What it hands `spawn` is polled by hand.
+fn by_hand() -> (impl Fn(Spawned) + Send + Sync, Arc<Mutex<Vec<Spawned>>>) {
+    let all = Arc::new(Mutex::new(vec![]));
+    let spawned = all.clone();
+    (move |it| spawned.lock().unwrap().push(it), all)
+}
+
+#[test]
+fn a_stream_ends_where_a_panic_closes_its_subscription() {
+    let subject = Subject::<u32>::new();
+    let broken = subject.observable().map(|it| if it == 2 { resume_unwind(Box::new("broken")) } else { it });
+    let heard = broken.into_stream(8, Overflow::Oldest);
+    let waits = std::thread::spawn(move || block_on(heard.collect::<Vec<_>>()));
+    subject.next(1);
+    assert_eq!((panics(|| subject.next(2)), subject.observers()), ("broken", 0));
+    assert_eq!(waits.join().unwrap(), [Ok(1)]);
+}
+
+#[test]
+fn what_is_polled_after_its_end_has_nothing_more() {
+    let subject = Subject::<u32, &str>::new();
+    let mut heard = subject.observable().into_stream(8, Overflow::Oldest);
+    subject.next(1);
+    subject.error("broken");
+    let mut next = || block_on(heard.next());
+    assert_eq!([next(), next(), next(), next()], [Some(Ok(1)), Some(Err("broken")), None, None]);
+    let (spawn, all) = by_hand();
+    let (_subscription, heard) = from_stream(|| stream::iter([Ok::<_, ()>(1)]), spawn).channel();
+    let mut context = Context::from_waker(futures::task::noop_waker_ref());
+    for _ in 0..3 {
+        assert_eq!(all.lock().unwrap()[0].as_mut().poll(&mut context), Poll::Ready(()));
+    }
+    assert_eq!(heard.iter().collect::<Vec<_>>(), [Note::Next(1), Note::Completed]);
+}
+
+#[test]
+fn a_waker_that_panics_loses_no_item_and_no_stream() {
+    let (panicking, subject, dropped) = (Waker::from(Arc::new(Panics)), Subject::<u32>::new(), Arc::new(AtomicUsize::new(0)));
+    let mut context = Context::from_waker(&panicking);
+    let mut heard = subject.observable().into_stream(8, Overflow::Oldest);
+    assert_eq!(Pin::new(&mut heard).poll_next(&mut context), Poll::Pending);
+    assert_eq!((panics(|| subject.next(1)), subject.observers()), ("a waker", 0));
+    assert_eq!(block_on(heard.collect::<Vec<_>>()), [Ok(1)]);
+
+    let ((spawn, all), count) = (by_hand(), dropped.clone());
+    let waits = from_stream::<u32, (), _>(move || Counted(stream::pending(), count.clone()), spawn).each(drop);
+    assert_eq!(all.lock().unwrap()[0].as_mut().poll(&mut context), Poll::Pending);
+    assert_eq!((panics(|| waits.dispose()), dropped.load(SeqCst)), ("a waker", 1));
+    assert_eq!(all.lock().unwrap()[0].as_mut().poll(&mut context), Poll::Ready(()));
+}
+
+#[test]
+fn a_stream_that_panics_closes_its_subscription_and_is_dropped_once() {
+    let (dropped, (spawn, all)) = (Arc::new(AtomicUsize::new(0)), by_hand());
+    let count = dropped.clone();
+    let breaks = |it: &u32| if *it == 2 { resume_unwind(Box::new("broken")) };
+    let source = from_stream::<_, (), _>(move || Counted(stream::iter(1..4).inspect(breaks).map(Ok), count.clone()), spawn);
+    let (subscription, heard) = source.channel();
+    let mut context = Context::from_waker(futures::task::noop_waker_ref());
+    assert_eq!(panics(|| _ = all.lock().unwrap()[0].as_mut().poll(&mut context)), "broken");
+    assert_eq!((heard.iter().collect::<Vec<_>>(), subscription.is_closed(), dropped.load(SeqCst)), (vec![Note::Next(1)], true, 1));
 }
