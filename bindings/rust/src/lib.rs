@@ -26,14 +26,16 @@
 //!   [`zip`](local::Observable::zip), [`retry`](local::Observable::retry)), the source has a root of its own in the same lane, and a
 //!   function is called as that is told.
 //! - **Panics.** If an observer, a function on items or a `drop` panics, everything else that is due is told and released first. The
-//!   subscription is closed whose observer or function panicked. Then the first panic goes on to whoever emitted, subscribed or disposed.
+//!   subscription is closed whose observer or function panicked; of a source that is shared all that subscribed, of a published one the
+//!   connection. Then the first panic goes on to whoever emitted, subscribed or disposed.
 //! - **Memory.** What the engine cannot have it refuses, and nothing has changed. [`local::Scope::new`], `observe_in`, `connect_in` and
 //!   `try_next` answer that; their plain forms panic, and so does what is subscribed to from within, or told on by an operator that has a
 //!   root of its own. Closing asks the engine for none. What this crate's own lists and counts cannot have aborts, as in all of Rust.
 //! - **Speed.** A command takes a lock once, and once more for each thing that comes of it. An item that nothing stands before is in no
 //!   table: it goes from the emitter to the observer.
-//! - **Engines.** What borrows nothing uses one engine for each thread (`local`) or one for all (`sync`). A [`local::Scope`] is an engine
-//!   of its own, in which functions may borrow; dropping it closes all that is open in it.
+//! - **Engines.** What borrows nothing uses one engine for each thread (`local`) or one for all (`sync`). A thread's own ends with the
+//!   thread: it closes what is open in it, and a panic goes no further then. A [`local::Scope`] is an engine of its own, in which functions
+//!   may borrow; dropping it closes all that is open in it.
 //!
 //! This crate is tested, not proved; nor is proved what a caller does with a resource once it has it.
 #![deny(missing_docs)]

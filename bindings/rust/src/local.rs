@@ -5,9 +5,11 @@
 
 pub(crate) mod form {
     use super::observables::{place::Place, root::Rooted, scope::Thing, using::Held, way::Way, Scope};
+    use crate::rx::panics::discard;
     use crate::Refusal;
     use std::cell::RefCell;
-    pub(crate) use std::rc::Rc as Ref;
+    use std::panic::{catch_unwind, AssertUnwindSafe};
+    pub(crate) use std::rc::{Rc as Ref, Weak};
 
     /// What a function has to be: here, anything.
     pub trait Fits {}
@@ -41,13 +43,22 @@ pub(crate) mod form {
         }
     }
 
+    struct Here(Scope<'static>);
+
+    impl Drop for Here {
+        /// What panics as a thread ends goes no further: the standard library would end the process.
+        fn drop(&mut self) {
+            catch_unwind(AssertUnwindSafe(|| self.0.shut())).unwrap_or_else(discard)
+        }
+    }
+
     thread_local! {
-        static HERE: Scope<'static> = Scope::new().expect("there is memory for an engine");
+        static HERE: Here = Here(Scope::new().expect("there is memory for an engine"));
     }
 
     /// The engine of what borrows nothing: each thread has one.
     pub(crate) fn with_default<R>(f: impl FnOnce(&Scope<'static>) -> R) -> R {
-        HERE.with(f)
+        HERE.with(|it| f(&it.0))
     }
 }
 #[path = "rx/observables.rs"]

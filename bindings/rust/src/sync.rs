@@ -7,7 +7,7 @@ pub(crate) mod form {
     use super::observables::{place::Place, root::Rooted, scope::Thing, using::Held, way::Way, Scope};
     use crate::engine::helgrind::{acquired, released};
     use crate::Refusal;
-    pub(crate) use std::sync::Arc as Ref;
+    pub(crate) use std::sync::{Arc as Ref, Weak};
     use std::sync::{Mutex, OnceLock, PoisonError, TryLockError};
 
     /// What a function has to be: `Send + Sync`.

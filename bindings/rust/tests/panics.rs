@@ -2,8 +2,10 @@
 use cellarcliff::local::{Observable, Scope, Subject, Subscription};
 use cellarcliff::Note;
 use std::cell::{Cell, RefCell};
-use std::panic::{catch_unwind, panic_any, AssertUnwindSafe};
+use std::panic::{catch_unwind, panic_any, resume_unwind, AssertUnwindSafe};
 use std::rc::Rc;
+use std::sync::atomic::{AtomicU32, Ordering::SeqCst};
+use std::sync::Arc;
 
 /// Counts how often it was dropped.
 struct File(Rc<Cell<u32>>);
@@ -262,7 +264,10 @@ fn breaking(dropped: &Rc<Cell<u32>>) -> Vec<(&'static str, Makes)> {
 #[test]
 fn a_panic_in_any_function_of_an_operator_releases_what_it_had() {
     let dropped = Rc::new(Cell::new(0));
-    for (name, make) in breaking(&dropped) {
+    for (name, make) in breaking(&dropped).into_iter().chain(breaking(&dropped).into_iter().map(|(name, make)| {
+        let shared: Makes = Box::new(move |it| make(it).share());
+        (name, shared)
+    })) {
         dropped.set(0);
         let subject = Subject::<i32>::new();
         let subscription = make(&with_file(&dropped, subject.observable())).each(drop);
@@ -303,4 +308,115 @@ fn a_second_panic_whose_payload_panics_is_no_end_of_the_program() {
     assert_eq!(panics(|| subject.next(1)), "the observer");
     drop(subscription);
     assert_eq!((count.get(), subject.observers()), (1, 0));
+}
+
+#[test]
+fn a_panic_above_a_share_closes_whatever_subscribed_and_above_a_publication_its_connection() {
+    let subject = Subject::<i32>::new();
+    let broken = subject.observable().map(|it| if it == 2 { panic_any("broken") } else { it });
+    let (shared, published, heard) = (broken.share(), broken.publish(), Rc::new(Cell::new(0)));
+    let (one, two) = (heard.clone(), heard.clone());
+    let all = [shared.each(drop), shared.take(9).each(drop), shared.zip_with(&subject.observable()).each(drop)];
+    let waits = published.observable().each(move |it| one.set(it));
+    let ref_counted = published.ref_count().each(move |it| two.set(it));
+    published.connect();
+    assert_eq!((panics(|| subject.next(2)).as_str(), subject.observers()), ("broken", 0));
+    assert!(all.iter().all(Subscription::is_closed) && ref_counted.is_closed() && !waits.is_closed());
+    published.connect();
+    let _again = shared.each(drop);
+    subject.next(3);
+    assert_eq!((heard.get(), subject.observers()), (3, 2));
+}
+
+#[test]
+fn a_panic_of_one_subscriber_keeps_neither_the_end_nor_the_next_item_of_a_shared_source_from_the_other() {
+    let subject = Subject::<i32>::new();
+    let ends: [Makes; 3] = [
+        Box::new(|it| it.take(2)),
+        Box::new(|it| it.take_through(|it| *it == 2)),
+        Box::new(|it| it.flat_map(|it| Observable::of([it, 2])).take(2)),
+    ];
+    for make in ends {
+        let (published, heard) = (make(&subject.observable()).publish(), Rc::new(RefCell::new(vec![])));
+        let notes = heard.clone();
+        let _bad = published.observable().each(|it| if it == 2 { panic_any("broken") });
+        let _good = published.observable().observe(move |it| notes.borrow_mut().push(it));
+        published.connect();
+        assert_eq!(panics(|| [1, 2].into_iter().for_each(|it| subject.next(it))), "broken");
+        assert_eq!((heard.take(), subject.observers()), (vec![Note::Next(1), Note::Next(2), Note::Completed], 0));
+    }
+    let (published, heard) = (Observable::<i32>::of([1, 2]).publish(), Rc::new(RefCell::new(vec![])));
+    let notes = heard.clone();
+    let _bad = published.observable().each(|_| panic_any("broken"));
+    let _good = published.observable().observe(move |it| notes.borrow_mut().push(it));
+    assert_eq!(panics(|| _ = published.connect()), "broken");
+    assert_eq!(heard.take(), [Note::Next(1), Note::Next(2), Note::Completed]);
+}
+
+#[test]
+fn whatever_subscribed_to_a_share_whose_source_panics_as_it_is_subscribed_to_is_closed() {
+    let (again, kept) = (Rc::new(RefCell::new(None::<Observable<'static, i32>>)), Rc::new(RefCell::new(None)));
+    let (within, holder) = (again.clone(), kept.clone());
+    let source = Observable::<i32>::create(move |_| {
+        let shared = within.borrow_mut().take();
+        *holder.borrow_mut() = shared.map(|it| it.each(drop));
+        panic_any("broken")
+    });
+    let shared = source.share();
+    *again.borrow_mut() = Some(shared.clone());
+    assert_eq!(panics(|| shared.each(drop).detach()), "broken");
+    assert!(kept.borrow().as_ref().is_some_and(Subscription::is_closed));
+}
+
+#[test]
+fn drops_that_panic_as_their_thread_ends_go_no_further() {
+    struct Breaks(Arc<AtomicU32>);
+    impl Drop for Breaks {
+        fn drop(&mut self) {
+            self.0.fetch_add(1, SeqCst);
+            resume_unwind(Box::new("broken"))
+        }
+    }
+    let dropped = Arc::new(AtomicU32::new(0));
+    let count = dropped.clone();
+    let leaves_open = move || (0..3).for_each(|_| {
+        let count = count.clone();
+        Observable::<i32>::never().holding(move || Breaks(count.clone())).each(drop).detach()
+    });
+    std::thread::spawn(leaves_open).join().unwrap();
+    assert_eq!(dropped.load(SeqCst), 3);
+}
+
+#[test]
+fn a_function_that_remembers_and_emits_into_its_own_source_panics() {
+    let subject = cellarcliff::sync::Subject::<i32>::new();
+    let within = subject.clone();
+    let _subscription = subject.observable().scan(0, move |sum, it| (within.next(it), sum + it).1).each(drop);
+    assert_eq!(panics(|| subject.next(1)), "a function that remembers emits into its own source");
+    assert_eq!(subject.observers(), 0);
+}
+
+#[test]
+fn an_item_or_an_error_that_cannot_be_cloned_closes_the_subscription_that_it_was_for() {
+    /// As often as it can be cloned.
+    struct Rare(Rc<Cell<u32>>);
+    impl Clone for Rare {
+        fn clone(&self) -> Self {
+            self.0.set(self.0.get().checked_sub(1).unwrap_or_else(|| panic_any("no more")));
+            Rare(self.0.clone())
+        }
+    }
+    let (dropped, heard) = (Rc::new(Cell::new(0)), Rc::new(Cell::new(0)));
+    for is_error in [false, true] {
+        let subject = Subject::<Rare, Rare>::new();
+        let (source, count, many) = (subject.observable(), dropped.clone(), heard.clone());
+        let first = source.holding(move || File(count.clone())).observe(drop);
+        let _second = source.observe(move |_| many.set(many.get() + 1));
+        // what a subject remembers of its end is a copy too
+        let rare = Rare(Rc::new(Cell::new(is_error as u32)));
+        let message = panics(|| if is_error { subject.error(rare) } else { subject.next(rare) });
+        assert_eq!((message.as_str(), first.is_closed(), dropped.get(), subject.observers()), ("no more", true, 1, !is_error as usize));
+        dropped.set(0);
+    }
+    assert_eq!(heard.get(), 1, "of the error no copy is left");
 }

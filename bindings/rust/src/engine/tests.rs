@@ -139,13 +139,14 @@ fn each_item_is_told_once_whatever_is_handed_out_in_its_place() {
 
 #[test]
 fn random_programs_hear_and_release_all_whatever_is_handed_out() {
-    let counts = counting(|| {
+    let (made, freed, lost) = counting(|| {
         for room in 0..REFUSED {
             let first = u64::from(room) * 40;
             programs::run_all(first..first + 40, room).unwrap_or_else(|why| panic!("{why}"));
         }
     });
-    assert_eq!(counts, (520, 520, 0));
+    assert!(made > 520, "some have two, and some threads of their own");
+    assert_eq!((freed, lost), (made, 0));
 }
 
 #[test]

@@ -1,6 +1,20 @@
 //! Sources: of a function, of items, and those that only end.
 use super::leaf::Emitter;
 use super::{Fits, Moves, Observable};
+use crate::rx::panics::Panics;
+
+/// Tells all items, then completes. A panic in whatever hears one keeps the others from nobody else.
+pub(crate) fn tell_all<T, E>(to: &Emitter<T, E>, items: impl IntoIterator<Item = T>) {
+    let mut panics = Panics::default();
+    for item in items {
+        if to.is_closed() {
+            break;
+        }
+        panics.run(|| to.next(item));
+    }
+    panics.run(|| to.completed());
+    panics.go_on()
+}
 
 impl<'a, T: 'a, E: 'a> Observable<'a, T, E> {
     /// Of a function that is called for each subscription. What it returns is dropped once, when the source is closed.
@@ -18,15 +32,7 @@ impl<'a, T: 'a, E: 'a> Observable<'a, T, E> {
 
     /// Tells all items, then completes.
     pub fn of<I: IntoIterator<Item = T> + Clone + Fits + 'a>(items: I) -> Self {
-        Observable::create(move |to| {
-            for item in items.clone() {
-                if to.is_closed() {
-                    return;
-                }
-                to.next(item);
-            }
-            to.completed()
-        })
+        Observable::create(move |to| tell_all(&to, items.clone()))
     }
 
     /// Completes at once.

@@ -1,4 +1,5 @@
 //! FlatMap and Switch: an observable for each item; and Merge.
+use super::create::tell_all;
 use super::form::{AThing, AWay, Lock, Ref};
 use super::leaf::{or_panic, unless_gone};
 use super::place::{Place, Spot};
@@ -212,9 +213,6 @@ pub(crate) fn cloned<'a, T: 'a, E: 'a>(all: impl IntoIterator<Item = impl Borrow
 
 impl<'a, T: 'a, E: 'a> Observable<'a, Observable<'a, T, E>, E> {
     pub(crate) fn of_observables(all: Vec<Observable<'a, T, E>>) -> Self {
-        Observable::create(move |to| {
-            all.iter().take_while(|_| !to.is_closed()).for_each(|it| to.next(it.clone()));
-            to.completed()
-        })
+        Observable::create(move |to| tell_all(&to, all.iter().cloned()))
     }
 }

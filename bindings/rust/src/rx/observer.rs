@@ -206,7 +206,7 @@ impl<'a, T: Moves + 'a, E: Moves + 'a> Observable<'a, T, E> {
 
     /// Observes within a scope; refused if the engine has no memory, or no place for one more share, and then nothing is open.
     pub fn observe_in(&self, scope: &Scope<'a>, observer: impl FnMut(Note<T, E>) + Moves + 'a) -> Result<Subscription<'a>, Refusal> {
-        let (root, place) = rooted(Root::new(scope.engine.clone(), None), None, observer);
+        let (root, place) = rooted(Root::new(scope.engine.clone()), None, observer);
         let done = catch_unwind(AssertUnwindSafe(|| unless_gone(self.open(place))));
         if !matches!(done, Ok(Ok(()))) {
             let mut panics = Panics::default();

@@ -1,9 +1,8 @@
 //! A subscription's root, or the connection of a share: what a panic closes, and what a subscription disposes of.
-use super::form::{ARoot, Ref};
+use super::form::{ARoot, AThing, Ref};
 use super::leaf::Leaf;
 use super::scope::{Engine, Thing};
-use super::words::Word;
-use crate::engine::{what, Command, Key, NOTHING, UNKNOWN_HUB};
+use crate::engine::{what, Key, NOTHING};
 use crate::rx::{late::LateKey, panics::discard};
 use std::panic::{catch_unwind, resume_unwind, AssertUnwindSafe};
 use crate::rx::atomic::AtomicBool;
@@ -11,8 +10,8 @@ use std::sync::atomic::Ordering::{Relaxed, SeqCst};
 
 pub(crate) struct Root<'a> {
     pub engine: Ref<Engine<'a>>,
-    share: Option<u64>,
-    above: Option<Ref<ARoot<'a>>>, // what it is beside
+    share: Option<Ref<AThing<'a>>>, // whose connection it is
+    above: Option<Ref<ARoot<'a>>>,  // what it is beside
     key: LateKey,
     is_stopped: AtomicBool,
 }
@@ -29,13 +28,18 @@ impl<'a> Rooted<'a> for Root<'a> {
 }
 
 impl<'a> Root<'a> {
-    pub fn new(engine: Ref<Engine<'a>>, share: Option<u64>) -> Self {
-        Root { engine, share, above: None, key: LateKey::new(NOTHING), is_stopped: AtomicBool::new(false) }
+    pub fn new(engine: Ref<Engine<'a>>) -> Self {
+        Root { engine, share: None, above: None, key: LateKey::new(NOTHING), is_stopped: AtomicBool::new(false) }
+    }
+
+    /// Of the connection of a share.
+    pub fn of_share(engine: Ref<Engine<'a>>, share: Ref<AThing<'a>>) -> Self {
+        Root { share: Some(share), ..Root::new(engine) }
     }
 
     /// Of an observable that tells this leaf, by an observer of its own.
     pub fn beside<T: 'a, E: 'a>(leaf: &Ref<Leaf<'a, T, E>>) -> Self {
-        Root { above: Some(leaf.clone()), ..Root::new(leaf.way.root().engine.clone(), None) }
+        Root { above: Some(leaf.clone()), ..Root::new(leaf.way.root().engine.clone()) }
     }
 
     #[inline]
@@ -62,9 +66,13 @@ impl<'a> Root<'a> {
 
     /// A function or an observer panicked: the subscription is closed, and all that stands beside it.
     pub fn panicked(&self) {
-        match &self.above {
-            Some(it) => it.root().panicked(),
-            None => self.close(),
+        match (&self.above, &self.share) {
+            (Some(it), _) => it.root().panicked(),
+            (None, Some(it)) => {
+                self.stop();
+                it.panicked()
+            }
+            (None, None) => self.close(),
         }
     }
 
@@ -76,12 +84,9 @@ impl<'a> Root<'a> {
             self.is_stopped.fetch_or(true, SeqCst);
             node = self.key.get();
         }
-        let command = match self.share {
-            Some(value) => Command { what: what::DISCONNECT, value, hub: UNKNOWN_HUB, ..Command::default() },
-            None if node == NOTHING => return,
-            None => Command { what: what::DISPOSE, node, ..Command::default() },
-        };
-        let _ = self.engine.make(command, Word::default(), None, |_| ()); // refused if it is closed
+        if node != NOTHING {
+            let _ = self.engine.send(what::DISPOSE, node); // refused if it is closed
+        }
     }
 }
 

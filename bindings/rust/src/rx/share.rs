@@ -2,20 +2,19 @@
 //!
 //! A share whose observer is a root of its own tells it directly. Below another operator a leaf stands in its place, which is told
 //! by a root of the share's and is disposed of with it.
-use super::form::{with_default, AThing, AWay, Lock, Ref};
+use super::form::{with_default, AThing, AWay, Lock, Ref, Weak};
 use super::leaf::{or_panic, unless_gone, Emitter, Leaf};
 use super::place::{Place, Spot};
-use super::root::{Follows, Root, Rooted};
+use super::root::{call, Follows, Root, Rooted};
 use super::scope::{Engine, Scope, Thing};
 use super::stage::Ends;
 use super::words::Word;
 use super::way::{End, Tip, Way};
 use super::{Fits, Moves, Observable};
 use crate::engine::{effect, flag, kind, place, what, Command, Key, NOTHING, UNKNOWN_HUB};
-use crate::rx::{panics::discard, slab::Slab};
+use crate::rx::{panics::Panics, slab::Slab};
 use crate::Refusal;
 use crate::rx::atomic::AtomicU64;
-use std::panic::{catch_unwind, resume_unwind, AssertUnwindSafe};
 use std::sync::atomic::Ordering::Relaxed;
 use std::sync::OnceLock;
 
@@ -31,6 +30,7 @@ struct Share<'a, T, E> {
     engine: OnceLock<Ref<Engine<'a>>>,
     items: Copies<T>,
     errors: Copies<E>,
+    subscribers: Lock<Slab<Weak<Subscriber<'a, T, E>>>>,
     /// Of `publish`: how its source ended, which who comes later hears. The engine's hubs remember no end.
     end: Lock<Option<Ended<E>>>,
     remembers: bool,
@@ -128,6 +128,27 @@ struct Subscriber<'a, T, E> {
     share: Ref<Share<'a, T, E>>,
     to: To<'a, T, E>,
     hears: Option<Ref<AThing<'a>>>,
+    at: u64,
+}
+
+impl<T, E> Drop for Subscriber<'_, T, E> {
+    fn drop(&mut self) {
+        drop(self.share.subscribers.with(|all| all.take(self.at)))
+    }
+}
+
+impl<'a, T, E> Subscriber<'a, T, E> {
+    fn new(share: &Ref<Share<'a, T, E>>, to: To<'a, T, E>, hears: Option<Ref<AThing<'a>>>) -> Ref<Self> {
+        Ref::new_cyclic(|it| Subscriber { share: share.clone(), to, hears, at: share.subscribers.with(|all| all.put(it.clone())) })
+    }
+
+    /// What it is told goes to a subscription that a panic closes.
+    fn close(&self) {
+        self.to.way().0.root().panicked();
+        if let Some(it) = &self.hears {
+            it.panicked()
+        }
+    }
 }
 
 impl<'a, T: Moves + 'a, E: Moves + 'a> Subscriber<'a, T, E> {
@@ -174,9 +195,37 @@ impl<'a, T: Clone + Moves + 'a, E: Clone + Moves + 'a> Thing for Subscriber<'a, 
     }
 
     fn panicked(&self) {
-        self.to.way().0.root().panicked();
-        if let Some(it) = &self.hears {
-            it.panicked()
+        self.close()
+    }
+}
+
+impl<'a, T: Clone + Moves + Fits + 'a, E: Clone + Moves + Fits + 'a> Thing for Share<'a, T, E> {
+    /// A function of the source panicked, or it cannot be subscribed to. That closes a connection by hand; with any other it closes whatever
+    /// subscribed, which it else keeps waiting.
+    fn panicked(&self) {
+        let mut panics = Panics::default();
+        if self.kind == kind::PUBLISHED {
+            panics.run(|| self.disconnect());
+        } else {
+            let all = self.subscribers.with(|all| all.iter().filter_map(Weak::upgrade).collect::<Vec<_>>());
+            for it in all {
+                panics.run(|| it.close());
+                panics.run(|| drop(it));
+            }
+        }
+        panics.go_on()
+    }
+}
+
+impl<'a, T, E> Share<'a, T, E> {
+    fn command(&self) -> Command {
+        Command { kind: self.kind, hub: self.hub.load(Relaxed), value: self.word, ..Command::default() }
+    }
+
+    fn disconnect(&self) {
+        if let Some(engine) = self.engine.get() {
+            let command = Command { what: what::DISCONNECT, node: NOTHING, ..self.command() };
+            let _ = engine.make(command, Word::default(), None, |_| ()); // refused if it has ended
         }
     }
 }
@@ -187,7 +236,7 @@ impl<'a, T: Clone + Moves + Fits + 'a, E: Clone + Moves + Fits + 'a> Share<'a, T
         Ref::new(Share {
             source, kind, word: WORDS.fetch_add(1, Relaxed), hub: AtomicU64::new(UNKNOWN_HUB), connection: AtomicU64::new(0),
             engine: OnceLock::new(), items: Lock::new(Slab::new()), errors: Lock::new(Slab::new()),
-            end: Lock::new(None), remembers,
+            subscribers: Lock::new(Slab::new()), end: Lock::new(None), remembers,
         })
     }
 
@@ -205,13 +254,13 @@ impl<'a, T: Clone + Moves + Fits + 'a, E: Clone + Moves + Fits + 'a> Share<'a, T
         let engine = self.engine.get_or_init(|| at.engine().clone()).clone();
         let is_here = Ref::ptr_eq(&engine, at.engine());
         if at.spot.at == place::ROOT && is_here && at.spot.closes.is_none() {
-            let it = Subscriber { share: self.clone(), to: To::Root(at.way.clone()), hears: at.spot.hears.take() };
+            let it = Subscriber::new(self, To::Root(at.way.clone()), at.spot.hears.take());
             return self.join(it, at.way.root(), at.spot.lane);
         }
-        let (root, leaf) = (Ref::new(Root::new(engine, None)), Emitter::open(at)?.leaf);
+        let (root, leaf) = (Ref::new(Root::new(engine)), Emitter::open(at)?.leaf);
         leaf.when_closed(Ref::new(Follows(root.clone())));
         let lane = is_here.then(|| leaf.tip().node);
-        self.join(Subscriber { share: self.clone(), to: To::Leaf(leaf.clone()), hears: None }, &root, lane)?;
+        self.join(Subscriber::new(self, To::Leaf(leaf.clone()), None), &root, lane)?;
         if leaf.is_closed() {
             root.close(); // from within the opening
         }
@@ -219,11 +268,11 @@ impl<'a, T: Clone + Moves + Fits + 'a, E: Clone + Moves + Fits + 'a> Share<'a, T
     }
 
     /// Opens a root of the share's, and the source with the first.
-    fn join(self: &Ref<Self>, it: Subscriber<'a, T, E>, root: &Root<'a>, lane: Option<Key>) -> Result<(), Refusal> {
+    fn join(self: &Ref<Self>, it: Ref<Subscriber<'a, T, E>>, root: &Root<'a>, lane: Option<Key>) -> Result<(), Refusal> {
         let flags = if lane.is_some() { flag::LANE_OF_NODE } else { 0 };
         let node = lane.unwrap_or(NOTHING);
         let command = Command { what: what::OPEN, place: place::ROOT, flags, node, ..self.command() };
-        let made = root.engine.make(command, Word::hears(Ref::new(it)), None, |_| ())?;
+        let made = root.engine.make(command, Word::hears(it), None, |_| ())?;
         self.hub.store(made.hub, Relaxed);
         if root.set_late(made.node) {
             root.close(); // from within the opening
@@ -231,15 +280,17 @@ impl<'a, T: Clone + Moves + Fits + 'a, E: Clone + Moves + Fits + 'a> Share<'a, T
         if made.is_connected { self.begin(root.engine.clone(), made.other) } else { Ok(()) }
     }
 
-    fn command(&self) -> Command {
-        Command { kind: self.kind, hub: self.hub.load(Relaxed), value: self.word, ..Command::default() }
-    }
-
+    /// What has subscribed besides, meanwhile, is closed too if the source cannot be subscribed to.
     fn begin(self: &Ref<Self>, engine: Ref<Engine<'a>>, connection: Key) -> Result<(), Refusal> {
         self.connection.store(connection.number, Relaxed);
         drop(self.end.with(Option::take));
-        let way = Ref::new(IntoShare { share: self.clone(), root: Root::new(engine, Some(self.word)) });
-        unless_gone(self.source.open(Place { spot: Spot::below(place::SOURCE, connection), way }))
+        let way = Ref::new(IntoShare { share: self.clone(), root: Root::of_share(engine, self.clone()) });
+        let place = Place { spot: Spot::below(place::SOURCE, connection), way: way.clone() as Ref<AWay<'a, T, E>> };
+        let done = unless_gone(call(|| way.root(), || self.source.open(place)));
+        if done.is_err() {
+            way.root().panicked()
+        }
+        done
     }
 }
 
@@ -285,18 +336,8 @@ impl<'a, T: Clone + Moves + Fits + 'a, E: Clone + Moves + Fits + 'a> Connectable
         match engine.make(command, Word::default(), None, |_| ()) {
             Ok(made) => {
                 self.share.hub.store(made.hub, Relaxed);
-                let connection = Connection { share: self.share.clone(), number: made.other.number };
-                match catch_unwind(AssertUnwindSafe(|| self.share.begin(engine, made.other))) {
-                    Ok(Ok(())) => Ok(connection),
-                    Ok(Err(why)) => {
-                        connection.disconnect();
-                        Err(why)
-                    }
-                    Err(why) => {
-                        catch_unwind(AssertUnwindSafe(|| connection.disconnect())).unwrap_or_else(discard);
-                        resume_unwind(why)
-                    }
-                }
+                self.share.begin(engine, made.other)?;
+                Ok(Connection { share: self.share.clone(), number: made.other.number })
             }
             Err(Refusal::Connected) => Ok(Connection { share: self.share.clone(), number: self.share.connection.load(Relaxed) }),
             Err(why) => Err(why),
@@ -323,13 +364,8 @@ pub struct Connection<'a, T, E = std::convert::Infallible> {
 impl<T, E> Connection<'_, T, E> {
     /// Ends it, if it has not ended.
     pub fn disconnect(self) {
-        if self.share.connection.load(Relaxed) != self.number {
-            return;
-        }
-        if let Some(engine) = self.share.engine.get() {
-            let (value, hub) = (self.share.word, self.share.hub.load(Relaxed));
-            let command = Command { what: what::DISCONNECT, node: NOTHING, value, hub, ..Command::default() };
-            let _ = engine.make(command, Word::default(), None, |_| ()); // refused if it has ended
+        if self.share.connection.load(Relaxed) == self.number {
+            self.share.disconnect()
         }
     }
 }

@@ -49,6 +49,10 @@ impl<T> Slab<T> {
         Some(value)
     }
 
+    pub fn iter(&self) -> impl Iterator<Item = &T> {
+        self.cells.iter().filter_map(|it| if let Cell::Full(value) = it { Some(value) } else { None })
+    }
+
     pub fn many(&self) -> usize {
         self.many
     }

@@ -1,11 +1,40 @@
 //! Functions on items that remember: scan, skip, pairwise and their like. Each subscription remembers its own. They are called in the
-//! thread that emits, before the engine has the item, under a lock of the subscription: a function of these must not emit into its own
-//! source.
+//! thread that emits, before the engine has the item, under a lock of the subscription: what one of these emits into its own source is a
+//! panic.
 use super::form::{Lock, Ref};
 use super::items::Step;
 use super::{Fits, Moves, Observable};
+use crate::rx::{atomic::AtomicU64, by};
 use std::collections::HashSet;
 use std::hash::Hash;
+use std::sync::atomic::Ordering::Relaxed;
+
+/// What a subscription remembers, and which thread has it: one that wants it again from within would wait for itself.
+struct Memory<S> {
+    state: Lock<S>,
+    holder: AtomicU64,
+}
+
+/// As long as a thread has it.
+struct Holds<'m>(&'m AtomicU64);
+
+impl Drop for Holds<'_> {
+    fn drop(&mut self) {
+        self.0.store(0, Relaxed)
+    }
+}
+
+impl<S> Memory<S> {
+    fn with<R>(&self, f: impl FnOnce(&mut S) -> R) -> R {
+        let me = by();
+        assert!(self.holder.load(Relaxed) != me, "a function that remembers emits into its own source");
+        self.state.with(|state| {
+            self.holder.store(me, Relaxed);
+            let _holds = Holds(&self.holder);
+            f(state)
+        })
+    }
+}
 
 impl<'a, T: 'a, E: 'a> Observable<'a, T, E> {
     fn remembering<S: Moves + 'a, U: 'a>(
@@ -13,14 +42,15 @@ impl<'a, T: 'a, E: 'a> Observable<'a, T, E> {
     ) -> Observable<'a, U, E> {
         let f = Ref::new(f);
         self.through(move |way| {
-            let (f, state) = (f.clone(), Lock::new(first()));
-            Ref::new(Step { way, f: move |it| state.with(|state| f(state, it)) })
+            let (f, memory) = (f.clone(), Memory { state: Lock::new(first()), holder: AtomicU64::new(0) });
+            Ref::new(Step { way, f: move |it| memory.with(|state| f(state, it)) })
         })
     }
 
     /// What comes of all items so far, from `first` on.
     ///
-    /// `f` is called under a lock of this subscription: it must not emit into its own source.
+    /// # Panics
+    /// If `f`, which is called under a lock of this subscription, emits into its own source.
     pub fn scan<A: Clone + Moves + Fits + 'a>(&self, first: A, f: impl Fn(&A, T) -> A + Fits + 'a) -> Observable<'a, A, E> {
         self.try_scan(first, move |sum, it| Ok(f(sum, it)))
     }
@@ -48,7 +78,8 @@ impl<'a, T: 'a, E: 'a> Observable<'a, T, E> {
 
     /// The items from the first on for which it is false.
     ///
-    /// `f` is called under a lock of this subscription: it must not emit into its own source.
+    /// # Panics
+    /// If `f`, which is called under a lock of this subscription, emits into its own source.
     pub fn skip_while(&self, f: impl Fn(&T) -> bool + Fits + 'a) -> Self {
         self.try_skip_while(move |it| Ok(f(it)))
     }

@@ -1,6 +1,7 @@
 //! Subject: whatever it is told it tells to each that subscribed.
 use super::form::{Lock, Ref};
 use super::leaf::Emitter;
+use super::root::{call, Rooted};
 use super::scope::Thing;
 use super::{Fits, Moves, Observable};
 use crate::engine::helgrind::{acquired, released};
@@ -65,6 +66,11 @@ impl<'a, T, E> Subject<'a, T, E> {
     }
 }
 
+/// A copy for one of many. Who cannot have one hears nothing more: its subscription is closed.
+fn copy<V: Clone, T, E>(value: &V, to: &Emitter<T, E>) -> V {
+    call(|| to.leaf.root(), || value.clone())
+}
+
 impl<'a, T: Moves + 'a, E: Clone + Moves + 'a> Subject<'a, T, E> {
     /// Nobody listens yet.
     pub fn new() -> Self {
@@ -113,7 +119,7 @@ impl<'a, T: Moves + 'a, E: Clone + Moves + 'a> Subject<'a, T, E> {
         self.with_all(|all| {
             if let Some((last, others)) = all.split_last() {
                 for (_, it) in others {
-                    panics.run(|| it.next(item.clone()));
+                    panics.run(|| it.next(copy(&item, it)));
                 }
                 panics.run(|| last.1.next(item));
             }
@@ -122,18 +128,19 @@ impl<'a, T: Moves + 'a, E: Clone + Moves + 'a> Subject<'a, T, E> {
     }
 
     fn ends(&self, end: Result<(), E>) {
+        let kept = end.clone();
         let all = self.list.with(|list| {
             if list.end.is_some() {
                 return Ref::new(Vec::new());
             }
-            list.end = Some(end.clone());
+            list.end = Some(kept);
             std::mem::replace(&mut list.emitters, Ref::new(Vec::new()))
         });
         let mut panics = Panics::default();
         for (_, it) in all.iter() {
             panics.run(|| match &end {
                 Ok(()) => it.completed(),
-                Err(error) => it.error(error.clone()),
+                Err(error) => it.error(copy(error, it)),
             });
         }
         drop(all);

@@ -7,6 +7,7 @@ use super::take_until::Notifies;
 use super::way::{Tip, Way};
 use super::{Fits, Observable};
 use crate::engine::{kind, place};
+use crate::rx::panics::Panics;
 use crate::Refusal;
 use crate::rx::atomic::{AtomicBool, AtomicUsize};
 use std::sync::atomic::Ordering::SeqCst;
@@ -38,6 +39,15 @@ impl<'a, T, E, F: Fn(&AWay<'a, T, E>, &Emitter<'a, (), E>, Tip, T) -> Result<(),
     }
 }
 
+/// Tells the last item, and then the end, which a panic in whatever hears the item keeps from nobody else.
+fn tell_last(tell: impl FnOnce() -> Result<(), Refusal>, end: impl FnOnce()) -> Result<(), Refusal> {
+    let (mut panics, mut done) = (Panics::default(), Ok(()));
+    panics.run(|| done = tell());
+    panics.run(end);
+    panics.go_on();
+    done
+}
+
 impl<'a, T: 'a, E: 'a> Observable<'a, T, E> {
     /// The same source, by a way that has a notifier: who tells that ends it. `begin` makes, for each subscription, what hears an item.
     fn ending<F: Fn(&AWay<'a, T, E>, &Emitter<'a, (), E>, Tip, T) -> Result<(), Refusal> + Fits + 'a>(
@@ -64,11 +74,8 @@ impl<'a, T: 'a, E: 'a> Observable<'a, T, E> {
                     return Ok(());
                 }
                 // the end stands behind all items, whichever thread told the last
-                let done = way.next(from, item);
-                if told.fetch_add(1, SeqCst) + 1 == many {
-                    notifier.next(());
-                }
-                done
+                let end = || if told.fetch_add(1, SeqCst) + 1 == many { notifier.next(()) };
+                tell_last(|| way.next(from, item), end)
             }
         })
     }
@@ -111,9 +118,7 @@ impl<'a, T: 'a, E: 'a> Observable<'a, T, E> {
                     Err(error) => way.error(from, error),
                     Ok(false) if is_over.swap(true, SeqCst) => Ok(()),
                     Ok(false) => {
-                        let done = if with_last { way.next(from, item) } else { Ok(()) };
-                        notifier.next(());
-                        done
+                        tell_last(|| if with_last { way.next(from, item) } else { Ok(()) }, || notifier.next(()))
                     }
                 }
             }

@@ -1,5 +1,6 @@
-//! Random programs: pipelines over all operators, whose functions, observers and resources emit, end, subscribe, dispose, connect and panic
-//! from within, in one thread or in four. Each program says for each observer what it has to hear, so a run needs nothing to compare with.
+//! Random programs: pipelines over all operators, whose functions, observers, resources and items emit, end, subscribe, dispose, connect,
+//! shut an engine, panic and wait for another thread from within, up to a hundred deep, in one engine or two, by one thread or four. Each
+//! program says for each observer what it has to hear, so a run needs nothing to compare with.
 pub mod program;
 
 #[path = "."]
@@ -15,6 +16,18 @@ mod local {
             world.top(act);
             world.check();
         }
+    }
+
+    /// The thread's engine ends with it, and what it left open there.
+    fn spawn(world: &std::sync::Arc<run::World>, _: &super::program::Act) {
+        let open = world.open.clone();
+        let all = move || {
+            let subject = form::Subject::<u32>::new();
+            let held = subject.observable().holding(move || super::Counted::new(&open));
+            held.share().merge_with(held.take(2)).each(drop).detach();
+            subject.next(1);
+        };
+        std::thread::spawn(all).join().unwrap();
     }
 }
 
@@ -36,18 +49,44 @@ mod sync {
         }
         std::thread::scope(|scope| {
             for thread in 0..it.threads {
-                scope.spawn(move || others.iter().skip(thread).step_by(it.threads).for_each(|act| world.top(act)));
+                let all = move || others.iter().skip(thread).step_by(it.threads).for_each(|act| world.top(act));
+                super::deep().spawn_scoped(scope, all).unwrap();
             }
         });
         world.check();
+    }
+
+    fn spawn(world: &std::sync::Arc<run::World>, act: &Act) {
+        std::thread::scope(|scope| super::deep().spawn_scoped(scope, || world.top(act)).unwrap().join().unwrap())
+    }
+}
+
+/// A thread in which what calls itself a hundred deep has room.
+fn deep() -> std::thread::Builder {
+    std::thread::Builder::new().stack_size(256 << 20)
+}
+
+/// One of so many.
+struct Counted(Arc<AtomicIsize>);
+
+impl Counted {
+    fn new(many: &Arc<AtomicIsize>) -> Self {
+        many.fetch_add(1, SeqCst);
+        Counted(many.clone())
+    }
+}
+
+impl Drop for Counted {
+    fn drop(&mut self) {
+        self.0.fetch_sub(1, SeqCst);
     }
 }
 
 use cellarcliff::Refusal;
 use program::Program;
 use std::collections::BTreeMap;
-use std::sync::atomic::{AtomicU64, Ordering::SeqCst};
-use std::sync::Mutex;
+use std::sync::atomic::{AtomicIsize, AtomicU64, Ordering::SeqCst};
+use std::sync::{Arc, Mutex};
 use std::time::Duration;
 
 /// What programs came to, by name.
@@ -55,7 +94,8 @@ pub type Counts = BTreeMap<String, u64>;
 
 /// Which form, and how many events its engine is made for, which the test engine takes for its own switches.
 fn run(it: &Program, counts: &Mutex<Counts>, room: u32) -> Result<(), String> {
-    if it.threads > 1 || it.is_sync { sync::run(it, counts, room) } else { local::run(it, counts, room) }
+    let form = if it.threads > 1 || it.is_sync { sync::run } else { local::run };
+    std::thread::scope(|scope| deep().spawn_scoped(scope, || form(it, counts, room)).unwrap().join().unwrap())
 }
 
 /// The smallest program that still goes wrong, by leaving out one thing after another.

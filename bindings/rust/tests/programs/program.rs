@@ -14,12 +14,17 @@ pub enum Act {
     Connect(usize),
     Disconnect(usize),
     Panic,
+    /// All that is open in an engine is closed.
+    Shut(usize),
+    /// It is done by a thread that comes and goes, while this one waits. A local world has no other thread: that has one of its own.
+    Spawn(Box<Act>),
 }
 
-/// What is done as a function is called for the nth time.
+/// What is done as a function is called for the nth time, and so many times from then on.
 #[derive(Clone, Debug)]
 pub struct Hook {
     pub nth: u32,
+    pub times: u32,
     pub act: Act,
 }
 
@@ -43,17 +48,22 @@ pub enum Source {
 pub struct Pipe {
     pub source: Source,
     pub ops: Vec<Op>,
-    /// What each observer of it does.
+    /// What each observer of it does, and what it does as it is dropped.
     pub hook: Option<Hook>,
+    pub last: Option<Hook>,
 }
 
 #[derive(Clone, Debug)]
 pub struct Program {
     pub threads: usize,
     pub is_sync: bool,
+    pub engines: usize,
     pub subjects: usize,
     pub pipes: Vec<Pipe>,
     pub acts: Vec<Act>,
+    /// What an item, or an error, does as it is dropped, and as it is cloned.
+    pub dropped: Option<Hook>,
+    pub cloned: Option<Hook>,
 }
 
 /// Operators that tell each item once, in order, and call a function of which this says what it may do.
@@ -89,7 +99,9 @@ impl Random {
     }
 
     fn act(&mut self, subjects: usize, pipes: usize, may_panic: bool) -> Act {
-        match self.below(20) {
+        match self.below(22) {
+            21 if self.one_in(4) => Act::Shut(self.below(2)),
+            20 | 21 => Act::Spawn(Box::new(self.act(subjects, pipes, may_panic))),
             0 => Act::End(self.below(subjects), self.one_in(2)),
             1..=3 => Act::Subscribe(self.below(pipes)),
             4 | 5 => Act::Dispose(self.below(8)),
@@ -101,7 +113,21 @@ impl Random {
     }
 
     fn hook(&mut self, subjects: usize, pipes: usize) -> Option<Hook> {
-        self.one_in(3).then(|| Hook { nth: self.below(4) as u32, act: self.act(subjects, pipes, true) })
+        self.one_in(3).then(|| {
+            let times = if self.one_in(12) { 1 + self.below(100) as u32 } else { 1 };
+            Hook { nth: self.below(4) as u32, times, act: self.act(subjects, pipes, true) }
+        })
+    }
+
+    /// Of an item it is once, and tells nothing: it may be dropped while a function holds the lock of its operator.
+    fn hook_of_items(&mut self, pipes: usize, acts: usize) -> Option<Hook> {
+        let act = match self.below(acts) {
+            0 | 1 => Act::Panic,
+            2 => Act::Dispose(self.below(8)),
+            3 => Act::Disconnect(self.below(pipes)),
+            _ => Act::Subscribe(self.below(pipes)),
+        };
+        self.one_in(8).then_some(Hook { nth: self.below(30) as u32, times: 1, act })
     }
 
     fn source(&mut self, subjects: usize, before: usize) -> Source {
@@ -129,12 +155,14 @@ impl Program {
         let (is_sync, subjects, many) = (threads > 1 || it.one_in(3), 1 + it.below(3), 1 + it.below(5));
         let pipes = (0..many).map(|before| {
             let ops = (0..it.below(5)).map(|_| it.op(subjects, before, many)).collect();
-            Pipe { source: it.source(subjects, before), ops, hook: it.hook(subjects, many) }
+            let last = if it.one_in(4) { it.hook(subjects, many) } else { None };
+            Pipe { source: it.source(subjects, before), ops, hook: it.hook(subjects, many), last }
         });
         let pipes = pipes.collect();
         let mut acts: Vec<_> = (0..1 + it.below(4)).map(|_| Act::Subscribe(it.below(many))).collect();
         acts.extend((0..2 + it.below(12) * threads).map(|_| it.act(subjects, many, false)));
-        Program { threads, is_sync, subjects, pipes, acts }
+        let (engines, dropped, cloned) = (1 + it.one_in(4) as usize, it.hook_of_items(many, 5), it.hook_of_items(many, 1));
+        Program { threads, is_sync, engines, subjects, pipes, acts, dropped, cloned }
     }
 
     /// This program with one thing left out.
@@ -152,6 +180,18 @@ impl Program {
             if pipe.hook.is_some() {
                 without(&|it| it.pipes[at].hook = None);
             }
+            if pipe.last.is_some() {
+                without(&|it| it.pipes[at].last = None);
+            }
+        }
+        if self.engines > 1 {
+            without(&|it| it.engines = 1);
+        }
+        if self.dropped.is_some() {
+            without(&|it| it.dropped = None);
+        }
+        if self.cloned.is_some() {
+            without(&|it| it.cloned = None);
         }
         if self.is_sync && self.threads == 1 {
             without(&|it| it.is_sync = false);

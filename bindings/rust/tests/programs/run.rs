@@ -1,13 +1,13 @@
 //! Runs a program in one of the two forms.
 use super::form::{Connectable, Connection, Observable, Scope, Subject, Subscription};
 use super::super::program::{Act, Hook, Op, Pipe, Program, Source, AGAIN, LESS, OF_BOTH, UNTIL_AN_END};
-use super::super::{is_order, Counts};
+use super::super::{is_order, Counted, Counts};
 use cellarcliff::Note;
 use std::collections::BTreeMap;
 use std::hash::{Hash, Hasher};
 use std::panic::{catch_unwind, resume_unwind, AssertUnwindSafe};
 use std::sync::atomic::{AtomicBool, AtomicIsize, AtomicU32, AtomicUsize, Ordering::SeqCst};
-use std::sync::{Arc, Mutex, MutexGuard, PoisonError, Weak};
+use std::sync::{Arc, Mutex, MutexGuard, OnceLock, PoisonError, Weak};
 
 type Obs = Observable<'static, Item, Item>;
 
@@ -16,18 +16,40 @@ struct Planned;
 
 /// The number of what no subject told, and a time that has not come.
 const NONE: usize = usize::MAX;
-/// So many observers at most, of which each may do something.
+/// So many observers at most, of which each may do something; so many items; and so many acts, one within another.
 const MANY: usize = 40;
+const ITEMS: usize = 160;
+const DEPTH: usize = 110;
+
+/// How many items live, and what they do. Where the drop of one panics, the compiler leaks what its function was about to return.
+struct Live {
+    many: AtomicIsize,
+    may_leak: AtomicBool,
+    dropped: Arc<Once>,
+    cloned: Arc<Once>,
+    world: OnceLock<Weak<World>>,
+}
+
+impl Live {
+    /// Who hears what is not known any more.
+    fn call(&self, hook: &Once, place: &str) {
+        let Some(world) = self.world.get().and_then(Weak::upgrade).filter(|_| !std::thread::panicking()) else { return };
+        if let Some(act) = hook.act() {
+            world.state().is_short = true;
+            world.does(act, place)
+        }
+    }
+}
 
 /// An item or an error. How many live is counted.
 struct Item {
     number: usize,
-    live: Arc<AtomicIsize>,
+    live: Arc<Live>,
 }
 
 impl Item {
-    fn new(number: usize, live: &Arc<AtomicIsize>) -> Item {
-        live.fetch_add(1, SeqCst);
+    fn new(number: usize, live: &Arc<Live>) -> Item {
+        live.many.fetch_add(1, SeqCst);
         Item { number, live: live.clone() }
     }
 
@@ -38,13 +60,18 @@ impl Item {
 
 impl Clone for Item {
     fn clone(&self) -> Item {
+        self.live.call(&self.live.cloned, "a clone");
         Item::new(self.number, &self.live)
     }
 }
 
 impl Drop for Item {
     fn drop(&mut self) {
-        self.live.fetch_sub(1, SeqCst);
+        self.live.many.fetch_sub(1, SeqCst);
+        if let Err(why) = catch_unwind(AssertUnwindSafe(|| self.live.call(&self.live.dropped, "the drop of an item"))) {
+            self.live.may_leak.store(true, SeqCst);
+            resume_unwind(why)
+        }
     }
 }
 
@@ -154,16 +181,16 @@ impl Shape {
 }
 
 pub struct World {
-    live: Arc<AtomicIsize>,
-    open: AtomicIsize,
+    live: Arc<Live>,
+    pub open: Arc<AtomicIsize>,
     depth: AtomicUsize,
     one_thread: bool,
     state: Mutex<State>,
-    scope: Scope<'static>,
+    scopes: Vec<Scope<'static>>,
     subjects: Vec<Subject<'static, Item, Item>>,
     shapes: Vec<Shape>,
     pipes: Vec<Obs>,
-    hooks: Vec<Option<Hook>>,
+    hooks: Vec<[Option<Hook>; 2]>,
     published: Vec<Option<Connectable<'static, Item, Item>>>,
     counts: Mutex<Counts>,
 }
@@ -184,6 +211,21 @@ impl Drop for Res {
     }
 }
 
+/// What an observer has, with what it does as it is dropped.
+struct Last {
+    world: Weak<World>,
+    hook: Arc<Once>,
+    _many: Counted,
+}
+
+impl Drop for Last {
+    fn drop(&mut self) {
+        if let Some(world) = self.world.upgrade().filter(|_| !std::thread::panicking()) {
+            self.hook.call(&world, "the drop of an observer")
+        }
+    }
+}
+
 /// A hook, and how often its function was called.
 struct Once {
     hook: Option<Hook>,
@@ -197,11 +239,15 @@ impl Once {
         Arc::new(Once { hook: hook.clone(), called: AtomicU32::new(0), place, pipe })
     }
 
+    fn act(&self) -> Option<&Act> {
+        let hook = self.hook.as_ref()?;
+        let nth = self.called.fetch_add(1, SeqCst);
+        (hook.nth..hook.nth + hook.times).contains(&nth).then_some(&hook.act)
+    }
+
     fn call(&self, world: &Arc<World>, place: &str) {
-        let Some(hook) = &self.hook else { return };
-        if self.called.fetch_add(1, SeqCst) == hook.nth {
-            world.count(&format!("{} from within {place}", name_of(&hook.act)));
-            world.called(self.pipe, || world.act(&hook.act))
+        if let Some(act) = self.act() {
+            world.called(self.pipe, || world.does(act, place))
         }
     }
 }
@@ -216,6 +262,8 @@ fn name_of(act: &Act) -> &'static str {
         Act::Connect(_) => "connects",
         Act::Disconnect(_) => "disconnects",
         Act::Panic => "panics",
+        Act::Shut(_) => "shuts",
+        Act::Spawn(_) => "waits for a thread",
     }
 }
 
@@ -240,12 +288,17 @@ impl World {
         }
     }
 
+    fn does(self: &Arc<Self>, act: &Act, place: &str) {
+        self.count(&format!("{} from within {place}", name_of(act)));
+        self.act(act)
+    }
+
     fn act(self: &Arc<Self>, act: &Act) {
         let depth = self.depth.fetch_add(1, SeqCst) + 1;
         if self.one_thread && depth > 1 {
-            self.count(&format!("at depth {depth:02}"));
+            self.count(&if depth < 10 { format!("at depth {depth}") } else { format!("at depth {} and more", depth / 10 * 10) });
         }
-        let done = catch_unwind(AssertUnwindSafe(|| self.perform(act)));
+        let done = if depth > DEPTH { Ok(()) } else { catch_unwind(AssertUnwindSafe(|| self.perform(act))) };
         self.depth.fetch_sub(1, SeqCst);
         if let Err(why) = done {
             match why.downcast_ref::<String>() {
@@ -262,6 +315,9 @@ impl World {
             Act::Emit(subject) => {
                 let number = {
                     let mut state = self.state();
+                    if state.items.len() == ITEMS {
+                        return;
+                    }
                     let begun = state.now();
                     state.items.push(Emitted { subject, begun, ended: NONE });
                     state.items.len() - 1
@@ -287,7 +343,7 @@ impl World {
             }
             Act::Connect(at) => {
                 let Some(it) = &self.published[at] else { return };
-                match it.connect_in(&self.scope) {
+                match it.connect_in(&self.scopes[0]) {
                     Ok(connection) => drop(self.state().connections[at].replace(connection)),
                     Err(why) if is_order(&why) => (),
                     Err(why) => self.wrong(format!("a connection is refused: {why:?}")),
@@ -300,6 +356,11 @@ impl World {
                 }
             }
             Act::Panic => resume_unwind(Box::new(Planned)),
+            Act::Shut(at) => {
+                self.state().is_short = true; // what another engine's subscribers share may have been here
+                self.scopes[at % self.scopes.len()].shut()
+            }
+            Act::Spawn(ref act) => super::spawn(self, act),
         }
     }
 
@@ -312,9 +373,11 @@ impl World {
             state.seen.push(Seen { pipe, opened: NONE, heard: vec![], is_over: false, subscription: None });
             state.seen.len() - 1
         };
-        let (world, busy, hook) = (Arc::downgrade(self), AtomicBool::new(false), Once::new(&self.hooks[pipe], "an observer", pipe));
+        let [hook, last] = &self.hooks[pipe];
+        let (world, busy, hook) = (Arc::downgrade(self), AtomicBool::new(false), Once::new(hook, "an observer", pipe));
+        let last = Last { world: world.clone(), hook: Once::new(last, "the drop of an observer", pipe), _many: Counted::new(&self.open) };
         let observer = move |note: Note<Item, Item>| {
-            let Some(world) = world.upgrade() else { return };
+            let Some(world) = last.world.upgrade() else { return };
             if busy.swap(true, SeqCst) {
                 world.wrong(format!("the observer {at} is told two at a time"));
             }
@@ -335,7 +398,7 @@ impl World {
                 resume_unwind(why)
             }
         };
-        match self.pipes[pipe].observe_in(&self.scope, observer) {
+        match self.pipes[pipe].observe_in(&self.scopes[at % self.scopes.len()], observer) {
             Ok(subscription) => {
                 self.count("subscriptions");
                 self.state().seen[at].subscription = Some(subscription)
@@ -402,7 +465,8 @@ impl World {
             drop(catch_unwind(AssertUnwindSafe(|| drop(subscription))));
             drop(catch_unwind(AssertUnwindSafe(|| connection.into_iter().for_each(|it| it.disconnect()))));
         }
-        let (open, nodes, words) = (self.open.load(SeqCst), self.scope.totals().nodes, self.scope.words());
+        let (nodes, words) = self.scopes.iter().fold((0, 0), |sum, it| (sum.0 + it.totals().nodes, sum.1 + it.words()));
+        let open = self.open.load(SeqCst);
         let listeners: usize = self.subjects.iter().map(|it| it.observers()).sum();
         if open != 0 || nodes != 0 || words != 0 || listeners != 0 {
             self.wrong(format!("{open} resources, {nodes} nodes, {words} words and {listeners} listeners are left"));
@@ -414,7 +478,7 @@ impl World {
 struct Builder<'p> {
     program: &'p Program,
     world: Weak<World>,
-    live: Arc<AtomicIsize>,
+    live: Arc<Live>,
     subjects: Vec<Subject<'static, Item, Item>>,
     pipes: Vec<Obs>,
     shapes: Vec<Shape>,
@@ -591,7 +655,8 @@ impl Drop for Closed {
 
 /// Runs a program: what is wrong in it.
 pub fn run(program: &Program, counts: &Mutex<Counts>, room: u32) -> Result<(), String> {
-    let live = Arc::new(AtomicIsize::new(0));
+    let (dropped, cloned) = (Once::new(&program.dropped, "", 0), Once::new(&program.cloned, "", 0));
+    let live = Arc::new(Live { many: AtomicIsize::new(0), may_leak: AtomicBool::new(false), dropped, cloned, world: OnceLock::new() });
     let world = Arc::new_cyclic(|world| {
         let subjects: Vec<_> = (0..program.subjects).map(|_| Subject::new()).collect();
         let mut all = Builder { program, world: world.clone(), live: live.clone(), subjects, pipes: vec![], shapes: vec![], published: vec![] };
@@ -600,11 +665,13 @@ pub fn run(program: &Program, counts: &Mutex<Counts>, room: u32) -> Result<(), S
         let connections = (0..many).map(|_| None).collect();
         let state = State { is_ended: vec![false; program.subjects], is_broken: vec![false; many], connections, ..State::default() };
         World {
-            live: live.clone(), open: AtomicIsize::new(0), depth: AtomicUsize::new(0), one_thread: program.threads == 1, state: Mutex::new(state),
-            scope: Scope::with_room(room).expect("there is memory"), subjects: all.subjects, shapes: all.shapes, pipes: all.pipes,
-            hooks: all.program.pipes.iter().map(|it| it.hook.clone()).collect(), published: all.published, counts: Mutex::default(),
+            live: live.clone(), open: Arc::default(), depth: AtomicUsize::new(0), one_thread: program.threads == 1, state: Mutex::new(state),
+            scopes: (0..program.engines).map(|_| Scope::with_room(room).expect("there is memory")).collect(),
+            subjects: all.subjects, shapes: all.shapes, pipes: all.pipes,
+            hooks: all.program.pipes.iter().map(|it| [it.hook.clone(), it.last.clone()]).collect(), published: all.published, counts: Mutex::default(),
         }
     });
+    let _ = live.world.set(Arc::downgrade(&world));
     super::perform(&world, program);
     world.finish();
     let mut state = world.state();
@@ -620,7 +687,7 @@ pub fn run(program: &Program, counts: &Mutex<Counts>, room: u32) -> Result<(), S
     drop(world);
     match wrong {
         Some(why) => Err(why),
-        None if users != 1 || live.load(SeqCst) != 0 => Err(format!("{} items are left, and {users} use the program", live.load(SeqCst))),
+        None if users != 1 || live.many.load(SeqCst) != 0 && !live.may_leak.load(SeqCst) => Err(format!("{} items are left, and {users} use the program", live.many.load(SeqCst))),
         None => Ok(()),
     }
 }
