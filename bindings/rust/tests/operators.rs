@@ -67,6 +67,17 @@ fn a_shared_source_is_subscribed_to_once_and_a_tree_in_another_scope_may_use_it(
 }
 
 #[test]
+fn what_shares_the_source_of_another_scope_is_closed_with_that() {
+    let subject = local::Subject::<u32>::new();
+    let shared = subject.observable().share();
+    let (first, second) = (local::Scope::new().unwrap(), local::Scope::new().unwrap());
+    let all = [shared.observe_in(&first, drop), shared.observe_in(&second, drop), shared.map(|it| it + 1).observe_in(&second, drop)];
+    drop(first);
+    assert!(all.iter().all(|it| it.as_ref().is_ok_and(|it| it.is_closed())));
+    assert_eq!((second.words(), subject.observers()), (0, 0));
+}
+
+#[test]
 fn a_resource_that_cannot_be_had_is_an_error_and_releases_those_around_it() {
     struct File(Rc<Cell<i32>>);
     impl Drop for File {

@@ -148,6 +148,24 @@ fn a_source_that_ends_at_once_is_repeated_without_a_deeper_stack() {
 }
 
 #[test]
+fn a_thousand_operators_one_above_another_have_room_in_eight_megabytes() {
+    type Makes = fn(local::Observable<'static, u32>) -> local::Observable<'static, u32>;
+    let all: [(usize, Makes); 9] = [
+        (1000, |it| it.map(|it| it)), (1000, |it| it.scan(0, |_, it| it)), (1000, |it| it.finalize(|| ())), (1000, |it| it.tap(|_| ())),
+        (1000, |it| it.take(2)), (1000, |it| it.retry(2)), (1000, |it| it.concat_map(|it| local::Observable::of([it]))),
+        (1000, |it| it.merge_with(local::Observable::never())), (300, |it| it.share()),
+    ];
+    let work = move || for (many, make) in all {
+        let subject = local::Subject::<u32>::new();
+        let (subscription, heard) = (0..many).fold(subject.observable(), |it, _| make(it)).items();
+        subject.next(1);
+        drop(subscription);
+        assert_eq!((heard.iter().collect::<Vec<_>>(), subject.observers()), (vec![1], 0));
+    };
+    std::thread::Builder::new().stack_size(8 << 20).spawn(work).unwrap().join().unwrap();
+}
+
+#[test]
 fn threads_share_what_is_joined_and_repeated() {
     let (one, other) = (sync::Subject::<u64>::new(), sync::Subject::<u64>::new());
     let (subscription, heard) = one.observable().zip_with(&other.observable()).skip(10).enumerate().to_vec().items();

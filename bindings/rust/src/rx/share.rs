@@ -142,7 +142,7 @@ impl<'a, T, E> Subscriber<'a, T, E> {
         Ref::new_cyclic(|it| Subscriber { share: share.clone(), to, hears, at: share.subscribers.with(|all| all.put(it.clone())) })
     }
 
-    /// What it is told goes to a subscription that a panic closes.
+    /// Closes the subscription that what it is told goes to.
     fn close(&self) {
         self.to.way().0.root().panicked();
         if let Some(it) = &self.hears {
@@ -186,8 +186,10 @@ impl<'a, T: Clone + Moves + 'a, E: Clone + Moves + 'a> Thing for Subscriber<'a, 
             effect::FAILED => copy(&self.share.errors, value).map_or(Ok(()), |error| self.end(Some(error))),
             effect::COMPLETED => self.end(None),
             _ => {
-                if let Some(it) = &self.hears {
-                    it.tell(kind, value)
+                match (&self.hears, &self.to) {
+                    (Some(it), _) => it.tell(kind, value),
+                    (None, To::Leaf(leaf)) if !leaf.is_closed() => self.close(), // the share's engine was shut
+                    _ => (),
                 }
                 Ok(())
             }

@@ -147,6 +147,8 @@ struct Shape {
     in_order: bool,
     /// It may end though no subject does.
     ends: bool,
+    /// It may stand though each subject has ended.
+    stays: bool,
     /// As long as none of these has ended.
     until: Vec<usize>,
     /// As long as no function of these has panicked.
@@ -301,10 +303,11 @@ impl World {
         let done = if depth > DEPTH { Ok(()) } else { catch_unwind(AssertUnwindSafe(|| self.perform(act))) };
         self.depth.fetch_sub(1, SeqCst);
         if let Err(why) = done {
-            match why.downcast_ref::<String>() {
-                Some(told) if told.ends_with("HubOrder") || told.ends_with("NoHub") => self.state().is_short = true,
-                told if !why.is::<Planned>() => self.wrong(format!("a panic of the crate's own in {act:?}: {told:?}")),
-                _ => (),
+            let told = why.downcast_ref::<String>().map(|it| it.as_str()).or(why.downcast_ref::<&str>().copied()).unwrap_or("");
+            if ["HubOrder", "NoHub", "emits into its own source"].iter().any(|it| told.ends_with(it)) {
+                self.state().is_short = true
+            } else if !why.is::<Planned>() {
+                self.wrong(format!("a panic of the crate's own in {act:?}: {told:?}"))
             }
             resume_unwind(why)
         }
@@ -454,6 +457,12 @@ impl World {
 
     /// Ends all: then nothing is open, and each resource was released.
     fn finish(self: &Arc<Self>) {
+        (0..self.subjects.len()).for_each(|at| self.top(&Act::End(at, false)));
+        let is_open = |it: &Seen| it.subscription.as_ref().is_some_and(|it| !it.is_closed()) && !self.shapes[it.pipe].stays;
+        let stands = self.state().seen.iter().position(is_open);
+        if let Some(at) = stands {
+            self.wrong(format!("the observer {at} stands though each subject has ended"));
+        }
         loop {
             let mut state = self.state();
             let subscription = state.seen.iter_mut().find_map(|it| it.subscription.take());
@@ -502,6 +511,8 @@ impl Builder<'_> {
         self.published.push(None);
         for op in &pipe.ops {
             let (other, others) = self.source(op.other);
+            let uses_other = matches!(op.name, "or_else" | "concat_with") || [&OF_BOTH[..], &LESS, &AGAIN].iter().any(|all| all.contains(&op.name));
+            shape.stays |= matches!(op.name, "create" | "publish") || uses_other && others.stays;
             match op.name {
                 it if OF_BOTH.contains(&it) => {
                     shape.with(&others);
