@@ -1,5 +1,5 @@
 -- What is handed out at once, where an item was emitted.
-use Rattle.std.proofs.Common.{◌≡◌, ℕ, Option, Some, None, Result, Ok, Err, pos, sym, ap, ◌∙◌, subst}
+use Rattle.std.proofs.Common.{◌≡◌, ℕ, Bool, true, false, refl, Option, Some, None, Result, Ok, Err, pos, sym, ap, ◌∙◌, subst}
 use Rattle.rx_resource.specs.declared.Resource.{Ghosts}
 use Rattle.rx_resource.specs.declared.token.Token.{Token}
 use Rattle.rx_slots.specs.declared.Key.{Key}
@@ -18,9 +18,9 @@ use Rattle.rx_engine.specs.Rooms.{IsReady, IsRoomier}
 use Rattle.rx_engine.specs.Settlements.{Settles}
 use Rattle.rx_engine.specs.Gatherings.{Gathers}
 use Rattle.rx_engine.specs.Closings.{WishState, Closes}
-use Rattle.rx_engine.specs.Handings.{is_item_last, Hands, IsNextHanded}
+use Rattle.rx_engine.specs.Handings.{is_item_last, handed_of, Hands, IsNextHanded}
 use Rattle.rx_engine.specs.HandingSteps.{HandsOf, SpreadsAndHands}
-use Rattle.rx_engine.specs.States.{State, IsTied, IsSeenAs, IsLanesOnly, hears_in, merges_in}
+use Rattle.rx_engine.specs.States.{State, IsTied, IsPromised, IsSeenAs, IsLanesOnly, hears_in, merges_in}
 use Rattle.rx_engine.proofs.ItemsSaid.{settled_say, given_says}
 use Rattle.rx_engine.proofs.SpreadOut.{settles_of}
 use Rattle.rx_engine.proofs.LanesServed.{settles_roomier}
@@ -58,11 +58,12 @@ handed_tied s q tied only ready = record {
 -- what was made, and handed out
 pub next_handed : (g : Ghosts Token) (leaf : Key) (by value : ℕ) (s : State) (p q r : Parts) (mid t : BookState) (ws : WishState) (given : Option Effect) →
     Accepts s.book (next_request s.book leaf (pos 0)) mid → IsRoomier s.parts p → Gathers g by value mid p t q → Closes mid s.wishes.roles.list ws →
-    SpreadsAndHands (is_item_last t) by q r given → IsBookPromised t → IsPlain q.shares.hubs →
-    ((between : Parts) → Settles g by value mid p t between → IsReady 0 between → IsTied (record { book = t; parts = between; wishes = ws })) → IsNextHanded g leaf by value s (record { book = t; parts = r; wishes = ws }) (Ok given)
+    (hands : SpreadsAndHands by q r given) → is_item_last t ≡ true → IsBookPromised t → IsPlain q.shares.hubs →
+    IsTied (record { book = t; parts = hands.between; wishes = ws }) → IsNextHanded g leaf by value s (record { book = t; parts = r; wishes = ws }) (Ok given)
 unfolding settles_of settles_roomier
-next_handed g leaf by value s p q r mid t ws given accepts more gathers closes hands kept plain tied =
+next_handed g leaf by value s p q r mid t ws given accepts more gathers closes hands last kept plain tied =
     let u : State = record { book = t; parts = hands.between; wishes = ws } in
+    let exact = hands.exact ∙ sym (ap (λ (b : Bool). handed_of b q.effects.list q.lanes) last) in
     record {
       done = record {
         between = u;
@@ -76,12 +77,31 @@ next_handed g leaf by value s p q r mid t ws given accepts more gathers closes h
           book = kept;
           lanes = hands.promised;
           hubs = subst (λ (x : Parts). IsPlain x.shares.hubs) (sym hands.spreads.only) plain;
-          tied = tied hands.between (settles_of gathers hands.spreads) hands.ready;
+          tied = tied;
         };
-        exact = hands.exact;
-        item = given_says by value q.effects.list q.lanes (is_item_last t) given (settled_say by value (settles_of gathers hands.spreads)) hands.exact;
+        exact = exact;
+        item = given_says by value q.effects.list q.lanes (is_item_last t) given (settled_say by value (settles_of gathers hands.spreads)) exact;
         hands = hands_of by u (record { book = t; parts = r; wishes = ws }) given hands.hands
             (ap (λ (x : Parts). record { book = t; parts = x; wishes = ws }) hands.only);
+      };
+      refused = tt;
+      kept = tt;
+    }
+
+-- what was made beside other events, of which nothing is handed out
+pub next_settled : (g : Ghosts Token) (leaf : Key) (by value : ℕ) (s : State) (p : Parts) (mid : BookState) (t : State) →
+    Accepts s.book (next_request s.book leaf (pos 0)) mid → IsRoomier s.parts p → Settles g by value mid p t.book t.parts →
+    Closes mid s.wishes.roles.list t.wishes → is_item_last t.book ≡ false → IsPromised t → IsNextHanded g leaf by value s t (Ok None)
+unfolding settles_roomier
+next_settled g leaf by value s p mid t accepts more settles closes other promised =
+    record {
+      done = record {
+        between = t;
+        made = record { mid = mid; accepts = accepts; settles = settles_roomier g by value mid s.parts p t.book t.parts more settles; closes = closes };
+        promised = promised;
+        exact = sym (ap (λ (b : Bool). handed_of b settles.effects settles.left) other);
+        item = tt;
+        hands = refl;
       };
       refused = tt;
       kept = tt;

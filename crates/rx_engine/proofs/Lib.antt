@@ -23,7 +23,11 @@ pub mod NewEngine
 pub mod HomesFound
 pub mod ItemsSaid
 pub mod LanesPromised
+pub mod ItemsEmitted
+pub mod NotesTold
+pub mod ItemsAlone
 pub mod SpreadOut
+pub mod ItemsHanded
 pub mod HandedOut
 pub mod NothingLeft
 pub mod KeysKept

@@ -173,7 +173,7 @@ for_length : (by value : ℕ) (what : What) (o : Option Role) → length (effect
 for_length by value what None = refl
 for_length by value what (Some r) = refl
 
-told_length : (by value : ℕ) (hears merges : List Role) (ms : List Mail) →
+pub told_length : (by value : ℕ) (hears merges : List Role) (ms : List Mail) →
     length (all_told by value hears merges ms) + length (after_all hears ms) ≤ items_in ms + length hears
 told_length by value hears merges [] = omega arith
 told_length by value hears merges (m ∷ ms) =

@@ -1,5 +1,5 @@
 -- What a call came to is put into lanes, or its only item is handed out without being put there.
-use Rattle.std.proofs.Common.{◌≡◌, ℕ, ◌+◌, ◌<◌, ◌≤◌, ◌&&◌, Bool, true, false, List, [], ◌∷◌, Option, Some, None, is_some, Ok, refl, sym, ap, ◌∙◌, arith, subst, if◌then◌else◌}
+use Rattle.std.proofs.Common.{◌≡◌, ℕ, ◌+◌, ◌<◌, ◌≤◌, ◌&&◌, Bool, true, false, List, [], ◌∷◌, Option, Some, None, is_some, refl, sym, ap, ◌∙◌, arith, subst, if◌then◌else◌}
 use Rattle.std.proofs.lemmas.Bool.{false≢true}
 use Rattle.std.proofs.lemmas.Option.{same_Some}
 use Rattle.std.specs.Option.{option_and_then}
@@ -15,15 +15,15 @@ use Rattle.rx_lanes.proofs.Laws.ClaimedAlone.{IsPutAndTaken, alone_is_put_and_ta
 use Rattle.rx_roles.specs.declared.effect.Effect.{Effect}
 use Rattle.rx_roles.specs.declared.effect.What.{What}
 use Rattle.rx_roles.specs.declared.effect.What.TheVariants.{Next, Project}
-use Rattle.rx_roles.specs.Effects.{Store, is_item, is_last, is_release, carries, copies_in, lasts_at, only_item}
+use Rattle.rx_roles.specs.Effects.{is_item, is_last, is_release, carries, copies_in, lasts_at, only_item}
 use Rattle.rx_engine.specs.declared.parts.Parts.{Parts}
 use Rattle.rx_engine.specs.Deliveries.{many_at, put_by, PartsIf, AreNamed, Arrives, Delivers, none_delivered, one_delivered, settled}
 use Rattle.rx_engine.specs.Rooms.{role_count, named, IsReady}
 use Rattle.rx_roles.specs.declared.roles.Role.{Role}
 use Rattle.rx_engine.specs.Settlements.{Settles, Releases, all_given, effects_told}
 use Rattle.rx_engine.specs.Gatherings.{Gathers, Spreads, IsLoaded}
-use Rattle.rx_engine.specs.Handings.{is_idle_there, may_hand, item_at_once, handed_of}
-use Rattle.rx_engine.specs.HandingSteps.{ClaimsOnly, IsClaimed, AnswersHandOut}
+use Rattle.rx_engine.specs.Handings.{is_idle_there, may_hand, item_at_once}
+use Rattle.rx_engine.specs.HandingSteps.{ClaimsOnly, SpreadsAndHands}
 use Rattle.rx_engine.proofs.NamedLanes.{delivered_many}
 use Rattle.rx_engine.proofs.LanesPromised.{settled_promised}
 use Rattle.rx_engine.proofs.LanesServed.{claimed_many, turns_many}
@@ -94,11 +94,6 @@ some_handed lanes e (Some x) is some = by_test (may_hand lanes x.lane) some wher
   by_test true some = sym is
   by_test false some = absurd (false≢true some)
 
-handed_alone : (es : List Effect) (lanes : State Effect) (e : Effect) (none_behind : Bool) → none_behind ≡ true → only_item es ≡ Some e →
-    is_some (item_at_once es lanes) ≡ true → Some e ≡ handed_of none_behind es lanes
-handed_alone es lanes e none_behind last item some =
-    some_handed lanes e (only_item es) item some ∙ sym (ap (λ (b : Bool). handed_of b es lanes) last)
-
 -- whether something is
 is_some_if : (test : Bool) (e : Effect) → is_some (if test then Some e else None) ≡ test
 is_some_if true e = refl
@@ -118,10 +113,9 @@ one_alone es lanes e l is_claimed item found is =
     is ∙ ap (λ (o : Option (Lane Effect)). is_empty lanes.fresh && is_idle_there o) (sym found) ∙ sym (is_some_if (may_hand lanes e.lane) e)
     ∙ ap (λ (o : Option Effect). is_some (option_and_then (λ (x : Effect). if may_hand lanes x.lane then Some x else None) o)) (sym item)
 
-none_handed : (none_behind : Bool) (o : Option Effect) → is_some o ≡ false → (if none_behind then o else None) ≡ None
-none_handed true None none = refl
-none_handed true (Some e) none = absurd (false≢true (sym none))
-none_handed false o none = refl
+none_is : (o : Option Effect) → is_some o ≡ false → None ≡ o
+none_is None none = refl
+none_is (Some e) none = absurd (false≢true (sym none))
 
 -- claimed ----------------------------------------------------------------------------------------------------
 
@@ -198,63 +192,26 @@ module _ {by : ℕ} {e : Effect} {p q : Parts} (c : ClaimsOnly by e p q) (loaded
         spare = let had = loaded.spare in let same = law.spare in omega (arith, had, same, roles);
       }
 
-  pub claims_hand : (none_behind : Bool) → none_behind ≡ true → is_some (item_at_once p.effects.list p.lanes) ≡ true → AreLanesPromised p.lanes → IsReady 0 q →
-      AnswersHandOut none_behind by p q (Ok (Some e))
-  claims_hand none_behind last some promised ready = record {
-    given = Some e;
-    answers = refl;
-    hands = record {
-      between = between;
-      spreads = spreads;
-      ready = between_ready ready;
-      promised = settled_promised e promised law.was law.gets by;
-      exact = handed_alone p.effects.list p.lanes e none_behind last c.item some;
-      hands = (law.due, given_once);
-      only = refl;
-    };
+  pub claims_hand : is_some (item_at_once p.effects.list p.lanes) ≡ true → AreLanesPromised p.lanes → IsReady 0 q → SpreadsAndHands by p q (Some e)
+  claims_hand some promised ready = record {
+    between = between;
+    spreads = spreads;
+    ready = between_ready ready;
+    promised = settled_promised e promised law.was law.gets by;
+    exact = some_handed p.lanes e (only_item p.effects.list) c.item some;
+    hands = (law.due, given_once);
+    only = refl;
   }
 
--- claimed, and then no more on its way
-pub claimed_only : {by : ℕ} {p m : Parts} (e : Effect) (effects : Store) → IsClaimed by p m → only_item m.effects.list ≡ Some e →
-    ClaimsOnly by e p (record m { effects = effects; copies = 1 })
-claimed_only {by} {p} {m} e effects claimed item =
-    let found = sym (ap (λ (x : Parts). only_item x.effects.list) claimed.only) ∙ item in
-    record {
-      item = found;
-      claims = claimed.claims e found;
-      copies = refl;
-      only = ap (λ (x : Parts). record x { effects = effects; copies = 1 }) claimed.only;
-    }
-
--- where an event stands behind the item, or it is not alone, or its lane is not idle, nothing is handed out
-pub spread_only : {by : ℕ} {p q : Parts} (none_behind : Bool) → none_behind ≡ false → Spreads by p q → IsReady 0 q → AreLanesPromised q.lanes →
-    AnswersHandOut none_behind by p q (Ok None)
-spread_only {by} {p} {q} none_behind is spreads ready promised = record {
-  given = None;
-  answers = refl;
-  hands = record {
-    between = q;
-    spreads = spreads;
-    ready = ready;
-    promised = promised;
-    exact = sym (ap (λ (b : Bool). handed_of b p.effects.list p.lanes) is);
-    hands = refl;
-    only = refl;
-  };
-}
-
-pub spread_beside : {by : ℕ} {p q : Parts} (none_behind : Bool) → is_some (item_at_once p.effects.list p.lanes) ≡ false → Spreads by p q → IsReady 0 q →
-    AreLanesPromised q.lanes → AnswersHandOut none_behind by p q (Ok None)
-spread_beside {by} {p} {q} none_behind none spreads ready promised = record {
-  given = None;
-  answers = refl;
-  hands = record {
-    between = q;
-    spreads = spreads;
-    ready = ready;
-    promised = promised;
-    exact = sym (none_handed none_behind (item_at_once p.effects.list p.lanes) none);
-    hands = refl;
-    only = refl;
-  };
+-- where it is not alone, or its lane is not idle, nothing is handed out
+pub spread_beside : {by : ℕ} {p q : Parts} → is_some (item_at_once p.effects.list p.lanes) ≡ false → Spreads by p q → IsReady 0 q →
+    AreLanesPromised q.lanes → SpreadsAndHands by p q None
+spread_beside {by} {p} {q} none spreads ready promised = record {
+  between = q;
+  spreads = spreads;
+  ready = ready;
+  promised = promised;
+  exact = none_is (item_at_once p.effects.list p.lanes) none;
+  hands = refl;
+  only = refl;
 }

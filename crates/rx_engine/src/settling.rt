@@ -1,6 +1,6 @@
 //! What a call of the book leaves to be done.
 
-ghost use Rattle.std.specs.Prelude.{◌≡◌, ◌+◌, ◌≤◌, length, true, false, is_some};
+ghost use Rattle.std.specs.Prelude.{◌≡◌, ◌+◌, ◌≤◌, length};
 ghost use Rattle.rx_lanes.specs.declared.names.LaneName.{LaneName};
 ghost use Rattle.rx_lanes.specs.State.{IsPromised as AreLanesPromised};
 ghost use Rattle.rx_roles.specs.Effects.{items_in, names_of};
@@ -11,18 +11,14 @@ ghost use Rattle.rx_pool.specs.Places.{places_left};
 ghost use Rattle.rx_engine.specs.Settlements.{mail_left, closed_of, Settles, KeepsKeys};
 ghost use Rattle.rx_engine.specs.Gatherings.{Gathers, EndsClosed, Spreads, IsLoaded};
 ghost use Rattle.rx_engine.specs.Closings.{Closes};
-ghost use Rattle.rx_engine.specs.Handings.{item_at_once, is_some_item, is_item_last};
-ghost use Rattle.rx_engine.specs.HandingSteps.{IsClaimed, AnswersHandOut};
 
 use crate::delivering::deliver;
 use crate::leaving::end_nodes;
 use crate::parts::Parts;
 use crate::telling::{set_free, tell};
 use crate::wishes::Wishes;
-use rx_book::{Book, Refusal, Resource};
-use rx_event::Event;
+use rx_book::{Book, Resource};
 use rx_resource::Token;
-use rx_roles::Effect;
 
 // What the last call closed ends its wishes, leaves its hub and its lane, and ends its other roles.
 #[inline(never)]
@@ -82,9 +78,9 @@ pub(crate) fn gather(
     set_free(book, &mut parts.holds, &mut parts.effects, by);
 }
 
-// All effects go into their lanes, and those that got something are due.
+/// All effects go into their lanes, and those that got something are due.
 #[inline(never)]
-fn spread_some(parts: &mut Parts, by: u64)
+pub(crate) fn spread_some(parts: &mut Parts, by: u64)
     requires { IsLoaded parts.old }
     ensures spreads { Spreads by parts.old parts.new }
     ensures ready { IsReady 0 parts.new }
@@ -130,67 +126,4 @@ pub(crate) fn settle(
 {
     gather(book, parts, wishes, by, value);
     spread(parts, by);
-}
-
-// Claims the lane of an item that alone is on its way, where nothing is in it and nobody serves it; whether that is so.
-// Else nothing changes.
-#[inline(always)]
-fn claims_only(parts: &mut Parts, by: u64) -> bool
-    requires { IsLoaded parts.old }
-    ensures claims { result ≡ true → IsClaimed by parts.old parts.new }
-    ensures other { result ≡ false → parts.new ≡ parts.old }
-    ensures exact { result ≡ is_some (item_at_once parts.old.effects.list parts.old.lanes) }
-{
-    if !parts.effects.has_only_item() {
-        return false;
-    }
-    let effect = parts.effects.only_item();
-    parts.lanes.claim_alone(effect.lane, by)
-}
-
-// Whether an event is an item, if there is one.
-#[inline(always)]
-fn is_some_item(event: Option<Event>) -> bool
-    ensures { result ≡ is_some_item event }
-{
-    match event {
-        Some(Event::Item(_, _)) => true,
-        _ => false,
-    }
-}
-
-// Whether the last event is an item: then its call closed nothing, and set nothing free.
-#[inline(always)]
-fn is_item_last(book: &Book<Token>) -> bool
-    ensures { result ≡ is_item_last book.now }
-{
-    is_some_item(book.event(book.len().saturating_sub(1)))
-}
-
-/// All effects go into their lanes; or, where nothing was closed and one item is all that there is, with nothing before
-/// it in its lane, that nobody serves, it is handed out without being put there. This refuses nothing, and answers as
-/// its command does, so that no answer is copied into another.
-#[inline(always)]
-pub(crate) fn spread_and_hand(
-    book: &Book<Token>,
-    parts: &mut Parts,
-    by: u64,
-) -> Result<Option<Effect>, Refusal>
-    requires { IsLoaded parts.old }
-    ensures hands { AnswersHandOut (is_item_last book.now) by parts.old parts.new result }
-    ensures ready { IsReady 0 parts.new }
-{
-    parts.lanes.promise();
-    if !is_item_last(book) {
-        spread_some(parts, by);
-        return Ok(None);
-    }
-    if !claims_only(parts, by) {
-        spread(parts, by);
-        return Ok(None);
-    }
-    let effect = parts.effects.only_item();
-    parts.effects.clear();
-    parts.copies = 1;
-    Ok(Some(effect))
 }

@@ -71,6 +71,10 @@ role_told hears merges (NextNote item) n = role_of hears n
 role_told hears merges (ProjectNote item) n = role_of merges n
 role_told hears merges (End terminal) n = role_of hears n
 
+-- of one that has an item
+abbrev pub role_of_item : (hears merges : List Role) → Mail → Option Role
+role_of_item hears merges m = if is_end m.note then None else role_told hears merges m.note m.to
+
 -- one note
 abbrev pub told : (by value : ℕ) → (hears merges : List Role) → Mail → List Effect
 told by value hears merges m = effects_for by value (what_told m.note) (role_told hears merges m.note m.to)

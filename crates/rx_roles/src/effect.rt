@@ -1,7 +1,7 @@
 //! What a face is to do.
 
-ghost use Rattle.std.specs.Prelude.{◌≡◌, ◌+◌, ◌<◌, ◌≤◌, [], ◌∷◌, ◌++◌, OnOk, length, slice_get, Some, IsSome, is_some};
-ghost use Rattle.rx_roles.specs.Effects.{is_last, is_item, only_item};
+ghost use Rattle.std.specs.Prelude.{◌≡◌, ◌+◌, ◌<◌, ◌≤◌, [], ◌∷◌, ◌++◌, OnOk, length, slice_get};
+ghost use Rattle.rx_roles.specs.Effects.{is_last};
 
 use rx_lanes::LaneName;
 use std::alloc::{AllocError, Global};
@@ -37,17 +37,6 @@ pub fn is_last(what: What) -> bool
         What::Project => false,
         What::Put => false,
         _ => true,
-    }
-}
-
-// Whether it is an item, to be told or to be projected.
-fn is_item(what: What) -> bool
-    ensures { result ≡ is_item what }
-{
-    match what {
-        What::Next => true,
-        What::Project => true,
-        _ => false,
     }
 }
 
@@ -152,36 +141,6 @@ impl Effects {
         ensures { result ≡ slice_get self.now.list place }
     {
         self.list.get(place).copied()
-    }
-
-    /// Whether there is but one effect, and that is an item.
-    #[inline(always)]
-    pub fn has_only_item(&self) -> bool
-        ensures { result ≡ is_some (only_item self.now.list) }
-    {
-        if self.list.len() != 1 {
-            return false;
-        }
-        let effect = self.list[0];
-        is_item(effect.what)
-    }
-
-    /// That item.
-    #[inline(always)]
-    pub fn only_item(&self) -> Effect
-        requires { IsSome (only_item self.now.list) }
-        ensures { only_item self.now.list ≡ Some result }
-    {
-        let _one = self.list.len();
-        // By its fields: a copy of the whole would go over the stack.
-        let only = self.list[0];
-        Effect {
-            lane: only.lane,
-            user: only.user,
-            value: only.value,
-            by: only.by,
-            what: only.what,
-        }
     }
 
     /// Takes all away. It takes no memory.

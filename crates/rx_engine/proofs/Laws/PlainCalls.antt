@@ -43,13 +43,13 @@ pub record IsPlainCall (s : BookState) (asked : Request) (e : Event) (mid : Book
   pub unheld : makes_resource e ≡ false
   pub keeps : keeps_resources asked.call ≡ true
 
-may_be : (base : Kept) (h : List Event) (e : Event) → MayFollow base h e → IsSettled base h → makes_resource e ≡ false → IsAllowed base h e
+pub may_be : (base : Kept) (h : List Event) (e : Event) → MayFollow base h e → IsSettled base h → makes_resource e ≡ false → IsAllowed base h e
 may_be base h e (forced f) settled plain = absurd (settled.none e f)
 may_be base h e (allowed settled a) still plain = a
 may_be base h e (opened_with is one o) settled plain = absurd (false≢true (sym plain))
 
 module _ {s mid : BookState} {asked : Request} {e : Event} (c : IsPlainCall s asked e mid) where
-  steps : IsForcedOn s.base (s.history ++ e ∷ []) mid.history
+  pub steps : IsForcedOn s.base (s.history ++ e ∷ []) mid.history
   steps = subst (λ (es : List Event). IsForcedOn s.base (s.history ++ es) mid.history) c.one c.accepts.step.forced
 
   pub tells : StepTells s.history mid.history (items_in (mail_of s.history e))
