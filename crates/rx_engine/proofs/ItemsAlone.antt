@@ -1,9 +1,9 @@
 -- An item that closed nothing stands last, and nothing waits behind it; behind one that closed something another event stands.
-use Rattle.rx_event.proofs.Laws.Common.{◌≡◌, ℕ, ℤ, ◌-◌, ◌<◌, ◌≤◌, ◌&&◌, ◌||◌, ◌⊎◌, inl, inr, not, Bool, true, false, List, [], ◌∷◌, ◌++◌, length, map, refl, sym, ap, ◌∙◌, arith, subst}
+use Rattle.rx_event.proofs.Laws.Common.{◌≡◌, ℕ, ℤ, ◌-◌, ◌<◌, ◌≤◌, ◌&&◌, ◌||◌, ◌⊎◌, inl, inr, not, Bool, true, false}
+use Rattle.rx_event.proofs.Laws.Common.{List, [], ◌∷◌, ◌++◌, length, map, refl, sym, ap, ◌∙◌, arith, subst}
 use Rattle.rx_event.proofs.Laws.Common.{cases_order, false≢true, le-ltb, length-append, nat_lt}
 use Rattle.rx_event.proofs.Laws.Common.{Kept, is_open, MayFollow}
-use Rattle.std.proofs.Common.{if◌then◌else◌, None}
-use Rattle.std.specs.List.{All}
+use Rattle.std.proofs.Common.{if◌then◌else◌, None, slice_get}
 use Rattle.rx_resource.specs.declared.Resource.{Ghosts}
 use Rattle.rx_resource.specs.declared.token.Token.{Token}
 use Rattle.rx_event.specs.declared.event.Event.{Event}
@@ -55,15 +55,15 @@ last_item base h e none = by_test (nat_lt (length (h ++ e ∷ []) - 1) base.at_l
   there : length (h ++ e ∷ []) - 1 ≡ length h
   there = let l = length-append h (e ∷ []) in omega (arith, l)
 
-  by_test : (b : Bool) → is_some_item (if b then None else Rattle.std.specs.Prelude.slice_get (h ++ e ∷ []) (length (h ++ e ∷ []) - 1)) ≡ false
+  by_test : (b : Bool) → is_some_item (if b then None else slice_get (h ++ e ∷ []) (length (h ++ e ∷ []) - 1)) ≡ false
   by_test true = refl
-  by_test false = ap (λ (n : ℕ). is_some_item (Rattle.std.specs.Prelude.slice_get (h ++ e ∷ []) n)) there ∙ ap is_some_item (slice_get_last h e) ∙ none
+  by_test false = ap (λ (n : ℕ). is_some_item (slice_get (h ++ e ∷ []) n)) there ∙ ap is_some_item (slice_get_last h e) ∙ none
 
 item_last : (base : Kept) (h : List Event) (leaf : ℕ) (value : ℤ) → base.at_length ≤ length h →
     is_some_item (event_since base (h ++ Item leaf value ∷ []) (length (h ++ Item leaf value ∷ []) - 1)) ≡ true
 item_last base h leaf value begun =
     ap (λ (n : ℕ). is_some_item (event_since base (h ++ Item leaf value ∷ []) n)) there
-    ∙ ap (λ (b : Bool). is_some_item (if b then None else Rattle.std.specs.Prelude.slice_get (h ++ Item leaf value ∷ []) (length h))) (le-ltb (length h) base.at_length begun)
+    ∙ ap (λ (b : Bool). is_some_item (if b then None else slice_get (h ++ Item leaf value ∷ []) (length h))) (le-ltb (length h) base.at_length begun)
     ∙ ap is_some_item (slice_get_last h (Item leaf value)) where
       there : length (h ++ Item leaf value ∷ []) - 1 ≡ length h
       there = let l = length-append h (Item leaf value ∷ []) in omega (arith, l)

@@ -1,5 +1,6 @@
 -- One note: its item is handed out, or what it comes to is put into its lane.
-use Rattle.std.proofs.Common.{◌≡◌, ℕ, ◌+◌, ◌-◌, ◌<◌, ◌≤◌, ◌&&◌, Bool, true, false, List, [], ◌∷◌, ◌++◌, length, Option, Some, None, is_some, option_map, Ok, slice_get, refl, sym, ap, ◌∙◌, arith, if◌then◌else◌}
+use Rattle.std.proofs.Common.{◌≡◌, ℕ, ◌+◌, ◌-◌, ◌<◌, ◌≤◌, ◌&&◌, Bool, true, false, List, [], ◌∷◌, ◌++◌, length, Option}
+use Rattle.std.proofs.Common.{Some, None, is_some, option_map, Ok, slice_get, refl, sym, ap, ◌∙◌, arith, if◌then◌else◌}
 use Rattle.rx_event.specs.declared.mail.Mail.{Mail}
 use Rattle.rx_event.specs.Notes.{notes}
 use Rattle.rx_book.specs.State.{State as BookState}
@@ -22,14 +23,15 @@ use Rattle.rx_engine.proofs.NotesTold.{tells_none, told_loaded, item_of_note, Is
 use Rattle.rx_engine.proofs.SpreadOut.{only_found, none_alone, one_alone, claimed_ready, claims_hand, spread_beside}
 
 -- what is on its way, where nothing was before
-told_is : {by value : ℕ} {ms : List Mail} {p q : Parts} → p.effects.list ≡ [] → HasTold by value ms p q → q.effects.list ≡ all_told by value p.hears.list p.merges.list ms
+told_is : {by value : ℕ} {ms : List Mail} {p q : Parts} → p.effects.list ≡ [] → HasTold by value ms p q →
+    q.effects.list ≡ all_told by value p.hears.list p.merges.list ms
 told_is {by} {value} {ms} {p} empty tells = tells.effects ∙ ap (λ (es : List Effect). es ++ all_told by value p.hears.list p.merges.list ms) empty
 
 told_lanes : {by value : ℕ} {ms : List Mail} {p q : Parts} → HasTold by value ms p q → q.lanes ≡ p.lanes
 told_lanes tells = ap (λ (x : Parts). x.lanes) tells.only
 
 -- of which nothing is handed out, where it has no item alone
-pub handed_none : {by value : ℕ} {ms : List Mail} {p q : Parts} (s : TellsAndSpreads by value ms p q) →
+handed_none : {by value : ℕ} {ms : List Mail} {p q : Parts} (s : TellsAndSpreads by value ms p q) →
     is_some (item_at_once s.told.effects.list s.told.lanes) ≡ false → TellsAndHands by value ms p q (Ok None)
 handed_none s none =
     record { told = s.told; tells = s.tells; given = None; answers = refl; hands = spread_beside none s.spreads s.ready s.promised }
@@ -45,7 +47,8 @@ handed_nobody {by} {value} {m} empty nobody s =
     let none = item_is empty s.tells ∙ ap (option_map (effect_for by value (what_told m.note))) nobody in
     handed_none s (sym (none_alone s.told.effects.list s.told.lanes (ap (λ (o : Option Effect). is_some o) none)))
 
-module _ (by value : ℕ) (m : Mail) {p : Parts} (ready : IsReady (items_in (m ∷ [])) p) {r : Role} (is : role_of_item p.hears.list p.merges.list m ≡ Some r) where
+module _ (by value : ℕ) (m : Mail) {p : Parts} (ready : IsReady (items_in (m ∷ [])) p) {r : Role}
+    (is : role_of_item p.hears.list p.merges.list m ≡ Some r) where
   -- what is handed out
   abbrev pub handed : Effect
   handed = record { lane = r.lane; user = r.word; value = value; by = by; what = what_told m.note }
@@ -136,7 +139,8 @@ given_all s t within none is =
 pub given_more : (s t u : BookState) → t ≡ record s { given = s.given + 1 } → u ≡ all_given t → u ≡ all_given s
 given_more s t u is all = all ∙ ap all_given is
 
-pub given_within : (s t : BookState) (m : Mail) → Some m ≡ slice_get (notes s.history) s.given → t ≡ record s { given = s.given + 1 } → t.given ≤ length (notes t.history)
+pub given_within : (s t : BookState) (m : Mail) → Some m ≡ slice_get (notes s.history) s.given → t ≡ record s { given = s.given + 1 } →
+    t.given ≤ length (notes t.history)
 given_within s t m found is =
     let w = get_within (notes s.history) s.given m (sym found) in
     let g = ap (λ (x : BookState). x.given) is in

@@ -1,5 +1,6 @@
 -- What notes come to, where the call closed nothing: it is loaded, and it is all that was gathered.
-use Rattle.std.proofs.Common.{◌≡◌, ℕ, ◌≤◌, Bool, true, false, List, [], ◌∷◌, ◌++◌, length, map, Option, Some, None, is_some, option_map, refl, sym, ap, ◌∙◌, arith, subst, append_assoc, append-nil, if◌then◌else◌}
+use Rattle.std.proofs.Common.{◌≡◌, ℕ, ◌≤◌, Bool, true, false, List, [], ◌∷◌, ◌++◌, length, map, Option}
+use Rattle.std.proofs.Common.{Some, None, is_some, option_map, refl, sym, ap, ◌∙◌, arith, subst, append_assoc, append-nil, if◌then◌else◌}
 use Rattle.rx_resource.specs.declared.Resource.{Ghosts}
 use Rattle.rx_resource.specs.declared.token.Token.{Token}
 use Rattle.rx_event.specs.declared.mail.Mail.{Mail}
@@ -15,7 +16,8 @@ use Rattle.rx_roles.specs.declared.effect.Effect.{Effect}
 use Rattle.rx_roles.specs.declared.effect.What.{What}
 use Rattle.rx_roles.specs.declared.effect.What.TheVariants.{Next, Project}
 use Rattle.rx_roles.specs.Roles.{Table, role_of, without_all}
-use Rattle.rx_roles.specs.Effects.{is_item, carries, effect_for, effects_for, what_told, end_told, role_told, role_of_item, told, after, all_told, after_all, all_last, items_in, names_of, lasts_at, only_item, AllListened}
+use Rattle.rx_roles.specs.Effects.{is_item, carries, effect_for, effects_for, what_told, end_told, role_told, role_of_item}
+use Rattle.rx_roles.specs.Effects.{told, after, all_told, after_all, all_last, items_in, names_of, lasts_at, only_item, AllListened}
 use Rattle.rx_roles.proofs.Laws.LastEffects.{told_lasts_at}
 use Rattle.rx_roles.proofs.Laws.RolesTaken.{listened_told}
 use Rattle.rx_engine.specs.declared.parts.Parts.{Parts}
@@ -35,7 +37,8 @@ pub tells_none : (by value : ℕ) (p : Parts) → HasTold by value [] p p
 tells_none by value p = record { hears = refl; effects = sym (append-nil p.effects.list); room = omega arith; only = refl }
 
 -- one note, and then those behind it
-pub tells_behind : {by value : ℕ} {m : Mail} {ms : List Mail} {p q r : Parts} → HasTold by value (m ∷ []) p q → HasTold by value ms q r → HasTold by value (m ∷ ms) p r
+pub tells_behind : {by value : ℕ} {m : Mail} {ms : List Mail} {p q r : Parts} → HasTold by value (m ∷ []) p q → HasTold by value ms q r →
+    HasTold by value (m ∷ ms) p r
 tells_behind {by} {value} {m} {ms} {p} {q} {r} one rest = record {
   hears = rest.hears ∙ ap (λ (rs : List Role). after_all rs ms) one.hears;
   effects = rest.effects

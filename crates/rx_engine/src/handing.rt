@@ -2,7 +2,7 @@
 
 ghost use Rattle.std.specs.Prelude.{◌≡◌, ◌+◌, ◌≤◌, ◌∷◌, [], length};
 ghost use Rattle.rx_roles.specs.Effects.{AllListened, items_in};
-ghost use Rattle.rx_engine.specs.Rooms.{role_count, IsReady};
+ghost use Rattle.rx_engine.specs.Rooms.{IsReady};
 ghost use Rattle.rx_engine.specs.Settlements.{mail_left, all_given};
 ghost use Rattle.rx_engine.specs.Handings.{IsNextHanded};
 ghost use Rattle.rx_engine.specs.HandingSteps.{HasTold, TellsAndSpreads, TellsAndHands};

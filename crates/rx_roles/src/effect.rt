@@ -140,7 +140,20 @@ impl Effects {
     pub fn get(&self, place: usize) -> Option<Effect>
         ensures { result ≡ slice_get self.now.list place }
     {
-        self.list.get(place).copied()
+        // By its fields: a copy of the whole would go over the stack.
+        match self.list.get(place) {
+            Some(one) => Some(Effect {
+                lane: LaneName {
+                    place: one.lane.place,
+                    turn: one.lane.turn,
+                },
+                user: one.user,
+                value: one.value,
+                by: one.by,
+                what: one.what,
+            }),
+            None => None,
+        }
     }
 
     /// Takes all away. It takes no memory.
