@@ -137,7 +137,8 @@ impl Engine {
         match emit(&mut self.book, &mut self.parts, leaf) {
             Ok(()) => {
                 self.book.promise();
-                if self.book.closed_count() > 0 {
+                let closed = self.book.closed_count();
+                if closed > 0 {
                     settle(&mut self.book, &mut self.parts, &mut self.wishes, by, value);
                     self.book.promise();
                     self.parts.lanes.promise();

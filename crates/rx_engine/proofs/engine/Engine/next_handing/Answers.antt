@@ -38,19 +38,19 @@ invariant_of-self c =
     (ready_roomier c.self.inside.parts c.emit.new.parts c.self.invariant.ready c.emit.ensures.roomier) c.settle.ensures.settles c.settle.ensures.closes
     c.settle.ensures.ready
 
-pub returns-then-closed_count-gt0 : goal.returns-then-closed_count-gt0
-returns-then-closed_count-gt0 c =
+pub returns-then-closed-gt0 : goal.returns-then-closed-gt0
+returns-then-closed-gt0 c =
     let after : State = record { book = c.settle.new.book; parts = c.settle.new.parts; wishes = c.settle.new.wishes } in
     let call = emitted_call (state_of c.self.inside) c.args.leaf c.emit.new.book c.emit.new.parts c.promise.ensures c.self.invariant c.in-Ok.ensures.accepted
     c.emit.ensures.roomier in
-    let some = subst (λ n. 0 < n) c.closed_count.ensures c.if-closed_count-gt0.true in
+    let some = subst (λ n. 0 < n) c.closed_count-closed.ensures c.if-closed-gt0.true in
     subst (λ (s : State). IsNextHanded ghosts c.args.leaf c.args.by c.args.value s after (Ok None)) c.self.view_is
     (next_settled ghosts c.args.leaf c.args.by c.args.value (state_of c.self.inside) c.emit.new.parts c.emit.new.book after c.in-Ok.ensures.accepted
     c.emit.ensures.roomier c.settle.ensures.settles c.settle.ensures.closes (settled_last call some c.settle.ensures.settles.releases)
     (record {
-      book = c.promise-then-closed_count-gt0.ensures;
-      lanes = c.promise-then-closed_count-gt0-2.ensures;
-      hubs = c.promise-then-closed_count-gt0-3.ensures;
+      book = c.promise-then-closed-gt0.ensures;
+      lanes = c.promise-then-closed-gt0-2.ensures;
+      hubs = c.promise-then-closed-gt0-3.ensures;
       tied = invariant_of-self c;
     }))
 
@@ -67,7 +67,7 @@ hand_item-requires-clause-listened c =
 
 none_closed : (c : goal.After-hand_item) → c.emit.new.book.closed ≡ []
 none_closed c =
-    let h = c.if-closed_count-gt0.false in
+    let h = c.if-closed-gt0.false in
     let none : length c.emit.new.book.closed ≡ 0 = search (rules, tests) in
     none_of_length c.emit.new.book.closed none
 
@@ -100,8 +100,8 @@ invariant_of-self-in-Ok c =
     (handed_tied (record { book = all_given c.emit.new.book; parts = hands.between; wishes = c.close_none.new.self }) c.hand_item.new.parts (between_tied c)
     hands.only c.hand_item.ensures.ready)
 
-pub returns-else-closed_count-gt0 : goal.returns-else-closed_count-gt0
-returns-else-closed_count-gt0 c =
+pub returns-else-closed-gt0 : goal.returns-else-closed-gt0
+returns-else-closed-gt0 c =
     let over = c.hand_item.ensures.hands in
     let after : BookState → State = λ (b : BookState). record { book = b; parts = c.hand_item.new.parts; wishes = c.close_none.new.self } in
     let call = emitted_call (state_of c.self.inside) c.args.leaf c.emit.new.book c.emit.new.parts c.promise.ensures c.self.invariant c.in-Ok.ensures.accepted
