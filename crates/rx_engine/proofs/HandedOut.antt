@@ -1,12 +1,11 @@
 -- What is handed out at once, where an item was emitted.
-use Rattle.std.proofs.Common.{◌≡◌, ℕ, Bool, true, false, refl, Option, Some, None, Result, Ok, Err, pos, sym, ap, ◌∙◌, subst}
+use Rattle.std.proofs.Common.{◌≡◌, ℕ, Bool, true, false, refl, Option, Some, None, Ok, pos, sym, ap, ◌∙◌, subst}
 use Rattle.rx_resource.specs.declared.Resource.{Ghosts}
 use Rattle.rx_resource.specs.declared.token.Token.{Token}
 use Rattle.rx_slots.specs.declared.Key.{Key}
 use Rattle.rx_book.specs.State.{State as BookState, IsPromised as IsBookPromised, is_kept}
 use Rattle.rx_book.specs.Requests.{next_request}
-use Rattle.rx_event.specs.declared.refusal.Refusal.{Refusal}
-use Rattle.rx_book.specs.Answers.{Accepts, IsCauseOrWant}
+use Rattle.rx_book.specs.Answers.{Accepts}
 use Rattle.rx_event.specs.Tree.{is_open}
 use Rattle.rx_lanes.specs.State.{State as LanesState}
 use Rattle.rx_roles.specs.declared.effect.Effect.{Effect}
@@ -20,7 +19,7 @@ use Rattle.rx_engine.specs.Gatherings.{Gathers}
 use Rattle.rx_engine.specs.Closings.{WishState, Closes}
 use Rattle.rx_engine.specs.Handings.{is_item_last, handed_of, Hands, IsNextHanded}
 use Rattle.rx_engine.specs.HandingSteps.{HandsOf, SpreadsAndHands}
-use Rattle.rx_engine.specs.States.{State, IsTied, IsPromised, IsSeenAs, IsLanesOnly, hears_in, merges_in}
+use Rattle.rx_engine.specs.States.{State, IsTied, IsPromised, IsLanesOnly, hears_in, merges_in}
 use Rattle.rx_engine.proofs.ItemsSaid.{settled_say, given_says}
 use Rattle.rx_engine.proofs.SpreadOut.{settles_of}
 use Rattle.rx_engine.proofs.LanesServed.{settles_roomier}
@@ -106,9 +105,3 @@ next_settled g leaf by value s p mid t accepts more settles closes other promise
       refused = tt;
       kept = tt;
     }
-
--- what was refused
-pub next_refused : (g : Ghosts Token) (leaf : Key) (by value : ℕ) (s t : State) (answer : Result (Option Effect) Refusal) (why : Refusal) → answer ≡ Err why →
-    IsCauseOrWant s.book (next_request s.book leaf (pos 0)) why → IsSeenAs s t → IsNextHanded g leaf by value s t answer
-next_refused g leaf by value s t answer why is cause seen =
-    subst (λ (r : Result (Option Effect) Refusal). IsNextHanded g leaf by value s t r) (sym is) (record { done = tt; refused = cause; kept = seen })

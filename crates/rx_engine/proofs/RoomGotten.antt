@@ -32,12 +32,6 @@ ready_roomier p q ready r =
       spare = omega (arith, same, spare, spared);
     }
 
-pub room_roomier : (extra : ℕ) (p q : Parts) → HasRoomFor extra p → IsRoomier p q → HasRoomFor extra q
-room_roomier extra p q has r =
-    let same = same_count p q r in
-    let had = has.room in let kept = r.room in let spare = has.spare in let spared = r.spare in let few = has.few in let names = same_names p q r in
-    record { room = omega (arith, same, had, kept); spare = omega (arith, same, spare, spared); few = omega (arith, names, few) }
-
 pub ready_with : (extra : ℕ) (p q : Parts) → IsReady 0 p → IsRoomier p q → HasRoomFor extra q → IsReady extra q
 ready_with extra p q ready r has =
     let had = has.room in let spare = has.spare in
