@@ -26,9 +26,9 @@ use Rattle.rx_turns.specs.Courses.{hands_new, hands_old, IsStepCourse, AreBack, 
 use Rattle.rx_turns.proofs.CallsAreCourses.{calls_are_courses}
 use Rattle.rx_turns.proofs.CoursesTold.{unchanged, and_then}
 use Rattle.cellarcliff.specs.declared.stepping.Stack.{Stack}
-use Rattle.cellarcliff.specs.declared.stepping.Stepped.{Stepped}
 use Rattle.cellarcliff.specs.Calls.{IsLooked, looks, looks_at_none, IsNew, IsMade, makes, is_starved, is_held, IsFinished, finishes, is_untaken, is_absent}
-use Rattle.cellarcliff.specs.Steps.{turn_of, no_step, answer_in, made_told, handed_told, turns, turns_none, IsStepTold}
+use Rattle.rx_turns.specs.Telling.{handed_told}
+use Rattle.cellarcliff.specs.Steps.{turn_of, turns, turns_none, IsStepTold}
 use Rattle.cellarcliff.specs.Courses.{Shown, gave_tag, was_handed, let_go, lets_none_go, tag_given, shown_made, shown_handed, OnTurns, IsCellarCall, cellar_step}
 use Rattle.cellarcliff.specs.Courses.{cellar_next, cellar_pass, cellar_stop, cellar_closings, cellar_totals, cellar_event, cellar_dump, cellar_new, cellar_finish}
 use Rattle.cellarcliff.specs.Courses.{CellarCourse, no_call, calls_on, tags_shown, told_from, all_tags, those_told, all_back, IsShownCourse, AreCallsCourses}
@@ -291,10 +291,9 @@ made_alike : (done : Bool) (asked : Option Asked) → TagsAlike (if done then ta
 made_alike true asked = asked_alike asked
 made_alike false asked = no_tag
 
-pub shown_as : (handed : Option Task) (is_own : Bool) (made : Answer) (a : Stepped) →
-    shown_handed (handed_told handed is_own (made_told made (no_step a))) ≡ handed_shown handed
-shown_as None is_own made a = refl
-shown_as (Some h) is_own made a = refl
+pub shown_as : (handed : Option Task) (is_own : Bool) (made : Answer) → shown_handed (handed_told handed is_own made) ≡ handed_shown handed
+shown_as None is_own made = refl
+shown_as (Some h) is_own made = refl
 
 step_goes : (g : Ghosts Token) (s t : Turns) (handed : Option Task) (acts : List Seen) (tags : List Shown) → TagsAlike acts tags → IsPromised t.cellar.engine →
     IsStepCourse g acts (turn_state s) (turn_state t) handed → CallGoes g s t (tags ++ handed_shown handed)
@@ -317,12 +316,12 @@ step_goes g s t handed acts tags alike kept k =
           still_below (turn_state s) (turn_state t) handed (hands.grows less) below (hands.is_below less below) turn h (k.hands turn h held);
     }
 
-step_course : (g : Ghosts Token) (stack : Stack) (c : Option Command) (s t : Turns) (a b : Stepped) (status : ℕ) (tags : List Shown) →
+step_course : (g : Ghosts Token) (stack : Stack) (c : Option Command) (s t : Turns) (a b : Answer) (status : ℕ) (tags : List Shown) →
     TagsAlike (tag_done c status) tags → IsPromised t.cellar.engine → IsStepTold g stack c (turn_state s) (turn_state t) a b status →
     CallGoes g s t (tags ++ shown_handed b)
 step_course g stack c s t a b status tags alike kept k =
-    let went = (calls_are_courses g).steps (turn_of stack) stack.begun c (turn_state s) (turn_state t) (answer_in a) k.made k.step k.steps in
-    let shown_so = ap shown_handed k.told ∙ shown_as k.step.handed k.step.is_own k.made a in
+    let went = (calls_are_courses g).steps (turn_of stack) stack.begun c (turn_state s) (turn_state t) a k.made k.step k.steps in
+    let shown_so = ap shown_handed k.told ∙ shown_as k.step.handed k.step.is_own k.made in
     subst (λ (xs : List Shown). CallGoes g s t (tags ++ xs)) (sym shown_so)
     (step_goes g s t k.step.handed (tag_done c status) tags alike kept
     (subst (λ (n : ℕ). IsStepCourse g (tag_done c n) (turn_state s) (turn_state t) k.step.handed) (sym k.status_is) went))

@@ -21,9 +21,9 @@ use Rattle.rx_turns.specs.Courses.{Seen, WasInHand, HandsFrom, IsHandedOf, hands
 use Rattle.rx_turns.proofs.CallsAreCourses.{calls_are_courses}
 use Rattle.rx_turns.proofs.HandsKept.{all_stay}
 use Rattle.cellarcliff.specs.declared.stepping.Stack.{Stack}
-use Rattle.cellarcliff.specs.declared.stepping.Stepped.{Stepped}
+use Rattle.rx_cellar.specs.declared.shapes.Answer.{Answer}
 use Rattle.cellarcliff.specs.Calls.{IsNew}
-use Rattle.cellarcliff.specs.Steps.{turn_of, answer_in, IsStepTold}
+use Rattle.cellarcliff.specs.Steps.{turn_of, IsStepTold}
 use Rattle.cellarcliff.specs.Courses.{Shown, gave_tag, was_handed, let_go, tag_given, shown_made, shown_handed, IsCellarCall, cellar_step, cellar_next, cellar_pass}
 use Rattle.cellarcliff.specs.Courses.{cellar_stop, cellar_closings, cellar_totals, cellar_event, cellar_dump, cellar_new, cellar_finish, CellarCourse, no_call}
 use Rattle.cellarcliff.specs.Courses.{calls_on, WasHanded, AreTicketsOwn}
@@ -97,12 +97,12 @@ none_made : (done : Bool) (asked : Option Asked) (ticket : ℕ) (e : Effect) →
 none_made true asked ticket e is = no_tag_handed ticket e asked is
 none_made false asked ticket e is = is
 
-step_hands : (g : Ghosts Token) (stack : Stack) (c : Option Command) (s t : Turns) (a b : Stepped) (status : ℕ) (tags : List Shown) →
+step_hands : (g : Ghosts Token) (stack : Stack) (c : Option Command) (s t : Turns) (a b : Answer) (status : ℕ) (tags : List Shown) →
     ((ticket : ℕ) (e : Effect) → WasHanded ticket e tags → ⊥) → IsStepTold g stack c (turn_state s) (turn_state t) a b status →
     CallHands (turn_state s) (turn_state t) (tags ++ shown_handed b)
 step_hands g stack c s t a b status tags none k =
-    let went = (calls_are_courses g).steps (turn_of stack) stack.begun c (turn_state s) (turn_state t) (answer_in a) k.made k.step k.steps in
-    let shown_so = ap shown_handed k.told ∙ shown_as k.step.handed k.step.is_own k.made a in
+    let went = (calls_are_courses g).steps (turn_of stack) stack.begun c (turn_state s) (turn_state t) a k.made k.step k.steps in
+    let shown_so = ap shown_handed k.told ∙ shown_as k.step.handed k.step.is_own k.made in
     record {
       handed = k.step.handed;
       told = went.told;

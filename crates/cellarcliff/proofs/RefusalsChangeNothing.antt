@@ -7,6 +7,7 @@ use Rattle.rx_event.specs.declared.refusal.Refusal.TheVariants.{Full, NoHub}
 use Rattle.rx_engine.specs.Sharings.{IsDisconnectMade, none_serves, one_serves}
 use Rattle.rx_engine.specs.States.{State, IsSeenAs}
 use Rattle.rx_cellar.specs.declared.shapes.Answer.{Answer}
+use Rattle.rx_cellar.specs.declared.shapes.Effect.{Effect}
 use Rattle.rx_cellar.specs.declared.making.Made.{Made}
 use Rattle.rx_cellar.specs.declared.asked.Asked.{Asked}
 use Rattle.rx_cellar.specs.declared.asked.Asked.TheVariants.{Open, Subscribe, Using, Hold, Next, Complete, Error, Fail, Decline, Dispose, Connect, Disconnect}
@@ -129,13 +130,13 @@ tried g asked by s t o why (once_more u first again) same =
 
 -- calls --------------------------------------------------------------------------------------------------
 
-asked_refused : (g : Ghosts Token) (asked : Asked) (by : ℕ) (s t : Cellar) (a b : Answer) (status : ℕ) → IsAskedMade g asked by s t a b status → status ≢ 0 →
-    Leaves g s t × (b ≡ a)
-asked_refused g asked by s t a b status (is_done o u v tidies made counts tells) not_done = absurd (not_done refl)
-asked_refused g asked by s t a b status (is_refused why u tidies made same) not_done =
+asked_refused : (g : Ghosts Token) (asked : Asked) (by : ℕ) (s t : Cellar) (a b : Answer) (given : Option Effect) (status : ℕ) →
+    IsAskedMade g asked by s t a b given status → status ≢ 0 → Leaves g s t × (b ≡ a)
+asked_refused g asked by s t a b given status (is_done o u v tidies made counts tells gives) not_done = absurd (not_done refl)
+asked_refused g asked by s t a b given status (is_refused why u tidies made same none) not_done =
     (leaves_on (tidy g (is_due s) s u tidies) (tried g asked by u t (Err why) why made refl), same)
 
-pub call_refused : (g : Ghosts Token) (asked : Option Asked) (by : ℕ) (s t : Cellar) (a b : Answer) (status : ℕ) → IsMadeIf g asked by s t a b status → status ≢ 0 →
-    Leaves g s t × (b ≡ a)
-call_refused g None by s t a b status (five, same, none) not_done = (tidy g false s t same, none)
-call_refused g (Some asked) by s t a b status is not_done = asked_refused g asked by s t a b status is not_done
+pub call_refused : (g : Ghosts Token) (asked : Option Asked) (by : ℕ) (s t : Cellar) (a b : Answer) (given : Option Effect) (status : ℕ) →
+    IsMadeIf g asked by s t a b given status → status ≢ 0 → Leaves g s t × (b ≡ a)
+call_refused g None by s t a b given status (five, same, kept, none) not_done = (tidy g false s t same, kept)
+call_refused g (Some asked) by s t a b given status is not_done = asked_refused g asked by s t a b given status is not_done

@@ -22,11 +22,12 @@ use Rattle.rx_turns.specs.declared.turns.Turns.{Turns}
 use Rattle.rx_turns.specs.States.{TurnState, turn_state}
 use Rattle.rx_turns.specs.Courses.{Seen, handed_in, was_told, came_back, IsEngineCourse}
 use Rattle.cellarcliff.specs.declared.stepping.Stack.{Stack}
-use Rattle.cellarcliff.specs.declared.stepping.Stepped.{Stepped}
+use Rattle.rx_cellar.specs.declared.shapes.Answer.{Answer}
 use Rattle.cellarcliff.specs.Answers.{TellsNoText}
 use Rattle.cellarcliff.specs.Calls.{IsLooked, IsMade, IsFinished, IsNoRest, IsTotalled, IsEventAnswered}
 use Rattle.cellarcliff.specs.Dumps.{IsHandedOver}
-use Rattle.cellarcliff.specs.Steps.{no_step, IsTurned, IsStepTold, IsPassTold, IsStopTold, AreClosingsTold}
+use Rattle.rx_turns.specs.Telling.{no_step}
+use Rattle.cellarcliff.specs.Steps.{IsTurned, IsStepTold, IsPassTold, IsStopTold, AreClosingsTold}
 
 -- what a caller sees -----------------------------------------------------------------------------------
 
@@ -45,7 +46,7 @@ tag_given _ = []
 abbrev pub shown_made : Option Asked → (status : ℕ) → List Shown
 shown_made asked status = if status == 0 then tag_given asked else []
 
-abbrev pub shown_handed : Stepped → List Shown
+abbrev pub shown_handed : Answer → List Shown
 shown_handed step = if step.handed == 1 then was_handed step.ticket step.effect ∷ [] else []
 
 -- the calls --------------------------------------------------------------------------------------------
@@ -60,10 +61,10 @@ LooksAtTurns Says IsBlank s t = IsLooked Says IsBlank (Some s) (Some t)
 
 -- a prime marks what the caller's memory has after the call
 pub data IsCellarCall (g : Ghosts Token) (s : Turns) : List Shown → Turns → Type 0 where
-  cellar_step : {t : Turns} {status : ℕ} (stack : Stack) (command : Command) (step step' : Stepped) →
+  cellar_step : {t : Turns} {status : ℕ} (stack : Stack) (command : Command) (step step' : Answer) →
       OnTurns (λ s t n. IsStepTold g stack (Some command) s t step step' n) (step' ≡ no_step step) s t status →
       IsCellarCall g s (shown_made (asked_of command) status ++ shown_handed step') t
-  cellar_next : {t : Turns} {status : ℕ} (stack : Stack) (step step' : Stepped) →
+  cellar_next : {t : Turns} {status : ℕ} (stack : Stack) (step step' : Answer) →
       OnTurns (λ s t n. IsStepTold g stack None s t step step' n) (step' ≡ no_step step) s t status → IsCellarCall g s (shown_handed step') t
   cellar_pass : {t : Turns} {status : ℕ} (stack : Stack) (from now : ℕ) →
       OnTurns (λ s t n. IsPassTold stack from (not (now == 0)) s t n) Unit s t status → IsCellarCall g s (let_go ∷ []) t

@@ -16,15 +16,16 @@ use Rattle.rx_turns.specs.declared.agenda.Turn.{Turn}
 use Rattle.rx_turns.specs.declared.agenda.Task.{Task}
 use Rattle.rx_turns.specs.declared.turns.Turns.{Turns}
 use Rattle.rx_turns.specs.Rows.{is_deeper}
-use Rattle.rx_turns.specs.Agendas.{HasNothing}
+use Rattle.rx_turns.specs.Agendas.{HasNothing, LosesNothing}
 use Rattle.rx_turns.specs.States.{TurnState, turn_state}
-use Rattle.rx_turns.specs.Calls.{TurnGoesOn}
+use Rattle.rx_turns.specs.Calls.{HasNoted, TurnGoesOn}
 use Rattle.rx_turns.specs.Courses.{Seen, IsEngineCourse}
 use Rattle.rx_turns.specs.Promises.{LackedRoom}
 use Rattle.cellarcliff.specs.declared.stepping.Stack.{Stack}
-use Rattle.cellarcliff.specs.declared.stepping.Stepped.{Stepped}
+use Rattle.rx_cellar.specs.declared.shapes.Answer.{Answer}
 use Rattle.cellarcliff.specs.Refusals.{KeepsAllElse}
-use Rattle.cellarcliff.specs.Steps.{turn_of, no_step, handed_told, IsStepTold}
+use Rattle.rx_turns.specs.Telling.{handed_told, no_step}
+use Rattle.cellarcliff.specs.Steps.{turn_of, IsStepTold}
 use Rattle.cellarcliff.specs.Courses.{Shown, OnTurns, CellarCourse, IsShownCourse, OfAllCalls}
 
 -- where what comes back is what was told last of its lane: of each lane all but releases, which may come before their turn, was told, or waits
@@ -73,22 +74,28 @@ pub record HasAllDone (turn : Turn) (t : TurnState) : Type 0 where
 
 -- of any step that hands out nothing
 abbrev pub StepsLeaveNothing : Ghosts Token → Type 0
-StepsLeaveNothing g = (stack : Stack) (c : Option Command) (step step' : Stepped) (s t : Turns) (status : ℕ) →
+StepsLeaveNothing g = (stack : Stack) (c : Option Command) (step step' : Answer) (s t : Turns) (status : ℕ) →
     OnTurns (λ s t n. IsStepTold g stack c s t step step' n) (step' ≡ no_step step) s t status → step'.handed ≡ 0 → HasAllDone (turn_of stack) (turn_state t)
 
 -- refused steps ------------------------------------------------------------------------------------------
 
--- nothing is told of the command, and nothing of the engine changed by it but room, a checkpoint and hubs, when the turn goes on
-pub record IsRefusedStep (g : Ghosts Token) (stack : Stack) (s t : TurnState) (step step' : Stepped) : Type 0 where
+-- nothing is told of the command, and nothing changed by it but room, a checkpoint and hubs, when the turn goes on: of the engine, nor of what is due
+-- and in hand once what was begun is noted, nor the ticket that was given last, nor what is astray
+pub record IsRefusedStep (g : Ghosts Token) (stack : Stack) (s t : TurnState) (step step' : Answer) : Type 0 where
+  pub marked : TurnState
+  pub marks : HasNoted stack.by stack.begun s marked
   pub between : TurnState
   pub engine : KeepsAllElse g s.cellar.engine between.cellar.engine
   pub released : between.cellar.released ≡ s.cellar.released
+  pub agenda : LosesNothing marked.agenda between.agenda
+  pub tickets : between.tickets ≡ s.tickets
+  pub astray : between.astray ≡ s.astray
   pub handed : Option Task
   pub goes_on : TurnGoesOn (turn_of stack) t between handed
   pub told : step' ≡ handed_told handed false (no_step step)
 
 -- of any step whose status is not 0
 abbrev pub RefusedCallsChangeNothing : Ghosts Token → Type 0
-RefusedCallsChangeNothing g = (stack : Stack) (command : Command) (step step' : Stepped) (s t : Turns) (status : ℕ) →
+RefusedCallsChangeNothing g = (stack : Stack) (command : Command) (step step' : Answer) (s t : Turns) (status : ℕ) →
     OnTurns (λ s t n. IsStepTold g stack (Some command) s t step step' n) (step' ≡ no_step step) s t status → status ≢ 0 →
     IsRefusedStep g stack (turn_state s) (turn_state t) step step'

@@ -73,7 +73,8 @@ pub fn steps_leave_nothing()
 }
 
 /// A step with a status that is not 0 tells nothing of its command, and the command changes nothing but room, a
-/// checkpoint and the hubs of shares; then the turn goes on as it would without it.
+/// checkpoint and the hubs of shares: what is due to each turn and in hand, the ticket that was given last and what is astray
+/// are what a step without a command finds. Then the turn goes on as it would without it.
 pub fn refused_calls_change_nothing()
     ensures { RefusedCallsChangeNothing ⟦<Token as Resource>⟧ }
 {}

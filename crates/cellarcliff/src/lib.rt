@@ -98,6 +98,4 @@ pub use making::{cellar_abi, cellar_drop, cellar_finish, cellar_new, cellar_size
 pub use reading::{cellar_dump, cellar_event, cellar_totals};
 pub use running::{cellar_run, cellar_run_dump};
 pub use showing::{cellar_explain, cellar_picture, cellar_run_names};
-pub use stepping::{
-    Stack, Stepped, cellar_closings, cellar_next, cellar_pass, cellar_step, cellar_stop,
-};
+pub use stepping::{Stack, cellar_closings, cellar_next, cellar_pass, cellar_step, cellar_stop};

@@ -34,16 +34,16 @@ shown_refused f r why e a b n is same status = refusal_told (shown f r) why e a 
 
 -- a command that hands out nothing
 pub answered_once : (g : Ghosts Token) (o : Option Asked) (asked : Asked) (by : ℕ) (s : Cellar) (e : State) (r : Result Made Refusal) (a b : Answer) (n : ℕ) →
-    o ≡ Some asked → asks_item o ≡ false → IsPerformed g asked by s.engine e r → IsToldOrRefused r e a b n → IsMadeOnceIf g o by s (record s { engine = e }) a b n
+    o ≡ Some asked → asks_item o ≡ false → IsPerformed g asked by s.engine e r → IsToldOrRefused r e a b n → IsMadeOnceIf g o by s (record s { engine = e }) a b None n
 answered_once g o asked by s e (Ok made) a b n is plain performed answered =
-    subst (λ (k : ℕ). IsMadeOnceIf g o by s (record s { engine = e }) a b k) (sym answered.1)
+    subst (λ (k : ℕ). IsMadeOnceIf g o by s (record s { engine = e }) a b None k) (sym answered.1)
     (plain_done g o asked by s e (Ok made) made a b is plain performed refl answered.0)
 answered_once g o asked by s e (Err why) a b n is plain performed answered =
-    subst (λ (k : ℕ). IsMadeOnceIf g o by s (record s { engine = e }) a b k) (sym answered.1)
-    (subst (λ (x : Answer). IsMadeOnceIf g o by s (record s { engine = e }) a x (refusal_status why)) (sym answered.0)
+    subst (λ (k : ℕ). IsMadeOnceIf g o by s (record s { engine = e }) a b None k) (sym answered.1)
+    (subst (λ (x : Answer). IsMadeOnceIf g o by s (record s { engine = e }) a x None (refusal_status why)) (sym answered.0)
     (plain_refused g o asked by s e (Err why) why a is plain performed refl))
 
 -- where it is none
-pub unknown_once : (g : Ghosts Token) (o : Option Asked) (by : ℕ) (s : Cellar) (a b : Answer) (n : ℕ) → o ≡ None → b ≡ a → n ≡ 5 → IsMadeOnceIf g o by s s a b n
-unknown_once g None by s a b n is same status = (status, refl, same)
+pub unknown_once : (g : Ghosts Token) (o : Option Asked) (by : ℕ) (s : Cellar) (a b : Answer) (n : ℕ) → o ≡ None → b ≡ a → n ≡ 5 → IsMadeOnceIf g o by s s a b None n
+unknown_once g None by s a b n is same status = (status, refl, same, refl)
 unknown_once g (Some asked) by s a b n is same status = absurd (cc)

@@ -1,5 +1,6 @@
 -- Which commands ask for an item that is handed out.
-use Rattle.std.proofs.Common.{◌≡◌, ℕ, ◌==◌, ◌&&◌, Bool, true, false, Option, Some, None, refl, arith}
+use Rattle.std.proofs.Common.{◌≡◌, ℕ, ◌==◌, ◌&&◌, Bool, true, false, Option, Some, None, refl, ap, ◌∙◌, arith}
+use Rattle.std.proofs.Math.Bool.{not}
 use Rattle.std.proofs.lemmas.Bool.Decides.{nat_tests}
 use Rattle.std.specs.Prelude.{option_map, nat_lt, if◌then◌else◌}
 use Rattle.std.specs.Option.{option_and_then}
@@ -13,7 +14,9 @@ use Rattle.rx_cellar.specs.declared.asked.OpenedAs.TheVariants.{Own, Of}
 use Rattle.rx_cellar.specs.declared.asked.Asked.{Asked}
 use Rattle.rx_cellar.specs.declared.asked.Asked.TheVariants.{Next, Using}
 use Rattle.rx_cellar.specs.Asking.{opened_as, user_of, opening_as, opening_of, using_of, connect_of, put_of, plain_of, by_code, asked_of}
-use Rattle.rx_cellar.specs.Asking.{hands, asks_item, is_emission}
+use Rattle.rx_cellar.specs.Asking.{hands, asks_item, is_emission, asked_as}
+use Rattle.rx_cellar.specs.declared.cellar.Cellar.{Cellar}
+use Rattle.rx_cellar.specs.Attempts.{IsTidyFor}
 
 -- the numbers of an item -------------------------------------------------------------------------------------
 
@@ -93,3 +96,23 @@ other_asks c fails = by_tests (c.what == 3 && c.flags == 0) (c.spare == 0) refl 
   by_tests item false is other = refl
   by_tests false true is other = code_asks c is
   by_tests true true is other = absurd (cc)
+
+-- what is asked in the end ------------------------------------------------------------------------------------
+
+-- no command but an item asks something else where it is to wait
+pub other_as : (waits : Bool) (o : Option Asked) → asks_item o ≡ false → o ≡ asked_as waits o
+other_as waits None none = refl
+other_as waits (Some (Next leaf value true)) none = absurd (cc)
+other_as waits (Some (Next leaf value false)) none = refl
+other_as waits (Some asked) none = refl
+
+-- an item does
+pub item_as : (waits may_hand : Bool) (c : Command) → is_emission c ≡ true → not waits ≡ may_hand →
+    asked_as waits (asked_of c) ≡ Some (Next (key_of c.node) c.value may_hand)
+item_as waits may_hand c holds is = ap (asked_as waits) (item_is c holds) ∙ ap (λ (b : Bool). Some (Next (key_of c.node) c.value b)) is
+
+-- and a checkpoint is made before it as before the same
+pub tidy_as : (waits : Bool) (o : Option Asked) (s t : Cellar) → IsTidyFor o s t → IsTidyFor (asked_as waits o) s t
+tidy_as waits None s t tidy = tidy
+tidy_as waits (Some (Next leaf value may_hand)) s t tidy = tidy
+tidy_as waits (Some asked) s t tidy = tidy

@@ -129,12 +129,3 @@ word_set x (w ∷ ws) = refl
 pub no_word_set : (x : ℕ) (ws : List ℕ) → length ws ≤ 0 → ws ≡ filled (x ∷ []) ws
 no_word_set x [] h = refl
 no_word_set x (w ∷ ws) h = let l : suc (length ws) ≤ 0 = h in absurd (omega (arith, l))
-
-pub none_due : (ds : List Due) (ws : List ℕ) → length ds ≡ 0 → ws ≡ filled (map word_of_due ds) ws
-none_due [] ws none = refl
-none_due (d ∷ ds) ws none = let l : suc (length ds) ≡ 0 = none in absurd (omega (arith, l))
-
-pub one_due : (ds : List Due) (ws : List ℕ) (e : Due) → length ds ≡ 1 → filled (word_of_due (get_or ds 0 e) ∷ []) ws ≡ filled (map word_of_due ds) ws
-one_due [] ws e one = absurd (let l : 0 ≡ 1 = one in omega (arith, l))
-one_due (d ∷ []) ws e one = refl
-one_due (d ∷ f ∷ fs) ws e one = let l : suc (suc (length fs)) ≡ 1 = one in absurd (omega (arith, l))

@@ -118,3 +118,12 @@ is_emission c = (c.what == 3 && c.flags == 0) && c.spare == 0
 
 abbrev pub asked_for : Item → Asked
 asked_for item = Next item.leaf item.value true
+
+-- one that waits in its lane
+abbrev pub queued_for : Item → Asked
+queued_for item = Next item.leaf item.value false
+
+-- as its caller asks it: an item that is to wait is not handed out
+abbrev pub asked_as : (waits : Bool) → Option Asked → Option Asked
+asked_as waits (Some (Next leaf value may_hand)) = Some (Next leaf value (may_hand && not waits))
+asked_as waits o = o

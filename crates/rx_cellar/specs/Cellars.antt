@@ -1,5 +1,5 @@
 -- An engine with what is counted beside it, and what a command makes of it.
-use Rattle.std.specs.Prelude.{◌≡◌, ◌≢◌, ℕ, ◌+◌, ◌*◌, ◌-◌, ◌^◌, nat_lt, min, max, Bool, true, false, List, [], ◌∷◌, length, map, Option, Some, None, option_map, Result, Ok, Err}
+use Rattle.std.specs.Prelude.{◌≡◌, ◌≢◌, ℕ, ◌+◌, ◌*◌, ◌-◌, ◌^◌, nat_lt, min, max, Bool, true, false, List, [], ◌∷◌, length, Option, Some, None, option_map, Result, Ok, Err}
 use Rattle.rx_resource.specs.declared.Resource.{Ghosts}
 use Rattle.rx_resource.specs.declared.token.Token.{Token}
 use Rattle.rx_event.specs.declared.refusal.Refusal.{Refusal}
@@ -11,15 +11,13 @@ use Rattle.rx_roles.specs.declared.effect.What.TheVariants.{Release}
 use Rattle.rx_engine.specs.States.{State, IsPromised}
 use Rattle.rx_engine.specs.Checkpoints.{IsCheckpointMade}
 use Rattle.rx_cellar.specs.Codes.{refusal_status}
-use Rattle.rx_cellar.specs.declared.shapes.Command.{Command}
 use Rattle.rx_cellar.specs.declared.shapes.Answer.{Answer}
+use Rattle.rx_cellar.specs.declared.shapes.Effect.{Effect}
 use Rattle.rx_cellar.specs.declared.making.Made.{Made}
 use Rattle.rx_cellar.specs.declared.asked.Asked.{Asked}
 use Rattle.rx_cellar.specs.declared.cellar.Cellar.{Cellar}
-use Rattle.rx_cellar.specs.Asking.{asked_of}
 use Rattle.rx_cellar.specs.Crossings.{effect_of, no_answer}
 use Rattle.rx_cellar.specs.Makings.{Outcome, ComesTo}
-use Rattle.rx_cellar.specs.Words.{word_of_due}
 
 -- the largest number that is counted
 abbrev pub most : ℕ
@@ -104,35 +102,33 @@ told m e a = record a {
   hub = m.hub;
   copies = e.parts.copies;
   closed = length e.wishes.closings;
-  due = length e.parts.lanes.due;
   closings = filled e.wishes.closings a.closings;
-  lanes = filled (map word_of_due e.parts.lanes.due) a.lanes;
 }
 
 abbrev pub counted_if : Option Sent → ℕ → ℕ
 counted_if None n = n
 counted_if (Some sent) n = counted sent.what n
 
-abbrev pub with_handed : Option Sent → Answer → Answer
-with_handed None a = a
-with_handed (Some sent) a = record a { handed = 1; effect = effect_of sent }
-
--- what is handed out counts as told, and stands in the answer
+-- what is handed out counts as told
 abbrev pub counted_with : Outcome → Cellar → Cellar
 counted_with o s = record s { released = counted_if o.given s.released }
 
-abbrev pub told_with : Outcome → State → Answer → Answer
-told_with o e a = with_handed o.given (told o.made e a)
+-- and crosses
+abbrev pub given_out : Outcome → Option Effect
+given_out o = option_map effect_of o.given
 
--- done, and all of it told; or refused, and nothing is told
-pub data IsAskedMade (g : Ghosts Token) (asked : Asked) (by : ℕ) (s t : Cellar) (a b : Answer) : ℕ → Type 0 where
-  is_done : (o : Outcome) (u v : Cellar) → IsTidy s u → IsTried g asked by u v (Ok o) → t ≡ counted_with o v → b ≡ told_with o v.engine a → IsAskedMade g asked by s t a b 0
-  is_refused : (why : Refusal) (u : Cellar) → IsTidy s u → IsTried g asked by u t (Err why) → b ≡ a → IsAskedMade g asked by s t a b (refusal_status why)
+-- done, and all of it told; or refused, and nothing is told or given
+pub data IsAskedMade (g : Ghosts Token) (asked : Asked) (by : ℕ) (s t : Cellar) (a b : Answer) (given : Option Effect) : ℕ → Type 0 where
+  is_done : (o : Outcome) (u v : Cellar) → IsTidy s u → IsTried g asked by u v (Ok o) → t ≡ counted_with o v → b ≡ told o.made v.engine a →
+      given ≡ given_out o → IsAskedMade g asked by s t a b given 0
+  is_refused : (why : Refusal) (u : Cellar) → IsTidy s u → IsTried g asked by u t (Err why) → b ≡ a → given ≡ None →
+      IsAskedMade g asked by s t a b given (refusal_status why)
 
--- a command, by its numbers
-abbrev pub IsMadeIf : Ghosts Token → Option Asked → (by : ℕ) → Cellar → Cellar → Answer → Answer → ℕ → Type 0
-IsMadeIf g None by s t a b status = (status ≡ 5) × (t ≡ s) × (b ≡ a)
-IsMadeIf g (Some asked) by s t a b status = IsAskedMade g asked by s t a b status
+-- what a command asks, if its numbers ask something
+abbrev pub IsMadeIf : Ghosts Token → Option Asked → (by : ℕ) → Cellar → Cellar → Answer → Answer → Option Effect → ℕ → Type 0
+IsMadeIf g None by s t a b given status = (status ≡ 5) × (t ≡ s) × (b ≡ a) × (given ≡ None)
+IsMadeIf g (Some asked) by s t a b given status = IsAskedMade g asked by s t a b given status
 
-abbrev pub IsCommandMade : Ghosts Token → Command → Cellar → Cellar → Answer → Answer → ℕ → Type 0
-IsCommandMade g c s t a b status = IsMadeIf g (asked_of c) c.by s t (no_answer a) b status
+-- whatever the answer told before
+abbrev pub IsCommandMade : Ghosts Token → Option Asked → (by : ℕ) → Cellar → Cellar → Answer → Answer → Option Effect → ℕ → Type 0
+IsCommandMade g asked by s t a b given status = IsMadeIf g asked by s t (no_answer a) b given status

@@ -1,5 +1,5 @@
 -- What the numbers and structs stand for that cross.
-use Rattle.std.specs.Prelude.{ℕ, ◌==◌, [], ◌∷◌, Option, Some, None, option_map, if◌then◌else◌}
+use Rattle.std.specs.Prelude.{ℕ, ◌==◌, Option, Some, None, option_map, if◌then◌else◌}
 use Rattle.rx_lanes.specs.declared.names.LaneName.{LaneName}
 use Rattle.rx_roles.specs.Effects.{carries}
 use Rattle.rx_roles.specs.declared.effect.Effect.{Effect as Sent}
@@ -31,6 +31,6 @@ effect_of s = record { user = s.user; value = s.value; by = s.by; kind = what_co
 abbrev pub inner_of : LaneName → Effect → Option Sent
 inner_of lane e = option_map (λ what. record { lane = lane; user = e.user; value = e.value; by = e.by; what = what }) (what_of e.kind)
 
--- nothing was done: all counts are 0, and the rest stays as it was
+-- nothing was done: the counts of a command are 0, and the rest stays as it was
 abbrev pub no_answer : Answer → Answer
-no_answer a = record a { is_connected = 0; copies = 0; closed = 0; due = 0; handed = 0; spare = 0 ∷ 0 ∷ [] }
+no_answer a = record a { is_connected = 0; copies = 0; closed = 0 }

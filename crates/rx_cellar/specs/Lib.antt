@@ -7,7 +7,6 @@ pub mod Makings
 pub mod Readings
 pub mod Serving
 pub mod Words
-pub mod Behind
 pub mod Frequent
 pub mod Codes
 pub mod EventsShown

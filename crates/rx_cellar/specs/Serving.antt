@@ -1,10 +1,9 @@
--- Serving a lane by its word: taking, giving up, finding what is left, and the rest of an answer.
-use Rattle.std.specs.Prelude.{◌≡◌, ℕ, ◌+◌, ◌-◌, ◌<◌, ◌≤◌, ◌^◌, ◌==◌, min, Bool, List, [], ◌∷◌, length, map, drop, Option, Some, None, option_map, if◌then◌else◌}
+-- Serving a lane by its word: taking, giving up, finding what is left; and what an answer has not.
+use Rattle.std.specs.Prelude.{◌≡◌, ℕ, ◌+◌, ◌-◌, ◌<◌, ◌≤◌, ◌^◌, min, Bool, List, [], ◌∷◌, length, map, drop, Option, Some, None, option_map, if◌then◌else◌}
 use Rattle.std.specs.Option.{option_and_then}
 use Rattle.rx_lanes.specs.declared.names.LaneName.{LaneName}
 use Rattle.rx_lanes.specs.State.{IsLeft}
 use Rattle.rx_roles.specs.declared.effect.Effect.{Effect as Sent}
-use Rattle.rx_engine.specs.States.{State}
 use Rattle.rx_engine.specs.Servings.{IsTake, IsGiveUp}
 use Rattle.rx_cellar.specs.declared.shapes.Effect.{Effect}
 use Rattle.rx_cellar.specs.declared.cellar.Cellar.{Cellar}
@@ -26,22 +25,6 @@ IsTakenIf (Some name) inside by s t answer = Takes name inside by s t answer
 -- a word that names no lane takes nothing
 abbrev pub IsTaken : (word by : ℕ) → Cellar → Cellar → Option Effect → Type 0
 IsTaken word by s t answer = IsTakenIf (named s.engine.parts.lanes word) (is_inside word) by s t answer
-
-abbrev pub effect_or : Option Effect → Effect → Effect
-effect_or None e = e
-effect_or (Some given) e = given
-
-abbrev pub count_of : Option Effect → ℕ
-count_of None = 0
-count_of (Some given) = 1
-
--- the effect is written where there was one, which the count tells
-pub record IsTakeTold (word by : ℕ) (s t : Cellar) (effect effect' : Effect) (count status : ℕ) : Type 0 where
-  pub given : Option Effect
-  pub taken : IsTaken word by s t given
-  pub written : effect' ≡ effect_or given effect
-  pub told : count ≡ count_of given
-  pub done : status ≡ 0
 
 -- what comes back: nothing, or one effect of a kind that is one
 abbrev pub undone_in : List Effect → Option (Option Effect)
@@ -100,13 +83,6 @@ pub record IsRestOf (xs : List ℕ) (from : ℕ) (old new : List ℕ) (count sta
   pub words_are : new ≡ filled (drop from xs) old
   pub done : status ≡ 0
 
--- the closings (0) or the lanes (1) of the last accepted command
-abbrev pub asked_words : (which : ℕ) → State → Option (List ℕ)
-asked_words which e = if which == 0 then Some e.wishes.closings else if which == 1 then Some (map word_of_due e.parts.lanes.due) else None
-
-abbrev pub IsRestIf : Option (List ℕ) → (from : ℕ) → (old new : List ℕ) → (count status : ℕ) → Type 0
-IsRestIf None from old new count status = (new ≡ old) × (count ≡ 0) × (status ≡ 5)
-IsRestIf (Some xs) from old new count status = IsRestOf xs from old new count status
-
-abbrev pub IsRest : (which from : ℕ) → State → (old new : List ℕ) → (count status : ℕ) → Type 0
-IsRest which from e old new count status = IsRestIf (asked_words which e) from old new count status
+-- the words of the lanes that the last accepted command's caller is to serve
+abbrev pub words_due : Cellar → List ℕ
+words_due s = map word_of_due s.engine.parts.lanes.due

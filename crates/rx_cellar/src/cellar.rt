@@ -1,13 +1,13 @@
 //! An engine, and beside it what is counted and when a checkpoint is made.
 
-ghost use Rattle.std.specs.Prelude.{◌≡◌, true, false};
+ghost use Rattle.std.specs.Prelude.{◌≡◌, true, false, None};
 ghost use Rattle.rx_engine.specs.States.{IsPromised};
 ghost use Rattle.rx_cellar.specs.Cellars.{most_since, is_due, Tidies, IsCommandMade};
-ghost use Rattle.rx_cellar.specs.Asking.{asked_of};
+ghost use Rattle.rx_cellar.specs.Asking.{asked_of, asked_as, is_emission};
 ghost use Rattle.rx_cellar.specs.Attempts.{IsTidyFor, IsTriedOnce, IsTriedBehind};
 
 use crate::asked::{asked_of, is_emission};
-use crate::shapes::{Answer, Command};
+use crate::shapes::{Answer, Command, Effect};
 use crate::status::status_of;
 use crate::telling::refuse;
 use rx_book::{Refusal, Resource};
@@ -105,45 +105,86 @@ impl Cellar {
         }
     }
 
+    // Makes a command that is no item which may be handed out.
+    #[inline(always)]
+    fn make_plain(&mut self, command: &Command, by: u64, answer: &mut Answer) -> u8
+        requires { is_emission command.now ≡ false }
+        ensures { IsTriedOnce ⟦<Token as Resource>⟧ (asked_of command.now) by self.old self.new answer.old answer.new None result }
+    {
+        match command.what {
+            0 => self.make_opening(command, by, answer),
+            1 => self.make_using(command, by, answer),
+            4 => self.make_completion(command, by, answer),
+            8 => self.make_disposal(command, by, answer),
+            _ => self.make_rest(command, by, answer),
+        }
+    }
+
     // Makes a command, by a history that may be full.
     #[inline(always)]
-    fn make_once(&mut self, command: &Command, answer: &mut Answer) -> u8
-        ensures { IsTriedOnce ⟦<Token as Resource>⟧ command.now self.old self.new answer.old answer.new result }
+    fn make_once(
+        &mut self,
+        command: &Command,
+        by: u64,
+        waits: bool,
+        answer: &mut Answer,
+        given: &mut Option<Effect>,
+    ) -> u8
+        requires { given.old ≡ None }
+        ensures { IsTriedOnce ⟦<Token as Resource>⟧ (asked_as waits (asked_of command.now)) by self.old self.new
+            answer.old answer.new given.new result }
     {
         if is_emission(command) {
-            return self.emit(command, answer);
+            if !waits {
+                return self.emit(command, by, answer, given);
+            }
+            return self.emit_behind(command, by, answer);
         }
-        match command.what {
-            0 => self.make_opening(command, answer),
-            1 => self.make_using(command, answer),
-            4 => self.make_completion(command, answer),
-            8 => self.make_disposal(command, answer),
-            _ => self.make_rest(command, answer),
-        }
+        self.make_plain(command, by, answer)
     }
 
     // Makes a command behind a checkpoint. What stands against that stands against the command.
     #[cold]
     #[inline(never)]
-    fn make_again(&mut self, command: &Command, answer: &mut Answer) -> u8
-        ensures { IsTriedBehind ⟦<Token as Resource>⟧ command.now self.old self.new answer.old answer.new result }
+    fn make_again(
+        &mut self,
+        command: &Command,
+        by: u64,
+        waits: bool,
+        answer: &mut Answer,
+        given: &mut Option<Effect>,
+    ) -> u8
+        requires { given.old ≡ None }
+        ensures { IsTriedBehind ⟦<Token as Resource>⟧ (asked_as waits (asked_of command.now)) by self.old self.new
+            answer.old answer.new given.new result }
     {
         match self.checkpoint() {
-            Ok(_at) => self.make_once(command, answer),
+            Ok(_at) => self.make_once(command, by, waits, answer, given),
             Err(why) => refuse(why, answer),
         }
     }
 
-    /// Makes a command. The status is 0 where it was done, 5 where a number of it is none, else that of the refusal.
+    /// Makes a command by this word, in place of its own. An item is handed out with its answer where it is all that comes of
+    /// it, nothing stands before it in its lane, and nobody serves that; but never with `waits`. The status is 0 where
+    /// the command was done, 5 where a number of it is none, else that of the refusal.
     #[inline(always)]
-    pub fn make(&mut self, command: &Command, answer: &mut Answer) -> u8
-        ensures { IsCommandMade ⟦<Token as Resource>⟧ command.now self.old self.new answer.old answer.new result }
+    pub fn make(
+        &mut self,
+        command: &Command,
+        by: u64,
+        waits: bool,
+        answer: &mut Answer,
+        given: &mut Option<Effect>,
+    ) -> u8
+        requires { given.old ≡ None }
+        ensures { IsCommandMade ⟦<Token as Resource>⟧ (asked_as waits (asked_of command.now)) by self.old self.new
+            answer.old answer.new given.new result }
     {
         self.tidy(command);
-        let status = self.make_once(command, answer);
+        let status = self.make_once(command, by, waits, answer, given);
         if status != status_of(Refusal::Full) {
             return status;
         }
-        self.make_again(command, answer)
+        self.make_again(command, by, waits, answer, given)
     }
 }

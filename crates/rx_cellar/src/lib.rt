@@ -1,7 +1,7 @@
 //! An engine by commands of numbers, as they cross to C.
 //!
-//! A face in another language makes one [`Command`] at a time, a struct of numbers, and gets an [`Answer`], one too.
-//! Then it serves the lanes that the answer names, by their words.
+//! A face in another language makes one [`Command`] at a time, a struct of numbers, and gets an [`Answer`], one too,
+//! written into its own memory. Then the lanes that got something are served, by their words.
 //!
 //! # Vocabulary
 //!
@@ -17,21 +17,20 @@
 //! # Promised, and not
 //!
 //! - [`Cellar::make`] does what the command asks, by the engine's call of that name, and its answer is the engine's:
-//!   keys, hub, copies, closings and due lanes, of each list the first eight, the rest by [`Cellar::rest`]. Where it is
-//!   refused, all counts are 0, and nothing changed but room, a checkpoint, and the hubs of shares.
+//!   keys, hub, copies and the first eight closings, the rest by [`Cellar::closings`]; the due lanes by
+//!   [`Cellar::due_word`]. Where it is refused, all counts are 0, and nothing changed but room, a checkpoint, and the hubs
+//!   of shares.
 //! - Only an item is handed out with its answer: if, and only if, it is all that comes of its command, its lane has
-//!   nothing in it, and nobody serves that; and never where the command says that it queues.
+//!   nothing in it, and nobody serves that; and never where the command or its caller says that it waits.
 //! - Where the history is full a checkpoint is made, and the command is tried once more; where the checkpoint is
 //!   refused, for want of memory, so is the command. Where a share finds no hub the hubs are made, and it is tried
 //!   once more.
 //! - Serving, giving up and finding lanes are the engine's, by the lane that the word names.
-//!   [`Cellar::make_behind`] gives a lane back with the next command.
 //! - What a face makes of effects is its own: that it serves what an answer names, and that words of callers differ.
 #![tactic(auto)]
 
 mod asked;
 mod beginning;
-mod behind;
 mod cellar;
 mod dumping;
 mod frequent;

@@ -1,15 +1,15 @@
 //! Who serves a lane takes its effects, by the lane's word.
 
-ghost use Rattle.std.specs.Prelude.{◌≡◌};
+ghost use Rattle.std.specs.Prelude.{◌≡◌, length, slice_get};
 ghost use Rattle.rx_cellar.specs.Words.{named};
-ghost use Rattle.rx_cellar.specs.Serving.{IsTaken, undone_in, sent_of, left_number, given_up_status, IsGivenUp, IsLeftTold, IsRest};
-ghost use Rattle.rx_cellar.specs.Serving.{Gives, uncounted_where, IsTakeTold};
+ghost use Rattle.rx_cellar.specs.Serving.{IsTaken, undone_in, sent_of, left_number, given_up_status, IsGivenUp, IsLeftTold, IsRestOf};
+ghost use Rattle.rx_cellar.specs.Serving.{Gives, uncounted_where, words_due};
 
 use crate::cellar::Cellar;
-use crate::rest::{fill_closings, fill_lanes};
-use crate::shapes::{Effect, effect_of, inner_of, what_of};
+use crate::rest::fill_closings;
+use crate::shapes::{Effect, inner_of, what_of};
 use crate::status::{DONE, NO_SUCH_CODE, status_of};
-use crate::words::{is_inside, is_named, place_in, word_of};
+use crate::words::{is_inside, is_named, place_in, word_of, word_of_due};
 use rx_book::Refusal;
 use rx_lanes::LaneName;
 use rx_roles::{Effect as Sent, What};
@@ -102,27 +102,8 @@ impl Cellar {
         let Some(name) = self.named(word) else {
             return None;
         };
-        match self.engine.take(name, is_inside(word), by) {
-            Some(sent) => {
-                self.count(sent.what);
-                Some(effect_of(sent))
-            }
-            None => None,
-        }
-    }
-
-    /// Takes the next effect, and tells whether there was one.
-    pub fn take_told(&mut self, word: u64, by: u64, effect: &mut Effect, count: &mut u64) -> u8
-        ensures { IsTakeTold word by self.old self.new effect.old effect.new count.new result }
-    {
-        match self.take(word, by) {
-            Some(given) => {
-                *effect = given;
-                *count = 1;
-            }
-            None => *count = 0,
-        }
-        DONE
+        let given = self.engine.take(name, is_inside(word), by);
+        self.give_out(given)
     }
 
     // Lets others serve this lane.
@@ -167,23 +148,30 @@ impl Cellar {
         DONE
     }
 
-    /// The rest of the last accepted command's closings (0) or lanes (1), from one on.
-    pub fn rest(&self, which: u8, from: u64, words: &mut [u64], count: &mut u64) -> u8
-        ensures { IsRest which from self.now.engine words.old words.new count.new result }
+    /// The word of one of the lanes that the last accepted command's caller is to serve; none past the last.
+    #[inline(always)]
+    pub fn due_word(&self, index: usize) -> Option<u64>
+        ensures { result ≡ slice_get (words_due self.now) index }
     {
-        match which {
-            0 => {
-                *count = fill_closings(&self.engine, from as usize, words) as u64;
-                DONE
-            }
-            1 => {
-                *count = fill_lanes(&self.engine, from as usize, words) as u64;
-                DONE
-            }
-            _ => {
-                *count = 0;
-                NO_SUCH_CODE
-            }
+        match self.engine.due().get(index) {
+            Some(due) => Some(word_of_due(*due)),
+            None => None,
         }
+    }
+
+    /// How many these are.
+    #[inline(always)]
+    pub fn due_count(&self) -> usize
+        ensures { result ≡ length (words_due self.now) }
+    {
+        self.engine.due().len()
+    }
+
+    /// The closings of the last accepted command, from one on.
+    pub fn closings(&self, from: u64, words: &mut [u64], count: &mut u64) -> u8
+        ensures { IsRestOf self.now.engine.wishes.closings from words.old words.new count.new result }
+    {
+        *count = fill_closings(&self.engine, from as usize, words) as u64;
+        DONE
     }
 }

@@ -71,7 +71,8 @@ pub struct Effect {
     pub carries: u32,
 }
 
-/// What a command answers.
+/// What a command answers, in the caller's memory; and behind that, from `handed` on, room for what its turn is to do now,
+/// which no command writes.
 #[repr(C)]
 #[derive(Clone, Copy)]
 pub struct Answer {
@@ -81,25 +82,22 @@ pub struct Answer {
     pub hub: u64,
     pub copies: u64,
     pub closed: u64,
-    pub due: u64,
-    pub handed: u64,
     pub closings: [u64; 8],
-    pub lanes: [u64; 8],
+    pub handed: u64,
+    pub own: u64,
+    pub ticket: u64,
+    pub spare: u64,
     pub effect: Effect,
-    pub spare: [u64; 2],
 }
 
 impl Answer {
-    /// Nothing was done: all counts are 0, and the rest stays as it is.
+    /// Nothing was done: the counts of a command are 0, and the rest stays as it is.
     pub fn clear(&mut self)
         ensures { self.new ≡ no_answer self.old }
     {
         self.is_connected = 0;
         self.copies = 0;
         self.closed = 0;
-        self.due = 0;
-        self.handed = 0;
-        self.spare = [0, 0];
     }
 }
 

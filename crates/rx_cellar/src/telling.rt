@@ -1,16 +1,16 @@
 //! What a command came to is told.
 
-ghost use Rattle.std.specs.Prelude.{◌≡◌};
+ghost use Rattle.std.specs.Prelude.{◌≡◌, option_map};
 ghost use Rattle.rx_cellar.specs.Codes.{refusal_status};
-ghost use Rattle.rx_cellar.specs.Crossings.{no_answer};
-ghost use Rattle.rx_cellar.specs.Makings.{nothing_made, of_nothing, shown};
-ghost use Rattle.rx_cellar.specs.Cellars.{told, counted, counted_if, with_handed};
+ghost use Rattle.rx_cellar.specs.Crossings.{no_answer, effect_of};
+ghost use Rattle.rx_cellar.specs.Makings.{of_nothing, shown};
+ghost use Rattle.rx_cellar.specs.Cellars.{told, counted_if};
 ghost use Rattle.rx_cellar.specs.Frequent.{IsToldOrRefused};
 
 use crate::cellar::Cellar;
 use crate::making::{Made, nothing_made};
-use crate::rest::{fill_few_closings, fill_few_lanes};
-use crate::shapes::{Answer, effect_of};
+use crate::rest::fill_few_closings;
+use crate::shapes::{Answer, Effect, effect_of};
 use crate::status::{DONE, NO_SUCH_CODE, status_of};
 use rx_book::Refusal;
 use rx_roles::{Effect as Sent, What};
@@ -38,52 +38,38 @@ pub(crate) fn refuse_unknown(answer: &mut Answer) -> u8
 }
 
 impl Cellar {
-    /// Writes what was done, and how many effects are handed out with it. The engine is read before the answer is
-    /// written: for all that the compiler knows, they may lie in one place.
+    /// Writes what was done. The engine is read before the answer is written: for all that the compiler knows, they may lie
+    /// in one place.
     #[inline(always)]
-    pub(crate) fn tell(&self, made: Made, handed: u64, answer: &mut Answer)
-        ensures { answer.new ≡ record (told made self.now.engine (no_answer answer.old)) { handed = handed } }
+    pub(crate) fn tell(&self, made: Made, answer: &mut Answer)
+        ensures { answer.new ≡ told made self.now.engine (no_answer answer.old) }
     {
         let copies = self.engine.copies();
         let closed = self.engine.closing_count();
-        let due = self.engine.due().len();
         answer.node = made.node;
         answer.other = made.other;
         answer.is_connected = made.is_connected;
         answer.hub = made.hub;
         answer.copies = copies;
         answer.closed = closed as u64;
-        answer.due = due as u64;
-        answer.handed = handed;
-        answer.spare = [0, 0];
         fill_few_closings(&self.engine, &mut answer.closings);
-        fill_few_lanes(&self.engine, &mut answer.lanes);
     }
 
-    /// One release more was told, if this is one.
+    /// What the engine gives crosses, and a release counts as told.
     #[inline(always)]
-    pub(crate) fn count(&mut self, what: What)
-        ensures { self.new ≡ record self.old { released = counted what self.old.released } }
-    {
-        match what {
-            What::Release => self.released = self.released.saturating_add(1),
-            _ => {}
-        }
-    }
-
-    /// Writes that an item was emitted, and what was handed out of it.
-    #[inline(always)]
-    pub(crate) fn tell_emitted(&mut self, given: Option<Sent>, answer: &mut Answer)
+    pub(crate) fn give_out(&mut self, given: Option<Sent>) -> Option<Effect>
         ensures counts { self.new ≡ record self.old { released = counted_if given self.old.released } }
-        ensures answer { answer.new ≡ with_handed given (told nothing_made self.old.engine (no_answer answer.old)) }
+        ensures effect { result ≡ option_map effect_of given }
     {
         match given {
             Some(sent) => {
-                self.tell(nothing_made(), 1, answer);
-                self.count(sent.what);
-                answer.effect = effect_of(sent);
+                match sent.what {
+                    What::Release => self.released = self.released.saturating_add(1),
+                    _ => {}
+                }
+                Some(effect_of(sent))
             }
-            None => self.tell(nothing_made(), 0, answer),
+            None => None,
         }
     }
 
@@ -94,7 +80,7 @@ impl Cellar {
     {
         match tried {
             Ok(()) => {
-                self.tell(nothing_made(), 0, answer);
+                self.tell(nothing_made(), answer);
                 DONE
             }
             Err(why) => refuse(why, answer),

@@ -28,22 +28,7 @@ pub asked_due : (turn : Turn) (word : ℕ) (s t : TurnState) (answer : Option Ta
 asked_due turn word s t _ (gives_one v e h kept taken out) u = out.holds.due u
 asked_due turn word s t _ (gives_none v kept taken same) u = ap (λ (x : TurnState). due_to x.agenda u) same
 
--- what was handed out, or that nothing was, by a test
+-- nothing is in hand, by a test
 pub is_none_of : (o : Option Task) → is_some o ≡ false → o ≡ None
 is_none_of None is = refl
 is_none_of (Some h) is = absurd (cc)
-
-pub none_given : (turn : Turn) (word : ℕ) (s t : TurnState) (o : Option Task) → is_some o ≡ false → AsksLane turn word s t o → AsksLane turn word s t None
-none_given turn word s t None is asks = asks
-none_given turn word s t (Some h) is asks = absurd (cc)
-
-pub due_given : (turn : Turn) (a c b : TurnState) (place : ℕ) (o : Option Task) → is_some o ≡ true → Some place ≡ head_of (due_to a.agenda turn) →
-    TakesOff place a c → AsksLane turn (lane_word a.agenda place) c b o → TakesDue turn b a o
-due_given turn a c b place None is first gone asks = absurd (cc)
-due_given turn a c b place (Some h) is first gone asks = asked_one turn a c b place h first gone asks
-
-pub due_passed : (turn : Turn) (a c d b : TurnState) (place : ℕ) (answer o : Option Task) → is_some o ≡ false →
-    Some place ≡ head_of (due_to a.agenda turn) → TakesOff place a c → AsksLane turn (lane_word a.agenda place) c d o → TakesDue turn b d answer →
-    TakesDue turn b a answer
-due_passed turn a c d b place answer o is first gone asks rest =
-    asked_none turn a c d b place answer first gone (none_given turn (lane_word a.agenda place) c d o is asks) rest

@@ -1,6 +1,7 @@
 -- A step, a pass and a stop are courses of the engine.
 use Rattle.std.proofs.Common.{◌≡◌, ℕ, ◌+◌, ◌==◌, min, Bool, true, false, cond, List, [], ◌∷◌, ◌++◌, map, Option, Some, None, option_map, refl, sym, ap}
 use Rattle.std.proofs.Common.{subst, ◌∙◌, append-nil, slice_get, if◌then◌else◌}
+use Rattle.std.proofs.Math.Bool.{not}
 use Rattle.std.proofs.lemmas.Bool.{false≢true}
 use Rattle.std.proofs.lemmas.Option.{same_Some}
 use Rattle.rx_resource.specs.declared.Resource.{Ghosts}
@@ -24,7 +25,9 @@ use Rattle.rx_turns.specs.Agendas.{in_hand, has_nothing, LosesNothing}
 use Rattle.rx_turns.specs.States.{TurnState}
 use Rattle.rx_turns.specs.Serving.{HandsOut, AsksLane, gives_one, gives_none, TakesOff, Drops, TakesDue, nothing_due, has_one, has_none}
 use Rattle.rx_turns.specs.Serving.{Serves, hands_again, goes_on, ends_lane, serves_none, ServesDeeper, none_deeper, deeper_has_one, deeper_has_none}
-use Rattle.rx_turns.specs.Making.{words_due, made_for, lane_at_once, Comes, comes_at_once, all_wait, ComesIf, MakesOnLine, makes_there, finds_no_room, MakesIn, is_made}
+use Rattle.rx_cellar.specs.Asking.{asked_of, asked_as}
+use Rattle.rx_cellar.specs.Serving.{words_due}
+use Rattle.rx_turns.specs.Making.{lane_at_once, Comes, comes_at_once, all_wait, ComesIf, IsMadeBy, MakesOnLine, makes_there, finds_no_room, MakesIn, is_made}
 use Rattle.rx_turns.specs.Making.{is_made_bare, finds_no_line}
 use Rattle.rx_turns.specs.Ending.{LetsLaneGo, holds_none, stays_in_hand, lets_inner_go, gives_lane_up, EndsTurn, StopsDeeper, all_ended, one_ended}
 use Rattle.rx_turns.specs.Ending.{LeavesTo, is_claimed, stays_due}
@@ -223,53 +226,65 @@ data MakesCourse (g : Ghosts Token) (turn : Turn) (tags : List Seen) (s t : Turn
   takes_none : Tells g s t tags → t.tickets ≡ s.tickets → HandsFrom s t None → MakesCourse g turn tags s t
 
 -- the lane whose item was handed out with the answer is the first that is due
-first_told : (is_handed : Bool) (due : List Due) (e : Effect) (word : ℕ) → (if is_handed then slice_get (map word_of_due due) 0 else None) ≡ Some word →
-    (lane : LaneName) × ((if is_handed then told_first due e else []) ≡ was_told lane e ∷ [])
-first_told false due e word is = absurd (cc)
-first_told true [] e word is = absurd (cc)
-first_told true (d ∷ ds) e word is = (d.lane, refl)
+first_told : (due : List Due) (e : Effect) (word : ℕ) → slice_get (map word_of_due due) 0 ≡ Some word →
+    (lane : LaneName) × (told_first due e ≡ was_told lane e ∷ [])
+first_told [] e word is = absurd (cc)
+first_told (d ∷ ds) e word is = (d.lane, refl)
 
-no_first : (is_handed : Bool) (due : List Due) (e : Effect) → (if is_handed then slice_get (map word_of_due due) 0 else None) ≡ None →
-    (if is_handed then told_first due e else []) ≡ []
-no_first false due e is = refl
-no_first true [] e is = refl
-no_first true (d ∷ ds) e is = absurd (cc)
+no_first : (given : Option Effect) (due : List Due) → lane_at_once given (map word_of_due due) ≡ None → handed_with due given ≡ []
+no_first None due is = refl
+no_first (Some e) [] is = refl
+no_first (Some e) (d ∷ ds) is = absurd (cc)
 
-module _ (g : Ghosts Token) (turn : Turn) (tags : List Seen) (s u t : TurnState) (v : Cellar) (b : Answer) (line : Stays g s u)
-    (p : IsEngineCourse g s.cellar.engine v.engine (tags ++ handed_with v.engine.parts.lanes.due b)) where
-  at_once : (word : ℕ) (h : Task) → lane_at_once b.handed (words_due v) ≡ Some word → HandsOut turn word b.effect (record u { cellar = v }) t h →
+module _ (g : Ghosts Token) (turn : Turn) (tags : List Seen) (s u t : TurnState) (v : Cellar) (given : Option Effect) (line : Stays g s u)
+    (p : IsEngineCourse g s.cellar.engine v.engine (tags ++ handed_with v.engine.parts.lanes.due given)) where
+  at_once : (word : ℕ) (e : Effect) (h : Task) → given ≡ Some e → slice_get (words_due v) 0 ≡ Some word → HandsOut turn word e (record u { cellar = v }) t h →
       MakesCourse g turn tags s t
-  at_once word h now_is out =
-      let first = first_told (b.handed == 1) v.engine.parts.lanes.due b.effect word now_is in
-      let told : handed_with v.engine.parts.lanes.due b ≡ was_told first.0 h.effect ∷ [] =
-      first.1 ∙ ap (λ (x : Effect). was_told first.0 x ∷ []) (sym (ap (λ (x : Task). x.effect) out.is_new)) in
+  at_once word e h gives now_is out =
+      let first = first_told v.engine.parts.lanes.due e word now_is in
+      let told : handed_with v.engine.parts.lanes.due given ≡ was_told first.0 h.effect ∷ [] =
+      ap (handed_with v.engine.parts.lanes.due) gives
+      ∙ (first.1 ∙ ap (λ (x : Effect). was_told first.0 x ∷ []) (sym (ap (λ (x : Task). x.effect) out.is_new))) in
       takes_own first.0 h (out.holds.hands turn ∙ ap (λ x. cond x (Some h) (in_hand u.agenda turn)) (is_same-self turn)) (ap (λ (x : Task). x.is_begun) out.is_new)
       (ap (λ (x : Task). x.ticket) out.is_new ∙ ap (λ (n : ℕ). min (n + 1) most) line.tickets) (ap (λ (x : TurnState). x.tickets) out.only)
       (then_hands s (record u { cellar = v }) t (Some h) line.hands (one_held turn (Some h) (record u { cellar = v }) t out.holds))
       (at_end g s t v (tags ++ was_told first.0 h.effect ∷ []) (ap (λ (x : TurnState). x.cellar) out.only)
       (subst (λ (xs : List Seen). IsEngineCourse g s.cellar.engine v.engine (tags ++ xs)) told p))
 
-  later : handed_with v.engine.parts.lanes.due b ≡ [] → ChangesDues (record u { cellar = v }) t → MakesCourse g turn tags s t
+  later : handed_with v.engine.parts.lanes.due given ≡ [] → ChangesDues (record u { cellar = v }) t → MakesCourse g turn tags s t
   later none changes =
       takes_none (at_end g s t v tags changes.cellar
       (subst (λ (xs : List Seen). IsEngineCourse g s.cellar.engine v.engine xs) (ap (λ (xs : List Seen). tags ++ xs) none ∙ append-nil tags) p))
       (changes.tickets ∙ line.tickets)
       (then_hands s (record u { cellar = v }) t None line.hands (all_stay (record u { cellar = v }) t None changes.hands))
 
-  come : (is_own : Bool) → Comes turn (words_due v) b (record u { cellar = v }) t is_own → MakesCourse g turn tags s t
-  come _ (comes_at_once word h now_is out) = at_once word h now_is out
+  come : (is_own : Bool) → Comes turn (words_due v) given (record u { cellar = v }) t is_own → MakesCourse g turn tags s t
+  come _ (comes_at_once word e h gives now_is out) = at_once word e h gives now_is out
   come _ (all_wait none claimed) =
-      later (no_first (b.handed == 1) v.engine.parts.lanes.due b.effect none) (all_dues turn t (words_due v) (record u { cellar = v }) claimed)
+      later (no_first given v.engine.parts.lanes.due none) (all_dues turn t (words_due v) (record u { cellar = v }) claimed)
 
-  come_if : (is_own done : Bool) → ComesIf done turn (words_due v) b (record u { cellar = v }) t is_own → (done ≡ false → (b.handed == 1) ≡ false) →
+  come_if : (is_own done : Bool) → ComesIf done turn (words_due v) given (record u { cellar = v }) t is_own → (done ≡ false → given ≡ None) →
       MakesCourse g turn tags s t
   come_if is_own true comes undone = come is_own comes
   come_if is_own false (same, none) undone =
-      later (ap (λ (x : Bool). if x then told_first v.engine.parts.lanes.due b.effect else []) (undone refl)) (record {
+      later (ap (handed_with v.engine.parts.lanes.due) (undone refl)) (record {
         cellar = ap (λ (x : TurnState). x.cellar) same;
         tickets = ap (λ (x : TurnState). x.tickets) same;
         hands = λ w. ap (λ (x : TurnState). in_hand x.agenda w) same;
       })
+
+-- a command that a turn makes, from a state with the same engine
+made_by : (g : Ghosts Token) (turn : Turn) (is_free : Bool) (c : Command) (s u t : TurnState) (a b : Answer) (status : ℕ) (is_own : Bool) →
+    Stays g s u → u.cellar ≡ s.cellar → IsMadeBy g turn is_free c u t a b status is_own → MakesCourse g turn (tag_done (Some c) status) s t
+made_by g turn is_free c s u t a b status is_own line same by =
+    let asked = asked_as (not is_free) (asked_of c) in
+    let made = made_course g asked turn.by u.cellar by.cellar a b by.given status by.stood by.made in
+    let due = handed_with by.cellar.engine.parts.lanes.due by.given in
+    let p = subst (λ (xs : List Seen). IsEngineCourse g u.cellar.engine by.cellar.engine ((if status == 0 then xs else []) ++ due))
+    (same_tag (not is_free) (asked_of c)) made in
+    come_if g turn (tag_done (Some c) status) s u t by.cellar by.given line
+    (subst (λ (x : Cellar). IsEngineCourse g x.engine by.cellar.engine (tag_done (Some c) status ++ due)) same p)
+    is_own (status == 0) by.comes (none_handed_with g asked turn.by u.cellar by.cellar a b by.given status by.made)
 
 made_in : (g : Ghosts Token) (turn : Turn) (c : Command) (s t : TurnState) (a b : Answer) (status : ℕ) (is_own : Bool) →
     MakesIn g turn c s t a b status is_own → MakesCourse g turn (tag_done (Some c) status) s t
@@ -277,23 +292,12 @@ made_in g turn c s t a b status is_own (is_made u _ _ admits there) = on_line (h
   on_line : (is_free : Bool) (status : ℕ) (is_own : Bool) → MakesOnLine g turn is_free c u t a b status is_own →
       MakesCourse g turn (tag_done (Some c) status) s t
   on_line is_free _ _ (makes_there v status is_own loses only by) =
-      let made = made_course g (made_for is_free turn c) v.cellar by.cellar a b status by.stood by.made in
-      let due = handed_with by.cellar.engine.parts.lanes.due b in
-      let p = subst (λ (xs : List Seen). IsEngineCourse g v.cellar.engine by.cellar.engine (xs ++ due)) (same_tag is_free turn c status) made in
-      let cellar = ap (λ (x : TurnState). x.cellar) only ∙ ap (λ (x : TurnState). x.cellar) admits.only in
-      come_if g turn (tag_done (Some c) status) s v t by.cellar b
-      (by_two g s u v (by_room g s u admits.loses admits.only) (by_room g u v loses only))
-      (subst (λ (x : Cellar). IsEngineCourse g x.engine by.cellar.engine (tag_done (Some c) status ++ due)) cellar p)
-      is_own (status == 0) by.comes (none_handed_with g (made_for is_free turn c) v.cellar by.cellar a b status by.made)
+      made_by g turn is_free c s v t a b status is_own (by_two g s u v (by_room g s u admits.loses admits.only) (by_room g u v loses only))
+      (ap (λ (x : TurnState). x.cellar) only ∙ ap (λ (x : TurnState). x.cellar) admits.only) by
   on_line is_free _ _ (finds_no_room many opening full loses only none) =
       let stays = by_two g s u t (by_room g s u admits.loses admits.only) (by_room g u t loses only) in takes_none stays.course stays.tickets stays.hands
 made_in g turn c s t a b _ _ (is_made_bare u status full asks loses only by) =
-    let made = made_course g (made_for true turn c) u.cellar by.cellar a b status by.stood by.made in
-    let due = handed_with by.cellar.engine.parts.lanes.due b in
-    let p = subst (λ (xs : List Seen). IsEngineCourse g u.cellar.engine by.cellar.engine (xs ++ due)) (same_tag true turn c status) made in
-    come_if g turn (tag_done (Some c) status) s u t by.cellar b (by_room g s u loses only)
-    (subst (λ (x : Cellar). IsEngineCourse g x.engine by.cellar.engine (tag_done (Some c) status ++ due)) (ap (λ (x : TurnState). x.cellar) only) p)
-    false (status == 0) by.comes (none_handed_with g (made_for true turn c) u.cellar by.cellar a b status by.made)
+    made_by g turn true c s u t a b status false (by_room g s u loses only) (ap (λ (x : TurnState). x.cellar) only) by
 made_in g turn c s t a b _ _ (finds_no_line full asks loses only none) =
     let stays = by_room g s t loses only in takes_none stays.course stays.tickets stays.hands
 

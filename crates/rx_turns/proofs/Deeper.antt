@@ -1,12 +1,13 @@
 -- The next deeper turn of a stack that has a line.
 use Rattle.std.proofs.Common.{◌≡◌, ◌≢◌, ℕ, ◌+◌, ◌<◌, ◌≤◌, ◌&&◌, Bool, true, false, cond, List, length, Option, Some, None, IfSome, refl, ap, sym, ◌∙◌}
 use Rattle.std.proofs.Common.{arith, ◌⊎◌, inl, inr}
+use Rattle.std.specs.Prelude.{nat_lt, ◌==◌}
 use Rattle.std.proofs.lemmas.List.{get_or_past}
 use Rattle.std.proofs.lemmas.Bool.{cases_eq, false≢true, false_from_ne_true, and_parts, ltb-true, ltb-false, le-ltb}
 use Rattle.rx_slots.specs.Lists.{Lists}
 use Rattle.rx_turns.specs.declared.agenda.Turn.{Turn}
 use Rattle.rx_turns.specs.declared.agenda.Row.{Row}
-use Rattle.rx_turns.specs.Rows.{is_its, is_of, blank, row_on, own_line, is_deeper, is_before, nearer, AreListed}
+use Rattle.rx_turns.specs.Rows.{is_its, is_of, blank, row_on, own_line, is_deeper, is_before, nearer, AreListed, AreNoDeeper}
 use Rattle.rx_turns.specs.Agendas.{HasNothing}
 use Rattle.rx_turns.proofs.Lines.{same_turn, line_none}
 
@@ -87,3 +88,15 @@ no_line u rows lists words listed none = (
   ap (λ (r : Row). r.in_hand) (get_or_past rows (own_line u rows) blank
       (omega (arith, none))),
 )
+
+-- nobody has a row who is deeper than all
+not_there : (deepest : ℕ) (rows : List Row) (u : Turn) → AreNoDeeper deepest rows → deepest < u.depth → (k : ℕ) (b : Bool) → is_of u (row_on rows k) ≡ b →
+    is_of u (row_on rows k) ≡ false
+not_there deepest rows u are far k true own = let near = are u k own in absurd (omega (arith, near, far))
+not_there deepest rows u are far k false own = own
+
+pub none_so_deep : (deepest : ℕ) (rows : List Row) (turn u : Turn) → AreNoDeeper deepest rows → deepest ≤ turn.depth → is_deeper turn u ≡ true →
+    own_line u rows ≡ length rows
+none_so_deep deepest rows turn u are near deep =
+    let more : turn.depth < u.depth = ltb-true turn.depth u.depth (and_parts (u.by == turn.by) (nat_lt turn.depth u.depth) deep).1 in
+    line_none u rows (λ k within. not_there deepest rows u are (omega (arith, near, more)) k (is_of u (row_on rows k)) refl)

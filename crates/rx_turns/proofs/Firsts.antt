@@ -3,10 +3,10 @@ use Rattle.std.proofs.Common.{◌≡◌, ℕ, ◌<◌, ◌≤◌, ◌||◌, true
 use Rattle.std.proofs.lemmas.List.{get_or_past}
 use Rattle.std.proofs.lemmas.Bool.{cases_lt, eq-eqb}
 use Rattle.rx_slots.specs.Lists.{Lists, list_at, is_in, head_of, IsPlain}
-use Rattle.rx_turns.specs.declared.agenda.Turn.{Turn}
+use Rattle.rx_turns.specs.declared.agenda.OnLine.{OnLine}
 use Rattle.rx_turns.specs.declared.agenda.Task.{Task}
 use Rattle.rx_turns.specs.declared.agenda.Row.{Row}
-use Rattle.rx_turns.specs.Rows.{blank, row_on, own_line, HasLine, AreListed, IsToldOf}
+use Rattle.rx_turns.specs.Rows.{blank, row_on, IsTheLine, IsOn, AreListed, IsToldOf}
 
 some_is : (a b : ℕ) → Some a ≡ Some b → a ≡ b
 some_is a b same = ap (λ (o : Option ℕ). or_zero o) same
@@ -32,11 +32,10 @@ there_by m line rows lists listed is (inr past) =
     absurd (cc)
 
 -- whose list has a first one has a line
-pub first_line : (o : Option ℕ) (lists : Lists) (rows : List Row) (line : ℕ) (turn : Turn) → AreListed rows lists → line ≡ own_line turn rows →
-    o ≡ head_of (list_at lists line) → IfSome o (λ _. HasLine turn rows)
-first_line None lists rows line turn listed at is = tt
-first_line (Some m) lists rows line turn listed at is =
-    let there = there_by m line rows lists listed is (cases_lt line (length rows)) in omega (arith, there, at)
+pub first_line : (o : Option ℕ) (lists : Lists) (rows : List Row) (on : OnLine) → AreListed rows lists → IsTheLine on rows →
+    o ≡ head_of (list_at lists on.line) → IfSome o (λ _. IsOn on rows)
+first_line None lists rows on listed at is = tt
+first_line (Some m) lists rows on listed at is = record { line = at; within = there_by m on.line rows lists listed is (cases_lt on.line (length rows)) }
 
 served_by : (h : Task) (rows : List Row) (line : ℕ) → Some h ≡ (row_on rows line).in_hand → (line < length rows) ⊎ (length rows ≤ line) → line < length rows
 served_by h rows line is (inl within) = within
@@ -45,9 +44,9 @@ served_by h rows line is (inr past) =
     absurd (cc)
 
 -- and who serves a lane has one
-pub served_line : (o : Option Task) (rows : List Row) (turn : Turn) → o ≡ (row_on rows (own_line turn rows)).in_hand → IfSome o (λ _. HasLine turn rows)
-served_line None rows turn is = tt
-served_line (Some h) rows turn is = served_by h rows (own_line turn rows) is (cases_lt (own_line turn rows) (length rows))
+pub served_line : (o : Option Task) (rows : List Row) (on : OnLine) → IsTheLine on rows → o ≡ (row_on rows on.line).in_hand → IfSome o (λ _. IsOn on rows)
+served_line None rows on at is = tt
+served_line (Some h) rows on at is = record { line = at; within = served_by h rows on.line is (cases_lt on.line (length rows)) }
 
 told_by : (w : ℕ) (rows : List Row) (line : ℕ) → IsToldOf (row_on rows line).in_hand (Some w) → (line < length rows) ⊎ (length rows ≤ line) → line < length rows
 told_by w rows line is (inl within) = within
@@ -57,6 +56,6 @@ told_by w rows line is (inr past) =
     tells_no_blank : (w : ℕ) → IsToldOf None (Some w) → ⊥
     tells_no_blank w is = elim is [ ]
 
-pub told_line : (o : Option ℕ) (rows : List Row) (turn : Turn) → IsToldOf (row_on rows (own_line turn rows)).in_hand o → IfSome o (λ _. HasLine turn rows)
-told_line None rows turn is = tt
-told_line (Some w) rows turn is = told_by w rows (own_line turn rows) is (cases_lt (own_line turn rows) (length rows))
+pub told_line : (o : Option ℕ) (rows : List Row) (on : OnLine) → IsTheLine on rows → IsToldOf (row_on rows on.line).in_hand o → IfSome o (λ _. IsOn on rows)
+told_line None rows on at is = tt
+told_line (Some w) rows on at is = record { line = at; within = told_by w rows on.line is (cases_lt on.line (length rows)) }

@@ -8,7 +8,7 @@ use Rattle.std.proofs.lemmas.Bool.{cases_eq, cases_lt, eqb-true}
 use Rattle.rx_slots.specs.Lists.{Lists, list_at}
 use Rattle.rx_turns.specs.declared.agenda.Turn.{Turn}
 use Rattle.rx_turns.specs.declared.agenda.Row.{Row}
-use Rattle.rx_turns.specs.Rows.{is_of, blank, row_on, own_line, HaveOneRowEach, due_on, hand_on, Grows, AreListed}
+use Rattle.rx_turns.specs.Rows.{is_of, blank, row_on, own_line, HaveOneRowEach, due_on, hand_on, Grows, AreListed, AreNoDeeper}
 
 pushed_by : {X : Type 0} (xs : List X) (d : X) (k : ℕ) → (k < length xs) ⊎ (length xs ≤ k) → (k ≡ length xs) ⊎ (k ≢ length xs) →
     slice_index_or (xs ++ d ∷ []) k d ≡ slice_index_or xs k d
@@ -71,6 +71,10 @@ module _ (rows : List Row) (lists lists' : Lists) (listed : AreListed rows lists
     };
     members = members;
   }
+
+-- none is deeper then
+pub depths_grown : (old new : List Row) (lists lists' : Lists) (n : ℕ) → Grows old new lists lists' → AreNoDeeper n old → AreNoDeeper n new
+depths_grown old new lists lists' n grows are t k own = are t k (sym (ap (is_of t) (grows.read k)) ∙ own)
 
 -- a list more
 pub more_lists : (lists lists' : Lists) → lists'.lists ≡ lists.lists ++ [] ∷ [] → (e : ℕ) → list_at lists' e ≡ list_at lists e

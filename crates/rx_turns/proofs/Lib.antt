@@ -2,6 +2,7 @@ pub mod Lines
 pub mod Renamed
 pub mod Claimed
 pub mod Held
+pub mod Settled
 pub mod Grown
 pub mod Admitted
 pub mod Trimmed
@@ -21,7 +22,6 @@ pub mod NothingAstray
 pub mod DeeperServed
 pub mod Ended
 pub mod WordsClaimed
-pub mod WordsRead
 pub mod HandsKept
 pub mod CoursesTold
 pub mod CommandsAreCourses

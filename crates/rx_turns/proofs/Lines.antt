@@ -1,10 +1,11 @@
 -- Where the row of a turn stands.
-use Rattle.std.proofs.Common.{◌≡◌, ◌≢◌, ℕ, ◌<◌, ◌==◌, ◌&&◌, Bool, true, false, List, length, Option, Some, None, refl, ap, sym, ◌∙◌, arith}
+use Rattle.std.proofs.Common.{◌≡◌, ◌≢◌, ℕ, ◌-◌, ◌<◌, ◌≤◌, ◌==◌, ◌&&◌, Bool, true, false, List, length, Option, Some, None, refl, ap, sym, ◌∙◌, arith, ◌⊎◌, inl, inr}
 use Rattle.std.proofs.lemmas.List.Sums.{position_or_len_is, passes_at_first}
 use Rattle.rx_turns.specs.declared.agenda.Turn.{Turn}
 use Rattle.rx_turns.specs.declared.agenda.Row.{Row}
-use Rattle.std.proofs.lemmas.Bool.{false_from_ne_true, false≢true, and_parts, eqb-true, eq-eqb}
-use Rattle.rx_turns.specs.Rows.{is_same, is_its, is_of, blank, row_on, own_line, HaveOneRowEach}
+use Rattle.std.proofs.lemmas.Bool.{cases_eq, false_from_ne_true, false≢true, and_parts, eqb-true, eq-eqb}
+use Rattle.rx_turns.specs.Rows.{is_same, is_its, is_of, blank, row_on, own_line, HaveOneRowEach, HasLine, IsOn}
+use Rattle.rx_turns.specs.declared.agenda.OnLine.{OnLine}
 
 -- a turn is what its word and its depth are
 pub same_turn : (t u : Turn) → is_same t u ≡ true → t ≡ u
@@ -56,3 +57,17 @@ pub line_tells : (turn t : Turn) (rows : List Row) (line : ℕ) → line ≡ own
 line_tells turn t rows line is within true same = eq-eqb line (own_line t rows) (is ∙ ap (λ (v : Turn). own_line v rows) (same_turn turn t same))
 line_tells turn t rows line is within false other =
     false_from_ne_true (line == own_line t rows) (λ h. apart_line turn t rows line is within other (eqb-true line (own_line t rows) h))
+
+-- whose line is this one has one
+pub line_had : {on : OnLine} {rows : List Row} → IsOn on rows → HasLine on.turn rows
+line_had is = let line = is.line in let within = is.within in omega (arith, line, within)
+
+-- none from a line on, and not the one before it
+lower_by : (t : Turn) (rows : List Row) (line : ℕ) → 0 < line → ((k : ℕ) → line ≤ k → k < length rows → is_of t (row_on rows k) ≡ false) →
+    is_of t (row_on rows (line - 1)) ≡ false → (k : ℕ) → line - 1 ≤ k → k < length rows → (k ≡ line - 1) ⊎ (k ≢ line - 1) → is_of t (row_on rows k) ≡ false
+lower_by t rows line some none this k from within (inl here) = ap (λ (m : ℕ). is_of t (row_on rows m)) here ∙ this
+lower_by t rows line some none this k from within (inr other) = none k (omega (arith, some, from, other)) within
+
+pub lower_line : (t : Turn) (rows : List Row) (line : ℕ) → 0 < line → ((k : ℕ) → line ≤ k → k < length rows → is_of t (row_on rows k) ≡ false) →
+    is_of t (row_on rows (line - 1)) ≡ false → (k : ℕ) → line - 1 ≤ k → k < length rows → is_of t (row_on rows k) ≡ false
+lower_line t rows line some none this k from within = lower_by t rows line some none this k from within (cases_eq k (line - 1))

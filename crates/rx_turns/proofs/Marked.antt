@@ -9,9 +9,10 @@ use Rattle.std.proofs.lemmas.Bool.{cases_eq, cases_lt}
 use Rattle.rx_slots.specs.Lists.{Lists, list_at}
 use Rattle.rx_turns.specs.declared.agenda.Turn.{Turn}
 use Rattle.rx_turns.specs.declared.agenda.Row.{Row}
-use Rattle.rx_turns.specs.Rows.{is_its, is_of, is_by, begun_by, with_begun, blank, row_on, own_line, HaveOneRowEach}
+use Rattle.rx_turns.specs.Rows.{is_its, is_of, is_by, begun_by, with_begun, blank, row_on, own_line, HaveOneRowEach, AreSettled, AreNoDeeper}
 use Rattle.rx_turns.specs.Agendas.{NotesBegun}
 use Rattle.rx_turns.proofs.Lines.{same_turn}
+use Rattle.rx_turns.proofs.Settled.{begun_stays}
 
 -- all rows before a line are marked, and none from there on
 pub record AreMarkedTo (by ticket : ℕ) (old new : List Row) (line : ℕ) : Type 0 where
@@ -19,8 +20,9 @@ pub record AreMarkedTo (by ticket : ℕ) (old new : List Row) (line : ℕ) : Typ
   pub above : (k : ℕ) → line ≤ k → row_on new k ≡ row_on old k
   pub many : length new ≡ length old
 
-pub none_marked : (by ticket : ℕ) (all : List Row) → AreMarkedTo by ticket all all 0
-none_marked by ticket all = record { below = λ k before. absurd (omega (arith, before)); above = λ k behind. refl; many = refl }
+pub none_marked : (by ticket n : ℕ) (all : List Row) → AreSettled n all → AreMarkedTo by ticket all all n
+none_marked by ticket n all are =
+    record { below = λ k before. sym (begun_stays by ticket (row_on all k) (are k before)); above = λ k behind. refl; many = refl }
 
 module _ (by ticket : ℕ) (old new : List Row) (line : ℕ) (are : AreMarkedTo by ticket old new line) (within : line < length new) where
   below_by : (k : ℕ) → k < line + 1 → (k ≡ line) ⊎ (k ≢ line) → row_on (slice_set new line (with_begun by ticket
@@ -67,6 +69,9 @@ module _ (by ticket : ℕ) (old new : List Row) (each : (k : ℕ) → row_on new
 
   pub apart_marked : HaveOneRowEach old → HaveOneRowEach new
   apart_marked apart t i j at_i at_j = apart t i j (sym (of_same t i) ∙ at_i) (sym (of_same t j) ∙ at_j)
+
+  pub depths_marked : (n : ℕ) → AreNoDeeper n old → AreNoDeeper n new
+  depths_marked n are t k own = are t k (sym (of_same t k) ∙ own)
 
   by_its : (t : Turn) (o : Option Turn) → is_its t o ≡ true → is_by by o ≡ (t.by == by)
   by_its t None own = absurd (cc)

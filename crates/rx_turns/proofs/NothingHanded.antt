@@ -1,7 +1,6 @@
 -- A command that is no item hands nothing out with its answer.
 use Rattle.std.proofs.lemmas.Bool.{false≢true, eqb-true}
-use Rattle.rx_turns.specs.declared.agenda.Turn.{Turn}
-use Rattle.std.proofs.Common.{◌≡◌, ℕ, ◌==◌, ◌&&◌, Bool, true, false, sym, List, Option, Some, None, is_some, Result, Ok, Err, refl, ap, ◌∙◌}
+use Rattle.std.proofs.Common.{◌≡◌, ℕ, ◌==◌, ◌&&◌, Bool, true, false, sym, Option, Some, None, is_some, Result, Ok, Err, refl, ap, ◌∙◌}
 use Rattle.rx_resource.specs.declared.Resource.{Ghosts}
 use Rattle.rx_resource.specs.declared.token.Token.{Token}
 use Rattle.rx_event.specs.declared.refusal.Refusal.{Refusal}
@@ -12,12 +11,15 @@ use Rattle.rx_cellar.specs.declared.shapes.Answer.{Answer}
 use Rattle.rx_cellar.specs.declared.making.Made.{Made}
 use Rattle.rx_cellar.specs.declared.asked.Asked.{Asked}
 use Rattle.rx_cellar.specs.declared.cellar.Cellar.{Cellar}
-use Rattle.rx_cellar.specs.Asking.{asked_of, item_asked, asks_item, is_emission}
-use Rattle.rx_cellar.specs.Crossings.{no_answer}
+use Rattle.rx_cellar.specs.declared.shapes.Effect.{Effect}
+use Rattle.rx_cellar.specs.Asking.{asked_of, asked_as, item_asked, asks_item, is_emission}
+use Rattle.rx_cellar.specs.Crossings.{effect_of, no_answer}
+use Rattle.rx_cellar.proofs.ItemsAsked.{other_asks, other_as}
 use Rattle.rx_cellar.specs.Makings.{Outcome, of_made, shown, ComesToIf}
-use Rattle.rx_cellar.specs.Cellars.{IsTried, at_once, once_more, IsTriedAgain, behind_one, behind_none, IsAskedMade, is_done, is_refused, told, with_handed}
+use Rattle.rx_cellar.specs.Cellars.{IsTried, at_once, once_more, IsTriedAgain, behind_one, behind_none, IsAskedMade, is_done, is_refused}
 use Rattle.rx_cellar.specs.Cellars.{IsMadeIf, IsCommandMade}
-use Rattle.rx_turns.specs.Making.{lane_at_once, may_ask, made_for}
+use Rattle.rx_turns.specs.Making.{may_ask}
+use Rattle.std.specs.Prelude.{option_map}
 
 abbrev given_of : Result Outcome Refusal → Option Sent
 given_of (Ok o) = o.given
@@ -42,33 +44,26 @@ tried : (g : Ghosts Token) (asked : Asked) (by : ℕ) (s t : Cellar) (r : Result
 tried g asked by s t r none (at_once other made) = comes_if g (item_asked asked) asked by s.engine t.engine r none made.performed
 tried g asked by s t r none (once_more u first rest) = again g asked by u t r none rest
 
-told_bare : (given : Option Sent) (a : Answer) → given ≡ None → (with_handed given a).handed ≡ a.handed
-told_bare None a none = refl
-told_bare (Some sent) a none = absurd (cc)
+asked_bare : (g : Ghosts Token) (asked : Asked) (by : ℕ) (s t : Cellar) (a b : Answer) (given : Option Effect) (status : ℕ) →
+    is_some (item_asked asked) ≡ false → IsAskedMade g asked by s t a b given status → given ≡ None
+asked_bare g asked by s t a b given _ none (is_done o u v tidies made counts tells gives) =
+    gives ∙ ap (option_map effect_of) (tried g asked by u v (Ok o) none made)
+asked_bare g asked by s t a b given _ none (is_refused why u tidies made same nothing) = nothing
 
-asked_bare : (g : Ghosts Token) (asked : Asked) (by : ℕ) (s t : Cellar) (a b : Answer) (status : ℕ) → is_some (item_asked asked) ≡ false →
-    IsAskedMade g asked by s t (no_answer a) b status → b.handed ≡ 0
-asked_bare g asked by s t a b status none (is_done o u v tidies made counts tells) =
-    ap (λ (y : Answer). y.handed) tells ∙ told_bare o.given (told o.made v.engine (no_answer a)) (tried g asked by u v (Ok o) none made)
-asked_bare g asked by s t a b status none (is_refused why u tidies made same) = ap (λ (y : Answer). y.handed) same
-
-made_bare : (g : Ghosts Token) (asked : Option Asked) (by : ℕ) (s t : Cellar) (a b : Answer) (status : ℕ) → asks_item asked ≡ false →
-    IsMadeIf g asked by s t (no_answer a) b status → b.handed ≡ 0
-made_bare g None by s t a b status none (five, same, kept) = ap (λ (y : Answer). y.handed) kept
-made_bare g (Some asked) by s t a b status none made = asked_bare g asked by s t a b status none made
-
-pub nothing_handed : (g : Ghosts Token) (c : Command) (s t : Cellar) (a b : Answer) (status : ℕ) → asks_item (asked_of c) ≡ false →
-    IsCommandMade g c s t a b status → b.handed ≡ 0
-nothing_handed g c s t a b status none made = made_bare g (asked_of c) c.by s t a b status none made
-
--- nothing is in hand at once then
-pub none_at_once : (handed : ℕ) (words : List ℕ) → handed ≡ 0 → lane_at_once handed words ≡ None
-none_at_once handed words none = ap (λ (n : ℕ). lane_at_once n words) none
+pub nothing_given : (g : Ghosts Token) (asked : Option Asked) (by : ℕ) (s t : Cellar) (a b : Answer) (given : Option Effect) (status : ℕ) →
+    asks_item asked ≡ false → IsCommandMade g asked by s t a b given status → given ≡ None
+nothing_given g None by s t a b given status none (five, same, kept, nothing) = nothing
+nothing_given g (Some asked) by s t a b given status none made = asked_bare g asked by s t (no_answer a) b given status none made
 
 -- what asks for no memory is no item
-pub no_emission : (turn : Turn) (c : Command) → may_ask c.what ≡ false → is_emission (made_for true turn c) ≡ false
-no_emission turn c asks = by_test (c.what == 3) refl
+no_emission : (c : Command) → may_ask c.what ≡ false → is_emission c ≡ false
+no_emission c asks = by_test (c.what == 3) refl
   where
-    by_test : (b : Bool) → (c.what == 3) ≡ b → is_emission (made_for true turn c) ≡ false
-    by_test false is = ap (λ x. (x && ((made_for true turn c).flags == 0)) && (c.spare == 0)) is
+    by_test : (b : Bool) → (c.what == 3) ≡ b → is_emission c ≡ false
+    by_test false is = ap (λ x. (x && (c.flags == 0)) && (c.spare == 0)) is
     by_test true is = absurd (false≢true (sym asks ∙ ap may_ask (eqb-true c.what 3 is)))
+
+pub no_item : (c : Command) → may_ask c.what ≡ false → asks_item (asked_as false (asked_of c)) ≡ false
+no_item c asks =
+    let plain = other_asks c (no_emission c asks) in
+    ap asks_item (sym (other_as false (asked_of c) plain)) ∙ plain

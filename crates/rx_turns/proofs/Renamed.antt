@@ -8,7 +8,7 @@ use Rattle.std.proofs.lemmas.Bool.{cases_eq, cases_lt, false_from_ne_true, false
 use Rattle.rx_slots.specs.Lists.{Lists, list_at}
 use Rattle.rx_turns.specs.declared.agenda.Turn.{Turn}
 use Rattle.rx_turns.specs.declared.agenda.Row.{Row}
-use Rattle.rx_turns.specs.Rows.{is_same, is_of, blank, row_on, own_line, HaveOneRowEach, due_on, hand_on, KeepsRows, AreListed}
+use Rattle.rx_turns.specs.Rows.{is_same, is_of, is_fresh, blank, row_on, own_line, HaveOneRowEach, due_on, hand_on, KeepsRows, AreListed, AreSettled, AreNoDeeper}
 use Rattle.rx_turns.proofs.Lines.{line_is, line_none, same_turn, is_same-self}
 
 absent_by : (t : Turn) (rows : List Row) → own_line t rows ≡ length rows → (k : ℕ) → (k < length rows) ⊎ (length rows ≤ k) → is_of t (row_on rows k) ≡ false
@@ -124,10 +124,27 @@ module _ {rows : List Row} {lists : Lists} {line : ℕ} {u : Turn} (is : IsFree 
   tells_by t false true other was = tells_gone t other was
   tells_by t false false other was = tells_others t other was
 
+  -- what was begun is
+  settled_given : (n : ℕ) → AreSettled n rows → (k : ℕ) → k < n → (k ≡ line) ⊎ (k ≢ line) → is_fresh (row_on (given rows line u) k) ≡ false
+  settled_given n are k before (inl at_line) = ap (λ (m : ℕ). is_fresh (row_on (given rows line u) m)) at_line ∙ ap is_fresh here
+  settled_given n are k before (inr other) = ap is_fresh (elsewhere k other) ∙ are k before
+
+  -- and none is deeper than the turn or another
+  depth_by : (n : ℕ) → u.depth ≤ n → AreNoDeeper n rows → (t : Turn) (k : ℕ) → is_of t (row_on (given rows line u) k) ≡ true → (k ≡ line) ⊎ (k ≢ line) →
+      t.depth ≤ n
+  depth_by n fits are t k own (inl at_line) =
+      let same = same_turn t u (sym (is_of_here t) ∙ subst (λ (m : ℕ). is_of t (row_on (given rows line u) m) ≡ true) at_line own) in
+      subst (λ (v : Turn). v.depth ≤ n) (sym same) fits
+  depth_by n fits are t k own (inr other) = are t k (sym (is_of_elsewhere t k other) ∙ own)
+
+  pub depths_given : (n : ℕ) → u.depth ≤ n → AreNoDeeper n rows → AreNoDeeper n (given rows line u)
+  depths_given n fits are t k own = depth_by n fits are t k own (cases_eq k line)
+
   pub kept_given : KeepsRows rows (given rows line u) lists
   kept_given = record {
     due = λ t. (tells_by t (is_same t u) (is_of t (row_on rows line)) refl refl).due;
     hands = λ t. (tells_by t (is_same t u) (is_of t (row_on rows line)) refl refl).hands;
     apart = apart_given;
     many = many_given;
+    begun = λ n are k before. settled_given n are k before (cases_eq k line);
   }

@@ -8,7 +8,7 @@ use Rattle.std.proofs.lemmas.Bool.{cases_lt, eqb-true, eq-eqb, false≢true}
 use Rattle.rx_slots.specs.Lists.{Lists, list_at}
 use Rattle.rx_turns.specs.declared.agenda.Turn.{Turn}
 use Rattle.rx_turns.specs.declared.agenda.Row.{Row}
-use Rattle.rx_turns.specs.Rows.{is_of, blank, row_on, own_line, HaveOneRowEach, due_on, hand_on, AreListed, TellsAlike}
+use Rattle.rx_turns.specs.Rows.{is_of, is_fresh, blank, row_on, own_line, HaveOneRowEach, due_on, hand_on, AreListed, AreNoDeeper, TellsAlike}
 use Rattle.rx_turns.specs.declared.agenda.Task.{Task}
 use Rattle.rx_turns.specs.Rows.{begun_by}
 use Rattle.rx_turns.specs.Agendas.{NotesBegun}
@@ -68,6 +68,9 @@ module _ (rows : List Row) (row : Row) (lists : Lists) (listed : AreListed (rows
   of_kept t k own (inl within) = ap (is_of t) (get_or_append_left rows (row ∷ []) blank k within) ∙ own
   of_kept t k own (inr past) = absurd (false≢true (sym (ap (is_of t) (get_or_past rows k blank past)) ∙ own))
 
+  pub depths_trimmed : (n : ℕ) → AreNoDeeper n whole → AreNoDeeper n rows
+  depths_trimmed n are t k own = are t k (of_kept t k own (cases_lt k (length rows)))
+
   pub trimmed : TellsAlike whole rows lists lists
   trimmed = record {
     due = λ t. (same_by t (own_line t rows == length rows) refl).due;
@@ -78,8 +81,13 @@ module _ (rows : List Row) (row : Row) (lists : Lists) (listed : AreListed (rows
       idle = λ k past. idle k (split_at k past (cases_lt (length rows) k));
     };
     members = refl;
+    begun = λ n are k before. settled_by k (are k before) (cases_lt k (length rows));
   }
     where
+      settled_by : (k : ℕ) → is_fresh (row_on whole k) ≡ false → (k < length rows) ⊎ (length rows ≤ k) → is_fresh (row_on rows k) ≡ false
+      settled_by k was (inl within) = ap is_fresh (sym (get_or_append_left rows (row ∷ []) blank k within)) ∙ was
+      settled_by k was (inr past) = ap is_fresh (get_or_past rows k blank past)
+
       split_at : (k : ℕ) → length rows ≤ k → (length rows < k) ⊎ (k ≤ length rows) → (k ≡ length rows) ⊎ (length rows < k)
       split_at k past (inl behind) = inr behind
       split_at k past (inr at_most) = inl (omega (arith, past, at_most))
@@ -91,10 +99,11 @@ told_on a b c lists one two = record {
   apart = two.apart;
   listed = two.listed;
   members = refl;
+  begun = λ n are. two.begun n (one.begun n are);
 }
 
 pub told_as : (rows : List Row) (lists : Lists) → AreListed rows lists → HaveOneRowEach rows → TellsAlike rows rows lists lists
-told_as rows lists listed apart = record { due = λ t. refl; hands = λ t. refl; apart = apart; listed = listed; members = refl }
+told_as rows lists listed apart = record { due = λ t. refl; hands = λ t. refl; apart = apart; listed = listed; members = refl; begun = λ n are. are }
 
 -- the last row was popped
 pub popped : (whole rows : List Row) (o : Option Row) (lists : Lists) → whole ≡ rows ++ option_to_list o → AreListed whole lists → HaveOneRowEach whole →
@@ -108,6 +117,18 @@ popped whole rows (Some row) lists is listed apart served due =
     subst (λ (x : List Row). TellsAlike x rows lists lists) (sym is)
     (trimmed rows row lists (subst (λ (x : List Row). AreListed x lists) is listed) (subst HaveOneRowEach is apart)
     (ap (λ (r : Row). r.in_hand) (sym there) ∙ served) (ap (list_at lists) (sym last) ∙ due))
+
+-- and so none is deeper then
+pub depths_popped : (whole rows : List Row) (o : Option Row) (lists : Lists) → whole ≡ rows ++ option_to_list o → AreListed whole lists →
+    HaveOneRowEach whole → (row_on whole (length whole - 1)).in_hand ≡ None → list_at lists (length whole - 1) ≡ [] → (n : ℕ) → AreNoDeeper n whole →
+    AreNoDeeper n rows
+depths_popped whole rows None lists is listed apart served due n are = subst (AreNoDeeper n) (is ∙ append-nil rows) are
+depths_popped whole rows (Some row) lists is listed apart served due n are =
+    let last : length whole - 1 ≡ length rows = omega (arith, ap length is, many_pushed rows row) in
+    let there : row_on whole (length whole - 1) ≡ row =
+    ap (λ (x : List Row). row_on x (length whole - 1)) is ∙ get_or_push rows row blank (length whole - 1) (sym last) in
+    depths_trimmed rows row lists (subst (λ (x : List Row). AreListed x lists) is listed) (subst HaveOneRowEach is apart)
+    (ap (λ (r : Row). r.in_hand) (sym there) ∙ served) (ap (list_at lists) (sym last) ∙ due) n (subst (AreNoDeeper n) is are)
 
 pub no_place : (o : Option ℕ) → is_some o ≡ false → o ≡ None
 no_place None is = refl

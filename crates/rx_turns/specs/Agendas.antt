@@ -1,10 +1,10 @@
 -- What is due to whom: each turn has the lanes that it is to serve next, in order, and what it was handed of the lane that it serves.
-use Rattle.std.specs.Prelude.{◌≡◌, ℕ, ◌<◌, ◌≤◌, ◌==◌, ◌&&◌, Bool, true, cond, List, [], ◌∷◌, ◌++◌, length, Option, None, is_none, slice_index_or}
+use Rattle.std.specs.Prelude.{◌≡◌, ℕ, ◌<◌, ◌≤◌, ◌==◌, ◌&&◌, Bool, true, cond, List, [], ◌∷◌, ◌++◌, length, Option, None, Some, is_none, slice_index_or}
 use Rattle.rx_slots.specs.Lists.{Lists, is_in, take_out, head_of}
 use Rattle.rx_turns.specs.declared.agenda.Turn.{Turn}
 use Rattle.rx_turns.specs.declared.agenda.Task.{Task}
 use Rattle.rx_turns.specs.declared.agenda.Row.{Row}
-use Rattle.rx_turns.specs.Rows.{is_same, due_on, hand_on, begun_by, HaveOneRowEach, HasLine, AreListed}
+use Rattle.rx_turns.specs.Rows.{is_same, row_on, due_on, hand_on, begun_by, HaveOneRowEach, HasLine, AreListed, AreSettled, AreNoDeeper}
 
 -- the rows say whose each list is; a list has the places of lanes; and each place has the word under which its lane is due
 pub record DueLists : Type 0 where
@@ -39,12 +39,20 @@ has_nothing a t = is_none (in_hand a t) && is_none (head_of (due_to a t))
 abbrev pub LaneHasRoom : DueLists → Turn → ℕ → Type 0
 LaneHasRoom a turn place = HasLine turn a.rows × (place < lanes_fit a)
 
--- each row has a list, of which there are so many, no two rows are of one turn, and each place has a word
-pub record IsAgenda (rows : List Row) (lists : Lists) (lines : ℕ) (words : List ℕ) : Type 0 where
+-- what is in hand on a line that was found
+abbrev pub hand_at : DueLists → Option ℕ → Option Task
+hand_at a None = None
+hand_at a (Some line) = (row_on a.rows line).in_hand
+
+-- each row has a list, of which there are so many, no two rows are of one turn, all before a line are settled, none is deeper than this, and each place
+-- has a word
+pub record IsAgenda (rows : List Row) (lists : Lists) (lines settled deepest : ℕ) (words : List ℕ) : Type 0 where
   pub listed : AreListed rows lists
   pub counted : lines ≡ length lists.lists
   pub worded : lists.members ≤ length words
   pub apart : HaveOneRowEach rows
+  pub begun : AreSettled settled rows
+  pub depths : AreNoDeeper deepest rows
 
 -- no lane is due to two turns
 abbrev pub IsDueOnce : DueLists → Type 0

@@ -9,11 +9,11 @@ use Rattle.rx_cellar.specs.Serving.{IsLeftTold}
 use Rattle.rx_cellar.specs.Words.{place_in}
 use Rattle.rx_turns.specs.declared.agenda.Turn.{Turn}
 use Rattle.rx_turns.specs.declared.agenda.Task.{Task}
-use Rattle.rx_turns.specs.declared.making.Done.{Done}
 use Rattle.rx_turns.specs.Agendas.{LosesNothing, Claims, LaneHasRoom, NotesBegun}
 use Rattle.rx_turns.specs.States.{TurnState}
 use Rattle.rx_turns.specs.Serving.{TakesDue, Serves, ServesDeeper}
 use Rattle.rx_turns.specs.Making.{MakesIn}
+use Rattle.rx_turns.specs.Telling.{handed_told}
 use Rattle.rx_turns.specs.Ending.{LetsLaneGo, EndsTurn, StopsDeeper, LeavesTo, at_depth}
 
 -- what a step came to: of its command, and what is to be done now, where there is something
@@ -21,9 +21,6 @@ pub record TurnStep : Type 0 where
   pub status : ℕ
   pub handed : Option Task
   pub is_own : Bool
-
-abbrev pub made_step : Done → Option Task → TurnStep
-made_step done handed = record { status = done.status; handed = handed; is_own = done.is_own }
 
 -- of a step without a command
 abbrev pub bare_step : Option Task → TurnStep
@@ -71,6 +68,14 @@ pub record IsTurnStep (g : Ghosts Token) (turn : Turn) (begun : ℕ) (c : Option
   pub marks : HasNoted turn.by begun s marked
   pub makes : MakesAny g turn c marked made a b step.status step.is_own
   pub goes_on : TurnGoesOn turn t made step.handed
+
+-- and what it tells: of a command that was refused, and where there is none, `no_answer`, and then what is to be done now
+pub record IsTurnTold (g : Ghosts Token) (turn : Turn) (begun : ℕ) (c : Option Command) (s t : TurnState) (a b : Answer) (status : ℕ) : Type 0 where
+  pub made : Answer
+  pub step : TurnStep
+  pub steps : IsTurnStep g turn begun c s t a made step
+  pub told : b ≡ handed_told step.handed step.is_own made
+  pub status_is : status ≡ step.status
 
 -- the call of this depth further out lets its lane go; what is left there is this turn's, or stays with that call
 pub record IsTurnPass (turn : Turn) (begun from : ℕ) (now_is : Bool) (s t : TurnState) : Type 0 where

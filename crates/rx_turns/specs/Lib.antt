@@ -1,6 +1,8 @@
 pub mod Rows
 pub mod Agendas
+pub mod Finding
 pub mod Seen
+pub mod Telling
 pub mod States
 pub mod Serving
 pub mod Making

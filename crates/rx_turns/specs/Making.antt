@@ -11,17 +11,16 @@ use Rattle.rx_cellar.specs.declared.shapes.Answer.{Answer}
 use Rattle.rx_cellar.specs.declared.cellar.Cellar.{Cellar}
 use Rattle.rx_cellar.specs.Cellars.{IsCommandMade}
 use Rattle.rx_cellar.specs.Crossings.{no_answer}
-use Rattle.rx_cellar.specs.Words.{word_of_due, place_in}
+use Rattle.rx_cellar.specs.Words.{place_in}
+use Rattle.rx_cellar.specs.Serving.{words_due}
+use Rattle.rx_cellar.specs.Asking.{asked_of, asked_as}
+use Rattle.rx_cellar.specs.declared.shapes.Effect.{Effect}
 use Rattle.rx_turns.specs.declared.agenda.Turn.{Turn}
 use Rattle.rx_turns.specs.declared.agenda.Task.{Task}
 use Rattle.rx_turns.specs.Rows.{HasLine}
 use Rattle.rx_turns.specs.Agendas.{LosesNothing, Claims, LaneHasRoom, lanes_fit, has_nothing}
 use Rattle.rx_turns.specs.States.{TurnState}
 use Rattle.rx_turns.specs.Serving.{HandsOut}
-
--- the words of the lanes that the answer of the last accepted command names
-abbrev pub words_due : Cellar → List ℕ
-words_due s = map word_of_due s.engine.parts.lanes.due
 
 -- a lane is due to a turn; or, only where there is no room for it, it is astray
 pub data IsMadeDue (turn : Turn) (word : ℕ) (s t : TurnState) : Type 0 where
@@ -34,23 +33,21 @@ pub data AreMadeDue (turn : Turn) (t : TurnState) : List ℕ → TurnState → T
   all_claimed : AreMadeDue turn t [] t
   one_claimed : (s u : TurnState) (word : ℕ) (words : List ℕ) → IsMadeDue turn word s u → AreMadeDue turn t words u → AreMadeDue turn t (word ∷ words) s
 
--- the command as a turn makes it: by its word, and an item waits in its lane, but where the turn has nothing else
-abbrev pub made_for : (is_free : Bool) → Turn → Command → Command
-made_for is_free turn c = record c { by = turn.by; flags = if (c.what == 3 && c.flags == 0) && not is_free then 8 else c.flags }
+-- the lane of the item that the engine gave with its answer
+abbrev pub lane_at_once : Option Effect → List ℕ → Option ℕ
+lane_at_once None words = None
+lane_at_once (Some e) words = slice_get words 0
 
--- the lane whose item the engine handed out with its answer
-abbrev pub lane_at_once : (handed : ℕ) → List ℕ → Option ℕ
-lane_at_once handed words = if handed == 1 then slice_get words 0 else None
-
--- that item is in hand at once; else the lanes that the answer names are due
-pub data Comes (turn : Turn) (words : List ℕ) (a : Answer) (s t : TurnState) : (is_own : Bool) → Type 0 where
-  comes_at_once : (word : ℕ) (h : Task) → lane_at_once a.handed words ≡ Some word → HandsOut turn word a.effect s t h → Comes turn words a s t true
-  all_wait : lane_at_once a.handed words ≡ None → AreMadeDue turn t words s → Comes turn words a s t false
+-- that item is in hand at once; else the lanes that its caller is to serve are due
+pub data Comes (turn : Turn) (words : List ℕ) (given : Option Effect) (s t : TurnState) : (is_own : Bool) → Type 0 where
+  comes_at_once : (word : ℕ) (e : Effect) (h : Task) → given ≡ Some e → slice_get words 0 ≡ Some word → HandsOut turn word e s t h →
+      Comes turn words given s t true
+  all_wait : lane_at_once given words ≡ None → AreMadeDue turn t words s → Comes turn words given s t false
 
 -- of a command that was refused nothing comes
-abbrev pub ComesIf : (is_done : Bool) → Turn → List ℕ → Answer → TurnState → TurnState → (is_own : Bool) → Type 0
-ComesIf true turn words a s t is_own = Comes turn words a s t is_own
-ComesIf false turn words a s t is_own = (t ≡ s) × (is_own ≡ false)
+abbrev pub ComesIf : (is_done : Bool) → Turn → List ℕ → Option Effect → TurnState → TurnState → (is_own : Bool) → Type 0
+ComesIf true turn words given s t is_own = Comes turn words given s t is_own
+ComesIf false turn words given s t is_own = (t ≡ s) × (is_own ≡ false)
 
 -- the turn is given a line
 pub record GivesLine (turn : Turn) (s t : TurnState) : Type 0 where
@@ -58,12 +55,13 @@ pub record GivesLine (turn : Turn) (s t : TurnState) : Type 0 where
   pub loses : LosesNothing s.agenda t.agenda
   pub only : t ≡ record s { agenda = t.agenda }
 
--- the command was made, and what comes of it is the turn's
+-- the command was made by the turn's word, an item to wait in its lane but where the turn has nothing else; and what comes of it is the turn's
 pub record IsMadeBy (g : Ghosts Token) (turn : Turn) (is_free : Bool) (c : Command) (s t : TurnState) (a b : Answer) (status : ℕ) (is_own : Bool) : Type 0 where
   pub cellar : Cellar
+  pub given : Option Effect
   pub stood : IsPromised s.cellar.engine
-  pub made : IsCommandMade g (made_for is_free turn c) s.cellar cellar a b status
-  pub comes : ComesIf (status == 0) turn (words_due cellar) b (record s { cellar = cellar }) t is_own
+  pub made : IsCommandMade g (asked_as (not is_free) (asked_of c)) turn.by s.cellar cellar a b given status
+  pub comes : ComesIf (status == 0) turn (words_due cellar) given (record s { cellar = cellar }) t is_own
 
 -- what may be refused for want of memory: what opens, holds, uses, lends, connects, emits or puts
 abbrev pub may_ask : (what : ℕ) → Bool

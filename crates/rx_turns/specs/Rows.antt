@@ -1,10 +1,16 @@
 -- Whose each line of an agenda is. No public clause cites this module but by `Agendas`.
-use Rattle.std.specs.Prelude.{◌≡◌, ℕ, ◌<◌, ◌≤◌, ◌==◌, ◌&&◌, ◌||◌, nat_lt, Bool, true, false, cond, List, [], length, Option, Some, None, slice_index_or}
+use Rattle.std.specs.Prelude.{◌≡◌, ℕ, ◌+◌, if◌then◌else◌, ◌<◌, ◌≤◌, ◌==◌, ◌&&◌, ◌||◌, nat_lt, Bool, true, false, cond, List, [], length, Option, Some, None, slice_index_or}
 use Rattle.std.specs.List.{position_or_len}
+use Rattle.std.proofs.Math.Bool.{not}
 use Rattle.rx_slots.specs.Lists.{Lists, list_at}
 use Rattle.rx_turns.specs.declared.agenda.Turn.{Turn}
 use Rattle.rx_turns.specs.declared.agenda.Task.{Task}
 use Rattle.rx_turns.specs.declared.agenda.Row.{Row}
+use Rattle.rx_turns.specs.declared.agenda.OnLine.{OnLine}
+
+abbrev pub is_fresh_hand : Option Task → Bool
+is_fresh_hand None = false
+is_fresh_hand (Some h) = not h.is_begun
 
 abbrev pub is_same : Turn → Turn → Bool
 is_same a b = a.by == b.by && a.depth == b.depth
@@ -47,12 +53,38 @@ pub record AreListed (rows : List Row) (lists : Lists) : Type 0 where
 abbrev pub HasLine : Turn → List Row → Type 0
 HasLine t rows = own_line t rows < length rows
 
+-- a turn's line is this one, which may stand behind all rows
+abbrev pub IsTheLine : OnLine → List Row → Type 0
+IsTheLine on rows = on.line ≡ own_line on.turn rows
+
+-- and it has one
+pub record IsOn (on : OnLine) (rows : List Row) : Type 0 where
+  pub line : on.line ≡ own_line on.turn rows
+  pub within : on.line < length rows
+
+-- something is in hand that is not begun
+abbrev pub is_fresh : Row → Bool
+is_fresh r = is_fresh_hand r.in_hand
+
+-- nothing such is on the lines before this one
+abbrev pub AreSettled : (settled : ℕ) → List Row → Type 0
+AreSettled settled rows = (k : ℕ) → k < settled → is_fresh (row_on rows k) ≡ false
+
+-- one line more, where this one is the first of which that was not known
+abbrev pub settled_behind : (settled line : ℕ) → Row → ℕ
+settled_behind settled line r = if settled == line && not (is_fresh r) then line + 1 else settled
+
+-- no row is of a turn deeper than this
+abbrev pub AreNoDeeper : (deepest : ℕ) → List Row → Type 0
+AreNoDeeper deepest rows = (t : Turn) (k : ℕ) → is_of t (row_on rows k) ≡ true → t.depth ≤ deepest
+
 -- whoever asks is told the same
 pub record KeepsRows (old new : List Row) (lists : Lists) : Type 0 where
   pub due : (t : Turn) → due_on new lists t ≡ due_on old lists t
   pub hands : (t : Turn) → hand_on new t ≡ hand_on old t
   pub apart : HaveOneRowEach new
   pub many : length new ≡ length old
+  pub begun : (n : ℕ) → AreSettled n old → AreSettled n new
 
 -- a line more, which is blank
 pub record Grows (old new : List Row) (lists lists' : Lists) : Type 0 where
@@ -71,6 +103,7 @@ pub record TellsAlike (old new : List Row) (lists lists' : Lists) : Type 0 where
   pub apart : HaveOneRowEach new
   pub listed : AreListed new lists'
   pub members : lists'.members ≡ lists.members
+  pub begun : (n : ℕ) → AreSettled n old → AreSettled n new
 
 -- what has this ticket is begun
 abbrev pub begun_by : ℕ → Option Task → Option Task

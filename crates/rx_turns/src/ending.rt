@@ -2,12 +2,12 @@
 
 ghost use Rattle.std.specs.Prelude.{◌≡◌, Some, false, if◌then◌else◌};
 ghost use Rattle.rx_cellar.specs.Words.{is_inside};
-ghost use Rattle.rx_turns.specs.Rows.{HasLine};
+ghost use Rattle.rx_turns.specs.Rows.{IsOn};
 ghost use Rattle.rx_turns.specs.Agendas.{in_hand};
 ghost use Rattle.rx_turns.specs.States.{turn_state};
 ghost use Rattle.rx_turns.specs.Ending.{at_depth, left_under, astray_if, GivesBack, LetsLaneGo, LeavesWord, LeavesTo, EndsTurn, StopsDeeper};
 
-use crate::agenda::{Task, Turn};
+use crate::agenda::{OnLine, Task, Turn};
 use crate::making::place_of;
 use crate::turns::Turns;
 use rx_cellar::Cellar;
@@ -58,29 +58,29 @@ fn give_back(cellar: &mut Cellar, by: u64, handed: Task) -> u64
 
 impl Turns {
     // Gives up the lane of what a turn has in hand: the word under which something is left.
-    fn give_up(&mut self, turn: Turn, handed: Task) -> Option<u64>
-        requires line { HasLine turn self.old.agenda.rows.items }
-        requires hand { in_hand (turn_state self.old).agenda turn ≡ Some handed }
+    fn give_up(&mut self, on: OnLine, handed: Task) -> Option<u64>
+        requires line { IsOn on self.old.agenda.rows.items }
+        requires hand { in_hand (turn_state self.old).agenda on.turn ≡ Some handed }
         requires outside { is_inside handed.word ≡ false }
-        ensures { LetsLaneGo turn (turn_state self.old) (turn_state self.new) result }
+        ensures { LetsLaneGo on.turn (turn_state self.old) (turn_state self.new) result }
     {
-        self.agenda.hold(turn, None);
+        self.agenda.drop_hand(on);
         self.cellar.promise();
-        let is_left = give_back(&mut self.cellar, turn.by, handed);
+        let is_left = give_back(&mut self.cellar, on.turn.by, handed);
         left_under(handed.word, is_left)
     }
 
     // Lets the lane in hand go; one that the stack serves further out is not given up.
-    fn put_down(&mut self, turn: Turn, handed: Task) -> Option<u64>
-        requires line { HasLine turn self.old.agenda.rows.items }
-        requires hand { in_hand (turn_state self.old).agenda turn ≡ Some handed }
-        ensures { LetsLaneGo turn (turn_state self.old) (turn_state self.new) result }
+    fn put_down(&mut self, on: OnLine, handed: Task) -> Option<u64>
+        requires line { IsOn on self.old.agenda.rows.items }
+        requires hand { in_hand (turn_state self.old).agenda on.turn ≡ Some handed }
+        ensures { LetsLaneGo on.turn (turn_state self.old) (turn_state self.new) result }
     {
         if handed.word < INSIDE {
-            return self.give_up(turn, handed);
+            return self.give_up(on, handed);
         }
         if handed.is_begun {
-            self.agenda.hold(turn, None);
+            self.agenda.drop_hand(on);
             return Some(handed.word);
         }
         None
@@ -90,8 +90,10 @@ impl Turns {
     pub(crate) fn let_go(&mut self, turn: Turn) -> Option<u64>
         ensures { LetsLaneGo turn (turn_state self.old) (turn_state self.new) result }
     {
-        match self.agenda.served(turn) {
-            Some(handed) => self.put_down(turn, handed),
+        let line = self.agenda.line_of(turn);
+        let on = OnLine { turn, line };
+        match self.agenda.served(on) {
+            Some(handed) => self.put_down(on, handed),
             None => None,
         }
     }
@@ -120,8 +122,10 @@ impl Turns {
         ensures { EndsTurn turn (turn_state self.old) (turn_state self.new) }
     {
         let left = self.let_go(turn);
-        let first = self.agenda.first(turn);
-        self.agenda.empty(turn);
+        let line = self.agenda.line_of(turn);
+        let on = OnLine { turn, line };
+        let first = self.agenda.first(on);
+        self.agenda.empty(on);
         self.astray = astray_if(left.is_some() | first.is_some(), self.astray);
     }
 

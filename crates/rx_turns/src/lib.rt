@@ -36,11 +36,10 @@ mod making;
 mod serving;
 mod turns;
 
-pub use agenda::{Task, Turn};
+pub use agenda::{Task, Turn, clear_step};
 pub use laws::{
     calls_are_courses, nothing_is_astray_where_the_outermost_hands_out_nothing,
     nothing_is_left_where_nothing_is_handed_out, other_turns_keep_theirs,
     what_is_handed_out_is_in_hand,
 };
-pub use making::Done;
 pub use turns::Turns;

@@ -1,17 +1,18 @@
 //! A command that a turn makes.
 
-ghost use Rattle.std.specs.Prelude.{◌≡◌, ◌==◌, ◌<◌, ◌≤◌, ◌^◌, ℕ, true, false, None, length, slice_get};
+ghost use Rattle.std.specs.Prelude.{◌≡◌, ◌==◌, ◌<◌, ◌≤◌, ◌^◌, ℕ, true, false, None};
 ghost use Rattle.rx_cellar.specs.Words.{place_in};
+ghost use Rattle.rx_cellar.specs.Serving.{words_due};
 ghost use Rattle.rx_turns.specs.States.{turn_state};
-ghost use Rattle.rx_turns.specs.Agendas.{LosesNothing, lanes_fit};
-ghost use Rattle.rx_turns.specs.Rows.{HasLine};
-ghost use Rattle.rx_turns.specs.Making.{may_ask, opens_lanes, words_due, IsMadeDue, AreMadeDue, made_for, lane_at_once};
+ghost use Rattle.rx_turns.specs.Agendas.{LosesNothing, lanes_fit, has_nothing};
+ghost use Rattle.rx_turns.specs.Rows.{IsOn};
+ghost use Rattle.rx_turns.specs.Making.{may_ask, opens_lanes, IsMadeDue, AreMadeDue};
 ghost use Rattle.rx_turns.specs.Making.{Comes, ComesIf, IsMadeBy, MakesOnLine, MakesIn};
 
-use crate::agenda::Turn;
+use crate::agenda::{OnLine, Turn};
 use crate::turns::Turns;
 use rx_book::Resource;
-use rx_cellar::{Answer, Cellar, Command, NO_MEMORY};
+use rx_cellar::{Answer, Cellar, Command, Effect, NO_MEMORY};
 use rx_resource::Token;
 use std::cmp::min;
 
@@ -25,12 +26,14 @@ const MORE: usize = 8;
 
 /// What a command came to.
 #[derive(Clone, Copy)]
-pub struct Done {
+pub(crate) struct Done {
     /// 0 where the command was done; 4 where there was no memory to keep what it would come to, and it was not made; else
     /// as [`Cellar::make`] has it.
-    pub status: u8,
+    pub(crate) status: u8,
     /// Whether what is handed out is its item.
-    pub is_own: bool,
+    pub(crate) is_own: bool,
+    /// The line that its turn had then.
+    pub(crate) line: usize,
 }
 
 // The place of the lane that a word names.
@@ -68,46 +71,6 @@ fn lanes_wanted(cellar: &Cellar, turns: usize) -> usize {
         .saturating_add(MORE)
 }
 
-// The command as a turn makes it: by its word, and an item waits in its lane, but where the turn has nothing else.
-#[inline(always)]
-fn made_for(is_free: bool, turn: Turn, command: &Command) -> Command
-    ensures { result ≡ made_for is_free turn command.now }
-{
-    let flags = if command.what == 3 && command.flags == 0 && !is_free {
-        8
-    } else {
-        command.flags
-    };
-    Command {
-        by: turn.by,
-        flags,
-        ..*command
-    }
-}
-
-// One of the words that the answer of the last accepted command names; none past the last.
-#[inline(always)]
-fn word_due(cellar: &Cellar, index: u64) -> Option<u64>
-    ensures { result ≡ slice_get (words_due cellar.now) index }
-{
-    let mut words = [0];
-    let mut count = 0;
-    let _done = cellar.rest(1, index, &mut words, &mut count);
-    if count == 0 { None } else { Some(words[0]) }
-}
-
-// The word of the lane whose item the engine handed out with its answer.
-#[inline(always)]
-fn lane_at_once(cellar: &Cellar, answer: &Answer) -> Option<u64>
-    ensures { result ≡ lane_at_once answer.now.handed (words_due cellar.now) }
-{
-    if answer.handed == 1 {
-        word_due(cellar, 0)
-    } else {
-        None
-    }
-}
-
 impl Turns {
     // Makes a lane due to a turn; where there is no memory for that, it is astray.
     pub(crate) fn claim(&mut self, turn: Turn, word: u64)
@@ -118,13 +81,13 @@ impl Turns {
         }
     }
 
-    // Makes the lanes due to a turn that the answer of the last accepted command names, of which there are so many.
-    fn claim_all(&mut self, turn: Turn, many: u64)
-        requires { many ≡ length (words_due self.old.cellar) }
+    // Makes the lanes due to a turn that the last accepted command's caller is to serve.
+    #[inline(always)]
+    fn claim_all(&mut self, turn: Turn)
         ensures { AreMadeDue turn (turn_state self.new) (words_due self.old.cellar) (turn_state self.old) }
     {
-        for index in 0..many {
-            match word_due(&self.cellar, index) {
+        for index in 0..self.cellar.due_count() {
+            match self.cellar.due_word(index) {
                 Some(word) => self.claim(turn, word),
                 None => return,
             }
@@ -133,18 +96,23 @@ impl Turns {
 
     // What comes of a command that was done; whether its item is in hand.
     #[inline(always)]
-    fn come(&mut self, turn: Turn, answer: &Answer) -> bool
-        requires line { HasLine turn self.old.agenda.rows.items }
-        requires many { answer.now.due ≡ length (words_due self.old.cellar) }
-        ensures { Comes turn (words_due self.old.cellar) answer.now (turn_state self.old) (turn_state self.new) result }
+    fn come(&mut self, on: OnLine, given: &Option<Effect>) -> bool
+        requires { IsOn on self.old.agenda.rows.items }
+        ensures { Comes on.turn (words_due self.old.cellar) given.now (turn_state self.old) (turn_state self.new) result }
     {
-        match lane_at_once(&self.cellar, answer) {
-            Some(word) => {
-                self.hand_out(turn, word, answer.effect);
-                true
-            }
+        match given {
+            Some(effect) => match self.cellar.due_word(0) {
+                Some(word) => {
+                    self.hand_out(on, word, *effect);
+                    true
+                }
+                None => {
+                    self.claim_all(on.turn);
+                    false
+                }
+            },
             None => {
-                self.claim_all(turn, answer.due);
+                self.claim_all(on.turn);
                 false
             }
         }
@@ -152,43 +120,42 @@ impl Turns {
 
     // Has what comes of a command that was done.
     #[inline(always)]
-    fn come_if(&mut self, is_done: bool, turn: Turn, answer: &Answer) -> bool
-        requires line { HasLine turn self.old.agenda.rows.items }
-        requires many { is_done ≡ true → answer.now.due ≡ length (words_due self.old.cellar) }
-        ensures { ComesIf is_done turn (words_due self.old.cellar) answer.now (turn_state self.old)
+    fn come_if(&mut self, is_done: bool, on: OnLine, given: &Option<Effect>) -> bool
+        requires { IsOn on self.old.agenda.rows.items }
+        ensures { ComesIf is_done on.turn (words_due self.old.cellar) given.now (turn_state self.old)
             (turn_state self.new) result }
     {
-        if is_done {
-            self.come(turn, answer)
-        } else {
-            false
-        }
+        if is_done { self.come(on, given) } else { false }
     }
 
     // Makes a command in a turn that has a line.
     #[inline(always)]
-    fn make_by(&mut self, turn: Turn, is_free: bool, command: &Command, answer: &mut Answer) -> Done
-        requires { HasLine turn self.old.agenda.rows.items }
-        ensures { IsMadeBy ⟦<Token as Resource>⟧ turn is_free command.now (turn_state self.old) (turn_state self.new)
+    fn make_by(&mut self, on: OnLine, is_free: bool, command: &Command, answer: &mut Answer) -> Done
+        requires { IsOn on self.old.agenda.rows.items }
+        ensures { IsMadeBy ⟦<Token as Resource>⟧ on.turn is_free command.now (turn_state self.old) (turn_state self.new)
             answer.old answer.new result.status result.is_own }
     {
         self.cellar.promise();
-        let asked = made_for(is_free, turn, command);
-        let status = self.cellar.make(&asked, answer);
-        let is_own = self.come_if(status == 0, turn, answer);
-        Done { status, is_own }
+        let mut given = None;
+        let status = self
+            .cellar
+            .make(command, on.turn.by, !is_free, answer, &mut given);
+        let is_own = self.come_if(status == 0, on, &given);
+        Done {
+            status,
+            is_own,
+            line: on.line,
+        }
     }
 
     // Has what comes of a command that hands nothing out.
     #[cold]
     #[inline(never)]
-    fn come_bare(&mut self, is_done: bool, turn: Turn, answer: &Answer)
-        requires many { is_done ≡ true → answer.now.due ≡ length (words_due self.old.cellar) }
-        requires none { lane_at_once answer.now.handed (words_due self.old.cellar) ≡ None }
-        ensures { ComesIf is_done turn (words_due self.old.cellar) answer.now (turn_state self.old) (turn_state self.new) false }
+    fn come_bare(&mut self, is_done: bool, turn: Turn)
+        ensures { ComesIf is_done turn (words_due self.old.cellar) None (turn_state self.old) (turn_state self.new) false }
     {
         if is_done {
-            self.claim_all(turn, answer.due);
+            self.claim_all(turn);
         }
     }
 
@@ -201,9 +168,11 @@ impl Turns {
             answer.old answer.new result false }
     {
         self.cellar.promise();
-        let asked = made_for(true, turn, command);
-        let status = self.cellar.make(&asked, answer);
-        self.come_bare(status == 0, turn, answer);
+        let mut given = None;
+        let status = self
+            .cellar
+            .make(command, turn.by, false, answer, &mut given);
+        self.come_bare(status == 0, turn);
         status
     }
 
@@ -218,6 +187,18 @@ impl Turns {
             self.spare -= 1;
             return true;
         }
+        self.make_more_room()
+    }
+
+    // Counts how many lanes there may be, and lets these be due.
+    #[cold]
+    #[inline(never)]
+    fn make_more_room(&mut self) -> bool
+        ensures kept { LosesNothing (turn_state self.old).agenda (turn_state self.new).agenda }
+        ensures only { turn_state self.new ≡ record (turn_state self.old) { agenda = (turn_state self.new).agenda } }
+        ensures lines { self.new.agenda.rows ≡ self.old.agenda.rows }
+        ensures none { result ≡ false → (many : ℕ) × (many ≤ lanes_fit (turn_state self.old).agenda → ⊥) }
+    {
         let many = lanes_wanted(&self.cellar, self.agenda.turns());
         if self.agenda.widen(many.saturating_add(many)).is_err() {
             return false;
@@ -227,27 +208,24 @@ impl Turns {
     }
 
     // Makes a command in a turn that has a line, where there is room for the lanes that it may open.
-    fn make_there(
-        &mut self,
-        turn: Turn,
-        is_free: bool,
-        command: &Command,
-        answer: &mut Answer,
-    ) -> Done
-        requires { HasLine turn self.old.agenda.rows.items }
-        ensures { MakesOnLine ⟦<Token as Resource>⟧ turn is_free command.now (turn_state self.old) (turn_state self.new)
-            answer.old answer.new result.status result.is_own }
+    #[inline(always)]
+    fn make_there(&mut self, on: OnLine, command: &Command, answer: &mut Answer) -> Done
+        requires { IsOn on self.old.agenda.rows.items }
+        ensures { MakesOnLine ⟦<Token as Resource>⟧ on.turn (has_nothing (turn_state self.old).agenda on.turn) command.now
+            (turn_state self.old) (turn_state self.new) answer.old answer.new result.status result.is_own }
     {
+        let is_free = self.agenda.is_free(on);
         if !opens_lanes(command.what) {
-            return self.make_by(turn, is_free, command, answer);
+            return self.make_by(on, is_free, command, answer);
         }
         if self.make_room() {
-            return self.make_by(turn, is_free, command, answer);
+            return self.make_by(on, is_free, command, answer);
         }
         answer.clear();
         Done {
             status: NO_MEMORY,
             is_own: false,
+            line: on.line,
         }
     }
 
@@ -257,20 +235,21 @@ impl Turns {
         ensures { MakesIn ⟦<Token as Resource>⟧ turn command.now (turn_state self.old) (turn_state self.new)
             answer.old answer.new result.status result.is_own }
     {
-        let is_free = self.agenda.is_free(turn);
         match self.agenda.admit(turn) {
-            Ok(()) => self.make_there(turn, is_free, command, answer),
+            Ok(line) => self.make_there(OnLine { turn, line }, command, answer),
             Err(_) => {
                 if may_ask(command.what) {
                     answer.clear();
                     return Done {
                         status: NO_MEMORY,
                         is_own: false,
+                        line: 0,
                     };
                 }
                 Done {
                     status: self.make_bare(turn, command, answer),
                     is_own: false,
+                    line: 0,
                 }
             }
         }

@@ -1,16 +1,14 @@
 //! An engine, and beside it what is due to whom.
 
 ghost use Rattle.std.specs.Prelude.{◌≡◌, [], Some, None};
-ghost use Rattle.rx_cellar.specs.Crossings.{no_answer};
 ghost use Rattle.rx_cellar.specs.Beginnings.{limit_of, first_until, IsFresh};
-ghost use Rattle.rx_turns.specs.Calls.{made_step, bare_step, IsTurnStep, IsTurnPass, IsTurnStop};
+ghost use Rattle.rx_turns.specs.Calls.{IsTurnTold, IsTurnPass, IsTurnStop};
 ghost use Rattle.rx_turns.specs.Agendas.{IsDueOnce};
 ghost use Rattle.rx_turns.specs.Seen.{seen};
 ghost use Rattle.rx_turns.specs.States.{turn_state};
 
-use crate::agenda::{Agenda, Task, Turn};
+use crate::agenda::{Agenda, Turn};
 use crate::ending::{at_depth, owner};
-use crate::making::Done;
 use rx_book::Resource;
 use rx_cellar::{Answer, Cellar, Command};
 use rx_resource::Token;
@@ -62,30 +60,28 @@ impl Turns {
     /// be done next in this turn, whatever the status: what was handed out and not begun, once more; then the rest of the
     /// lane that it serves; then what each lane has that is due to it, in order; then the same for each deeper call of this
     /// stack; and at depth 1 then what calls that were stopped have left.
-    pub fn step(
-        &mut self,
-        turn: Turn,
-        begun: u64,
-        command: &Command,
-        answer: &mut Answer,
-        handed: &mut Option<Task>,
-    ) -> Done
-        ensures { IsTurnStep ⟦<Token as Resource>⟧ turn begun (Some command.now) (turn_state self.old) (turn_state self.new)
-            answer.old answer.new (made_step result handed.new) }
+    #[inline(always)]
+    pub fn step(&mut self, turn: Turn, begun: u64, command: &Command, answer: &mut Answer) -> u8
+        ensures { IsTurnTold ⟦<Token as Resource>⟧ turn begun (Some command.now) (turn_state self.old) (turn_state self.new)
+            answer.old answer.new result }
     {
         self.agenda.mark(turn.by, begun);
         let done = self.make(turn, command, answer);
-        self.go_on(turn, handed);
-        done
+        let found = self.go_on(turn, done.line);
+        self.agenda.tell(found, done.is_own, answer);
+        done.status
     }
 
     /// The same without a command.
-    pub fn next(&mut self, turn: Turn, begun: u64, handed: &mut Option<Task>)
-        ensures { (a : _) → IsTurnStep ⟦<Token as Resource>⟧ turn begun None (turn_state self.old) (turn_state self.new)
-            a (no_answer a) (bare_step handed.new) }
+    #[inline(always)]
+    pub fn next(&mut self, turn: Turn, begun: u64, answer: &mut Answer)
+        ensures { IsTurnTold ⟦<Token as Resource>⟧ turn begun None (turn_state self.old) (turn_state self.new)
+            answer.old answer.new 0 }
     {
+        answer.clear();
         self.agenda.mark(turn.by, begun);
-        self.go_on(turn, handed);
+        let found = self.go_on(turn, 0);
+        self.agenda.tell(found, false, answer);
     }
 
     /// From within an effect: what the call of this depth further out is doing counts as told, and its lane is free. With

@@ -1,10 +1,10 @@
 //! An engine behind a handle, driven by tables of commands.
 
 use crate::{
-    CellarHandle, Stack, Stepped, cellar_drop, cellar_finish, cellar_new, cellar_next, cellar_step,
+    CellarHandle, Stack, cellar_drop, cellar_finish, cellar_new, cellar_next, cellar_step,
     cellar_totals,
 };
-use rx_cellar::{Command, Effect, NumberedKey, Totals, no_node, no_totals};
+use rx_cellar::{Answer, Command, Effect, NumberedKey, Totals, no_node, no_totals};
 use std::alloc::{AllocError, Global};
 
 // The numbers of the header.
@@ -110,8 +110,8 @@ pub(super) fn no_effect() -> Effect {
     }
 }
 
-fn nothing_stepped() -> Stepped {
-    Stepped {
+fn nothing_stepped() -> Answer {
+    Answer {
         node: no_node(),
         other: no_node(),
         is_connected: 0,
@@ -133,7 +133,7 @@ pub(super) struct Bench {
     pub(super) alloc: Global,
     pub(super) handle: CellarHandle,
     pub(super) stack: Stack,
-    pub(super) step: Stepped,
+    pub(super) step: Answer,
     pub(super) keys: Vec<NumberedKey>,
 }
 

@@ -18,7 +18,7 @@ returns-then-not-has_no_flags c =
     let not_plain : c.has_no_flags.result ≡ false = search rules in
     let is = disposal_asked command c.requires
     ∙ ap (λ (b : Bool). if b then Some (Dispose (key_of command.node)) else None) (sym c.has_no_flags.ensures ∙ not_plain) in
-    unknown_once ghosts (asked_of command) command.by c.args.self.now (no_answer c.args.answer.now) c.refuse_unknown.new.answer c.refuse_unknown.result is
+    unknown_once ghosts (asked_of command) c.args.by c.args.self.now (no_answer c.args.answer.now) c.refuse_unknown.new.answer c.refuse_unknown.result is
     c.refuse_unknown.ensures.answer c.refuse_unknown.ensures.status
 
 pub returns : goal.returns
@@ -29,6 +29,6 @@ returns c =
     let is = disposal_asked command c.requires
     ∙ ap (λ (b : Bool). if b then Some (Dispose (key_of command.node)) else None) (sym c.has_no_flags.ensures ∙ plain)
     ∙ ap (λ (k : Key). Some (Dispose k)) (sym c.key_of-root.ensures) in
-    answered_once ghosts (asked_of command) (Dispose c.key_of-root.result) command.by c.args.self.now c.dispose-tried.new.self
+    answered_once ghosts (asked_of command) (Dispose c.key_of-root.result) c.args.by c.args.self.now c.dispose-tried.new.self
     (shown (of_nothing {A = Unit}) c.dispose-tried.result) (no_answer c.args.answer.now) c.answer_done.new.answer c.answer_done.result is (ap asks_item is)
     (record { engine_answer = c.dispose-tried.result; made_so = c.dispose-tried.ensures; is_shown = refl }) c.answer_done.ensures

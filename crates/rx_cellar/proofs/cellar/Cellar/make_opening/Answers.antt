@@ -8,6 +8,6 @@ use Rattle.rx_cellar.proofs.cellar.Cellar.make_opening.Goals as goal
 
 pub returns-in-None : goal.returns-in-None
 returns-in-None c =
-    unknown_once ghosts (asked_of c.args.command.now) c.args.command.now.by c.args.self.now (no_answer c.args.answer.now) c.refuse_unknown.new.answer
+    unknown_once ghosts (asked_of c.args.command.now) c.args.by c.args.self.now (no_answer c.args.answer.now) c.refuse_unknown.new.answer
     c.refuse_unknown.result (none_opened c.args.command.now c.requires (sym c.opened_as.ensures ∙ c.in-None.is)) c.refuse_unknown.ensures.answer
     c.refuse_unknown.ensures.status

@@ -13,7 +13,7 @@ pub returns-in-Ok : goal.returns-in-Ok
 returns-in-Ok c =
     let a = no_answer c.args.answer.now in
     let e = c.perform.new.engine in
-    answered_once ghosts (asked_of c.args.command.now) c.in-Some.asked c.args.command.now.by c.args.self.now e c.perform.result a c.tell.new.answer 0
+    answered_once ghosts (asked_of c.args.command.now) c.in-Some.asked c.args.by c.args.self.now e c.perform.result a c.tell.new.answer 0
     (sym c.asked_of.ensures ∙ c.in-Some.is) c.requires.plain c.perform.ensures
     (made_told c.perform.result c.in-Ok.made e a c.tell.new.answer 0 c.in-Ok.is c.tell.ensures refl)
 
@@ -21,11 +21,11 @@ pub returns-in-Err : goal.returns-in-Err
 returns-in-Err c =
     let a = no_answer c.args.answer.now in
     let e = c.perform.new.engine in
-    answered_once ghosts (asked_of c.args.command.now) c.in-Some.asked c.args.command.now.by c.args.self.now e c.perform.result a
+    answered_once ghosts (asked_of c.args.command.now) c.in-Some.asked c.args.by c.args.self.now e c.perform.result a
     c.refuse.new.answer c.refuse.result (sym c.asked_of.ensures ∙ c.in-Some.is) c.requires.plain c.perform.ensures
     (refusal_told c.perform.result c.in-Err.why e a c.refuse.new.answer c.refuse.result c.in-Err.is c.refuse.ensures.answer c.refuse.ensures.status)
 
 pub returns-in_default : goal.returns-in_default
 returns-in_default c =
-    unknown_once ghosts (asked_of c.args.command.now) c.args.command.now.by c.args.self.now (no_answer c.args.answer.now) c.refuse_unknown.new.answer
+    unknown_once ghosts (asked_of c.args.command.now) c.args.by c.args.self.now (no_answer c.args.answer.now) c.refuse_unknown.new.answer
     c.refuse_unknown.result (sym c.asked_of.ensures ∙ c.in_default.is) c.refuse_unknown.ensures.answer c.refuse_unknown.ensures.status

@@ -26,11 +26,11 @@ returns-in-Ok c =
     let made : Made = record c.nothing_made.result { node = c.node_of.result; other = other } in
     let made_is = ap (λ (m : Made). record m { node = c.node_of.result; other = other }) c.nothing_made.ensures
     ∙ ap (λ (n : NumberedKey). record nothing_made { node = n; other = other }) c.node_of.ensures in
-    answered_once ghosts (asked_of command) (Using o.at o.user command.value) command.by c.args.self.now e
+    answered_once ghosts (asked_of command) (Using o.at o.user command.value) c.args.by c.args.self.now e
     (shown of_used c.using.result) a c.tell.new.answer 0 is (ap asks_item is)
     (record {
       engine_answer = c.using.result;
-      made_so = subst (λ (k : Kind). IsUsingMade ghosts o.at k o.user command.value command.by c.args.self.now.engine e c.using.result)
+      made_so = subst (λ (k : Kind). IsUsingMade ghosts o.at k o.user command.value c.args.by c.args.self.now.engine e c.using.result)
           c.kind_of-kind.ensures.kind c.using.ensures;
       is_shown = refl;
     })
@@ -44,11 +44,11 @@ returns-in-Err c =
     let a = no_answer c.args.answer.now in
     let is = using_asked command c.requires
     ∙ ap (λ (x : Option Opening). option_map (λ (o : Opening). Using o.at o.user command.value) x) (sym c.opening_in.ensures ∙ c.in-Some.is) in
-    answered_once ghosts (asked_of command) (Using o.at o.user command.value) command.by c.args.self.now e
+    answered_once ghosts (asked_of command) (Using o.at o.user command.value) c.args.by c.args.self.now e
     (shown of_used c.using.result) a c.refuse.new.answer c.refuse.result is (ap asks_item is)
     (record {
       engine_answer = c.using.result;
-      made_so = subst (λ (k : Kind). IsUsingMade ghosts o.at k o.user command.value command.by c.args.self.now.engine e c.using.result)
+      made_so = subst (λ (k : Kind). IsUsingMade ghosts o.at k o.user command.value c.args.by c.args.self.now.engine e c.using.result)
           c.kind_of-kind.ensures.kind c.using.ensures;
       is_shown = refl;
     })
@@ -59,5 +59,5 @@ returns-in_default c =
     let command = c.args.command.now in
     let is = using_asked command c.requires
     ∙ ap (λ (x : Option Opening). option_map (λ (o : Opening). Using o.at o.user command.value) x) (sym c.opening_in.ensures ∙ c.in_default.is) in
-    unknown_once ghosts (asked_of command) command.by c.args.self.now (no_answer c.args.answer.now) c.refuse_unknown.new.answer c.refuse_unknown.result is
+    unknown_once ghosts (asked_of command) c.args.by c.args.self.now (no_answer c.args.answer.now) c.refuse_unknown.new.answer c.refuse_unknown.result is
     c.refuse_unknown.ensures.answer c.refuse_unknown.ensures.status

@@ -26,11 +26,11 @@ returns-in-Ok c =
     let made : Made = record c.nothing_made.result { node = c.node_of.result } in
     let made_is = ap (λ (m : Made). record m { node = c.node_of.result }) c.nothing_made.ensures
     ∙ ap (λ (n : NumberedKey). record nothing_made { node = n }) c.node_of.ensures in
-    answered_once ghosts (asked_of command) (Open o.at kind o.user) command.by c.args.self.now e
+    answered_once ghosts (asked_of command) (Open o.at kind o.user) c.args.by c.args.self.now e
     (shown of_node c.open.result) a c.tell.new.answer 0 is (ap asks_item is)
     (record {
       engine_answer = c.open.result;
-      made_so = subst (λ (k : Kind). IsOpenMade ghosts o.at k o.user command.by c.args.self.now.engine e c.open.result)
+      made_so = subst (λ (k : Kind). IsOpenMade ghosts o.at k o.user c.args.by c.args.self.now.engine e c.open.result)
           c.kind_of.ensures.kind c.open.ensures;
       is_shown = refl;
     })
@@ -45,11 +45,11 @@ returns-in-Err c =
     let a = no_answer c.args.answer.now in
     let is = own_asked command kind c.requires.what c.requires.kind
     ∙ ap (λ (x : Option Opening). option_map (λ (o : Opening). Open o.at kind o.user) x) (sym c.opening_in.ensures ∙ c.in-Some.is) in
-    answered_once ghosts (asked_of command) (Open o.at kind o.user) command.by c.args.self.now e
+    answered_once ghosts (asked_of command) (Open o.at kind o.user) c.args.by c.args.self.now e
     (shown of_node c.open.result) a c.refuse.new.answer c.refuse.result is (ap asks_item is)
     (record {
       engine_answer = c.open.result;
-      made_so = subst (λ (k : Kind). IsOpenMade ghosts o.at k o.user command.by c.args.self.now.engine e c.open.result)
+      made_so = subst (λ (k : Kind). IsOpenMade ghosts o.at k o.user c.args.by c.args.self.now.engine e c.open.result)
           c.kind_of.ensures.kind c.open.ensures;
       is_shown = refl;
     })
@@ -61,5 +61,5 @@ returns-in_default c =
     let kind = c.args.kind in
     let is = own_asked command kind c.requires.what c.requires.kind
     ∙ ap (λ (x : Option Opening). option_map (λ (o : Opening). Open o.at kind o.user) x) (sym c.opening_in.ensures ∙ c.in_default.is) in
-    unknown_once ghosts (asked_of command) command.by c.args.self.now (no_answer c.args.answer.now) c.refuse_unknown.new.answer c.refuse_unknown.result is
+    unknown_once ghosts (asked_of command) c.args.by c.args.self.now (no_answer c.args.answer.now) c.refuse_unknown.new.answer c.refuse_unknown.result is
     c.refuse_unknown.ensures.answer c.refuse_unknown.ensures.status

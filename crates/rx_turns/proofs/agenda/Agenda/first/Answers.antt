@@ -1,4 +1,3 @@
-use Rattle.std.proofs.Common.{rules}
 use Rattle.rx_turns.proofs.Firsts.{first_below, first_line}
 use Rattle.rx_turns.proofs.agenda.Agenda.first.Goals as goal
 
@@ -7,5 +6,4 @@ returns-clause-place c = first_below c.first.result c.args.self.now.lists _ c.pr
 
 pub returns-clause-line : goal.returns-clause-line
 returns-clause-line c =
-    first_line c.first.result c.args.self.now.lists c.args.self.now.rows.items c.own_line.result c.args.turn c.args.self.now.tied.listed
-    (search rules) c.first.ensures
+    first_line c.first.result c.args.self.now.lists c.args.self.now.rows.items c.args.on c.args.self.now.tied.listed c.requires c.first.ensures

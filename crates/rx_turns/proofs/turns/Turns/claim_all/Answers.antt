@@ -2,7 +2,8 @@ use Rattle.std.proofs.Common.{◌≡◌, ℕ, List, Some, arith, refl, ap, sym, 
 use Rattle.std.proofs.lemmas.List.{drop_all}
 use Rattle.rx_cellar.specs.declared.cellar.Cellar.{Cellar}
 use Rattle.rx_turns.specs.States.{turn_state}
-use Rattle.rx_turns.specs.Making.{words_due, AreMadeDue, all_claimed}
+use Rattle.rx_cellar.specs.Serving.{words_due}
+use Rattle.rx_turns.specs.Making.{AreMadeDue, all_claimed}
 use Rattle.rx_turns.proofs.WordsClaimed.{claims_next, none_there, claimed_cellar}
 use Rattle.rx_turns.proofs.turns.Turns.claim_all.Goals as goal
 
@@ -25,14 +26,14 @@ returns-in-None c =
     let words = words_due c.args.self.now.cellar in
     let none : None ≡ slice_get words c.loop-index.index =
     c.in-None.ensures ∙ ap (λ (s : Cellar). slice_get (words_due s) c.loop-index.index) c.loop-index.invariant.0 in
-    let many = c.requires in
+    let many = c.due_count-index-end.ensures in
     let test = c.loop-index-test.true in
     absurd (none_there words c.loop-index.index none (omega (arith, many, test)))
 
 pub returns : goal.returns
 returns c =
     let words = words_due c.args.self.now.cellar in
-    let many = c.requires in
+    let many = c.due_count-index-end.ensures in
     let test = c.loop-index-test.false in
     let all = drop_all c.loop-index.index words (omega (arith, many, test)) in
     c.loop-index.invariant.1 _ (subst (λ (ws : List ℕ). AreMadeDue c.args.turn (turn_state c.loop-index.self) ws (turn_state c.loop-index.self))

@@ -1,6 +1,7 @@
 use Rattle.std.proofs.Common.{◌≡◌, drop}
 use Rattle.rx_turns.specs.States.{TurnState, turn_state}
-use Rattle.rx_turns.specs.Making.{words_due, AreMadeDue}
+use Rattle.rx_cellar.specs.Serving.{words_due}
+use Rattle.rx_turns.specs.Making.{AreMadeDue}
 use Rattle.rx_turns.proofs.turns.Turns.claim_all.Given as goal
 
 -- whatever claims all from here on claims all

@@ -11,7 +11,7 @@ inside word far = ap not (le-ltb word 9223372036854775808 far)
 pub returns-then-handed : goal.returns-then-handed
 returns-then-handed c =
     lets_inner_go c.args.handed c.requires.hand (inside c.args.handed.word c.if-handed-lt-INSIDE.false) c.if-handed.true
-    (record { holds = c.hold.ensures.holds; only = refl })
+    (record { holds = c.drop_hand.ensures.holds; only = refl })
 
 pub returns : goal.returns
 returns c = stays_in_hand c.args.handed c.requires.hand (inside c.args.handed.word c.if-handed-lt-INSIDE.false) c.if-handed.false refl

@@ -1,4 +1,4 @@
-use Rattle.std.proofs.Common.{◌≡◌, Option, None, ◌-◌}
+use Rattle.std.proofs.Common.{Option, ◌-◌}
 use Rattle.rx_turns.specs.declared.agenda.Task.{Task}
 use Rattle.rx_turns.specs.Agendas.{HasNothing}
 use Rattle.rx_turns.specs.States.{TurnState, turn_state}
@@ -8,7 +8,6 @@ use Rattle.rx_turns.proofs.turns.Turns.serve_deeper.Given as goal
 
 abbrev pub invariant-loop-inner : goal.invariant-loop-inner
 invariant-loop-inner l = IsPassed HasNothing l.fn.turn l.last (turn_state l.self).agenda
-    × (l.handed ≡ None)
     × ((b : TurnState) (answer : Option Task) → ServesDeeper l.fn.turn b (turn_state l.self) answer → ServesDeeper l.fn.turn b (turn_state l.fn.self) answer)
 
 abbrev pub decreases-loop-inner : goal.decreases-loop-inner

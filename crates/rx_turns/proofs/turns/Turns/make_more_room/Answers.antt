@@ -1,7 +1,7 @@
 use Rattle.std.proofs.Common.{sym, ap, ◌∙◌}
 use Rattle.std.proofs.Math.Bool.{not}
 use Rattle.std.proofs.lemmas.Bool.{false≢true}
-use Rattle.rx_turns.proofs.turns.Turns.make_room.Goals as goal
+use Rattle.rx_turns.proofs.turns.Turns.make_more_room.Goals as goal
 
 pub returns-then-is_err-clause-none : goal.returns-then-is_err-clause-none
 returns-then-is_err-clause-none c = λ refused. (
