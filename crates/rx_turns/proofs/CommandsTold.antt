@@ -1,5 +1,5 @@
 -- What is seen of a command of numbers.
-use Rattle.std.proofs.Common.{◌≡◌, ℕ, ◌==◌, Bool, true, false, List, [], ◌++◌, Option, Some, None, Ok, Err, refl, sym, ap, subst, ◌∙◌}
+use Rattle.std.proofs.Common.{◌≡◌, ℕ, ◌==◌, Bool, false, List, [], ◌++◌, Option, Some, None, Ok, Err, refl, sym, ap, subst, ◌∙◌}
 use Rattle.std.proofs.Common.{if◌then◌else◌}
 use Rattle.std.proofs.lemmas.Bool.{false≢true}
 use Rattle.std.specs.Prelude.{option_map}
@@ -18,7 +18,7 @@ use Rattle.rx_cellar.specs.declared.asked.Asked.{Asked}
 use Rattle.rx_cellar.specs.declared.cellar.Cellar.{Cellar}
 use Rattle.rx_cellar.specs.declared.asked.Asked.TheVariants.{Next}
 use Rattle.rx_cellar.specs.Asking.{asked_as}
-use Rattle.rx_cellar.specs.Cellars.{is_due, IsAskedMade, is_done, is_refused as is_not_done, IsMadeIf, IsCommandMade}
+use Rattle.rx_cellar.specs.Cellars.{is_due, IsAskedMade, is_done, is_refused as is_not_done, IsCommandMade}
 use Rattle.rx_cellar.specs.Crossings.{effect_of, no_answer}
 use Rattle.rx_turns.specs.Courses.{Seen, IsEngineCourse, tag_asked}
 use Rattle.rx_turns.proofs.CoursesTold.{unchanged, and_then}

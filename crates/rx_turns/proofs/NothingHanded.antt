@@ -17,7 +17,7 @@ use Rattle.rx_cellar.specs.Crossings.{effect_of, no_answer}
 use Rattle.rx_cellar.proofs.ItemsAsked.{other_asks, other_as}
 use Rattle.rx_cellar.specs.Makings.{Outcome, of_made, shown, ComesToIf}
 use Rattle.rx_cellar.specs.Cellars.{IsTried, at_once, once_more, IsTriedAgain, behind_one, behind_none, IsAskedMade, is_done, is_refused}
-use Rattle.rx_cellar.specs.Cellars.{IsMadeIf, IsCommandMade}
+use Rattle.rx_cellar.specs.Cellars.{IsCommandMade}
 use Rattle.rx_turns.specs.Making.{may_ask}
 use Rattle.std.specs.Prelude.{option_map}
 

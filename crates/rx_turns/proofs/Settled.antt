@@ -5,7 +5,6 @@ use Rattle.std.proofs.Math.Bool.{not}
 use Rattle.std.proofs.lemmas.List.{get_or-set_same, get_or-set_other}
 use Rattle.std.proofs.lemmas.Bool.{cases_eq, eqb-true}
 use Rattle.rx_turns.specs.declared.agenda.Task.{Task}
-use Rattle.rx_turns.specs.declared.agenda.Turn.{Turn}
 use Rattle.rx_turns.specs.declared.agenda.Row.{Row}
 use Rattle.rx_turns.specs.Rows.{is_by, begun_by, with_begun, is_fresh, is_fresh_hand, blank, row_on, AreSettled, settled_behind}
 use Rattle.rx_turns.proofs.Held.{with_hand}

@@ -1,5 +1,4 @@
-use Rattle.std.proofs.Common.{◌≡◌, ◌<◌, ◌≤◌, ◌-◌, ℕ, length, true, sym, ap, ◌∙◌, arith, refl}
-use Rattle.rx_turns.specs.Rows.{is_of, row_on}
+use Rattle.std.proofs.Common.{◌-◌, sym, ◌∙◌, arith}
 use Rattle.rx_turns.proofs.Lines.{line_is, line_none, lower_line}
 use Rattle.rx_turns.proofs.agenda.own_line.Goals as goal
 

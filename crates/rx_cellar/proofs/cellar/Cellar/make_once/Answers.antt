@@ -1,4 +1,4 @@
-use Rattle.std.proofs.Common.{rules, ◌≡◌, true, false, None, refl, sym, ap, ◌∙◌, subst}
+use Rattle.std.proofs.Common.{true, false, None, sym, ap, ◌∙◌, subst}
 use Rattle.std.proofs.Math.Bool.{not}
 use Rattle.rx_resource.specs.contracts.token.TokenResource.TheImpl.{ghosts}
 use Rattle.rx_cellar.specs.Asking.{asked_of, asked_as, asked_for, queued_for}

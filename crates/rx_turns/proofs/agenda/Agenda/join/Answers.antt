@@ -1,4 +1,4 @@
-use Rattle.std.proofs.Common.{◌≡◌, arith, ◌∙◌, ap}
+use Rattle.std.proofs.Common.{arith, ◌∙◌, ap}
 use Rattle.rx_slots.specs.Lists.{list_at, is_in}
 use Rattle.rx_turns.proofs.Claimed.{claimed, take_out-gone}
 use Rattle.rx_turns.proofs.agenda.Agenda.join.Goals as goal

@@ -1,6 +1,6 @@
-use Rattle.std.proofs.Common.{refl, ap, ◌∙◌}
+use Rattle.std.proofs.Common.{refl}
 use Rattle.rx_turns.specs.States.{turn_state}
-use Rattle.rx_turns.specs.Serving.{new_hand, AsksLane, gives_one, gives_none}
+use Rattle.rx_turns.specs.Serving.{new_hand, gives_one, gives_none}
 use Rattle.rx_turns.specs.Finding.{found_one, found_none}
 use Rattle.rx_turns.proofs.Held.{hand_held}
 use Rattle.rx_turns.proofs.turns.Turns.ask.Goals as goal

@@ -1,4 +1,4 @@
-use Rattle.std.proofs.Common.{◌≡◌, Option, ◌==◌, false, sym, subst}
+use Rattle.std.proofs.Common.{Option, ◌==◌, false, sym, subst}
 use Rattle.rx_cellar.specs.declared.shapes.Effect.{Effect}
 use Rattle.rx_cellar.specs.Asking.{asked_of, asked_as}
 use Rattle.rx_cellar.specs.Serving.{words_due}

@@ -1,7 +1,6 @@
-use Rattle.std.proofs.Common.{◌≡◌, true, rules, refl, Bool, subst}
-use Rattle.rx_turns.specs.Rows.{IsOn}
+use Rattle.std.proofs.Common.{◌≡◌, true, rules, refl}
 use Rattle.rx_turns.specs.States.{turn_state}
-use Rattle.rx_turns.specs.Making.{opens_lanes, makes_there, finds_no_room, IsMadeBy}
+use Rattle.rx_turns.specs.Making.{opens_lanes, makes_there, finds_no_room}
 use Rattle.rx_turns.proofs.Claimed.{loses_none}
 use Rattle.rx_turns.proofs.turns.Turns.make_there.Goals as goal
 
