@@ -20,11 +20,11 @@ pub use Rattle.rx_event.proofs.Laws.Stands.{event_at}
 pub use Rattle.rx_event.specs.declared.event.Event.{Event}
 pub use Rattle.rx_event.specs.declared.event.Event.TheVariants.{Accept, Lease, End}
 pub use Rattle.rx_picture.specs.Choice.{marked, count_below, AreMarksByTest, bit, leads, follows, is_chosen}
-pub use Rattle.rx_picture.specs.Drawn.{leads_lanes, is_shown, is_rowed_by, is_rowed, is_placed, AreColumns, IsDrawing}
+pub use Rattle.rx_picture.specs.Drawn.{leads_tracks, is_shown, is_rowed_by, is_rowed, is_placed, AreColumns, IsDrawing}
 pub use Rattle.rx_picture.specs.Levels.{AreLevels}
 pub use Rattle.rx_picture.specs.Rows.{is_left_behind, is_drawn, IsShape, AreRowsShown, leaks, IsRowMade, has_row, Spans}
 pub use Rattle.rx_picture.specs.Tables.{AreTurns, has_taken, AreLines, TurnsAt, has_returned, was_shut, has_removed, has_number, AreInners, noted}
-pub use Rattle.rx_picture.specs.Told.{marbles, told_in_lane}
+pub use Rattle.rx_picture.specs.Told.{marbles, told_in_track}
 pub use Rattle.rx_picture.specs.declared.drawing.Drawing.{Drawing}
 pub use Rattle.rx_picture.specs.declared.row.Row.{Row}
 pub use Rattle.rx_picture.specs.declared.row.Shape.{Shape}

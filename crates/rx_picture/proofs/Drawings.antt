@@ -1,6 +1,6 @@
 -- The drawing, by the marks of what is shown.
 use Rattle.rx_picture.proofs.Common.{◌≡◌, ℕ, Bool, true, List, length, filter, replicate, ap, ◌∙◌, nat_lt, Event, at, places, Drawing, count_below, marked}
-use Rattle.rx_picture.proofs.Common.{AreMarksByTest, AreLevels, AreRowsShown, is_drawn, leaks, leads_lanes, marbles, is_shown, is_placed, is_rowed}
+use Rattle.rx_picture.proofs.Common.{AreMarksByTest, AreLevels, AreRowsShown, is_drawn, leaks, leads_tracks, marbles, is_shown, is_placed, is_rowed}
 use Rattle.rx_picture.proofs.Common.{is_rowed_by, AreColumns}
 use Rattle.rx_picture.proofs.Common.{IsDrawing}
 use Rattle.rx_picture.specs.Told.{ArePoints}
@@ -30,7 +30,7 @@ pub record IsDrawnByMarks (h : List Event) (drawn shown placed rowed : List Bool
   pub leaking : d.leaks.items ≡ filter (leaks h) (places h)
   pub marbles : d.marbles.items ≡ marbles (marked shown) (marked placed) h
   pub points : ArePoints h (marked placed) d.points.items
-  pub lanes : AreColumns (marked shown) (length shown) d.lanes.items
+  pub tracks : AreColumns (marked shown) (length shown) d.tracks.items
   pub columns : AreColumns (marked placed) (length placed) d.columns.items
   pub levels : AreLevels h (length h) d.levels.items
 
@@ -44,9 +44,9 @@ drawing_is {h} {d} {drawn} {shown} {placed} {rowed} marks by = record {
   marbles = by.marbles
       ∙ (λ i. marbles (λ n. shown_anywhere h shown marks.of_shown n i) (λ n. placed_anywhere h placed marks.of_placed n i) h);
   points = points_same h d placed marks.of_placed by.points;
-  lanes = columns_same shown (length h) (is_shown h) d.lanes.items marks.of_shown by.lanes;
+  tracks = columns_same shown (length h) (is_shown h) d.tracks.items marks.of_shown by.tracks;
   columns = columns_same placed (length h) (is_placed h) d.columns.items marks.of_placed by.columns;
   levels = by.levels;
-  few_lanes = few_chosen (leads_lanes h) (at is_drawn h) 200 (length h);
+  few_tracks = few_chosen (leads_tracks h) (at is_drawn h) 200 (length h);
   few_places = few_chosen (is_shown h) (λ n. nat_lt n (length h)) 2000 (length h);
 }

@@ -4,7 +4,7 @@ use Rattle.rx_picture.proofs.Common.{None, refl, sym, ap, ◌∙◌, arith, nat_
 use Rattle.rx_picture.proofs.Common.{and_left, length_push, length-replicate, get_or-replicate, Event, at, Row, bit, count_below, is_chosen}
 use Rattle.rx_picture.proofs.Common.{marked, AreMarksByTest, AreRowsShown, has_row, is_drawn, is_shown, is_placed, is_rowed, is_rowed_by, AreColumns}
 use Rattle.rx_event.proofs.Laws.Sums.{sum_by-same}
-use Rattle.rx_picture.specs.Rows.{lane_of}
+use Rattle.rx_picture.specs.Rows.{track_of}
 use Rattle.rx_picture.proofs.WhereLinesEnd.{get_old, get_new}
 use Rattle.rx_event.proofs.Laws.OpenAfter.{filter_below}
 use Rattle.std.proofs.lemmas.List.{get_or_past}
@@ -46,7 +46,7 @@ rows_same h shown test rows tied told = record {
   each = told.each;
 }
 
--- the marks of lanes, past their end too
+-- the marks of tracks, past their end too
 marked_past : (marks : List Bool) (n : ℕ) → length marks ≤ n → marked marks n ≡ false
 marked_past marks n l = get_or_past marks n false l
 
@@ -59,17 +59,17 @@ shown_anywhere h shown tied n = search (rules, cases_lt, length, marked_past, an
 pub placed_anywhere : (h : List Event) (placed : List Bool) → AreMarksByTest placed (length h) (is_placed h) → (n : ℕ) → marked placed n ≡ is_placed h n
 placed_anywhere h placed tied n = search (rules, cases_lt, length, marked_past, and_left, le-ltb)
 
--- a row is shown where the marks show its lane
+-- a row is shown where the marks show its track
 pub rowed_same : (h : List Event) (shown rowed : List Bool) → AreMarksByTest shown (length h) (is_shown h)
     → AreMarksByTest rowed (length h) (is_rowed_by (marked shown) h) →
     AreMarksByTest rowed (length h) (is_rowed h)
-rowed_same h shown rowed lanes told = record {
+rowed_same h shown rowed tracks told = record {
   size = told.size;
   each = λ n l. told.each n l ∙ by_event n (slice_get h n);
 } where
-  by_event : (n : ℕ) (o : Option Event) → option_map_or (λ e. marked shown (lane_of n e)) o false ≡ option_map_or (λ e. is_shown h (lane_of n e)) o false
+  by_event : (n : ℕ) (o : Option Event) → option_map_or (λ e. marked shown (track_of n e)) o false ≡ option_map_or (λ e. is_shown h (track_of n e)) o false
   by_event n None = refl
-  by_event n (Some e) = shown_anywhere h shown lanes (lane_of n e)
+  by_event n (Some e) = shown_anywhere h shown tracks (track_of n e)
 
 pub columns_same : (shown : List Bool) (size : ℕ) (test : ℕ → Bool) (columns : List ℕ)
     → AreMarksByTest shown size test → AreColumns (marked shown) (length shown) columns → AreColumns test size columns

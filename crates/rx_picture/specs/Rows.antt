@@ -55,18 +55,18 @@ pub record IsLoan (h : List Event) (l until : ℕ) : Type 0 where
 
 -- rows --------------------------------------------------------------------------------------------
 
--- the event makes something that has a lane
+-- the event makes something that has a track
 abbrev pub is_drawn : Event → Bool
 is_drawn e = makes_node e || makes_hub e || makes_resource e
 
--- a lease has a row too, which lies in the lane of its resource
+-- a lease has a row too, which lies in the track of its resource
 abbrev pub has_row : Event → Bool
 has_row e = is_drawn e || makes_lease e
 
--- the number in whose lane the row lies of what the event at place n made
-abbrev pub lane_of : ℕ → Event → ℕ
-lane_of n (Lease r) = r
-lane_of n _ = n
+-- the number in whose track the row lies of what the event at place n made
+abbrev pub track_of : ℕ → Event → ℕ
+track_of n (Lease r) = r
+track_of n _ = n
 
 abbrev pub IsShape : List Event → ℕ → Shape → Type 0
 IsShape h n (Node until ending) = IsTrue (at makes_node h n) × IsLine h n until ending

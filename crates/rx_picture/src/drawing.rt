@@ -4,12 +4,11 @@ ghost use Rattle.std.specs.Prelude.{◌≡◌, IfOk, true, length, replicate};
 ghost use Rattle.rx_event.specs.Tree.{at};
 ghost use Rattle.rx_picture.specs.Choice.{AreMarksByTest};
 ghost use Rattle.rx_picture.specs.Rows.{is_drawn};
-ghost use Rattle.rx_picture.specs.Drawn.{IsDrawing, leads_lanes, is_shown, is_placed};
+ghost use Rattle.rx_picture.specs.Drawn.{IsDrawing, leads_tracks, is_shown, is_placed};
 ghost use Rattle.rx_picture.specs.Tables.{AreTables};
 
 use crate::choice::{choose, count_marks};
 use crate::columns::columns_of;
-use crate::lanes::row_marks;
 use crate::leaks::{leak_marks, leaks_of};
 use crate::levels::levels_of;
 use crate::marbles::marbles_of;
@@ -17,14 +16,15 @@ use crate::points::{Point, points_of};
 use crate::row::Row;
 use crate::rows::rows_of;
 use crate::tables::{Tables, drawn_marks, left_marks, tables_of};
+use crate::tracks::row_marks;
 use rx_event::{Event, Mail};
 use std::alloc::{AllocError, Global};
 
-/// How many lanes are shown at most. First come resources that were never handed out, then open
+/// How many tracks are shown at most. First come resources that were never handed out, then open
 /// nodes, then the others, each by rising number.
 const MOST_LANES: usize = 200;
 
-/// How many places are shown at most. Those at which a shown lane begins come first, by rising
+/// How many places are shown at most. Those at which a shown track begins come first, by rising
 /// number, then the others.
 const MOST_PLACES: usize = 2000;
 
@@ -33,16 +33,16 @@ const MOST_PLACES: usize = 2000;
 pub struct Drawing {
     /// The rows that are shown, by rising number.
     pub rows: Vec<Row>,
-    /// How many lanes there would be without a limit.
+    /// How many tracks there would be without a limit.
     pub all: usize,
     /// The resources that were never handed out, by rising number, whether or not they are shown.
     pub leaks: Vec<u64>,
-    /// What was told to whose lane is shown, by events whose place is, in order.
+    /// What was told to whose track is shown, by events whose place is, in order.
     pub marbles: Vec<Mail>,
     /// The places that are shown, by rising number.
     pub points: Vec<Point>,
-    /// By number: how many lanes are shown above its own.
-    pub lanes: Vec<usize>,
+    /// By number: how many tracks are shown above its own.
+    pub tracks: Vec<usize>,
     /// By place, and for the end of the history: how many places are shown before it.
     pub columns: Vec<usize>,
     /// By number of a node: how many nodes stand above it, and one.
@@ -56,10 +56,10 @@ fn all_marks(alloc: Global, size: usize) -> Result<Vec<bool>, AllocError>
     Ok(vec![in alloc; true; size]?)
 }
 
-/// Marks what comes first of the lanes: what is left, and of that first what leaks.
+/// Marks what comes first of the tracks: what is left, and of that first what leaks.
 fn leading_marks(alloc: Global, events: &[Event], tables: &Tables) -> Result<Vec<bool>, AllocError>
     requires { AreTables events.now tables.now }
-    ensures { IfOk result (λ v. AreMarksByTest v.items (length events.now) (leads_lanes events.now)) }
+    ensures { IfOk result (λ v. AreMarksByTest v.items (length events.now) (leads_tracks events.now)) }
 {
     let leaking = leak_marks(alloc, events, &tables.taken)?;
     let left = left_marks(alloc, events, tables)?;
@@ -67,7 +67,7 @@ fn leading_marks(alloc: Global, events: &[Event], tables: &Tables) -> Result<Vec
     Ok(chosen)
 }
 
-/// Marks the lanes that are shown.
+/// Marks the tracks that are shown.
 fn shown_marks(
     alloc: Global,
     events: &[Event],
@@ -105,7 +105,7 @@ pub fn draw(alloc: Global, events: &[Event]) -> Result<Drawing, AllocError>
     let rows = rows_of(alloc, events, &tables, &rowed)?;
     let marbles = marbles_of(alloc, events, &tables.ends, &shown, &placed)?;
     let points = points_of(alloc, events, &placed)?;
-    let lanes = columns_of(alloc, &shown)?;
+    let tracks = columns_of(alloc, &shown)?;
     let columns = columns_of(alloc, &placed)?;
     let levels = levels_of(alloc, events)?;
     let all = count_marks(&drawn);
@@ -116,7 +116,7 @@ pub fn draw(alloc: Global, events: &[Event]) -> Result<Drawing, AllocError>
         leaks,
         marbles,
         points,
-        lanes,
+        tracks,
         columns,
         levels,
     })

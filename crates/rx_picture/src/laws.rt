@@ -3,8 +3,8 @@
 ghost use Rattle.rx_picture.specs.Held.{HeldIsBarred};
 ghost use Rattle.rx_picture.specs.Leaks.{LeaksAreDrawn, LeaksAreLeft};
 
-/// From its acceptance on, a resource whose lane is shown is held in just the prefixes over which its
-/// lane has a full bar: its own, where its node owns it, or that of a lease which is out.
+/// From its acceptance on, a resource whose track is shown is held in just the prefixes over which its
+/// track has a full bar: its own, where its node owns it, or that of a lease which is out.
 #[tactic(auto, using(crate::proofs::HeldByFullBar::held_is_barred))]
 pub fn a_resource_is_held_where_it_has_a_full_bar()
     ensures { HeldIsBarred }

@@ -41,8 +41,8 @@ pub enum Shape {
     },
 }
 
-/// What is drawn of one node, hub, resource or lease. The row of a lease lies in the lane of its
-/// resource, every other in a lane of its own.
+/// What is drawn of one node, hub, resource or lease. The row of a lease lies in the track of its
+/// resource, every other in a track of its own.
 #[derive(Clone, Copy)]
 pub struct Row {
     /// Its number, which is the place of the event that made it.

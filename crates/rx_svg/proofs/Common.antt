@@ -14,8 +14,8 @@ pub use Rattle.rx_note.specs.declared.note.Terminal.TheVariants.{Completed, Erro
 pub use Rattle.rx_picture.specs.declared.drawing.Drawing.{Drawing}
 pub use Rattle.rx_picture.specs.declared.points.Point.{Point}
 unfoldable pub use Rattle.rx_svg.specs.Label.{event_label, called_text}
-pub use Rattle.rx_svg.specs.Lane.{x_of}
-unfoldable pub use Rattle.rx_svg.specs.Lane.{row_text, tick_text, note_marble}
+pub use Rattle.rx_svg.specs.Track.{x_of}
+unfoldable pub use Rattle.rx_svg.specs.Track.{row_text, tick_text, note_marble}
 pub use Rattle.rx_dump.specs.Names.{name_in_object}
 pub use Rattle.rx_svg.specs.Name.{name_label, byte_text, stands_in_name}
 unfoldable pub use Rattle.rx_svg.specs.Page.{point_text, listed_text, leak_entry, svg_text}

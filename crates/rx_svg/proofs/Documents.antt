@@ -4,11 +4,12 @@ use Rattle.rx_svg.proofs.Common.{append-nil, ◌==◌, and_from, Verdict, Point,
 use Rattle.rx_svg.proofs.Common.{point_text, listed_text, leak_entry, svg_text, is_plain, IsContent, nothing, IsWellFormed}
 use Rattle.std.proofs.Common.{◌-◌, drop, rules}
 use Rattle.rx_svg.specs.Page.{style_text, head_text, legend_front, list_text, untaken_text, lawful_text, unlawful_text}
-use Rattle.rx_svg.specs.Page.{unsettled_text, verdict_label, count_text, leaking_text, leaks_text, break_text, shares_text}
-use Rattle.rx_svg.specs.Page.{verdict_line, leaks_line, shares_line, under_text, lanes_text, page_text}
-use Rattle.rx_svg.specs.Lane.{margin}
+use Rattle.rx_svg.specs.Parts.{rest_text}
+use Rattle.rx_svg.specs.Page.{unsettled_text, verdict_label, count_text, leak_words, leaking_text, leaks_text, break_text, shares_text}
+use Rattle.rx_svg.specs.Page.{verdict_line, leaks_line, shares_line, under_text, tracks_text, page_text}
+use Rattle.rx_svg.specs.Track.{margin}
 use Rattle.rx_svg.proofs.Characters.{both_are_plain, plain_append, plain_flat_map}
-use Rattle.rx_svg.proofs.ShownNames.{named_is_content}
+use Rattle.rx_svg.proofs.ShownNames.{rest_is_plain, named_is_content}
 use Rattle.rx_svg.proofs.Contents.{plain_content, content_append, contents, content_if}
 use Rattle.rx_svg.proofs.Markup.{Valued, text_from, text_from-append, attribute_of, element_parts, element_reads, tag_of, element_then, words_then}
 use Rattle.rx_svg.proofs.Markup.{content_then, parts_are_plain, plain_parts, newline}
@@ -16,7 +17,7 @@ use Rattle.rx_svg.proofs.Elements.{valued, text_around, between, broken_is_conte
 use Rattle.rx_svg.proofs.Rows.{row_is_content, tick_is_content, told_is_content}
 use Rattle.rx_svg.proofs.Legends.{legend_is_content}
 
--- under the lanes ---------------------------------------------------------------------------------
+-- under the tracks ---------------------------------------------------------------------------------
 
 listed_is_plain : (n : ℕ) → is_plain (listed_text n) ≡ true
 unfolding listed_text text_of
@@ -24,7 +25,10 @@ listed_is_plain n = parts_are_plain (words (codes " ") ∷ number n ∷ []) refl
 
 list_is_plain : (name numbers : List ℕ) → is_plain name ≡ true → is_plain (list_text name numbers) ≡ true
 unfolding list_text
-list_is_plain name numbers p = plain_append name (flat_map listed_text numbers) p (plain_flat_map listed_text listed_is_plain numbers)
+list_is_plain name numbers p =
+    plain_append (name ++ flat_map listed_text (take 200 numbers)) (rest_text (length numbers - 200))
+    (plain_append name (flat_map listed_text (take 200 numbers)) p (plain_flat_map listed_text listed_is_plain (take 200 numbers)))
+    (rest_is_plain (length numbers - 200))
 
 untaken_is_plain : (held waiting : List ℕ) → is_plain (untaken_text held waiting) ≡ true
 unfolding untaken_text
@@ -65,10 +69,14 @@ entry_is_content names n =
 leaking_is_content : (names : ℕ → Option (List ℕ)) (leaks : List ℕ) → IsContent (leaking_text names leaks)
 unfolding leaking_text
 leaking_is_content names leaks =
-    search (rules, content_append, length, flat_map, plain_content, count_is_plain, both_are_plain, contents, entry_is_content)
+    content_append (count_text (length leaks) (leak_words (length leaks)) ++ flat_map (leak_entry names) (take 200 leaks)) (rest_text (length leaks - 200))
+    (content_append (count_text (length leaks) (leak_words (length leaks))) (flat_map (leak_entry names) (take 200 leaks))
+    (plain_content _ (count_is_plain (length leaks) (leak_words (length leaks)) (both_are_plain (length leaks == 1) _ _ refl refl)))
+    (contents (leak_entry names) (entry_is_content names) (take 200 leaks)))
+    (plain_content _ (rest_is_plain (length leaks - 200)))
 
 leaks_read : (names : ℕ → Option (List ℕ)) (leaks : List ℕ) → IsContent (leaks_text names leaks)
-leaks_read names leaks = content_if (length leaks == 0) _ _ (plain_content (codes "no resource leaks") refl) (leaking_is_content names leaks)
+leaks_read names leaks = content_if (length leaks == 0) _ _ (plain_content (codes "all resources released") refl) (leaking_is_content names leaks)
 
 below_is_content : (class : List ℕ) (x y : ℕ) (text : List ℕ) → is_plain class ≡ true → IsContent text
     → IsContent (legend_front class x y ++ text ++ codes "</text>\n")
@@ -101,7 +109,7 @@ unfolding under_text
 under_is_content d names end x height verdict =
     search (rules, content_append, verdict_is_content, leaks_are_content, shares_are_content, legend_is_content)
 
--- the lanes ---------------------------------------------------------------------------------------
+-- the tracks ---------------------------------------------------------------------------------------
 
 point_is_content : (d : Drawing) (height : ℕ) (point : Point) → IsContent (point_text d height point)
 unfolding point_text
@@ -110,10 +118,10 @@ point_is_content d height point = column_is_content (x_of d point.place) height 
 break_is_content : (d : Drawing) (height : ℕ) (verdict : Verdict) → IsContent (break_text d height verdict)
 break_is_content d height x2 = search (rules, nothing, broken_is_content)
 
-lanes_are_content : (d : Drawing) (names : ℕ → Option (List ℕ)) (end height : ℕ) (verdict : Verdict)
-    → IsContent (lanes_text d names end height verdict)
-unfolding lanes_text
-lanes_are_content d names end height verdict =
+tracks_are_content : (d : Drawing) (names : ℕ → Option (List ℕ)) (end height : ℕ) (verdict : Verdict)
+    → IsContent (tracks_text d names end height verdict)
+unfolding tracks_text
+tracks_are_content d names end height verdict =
     search (rules, flat_map, contents, point_is_content, row_is_content, tick_is_content, told_is_content, content_append, break_is_content)
 
 -- the whole ---------------------------------------------------------------------------------------
@@ -135,48 +143,48 @@ svg_attributes left width height =
     (number left ∷ words (codes " 0 ") ∷ number width ∷ words (codes " ") ∷ number height ∷ []) ∷ []
 
 abbrev svg_inside : List ℕ → List ℕ → List Part
-svg_inside lanes under = words (codes "\n") ∷ words style_text ∷ words lanes ∷ words under ∷ []
+svg_inside tracks under = words (codes "\n") ∷ words style_text ∷ words tracks ∷ words under ∷ []
 
-inside_is_content : (lanes under : List ℕ) → IsContent lanes → IsContent under → IsContent (text_from (svg_inside lanes under))
-inside_is_content lanes under p q =
+inside_is_content : (tracks under : List ℕ) → IsContent tracks → IsContent under → IsContent (text_from (svg_inside tracks under))
+inside_is_content tracks under p q =
     search (rules, words_then, codes, words, content_then, style_is_content, nothing)
 
 four : (a b c d : List ℕ) → a ++ (b ++ (c ++ (d ++ []))) ≡ a ++ b ++ c ++ d
 four a b c d = simp (append_assoc, append-nil)
 
-document_reads : (left width height : ℕ) (lanes under : List ℕ) → head_text left width height ++ lanes ++ under ++ codes "</svg>\n"
-    ≡ text_from (element_parts (codes "svg") (svg_attributes left width height) (svg_inside lanes under)) ++ codes "\n"
+document_reads : (left width height : ℕ) (tracks under : List ℕ) → head_text left width height ++ tracks ++ under ++ codes "</svg>\n"
+    ≡ text_from (element_parts (codes "svg") (svg_attributes left width height) (svg_inside tracks under)) ++ codes "\n"
 unfolding head_text text_of
-document_reads left width height lanes under =
+document_reads left width height tracks under =
     let front : List Part =
     words (codes "<svg xmlns=\"http://www.w3.org/2000/svg\" width=\"") ∷ number width ∷ words (codes "\" height=\"") ∷ number height
     ∷ words (codes "\" viewBox=\"") ∷ number left ∷ words (codes " 0 ") ∷ number width ∷ words (codes " ") ∷ number height
     ∷ words (codes "\">\n") ∷ words style_text ∷ [] in
-    sym (four (text_from front) lanes under (codes "</svg>\n"))
-    ∙ sym (text_from-append front (words lanes ∷ words under ∷ words (codes "</svg>\n") ∷ []))
-    ∙ text_from-append (element_parts (codes "svg") (svg_attributes left width height) (svg_inside lanes under)) (words (codes "\n") ∷ [])
+    sym (four (text_from front) tracks under (codes "</svg>\n"))
+    ∙ sym (text_from-append front (words tracks ∷ words under ∷ words (codes "</svg>\n") ∷ []))
+    ∙ text_from-append (element_parts (codes "svg") (svg_attributes left width height) (svg_inside tracks under)) (words (codes "\n") ∷ [])
 
-document_is_well_formed : (left width height : ℕ) (lanes under : List ℕ) → IsContent lanes → IsContent under
-    → IsWellFormed (head_text left width height ++ lanes ++ under ++ codes "</svg>\n")
-document_is_well_formed left width height lanes under p q =
+document_is_well_formed : (left width height : ℕ) (tracks under : List ℕ) → IsContent tracks → IsContent under
+    → IsWellFormed (head_text left width height ++ tracks ++ under ++ codes "</svg>\n")
+document_is_well_formed left width height tracks under p q =
     record {
       name = codes "svg";
       attributes = map attribute_of (svg_attributes left width height);
       tag = tag_of (codes "svg") (svg_attributes left width height) refl refl refl;
-      inside = text_from (svg_inside lanes under);
-      content = inside_is_content lanes under p q;
+      inside = text_from (svg_inside tracks under);
+      content = inside_is_content tracks under p q;
       space = codes "\n";
       white = refl;
       reads =
-          document_reads left width height lanes under
-          ∙ ap (λ t. t ++ codes "\n") (element_reads (codes "svg") (svg_attributes left width height) (svg_inside lanes under));
+          document_reads left width height tracks under
+          ∙ ap (λ t. t ++ codes "\n") (element_reads (codes "svg") (svg_attributes left width height) (svg_inside tracks under));
     }
 
 page_is_well_formed : (d : Drawing) (names : ℕ → Option (List ℕ)) (end : ℕ) (verdict : Verdict) (left : ℕ)
     → IsWellFormed (page_text d names end verdict left)
 unfolding page_text
 page_is_well_formed d names end verdict left =
-    search (rules, document_is_well_formed, lanes_are_content, under_is_content)
+    search (rules, document_is_well_formed, tracks_are_content, under_is_content)
 
 pub svg_is_well_formed : (d : Drawing) (names : ℕ → Option (List ℕ)) (end : ℕ) (verdict : Verdict) → IsWellFormed (svg_text d names end verdict)
 unfolding svg_text

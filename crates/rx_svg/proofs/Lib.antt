@@ -1,6 +1,7 @@
 mod Common
 mod Characters
 mod Contents
+mod ShownFronts
 mod ShownNames
 mod Markup
 mod Elements

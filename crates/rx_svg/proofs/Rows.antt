@@ -1,4 +1,4 @@
--- What stands in the lanes of a picture is content, whatever the drawing is.
+-- What stands in the tracks of a picture is content, whatever the drawing is.
 use Rattle.rx_svg.proofs.Common.{◌≡◌, ℕ, Bool, true, Option, List, [], ◌∷◌, ◌++◌, ℤ, codes, nat_lt, decimal, refl, subst, not, ◌&&◌}
 use Rattle.rx_svg.proofs.Common.{Event, Point, Drawing, Part, words, number, text_of, event_label, name_label, called_text, Look}
 use Rattle.rx_svg.proofs.Common.{x_of, row_text, tick_text, note_marble, IsContent, nothing}
@@ -8,8 +8,8 @@ use Rattle.rx_picture.specs.declared.row.Shape.{Shape}
 use Rattle.rx_picture.specs.declared.row.Shape.TheVariants.{Node, Hub, Resource, Loan}
 use Rattle.rx_picture.specs.declared.row.Row.{Row}
 use Rattle.rx_svg.specs.Stroke.{dot_shape}
-use Rattle.rx_svg.specs.Lane.{y_of, has_lane, is_root_of, stretch_of, label_front, label_element, ending_text, life_text, stretch_text, owned_look, loan_look}
-use Rattle.rx_svg.specs.Lane.{wait_look, owned_text, loan_text, wait_text, release_text, shape_text, row_label, in_lane_text, emitted_text, done_text}
+use Rattle.rx_svg.specs.Track.{y_of, has_track, has_column, is_root_of, stretch_of, label_front, label_element, ending_text, life_text, stretch_text, owned_look, loan_look}
+use Rattle.rx_svg.specs.Track.{wait_look, owned_text, loan_text, wait_text, release_text, shape_text, row_label, in_track_text, emitted_text, done_text}
 use Rattle.rx_svg.proofs.Characters.{decimal_is_plain, event_is_plain}
 use Rattle.rx_svg.proofs.ShownNames.{named_is_content}
 use Rattle.rx_svg.proofs.Markup.{Valued, are_plain, content_then}
@@ -85,25 +85,25 @@ shape_is_content d leaking y n end (Resource after until taken) =
     (content_append (waits ++ waits_again) owned
     (content_append waits waits_again (wait_is_content d leaking y n after end) (wait_is_content d leaking y until taken end))
     (owned_is_content d leaking y after until end)) (release_is_content d leaking y taken)
-shape_is_content d leaking y n end (Loan resource until) = loan_is_content d leaking y n until end
+shape_is_content d leaking y n end (Loan resource until) = content_if (has_column d n) _ _ (loan_is_content d leaking y n until end) nothing
 
 pub row_is_content : (d : Drawing) (names : ℕ → Option (List ℕ)) (end : ℕ) (row : Row) → IsContent (row_text d names end row)
 unfolding row_text
 row_is_content d names end row =
     search (rules, content_append, name_is_content, shape_is_content)
 
-in_lane_is_content : (d : Drawing) (n place : ℕ) (class shape title : List ℕ) → are_plain (words class ∷ words shape ∷ words title ∷ []) ≡ true
-    → IsContent (in_lane_text d n place class shape title)
-in_lane_is_content d n place class shape title plain =
-    content_if (has_lane d n) _ _ (mark_is_content class shape title (x_of d place) (y_of d n) place plain) nothing
+in_track_is_content : (d : Drawing) (n place : ℕ) (class shape title : List ℕ) → are_plain (words class ∷ words shape ∷ words title ∷ []) ≡ true
+    → IsContent (in_track_text d n place class shape title)
+in_track_is_content d n place class shape title plain =
+    content_if (has_track d n) _ _ (mark_is_content class shape title (x_of d place) (y_of d n) place plain) nothing
 
 emitted_is_content : (d : Drawing) (n place : ℕ) (value : ℤ) → IsContent (emitted_text d n place value)
 emitted_is_content d n place value =
-    content_append _ _ (in_lane_is_content d n place (codes "full") dot_shape (codes "emitted") refl)
-    (content_if (has_lane d n && not (is_root_of d n)) _ _ (above_is_content (x_of d place) (y_of d n) value) nothing)
+    content_append _ _ (in_track_is_content d n place (codes "full") dot_shape (codes "emitted") refl)
+    (content_if (has_track d n && not (is_root_of d n)) _ _ (above_is_content (x_of d place) (y_of d n) value) nothing)
 
 done_is_content : (d : Drawing) (place : ℕ) (event : Event) → IsContent (done_text d place event)
-done_is_content d place x2 = search (rules, in_lane_is_content, codes, emitted_is_content, nothing)
+done_is_content d place x2 = search (rules, in_track_is_content, codes, emitted_is_content, nothing)
 
 pub tick_is_content : (d : Drawing) (point : Point) → IsContent (tick_text d point)
 unfolding tick_text

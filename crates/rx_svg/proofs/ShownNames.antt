@@ -1,7 +1,11 @@
 -- A name is shown as content, whatever it is.
 use Rattle.rx_svg.proofs.Common.{◌≡◌, ℕ, ◌<◌, Bool, true, false, List, [], codes, flat_map, Option, refl, subst, arith, append-nil}
 use Rattle.rx_svg.proofs.Common.{not, ◌==◌, list_any, and_from, and_parts, or_cases, cond-true, byte_text, name_label, is_plain_character, stands_in_name}
-use Rattle.rx_svg.proofs.Common.{is_predefined, reference_text, IsContent, nothing, reference_first}
+use Rattle.rx_svg.proofs.Common.{is_predefined, reference_text, IsContent, nothing, reference_first, take, ◌++◌, ◌∷◌, length, is_plain, words, number, text_of}
+use Rattle.std.proofs.Common.{◌-◌}
+use Rattle.rx_svg.specs.Parts.{rest_text}
+use Rattle.rx_svg.proofs.Characters.{both_are_plain}
+use Rattle.rx_svg.proofs.Markup.{parts_are_plain}
 use Rattle.std.proofs.Math.Bool.{◌||◌}
 use Rattle.std.proofs.lemmas.Bool.{eqb-true, leb-true, cond-false, cases_Bool}
 use Rattle.rx_svg.specs.Name.{escape, shown_name}
@@ -37,10 +41,19 @@ escape_is_content b =
 byte_is_content : (b : ℕ) → IsContent (byte_text b)
 byte_is_content b = search (rules, cases_Bool, cond-true, plain_content, and_from, name_is_plain, cond-false, escape_is_content)
 
+pub rest_is_plain : (n : ℕ) → is_plain (rest_text n) ≡ true
+unfolding rest_text text_of
+rest_is_plain n = both_are_plain (n == 0) [] (text_of (words (codes " and ") ∷ number n ∷ words (codes " more") ∷ [])) refl
+    (parts_are_plain (words (codes " and ") ∷ number n ∷ words (codes " more") ∷ []) refl)
+
 shown_is_content : (name : List ℕ) → IsContent (shown_name name)
 unfolding shown_name
 shown_is_content name =
-    search (rules, content_append, codes, flat_map, plain_content, contents, byte_is_content)
+    content_append (codes " (" ++ flat_map byte_text (take 200 name) ++ rest_text (length name - 200)) (codes ")")
+    (content_append (codes " (" ++ flat_map byte_text (take 200 name)) (rest_text (length name - 200))
+    (content_append (codes " (") (flat_map byte_text (take 200 name)) (plain_content (codes " (") refl) (contents byte_text byte_is_content (take 200 name)))
+    (plain_content _ (rest_is_plain (length name - 200))))
+    (plain_content (codes ")") refl)
 
 pub named_is_content : (name : Option (List ℕ)) → IsContent (name_label name)
 named_is_content x0 = search (rules, nothing, shown_is_content)

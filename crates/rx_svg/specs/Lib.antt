@@ -4,6 +4,6 @@ pub mod Name
 pub mod Label
 pub mod Said
 pub mod Stroke
-pub mod Lane
+pub mod Track
 pub mod Page
 pub mod Pictured

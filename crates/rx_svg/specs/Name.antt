@@ -1,5 +1,6 @@
 -- How a name stands in a picture.
-use Rattle.std.specs.Prelude.{ℕ, Bool, not, ◌&&◌, ◌==◌, Option, Some, None, List, [], ◌∷◌, ◌++◌, codes, flat_map, if◌then◌else◌}
+use Rattle.std.specs.Prelude.{ℕ, ◌-◌, Bool, not, ◌&&◌, ◌==◌, Option, Some, None, List, [], ◌∷◌, ◌++◌, codes, flat_map, length, take, if◌then◌else◌}
+use Rattle.rx_svg.specs.Parts.{most_shown, rest_text}
 use Rattle.rx_svg.specs.WellFormed.{is_plain_character}
 
 -- markup stands as a reference, and each byte of a control character or of a letter beyond ASCII as a question mark
@@ -18,9 +19,9 @@ stands_in_name b = is_plain_character b && not (b == 10)
 abbrev pub byte_text : ℕ → List ℕ
 byte_text b = if stands_in_name b then b ∷ [] else escape b
 
--- what stands behind a number: its name, in brackets
+-- what stands behind a number: the front of its name, in brackets
 unfoldable pub shown_name : List ℕ → List ℕ
-shown_name name = codes " (" ++ flat_map byte_text name ++ codes ")"
+shown_name name = codes " (" ++ flat_map byte_text (take most_shown name) ++ rest_text (length name - most_shown) ++ codes ")"
 
 abbrev pub name_label : Option (List ℕ) → List ℕ
 name_label None = []

@@ -1,5 +1,5 @@
 -- The SVG document of a drawing, with the verdict of the audit.
-use Rattle.std.specs.Prelude.{◌≡◌, ℕ, ◌+◌, ◌-◌, ◌*◌, ◌==◌, min, max, if◌then◌else◌, Option, List, [], ◌∷◌, ◌++◌, codes, flat_map, length, slice_index_or}
+use Rattle.std.specs.Prelude.{◌≡◌, ℕ, ◌+◌, ◌-◌, ◌*◌, ◌==◌, min, max, if◌then◌else◌, Option, List, [], ◌∷◌, ◌++◌, codes, flat_map, length, take, slice_index_or}
 use Rattle.rx_event.specs.declared.event.Event.{Event}
 use Rattle.rx_audit.specs.declared.verdict.Verdict.{Verdict}
 use Rattle.rx_audit.specs.declared.verdict.Verdict.TheVariants.{Lawful, Unlawful, Unsettled}
@@ -7,23 +7,23 @@ use Rattle.rx_audit.specs.Verdict.{IsVerdict}
 use Rattle.rx_picture.specs.declared.points.Point.{Point}
 use Rattle.rx_picture.specs.declared.drawing.Drawing.{Drawing}
 use Rattle.rx_picture.specs.Drawn.{IsDrawing}
-use Rattle.rx_svg.specs.Parts.{words, number, text_of}
+use Rattle.rx_svg.specs.Parts.{words, number, text_of, most_shown, rest_text}
 use Rattle.rx_svg.specs.Name.{name_label}
 use Rattle.rx_svg.specs.Stroke.{bar_shape, cross_shape, strokes_shape, check_shape, tick_shape, arrow_shape, dot_shape, square_shape, ring_shape}
 use Rattle.rx_svg.specs.Stroke.{diamond_shape, struck_shape, flag_shape, line_sample, bar_sample, low_sample, sign_text, key_text, column_text, broken_text}
-use Rattle.rx_svg.specs.Lane.{x_of, row_text, tick_text, note_marble, margin}
+use Rattle.rx_svg.specs.Track.{x_of, row_text, tick_text, note_marble, margin}
 use Rattle.rx_svg.specs.WellFormed.{IsWellFormed}
 
--- how many lanes and places are shown
-abbrev pub lanes_shown : Drawing → ℕ → ℕ
-lanes_shown d end = min (slice_index_or d.lanes.items end 0) 200
+-- how many tracks and places are shown
+abbrev pub tracks_shown : Drawing → ℕ → ℕ
+tracks_shown d end = min (slice_index_or d.tracks.items end 0) 200
 
 abbrev pub places_shown : Drawing → ℕ → ℕ
 places_shown d end = min (slice_index_or d.columns.items end 0) 2000
 
--- all lanes together are so high
+-- all tracks together are so high
 abbrev pub height_of : Drawing → ℕ → ℕ
-height_of d end = 32 + 28 * lanes_shown d end
+height_of d end = 32 + 28 * tracks_shown d end
 
 -- from the margin to the last place, and what stands behind that; or as wide as the legend
 abbrev pub width_of : Drawing → ℕ → ℕ → ℕ
@@ -53,7 +53,7 @@ point_text d height point = column_text (x_of d point.place) height point.place 
 
 -- what stands under the picture -------------------------------------------------------------------
 
--- a line of text of this class under the lanes, up to its words
+-- a line of text of this class under the tracks, up to its words
 unfoldable pub legend_front : List ℕ → ℕ → ℕ → List ℕ
 legend_front class x y =
     text_of (words (codes "<text class=\"") ∷ words class ∷ words (codes "\" x=\"") ∷ number x ∷ words (codes "\" y=\"") ∷ number y
@@ -62,9 +62,9 @@ legend_front class x y =
 unfoldable pub listed_text : ℕ → List ℕ
 listed_text n = text_of (words (codes " ") ∷ number n ∷ [])
 
--- a word, and the numbers behind it
+-- a word, and the first of the numbers behind it
 unfoldable pub list_text : List ℕ → List ℕ → List ℕ
-list_text name numbers = name ++ flat_map listed_text numbers
+list_text name numbers = name ++ flat_map listed_text (take most_shown numbers) ++ rest_text (length numbers - most_shown)
 
 unfoldable pub untaken_text : List ℕ → List ℕ → List ℕ
 untaken_text held waiting = list_text (codes "; held:") held ++ list_text (codes "; waiting:") waiting
@@ -85,7 +85,7 @@ verdict_label Unsettled = unsettled_text
 
 -- how many resources leak, and which
 abbrev pub leak_words : ℕ → List ℕ
-leak_words n = if n == 1 then codes " resource leaks:" else codes " resources leak:"
+leak_words n = if n == 1 then codes " resource never released:" else codes " resources never released:"
 
 unfoldable pub count_text : ℕ → List ℕ → List ℕ
 count_text n ending = text_of (number n ∷ words ending ∷ [])
@@ -94,10 +94,12 @@ unfoldable pub leak_entry : (ℕ → Option (List ℕ)) → ℕ → List ℕ
 leak_entry names n = listed_text n ++ name_label (names n)
 
 unfoldable pub leaking_text : (ℕ → Option (List ℕ)) → List ℕ → List ℕ
-leaking_text names leaks = count_text (length leaks) (leak_words (length leaks)) ++ flat_map (leak_entry names) leaks
+leaking_text names leaks =
+    count_text (length leaks) (leak_words (length leaks)) ++ flat_map (leak_entry names) (take most_shown leaks)
+    ++ rest_text (length leaks - most_shown)
 
 abbrev pub leaks_text : (ℕ → Option (List ℕ)) → List ℕ → List ℕ
-leaks_text names leaks = if length leaks == 0 then codes "no resource leaks" else leaking_text names leaks
+leaks_text names leaks = if length leaks == 0 then codes "all resources released" else leaking_text names leaks
 
 -- a line about leaks has their colour
 abbrev pub leaks_class : List ℕ → List ℕ
@@ -109,10 +111,10 @@ break_text d height _ = []
 
 unfoldable pub shares_text : Drawing → ℕ → List ℕ
 shares_text d end =
-    text_of (number (lanes_shown d end) ∷ words (codes " of ") ∷ number d.all ∷ words (codes " lanes and ") ∷ number (places_shown d end)
+    text_of (number (tracks_shown d end) ∷ words (codes " of ") ∷ number d.all ∷ words (codes " tracks and ") ∷ number (places_shown d end)
     ∷ words (codes " of ") ∷ number end ∷ words (codes " places are drawn") ∷ [])
 
--- three lines under lanes that are so high
+-- three lines under tracks that are so high
 unfoldable pub verdict_line : ℕ → ℕ → Verdict → List ℕ
 verdict_line x height verdict = legend_front (codes "under") x (height + 48) ++ verdict_label verdict ++ codes "</text>\n"
 
@@ -158,15 +160,15 @@ under_text d names end x height verdict =
 
 -- the whole ---------------------------------------------------------------------------------------
 
-unfoldable pub lanes_text : Drawing → (ℕ → Option (List ℕ)) → ℕ → ℕ → Verdict → List ℕ
-lanes_text d names end height verdict =
+unfoldable pub tracks_text : Drawing → (ℕ → Option (List ℕ)) → ℕ → ℕ → Verdict → List ℕ
+tracks_text d names end height verdict =
     flat_map (point_text d height) d.points.items ++ flat_map (row_text d names end) d.rows.items ++ flat_map (note_marble d) d.marbles.items
     ++ flat_map (tick_text d) d.points.items ++ break_text d height verdict
 
 -- the document that begins so far on the left
 unfoldable pub page_text : Drawing → (ℕ → Option (List ℕ)) → ℕ → Verdict → ℕ → List ℕ
 page_text d names end verdict left =
-    head_text left (width_of d left end) (height_of d end + 240) ++ lanes_text d names end (height_of d end) verdict
+    head_text left (width_of d left end) (height_of d end + 240) ++ tracks_text d names end (height_of d end) verdict
     ++ under_text d names end (left + 10) (height_of d end) verdict ++ codes "</svg>\n"
 
 -- the document of a drawing of so many events, with the names of numbers

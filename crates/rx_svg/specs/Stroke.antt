@@ -9,7 +9,7 @@ use Rattle.rx_svg.specs.Said.{said_label}
 
 -- stretches ---------------------------------------------------------------------------------------
 
--- a stretch of a lane: from which x to which, at which y, and after which event, until which one, of how many
+-- a stretch of a track: from which x to which, at which y, and after which event, until which one, of how many
 pub record Stretch : Type 0 where
   pub from : ℕ
   pub to : ℕ
@@ -190,7 +190,7 @@ axis_text x place =
 unfoldable pub column_text : ℕ → ℕ → ℕ → Event → List ℕ
 column_text x height place event = column_front x height place ++ event_label event ++ axis_text x place
 
--- the line through all lanes at the place whose event may not stand there
+-- the line through all tracks at the place whose event may not stand there
 unfoldable pub broken_text : ℕ → ℕ → ℕ → List ℕ
 broken_text x height place =
     text_of (words (codes "<path class=\"broken\" d=\"M") ∷ number x ∷ words (codes " 28v") ∷ number height

@@ -1,6 +1,6 @@
 //! The picture of a history as an SVG document, which every browser shows.
 //!
-//! Vocabulary: the drawing of a history is that of `rx_picture`. Its lanes stand under one another, its
+//! Vocabulary: the drawing of a history is that of `rx_picture`. Its tracks stand under one another, its
 //! places beside one another.
 //!
 //! Promised: the text of [`picture`] is the document that `specs` tells of the drawing of the events
@@ -18,7 +18,6 @@
 #![tactic(auto)]
 
 mod labels;
-mod lanes;
 mod legend;
 mod margin;
 mod names;
@@ -26,6 +25,7 @@ mod pictured;
 mod pieces;
 mod strokes;
 mod svg;
+mod tracks;
 
 pub use pictured::draw;
 pub use svg::{named_picture, picture};

@@ -3,16 +3,16 @@
 ghost use Rattle.std.specs.Prelude.{◌≡◌, ◌≤◌, IfOk};
 ghost use Rattle.serde_json.specs.View.{view};
 ghost use Rattle.rx_dump.specs.Names.{name_in_object};
-ghost use Rattle.rx_svg.specs.Lane.{label_start, margin};
+ghost use Rattle.rx_svg.specs.Track.{label_start, margin};
 
 use crate::labels::push_called;
-use crate::lanes::x_of;
+use crate::tracks::x_of;
 use rx_dump::Names;
 use rx_picture::{Drawing, Row};
 use std::alloc::AllocError;
 
 /// Where the label of a row begins.
-#[tactic(auto, unfolding(crate::specs::Lane::label_start))]
+#[tactic(auto, unfolding(crate::specs::Track::label_start))]
 fn label_start(names: Names<'_>, drawing: &Drawing, row: Row) -> Result<u64, AllocError>
     ensures { IfOk result (λ x. x ≡ label_start drawing.now (name_in_object (view names.entry.object.now)) row) }
 {

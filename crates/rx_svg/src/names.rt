@@ -7,6 +7,7 @@ ghost use Rattle.rx_dump.specs.Names.{name_in_object};
 ghost use Rattle.rx_svg.specs.WellFormed.{is_plain_character};
 ghost use Rattle.rx_svg.specs.Name.{stands_in_name, escape, byte_text, shown_name, name_label};
 
+use crate::pieces::{MOST_SHOWN, front, push_rest};
 use rx_dump::{Names, name_of};
 use std::alloc::AllocError;
 
@@ -78,13 +79,14 @@ fn push_bytes(text: &mut String, bytes: &[u8]) -> Result<(), AllocError>
     Ok(())
 }
 
-/// A name, in brackets.
+/// The front of a name, in brackets.
 #[tactic(auto, unfolding(crate::specs::Name::shown_name))]
 fn push_shown(text: &mut String, name: &str) -> Result<(), AllocError>
     ensures { OnOk result (string_bytes text.new ≡ string_bytes text.old ++ shown_name name.now) }
 {
     text.push_str(" (")?;
-    push_bytes(text, name.as_bytes())?;
+    push_bytes(text, front(name.as_bytes()))?;
+    push_rest(text, name.len().saturating_sub(MOST_SHOWN))?;
     text.push_str(")")
 }
 

@@ -1,7 +1,7 @@
 //! Texts that are made of fixed words and of numbers.
 
-ghost use Rattle.std.specs.Prelude.{◌≡◌, ◌++◌, string_bytes, OnOk, flat_map};
-ghost use Rattle.rx_svg.specs.Parts.{piece_text};
+ghost use Rattle.std.specs.Prelude.{◌≡◌, ◌++◌, string_bytes, OnOk, flat_map, take};
+ghost use Rattle.rx_svg.specs.Parts.{piece_text, most_shown, rest_text};
 
 use std::alloc::AllocError;
 
@@ -48,3 +48,28 @@ macro_rules! put {
 }
 
 pub(crate) use put;
+
+/// How many numbers of a list stand in a picture, and how many bytes of a name.
+pub const MOST_SHOWN: usize = 200;
+
+/// The first of these, as many as stand in a picture.
+#[tactic(auto, using(crate::proofs::ShownFronts::front_whole))]
+pub fn front<T>(items: &[T]) -> &[T]
+    ensures { result.now ≡ take most_shown items.now }
+{
+    if items.len() <= MOST_SHOWN {
+        return items;
+    }
+    items.split_at(MOST_SHOWN).0
+}
+
+/// How many more there are, if there are more.
+#[tactic(auto, unfolding(crate::specs::Parts::rest_text, crate::specs::Parts::text_of))]
+pub fn push_rest(text: &mut String, n: usize) -> Result<(), AllocError>
+    ensures { OnOk result (string_bytes text.new ≡ string_bytes text.old ++ rest_text n) }
+{
+    if n == 0 {
+        return Ok(());
+    }
+    put!(text; " and " [n as u64] " more")
+}

@@ -211,7 +211,7 @@ pub fn push_column(
     put!(text; "</title></path>\n<text class=\"axis\" x=\"" [x] "\" y=\"20\">" [place] "</text>\n")
 }
 
-/// The line through all lanes at the place whose event may not stand there.
+/// The line through all tracks at the place whose event may not stand there.
 #[tactic(auto, unfolding(crate::specs::Stroke::broken_text, crate::specs::Parts::text_of))]
 pub fn push_broken(text: &mut String, x: u64, height: u64, place: u64) -> Result<(), AllocError>
     ensures { OnOk result (string_bytes text.new ≡ string_bytes text.old ++ broken_text x height place) }

@@ -4,17 +4,17 @@ ghost use Rattle.std.specs.Prelude.{◌≡◌, ◌+◌, ◌++◌, ◌≤◌, str
 ghost use Rattle.serde_json.specs.Data.{null};
 ghost use Rattle.serde_json.specs.View.{view};
 ghost use Rattle.rx_dump.specs.Names.{name_in_object};
-ghost use Rattle.rx_svg.specs.Lane.{row_text, tick_text, note_marble};
-ghost use Rattle.rx_svg.specs.Page.{lanes_shown, places_shown, width_of, head_text, point_text, legend_front, listed_text, list_text, lawful_text};
+ghost use Rattle.rx_svg.specs.Track.{row_text, tick_text, note_marble};
+ghost use Rattle.rx_svg.specs.Page.{tracks_shown, places_shown, width_of, head_text, point_text, legend_front, listed_text, list_text, lawful_text};
 ghost use Rattle.rx_svg.specs.Page.{verdict_label, leak_words, leak_entry, leaking_text, leaks_text, leaks_class};
-ghost use Rattle.rx_svg.specs.Page.{break_text, verdict_line, leaks_line, shares_line, under_text, lanes_text, page_text, svg_text, IsPicture};
+ghost use Rattle.rx_svg.specs.Page.{break_text, verdict_line, leaks_line, shares_line, under_text, tracks_text, page_text, svg_text, IsPicture};
 
-use crate::lanes::{push_row, push_tick, push_told, value_at, x_of};
 use crate::legend::push_legend;
 use crate::margin::margin;
 use crate::names::push_named;
-use crate::pieces::put;
+use crate::pieces::{MOST_SHOWN, front, push_rest, put};
 use crate::strokes::{push_broken, push_column};
+use crate::tracks::{push_row, push_tick, push_told, value_at, x_of};
 use rx_audit::{Verdict, audit};
 use rx_dump::Names;
 use rx_event::{Event, Mail};
@@ -35,12 +35,12 @@ const STYLE: &str =
     .place{stroke:#333}.held,.full{fill:#eee}.waiting,.marble{fill:#111}.tick{stroke:#111}\
     path.leak{stroke:#f66}text.leak,.held.leak,.arrow{fill:#f66}}</style>\n";
 
-/// How many lanes are shown, of so many events.
-fn lanes_shown(drawing: &Drawing, end: u64) -> u64
-    ensures value { result ≡ lanes_shown drawing.now end }
+/// How many tracks are shown, of so many events.
+fn tracks_shown(drawing: &Drawing, end: u64) -> u64
+    ensures value { result ≡ tracks_shown drawing.now end }
     ensures few { result ≤ 200 }
 {
-    value_at(&drawing.lanes, end).min(200) as u64
+    value_at(&drawing.tracks, end).min(200) as u64
 }
 
 /// How many places are shown, of so many events.
@@ -134,7 +134,7 @@ fn push_marbles(text: &mut String, drawing: &Drawing, marbles: &[Mail]) -> Resul
     Ok(())
 }
 
-/// The front of a line of text of this class under the lanes.
+/// The front of a line of text of this class under the tracks.
 #[tactic(auto, unfolding(crate::specs::Page::legend_front, crate::specs::Parts::text_of))]
 fn push_below(text: &mut String, class: &'static str, x: u64, y: u64) -> Result<(), AllocError>
     ensures { OnOk result (string_bytes text.new ≡ string_bytes text.old ++ legend_front class.now x y) }
@@ -160,13 +160,14 @@ fn push_listed(text: &mut String, numbers: &[u64]) -> Result<(), AllocError>
     Ok(())
 }
 
-/// A word, and the numbers behind it.
+/// A word, and the first of the numbers behind it.
 #[tactic(auto, unfolding(crate::specs::Page::list_text))]
 fn push_list(text: &mut String, name: &'static str, numbers: &[u64]) -> Result<(), AllocError>
     ensures { OnOk result (string_bytes text.new ≡ string_bytes text.old ++ list_text name.now numbers.now) }
 {
     text.push_str(name)?;
-    push_listed(text, numbers)
+    push_listed(text, front(numbers))?;
+    push_rest(text, numbers.len().saturating_sub(MOST_SHOWN))
 }
 
 /// What is left of a lawful history.
@@ -208,9 +209,9 @@ fn leak_words(n: u64) -> &'static str
     ensures { result.now ≡ leak_words n }
 {
     if n == 1 {
-        " resource leaks:"
+        " resource never released:"
     } else {
-        " resources leak:"
+        " resources never released:"
     }
 }
 
@@ -244,7 +245,8 @@ fn push_leaking(text: &mut String, names: Names<'_>, leaks: &[u64]) -> Result<()
     let count = leaks.len() as u64;
     let words = leak_words(count);
     put!(text; [count] words)?;
-    push_entries(text, names, leaks)
+    push_entries(text, names, front(leaks))?;
+    push_rest(text, leaks.len().saturating_sub(MOST_SHOWN))
 }
 
 /// How many resources leak, and which, if any does.
@@ -253,7 +255,7 @@ fn push_leaks(text: &mut String, names: Names<'_>, leaks: &[u64]) -> Result<(), 
         ++ leaks_text (name_in_object (view names.entry.object.now)) leaks.now) }
 {
     if leaks.len() == 0 {
-        return text.push_str("no resource leaks");
+        return text.push_str("all resources released");
     }
     push_leaking(text, names, leaks)
 }
@@ -265,7 +267,7 @@ fn leaks_class(leaks: &[u64]) -> &'static str
     if leaks.len() == 0 { "under" } else { "leak" }
 }
 
-/// The line through all lanes, where an event may not stand where it does.
+/// The line through all tracks, where an event may not stand where it does.
 fn push_break(
     text: &mut String,
     drawing: &Drawing,
@@ -280,7 +282,7 @@ fn push_break(
     }
 }
 
-/// The line of the verdict under the lanes, which are so high.
+/// The line of the verdict under the tracks, which are so high.
 #[tactic(auto, unfolding(crate::specs::Page::verdict_line))]
 fn push_verdict_line(
     text: &mut String,
@@ -327,15 +329,15 @@ fn push_shares_line(
     ensures { OnOk result (string_bytes text.new ≡ string_bytes text.old ++ shares_line drawing.now end x height) }
 {
     push_below(text, "under", x, height + 96)?;
-    let lanes = lanes_shown(drawing, end);
+    let tracks = tracks_shown(drawing, end);
     let places = places_shown(drawing, end);
     put!(text;
-        [lanes] " of " [drawing.all as u64] " lanes and " [places] " of " [end] " places are drawn"
+        [tracks] " of " [drawing.all as u64] " tracks and " [places] " of " [end] " places are drawn"
     )?;
     text.push_str("</text>\n")
 }
 
-/// What stands under the lanes, which are so high, from this place on.
+/// What stands under the tracks, which are so high, from this place on.
 #[tactic(auto, unfolding(crate::specs::Page::under_text))]
 fn push_under(
     text: &mut String,
@@ -357,9 +359,9 @@ fn push_under(
     push_legend(text, x + 10, height + 124)
 }
 
-/// What stands in the lanes, which are so high.
-#[tactic(auto, unfolding(crate::specs::Page::lanes_text))]
-fn push_lanes(
+/// What stands in the tracks, which are so high.
+#[tactic(auto, unfolding(crate::specs::Page::tracks_text))]
+fn push_tracks(
     text: &mut String,
     names: Names<'_>,
     drawing: &Drawing,
@@ -368,7 +370,7 @@ fn push_lanes(
     verdict: &Verdict,
 ) -> Result<(), AllocError>
     ensures { OnOk result (string_bytes text.new ≡ string_bytes text.old
-        ++ lanes_text drawing.now (name_in_object (view names.entry.object.now)) end height verdict.now) }
+        ++ tracks_text drawing.now (name_in_object (view names.entry.object.now)) end height verdict.now) }
 {
     push_points(text, drawing, height, drawing.points.as_slice())?;
     push_rows(text, names, drawing, end, drawing.rows.as_slice())?;
@@ -391,9 +393,9 @@ fn push_page(
     ensures { OnOk result (string_bytes text.new ≡ string_bytes text.old
         ++ page_text drawing.now (name_in_object (view names.entry.object.now)) end verdict.now left) }
 {
-    let height = 32 + 28 * lanes_shown(drawing, end);
+    let height = 32 + 28 * tracks_shown(drawing, end);
     push_head(text, left, width_of(drawing, left, end), height + 240)?;
-    push_lanes(text, names, drawing, end, height, verdict)?;
+    push_tracks(text, names, drawing, end, height, verdict)?;
     push_under(text, names, drawing, end, left + 10, height, verdict)?;
     text.push_str("</svg>\n")
 }
@@ -415,7 +417,7 @@ fn push_svg(
 }
 
 /// The picture of the events, which need not be lawful, with the verdict of the audit, as a well-formed
-/// SVG document. Behind a number that has a lane, and behind one that leaks, stands its name, if the
+/// SVG document. Behind a number that has a track, and behind one that leaks, stands its name, if the
 /// object `names` leads to a text from the number, written as a decimal; any other value has no names.
 /// The error comes where memory is refused, and for more events than `rx_audit` judges.
 pub fn named_picture(alloc: Global, events: &[Event], names: &Value) -> Result<String, AllocError>

@@ -14,7 +14,7 @@ returns c =
       leaking = c.in_ok-leaks.ensures;
       marbles = rw (c.deref-6.ensures.value, c.deref-7.ensures.value) at c.in_ok-marbles.ensures;
       points = rw c.deref-8.ensures.value at c.in_ok-points.ensures;
-      lanes = rw c.deref-9.ensures.value at c.in_ok-lanes.ensures;
+      tracks = rw c.deref-9.ensures.value at c.in_ok-tracks.ensures;
       columns = rw c.deref-10.ensures.value at c.in_ok-columns.ensures;
       levels = c.in_ok-levels.ensures;
     })

@@ -1,6 +1,6 @@
 use Rattle.rx_svg.proofs.Common.{◌≡◌, take, view, name_in_object}
 use Rattle.std.proofs.Common.{◌≤◌}
-use Rattle.rx_svg.specs.Lane.{margin}
+use Rattle.rx_svg.specs.Track.{margin}
 use Rattle.rx_svg.proofs.margin.margin.Given as goal
 
 abbrev pub invariant-loop-row : goal.invariant-loop-row

@@ -1,13 +1,13 @@
-//! What stands in the lanes of a picture, each written behind a text.
+//! What stands in the tracks of a picture, each written behind a text.
 
 ghost use Rattle.std.specs.Prelude.{◌≡◌, ◌++◌, ◌≤◌, string_bytes, OnOk, slice_index_or};
-ghost use Rattle.rx_picture.specs.Rows.{lane_of};
+ghost use Rattle.rx_picture.specs.Rows.{track_of};
 ghost use Rattle.rx_picture.specs.Leaks.{is_leaking};
 ghost use Rattle.serde_json.specs.View.{view};
 ghost use Rattle.rx_dump.specs.Names.{name_in_object};
-ghost use Rattle.rx_svg.specs.Lane.{x_of, y_of, has_lane, is_root_point, is_root_of, label_element, ending_text, life_text};
-ghost use Rattle.rx_svg.specs.Lane.{stretch_text, held_class, wait_class, owned_text, loan_text, wait_text, release_text};
-ghost use Rattle.rx_svg.specs.Lane.{shape_text, row_label, row_text, in_lane_text, emitted_text, done_text, tick_text, note_marble};
+ghost use Rattle.rx_svg.specs.Track.{x_of, y_of, is_counted, has_track, has_column, is_root_point, is_root_of, label_element, ending_text, life_text};
+ghost use Rattle.rx_svg.specs.Track.{stretch_text, held_class, wait_class, owned_text, loan_text, wait_text, release_text};
+ghost use Rattle.rx_svg.specs.Track.{shape_text, row_label, row_text, in_track_text, emitted_text, done_text, tick_text, note_marble};
 
 use crate::labels::push_called;
 use crate::pieces::put;
@@ -36,19 +36,32 @@ pub fn x_of(drawing: &Drawing, place: u64) -> u64
     4050 + 20 * value_at(&drawing.columns, place).min(2000) as u64
 }
 
-/// Where the lane of the number stands, from the top.
+/// Where the track of the number stands, from the top.
 pub fn y_of(drawing: &Drawing, n: u64) -> u64
     ensures { result ≡ y_of drawing.now n }
 {
-    48 + 28 * value_at(&drawing.lanes, n).min(200) as u64
+    48 + 28 * value_at(&drawing.tracks, n).min(200) as u64
 }
 
-/// Whether the number has a lane that is shown.
-fn has_lane(drawing: &Drawing, n: u64) -> bool
-    ensures { result ≡ has_lane drawing.now n }
+/// Whether the list, which says of each number how many stand before it, counts this one.
+fn is_counted(columns: &[usize], n: u64) -> bool
+    ensures { result ≡ is_counted columns.now n }
 {
-    let lanes = drawing.lanes.as_slice();
-    n < lanes.len() as u64 && value_at(lanes, n) < value_at(lanes, n + 1)
+    n < columns.len() as u64 && value_at(columns, n) < value_at(columns, n + 1)
+}
+
+/// Whether the number has a track that is shown.
+fn has_track(drawing: &Drawing, n: u64) -> bool
+    ensures { result ≡ has_track drawing.now n }
+{
+    is_counted(&drawing.tracks, n)
+}
+
+/// Whether the place is shown.
+fn has_column(drawing: &Drawing, n: u64) -> bool
+    ensures { result ≡ has_column drawing.now n }
+{
+    is_counted(&drawing.columns, n)
 }
 
 /// Whether a root is opened there.
@@ -75,8 +88,8 @@ fn is_root_of(drawing: &Drawing, n: u64) -> bool
     }
 }
 
-/// What a lane shows.
-#[tactic(auto, unfolding(crate::specs::Lane::label_element, crate::specs::Lane::label_front, crate::specs::Parts::text_of))]
+/// What a track shows.
+#[tactic(auto, unfolding(crate::specs::Track::label_element, crate::specs::Track::label_front, crate::specs::Parts::text_of))]
 fn push_label(
     text: &mut String,
     names: Names<'_>,
@@ -258,7 +271,7 @@ fn is_leaking(end: u64, shape: Shape) -> bool
     }
 }
 
-/// What is drawn in a lane.
+/// What is drawn in a track.
 fn push_shape(
     text: &mut String,
     drawing: &Drawing,
@@ -287,11 +300,16 @@ fn push_shape(
             push_owned(text, drawing, leaking, y, owned_after, owned_until, end)?;
             push_release(text, drawing, leaking, y, taken)
         }
-        Shape::Loan { until, .. } => push_loan(text, drawing, leaking, y, n, until, end),
+        Shape::Loan { until, .. } => {
+            if !has_column(drawing, n) {
+                return Ok(());
+            }
+            push_loan(text, drawing, leaking, y, n, until, end)
+        }
     }
 }
 
-/// The label of a row that has a lane of its own.
+/// The label of a row that has a track of its own.
 fn push_name(
     text: &mut String,
     names: Names<'_>,
@@ -311,9 +329,9 @@ fn push_name(
     }
 }
 
-/// The number in whose lane the row lies.
-fn lane_of(n: u64, made: Event) -> u64
-    ensures { result ≡ lane_of n made }
+/// The number in whose track the row lies.
+fn track_of(n: u64, made: Event) -> u64
+    ensures { result ≡ track_of n made }
 {
     match made {
         Event::Lease(r) => r,
@@ -322,7 +340,7 @@ fn lane_of(n: u64, made: Event) -> u64
 }
 
 /// One row.
-#[tactic(auto, unfolding(crate::specs::Lane::row_text))]
+#[tactic(auto, unfolding(crate::specs::Track::row_text))]
 pub fn push_row(
     text: &mut String,
     names: Names<'_>,
@@ -334,13 +352,13 @@ pub fn push_row(
         ++ row_text drawing.now (name_in_object (view names.entry.object.now)) end row) }
 {
     push_name(text, names, drawing, row.number, row.made)?;
-    let y = y_of(drawing, lane_of(row.number, row.made));
+    let y = y_of(drawing, track_of(row.number, row.made));
     let leaking = is_leaking(end, row.shape);
     push_shape(text, drawing, leaking, y, row.number, end, row.shape)
 }
 
-/// A mark in the lane of a number, if it has one.
-fn push_in_lane(
+/// A mark in the track of a number, if it has one.
+fn push_in_track(
     text: &mut String,
     drawing: &Drawing,
     n: u64,
@@ -350,9 +368,9 @@ fn push_in_lane(
     title: &'static str,
 ) -> Result<(), AllocError>
     ensures { OnOk result (string_bytes text.new ≡ string_bytes text.old
-        ++ in_lane_text drawing.now n place class.now shape.now title.now) }
+        ++ in_track_text drawing.now n place class.now shape.now title.now) }
 {
-    if !has_lane(drawing, n) {
+    if !has_track(drawing, n) {
         return Ok(());
     }
     let x = x_of(drawing, place);
@@ -371,8 +389,8 @@ fn push_emitted(
     ensures { OnOk result (string_bytes text.new ≡ string_bytes text.old ++ emitted_text drawing.now n place value) }
 {
     let dot = "m-3 0a3 3 0 1 0 6 0a3 3 0 1 0 -6 0z";
-    push_in_lane(text, drawing, n, place, "full", dot, "emitted")?;
-    if has_lane(drawing, n) && !is_root_of(drawing, n) {
+    push_in_track(text, drawing, n, place, "full", dot, "emitted")?;
+    if has_track(drawing, n) && !is_root_of(drawing, n) {
         let x = x_of(drawing, place);
         let y = y_of(drawing, n);
         return push_above(text, x, y, value);
@@ -380,7 +398,7 @@ fn push_emitted(
     Ok(())
 }
 
-/// What an event did in a lane.
+/// What an event did in a track.
 fn push_done(
     text: &mut String,
     drawing: &Drawing,
@@ -393,19 +411,19 @@ fn push_done(
         Event::Item(n, value) => push_emitted(text, drawing, n, place, value),
         Event::Decline(f) => {
             let struck = "m-7 0l7 -7l7 7l-7 7zm1 6l12 -12";
-            push_in_lane(text, drawing, f, place, "marble", struck, "declined")
+            push_in_track(text, drawing, f, place, "marble", struck, "declined")
         }
         Event::Connect(g) => {
             let square = "m-4 -4h8v8h-8z";
-            push_in_lane(text, drawing, g, place, "full", square, "connected")
+            push_in_track(text, drawing, g, place, "full", square, "connected")
         }
-        Event::Use(r) => push_in_lane(text, drawing, r, place, "tick", "m0 -10v20", "used"),
+        Event::Use(r) => push_in_track(text, drawing, r, place, "tick", "m0 -10v20", "used"),
         _ => Ok(()),
     }
 }
 
-/// What the event of a place did in a lane.
-#[tactic(auto, unfolding(crate::specs::Lane::tick_text))]
+/// What the event of a place did in a track.
+#[tactic(auto, unfolding(crate::specs::Track::tick_text))]
 pub fn push_tick(text: &mut String, drawing: &Drawing, point: Point) -> Result<(), AllocError>
     ensures { OnOk result (string_bytes text.new ≡ string_bytes text.old ++ tick_text drawing.now point) }
 {
@@ -413,7 +431,7 @@ pub fn push_tick(text: &mut String, drawing: &Drawing, point: Point) -> Result<(
 }
 
 /// A marble.
-#[tactic(auto, unfolding(crate::specs::Lane::note_marble))]
+#[tactic(auto, unfolding(crate::specs::Track::note_marble))]
 pub fn push_told(text: &mut String, drawing: &Drawing, mail: Mail) -> Result<(), AllocError>
     ensures { OnOk result (string_bytes text.new ≡ string_bytes text.old ++ note_marble drawing.now mail) }
 {

@@ -1,4 +1,4 @@
--- What stands in the lanes of a picture.
+-- What stands in the tracks of a picture.
 use Rattle.std.specs.Prelude.{ℕ, ℤ, ◌+◌, ◌-◌, ◌*◌, Option, Bool, false, not, ◌&&◌, min, nat_lt, if◌then◌else◌, List, [], ◌∷◌, ◌++◌, codes, length}
 use Rattle.std.specs.Prelude.{slice_get, slice_index_or}
 use Rattle.std.specs.Option.{option_map_or}
@@ -15,7 +15,7 @@ use Rattle.rx_picture.specs.declared.row.Shape.TheVariants.{Node, Hub, Resource,
 use Rattle.rx_picture.specs.declared.row.Row.{Row}
 use Rattle.rx_picture.specs.declared.points.Point.{Point}
 use Rattle.rx_picture.specs.declared.drawing.Drawing.{Drawing}
-use Rattle.rx_picture.specs.Rows.{lane_of}
+use Rattle.rx_picture.specs.Rows.{track_of}
 use Rattle.rx_picture.specs.Leaks.{is_leaking_row}
 use Rattle.rx_svg.specs.Parts.{words, number, text_of}
 use Rattle.rx_svg.specs.Label.{called_text}
@@ -28,19 +28,27 @@ use Rattle.rx_svg.specs.Stroke.{bar_shape, cross_shape, strokes_shape, check_sha
 abbrev pub x_of : Drawing → ℕ → ℕ
 x_of d place = 4050 + 20 * min (slice_index_or d.columns.items place 0) 2000
 
--- the lane of a number, from the top
+-- the track of a number, from the top
 abbrev pub y_of : Drawing → ℕ → ℕ
-y_of d n = 48 + 28 * min (slice_index_or d.lanes.items n 0) 200
+y_of d n = 48 + 28 * min (slice_index_or d.tracks.items n 0) 200
 
--- the number has a lane that is shown
-abbrev pub has_lane : Drawing → ℕ → Bool
-has_lane d n = nat_lt n (length d.lanes.items) && nat_lt (slice_index_or d.lanes.items n 0) (slice_index_or d.lanes.items (n + 1) 0)
+-- the list, which says of each number how many stand before it, counts this one
+abbrev pub is_counted : List ℕ → ℕ → Bool
+is_counted columns n = nat_lt n (length columns) && nat_lt (slice_index_or columns n 0) (slice_index_or columns (n + 1) 0)
 
--- the stretch of a lane between two events, of so many
+-- the number has a track that is shown
+abbrev pub has_track : Drawing → ℕ → Bool
+has_track d n = is_counted d.tracks.items n
+
+-- the place is shown
+abbrev pub has_column : Drawing → ℕ → Bool
+has_column d n = is_counted d.columns.items n
+
+-- the stretch of a track between two events, of so many
 abbrev pub stretch_of : Drawing → ℕ → ℕ → ℕ → ℕ → Stretch
 stretch_of d y after until end = record { from = x_of d after; to = x_of d until; y = y; after = after; until = until; end = end }
 
--- what the number names is a root, by the place at which its lane begins
+-- what the number names is a root, by the place at which its track begins
 abbrev pub is_root_point : Point → Bool
 is_root_point point = is_root point.event
 
@@ -49,7 +57,7 @@ is_root_of d n = option_map_or is_root_point (slice_get d.points.items (slice_in
 
 -- a row -------------------------------------------------------------------------------------------
 
--- what a lane shows, up to here
+-- what a track shows, up to here
 unfoldable pub label_front : ℕ → ℕ → List ℕ
 label_front x y =
     text_of (words (codes "<text class=\"label\" x=\"") ∷ number x ∷ words (codes "\" y=\"") ∷ number y ∷ words (codes "\" dy=\"4\">") ∷ [])
@@ -112,9 +120,9 @@ shape_text d leaking y n end Hub = line_text (codes "hub") (codes "a hub") (stre
 shape_text d leaking y n end (Resource after until taken) =
     wait_text d leaking y n after end ++ wait_text d leaking y until taken end ++ owned_text d leaking y after until end
     ++ release_text d leaking y taken
-shape_text d leaking y n end (Loan resource until) = loan_text d leaking y n until end
+shape_text d leaking y n end (Loan resource until) = if has_column d n then loan_text d leaking y n until end else []
 
--- a label ends where its lane begins. A lease has none, and lies in the lane of its resource
+-- a label ends where its track begins. A lease has none, and lies in the track of its resource
 abbrev pub row_label : Drawing → ℕ → Option (List ℕ) → Event → List ℕ
 row_label d n name (Lease r) = []
 row_label d n name made = label_element (x_of d n - 12) (y_of d n) n name made
@@ -122,29 +130,29 @@ row_label d n name made = label_element (x_of d n - 12) (y_of d n) n name made
 unfoldable pub row_text : Drawing → (ℕ → Option (List ℕ)) → ℕ → Row → List ℕ
 row_text d names end row =
     row_label d row.number (names row.number) row.made
-    ++ shape_text d (is_leaking_row end row) (y_of d (lane_of row.number row.made)) row.number end row.shape
+    ++ shape_text d (is_leaking_row end row) (y_of d (track_of row.number row.made)) row.number end row.shape
 
 -- marks -------------------------------------------------------------------------------------------
 
--- a mark in the lane of a number, if it has one
-abbrev pub in_lane_text : Drawing → ℕ → ℕ → List ℕ → List ℕ → List ℕ → List ℕ
-in_lane_text d n place class shape title = if has_lane d n then mark_text class shape title (x_of d place) (y_of d n) place else []
+-- a mark in the track of a number, if it has one
+abbrev pub in_track_text : Drawing → ℕ → ℕ → List ℕ → List ℕ → List ℕ → List ℕ
+in_track_text d n place class shape title = if has_track d n then mark_text class shape title (x_of d place) (y_of d n) place else []
 
 -- the value of an item above the leaf that emits it; above a root it stands already, with what the root received
-abbrev pub value_in_lane : Drawing → ℕ → ℕ → ℤ → List ℕ
-value_in_lane d n place value = if has_lane d n && not (is_root_of d n) then above_text (x_of d place) (y_of d n) value else []
+abbrev pub value_in_track : Drawing → ℕ → ℕ → ℤ → List ℕ
+value_in_track d n place value = if has_track d n && not (is_root_of d n) then above_text (x_of d place) (y_of d n) value else []
 
 -- a dot for an item at the leaf that emits it
 abbrev pub emitted_text : Drawing → ℕ → ℕ → ℤ → List ℕ
-emitted_text d n place value = in_lane_text d n place (codes "full") dot_shape (codes "emitted") ++ value_in_lane d n place value
+emitted_text d n place value = in_track_text d n place (codes "full") dot_shape (codes "emitted") ++ value_in_track d n place value
 
--- what an event did in a lane: an item that is emitted, a struck diamond for one that is declined, a square where a hub
+-- what an event did in a track: an item that is emitted, a struck diamond for one that is declined, a square where a hub
 -- is connected, a tick where a resource is used
 abbrev pub done_text : Drawing → ℕ → Event → List ℕ
 done_text d place (Item n value) = emitted_text d n place value
-done_text d place (Decline f) = in_lane_text d f place (codes "marble") struck_shape (codes "declined")
-done_text d place (Connect g) = in_lane_text d g place (codes "full") square_shape (codes "connected")
-done_text d place (Use r) = in_lane_text d r place (codes "tick") tick_shape (codes "used")
+done_text d place (Decline f) = in_track_text d f place (codes "marble") struck_shape (codes "declined")
+done_text d place (Connect g) = in_track_text d g place (codes "full") square_shape (codes "connected")
+done_text d place (Use r) = in_track_text d r place (codes "tick") tick_shape (codes "used")
 done_text d place _ = []
 
 unfoldable pub tick_text : Drawing → Point → List ℕ
@@ -155,7 +163,7 @@ note_marble d m = marble_text (x_of d m.place) (y_of d m.to) m.place m.to m.note
 
 -- the margin --------------------------------------------------------------------------------------
 
--- there is room for the label of a row before its lane: 8 for each of its characters, of up to 500
+-- there is room for the label of a row before its track: 8 for each of its characters, of up to 500
 unfoldable pub label_start : Drawing → (ℕ → Option (List ℕ)) → Row → ℕ
 label_start d names row = x_of d row.number - (24 + 8 * min (length (called_text row.number (names row.number) row.made)) 500)
 
