@@ -15,4 +15,5 @@ mod seats;
 mod storms;
 mod ticks;
 mod trials;
+mod whole;
 mod workers;

@@ -1,15 +1,13 @@
-//! A program of its own that keeps its subscriptions in a book: one with a file, from its opening to the
+//! The program of the tutorial, which keeps its subscriptions in a book: one with a file, from its opening to the
 //! release of the file, one that it forgets, which the end of the session closes, two that share a source, one
-//! each with FlatMap, Switch and TakeUntil, one whose items stand for texts, and one whose connection is lent to a
-//! request that outlives it. Then it makes a checkpoint. At last threads share another book, at a desk.
+//! each with FlatMap, Switch and TakeUntil, and one whose connection is lent to a request that outlives it. Then it
+//! makes a checkpoint.
 #![tactic(auto)]
 
-mod countdown;
 mod file;
 mod pipelines;
 mod session;
 mod stopped;
-mod threads;
 
 use pipelines::run;
 use rx_book::Book;
@@ -23,7 +21,5 @@ fn main(rt: HostRuntime) -> Result<(), Stopped> {
     let outcome = run(&rt, &mut session.book);
     let closed = session.end();
     println!(rt; "the end of the session releases {} more", closed.released)?;
-    outcome?;
-    threads::show(&rt, rt.alloc())?;
-    Ok(())
+    outcome
 }

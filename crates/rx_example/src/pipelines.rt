@@ -2,7 +2,7 @@
 
 use crate::file::File;
 use crate::stopped::Stopped;
-use rx_book::{At, Book, Kind, Mode, Note, Terminal};
+use rx_book::{At, Book, Kind, Mode, Terminal};
 
 /// Runs the pipelines, one after the other.
 pub fn run(rt: &impl Print, book: &mut Book<File>) -> Result<(), Stopped> {
@@ -11,7 +11,6 @@ pub fn run(rt: &impl Print, book: &mut Book<File>) -> Result<(), Stopped> {
     merge(rt, book)?;
     latest(rt, book)?;
     until(rt, book)?;
-    carry(rt, book)?;
     lend(rt, book)?;
     go_on(rt, book)
 }
@@ -88,16 +87,6 @@ fn until(rt: &impl Print, book: &mut Book<File>) -> Result<(), Stopped> {
     tell(rt, book)
 }
 
-/// Sends texts: an item is the place of its text in a list.
-fn carry(rt: &impl Print, book: &mut Book<File>) -> Result<(), Stopped> {
-    let quotes = book.open(At::Root, Kind::Leaf)?.key;
-    book.next(quotes, 1)?;
-    book.next(quotes, 0)?;
-    tell_texts(rt, book, &["bid 17", "ask 19"])?;
-    book.dispose(quotes)?;
-    Ok(())
-}
-
 /// Lends a subscription's connection to a request that outlives it: the connection stays until the request
 /// gives its lease back (a dependent of RefCountDisposable).
 fn lend(rt: &impl Print, book: &mut Book<File>) -> Result<(), Stopped> {
@@ -120,24 +109,6 @@ fn go_on(rt: &impl Print, book: &mut Book<File>) -> Result<(), Stopped> {
     match book.checkpoint() {
         Ok(at) => println!(rt; "the book goes on after {at} events")?,
         Err(why) => println!(rt; "the book goes on with its events: {why}")?,
-    }
-    Ok(())
-}
-
-/// The text that a note brings; None where it is no item, or no text has its number.
-fn text_of<'a>(texts: &[&'a str], note: Note) -> Option<&'a str> {
-    let Note::Next(index) = note else {
-        return None;
-    };
-    texts.get(usize::try_from(index).ok()?).copied()
-}
-
-/// Tells the observers the texts that their items name.
-fn tell_texts(rt: &impl Print, book: &mut Book<File>, texts: &[&str]) -> Result<(), Stopped> {
-    while let Some(mail) = book.take_mail() {
-        if let Some(text) = text_of(texts, mail.note) {
-            println!(rt; "observer {} receives {text}", mail.to)?;
-        }
     }
     Ok(())
 }

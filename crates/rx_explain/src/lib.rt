@@ -18,7 +18,7 @@
 //!   the refusal of the table of causes is worded, with the right number (`specs/Worded.antt`).
 //! - What other sentences say is not proved, nor which earlier event one names. The faults of scenarios and dumps
 //!   are looked for a second time, by plain code over the tables of `words`; where that finds none, the sentence says
-//!   no more than what the input is not. Stored mistakes with their texts are replayed by `rx_replay`.
+//!   no more than what the input is not. Mistakes stand with what is said of them in `examples/stored/mistakes`.
 #![tactic(auto)]
 
 mod dump;

@@ -1,31 +1,26 @@
-//! Threads at one book: two sources emit, each in a thread of its own and below a subscription that holds a
-//! resource, and a worker releases what comes to wait. Then the desk is ended, and its book.
+//! A whole program of threads at one book: two sources emit, each in a thread of its own and below a subscription that holds a
+//! resource, and a worker releases what comes to wait. Then the desk is ended, and its book. It comes to the same whichever
+//! thread gets the lock first.
 
 ghost use Rattle.std.specs.Prelude.{◌≡◌, ◌+◌, IfOk, IsOk};
 ghost use Rattle.rx_ledger.specs.Shares.{OpensFromBlank, all_parts, together};
 
-use crate::countdown::Countdown;
-use rx_book::{At, Book, Closed, Kind};
-use rx_crew::{Desk, Finished, Gate, Mismatch, Totals, feed, finish, worker};
-use rx_ledger::{PARTS, Seat};
+use super::parts::{Open, blanks, tell};
+use super::ticks::Ticks;
+use rx_book::{At, Book, Closed};
+use rx_crew::{Desk, Finished, Mismatch, Totals, feed, finish, worker};
+use rx_event::{Kind, Terminal};
+use rx_ledger::Seat;
 use rx_resource::Sample;
 use std::alloc::{AllocError, Global};
 use std::marker::Brand;
 use std::sync::Wait;
 use std::sync::ledger::{Blank, Ledger};
+use std::test::Fail;
+use std::thread;
 use std::thread::Threads;
-use std::{io, thread};
 
-/// What a worker calls around each release: nothing here.
-struct Open;
-
-impl Gate for Open {
-    fn before(&self, _number: u64) {}
-
-    fn after(&self, _number: u64) {}
-}
-
-/// Subscribes with a resource, and emits so many turns of a countdown from 1000, whose end is the 1001st. Where
+/// Subscribes with a resource, and emits so many turns of a source of a thousand items, whose end is the 1001st. Where
 /// a call is refused it stops there, and the book's totals say so.
 fn emit<I: Ledger, A: Ledger, K: Ledger>(
     rt: &impl Wait,
@@ -45,7 +40,7 @@ fn emit<I: Ledger, A: Ledger, K: Ledger>(
         return seat;
     };
     drop(floor);
-    let mut source = Countdown::from(1000);
+    let mut source = Ticks::of(1000, Terminal::Completed);
     feed(rt, alloc, desk, seat, leaf.key, &mut source, turns).seat
 }
 
@@ -124,15 +119,23 @@ fn run<
     Ok(end_all(desk, seats))
 }
 
-/// Runs the threads at a desk of their own, and prints what its book comes to.
-pub fn show<T: Threads + Wait + Sync + Print>(rt: &T, alloc: Global) -> io::Result<()> {
-    let blanks = (Blank::new(PARTS), Blank::new(PARTS), Blank::new(PARTS));
-    let (verdict, closed) = run::<Brand, Brand, Brand, _>(rt, alloc, blanks)?;
-    let Ok(totals) = verdict else { unreachable!() };
-    println!(rt; "events {} items {}", totals.len, totals.items)?;
-    println!(rt;
-        "accepted {} taken {} held {}",
-        totals.accepted, totals.taken, totals.held
-    )?;
-    println!(rt; "the end of the book releases {} more", closed.released)
+const TOLD: &str = "\
+Ok(Totals { items: 1500, accepted: 2, taken: 1, held: 1, waiting: 0, len: 1509 })
+Closed { released: 1, faults: 0 }
+";
+
+// What comes of the program, as lines.
+fn told<T: Threads + Wait + Sync>(rt: &T, alloc: Global) -> Result<String, AllocError> {
+    let (verdict, closed) = run::<Brand, Brand, Brand, _>(rt, alloc, blanks())?;
+    let mut told = String::new(alloc);
+    tell(&mut told, verdict);
+    tell(&mut told, closed);
+    Ok(told)
+}
+
+#[test]
+fn two_sources_and_a_worker_agree_with_the_book(rt: HostRuntime) -> Result<(), Fail> {
+    let told = told(&rt, rt.alloc())?;
+    assert_eq!(rt; told.as_str(), TOLD);
+    Ok(())
 }

@@ -1,4 +1,4 @@
-use Rattle.rx_example.proofs.threads.show.Given as goal
+use Rattle.rx_book_tests.proofs.desks.whole.told.Given as goal
 
 abbrev pub ghosts-run-I-Ledger : goal.ghosts-run-I-Ledger
 ghosts-run-I-Ledger g a = record { name = a.blanks.0.name; parts = a.blanks.0.parts }
