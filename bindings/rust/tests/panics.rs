@@ -369,6 +369,20 @@ fn whatever_subscribed_to_a_share_whose_source_panics_as_it_is_subscribed_to_is_
 }
 
 #[test]
+fn whatever_subscribes_as_the_others_of_a_share_are_closed_is_connected_anew() {
+    let (subject, kept) = (Subject::<i32>::new(), Rc::new(RefCell::new(None)));
+    let shared = subject.observable().flat_map(|it| Observable::of([if it == 1 { panic_any("broken") } else { it }])).share();
+    let (again, holder) = (shared.clone(), kept.clone());
+    let first = shared.finalize(move || *holder.borrow_mut() = Some(again.channel())).each(drop);
+    let second = shared.each(drop);
+    assert_eq!(panics(|| subject.next(1)), "broken");
+    assert!(first.is_closed() && second.is_closed());
+    subject.next(2);
+    subject.completed();
+    assert_eq!(kept.take().unwrap().1.iter().collect::<Vec<_>>(), [Note::Next(2), Note::Completed]);
+}
+
+#[test]
 fn drops_that_panic_as_their_thread_ends_go_no_further() {
     struct Breaks(Arc<AtomicU32>);
     impl Drop for Breaks {

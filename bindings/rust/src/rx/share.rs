@@ -24,16 +24,26 @@ type Copies<T> = Lock<Slab<(Ref<T>, u64)>>;
 struct Share<'a, T, E> {
     source: Observable<'a, T, E>,
     kind: u8,
-    word: u64,
     hub: AtomicU64,
     connection: AtomicU64,
     engine: OnceLock<Ref<Engine<'a>>>,
     items: Copies<T>,
     errors: Copies<E>,
-    subscribers: Lock<Slab<Weak<Subscriber<'a, T, E>>>>,
+    subscribers: Lock<Subscribers<'a, T, E>>,
     /// Of `publish`: how its source ended, which who comes later hears. The engine's hubs remember no end.
     end: Lock<Option<Ended<E>>>,
     remembers: bool,
+}
+
+/// Whatever subscribed, and the word by which the next subscribes: another one since a source broke, which is left to whatever has it.
+struct Subscribers<'a, T, E> {
+    word: u64,
+    all: Slab<Weak<Subscriber<'a, T, E>>>,
+}
+
+fn new_word() -> u64 {
+    static WORDS: AtomicU64 = AtomicU64::new(1);
+    WORDS.fetch_add(1, Relaxed)
 }
 
 /// A completion, or a failure.
@@ -128,18 +138,22 @@ struct Subscriber<'a, T, E> {
     share: Ref<Share<'a, T, E>>,
     to: To<'a, T, E>,
     hears: Option<Ref<AThing<'a>>>,
+    word: u64,
     at: u64,
 }
 
 impl<T, E> Drop for Subscriber<'_, T, E> {
     fn drop(&mut self) {
-        drop(self.share.subscribers.with(|all| all.take(self.at)))
+        drop(self.share.subscribers.with(|it| it.all.take(self.at)))
     }
 }
 
 impl<'a, T, E> Subscriber<'a, T, E> {
     fn new(share: &Ref<Share<'a, T, E>>, to: To<'a, T, E>, hears: Option<Ref<AThing<'a>>>) -> Ref<Self> {
-        Ref::new_cyclic(|it| Subscriber { share: share.clone(), to, hears, at: share.subscribers.with(|all| all.put(it.clone())) })
+        Ref::new_cyclic(|me| {
+            let (word, at) = share.subscribers.with(|it| (it.word, it.all.put(me.clone())));
+            Subscriber { share: share.clone(), to, hears, word, at }
+        })
     }
 
     /// Closes the subscription that what it is told goes to.
@@ -201,32 +215,48 @@ impl<'a, T: Clone + Moves + 'a, E: Clone + Moves + 'a> Thing for Subscriber<'a, 
     }
 }
 
-impl<'a, T: Clone + Moves + Fits + 'a, E: Clone + Moves + Fits + 'a> Thing for Share<'a, T, E> {
+/// A connection of a share, by its word.
+struct Connected<'a, T, E> {
+    share: Ref<Share<'a, T, E>>,
+    word: u64,
+}
+
+impl<'a, T: Clone + Moves + Fits + 'a, E: Clone + Moves + Fits + 'a> Thing for Connected<'a, T, E> {
     /// A function of the source panicked, or it cannot be subscribed to. That closes a connection by hand; with any other it closes whatever
     /// subscribed, which it else keeps waiting.
     fn panicked(&self) {
-        let mut panics = Panics::default();
-        if self.kind == kind::PUBLISHED {
-            panics.run(|| self.disconnect());
-        } else {
-            let all = self.subscribers.with(|all| all.iter().filter_map(Weak::upgrade).collect::<Vec<_>>());
-            for it in all {
-                panics.run(|| it.close());
-                panics.run(|| drop(it));
+        if self.share.kind == kind::PUBLISHED {
+            return self.share.disconnect();
+        }
+        let all = self.share.subscribers.with(|it| {
+            if it.word == self.word {
+                it.word = new_word()
             }
+            it.all.iter().filter_map(Weak::upgrade).collect::<Vec<_>>() // those of others are dropped outside the lock
+        });
+        let mut panics = Panics::default();
+        for it in all {
+            if it.word == self.word {
+                panics.run(|| it.close());
+            }
+            panics.run(|| drop(it));
         }
         panics.go_on()
     }
 }
 
 impl<'a, T, E> Share<'a, T, E> {
-    fn command(&self) -> Command {
-        Command { kind: self.kind, hub: self.hub.load(Relaxed), value: self.word, ..Command::default() }
+    fn word(&self) -> u64 {
+        self.subscribers.with(|it| it.word)
+    }
+
+    fn command(&self, word: u64) -> Command {
+        Command { kind: self.kind, hub: self.hub.load(Relaxed), value: word, ..Command::default() }
     }
 
     fn disconnect(&self) {
         if let Some(engine) = self.engine.get() {
-            let command = Command { what: what::DISCONNECT, node: NOTHING, ..self.command() };
+            let command = Command { what: what::DISCONNECT, node: NOTHING, ..self.command(self.word()) };
             let _ = engine.make(command, Word::default(), None, |_| ()); // refused if it has ended
         }
     }
@@ -234,11 +264,10 @@ impl<'a, T, E> Share<'a, T, E> {
 
 impl<'a, T: Clone + Moves + Fits + 'a, E: Clone + Moves + Fits + 'a> Share<'a, T, E> {
     fn new(source: Observable<'a, T, E>, kind: u8, remembers: bool) -> Ref<Self> {
-        static WORDS: AtomicU64 = AtomicU64::new(1);
         Ref::new(Share {
-            source, kind, word: WORDS.fetch_add(1, Relaxed), hub: AtomicU64::new(UNKNOWN_HUB), connection: AtomicU64::new(0),
+            source, kind, hub: AtomicU64::new(UNKNOWN_HUB), connection: AtomicU64::new(0),
             engine: OnceLock::new(), items: Lock::new(Slab::new()), errors: Lock::new(Slab::new()),
-            subscribers: Lock::new(Slab::new()), end: Lock::new(None), remembers,
+            subscribers: Lock::new(Subscribers { word: new_word(), all: Slab::new() }), end: Lock::new(None), remembers,
         })
     }
 
@@ -273,20 +302,22 @@ impl<'a, T: Clone + Moves + Fits + 'a, E: Clone + Moves + Fits + 'a> Share<'a, T
     fn join(self: &Ref<Self>, it: Ref<Subscriber<'a, T, E>>, root: &Root<'a>, lane: Option<Key>) -> Result<(), Refusal> {
         let flags = if lane.is_some() { flag::LANE_OF_NODE } else { 0 };
         let node = lane.unwrap_or(NOTHING);
-        let command = Command { what: what::OPEN, place: place::ROOT, flags, node, ..self.command() };
+        let word = it.word;
+        let command = Command { what: what::OPEN, place: place::ROOT, flags, node, ..self.command(word) };
         let made = root.engine.make(command, Word::hears(it), None, |_| ())?;
         self.hub.store(made.hub, Relaxed);
         if root.set_late(made.node) {
             root.close(); // from within the opening
         }
-        if made.is_connected { self.begin(root.engine.clone(), made.other) } else { Ok(()) }
+        if made.is_connected { self.begin(root.engine.clone(), made.other, word) } else { Ok(()) }
     }
 
     /// What has subscribed besides, meanwhile, is closed too if the source cannot be subscribed to.
-    fn begin(self: &Ref<Self>, engine: Ref<Engine<'a>>, connection: Key) -> Result<(), Refusal> {
+    fn begin(self: &Ref<Self>, engine: Ref<Engine<'a>>, connection: Key, word: u64) -> Result<(), Refusal> {
         self.connection.store(connection.number, Relaxed);
         drop(self.end.with(Option::take));
-        let way = Ref::new(IntoShare { share: self.clone(), root: Root::of_share(engine, self.clone()) });
+        let root = Root::of_share(engine, Ref::new(Connected { share: self.clone(), word }));
+        let way = Ref::new(IntoShare { share: self.clone(), root });
         let place = Place { spot: Spot::below(place::SOURCE, connection), way: way.clone() as Ref<AWay<'a, T, E>> };
         let done = unless_gone(call(|| way.root(), || self.source.open(place)));
         if done.is_err() {
@@ -334,11 +365,12 @@ impl<'a, T: Clone + Moves + Fits + 'a, E: Clone + Moves + Fits + 'a> Connectable
     /// Subscribes to the source within a scope; if it is connected already, answers that connection.
     pub fn connect_in(&self, scope: &Scope<'a>) -> Result<Connection<'a, T, E>, Refusal> {
         let engine = self.share.engine.get_or_init(|| scope.engine.clone()).clone();
-        let command = Command { what: what::CONNECT, node: NOTHING, ..self.share.command() };
+        let word = self.share.word();
+        let command = Command { what: what::CONNECT, node: NOTHING, ..self.share.command(word) };
         match engine.make(command, Word::default(), None, |_| ()) {
             Ok(made) => {
                 self.share.hub.store(made.hub, Relaxed);
-                self.share.begin(engine, made.other)?;
+                self.share.begin(engine, made.other, word)?;
                 Ok(Connection { share: self.share.clone(), number: made.other.number })
             }
             Err(Refusal::Connected) => Ok(Connection { share: self.share.clone(), number: self.share.connection.load(Relaxed) }),
