@@ -87,6 +87,24 @@ fn an_observer_that_completes_its_source_and_subscribes_again_hears_both() {
 }
 
 #[test]
+fn an_error_behind_the_end_may_subscribe_as_it_is_dropped() {
+    type Broken = local::Subject<'static, i32, Again>;
+    #[derive(Clone)]
+    struct Again(Rc<RefCell<Option<Broken>>>);
+    impl Drop for Again {
+        fn drop(&mut self) {
+            let subject = self.0.borrow_mut().take();
+            subject.into_iter().for_each(|it| it.observable().each(drop).detach());
+        }
+    }
+    let (subject, again) = (Broken::new(), Again(Rc::default()));
+    subject.error(again.clone());
+    *again.0.borrow_mut() = Some(subject.clone());
+    subject.error(again.clone());
+    assert!(again.0.borrow().is_none() && subject.observers() == 0);
+}
+
+#[test]
 fn what_borrows_from_the_stack_is_observed_within_a_scope() {
     let (total, text) = (Cell::new(0), String::from("abc"));
     {

@@ -128,12 +128,12 @@ impl<'a, T: Moves + 'a, E: Clone + Moves + 'a> Subject<'a, T, E> {
     }
 
     fn ends(&self, end: Result<(), E>) {
-        let kept = end.clone();
+        let mut kept = Some(end.clone()); // dropped outside the lock, if it is not the first
         let all = self.list.with(|list| {
             if list.end.is_some() {
                 return Ref::new(Vec::new());
             }
-            list.end = Some(kept);
+            list.end = kept.take();
             std::mem::replace(&mut list.emitters, Ref::new(Vec::new()))
         });
         let mut panics = Panics::default();
