@@ -59,7 +59,15 @@ export const tests = {
     rx.of(1, 2).pipe(rx.concatMap((n) => held(n).pipe(rx.finalize(() => say(`finally ${n}`)), rx.takeUntil(stop)))).subscribe({ complete: () => say('end') });
     stop.next();
     stop.next();
-  }, ['made 1', 'released 1', 'finally 1', 'made 2', 'released 2', 'finally 2', 'end']),
+    const stops = new rx.Observable((to) => {
+      stop.subscribe(to);
+      return () => say('notifier released');
+    });
+    for (const one of [stops, stops.pipe(rx.map((x) => x))]) {
+      rx.of(1).pipe(rx.mergeMap(() => rx.NEVER.pipe(rx.takeUntil(one)))).subscribe({ complete: () => say('end') });
+      stop.next();
+    }
+  }, ['made 1', 'released 1', 'finally 1', 'made 2', 'released 2', 'finally 2', 'end', 'notifier released', 'end', 'notifier released', 'end']),
   'switchMap releases the inner observable before it calls the function': test((rx, say) => {
     const words = new rx.Subject();
     words.pipe(rx.switchMap((word) => {

@@ -32,13 +32,16 @@ export class Inner {
   }
   releases() {
     const { leaf } = this;
-    if (leaf === null || leaf.isStopped) return;
-    leaf.isStopped = true;
-    releases(leaf);
+    if (leaf !== null && !leaf.isStopped) releases(leaf);
   }
 }
-function releases(leaf) {
+/** Releases what it holds itself, before it tells its last. */
+export function stops(leaf) {
+  leaf.isStopped = true;
   if (leaf._tag !== null) realm.engine.remove(leaf._tag);
+}
+function releases(leaf) {
+  stops(leaf);
   for (let it = leaf._inner; it.above !== null; it = it.above) if (it.tag !== null) realm.engine.remove(it.tag);
 }
 

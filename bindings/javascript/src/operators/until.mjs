@@ -1,6 +1,6 @@
 // TakeUntil of the engine, and what leaves out items until another observable tells.
 import { NOTIFIER, SOURCE, UNTIL } from '../engine/codes.mjs';
-import { Inner, Stage, TERMINAL, failing } from '../core/leaf.mjs';
+import { Inner, Stage, TERMINAL, failing, stops } from '../core/leaf.mjs';
 import { realm } from '../engine/realm.mjs';
 import { Link } from '../core/link.mjs';
 import { Observable } from '../core/observable.mjs';
@@ -23,6 +23,7 @@ class Notifies extends Stage {
   next(value, leaf) {
     if (this.ends !== null) {
       realm.engine.room(true);
+      stops(leaf);
       this.ends.releases();
     }
     this.up.next(value, leaf);
