@@ -76,6 +76,11 @@ function areMadeBehindNobody(more, lines) {
   const at = lines.indexOf(more[0]), last = lines.slice(0, Math.max(at, 0)).findLastIndex((it) => it.includes(' begins subscribe '));
   return more.length > 0 && more.every((it) => parts(it).who === 'made' || isHeard(parts(it).who)) && last >= 0 && stepOf(lines[last]) === stepOf(more[0]) && hearing(lines.slice(0, last)).size === 0;
 }
+/** Whether both do the same where what callbacks tell is put off. */
+function isSamePutOff(runs) {
+  const [theirs, ours] = runs(true, false);
+  return compared(theirs.lines) === compared(ours.lines);
+}
 /** Whether RxJS does the same where the notifier for a reset of a share tells in place of its error, and what is repeated leaves what was before. */
 const isSameMended = (lines, runs) => runs !== undefined && compared(runs(false, true)[0].lines) === compared(lines);
 
@@ -101,6 +106,8 @@ export const FAULTS = {
     const more = beyond(wanted(upToWithin(a)), wanted(b));
     return a.some(isActOfRelease) && more.some((it) => parts(it).who === 'released') && ofOwnResources(more);
   },
+  'RxJS has two inner observables of switchMap, where the release of one tells its source': ({ it: { whole, within } }, b, runs) =>
+    hasWord(whole, (name) => name.startsWith('switch')) && within.some(({ where, act }) => where === 'release' && TELLS.includes(act[0])) && isSamePutOff(runs),
   'RxJS has more of one at a time': ({ lines: a }, { lines: b }) => {
     const [theirs, ours] = [a, b].map(mostAtATime);
     return Object.keys(theirs).some((it) => theirs[it] > (ours[it] ?? 0)) && Object.keys(ours).every((it) => ours[it] <= (theirs[it] ?? 0));
@@ -134,6 +141,8 @@ export const ROWS = {
   // and where one observer hears nobody hears an end of which RxJS does not tell, or the other way
   'what a callback tells from within comes as soon as it has returned': ({ within, steps }, a, b) => within.some(({ act }) => TELLS.includes(act[0]))
     && (endsOf(a.lines) === endsOf(b.lines) || within.some(({ where }) => where === 'call') || new Set(steps.filter(([act]) => act === 'subscribe').map(([, who]) => who)).size > 1),
+  'what comes of a subscription from within comes as soon as the callback has returned': ({ within }, a, b) => within.some(({ act }) => act[0] === 'subscribe')
+    && compared(a.lines) === compared(b.lines),
   'what a release throws at an end is reported': ({ within }) => within.some(({ where, act }) => where === 'release' && act[0] === 'throw'),
 };
 const isFault = (name, a, b, runs) => compared(a.lines) !== compared(b.lines) && FAULTS[name](a, b, runs);
