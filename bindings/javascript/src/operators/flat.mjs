@@ -2,7 +2,7 @@
 import { FLAT, INNER, SOURCE, SWITCH } from '../engine/codes.mjs';
 import { realm } from '../engine/realm.mjs';
 import { TERMINAL } from '../core/leaf.mjs';
-import { MERGED, Place, failAt, openAt, openNode, openPass, settled } from '../core/place.mjs';
+import { MERGED, Place, failAt, linked, openAt, openNode, openPass, settled } from '../core/place.mjs';
 import { operator } from '../core/operator.mjs';
 import { Subject } from '../core/subject.mjs';
 import { identity, isFunction } from '../core/util.mjs';
@@ -101,8 +101,11 @@ class Exhausts extends Bounded {
   }
 }
 
+/** Where it merges. Within what is merged, where something stands around it that is to be released before its end is counted, it has a tree of its own,
+ *  whose end is one above. */
+const merging = (at) => (at._inner !== null && at._inner.above !== null ? linked(at) : settled(at));
 const projecting = (kind, make) => operator((at, source) => {
-  const place = settled(at);
+  const place = merging(at);
   if (place === null) return;
   const body = make(place._way), thing = openNode(place, kind, body);
   if (thing === null) return;

@@ -106,8 +106,8 @@ export const FAULTS = {
     const more = beyond(wanted(upToWithin(a)), wanted(b));
     return a.some(isActOfRelease) && more.some((it) => parts(it).who === 'released') && ofOwnResources(more);
   },
-  'RxJS has two inner observables of switchMap, where the release of one tells its source': ({ it: { whole, within } }, b, runs) =>
-    hasWord(whole, (name) => name.startsWith('switch')) && within.some(({ where, act }) => where === 'release' && TELLS.includes(act[0])) && isSamePutOff(runs),
+  'RxJS has two inner observables of switchMap, where the release of one tells its source': ({ it: { whole }, reached }, b, runs) =>
+    hasWord(whole, (name) => name.startsWith('switch')) && TELLS.some((act) => reached.has(`${act} within release`)) && isSamePutOff(runs),
   'RxJS has more of one at a time': ({ lines: a }, { lines: b }) => {
     const [theirs, ours] = [a, b].map(mostAtATime);
     return Object.keys(theirs).some((it) => theirs[it] > (ours[it] ?? 0)) && Object.keys(ours).every((it) => ours[it] <= (theirs[it] ?? 0));
