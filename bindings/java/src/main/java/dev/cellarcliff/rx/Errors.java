@@ -1,7 +1,6 @@
 package dev.cellarcliff.rx;
 
 import io.reactivex.rxjava3.exceptions.CompositeException;
-import io.reactivex.rxjava3.internal.util.ExceptionHelper;
 import io.reactivex.rxjava3.plugins.RxJavaPlugins;
 
 /** Where an exception goes. */
@@ -42,5 +41,9 @@ final class Errors {
         return isFatal(one) ? one : isFatal(other) ? other : new CompositeException(one, other);
     }
 
-    static RuntimeException thrown(Throwable why) { return ExceptionHelper.wrapOrThrow(why); }
+    /** As a caller is thrown it. */
+    static RuntimeException thrown(Throwable why) {
+        if (why instanceof Error) { throw (Error) why; }
+        return why instanceof RuntimeException ? (RuntimeException) why : new RuntimeException(why);
+    }
 }

@@ -2,7 +2,6 @@ package dev.cellarcliff.rx;
 
 import io.reactivex.rxjava3.disposables.Disposable;
 import io.reactivex.rxjava3.exceptions.CompositeException;
-import io.reactivex.rxjava3.internal.util.ExceptionHelper;
 import io.reactivex.rxjava3.subjects.PublishSubject;
 import java.util.ArrayList;
 import java.util.List;
@@ -66,7 +65,7 @@ final class Held {
                 failed.add(why);
             }
         }
-        if (failed.size() == 1) { throw ExceptionHelper.wrapOrThrow(failed.get(0)); }
+        if (failed.size() == 1) { throw Errors.thrown(failed.get(0)); }
         if (!failed.isEmpty()) { throw new CompositeException(failed); }
     }
 }

@@ -22,7 +22,13 @@ final class Native {
 
     static {
         Library.load();
-        if (!fits()) { throw new UnsatisfiedLinkError("cellarcliff: the native library is of another version than this jar"); }
+        boolean isOurs = false;
+        try {
+            isOurs = fits();
+        } catch (UnsatisfiedLinkError why) {
+            // it has no such call
+        }
+        if (!isOurs) { throw new UnsatisfiedLinkError("cellarcliff: the native library is of another version than this jar, or of something else"); }
     }
 
     private Native() { }

@@ -9,7 +9,6 @@ import io.reactivex.rxjava3.core.MaybeSource;
 import io.reactivex.rxjava3.core.Observable;
 import io.reactivex.rxjava3.core.SingleSource;
 import io.reactivex.rxjava3.functions.Function;
-import io.reactivex.rxjava3.internal.util.ErrorMode;
 import java.lang.reflect.Field;
 import java.util.ArrayList;
 import java.util.HashMap;
@@ -173,7 +172,7 @@ final class Parts {
         /** Whether an error ends all at once, by an operator's word for that; an array has none that could wait. */
         boolean failsAtOnce(int i) {
             Object word = get(i);
-            return word instanceof Boolean ? !(Boolean) word : word == ErrorMode.IMMEDIATE || word == ErrorMode.BOUNDARY && array() != null;
+            return word instanceof Boolean ? !(Boolean) word : word.toString().equals("IMMEDIATE") || word.toString().equals("BOUNDARY") && array() != null;
         }
     }
 }
