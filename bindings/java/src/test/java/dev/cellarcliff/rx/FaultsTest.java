@@ -77,7 +77,7 @@ class FaultsTest {
                 pushed[0]++;
                 try {
                     all.get(0).onNext(round);
-                    throw new AssertionError("the stack did not end");
+                    throw new AssertionError("the stack did not end: told " + told[0] + ", round " + round);
                 } catch (StackOverflowError why) {
                     // as it should
                 }
