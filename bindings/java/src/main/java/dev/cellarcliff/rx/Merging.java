@@ -46,7 +46,7 @@ class Merging extends Node {
 
     void start(Object item) throws Throwable { Operator.open(mapped(item), Place.inner(this)); }
 
-    final Object mapped(Object item) throws Throwable { return Objects.requireNonNull(mapper.apply(item), "The mapper returned a null source"); }
+    final Object mapped(Object item) throws Throwable { return Objects.requireNonNull(mapper.apply(item), "The mapper returned a null ObservableSource"); }
 
     /** What an item is mapped to cannot be had. */
     final void fail(Throwable why) {

@@ -42,7 +42,7 @@ final class Using extends Operator.Plain {
             return;
         }
         try {
-            below = Objects.requireNonNull(mapper.apply(resource.it), "The sourceSupplier returned a null source");
+            below = Objects.requireNonNull(mapper.apply(resource.it), "The sourceSupplier returned a null ObservableSource");
         } catch (Throwable why) {
             try {
                 Operator.fail(at, failsFirst ? why : resource.releaseBehind(why));

@@ -231,7 +231,7 @@ class OperatorsTest {
         told(s.flatMap(v -> v == 2 ? null : other));
         s.onNext(1);
         s.onNext(2);
-        expect("error The mapper returned a null source");
+        expect("error The mapper returned a null ObservableSource");
         same(false, s.hasObservers() || other.hasObservers());
         PublishSubject<Integer> t = PublishSubject.create();
         told(t.switchMap(v -> { throw new Exception("mapper"); }));
