@@ -149,6 +149,14 @@ def differs(one, other, *keys):
     return next((key for key in keys if one[key] != other[key]), None)
 
 
+def told_in_time(ours, theirs):
+    """What RxPY tells, where it tells items behind a release which are told before it here: those as if before."""
+    def alike(one, other):
+        return other if [it.replace("!", "") for it in other] != one else one
+    return [[name, [alike(*it) for it in zip(heard, their_heard)] + their_heard[len(heard):]]
+            for (name, heard), (_, their_heard) in zip(ours, theirs)] + theirs[len(ours):] if [it[0] for it in ours] == [it[0] for it in theirs[:len(ours)]] else theirs
+
+
 class Judge:
     """What is found of each program."""
 
@@ -181,6 +189,7 @@ class Judge:
                         wrong.append(f"ctypes differs: {what}")
         if theirs is not None and is_alone and "late" not in theirs and not theirs["is_long"]:
             self.compared["RxPY"] += 1
+            theirs = {**theirs, "notes": told_in_time(ours["notes"], theirs["notes"])}
             what = differs(ours, theirs, "notes", "raised", "made")
             if what:
                 rows = [name for name, holds in ROWS if holds(program, ours, theirs)]

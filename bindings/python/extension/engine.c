@@ -64,6 +64,8 @@ typedef struct {
   PyObject *thing;                                    /* not held: its word in the engine */
   int owed;                                           /* how many references to that the engine has for the root's part */
   Leaf *below;                                        /* not held: the first of those that are open below it */
+  struct Mine *ending;                                /* the thread that tells its end, or NULL; and how deep */
+  uint64_t ending_at;
   char is_keyed, is_stopped, is_over, is_told; /* is_told: an item is told to it now */
 } Root;
 
@@ -366,10 +368,12 @@ static int root_end(Root *root, PyObject *error) {
 static int root_ended(Root *root, PyObject *error) {
   root->is_over = 1;
   if (root->is_stopped) return 0;
-  if (!root->head) return root_end(root, error);
-  PyObject *head = new_of(root->head);
-  int status = plain(PyObject_CallMethodObjArgs(head, error ? s_on_error : s_on_completed, error, NULL));
-  Py_DECREF(head);
+  struct Mine *here = root->ending = here_is();
+  root->ending_at = here->telling.stack.depth;
+  PyObject *head = root->head ? new_of(root->head) : NULL;
+  int status = head ? plain(PyObject_CallMethodObjArgs(head, error ? s_on_error : s_on_completed, error, NULL)) : root_end(root, error);
+  Py_XDECREF(head);
+  root->ending = NULL;
   return status;
 }
 /* A resource: a callable, or one in a tuple whose `dispose` is called. */
@@ -692,12 +696,15 @@ static int root_init(Root *self, PyObject *given, PyObject *Py_UNUSED(named)) {
   return 0;
 }
 static PyObject *root_disposed(Root *self, PyObject *Py_UNUSED(unused)) { return none_or_null(root_dispose(self)); }
-/* The same as a call of the user's. */
+static int go_through(Core *, int);
+/* The same as a call of the user's: from within its end what it held is released now. */
 static PyObject *root_unsubscribe(Root *self, PyObject *Py_UNUSED(unused)) {
   if (!self->core) Py_RETURN_NONE;
   Outer outer;
   struct Mine *here = enter(&outer);
-  return none_or_null(leave(here, &outer, root_dispose(self), 0));
+  int status = root_dispose(self);
+  if (!status && self->ending == here && self->ending_at == here->telling.stack.depth) status = go_through(self->core, 1);
+  return none_or_null(leave(here, &outer, status, 0));
 }
 static PyObject *root_next(Root *self, PyObject *value) {
   if (self->is_stopped) Py_RETURN_NONE;

@@ -1,6 +1,7 @@
 """What callbacks do from within, and what comes of it: each by its smallest program."""
 import asyncio
 import gc
+import importlib
 import threading
 import time
 import unittest
@@ -12,7 +13,7 @@ from cellarcliff.rx.core.notification import OnCompleted, OnNext
 from cellarcliff.rx.disposable import Disposable
 from cellarcliff.rx.internal import SequenceContainsNoElementsError
 from cellarcliff.rx.subject import AsyncSubject, BehaviorSubject, ReplaySubject, Subject
-from tests.kits import fresh_engine, is_exact, is_model
+from tests.kits import fresh_engine, is_exact, is_model, rxpy
 
 
 class Case(unittest.TestCase):
@@ -208,6 +209,32 @@ class Releases(Case):
                 source.on_next(2)
                 source.on_completed()
                 self.assertEqual(log.index("released"), 2 if len(part) == 1 and log[1] == "item" else 1, (operate, log))
+
+    def test_what_is_disposed_of_within_its_end_is_released_then(self):
+        for end in (lambda it: it.on_completed()), (lambda it: it.on_error(KeyError())):
+            log, source, held = [], Subject(), []
+
+            def hears(*_):
+                held[0].dispose()
+                log.append("disposed")
+            held.append(rx.using(lambda: Disposable(lambda: log.append("released")), lambda _: source).subscribe(None, hears, hears))
+            end(source)
+            self.assertEqual(log, ["released", "disposed"])
+
+    @unittest.skipIf(rxpy is None, "RxPY is not installed")
+    def test_operators_of_rxpy_hold_one_resource_at_a_time(self):
+        theirs = importlib.import_module("rx.operators")
+        for operator in theirs.retry(3), theirs.catch(lambda _, source: source):
+            source, held, told = Subject(), [], []
+
+            def make():
+                held.append(1)
+                self.assertEqual(len(held), 1)
+                return Disposable(held.pop)
+            rx.using(make, lambda _: source.pipe(ops.map(lambda it: 1 // it))).pipe(operator).subscribe(told.append, told.append)
+            for it in 1, 0, 1:
+                source.on_next(it)
+            self.assertEqual(told, [1, 1])
 
     def test_a_notifier_that_completes_is_released(self):
         log = []

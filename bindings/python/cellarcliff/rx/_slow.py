@@ -404,6 +404,7 @@ class Root:
         self.head: Any = None
         self.node: Any = None
         self.below = 0
+        self.ending: Any = None  # what is told, and how deep, as it is told its end
         self.is_stopped = self.is_over = self.is_told = False
 
     number = Key.number
@@ -422,8 +423,11 @@ class Root:
     def told_end(self, error: Any) -> None:
         self.is_over = True
         if not self.is_stopped:
-            head = self if self.head is None else self.head
-            head.on_completed() if error is None else head.on_error(error)
+            head, self.ending = self if self.head is None else self.head, mine.telling
+            try:
+                head.on_completed() if error is None else head.on_error(error)
+            finally:
+                self.ending = None
 
     def on_next(self, value: Any) -> None:
         if not self.is_stopped:
@@ -454,7 +458,10 @@ class Root:
                 refuse(status)
 
     def unsubscribe(self) -> None:
+        """As a call of the user's: from within its end what it held is released now."""
         call(self.dispose)
+        if self.ending is not None and self.ending == mine.telling:
+            call(finish, self)
 
 
 class Leaf:
