@@ -18,10 +18,11 @@ _choosing = threading.Lock()
 class _Share:
     """A source that a hub shares, which the engine gives it for as long as it has a subscriber or is connected."""
 
+    connection: Any = None
+
     def __init__(self, source: Observable[Any], kind: int):
         self.source, self.kind, self.word = source, kind, next(_words)
         self.hub = UNKNOWN_HUB  # the last that it had
-        self.connection: Any = None
         self._engine: Any = None  # in which that is
         self._subscribers: Dict[Any, None] = {}  # their leaves: held by what is below the connection
         self._level: Optional[int] = None
