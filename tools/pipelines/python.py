@@ -18,7 +18,8 @@ from .rows import ROWS, planted
 
 TOP = pathlib.Path(__file__).resolve().parents[2]
 PYTHON = "/usr/bin/python3"  # which has RxPY, if any has
-SECONDS = 10  # so long a program may take
+SECONDS = 10  # so long a program may take of a processor, and then it never ends
+WAIT = 120  # so long by the clock, and then it stands
 MOST_DEATHS = 200
 MANNERS = {"wild": ("wild", 1), "beside": ("beside", 1), "plain": ("plain", 1), "wild-threads": ("wild", 4), "plain-threads": ("plain", 4)}
 #: How many of a hundred programs are of each.
@@ -45,19 +46,19 @@ def run_one(program, package):
     gc.set_threshold(20, 2, 2)
     world = World(package)
     exec(compile(programs.as_python(program), "program", "exec"), space)
-    signal.setitimer(signal.ITIMER_REAL, SECONDS)
+    signal.setitimer(signal.ITIMER_VIRTUAL, SECONDS)
     try:
         space["program"](world)
         return world.report()
     finally:
-        signal.setitimer(signal.ITIMER_REAL, 0)
+        signal.setitimer(signal.ITIMER_VIRTUAL, 0)
 
 
 def child(packages):
     """Reads a seed or a program a line, and answers what it comes to."""
     def late(*_):
         raise Late
-    signal.signal(signal.SIGALRM, late)
+    signal.signal(signal.SIGVTALRM, late)
     out = os.fdopen(os.dup(1), "w")
     os.dup2(2, 1)
     for line in sys.stdin:
@@ -101,7 +102,7 @@ class Runner:
     def answer(self):
         """Of the first that was sent: what it came to, or {"died": how}."""
         first = self.at_work.popleft()
-        end = time.monotonic() + 2 * SECONDS + 5
+        end = time.monotonic() + WAIT
         while b"\n" not in self.buffer:
             left = end - time.monotonic()
             ready = select.select([self.process.stdout], [], [], max(0, left))[0] if left > 0 else []
@@ -150,11 +151,11 @@ def differs(one, other, *keys):
 
 
 def told_in_time(ours, theirs):
-    """What RxPY tells, where it tells items behind a release which are told before it here: those as if before."""
-    def alike(one, other):
-        return other if [it.replace("!", "") for it in other] != one else one
-    return [[name, [alike(*it) for it in zip(heard, their_heard)] + their_heard[len(heard):]]
-            for (name, heard), (_, their_heard) in zip(ours, theirs)] + theirs[len(ours):] if [it[0] for it in ours] == [it[0] for it in theirs[:len(ours)]] else theirs
+    """What RxPY tells, its items that are told behind a release as if before it where ours are."""
+    if [name for name, _ in ours] != [name for name, _ in theirs]:
+        return theirs
+    return [[name, [one if one == [it.replace("!", "") for it in other] else other for one, other in zip(heard, theirs_heard)] + theirs_heard[len(heard):]]
+            for (name, heard), (_, theirs_heard) in zip(ours, theirs)]
 
 
 class Judge:

@@ -18,7 +18,7 @@ if TYPE_CHECKING:
     from .._typing import Source
 
 
-def starting(link: Link) -> Callable[[Callable[[], Any]], None]:
+def starting(link: Link) -> Callable[[Callable[[], Any]], Any]:
     """What does something behind what is under way, as RxPY's current thread scheduler does it; or by the subscription's scheduler."""
     if link.scheduler is None:
         return lambda call: C.fed(C.put_off, lambda: link.later(call))
