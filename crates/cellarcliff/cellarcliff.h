@@ -198,7 +198,8 @@ enum cellar_effect_kind {
 
 /* Effects stand in a lane in the order of their commands, and those of one command so: items and ends, then CELLAR_E_GONE and
  * CELLAR_E_MERGED, then releases. Before all these stand the releases of commands from within what is done of that lane, and first of all
- * what a stopped call did not begin. */
+ * what a stopped call did not begin. The subscribers of a share hear an item in the order in which they subscribed. In which order nodes end,
+ * close and release that one command ends together, is not said. */
 
 /* An effect: 32 bytes. */
 struct cellar_effect {
