@@ -21,6 +21,7 @@ class Scheduled(Observable[Any]):
 
     def _open_with(self, at: At, makes: Any) -> bool:
         engine, leaf = at.engine, Leaf(at.engine.core)
+        leaf.is_fed = True
         engine.open(at, LEAF, leaf)
         up = chained(makes, leaf) if makes else leaf
         scheduler = self.scheduler or at.scheduler
@@ -60,6 +61,7 @@ class Stepwise(Observable[Any]):
 
     def _open_with(self, at: At, makes: Any) -> bool:
         engine, leaf = at.engine, Leaf(at.engine.core)
+        leaf.is_fed = True
         engine.open(at, LEAF, leaf)
         up, items, scheduler = chained(makes, leaf), iter(self._items()), self._scheduler or at.scheduler
 
