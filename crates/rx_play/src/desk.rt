@@ -5,7 +5,7 @@ ghost use Rattle.rx_ledger.specs.Shares.{OpensFromBlank, all_parts};
 
 use crate::calls::{Given, at_node, at_operator, hold, holding, on_hub, on_resource, open, using};
 use crate::keys::Keys;
-use crate::looking::{look, split, sums_of, take};
+use crate::looking::{look, owed, split, sums_of, take};
 use crate::parts::Parts;
 use crate::words::{Line, line_of, tell};
 use rx_book::Book;
@@ -60,6 +60,7 @@ fn play<I: Ledger, A: Ledger, K: Ledger>(
     match line.word(0) {
         "look" => look(floor, line.number(1), told),
         "sums" => tell(told, sums_of(floor)),
+        "owed" => tell(told, owed(floor, keys, line)),
         "take" => tell(told, take(floor, seat)),
         "split" => tell(told, split(seat, line.number(1))),
         _ => parts.play(line, told),

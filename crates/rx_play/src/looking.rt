@@ -1,6 +1,7 @@
 //! What a floor is asked, and told line by line.
 
-use crate::words::tell;
+use crate::keys::Keys;
+use crate::words::{Line, tell};
 use rx_crew::Floor;
 use rx_ledger::Seat;
 use rx_resource::{Resource as _, Sample};
@@ -18,6 +19,15 @@ pub fn sums_of<I: Ledger, A: Ledger, K: Ledger>(floor: &Floor<Sample, I, A, K>) 
         floor.waiting(),
         floor.taken(),
     ]
+}
+
+/// `owed NODE`: how many items a node owes an inner; None where it owes to none.
+pub fn owed<I: Ledger, A: Ledger, K: Ledger>(
+    floor: &Floor<Sample, I, A, K>,
+    keys: &Keys,
+    line: &Line<'_>,
+) -> Option<u64> {
+    floor.owed(keys.node(line.number(1)))
 }
 
 /// `look PLACE`: the events from this place on, and the notes that were not taken.

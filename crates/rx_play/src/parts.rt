@@ -2,7 +2,7 @@
 
 use crate::keys::Keys;
 use crate::words::{Line, tell};
-use rx_disposable::{Back, Counted, Serial, Single, Why};
+use rx_disposable::{Back, Counted, Group, Members, Serial, Single, Why};
 use rx_event::History;
 use rx_slots::{Key, Slots};
 use rx_time::{Ticket, Timeline, Trampoline};
@@ -19,6 +19,7 @@ const COUNTED: u64 = 9;
 pub struct Parts {
     single: Single<u64>,
     serial: Serial<u64>,
+    group: Group<u64>,
     counted: Counted<u64>,
     timeline: Timeline<u64>,
     tickets: Vec<Ticket>,
@@ -47,6 +48,29 @@ fn play_serial(serial: &mut Serial<u64>, line: &Line<'_>) -> Result<Option<u64>,
     }
 }
 
+// The ticket of a value that is added; the value comes back where it is refused.
+fn add_to(group: &mut Group<u64>, value: u64) -> Result<u64, (Why, u64)> {
+    match group.add(value) {
+        Ok(ticket) => Ok(ticket),
+        Err(Back { why, value }) => Err((why, value)),
+    }
+}
+
+// The first two that came out, with their tickets.
+fn two_of(mut members: Members<u64>) -> [Option<(u64, u64)>; 2] {
+    [members.next(), members.next()]
+}
+
+// `group add N`, `group remove TICKET`, `group clear`, `group dispose`.
+fn play_group(group: &mut Group<u64>, line: &Line<'_>, told: &mut String) {
+    match line.word(1) {
+        "add" => tell(told, add_to(group, line.number(2))),
+        "remove" => tell(told, group.remove(line.number(2))),
+        "clear" => tell(told, two_of(group.clear())),
+        _ => tell(told, two_of(group.dispose())),
+    }
+}
+
 // `counted lease`, `counted return`, `counted dispose`.
 fn play_counted(counted: &mut Counted<u64>, line: &Line<'_>, told: &mut String) {
     match line.word(1) {
@@ -61,6 +85,7 @@ impl Parts {
         Parts {
             single: Single::new(),
             serial: Serial::new(),
+            group: Group::new(alloc),
             counted: Counted::new(COUNTED),
             timeline: Timeline::new(alloc),
             tickets: Vec::new(alloc),
@@ -102,12 +127,13 @@ impl Parts {
         }
     }
 
-    // `slots insert NUMBER N`, `slots take NUMBER`, `slots get NUMBER`.
+    // `slots reserve N`, `slots insert NUMBER N`, `slots take NUMBER`, `slots get NUMBER`.
     fn play_slots(&mut self, line: &Line<'_>, told: &mut String) {
         let number = line.number(2);
         let slot = self.keys.slot(number);
         let key = Key { slot, number };
         match line.word(1) {
+            "reserve" => tell(told, self.slots.reserve(number as usize).is_ok()),
             "insert" => {
                 if let Ok(key) = self.slots.insert(number, line.number(3)) {
                     self.keys.keep(key.number, key.slot);
@@ -123,6 +149,7 @@ impl Parts {
         match line.word(0) {
             "single" => tell(told, play_single(&mut self.single, line)),
             "serial" => tell(told, play_serial(&mut self.serial, line)),
+            "group" => play_group(&mut self.group, line, told),
             "counted" => play_counted(&mut self.counted, line, told),
             "timeline" => self.play_timeline(line, told),
             "trampoline" => self.play_trampoline(line, told),
