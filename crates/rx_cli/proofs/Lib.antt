@@ -4,3 +4,4 @@ pub mod Literals
 pub mod NotBegunWithoutMemory
 pub mod Numbers
 pub mod OutcomesOfAnswers
+pub mod OutcomesTold

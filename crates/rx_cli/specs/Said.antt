@@ -1,5 +1,5 @@
 -- What is said of an input, and of which inputs nothing is said.
-use Rattle.std.specs.Prelude.{◌≡◌, ◌≢◌, ℕ, Bool, true, false, List, [], ◌++◌, codes, if◌then◌else◌, IfOk, IfErr, IsErrOf, Result, string_bytes}
+use Rattle.std.specs.Prelude.{◌≡◌, ◌≢◌, ◌&&◌, ℕ, Bool, true, false, List, [], ◌++◌, codes, if◌then◌else◌, IfOk, IfErr, IsErrOf, Result, string_bytes}
 use Rattle.serde_json.specs.Data.{Data}
 use Rattle.rx_device.specs.Input.{IsJsonOf}
 use Rattle.rx_device.specs.declared.fault.ScriptError.{ScriptError}
@@ -7,7 +7,7 @@ use Rattle.rx_device.specs.declared.fault.ScriptError.TheVariants.{Read, Write, 
 use Rattle.rx_dump.specs.Judged.{IsJudgement, IsNoHistory}
 use Rattle.rx_explain.specs.Accepted.{IsAccepted}
 use Rattle.rx_script.specs.declared.Form.TheVariants.{Report}
-use Rattle.rx_script.specs.Running.{IsOutputOfInput, HasNoOutput}
+use Rattle.rx_script.specs.Running.{IsRunOfInput, HasNoOutput}
 use Rattle.rx_script.specs.Stage.{Ware}
 use Rattle.rx_svg.specs.Pictured.{IsPictureOfInput}
 use Rattle.rx_trace.specs.Running.{IsTraceOfInput}
@@ -26,11 +26,17 @@ pub data IsExplained (input text : List ℕ) (status : ℕ) : Type 0 where
   says_nothing : IsAccepted input → text ≡ [] → status ≡ 0 → IsExplained input text status
   says_why : ¬ IsAccepted input → IsSentence text status → IsExplained input text status
 
--- the text that is asked of the input, and the exit status with it: a history that is not lawful, and an input that is not accepted,
--- have one of their own
+-- the exit status of a run that is strict, or is not, and in which a step was refused, or none was
+abbrev pub strict_status : Bool → Bool → ℕ
+strict_status strict refused = if strict && refused then 6 else 0
+
+-- the text that is asked of the input, and the exit status with it: a step that is refused in a strict run, a history that is not
+-- lawful, and an input that is not accepted, have one of their own
 abbrev pub IsSaid : List Ware → Asked → (input text : List ℕ) → (status : ℕ) → Type 0
-IsSaid stock (Run form) input text status = IsOutputOfInput input stock form text × (status ≡ 0)
-IsSaid stock Trace input text status = IsTraceOfInput input stock text × (status ≡ 0)
+IsSaid stock (Run form strict) input text status =
+    (refused : Bool) × IsRunOfInput input stock form text refused × (status ≡ strict_status strict refused)
+IsSaid stock (Trace strict) input text status =
+    (refused : Bool) × IsTraceOfInput input stock text refused × (status ≡ strict_status strict refused)
 IsSaid stock (Audit labels) input text status = (lawful : Bool) × IsJudgement labels input lawful text × (status ≡ if lawful then 0 else 5)
 IsSaid stock Explain input text status = IsExplained input text status
 IsSaid stock Picture input text status = IsPictureOfInput input text × (status ≡ 0)
@@ -42,8 +48,8 @@ takes_any _ = false
 
 -- the input is JSON that does not have what is asked: a scenario, in which there is this form, or a dump
 abbrev pub LacksWhat : Asked → List ℕ → Type 0
-LacksWhat (Run form) input = HasNoOutput input form
-LacksWhat Trace input = HasNoOutput input Report
+LacksWhat (Run form strict) input = HasNoOutput input form
+LacksWhat (Trace strict) input = HasNoOutput input Report
 LacksWhat Explain input = ⊥
 LacksWhat _ input = IsNoHistory input
 

@@ -1,5 +1,5 @@
 -- What a call of the program does with its streams. A prime marks a stream after the call.
-use Rattle.std.specs.Prelude.{◌≡◌, ◌≢◌, ◌⊎◌, ℕ, Bool, true, false, List, [], Result, OnOk, IfOk, IfErr, IsErrOf, codes}
+use Rattle.std.specs.Prelude.{◌≡◌, ◌≢◌, ◌⊎◌, ◌++◌, ℕ, Bool, true, false, List, [], Result, OnOk, IfOk, IfErr, IsErrOf, codes}
 use Rattle.std.specs.Io.KnownBytes.{Appends}
 use Rattle.clap.specs.declared.error.kind.ErrorKind.{ErrorKind}
 use Rattle.clap.specs.declared.error.kind.ErrorKind.TheVariants.{DisplayHelp, DisplayVersion, OutOfMemory}
@@ -14,7 +14,7 @@ use Rattle.rx_storm.specs.declared.StormFault.TheVariants.{Memory as NoMemory, T
 use Rattle.rx_storm.specs.Storms.{Tells as TellsFigures, TellsFront}
 use Rattle.rx_cli.specs.declared.request.Asked.{Asked}
 use Rattle.rx_cli.specs.Said.{IsSaid, IsSentence, LacksWhat, takes_any}
-use Rattle.rx_cli.specs.Status.{line_of, status_of, storm_status_of, storm_line_of}
+use Rattle.rx_cli.specs.Status.{is_faulty, line_of, status_of, storm_status_of, storm_line_of}
 use Rattle.rx_cli.specs.Told.{Bytes, IsTextWritten}
 
 -- ---- what is asked of an input
@@ -58,11 +58,13 @@ pub record IsAnswered {I O : Type 0} (remaining : I → Bytes) (contents : O →
       ⊎ GivesNoJson (remaining (device_of input)) (remaining (device_of input')))
   pub shape : IsErrOf outcome Shape → GivesLacking remaining asked input input'
 
--- the status and the line tell this outcome
+-- the status and the line tell this outcome; behind the line of an input that is faulty may stand what is wrong with it
 pub record TellsOutcome {E : Type 0} (contents : E → Bytes) (errors errors' : Watched E)
     (outcome : Result ℕ ScriptError) (status : ℕ) : Type 0 where
   pub says : status ≡ status_of outcome
-  pub line : IsTextWritten contents errors errors' (line_of outcome)
+  pub why : List ℕ
+  pub line : IsTextWritten contents errors errors' (line_of outcome ++ why)
+  pub plain : is_faulty outcome ≡ false → why ≡ []
 
 -- ---- a storm
 

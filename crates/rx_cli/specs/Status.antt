@@ -19,6 +19,12 @@ fault_line Syntax = codes "rxbook: faulty input\n"
 fault_line Shape = codes "rxbook: faulty input\n"
 fault_line Memory = codes "rxbook: out of memory\n"
 
+-- whether the input is at fault
+abbrev pub is_faulty : {T : Type 0} → Result T ScriptError → Bool
+is_faulty (Err Syntax) = true
+is_faulty (Err Shape) = true
+is_faulty _ = false
+
 -- of what is asked of an input, which answers its status
 abbrev pub status_of : Result ℕ ScriptError → ℕ
 status_of (Ok status) = status
@@ -45,4 +51,4 @@ storm_line_of (Err NoWrite) = codes "rxbook: write fault\n"
 
 -- what is said of a word that is no UTF-8
 abbrev pub no_text_line : List ℕ
-no_text_line = codes "error: invalid UTF-8 was detected in one or more arguments\n\nUsage: rxbook [COMMAND] < FILE\n\nFor more information, try '--help'.\n"
+no_text_line = codes "error: invalid UTF-8 was detected in one or more arguments\n\nUsage: rxbook [COMMAND] [FILE]\n\nFor more information, try '--help'.\n"

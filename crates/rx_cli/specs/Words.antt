@@ -23,8 +23,8 @@ flag_rule name = record (new_rule name) { long = Some name; action = Some SetTru
 
 abbrev pub run_app : App
 run_app =
-    with_rule (with_rule (with_rule (new_app (codes "run")) (flag_rule (codes "dump"))) (flag_rule (codes "names")))
-    (flag_rule (codes "trace"))
+    with_rule (with_rule (with_rule (with_rule (new_app (codes "run")) (flag_rule (codes "dump"))) (flag_rule (codes "names")))
+    (flag_rule (codes "trace"))) (flag_rule (codes "strict"))
 
 abbrev pub audit_app : App
 audit_app = with_rule (new_app (codes "audit")) (flag_rule (codes "names"))
@@ -76,12 +76,12 @@ form_by dump names = if is_set names then NamedDump else (if is_set dump then Du
 abbrev pub form_of : List Row → Form
 form_of rows = form_by (first_of (codes "dump") rows) (first_of (codes "names") rows)
 
--- a run with the flag for the trace is traced, whatever the other flags; a trace has the names in it
-abbrev pub run_by : (trace : Option Text) → Form → Order
-run_by trace form = Say (if is_set trace then Trace else Run form)
+-- a run with the flag for the trace is traced, whatever the flags for the form; a trace has the names in it. It is strict where that flag is set
+abbrev pub run_by : (trace strict : Option Text) → Form → Order
+run_by trace strict form = Say (if is_set trace then Trace (is_set strict) else Run form (is_set strict))
 
 abbrev pub run_of : List Row → Order
-run_of rows = run_by (first_of (codes "trace") rows) (form_of rows)
+run_of rows = run_by (first_of (codes "trace") rows) (first_of (codes "strict") rows) (form_of rows)
 
 -- an audit tells names where the flag for them is set
 abbrev pub labels_by : Option Text → Labels
@@ -104,7 +104,7 @@ storm_by rows =
 
 -- the order of the subcommand that was matched, with its options: of one of these, or else a run; without one a report
 abbrev pub order_of_subcommand : Option (Text × List Row) → Order
-order_of_subcommand None = Say (Run Report)
+order_of_subcommand None = Say (Run Report false)
 order_of_subcommand (Some p) =
     if bytes_eq p.0 (codes "audit") then Say (Audit (audit_labels p.1))
     else if bytes_eq p.0 (codes "explain") then Say Explain

@@ -56,6 +56,8 @@
 #![tactic(auto)]
 
 mod answering;
+mod faults;
+mod files;
 mod lines;
 mod program;
 mod request;
@@ -66,12 +68,13 @@ mod usage;
 mod word_laws;
 mod words;
 
+pub use files::{Given, split_file};
 pub use lines::keep;
 pub use program::serve;
 pub use request::{Asked, Order};
 pub use rx_device::Watched;
 pub use rx_script::stock;
 pub use statuses::{out_of_memory, weathered};
-pub use usage::refuse_bytes;
+pub use usage::{refuse_bytes, refuse_file, tell_waiting};
 pub use word_laws::words_have_their_orders;
 pub use words::order;

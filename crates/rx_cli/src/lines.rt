@@ -4,7 +4,7 @@ ghost use Rattle.rx_device.specs.declared.fault.ScriptError.{ScriptError};
 ghost use Rattle.rx_device.specs.Device.{KeepsDevice};
 ghost use Rattle.rx_cli.specs.Served.{TellsOutcome};
 
-use crate::statuses::ended;
+use crate::statuses::ended_with;
 use memchr::memchr;
 use rx_device::{ScriptError, Watched};
 use rx_live::{Live, faulty_text};
@@ -259,5 +259,5 @@ pub fn keep<R: Read, W: Write, E: Write>(
         × TellsOutcome E.contents errors.old errors.new outcome result }
     ensures same_errors { KeepsDevice errors.old errors.new }
 {
-    ended(errors, serve_lines(alloc, input, output))
+    ended_with(alloc, errors, serve_lines(alloc, input, output), "")
 }

@@ -15,7 +15,7 @@ ghost use Rattle.rx_cli.specs.Served.{IsAnswered, TellsOutcome, Stormed, TellsSt
 
 use crate::answering::answer;
 use crate::request::Order;
-use crate::statuses::{ended, out_of_memory, weathered};
+use crate::statuses::{ended_with, out_of_memory, weathered};
 use crate::usage::refuse;
 use crate::words::order;
 use clap::error::ErrorKind;
@@ -103,8 +103,9 @@ pub fn serve<T: Threads + Wait + Sync, S: AsStr, R: Resource, I: Read, O: Write,
 {
     match order(alloc, words) {
         Ok(Order::Say(asked)) => {
-            let outcome = answer(alloc, asked, stock, input, output);
-            Some(ended(errors, outcome))
+            let mut why = String::new(alloc);
+            let outcome = answer(alloc, asked, stock, input, output, &mut why);
+            Some(ended_with(alloc, errors, outcome, why.as_str()))
         }
         Ok(Order::Live) => None,
         Ok(

@@ -24,10 +24,18 @@ pub enum Order {
 /// What is asked of an input.
 #[derive(Clone, Copy)]
 pub enum Asked {
-    /// What the run of a scenario gives in this form.
-    Run(Form),
-    /// The trace of a scenario.
-    Trace,
+    /// What the run of a scenario gives in this form. Where it is strict, a step that is refused has a status of its own.
+    Run {
+        /// In which form.
+        form: Form,
+        /// Whether it is strict.
+        is_strict: bool,
+    },
+    /// The trace of a scenario, strict or not.
+    Trace {
+        /// Whether it is strict.
+        is_strict: bool,
+    },
     /// The verdict on the history of a dump, alone or beside names, with these labels.
     Audit(Labels),
     /// What is wrong with it.

@@ -4,14 +4,14 @@ ghost use Rattle.std.specs.Prelude.{◌≡◌, ◌≢◌, List, false, true, map
 ghost use Rattle.rx_device.specs.declared.fault.ScriptError.{ScriptError};
 ghost use Rattle.rx_script.specs.Stage.{Ware, ware_of};
 ghost use Rattle.rx_cli.specs.declared.request.Asked.{Asked};
-ghost use Rattle.rx_cli.specs.Said.{Says, IsSentence, takes_any};
+ghost use Rattle.rx_cli.specs.Said.{Says, IsSentence, strict_status, takes_any};
 
 use crate::request::Asked;
 use rx_device::ScriptError;
 use rx_dump::{Labels, judge};
 use rx_explain::{explain, too_long};
 use rx_resource::Resource;
-use rx_script::{Form, run};
+use rx_script::{Form, run_strictly};
 use rx_svg::draw;
 use rx_trace::trace;
 use std::alloc::Global;
@@ -36,17 +36,28 @@ fn sentence(alloc: Global, told: String) -> Result<Said, ScriptError>
     }
 }
 
+// The exit status of a run.
+fn strict_status(is_strict: bool, has_refused: bool) -> u8
+    ensures { result ≡ strict_status is_strict has_refused }
+{
+    if is_strict && has_refused { 6 } else { 0 }
+}
+
 // What the run of a scenario gives.
 fn said_by_run<R: Resource>(
     alloc: Global,
     input: &[u8],
     stock: Vec<R>,
     form: Form,
+    is_strict: bool,
 ) -> Result<Said, ScriptError>
-    ensures { Says (map (ware_of R.Resource) stock.items) (Asked.Run form) input.now result }
+    ensures { Says (map (ware_of R.Resource) stock.items) (Asked.Run form is_strict) input.now result }
 {
-    match run(alloc, input, stock, form) {
-        Ok(text) => Ok(Said { text, status: 0 }),
+    match run_strictly(alloc, input, stock, form) {
+        Ok(ran) => Ok(Said {
+            text: ran.text,
+            status: strict_status(is_strict, ran.has_refused),
+        }),
         Err(error) => Err(error),
     }
 }
@@ -56,11 +67,15 @@ fn said_by_trace<R: Resource>(
     alloc: Global,
     input: &[u8],
     stock: Vec<R>,
+    is_strict: bool,
 ) -> Result<Said, ScriptError>
-    ensures { Says (map (ware_of R.Resource) stock.items) Asked.Trace input.now result }
+    ensures { Says (map (ware_of R.Resource) stock.items) (Asked.Trace is_strict) input.now result }
 {
     match trace(alloc, input, stock) {
-        Ok(text) => Ok(Said { text, status: 0 }),
+        Ok(ran) => Ok(Said {
+            text: ran.text,
+            status: strict_status(is_strict, ran.has_refused),
+        }),
         Err(error) => Err(error),
     }
 }
@@ -112,8 +127,8 @@ pub fn say<R: Resource>(
     ensures { Says (map (ware_of R.Resource) stock.items) asked input.now result }
 {
     match asked {
-        Asked::Run(form) => said_by_run(alloc, input, stock, form),
-        Asked::Trace => said_by_trace(alloc, input, stock),
+        Asked::Run { form, is_strict } => said_by_run(alloc, input, stock, form, is_strict),
+        Asked::Trace { is_strict } => said_by_trace(alloc, input, stock, is_strict),
         Asked::Audit(labels) => said_by_audit(alloc, input, labels),
         Asked::Explain => said_to_explain(alloc, input),
         Asked::Picture => said_by_picture(alloc, input),

@@ -1,13 +1,18 @@
 //! The exit statuses, and the lines on standard error that go with them.
-ghost use Rattle.std.specs.Prelude.{◌≡◌, codes};
-ghost use Rattle.rx_cli.specs.Status.{fault_line, fault_status, status_of, line_of, storm_status_of, storm_line_of};
+ghost use Rattle.std.specs.Prelude.{◌≡◌, ◌++◌, ℕ, List, codes, string_bytes, IfOk};
+ghost use Rattle.rx_cli.specs.Served.{TellsOutcome};
+ghost use Rattle.rx_cli.specs.Status.{is_faulty, fault_line, fault_status, status_of, line_of, storm_status_of, storm_line_of};
 ghost use Rattle.rx_device.specs.Device.{KeepsDevice};
 ghost use Rattle.rx_cli.specs.Told.{IsTextWritten};
 
 use crate::telling::tell;
 use rx_device::{ScriptError, Watched};
 use rx_storm::StormFault;
+use std::alloc::{AllocError, Global};
 use std::io::Write;
+
+// The line of an input that is faulty.
+const FAULTY: &str = "rxbook: faulty input\n";
 
 // The line of a fault.
 fn fault_line(error: &ScriptError) -> &'static str
@@ -16,7 +21,7 @@ fn fault_line(error: &ScriptError) -> &'static str
     match error {
         ScriptError::Read => "rxbook: read fault\n",
         ScriptError::Write => "rxbook: write fault\n",
-        ScriptError::Syntax | ScriptError::Shape => "rxbook: faulty input\n",
+        ScriptError::Syntax | ScriptError::Shape => FAULTY,
         ScriptError::Memory => "rxbook: out of memory\n",
     }
 }
@@ -70,6 +75,55 @@ pub fn ended<E: Write>(errors: &mut Watched<'_, E>, outcome: Result<u8, ScriptEr
             fault_status(&error)
         }
     }
+}
+
+// Whether the input is at fault.
+fn is_faulty(outcome: &Result<u8, ScriptError>) -> bool
+    ensures { result ≡ is_faulty outcome.now }
+{
+    match outcome {
+        Err(ScriptError::Syntax | ScriptError::Shape) => true,
+        _ => false,
+    }
+}
+
+// The line of an input that is faulty, and this behind it.
+fn faulty_text(alloc: Global, why: &str) -> Result<String, AllocError>
+    ensures { IfOk result (λ s. string_bytes s ≡ codes "rxbook: faulty input\n" ++ why.now) }
+{
+    let mut text = String::from_str(alloc, FAULTY)?;
+    text.push_str(why)?;
+    Ok(text)
+}
+
+// Writes that an input is faulty, and this behind it, where there is memory for both.
+fn tell_faulty<E: Write>(alloc: Global, errors: &mut Watched<'_, E>, why: &str)
+    ensures told { (behind : List ℕ) × IsTextWritten E.contents errors.old errors.new (codes "rxbook: faulty input\n" ++ behind) }
+    ensures same_errors { KeepsDevice errors.old errors.new }
+{
+    match faulty_text(alloc, why) {
+        Ok(text) => tell(errors, text.as_str().as_bytes()),
+        Err(_) => tell(errors, FAULTY.as_bytes()),
+    }
+}
+
+/// The exit status of what ended so; where it failed, its line is written to `errors`, and behind that of an input that is
+/// faulty what is wrong with it, where there is memory for that. A write that fails there changes nothing.
+#[tactic(auto, using(crate::proofs::OutcomesTold::told_plainly, crate::proofs::OutcomesTold::told_faulty))]
+pub fn ended_with<E: Write>(
+    alloc: Global,
+    errors: &mut Watched<'_, E>,
+    outcome: Result<u8, ScriptError>,
+    why: &str,
+) -> u8
+    ensures told { TellsOutcome E.contents errors.old errors.new outcome result }
+    ensures same_errors { KeepsDevice errors.old errors.new }
+{
+    if !is_faulty(&outcome) {
+        return ended(errors, outcome);
+    }
+    tell_faulty(alloc, errors, why);
+    3
 }
 
 /// The exit status of a storm that ended so: 0 where the threads agree with the book, and 5 where they do

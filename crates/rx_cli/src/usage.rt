@@ -10,12 +10,17 @@ use crate::statuses::{ended, out_of_memory};
 use crate::telling::tell;
 use clap::error::ErrorKind;
 use rx_device::{ScriptError, Watched, write_text};
-use std::alloc::Global;
+use rx_scenario::is_among;
+use std::alloc::{AllocError, Global};
+use std::io;
 use std::io::Write;
+
+/// The words that ask for a text, and read nothing.
+pub const HELPS: &str = "--help, -h, --version, -V";
 
 // The text of `clap` on a word that is no UTF-8.
 const NO_TEXT: &str =
-    "error: invalid UTF-8 was detected in one or more arguments\n\nUsage: rxbook [COMMAND] < FILE\n\nFor more information, try '--help'.\n";
+    "error: invalid UTF-8 was detected in one or more arguments\n\nUsage: rxbook [COMMAND] [FILE]\n\nFor more information, try '--help'.\n";
 
 // Whether the text of an error of this kind is help.
 fn is_help(kind: ErrorKind) -> bool
@@ -50,6 +55,62 @@ pub fn refuse<O: Write, E: Write>(
         return ended(errors, Err(ScriptError::Write));
     }
     0
+}
+
+// What is said on a terminal of what is waited for; nothing where the words read nothing.
+fn waiting_line(words: &[String]) -> &'static str {
+    let command = match words.get(1) {
+        Some(word) => word.as_str(),
+        None => "run",
+    };
+    if words.iter().any(|word| is_among(word.as_str(), HELPS)) {
+        return "";
+    }
+    match command {
+        "run" => "rxbook: waiting for a scenario on standard input; Ctrl-D ends it\n",
+        "audit" | "picture" => "rxbook: waiting for a history on standard input; Ctrl-D ends it\n",
+        "explain" =>
+            "rxbook: waiting for a scenario or a history on standard input; Ctrl-D ends it\n",
+        "live" => {
+            "rxbook: waiting for commands, each a line such as {\"do\":\"open\",\"name\":\"a\",\"place\":\"root\",\"kind\":\"leaf\"}\n"
+        }
+        _ => "",
+    }
+}
+
+/// Says on a terminal what these words wait for on standard input.
+pub fn tell_waiting<E: Write>(words: &[String], errors: &mut Watched<'_, E>)
+    ensures same_errors { KeepsDevice errors.old errors.new }
+{
+    tell(errors, waiting_line(words).as_bytes());
+}
+
+// What is said of a file that could not be opened, and the exit status.
+fn file_told(alloc: Global, name: &str, kind: io::ErrorKind) -> Result<(String, u8), AllocError> {
+    match kind {
+        io::ErrorKind::NotFound => Ok((format!(in alloc; "rxbook: there is no file {name}\n")?, 2)),
+        io::ErrorKind::IsADirectory => Ok((format!(in alloc; "rxbook: {name} is a folder\n")?, 2)),
+        _ => Ok((format!(in alloc; "rxbook: {name} cannot be read\n")?, 1)),
+    }
+}
+
+/// The exit status where the file of this name could not be opened, for this reason: 2 where there is none, or it is a folder, else
+/// 1, after a line that says so is written to `errors`; 4 where memory is refused.
+pub fn refuse_file<E: Write>(
+    alloc: Global,
+    name: &str,
+    kind: io::ErrorKind,
+    errors: &mut Watched<'_, E>,
+) -> u8
+    ensures same_errors { KeepsDevice errors.old errors.new }
+{
+    match file_told(alloc, name, kind) {
+        Ok((text, status)) => {
+            tell(errors, text.as_str().as_bytes());
+            status
+        }
+        Err(_) => out_of_memory(errors),
+    }
 }
 
 /// The exit status where a word of the command line is no UTF-8, 2, after the text that `clap` has for

@@ -16,52 +16,56 @@ use std::convert::AsStr;
 const VERSION: &str = "0.2.0";
 
 // The usage of the program and of the subcommands that read; `clap` shows it with each usage error too.
-const USAGE: &str = "rxbook [COMMAND] < FILE";
+const USAGE: &str = "rxbook [COMMAND] [FILE]";
 
-const RUN_USAGE: &str = "rxbook run [OPTIONS] < FILE";
+const RUN_USAGE: &str = "rxbook [run] [OPTIONS] [FILE]";
 
-const AUDIT_USAGE: &str = "rxbook audit [OPTIONS] < FILE";
+const AUDIT_USAGE: &str = "rxbook audit [OPTIONS] [FILE]";
 
 const NOTES: &str = "\
-Input is standard input, at most 16777216 bytes; a storm reads nothing. No file is opened: hand it in, as in
-  rxbook < first-run.json
-  rxbook run --dump < first-run.json
-  rxbook audit < dispose-twice.dump
+Without a FILE the input is standard input, at most 16777216 bytes; a storm reads nothing. As in
+  rxbook first-run.json
+  rxbook run --dump first-run.json
+  rxbook audit dispose-twice.dump
 
 The exit status is
   0  success: for an audit, the history is lawful and settled; for explain, nothing is wrong
   1  reading or writing failed, or a thread could not be started
   2  bad command line
-  3  invalid input, of which rxbook explain says what is wrong; so does explain end then
+  3  invalid input; the standard error says what is wrong with it. So does explain end, whose output says it
   4  out of memory
   5  the history is unlawful or unsettled, or the threads of a storm disagree with the book
+  6  run --strict, and a step was refused
 
 docs/reference has scenarios, reports, histories, verdicts and statuses in full.";
 
 const RUN_NOTES: &str = "\
 A scenario is one JSON object, with its steps, of at most 16777216 bytes; as in
-  rxbook run < first-run.json
-  rxbook run --names < first-run.json | rxbook picture > first-run.svg
+  rxbook first-run.json
+  rxbook run --names first-run.json | rxbook picture > first-run.svg
 
-The exit status is 0 on success, 1 if reading or writing failed, 3 if the input is not a scenario
-(rxbook explain says why), 4 if out of memory. docs/reference/scenario.md and report.md have it in full.";
+The exit status is 0 on success, 1 if reading or writing failed, 3 if the input is not a scenario, 4 if out of memory,
+6 with --strict if a step was refused. docs/reference/scenario.md and report.md have it in full.";
 
 const AUDIT_NOTES: &str = "\
 A dump is one JSON array of events, oldest first, of at most 16777216 bytes, or an object that has it beside names, as
 run --names writes; as in
-  rxbook audit < dispose-twice.dump
-  rxbook run --names < first-run.json | rxbook audit --names
+  rxbook audit dispose-twice.dump
+  rxbook run --names first-run.json | rxbook audit --names
 
-The exit status is 0 if the history is lawful and settled, otherwise 5; 1 if reading or writing failed,
-3 if the input is not a dump (rxbook explain says why), 4 if out of memory. docs/reference/history.md and
-verdict.md have it in full.";
+The exit status is 0 if the history is lawful and settled, otherwise 5; 1 if reading or writing failed, 3 if the input
+is not a dump, 4 if out of memory. docs/reference/history.md and verdict.md have it in full.";
 
 const STORM_NOTES: &str = "\
 Nothing is read; as in
   rxbook storm --items 1000
 
+It prints how many resources were accepted, taken and released, one for each source; faults, how many releases failed: of
+the tags 0 to sources - 1 those that are 3 modulo 8 fail on purpose; held and waiting, 0 at the end; notes, sources times
+items + 1; and events, sources times items + 6.
+
 The exit status is 0 if the threads counted what the book says, otherwise 5; 1 if writing failed or a
-thread could not be started, 4 if out of memory. docs/reference/command-line.md explains the figures.";
+thread could not be started, 4 if out of memory.";
 
 // The option `--NAME` of a number from `least` to `most`, which is `usual` where it is left out.
 fn number_option<'a>(
@@ -114,7 +118,7 @@ fn run_command<'a>(alloc: Global) -> Result<Command<'a>, AllocError>
     ensures { IfOk result (λ c. app_of c ≡ run_app) }
 {
     let bare = Command::new(alloc, "run")
-        .about("Run the scenario on standard input (the default)")
+        .about("Run a scenario and write its report (the default)")
         .override_usage(RUN_USAGE)
         .after_help(RUN_NOTES);
     let help = "Write the dump of what happened, in place of the report";
@@ -122,7 +126,9 @@ fn run_command<'a>(alloc: Global) -> Result<Command<'a>, AllocError>
     let help = "Write that dump with the names of its nodes, hubs and resources, for a picture";
     let second = first.arg(flag(alloc, "names", help))?;
     let help = "Write a line for each executed step, in place of the report";
-    second.arg(flag(alloc, "trace", help))
+    let third = second.arg(flag(alloc, "trace", help))?;
+    let help = "End with the status 6 if a step was refused";
+    third.arg(flag(alloc, "strict", help))
 }
 
 // The command `audit`.
@@ -130,7 +136,7 @@ fn audit_command<'a>(alloc: Global) -> Result<Command<'a>, AllocError>
     ensures { IfOk result (λ c. app_of c ≡ audit_app) }
 {
     let bare = Command::new(alloc, "audit")
-        .about("Judge the dump on standard input")
+        .about("Judge the dump of a history")
         .override_usage(AUDIT_USAGE)
         .after_help(AUDIT_NOTES);
     let help = "Write behind each number the name that the input has for it";
@@ -142,8 +148,8 @@ fn explain_command<'a>(alloc: Global) -> Command<'a>
     ensures { app_of result ≡ explain_app }
 {
     Command::new(alloc, "explain")
-        .about("Say what is wrong with the scenario or the dump on standard input")
-        .override_usage("rxbook explain < FILE")
+        .about("Say what is wrong with a scenario or a dump")
+        .override_usage("rxbook explain [FILE]")
 }
 
 // The command `picture`.
@@ -151,17 +157,17 @@ fn picture_command<'a>(alloc: Global) -> Command<'a>
     ensures { app_of result ≡ picture_app }
 {
     Command::new(alloc, "picture")
-        .about("Draw the history whose dump is on standard input, as SVG")
-        .override_usage("rxbook picture < FILE > PICTURE.svg")
+        .about("Draw the history of a dump, as SVG")
+        .override_usage("rxbook picture [FILE] > PICTURE.svg")
 }
 
 // The command `live`.
 fn live_command<'a>(alloc: Global) -> Command<'a>
     ensures { app_of result ≡ live_app }
 {
-    Command::new(alloc, "live").about(
-        "Keep a book for the program at the other ends: a line in, a line out",
-    )
+    Command::new(alloc, "live")
+        .about("Keep a book for the program at the other ends: a line in, a line out")
+        .override_usage("rxbook live [FILE]")
 }
 
 // The program's command without its subcommands.
@@ -217,15 +223,16 @@ fn form_in(options: &ArgMatches<'_>) -> Form
     form_by(options.get_str("dump"), options.get_str("names"))
 }
 
-// The order of a run of this form, traced where the value of the flag says so.
-fn run_by(trace: Option<&str>, form: Form) -> Order
-    ensures is { result ≡ run_by (option_map (λ s. s.now) trace.entry) form }
+// The order of a run of this form, traced and strict where the values of those flags say so.
+fn run_by(trace: Option<&str>, strict: Option<&str>, form: Form) -> Order
+    ensures is { result ≡ run_by (option_map (λ s. s.now) trace.entry) (option_map (λ s. s.now) strict.entry) form }
     ensures in_range { IsInRange result }
 {
+    let is_strict = is_set(strict);
     Order::Say(if is_set(trace) {
-        Asked::Trace
+        Asked::Trace { is_strict }
     } else {
-        Asked::Run(form)
+        Asked::Run { form, is_strict }
     })
 }
 
@@ -234,7 +241,11 @@ fn run_in(options: &ArgMatches<'_>) -> Order
     ensures is { result ≡ run_of (rows_of (found_of options.now)) }
     ensures in_range { IsInRange result }
 {
-    run_by(options.get_str("trace"), form_in(options))
+    run_by(
+        options.get_str("trace"),
+        options.get_str("strict"),
+        form_in(options),
+    )
 }
 
 // The labels that the value of the flag says.
@@ -289,7 +300,10 @@ fn order_in(matches: &ArgMatches<'_>) -> Order
     ensures in_range { IsInRange result }
 {
     match matches.subcommand() {
-        None => Order::Say(Asked::Run(Form::Report)),
+        None => Order::Say(Asked::Run {
+            form: Form::Report,
+            is_strict: false,
+        }),
         Some(("audit", options)) => Order::Say(Asked::Audit(labels_in(options))),
         Some(("explain", _)) => Order::Say(Asked::Explain),
         Some(("picture", _)) => Order::Say(Asked::Picture),

@@ -38,4 +38,5 @@ pub mod StepsToCome
 pub mod EachCourse
 pub mod PossibleCourse
 pub mod WholeReport
+pub mod RunsFound
 mod Examples

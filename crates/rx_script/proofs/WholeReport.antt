@@ -1,5 +1,5 @@
 -- The whole report of a course.
-use Rattle.rx_script.proofs.Common.{◌≡◌, ◌≤◌, ◌+◌, ◌++◌, ℕ, List, true, false, refl, sym, ap, ◌∙◌, append-nil, count_by, range_with_len, false≢true}
+use Rattle.rx_script.proofs.Common.{◌≡◌, ◌≤◌, ◌+◌, ◌++◌, ℕ, List, Bool, true, false, refl, sym, ap, ◌∙◌, append-nil, count_by, range_with_len, false≢true}
 use Rattle.rx_script.proofs.Common.{nothing_kept, Agree, held_count, waiting_count, accepted_count-parts, IsPromised, StepList, steps_of, Script}
 use Rattle.rx_script.proofs.Common.{has_checkpoint}
 use Rattle.rx_script.proofs.Common.{Engine, Ware, Stage, start, with_steps, empty_agenda, limited, Course, HasNoFull, IsCourseOf, HasOneCourse, Form, report}
@@ -8,7 +8,7 @@ use Rattle.std.proofs.Common.{min, rules}
 use Rattle.rx_event.specs.Totals.{accepted_count}
 use Rattle.rx_script.specs.Report.{AreReportedAlike, output}
 use Rattle.rx_script.specs.Outputs.{closing}
-use Rattle.rx_script.specs.Running.{IsReportedCanonically}
+use Rattle.rx_script.specs.Running.{IsReportedCanonically, has_refused}
 use Rattle.rx_script.proofs.CoursesInOrder.{course_in_order}
 use Rattle.rx_script.proofs.OneCourse.{one_canonical_course}
 use Rattle.rx_script.proofs.SameSteps.{HasCanonical, has_canonical}
@@ -87,7 +87,16 @@ module _ {R : Type 0} (form : Form) (script : Script) (stock : List Ware) (limit
       → faults ≤ accepted_count nothing_kept out.last.history
   few at_end most kept few_at_end sum = search (rules, accepted_count-parts)
 
-  pub whole_output : (at_end most : ℕ) → IsPromised new.book → at_end ≤ released → faults ≡ min (new.faults + at_end) most
+  pub whole_output : (refused : Bool) → refused ≡ has_refused out.answers
+      → (at_end most : ℕ) → IsPromised new.book → at_end ≤ released → faults ≡ min (new.faults + at_end) most
       → (c : Course) × (n : ℕ) × IsCourseOf script stock c × (n ≤ accepted_count nothing_kept c.last.history) × (whole ≡ output form c n)
-      × (HasNoFull c.answers → IsReportedCanonically script stock form c whole n)
-  whole_output at_end most kept few_at_end sum = search (rules, possible, few, lines_whole, canonical_report)
+      × (HasNoFull c.answers → IsReportedCanonically script stock form c whole n) × (refused ≡ has_refused c.answers)
+  whole_output refused strict at_end most kept few_at_end sum = (
+    course,
+    faults,
+    possible,
+    few at_end most kept few_at_end sum,
+    lines_whole,
+    canonical_report stock form course whole faults possible lines_whole,
+    strict,
+  )

@@ -1,9 +1,10 @@
 -- What is written before the closing, of the whole history.
-use Rattle.rx_script.proofs.Common.{◌≡◌, ◌≤◌, ◌++◌, ℕ, true, List, map, sym, ap, subst, ◌∙◌, Result, IfOk, Event, nothing_kept, Agree, taken_count, Answer}
+use Rattle.rx_script.proofs.Common.{◌≡◌, ◌≤◌, ◌++◌, ℕ, true, List, map, sym, ap, subst, ◌∙◌, Event, nothing_kept, Agree, taken_count, Answer}
 use Rattle.rx_script.proofs.Common.{Tallies, Gathers, IsWhole, node_binding, res_binding, totals_line, refused_lines, node_lines, res_lines, totals_reported}
 use Rattle.rx_script.proofs.Common.{Engine}
 use Rattle.rx_script.proofs.Common.{Form, Manner, Progress, Ends, unclosed_report, has_history, unclosed_output, IsCarriedOut, stage_of, IsHistoryOf, IsSound}
-use Rattle.std.specs.Prelude.{OnOk}
+use Rattle.std.specs.Prelude.{Bool}
+use Rattle.rx_script.specs.Running.{has_refused}
 use Rattle.rx_script.proofs.EngineCarriesOut.{history_lawful, history_agrees}
 use Rattle.rx_script.proofs.CheckpointCarriedOut.{gathered}
 use Rattle.rx_script.proofs.AllStored.{no_base, all_stored}
@@ -25,26 +26,26 @@ module _ {R : Type 0} (e : Engine R) (sound : IsSound e) (h : List Event) (w : I
       → (e.book.base ≡ nothing_kept → text ≡ text_of e.book.history) → text ≡ text_of h
   history_whole text_of text unchecked written = written (no_base w unchecked) ∙ ap text_of (all_stored w unchecked)
 
--- what holds where a text was written
-pub written_of : {T E P Q S : Type 0} {A B : T → Type 0} (r : Result T E) → OnOk r P → OnOk r Q → OnOk r S → ((x : T) → P → Q → S → A x → B x) → IfOk r A
-    → IfOk r B
-written_of x0 p q s f a = search rules
-
--- a run that led here, and what is written of it
+-- a run that led here, what is written of it, and whether a step was refused
 pub carried_out : {R : Type 0} {m : Manner} {until : ℕ} {first : Progress} {form : Form} {text : List ℕ} {e : Engine R} (new : Engine R)
     {answers : List Answer} {k : List Event} → IsSound e → Ends m until first answers (stage_of e k) → IsHistoryOf k e.tallies e.book
     → ((has_history form ≡ true → e.book.base.at_length ≡ 0) → text ≡ unclosed_output form answers (stage_of e k))
-    → new.book.base ≡ e.book.base → new.book.history ≡ e.book.history → new.faults ≡ e.faults → IsCarriedOut m until first form text new
-carried_out {e} new {answers} {k} sound ends w lines same_base same_history same_faults = record {
-  answers = answers;
-  last = stage_of e k;
-  ends = ends;
-  lines = lines;
-  lawful = history_lawful w sound.kept;
-  agree = subst (λ b. Agree nothing_kept k b new.book.history) base_stays
-      (subst (Agree nothing_kept k e.book.base) history_stays (history_agrees w sound.kept));
-  few_faults = few;
-} where
+    → new.book.base ≡ e.book.base → new.book.history ≡ e.book.history → new.faults ≡ e.faults
+    → (refused : Bool) → refused ≡ has_refused answers
+    → (out : IsCarriedOut m until first form text new) × (refused ≡ has_refused out.answers)
+carried_out {e} new {answers} {k} sound ends w lines same_base same_history same_faults refused strict = (
+  record {
+    answers = answers;
+    last = stage_of e k;
+    ends = ends;
+    lines = lines;
+    lawful = history_lawful w sound.kept;
+    agree = subst (λ b. Agree nothing_kept k b new.book.history) base_stays
+        (subst (Agree nothing_kept k e.book.base) history_stays (history_agrees w sound.kept));
+    few_faults = few;
+  },
+  strict,
+) where
   base_stays : e.book.base ≡ new.book.base
   base_stays = sym same_base
 

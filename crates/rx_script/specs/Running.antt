@@ -1,5 +1,8 @@
 -- What a run makes of its input.
-use Rattle.std.specs.Prelude.{◌≡◌, ℕ, ◌≤◌, Some, None, List, false, true}
+use Rattle.std.specs.Prelude.{◌≡◌, ℕ, ◌≤◌, Some, None, List, Bool, false, true}
+use Rattle.std.specs.List.{list_any}
+use Rattle.rx_agenda.specs.declared.answer.Answer.{Answer}
+use Rattle.rx_agenda.specs.declared.answer.Answer.TheVariants.{Accepted, Refused}
 use Rattle.serde_json.specs.Data.{Data}
 use Rattle.rx_event.specs.Kept.{nothing_kept}
 use Rattle.rx_event.specs.Totals.{accepted_count}
@@ -39,6 +42,24 @@ pub record IsOutputOfInput (input : List ℕ) (stock : List Ware) (form : Form) 
   pub value : Data
   pub json : IsJsonOf input value
   pub output : IsOutputOf value stock form text
+
+-- a step was refused
+abbrev pub is_refused : Answer → Bool
+is_refused Accepted = false
+is_refused (Refused why) = true
+
+abbrev pub has_refused : List Answer → Bool
+has_refused answers = list_any is_refused answers
+
+-- the same of the value, and whether a step of that course was refused
+pub record IsRunOf (value : Data) (stock : List Ware) (form : Form) (text : List ℕ) (refused : Bool) : Type 0 where
+  pub output : IsOutputOf value stock form text
+  pub strict : refused ≡ has_refused output.course.answers
+
+-- the same of the input
+pub record IsRunOfInput (input : List ℕ) (stock : List Ware) (form : Form) (text : List ℕ) (refused : Bool) : Type 0 where
+  pub output : IsOutputOfInput input stock form text
+  pub strict : refused ≡ has_refused output.output.course.answers
 
 -- nothing is to be written: the value is no scenario, or one that lacks this form
 pub data GivesNoOutput (value : Data) (form : Form) : Type 0 where

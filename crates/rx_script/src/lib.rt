@@ -81,7 +81,7 @@ pub use closing::close;
 pub use course::take_step;
 pub use engine::{Engine, begin};
 pub use noting::next_note;
-pub use running::run;
+pub use running::{Ran, has_refused, run, run_strictly};
 pub use rx_book::Closed;
 pub use rx_device::ScriptError;
 pub use text::cause_name;

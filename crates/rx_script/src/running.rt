@@ -17,7 +17,8 @@ ghost use Rattle.rx_script.specs.Report.{unclosed_report, output, lacks_form};
 ghost use Rattle.rx_dump.specs.Dump.{dump};
 ghost use Rattle.rx_script.specs.Engine.{stage_of, IsHistoryOf, IsSound};
 ghost use Rattle.rx_script.specs.Outputs.{has_history, unclosed_output, closing, IsCarriedOut};
-ghost use Rattle.rx_script.specs.Running.{IsReportedCanonically, IsOutputOf, IsOutputOfInput, HasNoOutput, GivesNoOutput};
+ghost use Rattle.rx_script.specs.Running.{IsReportedCanonically, IsOutputOfInput, HasNoOutput, GivesNoOutput};
+ghost use Rattle.rx_script.specs.Running.{is_refused, has_refused, IsRunOf, IsRunOfInput};
 
 use crate::Form;
 use crate::closing::close;
@@ -102,6 +103,23 @@ fn unclosed_output<S: Resource>(
     }
 }
 
+// Whether the answer is a refusal.
+fn is_refused(answer: Answer) -> bool
+    ensures { result ≡ is_refused answer }
+{
+    match answer {
+        Answer::Accepted => false,
+        Answer::Refused(_) => true,
+    }
+}
+
+/// Whether one of the answers is a refusal.
+pub fn has_refused(answers: &[Answer]) -> bool
+    ensures { result ≡ has_refused answers.now }
+{
+    answers.iter().any(|answer| is_refused(*answer))
+}
+
 // Carries out all steps, and writes what is written in this form but for the last line of a report.
 fn carry_out<S: Resource>(
     alloc: Global,
@@ -109,16 +127,18 @@ fn carry_out<S: Resource>(
     steps: Vec<Step>,
     until: u64,
     form: Form,
-) -> Result<String, AllocError>
+) -> Result<Ran, AllocError>
     requires sound { IsSound engine.old }
     requires ends { until ≤ 1000000000000000 }
-    ensures ok { IfOk result (λ s. (h : List Happening) → IsHistoryOf h engine.old.tallies engine.old.book
-        → IsCarriedOut (limited engine.old.book.limit) until
+    ensures ok { IfOk result (λ r. (h : List Happening) → IsHistoryOf h engine.old.tallies engine.old.book
+        → (out : IsCarriedOut (limited engine.old.book.limit) until
         (record { stage = stage_of engine.old h; agenda = with_steps (map step_of steps.items) empty_agenda })
-        form (string_bytes s) engine.new) }
+        form (string_bytes r.text) engine.new) × (r.has_refused ≡ has_refused out.answers)) }
 {
     let answers = run_course(alloc, engine, steps, until)?;
-    unclosed_output(alloc, engine, answers.as_slice(), form)
+    let text = unclosed_output(alloc, engine, answers.as_slice(), form)?;
+    let has_refused = has_refused(answers.as_slice());
+    Ok(Ran { text, has_refused })
 }
 
 // The last line of a report; a dump has none.
@@ -137,13 +157,14 @@ fn text_of<S: Resource>(
     scenario: Scenario,
     stock: Vec<S>,
     form: Form,
-) -> Result<String, AllocError>
+) -> Result<Ran, AllocError>
     requires limited { scenario.events ≤ greatest_limit }
     requires ends { scenario.until ≤ 1000000000000000 }
     requires has_form { lacks_form form (steps_of (script_of scenario).steps) ≡ false }
-    ensures { IfOk result (λ s. (c : Course) × (faults : ℕ) × IsCourseOf (script_of scenario) (map (ware_of S.Resource) stock.items) c
-        × (faults ≤ accepted_count nothing_kept c.last.history) × (string_bytes s ≡ output form c faults)
-        × (HasNoFull c.answers → IsReportedCanonically (script_of scenario) (map (ware_of S.Resource) stock.items) form c (string_bytes s) faults)) }
+    ensures { IfOk result (λ r. (c : Course) × (faults : ℕ) × IsCourseOf (script_of scenario) (map (ware_of S.Resource) stock.items) c
+        × (faults ≤ accepted_count nothing_kept c.last.history) × (string_bytes r.text ≡ output form c faults)
+        × (HasNoFull c.answers → IsReportedCanonically (script_of scenario) (map (ware_of S.Resource) stock.items) form c (string_bytes r.text) faults)
+        × (r.has_refused ≡ has_refused c.answers)) }
 {
     let Scenario {
         steps,
@@ -154,10 +175,10 @@ fn text_of<S: Resource>(
     let outcome = carry_out(alloc, &mut engine, steps, until, form);
     engine.book.promise();
     let closed = close(&mut engine.book);
-    let mut text = outcome?;
+    let mut ran = outcome?;
     let faults = engine.faults.saturating_add(closed.faults);
-    push_closing(&mut text, form, closed.released, faults)?;
-    Ok(text)
+    push_closing(&mut ran.text, form, closed.released, faults)?;
+    Ok(ran)
 }
 
 // Whether the form has the history in it, and the scenario may make a checkpoint.
@@ -176,8 +197,8 @@ fn output_of<S: Resource>(
     value: Part<'_, '_>,
     stock: Vec<S>,
     form: Form,
-) -> Result<String, ShapeError>
-    ensures ok { IfOk result (λ s. IsOutputOf (part_data value.entry) (map (ware_of S.Resource) stock.items) form (string_bytes s)) }
+) -> Result<Ran, ShapeError>
+    ensures ok { IfOk result (λ r. IsRunOf (part_data value.entry) (map (ware_of S.Resource) stock.items) form (string_bytes r.text) r.has_refused) }
     ensures shape { IsErrOf result ShapeError.Shape → GivesNoOutput (part_data value.entry) form }
 {
     let scenario = scenario_of(alloc, value)?;
@@ -185,9 +206,18 @@ fn output_of<S: Resource>(
         return Err(ShapeError::Shape);
     }
     match text_of(alloc, scenario, stock, form) {
-        Ok(text) => Ok(text),
+        Ok(ran) => Ok(ran),
         Err(AllocError) => Err(ShapeError::Memory),
     }
+}
+
+/// What came of a run.
+#[derive(Drop)]
+pub struct Ran {
+    /// What the form says.
+    pub text: String,
+    /// Whether a step was refused.
+    pub has_refused: bool,
 }
 
 /// Runs the scenario that the input is, in JSON, on a new book, with these resources as its stock, and gives what
@@ -196,6 +226,27 @@ fn output_of<S: Resource>(
 ///
 /// The book is closed in every outcome: each resource that it accepted was released once. Those that it never accepted
 /// are dropped unreleased.
+pub fn run_strictly<S: Resource>(
+    alloc: Global,
+    input: &[u8],
+    stock: Vec<S>,
+    form: Form,
+) -> Result<Ran, ScriptError>
+    ensures ok { IfOk result (λ r. IsRunOfInput input.now (map (ware_of S.Resource) stock.items) form (string_bytes r.text) r.has_refused) }
+    ensures syntax { IsErrOf result ScriptError.Syntax → (d : Data) → ¬ IsJsonOf input.now d }
+    ensures shape { IsErrOf result ScriptError.Shape → HasNoOutput input.now form }
+    ensures never { IfErr result (λ e. (e ≢ ScriptError.Read) × (e ≢ ScriptError.Write)) }
+{
+    let mut scratch = Scratch::new(alloc);
+    let value = parse_in_place(alloc, input, &mut scratch)?;
+    match output_of(alloc, Part::new(&value), stock, form) {
+        Ok(ran) => Ok(ran),
+        Err(ShapeError::Shape) => Err(ScriptError::Shape),
+        Err(ShapeError::Memory) => Err(ScriptError::Memory),
+    }
+}
+
+/// The text of [`run_strictly`].
 pub fn run<S: Resource>(
     alloc: Global,
     input: &[u8],
@@ -207,11 +258,8 @@ pub fn run<S: Resource>(
     ensures shape { IsErrOf result ScriptError.Shape → HasNoOutput input.now form }
     ensures never { IfErr result (λ e. (e ≢ ScriptError.Read) × (e ≢ ScriptError.Write)) }
 {
-    let mut scratch = Scratch::new(alloc);
-    let value = parse_in_place(alloc, input, &mut scratch)?;
-    match output_of(alloc, Part::new(&value), stock, form) {
-        Ok(text) => Ok(text),
-        Err(ShapeError::Shape) => Err(ScriptError::Shape),
-        Err(ShapeError::Memory) => Err(ScriptError::Memory),
+    match run_strictly(alloc, input, stock, form) {
+        Ok(ran) => Ok(ran.text),
+        Err(error) => Err(error),
     }
 }

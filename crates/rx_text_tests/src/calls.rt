@@ -3,7 +3,7 @@
 use super::same::same;
 use super::scarce::scarce_after;
 use super::streams::{Narrow, Source};
-use rx_cli::{keep, serve};
+use rx_cli::{keep, serve, split_file};
 use rx_device::Watched;
 use rx_script::stock;
 use std::alloc::{AllocError, Global};
@@ -147,7 +147,8 @@ const SHARED_WITH_NAMES: &str = "\
 ,\"names\":{\"1\":\"screen\",\"2\":\"feed\",\"3\":\"line\",\"0\":\"prices\",\"4\":\"socket\"}}
 ";
 
-const FAULTY: &str = "rxbook: faulty input\n";
+// One step, which is refused.
+const REFUSED: &str = "{\"steps\":[{\"do\":\"dispose\",\"node\":\"a\"}]}";
 
 // What is open and held there, by names of which one is missing and one is no plain word.
 const NAMED: &str =
@@ -182,7 +183,7 @@ const TRACE: &str = "\
 {\"closed\":true,\"release\":[\"q\"]}
 ";
 
-static OUTCOMES: [Row; 32] = [
+static OUTCOMES: [Row; 38] = [
     (&["rxbook"], EMPTY, 0, NOTHING_DONE, ""),
     (&["rxbook", "run"], EMPTY, 0, NOTHING_DONE, ""),
     (&["rxbook", "run", "--dump"], EMPTY, 0, "[]\n", ""),
@@ -194,9 +195,50 @@ static OUTCOMES: [Row; 32] = [
         "",
     ),
     (&["rxbook", "run", "--trace"], TRACED, 0, TRACE, ""),
-    (&["rxbook", "run", "--trace"], "[]", 3, "", FAULTY),
-    (&["rxbook"], "{\"steps\":[", 3, "", FAULTY),
-    (&["rxbook"], "[]", 3, "", FAULTY),
+    (
+        &["rxbook", "run", "--trace", "--strict"],
+        TRACED,
+        6,
+        TRACE,
+        "",
+    ),
+    (&["rxbook", "run", "--strict"], EMPTY, 0, NOTHING_DONE, ""),
+    (
+        &["rxbook", "run", "--strict", "--dump"],
+        REFUSED,
+        6,
+        "[]\n",
+        "",
+    ),
+    (&["rxbook", "run", "--dump"], REFUSED, 0, "[]\n", ""),
+    (
+        &["rxbook", "run", "--trace"],
+        "[]",
+        3,
+        "",
+        "rxbook: faulty input\nrxbook: this is a history; try rxbook audit\n",
+    ),
+    (
+        &["rxbook"],
+        "{\"steps\":[",
+        3,
+        "",
+        "rxbook: faulty input\nrxbook: line 1, column 10: the JSON text ends too early\n",
+    ),
+    (
+        &["rxbook"],
+        NAMED,
+        3,
+        "",
+        "rxbook: faulty input\nrxbook: this is a history with its names; try rxbook audit --names\n",
+    ),
+    (
+        &["rxbook", "run", "--dump"],
+        "{\"steps\":[{\"do\":\"checkpoint\"}]}",
+        3,
+        "",
+        "rxbook: faulty input\nrxbook: a scenario that has a checkpoint has no history to print; try rxbook run\n",
+    ),
     (
         &["rxbook", "audit"],
         HALF_CLOSED,
@@ -228,10 +270,27 @@ static OUTCOMES: [Row; 32] = [
         "unlawful 0\n",
         "",
     ),
-    (&["rxbook", "audit"], "{\"dump\":7}", 3, "", FAULTY),
-    (&["rxbook", "audit", "--names"], "[7]", 3, "", FAULTY),
-    (&["rxbook", "audit"], "[[", 3, "", FAULTY),
-    (&["rxbook", "audit"], EMPTY, 3, "", FAULTY),
+    (
+        &["rxbook", "audit"],
+        "{\"dump\":7}",
+        3,
+        "",
+        "rxbook: faulty input\nrxbook: .dump: an array of events is expected, and this is 7\n",
+    ),
+    (
+        &["rxbook", "audit", "--names"],
+        "[7]",
+        3,
+        "",
+        "rxbook: faulty input\nrxbook: event 0: an event is an array, and this is 7\n",
+    ),
+    (
+        &["rxbook", "audit"],
+        EMPTY,
+        3,
+        "",
+        "rxbook: faulty input\nrxbook: this is a scenario; try rxbook run\n",
+    ),
     (&["rxbook", "explain"], EMPTY, 0, "", ""),
     (
         &["rxbook", "explain"],
@@ -240,50 +299,76 @@ static OUTCOMES: [Row; 32] = [
         "at the end the rules force another event, as [\"connect\",0]\n",
         "",
     ),
-    (&["rxbook", "picture"], "{\"dump\":7}", 3, "", FAULTY),
-    (&["rxbook", "picture"], "[[", 3, "", FAULTY),
+    (
+        &["rxbook", "picture"],
+        "[[",
+        3,
+        "",
+        "rxbook: faulty input\nrxbook: line 1, column 2: the JSON text ends too early\n",
+    ),
+    (
+        &["rxbook", "picture"],
+        EMPTY,
+        3,
+        "",
+        "rxbook: faulty input\nrxbook: this is a scenario; rxbook run --names prints what rxbook picture draws\n",
+    ),
     (&["rxbook", "live"], UNREAD, LEFT, "", ""),
     (
         &["rxbook", "bad"],
         EMPTY,
         2,
         "",
-        "error: unrecognized subcommand 'bad'\n\nUsage: rxbook [COMMAND] < FILE\n\nFor more information, try '--help'.\n",
+        "error: unrecognized subcommand 'bad'\n\nUsage: rxbook [COMMAND] [FILE]\n\nFor more information, try '--help'.\n",
+    ),
+    (
+        &["rxbook", "pictur"],
+        EMPTY,
+        2,
+        "",
+        "error: unrecognized subcommand 'pictur'\n\n  tip: a similar subcommand exists: 'picture'\n\nUsage: rxbook [COMMAND] [FILE]\n\nFor more information, try '--help'.\n",
+    ),
+    (
+        &["rxbook", "run", "--tracd"],
+        EMPTY,
+        2,
+        "",
+        "error: unexpected argument '--tracd' found\n\n  tip: a similar argument exists: '--trace'\n\nUsage: rxbook [run] [OPTIONS] [FILE]\n\nFor more information, try '--help'.\n",
     ),
     (
         &["rxbook", "audit", "--dump"],
         EMPTY,
         2,
         "",
-        "error: unexpected argument '--dump' found\n\nUsage: rxbook audit [OPTIONS] < FILE\n\nFor more information, try '--help'.\n",
+        "error: unexpected argument '--dump' found\n\nUsage: rxbook audit [OPTIONS] [FILE]\n\nFor more information, try '--help'.\n",
     ),
     (
         &["rxbook", "audit", "x"],
         "[]",
         2,
         "",
-        "error: unexpected argument 'x' found\n\nUsage: rxbook audit [OPTIONS] < FILE\n\nFor more information, try '--help'.\n",
+        "error: unexpected argument 'x' found\n\nUsage: rxbook audit [OPTIONS] [FILE]\n\nFor more information, try '--help'.\n",
     ),
     (
         &["rxbook", "audit", "--run"],
         "[]",
         2,
         "",
-        "error: unexpected argument '--run' found\n\nUsage: rxbook audit [OPTIONS] < FILE\n\nFor more information, try '--help'.\n",
+        "error: unexpected argument '--run' found\n\nUsage: rxbook audit [OPTIONS] [FILE]\n\nFor more information, try '--help'.\n",
     ),
     (
         &["rxbook", "retry.json"],
         EMPTY,
         2,
         "",
-        "error: unrecognized subcommand 'retry.json'\n\nUsage: rxbook [COMMAND] < FILE\n\nFor more information, try '--help'.\n",
+        "error: unrecognized subcommand 'retry.json'\n\nUsage: rxbook [COMMAND] [FILE]\n\nFor more information, try '--help'.\n",
     ),
     (
         &["rxbook", "run", "first-run.json"],
         EMPTY,
         2,
         "",
-        "error: unexpected argument 'first-run.json' found\n\nUsage: rxbook run [OPTIONS] < FILE\n\nFor more information, try '--help'.\n",
+        "error: unexpected argument 'first-run.json' found\n\nUsage: rxbook [run] [OPTIONS] [FILE]\n\nFor more information, try '--help'.\n",
     ),
     (
         &["rxbook", "storm", "--sources", "65"],
@@ -304,6 +389,71 @@ static OUTCOMES: [Row; 32] = [
 #[test]
 fn each_outcome_has_its_status_and_line(rt: HostRuntime) -> Result<(), Fail> {
     assert_rows(&rt, rt.alloc(), Flaw::None, &OUTCOMES)
+}
+
+// Words, those that are left of them without the name of a file, and that name.
+static FILES: [(&[&str], &[&str], &str); 10] = [
+    (&["rxbook"], &["rxbook"], ""),
+    (
+        &["rxbook", "first-run.json"],
+        &["rxbook", "run"],
+        "first-run.json",
+    ),
+    (
+        &["rxbook", "--strict", "a"],
+        &["rxbook", "run", "--strict"],
+        "a",
+    ),
+    (
+        &["rxbook", "audit", "a", "--names"],
+        &["rxbook", "audit", "--names"],
+        "a",
+    ),
+    (&["rxbook", "live", "-"], &["rxbook", "live"], ""),
+    (
+        &["rxbook", "picture", "--", "--a"],
+        &["rxbook", "picture"],
+        "--a",
+    ),
+    (
+        &["rxbook", "explain", "a", "b"],
+        &["rxbook", "explain", "b"],
+        "a",
+    ),
+    (
+        &["rxbook", "storm", "--items", "5"],
+        &["rxbook", "storm", "--items", "5"],
+        "",
+    ),
+    (&["rxbook", "help", "run"], &["rxbook", "help", "run"], ""),
+    (&["rxbook", "adit"], &["rxbook", "adit"], ""),
+];
+
+// The texts of these.
+fn texts(alloc: Global, words: &[&str]) -> Result<Vec<String>, AllocError> {
+    let mut texts = Vec::new(alloc);
+    for word in words {
+        texts.push(String::from_str(alloc, word)?)?;
+    }
+    Ok(texts)
+}
+
+#[test]
+fn a_file_is_the_first_word_that_is_no_option(rt: HostRuntime) -> Result<(), Fail> {
+    for (words, left, file) in FILES {
+        let given = split_file(rt.alloc(), texts(rt.alloc(), words)?)?;
+        let name = match &given.file {
+            Some(name) => name.as_str(),
+            None => "",
+        };
+        same(
+            &rt,
+            given.words.as_slice(),
+            texts(rt.alloc(), left)?.as_slice(),
+        );
+        same(&rt, name, file);
+    }
+    Ok(())
 }
 
 static STORMS: [Row; 3] = [
@@ -355,13 +505,13 @@ fn a_storm_tells_its_figures(rt: HostRuntime) -> Result<(), Fail> {
 const HELP: &str = "\
 Runs scenarios of subscriptions and reports what they did
 
-Usage: rxbook [COMMAND] < FILE
+Usage: rxbook [COMMAND] [FILE]
 
 Commands:
-  run      Run the scenario on standard input (the default)
-  audit    Judge the dump on standard input
-  explain  Say what is wrong with the scenario or the dump on standard input
-  picture  Draw the history whose dump is on standard input, as SVG
+  run      Run a scenario and write its report (the default)
+  audit    Judge the dump of a history
+  explain  Say what is wrong with a scenario or a dump
+  picture  Draw the history of a dump, as SVG
   live     Keep a book for the program at the other ends: a line in, a line out
   storm    Run many threads at one book, and compare what they counted with it
   help     Print this message or the help of the given subcommand(s)
@@ -370,45 +520,47 @@ Options:
   -h, --help     Print help
   -V, --version  Print version
 
-Input is standard input, at most 16777216 bytes; a storm reads nothing. No file is opened: hand it in, as in
-  rxbook < first-run.json
-  rxbook run --dump < first-run.json
-  rxbook audit < dispose-twice.dump
+Without a FILE the input is standard input, at most 16777216 bytes; a storm reads nothing. As in
+  rxbook first-run.json
+  rxbook run --dump first-run.json
+  rxbook audit dispose-twice.dump
 
 The exit status is
   0  success: for an audit, the history is lawful and settled; for explain, nothing is wrong
   1  reading or writing failed, or a thread could not be started
   2  bad command line
-  3  invalid input, of which rxbook explain says what is wrong; so does explain end then
+  3  invalid input; the standard error says what is wrong with it. So does explain end, whose output says it
   4  out of memory
   5  the history is unlawful or unsettled, or the threads of a storm disagree with the book
+  6  run --strict, and a step was refused
 
 docs/reference has scenarios, reports, histories, verdicts and statuses in full.
 ";
 
 const RUN_HELP: &str = "\
-Run the scenario on standard input (the default)
+Run a scenario and write its report (the default)
 
-Usage: rxbook run [OPTIONS] < FILE
+Usage: rxbook [run] [OPTIONS] [FILE]
 
 Options:
-      --dump   Write the dump of what happened, in place of the report
-      --names  Write that dump with the names of its nodes, hubs and resources, for a picture
-      --trace  Write a line for each executed step, in place of the report
-  -h, --help   Print help
+      --dump    Write the dump of what happened, in place of the report
+      --names   Write that dump with the names of its nodes, hubs and resources, for a picture
+      --trace   Write a line for each executed step, in place of the report
+      --strict  End with the status 6 if a step was refused
+  -h, --help    Print help
 
 A scenario is one JSON object, with its steps, of at most 16777216 bytes; as in
-  rxbook run < first-run.json
-  rxbook run --names < first-run.json | rxbook picture > first-run.svg
+  rxbook first-run.json
+  rxbook run --names first-run.json | rxbook picture > first-run.svg
 
-The exit status is 0 on success, 1 if reading or writing failed, 3 if the input is not a scenario
-(rxbook explain says why), 4 if out of memory. docs/reference/scenario.md and report.md have it in full.
+The exit status is 0 on success, 1 if reading or writing failed, 3 if the input is not a scenario, 4 if out of memory,
+6 with --strict if a step was refused. docs/reference/scenario.md and report.md have it in full.
 ";
 
 const AUDIT_HELP: &str = "\
-Judge the dump on standard input
+Judge the dump of a history
 
-Usage: rxbook audit [OPTIONS] < FILE
+Usage: rxbook audit [OPTIONS] [FILE]
 
 Options:
       --names  Write behind each number the name that the input has for it
@@ -416,12 +568,11 @@ Options:
 
 A dump is one JSON array of events, oldest first, of at most 16777216 bytes, or an object that has it beside names, as
 run --names writes; as in
-  rxbook audit < dispose-twice.dump
-  rxbook run --names < first-run.json | rxbook audit --names
+  rxbook audit dispose-twice.dump
+  rxbook run --names first-run.json | rxbook audit --names
 
-The exit status is 0 if the history is lawful and settled, otherwise 5; 1 if reading or writing failed,
-3 if the input is not a dump (rxbook explain says why), 4 if out of memory. docs/reference/history.md and
-verdict.md have it in full.
+The exit status is 0 if the history is lawful and settled, otherwise 5; 1 if reading or writing failed, 3 if the input
+is not a dump, 4 if out of memory. docs/reference/history.md and verdict.md have it in full.
 ";
 
 const STORM_HELP: &str = "\
@@ -438,8 +589,12 @@ Options:
 Nothing is read; as in
   rxbook storm --items 1000
 
+It prints how many resources were accepted, taken and released, one for each source; faults, how many releases failed: of
+the tags 0 to sources - 1 those that are 3 modulo 8 fail on purpose; held and waiting, 0 at the end; notes, sources times
+items + 1; and events, sources times items + 6.
+
 The exit status is 0 if the threads counted what the book says, otherwise 5; 1 if writing failed or a
-thread could not be started, 4 if out of memory. docs/reference/command-line.md explains the figures.
+thread could not be started, 4 if out of memory.
 ";
 
 static HELPS: [Row; 8] = [
@@ -458,8 +613,14 @@ fn help_and_version_go_to_the_output(rt: HostRuntime) -> Result<(), Fail> {
     assert_rows(&rt, rt.alloc(), Flaw::None, &HELPS)
 }
 
-static READ_FAULTS: [Row; 2] = [
+// A used resource beside one that was removed.
+const USED: &str =
+    "{\"steps\":[{\"do\":\"using\",\"name\":\"a\",\"place\":\"root\",\"res\":\"r\"},{\"do\":\"hold\",\"node\":\"a\",\"res\":\"q\"},\
+    {\"do\":\"apply\",\"res\":\"q\",\"word\":9},{\"do\":\"remove\",\"res\":\"r\"}]}";
+
+static READ_FAULTS: [Row; 3] = [
     (&["rxbook"], "{", 1, "", "rxbook: read fault\n"),
+    (&["rxbook"], USED, 1, "", "rxbook: read fault\n"),
     (&["rxbook", "audit"], "{", 1, "", "rxbook: read fault\n"),
 ];
 
@@ -470,15 +631,17 @@ fn a_reader_that_fails_is_a_read_fault(rt: HostRuntime) -> Result<(), Fail> {
 
 const WRITE_FAULT: &str = "rxbook: write fault\n";
 
-static FULL: [Row; 4] = [
+static FULL: [Row; 5] = [
     (&["rxbook"], EMPTY, 1, "totals nod", WRITE_FAULT),
+    (&["rxbook"], USED, 1, "node a ope", WRITE_FAULT),
     (&["rxbook", "audit"], "[]", 1, "lawful\nliv", WRITE_FAULT),
     (&["rxbook", "storm"], UNREAD, 1, "accepted 4", WRITE_FAULT),
     (&["rxbook", "--help"], UNREAD, 1, "Runs scena", WRITE_FAULT),
 ];
 
-static STUCK: [Row; 2] = [
+static STUCK: [Row; 3] = [
     (&["rxbook"], EMPTY, 1, "totals nod", WRITE_FAULT),
+    (&["rxbook"], USED, 1, "node a ope", WRITE_FAULT),
     (
         &["rxbook", "audit"],
         "[[\"take\",0]]",

@@ -1,4 +1,6 @@
 -- What a line tells is what its step did; and one more line.
+use Rattle.rx_script.specs.Running.{has_refused}
+use Rattle.std.specs.Prelude.{Bool}
 use Rattle.rx_trace.proofs.Common.{◌≡◌, ◌-◌, ◌∙◌, sym, ◌++◌, ap, refl, List, Some, None, [], ℕ, ◌∷◌, ◌+◌, ◌≤◌, ◌⊎◌, inl, inr, subst, length, take, drop, arith, map}
 use Rattle.rx_trace.proofs.Common.{append_assoc, append-nil, length-append, drop_all, drop-append-add, drop-append_seam, take-append_seam, take-append-le, ◌&&◌, not}
 use Rattle.rx_trace.proofs.Common.{codes, filter_map, next_step, agenda_of, AgendaInCode, Answer, Event, notes, shown}
@@ -271,7 +273,8 @@ module _ {R : Type 0} where
   -- it has led to its end
   pub has_ended : {limit : ℕ} (until : ℕ) (first e : Engine R) (begun now : AgendaInCode) (handed t : HandedOut) (answers : List Answer) (text : List ℕ)
       → HasTraced limit until first begun handed answers text e now t → next_step until (agenda_of now) ≡ None
+      → (refused : Bool) → refused ≡ has_refused answers
       → (h : List Event) → IsHistoryOf h first.tallies first.book → AreHandedOut handed h
-      → HasRunOut limit until (stage_of first h) (agenda_of begun) text e t
-  has_ended until first e begun now handed t answers text led none = λ h w known.
-      let to = led h w known in (to.0, record { answers = answers; left = agenda_of now; traces = to.1; over = none }, to.2, to.3)
+      → HasRunOut limit until (stage_of first h) (agenda_of begun) text refused e t
+  has_ended until first e begun now handed t answers text led none refused strict = λ h w known.
+      let to = led h w known in (to.0, record { answers = answers; left = agenda_of now; traces = to.1; over = none }, to.2, to.3, strict)

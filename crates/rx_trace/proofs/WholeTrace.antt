@@ -1,10 +1,11 @@
 -- The whole trace of a scenario.
-use Rattle.rx_trace.proofs.Common.{◌≡◌, ◌∙◌, sym, ◌++◌, ap, List, ℕ, subst, map, not, refl, Answer, Script, with_steps, empty_agenda, Manner, limited}
+use Rattle.rx_trace.proofs.Common.{◌≡◌, ◌∙◌, sym, ◌++◌, ap, List, ℕ, Bool, subst, map, not, refl, Answer, Script, with_steps, empty_agenda, Manner, limited}
 use Rattle.rx_trace.proofs.Common.{Progress, begin, LeadsBySteps, not_begun, advanced, Ends, Ware, Stage, start, course_in_order, closing_text, Event}
 use Rattle.rx_trace.proofs.Common.{nothing_kept}
 use Rattle.rx_trace.proofs.Common.{Traces, nothing_done, one_more, TracesTo, IsTraceOf, IsLawful, HandedOut, AreHandedOut, contains, nat_eq, is_left_in, names_where}
 use Rattle.rx_trace.proofs.Common.{name_text, member_text, codes, append_assoc, Binding, [], length, length-append, arith, notes, Engine, IsHistoryOf, IsSound, HasToldAll}
 use Rattle.rx_trace.proofs.Common.{all_told, moments}
+use Rattle.rx_script.specs.Running.{has_refused}
 use Rattle.rx_trace.proofs.TakenOne.{taken_is}
 
 -- without the lines that is what leads there
@@ -42,16 +43,31 @@ closing_behind h law t taken resources old a b new is_a is_b is_new =
       left : member_text (codes "release") (map name_text (names_where (λ r. not (contains nat_eq t.numbers r)) resources)) ≡ left1
       left = λ i. member_text (codes "release") (map name_text (names_where (λ r. not ((taken r ∙ sym (taken_is h law r)) i)) resources))
 
-pub whole_trace : (script : Script) (stock : List Ware) (limit : ℕ) (first last : Stage) (lines whole : List ℕ)
+-- the same, from the beginning of the scenario, with the same answers
+abbrev from_begin : (script : Script) (stock : List Ware) (limit : ℕ) (first last : Stage) (lines : List ℕ)
     → TracesTo (limited limit) script.until (record { stage = first; agenda = with_steps script.steps empty_agenda }) lines last
-    → limit ≡ script.events → first ≡ start stock → whole ≡ lines ++ closing_text last → IsTraceOf script stock whole
-whole_trace script stock limit first last lines whole traced same_limit same_first is_whole = record {
-  last = last;
-  lines = lines;
-  traced = here;
-  possible = course_in_order (limited script.events) script stock here.answers last (ends_of here);
-  whole = is_whole;
-} where
-  here : TracesTo (limited script.events) script.until (begin stock script.steps) lines last
-  here = subst (λ n. TracesTo (limited n) script.until (begin stock script.steps) lines last) same_limit
-      (subst (λ s. TracesTo (limited limit) script.until (record { stage = s; agenda = with_steps script.steps empty_agenda }) lines last) same_first traced)
+    → limit ≡ script.events → first ≡ start stock → TracesTo (limited script.events) script.until (begin stock script.steps) lines last
+from_begin script stock limit first last lines traced same_limit same_first = record {
+  answers = traced.answers;
+  left = traced.left;
+  traces = subst (λ n. Traces (limited n) script.until (begin stock script.steps) traced.answers lines (record { stage = last; agenda = traced.left })) same_limit
+      (subst (λ s. Traces (limited limit) script.until (record { stage = s; agenda = with_steps script.steps empty_agenda }) traced.answers lines
+      (record { stage = last; agenda = traced.left })) same_first traced.traces);
+  over = traced.over;
+}
+
+pub whole_trace : (script : Script) (stock : List Ware) (limit : ℕ) (first last : Stage) (lines whole : List ℕ) (refused : Bool)
+    → (traced : TracesTo (limited limit) script.until (record { stage = first; agenda = with_steps script.steps empty_agenda }) lines last)
+    → limit ≡ script.events → first ≡ start stock → whole ≡ lines ++ closing_text last → refused ≡ has_refused traced.answers
+    → (trace : IsTraceOf script stock whole) × (refused ≡ has_refused trace.traced.answers)
+whole_trace script stock limit first last lines whole refused traced same_limit same_first is_whole strict = (
+  record {
+    last = last;
+    lines = lines;
+    traced = from_begin script stock limit first last lines traced same_limit same_first;
+    possible = course_in_order (limited script.events) script stock traced.answers last
+        (ends_of (from_begin script stock limit first last lines traced same_limit same_first));
+    whole = is_whole;
+  },
+  strict,
+)

@@ -20,6 +20,7 @@ use Rattle.rx_script.specs.Engine.{IsSound, IsHistoryOf, stage_of}
 use Rattle.rx_script.specs.Keys.{node_binding, res_binding}
 use Rattle.rx_script.specs.Course.{limited}
 use Rattle.rx_script.specs.Progress.{PerformsStep}
+use Rattle.rx_script.specs.Running.{has_refused}
 use Rattle.rx_trace.specs.declared.handed.HandedOut.{HandedOut}
 use Rattle.rx_trace.specs.Told.{names_where, told_note, taken_by, resource_told}
 use Rattle.rx_script.specs.Stage.{Stage}
@@ -45,11 +46,11 @@ told_in_code e t from =
 abbrev pub HasToldAll : {R : Type 0} → Engine R → Type 0
 HasToldAll e = e.book.given ≡ length (notes e.book.history)
 
--- the lines of all steps led to this engine, which handed these resources out
-abbrev pub HasRunOut : {R : Type 0} → (limit until : ℕ) → Stage → Agenda → (text : List ℕ) → Engine R → HandedOut → Type 0
-HasRunOut limit until stage agenda text e t = (j : List Event)
-    × TracesTo (limited limit) until (record { stage = stage; agenda = agenda }) text (stage_of e j)
-    × AreHandedOut t j × IsHistoryOf j e.tallies e.book
+-- the lines of all steps led to this engine, which handed these resources out, and this is whether a step was refused
+abbrev pub HasRunOut : {R : Type 0} → (limit until : ℕ) → Stage → Agenda → (text : List ℕ) → (refused : Bool) → Engine R → HandedOut → Type 0
+HasRunOut limit until stage agenda text refused e t = (j : List Event)
+    × (traced : TracesTo (limited limit) until (record { stage = stage; agenda = agenda }) text (stage_of e j))
+    × AreHandedOut t j × IsHistoryOf j e.tallies e.book × (refused ≡ has_refused traced.answers)
 
 -- the step was taken as the k-th with this answer, what follows it is to come, all notes were handed out, and its line was written
 pub record TakesTold {R : Type 0} (old : Engine R) (before : AgendaInCode) (handed : HandedOut) (text : List ℕ) (k : ℕ) (step : StepInCode)

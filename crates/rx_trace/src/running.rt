@@ -6,7 +6,7 @@ ghost use Rattle.rx_device.specs.Input.{IsJsonOf};
 ghost use Rattle.rx_device.specs.Part.{part_data};
 ghost use Rattle.rx_scenario.specs.Scenario.{script_of};
 ghost use Rattle.rx_script.specs.declared.Form.{Form};
-ghost use Rattle.rx_script.specs.Running.{GivesNoOutput, HasNoOutput};
+ghost use Rattle.rx_script.specs.Running.{GivesNoOutput, HasNoOutput, has_refused};
 ghost use Rattle.rx_script.specs.Stage.{ware_of};
 ghost use Rattle.rx_event.specs.declared.event.Event.{Event};
 ghost use Rattle.rx_event.specs.Kept.{nothing_kept};
@@ -25,7 +25,7 @@ use json::Scratch;
 use rx_device::{Part, ScriptError, ShapeError, parse_in_place};
 use rx_resource::Resource;
 use rx_scenario::{Scenario, scenario_of};
-use rx_script::{Engine, begin, close};
+use rx_script::{Engine, Ran, begin, close};
 use std::alloc::{AllocError, Global};
 
 // Writes the line of the closing, which hands out what was not handed out before.
@@ -46,14 +46,11 @@ fn push_closing<S: Resource>(
 }
 
 // The trace of a scenario. Its book is closed in every outcome.
-fn text_of<S: Resource>(
-    alloc: Global,
-    scenario: Scenario,
-    stock: Vec<S>,
-) -> Result<String, AllocError>
+fn text_of<S: Resource>(alloc: Global, scenario: Scenario, stock: Vec<S>) -> Result<Ran, AllocError>
     requires limited { scenario.events ≤ greatest_limit }
     requires ends { scenario.until ≤ 1000000000000000 }
-    ensures { IfOk result (λ s. IsTraceOf (script_of scenario) (map (ware_of S.Resource) stock.items) (string_bytes s)) }
+    ensures { IfOk result (λ r. (trace : IsTraceOf (script_of scenario) (map (ware_of S.Resource) stock.items) (string_bytes r.text))
+        × (r.has_refused ≡ has_refused trace.traced.answers)) }
 {
     let Scenario {
         steps,
@@ -64,9 +61,9 @@ fn text_of<S: Resource>(
     let mut handed = HandedOut::new(alloc);
     let outcome = trace_course(alloc, &mut engine, &mut handed, steps, until);
     let _closed = close(&mut engine.book);
-    let mut text = outcome?;
-    push_closing(alloc, &mut text, &engine, &handed)?;
-    Ok(text)
+    let mut ran = outcome?;
+    push_closing(alloc, &mut ran.text, &engine, &handed)?;
+    Ok(ran)
 }
 
 // The trace of the scenario that the value is.
@@ -74,21 +71,21 @@ fn trace_of<S: Resource>(
     alloc: Global,
     value: Part<'_, '_>,
     stock: Vec<S>,
-) -> Result<String, ShapeError>
-    ensures ok { IfOk result (λ s. IsTraceOfValue (part_data value.entry) (map (ware_of S.Resource) stock.items) (string_bytes s)) }
+) -> Result<Ran, ShapeError>
+    ensures ok { IfOk result (λ r. IsTraceOfValue (part_data value.entry) (map (ware_of S.Resource) stock.items) (string_bytes r.text) r.has_refused) }
     ensures shape { IsErrOf result ShapeError.Shape → GivesNoOutput (part_data value.entry) Form.Report }
 {
     let scenario = scenario_of(alloc, value)?;
     match text_of(alloc, scenario, stock) {
-        Ok(text) => Ok(text),
+        Ok(ran) => Ok(ran),
         Err(AllocError) => Err(ShapeError::Memory),
     }
 }
 
 /// Runs the scenario that the input is, in JSON, on a new book, with these resources as its stock, and gives its trace. The
 /// book is closed in every outcome, as [`rx_script::run`] closes it.
-pub fn trace<S: Resource>(alloc: Global, input: &[u8], stock: Vec<S>) -> Result<String, ScriptError>
-    ensures ok { IfOk result (λ s. IsTraceOfInput input.now (map (ware_of S.Resource) stock.items) (string_bytes s)) }
+pub fn trace<S: Resource>(alloc: Global, input: &[u8], stock: Vec<S>) -> Result<Ran, ScriptError>
+    ensures ok { IfOk result (λ r. IsTraceOfInput input.now (map (ware_of S.Resource) stock.items) (string_bytes r.text) r.has_refused) }
     ensures syntax { IsErrOf result ScriptError.Syntax → (d : Data) → ¬ IsJsonOf input.now d }
     ensures shape { IsErrOf result ScriptError.Shape → HasNoOutput input.now Form.Report }
     ensures never { IfErr result (λ e. (e ≢ ScriptError.Read) × (e ≢ ScriptError.Write)) }
@@ -96,7 +93,7 @@ pub fn trace<S: Resource>(alloc: Global, input: &[u8], stock: Vec<S>) -> Result<
     let mut scratch = Scratch::new(alloc);
     let value = parse_in_place(alloc, input, &mut scratch)?;
     match trace_of(alloc, Part::new(&value), stock) {
-        Ok(text) => Ok(text),
+        Ok(ran) => Ok(ran),
         Err(ShapeError::Shape) => Err(ScriptError::Shape),
         Err(ShapeError::Memory) => Err(ScriptError::Memory),
     }

@@ -14,7 +14,7 @@ use crate::told::tell;
 use rx_agenda::{Agenda, Answer, add_all, empty_agenda, next_step};
 use rx_resource::Resource;
 use rx_scenario::Step;
-use rx_script::{Engine, take_step};
+use rx_script::{Engine, Ran, has_refused, take_step};
 use std::alloc::{AllocError, Global};
 
 // Takes a step that comes next, and writes its line. So many were executed before.
@@ -49,13 +49,14 @@ fn trace_all<R: Resource>(
     agenda: &mut Agenda,
     handed: &mut HandedOut,
     until: u64,
-) -> Result<String, AllocError>
+) -> Result<Ran, AllocError>
     requires sound { IsSound engine.old }
     requires told { HasToldAll engine.old }
     requires ends { until ≤ 1000000000000000 }
     requires clock { agenda.old.timeline.clock ≤ until }
-    ensures traces { IfOk result (λ s. (h : List Event) → IsHistoryOf h engine.old.tallies engine.old.book → AreHandedOut handed.old h
-        → HasRunOut engine.old.book.limit until (stage_of engine.old h) (agenda_of agenda.old) (string_bytes s) engine.new handed.new) }
+    ensures traces { IfOk result (λ r. (h : List Event) → IsHistoryOf h engine.old.tallies engine.old.book → AreHandedOut handed.old h
+        → HasRunOut engine.old.book.limit until (stage_of engine.old h) (agenda_of agenda.old) (string_bytes r.text) r.has_refused
+        engine.new handed.new) }
     ensures sound { OnOk result (IsSound engine.new) }
 {
     let mut answers = Vec::new(alloc);
@@ -64,7 +65,8 @@ fn trace_all<R: Resource>(
         let executed = answers.len();
         answers.push(take_told(alloc, engine, agenda, handed, step, executed, &mut text)?)?;
     }
-    Ok(text)
+    let has_refused = has_refused(answers.as_slice());
+    Ok(Ran { text, has_refused })
 }
 
 /// Runs a scenario's steps until this time, and writes their lines.
@@ -74,13 +76,13 @@ pub fn trace_course<R: Resource>(
     handed: &mut HandedOut,
     steps: Vec<Step>,
     until: u64,
-) -> Result<String, AllocError>
+) -> Result<Ran, AllocError>
     requires sound { IsSound engine.old }
     requires told { HasToldAll engine.old }
     requires ends { until ≤ 1000000000000000 }
-    ensures traces { IfOk result (λ s. (h : List Event) → IsHistoryOf h engine.old.tallies engine.old.book → AreHandedOut handed.old h
-        → HasRunOut engine.old.book.limit until (stage_of engine.old h) (with_steps (map step_of steps.items) empty_agenda) (string_bytes s)
-        engine.new handed.new) }
+    ensures traces { IfOk result (λ r. (h : List Event) → IsHistoryOf h engine.old.tallies engine.old.book → AreHandedOut handed.old h
+        → HasRunOut engine.old.book.limit until (stage_of engine.old h) (with_steps (map step_of steps.items) empty_agenda) (string_bytes r.text)
+        r.has_refused engine.new handed.new) }
     ensures sound { OnOk result (IsSound engine.new) }
 {
     let mut agenda = empty_agenda(alloc);

@@ -1,4 +1,4 @@
-use Rattle.rx_cli.proofs.Literals.{alone, with_run, with_dump, with_names, with_both, with_trace, with_trace_and_names}
+use Rattle.rx_cli.proofs.Literals.{alone, with_run, with_dump, with_names, with_both, with_trace, with_trace_and_names, with_strict, with_strict_trace}
 use Rattle.rx_cli.proofs.Literals.{with_explain, with_picture, with_live, with_audit, with_audit_names, with_storm, with_greatest, beyond, with_help, with_files}
 use Rattle.rx_cli.proofs.word_laws.words_have_their_orders.Goals as goal
 
@@ -22,6 +22,12 @@ returns-clause-with_trace c = with_trace
 
 pub returns-clause-with_trace_and_names : goal.returns-clause-with_trace_and_names
 returns-clause-with_trace_and_names c = with_trace_and_names
+
+pub returns-clause-with_strict : goal.returns-clause-with_strict
+returns-clause-with_strict c = with_strict
+
+pub returns-clause-with_strict_trace : goal.returns-clause-with_strict_trace
+returns-clause-with_strict_trace c = with_strict_trace
 
 pub returns-clause-with_audit : goal.returns-clause-with_audit
 returns-clause-with_audit c = with_audit

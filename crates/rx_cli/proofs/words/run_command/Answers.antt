@@ -9,4 +9,6 @@ returns c =
     let first = c.in_ok-first.ensures.shape dump.local ∙ ap₂ with_rule bare dump.rule in
     let trace = c.flag-3.ensures in
     let second = c.in_ok-second.ensures.shape names.local ∙ ap₂ with_rule first names.rule in
-    IfOk-weaker c.arg-3.result _ _ (λ r h. h.shape trace.local ∙ ap₂ with_rule second trace.rule) c.arg-3.ensures
+    let strict = c.flag-4.ensures in
+    let third = c.in_ok-third.ensures.shape trace.local ∙ ap₂ with_rule second trace.rule in
+    IfOk-weaker c.arg-4.result _ _ (λ r h. h.shape strict.local ∙ ap₂ with_rule third strict.rule) c.arg-4.ensures

@@ -1,4 +1,5 @@
-use Rattle.rx_trace.proofs.Common.{◌≡◌, ◌≤◌, ◌++◌, ◌∷◌, [], ◌∙◌, rules, arith, length, string_bytes, TakesTold}
+use Rattle.rx_script.specs.Running.{has_refused}
+use Rattle.rx_trace.proofs.Common.{◌≡◌, ◌≤◌, ◌++◌, ◌∷◌, [], ◌∙◌, ap, rules, arith, length, string_bytes, TakesTold}
 use Rattle.rx_trace.proofs.LinesTold.{not_traced, traces_more, has_ended}
 use Rattle.rx_trace.proofs.tracing.trace_all.Goals as goal
 
@@ -26,4 +27,5 @@ loop-step-preserved g c =
 
 pub returns-clause-traces : goal.returns-clause-traces
 returns-clause-traces g c = has_ended c.args.until c.args.engine.now c.loop-step.engine c.args.agenda.now c.loop-step.agenda c.args.handed.now
-    c.loop-step.handed c.loop-step.answers.items _ c.loop-step.invariant.traces c.in_default.ensures.none
+    c.loop-step.handed c.loop-step.answers.items _ c.loop-step.invariant.traces c.in_default.ensures.none _
+    (c.has_refused-has_refused.ensures ∙ ap has_refused c.as_slice.ensures.value)
