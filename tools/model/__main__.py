@@ -18,7 +18,11 @@ def main(words: list[str]) -> int:
     if len(words) not in (1, 2) or words[0] not in ('explain', 'audit', 'run', 'dump'):
         print(__doc__, file=sys.stderr)
         return 2
-    text = pathlib.Path(words[1]).read_bytes() if words[1:] else sys.stdin.buffer.read()
+    try:
+        text = pathlib.Path(words[1]).read_bytes() if words[1:] else sys.stdin.buffer.read()
+    except OSError as error:
+        print(f'cannot read {words[1]}: {error.strerror}' if words[1:] else f'cannot read: {error.strerror}', file=sys.stderr)
+        return 4
     try:
         if words[0] == 'explain':
             print('\n'.join(explain(events_of(text))))

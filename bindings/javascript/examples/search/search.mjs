@@ -9,7 +9,10 @@ const item = (text) => Object.assign(document.createElement('li'), { textContent
 /** A request that is cancelled as it is left. */
 const request = (url) => new Observable((to) => {
   const abort = new AbortController();
-  fetch(url, { signal: abort.signal }).then((it) => it.json()).then((it) => {
+  fetch(url, { signal: abort.signal }).then((it) => {
+    if (!it.ok) throw new Error(`${it.status} ${it.statusText}`);
+    return it.json();
+  }).then((it) => {
     to.next(it);
     to.complete();
   }).catch((error) => to.error(error));
