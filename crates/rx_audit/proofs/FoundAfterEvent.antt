@@ -8,6 +8,7 @@ use Rattle.std.proofs.Math.Seq.{take-append_seam}
 use Rattle.std.specs.List.{filter_map, cons_option}
 use Rattle.std.proofs.lemmas.List.Folds.{list_any-append}
 use Rattle.rx_event.specs.Climb.{Delivery, Projection, Firing}
+use Rattle.rx_audit.specs.Flow.{IsOfMarking}
 use Rattle.rx_audit.specs.Tables.{IsTable}
 use Rattle.rx_audit.specs.Rules.{fired_by, projecting_node}
 use Rattle.rx_audit.proofs.Keys.{length-marks_with, marks_with_at}
@@ -56,9 +57,10 @@ often_test false c l = let z : c * 0 ≡ 0 = omega arith in rw z refl
 pub any_counted : {X : Type 0} (q : X → Bool) (xs : List X) → list_any q xs ≡ nat_lt 0 (count_by q xs)
 any_counted q xs = any_sum q (λ x. cond {A = ℕ} (q x) 1 0) xs (λ i x e. one_test (q x))
 
-pub same_any : (h : List Event) (leaf : ℕ) (log : List Visit) (q : ℕ → Bool) → IsReached h leaf log → list_any (λ v. q v.node) log ≡ list_any q (climb h leaf)
-same_any h leaf log q r = any_sum (λ v. q v.node) (times (λ n. cond {A = ℕ} (q n) 1 0)) log (λ i v e. often_test (q v.node) v.count (r.often i v e))
-    ∙ ap (nat_lt 0) (r.sums (λ n. cond {A = ℕ} (q n) 1 0)) ∙ sym (any_counted q (climb h leaf))
+pub same_any : (h : List Event) (leaf : ℕ) (log : List Visit) (q : ℕ → Bool) → IsOfMarking h (λ n. cond {A = ℕ} (q n) 1 0) → IsReached h leaf log
+    → list_any (λ v. q v.node) log ≡ list_any q (climb h leaf)
+same_any h leaf log q marking r = any_sum (λ v. q v.node) (times (λ n. cond {A = ℕ} (q n) 1 0)) log (λ i v e. often_test (q v.node) v.count (r.often i v e))
+    ∙ ap (nat_lt 0) (r.sums (λ n. cond {A = ℕ} (q n) 1 0) marking) ∙ sym (any_counted q (climb h leaf))
 
 cond_times : (b : Bool) (c : ℕ) → cond b c 0 ≡ c * cond b 1 0
 cond_times x0 c = search rules

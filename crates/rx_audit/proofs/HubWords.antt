@@ -6,7 +6,7 @@ use Rattle.rx_audit.proofs.Common.{slice_get_within, nothing_kept, Event, is_sub
 use Rattle.rx_audit.proofs.Common.{last_connection, Subscribers, IsMarked, last_below, keyed, on_list, AreLinked, AreOpenListed, names_number, joins}
 use Rattle.rx_audit.proofs.Common.{hub_connected_at, hub_subscribed_at, hub_ended, hub_ended_at, open_connected, open_subscribed, open_waiting, any_has_key}
 use Rattle.rx_audit.proofs.Common.{ends_source, is_disconnected, and_false, false_from_ne_true, ⊎_elim, cases_lt, option_and_then_some, list_any-same}
-use Rattle.rx_audit.proofs.SubscriberRows.{on_open}
+use Rattle.rx_audit.proofs.CountedRows.{on_open}
 use Rattle.rx_audit.proofs.Due.{waiting_is, connected_is}
 use Rattle.rx_audit.proofs.Latest.{last_le, last_holds, last_none, key_is, is_key_of}
 use Rattle.rx_audit.proofs.KeysInRange.{any_found}

@@ -10,12 +10,14 @@ use Rattle.rx_audit.proofs.Latest.{is_key_of}
 use Rattle.rx_audit.proofs.DueLists.{acts_open}
 use Rattle.std.proofs.Common.{rules}
 
-pub followed_nothing : (size : ℕ) (nodes : Nodes) → AreChildren [] size nodes.children → AreLinked [] size nodes.subscribers → AreHubs [] size nodes.hubs
-    → length nodes.marks.items ≡ size → IsFollowed [] size nodes
-followed_nothing size nodes children linked hubs marks = record {
+pub followed_nothing : (size : ℕ) (nodes : Nodes) → AreChildren [] size nodes.children → AreLinked [] size nodes.subscribers → AreLinked [] size nodes.nested
+    → AreHubs [] size nodes.hubs → length nodes.marks.items ≡ size → IsFollowed [] size nodes
+followed_nothing size nodes children linked nested hubs marks = record {
   children = children;
   linked = linked;
   listed = λ g k y. absurd (false≢true y);
+  nested_linked = nested;
+  nested_listed = λ g k y. absurd (false≢true y);
   hubs = hubs;
   marks_size = marks;
   kept = λ n o. absurd (both_ways (is_open [] n) (is_open_past [] n (omega arith)) o);
@@ -24,8 +26,8 @@ followed_nothing size nodes children linked hubs marks = record {
 
 -- with another list of what may be due
 pub known_due : {h : List Event} {live : List Bool} (old new : Nodes) → IsKnown h live old → new.children ≡ old.children → new.subscribers ≡ old.subscribers
-    → new.hubs ≡ old.hubs → new.marks ≡ old.marks → HasAll h new.due.items → IsKnown h live new
-known_due old new k children subscribers hubs marks covered =
+    → new.nested ≡ old.nested → new.hubs ≡ old.hubs → new.marks ≡ old.marks → HasAll h new.due.items → IsKnown h live new
+known_due old new k children subscribers nested hubs marks covered =
     let w = k.followed in
     record {
       lawful = k.lawful;
@@ -35,6 +37,8 @@ known_due old new k children subscribers hubs marks covered =
         children = rw children w.children;
         linked = rw subscribers w.linked;
         listed = rw subscribers w.listed;
+        nested_linked = rw nested w.nested_linked;
+        nested_listed = rw nested w.nested_listed;
         hubs = rw hubs w.hubs;
         marks_size = rw marks w.marks_size;
         kept = rw marks w.kept;

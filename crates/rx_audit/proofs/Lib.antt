@@ -12,8 +12,10 @@ pub mod Refusing
 pub mod TestsToVerdict
 pub mod FlowIsVisits
 pub mod VisitLogEntries
+pub mod Deliveries
 pub mod LogCountsVisits
 pub mod Neighbours
+pub mod CountedRows
 pub mod SubscriberRows
 pub mod Latest
 pub mod ClosingBelow

@@ -21,12 +21,14 @@ item_of x0 leaf is = search (rules, same_Some, none-some)
 fires_same : (h : List Event) (leaf n : ℕ) (log : List Visit) → IsReached h leaf log
     → list_any (λ v. names_number (fired_key h v.node) n) log ≡ list_any (is_firing_of n) (stops h leaf)
 unfolding stops
-fires_same h leaf n log r = search (rules, same_any, firing_stops)
+fires_same h leaf n log r = same_any h leaf log (λ m. names_number (fired_key h m) n)
+    (λ m fires projects. ap (λ o. cond {A = ℕ} (names_number o n) 1 0) fires) r ∙ sym (firing_stops (stop_at h) n (climb h leaf))
 
 owes_same : (h : List Event) (leaf n : ℕ) (log : List Visit) → IsReached h leaf log
     → sum_by (λ v. cond (names_number (projected_key h v.node) n) v.count 0) log ≡ count_by (is_projection_to n) (stops h leaf)
 unfolding stops
 owes_same h leaf n log r = times_cond (λ m. names_number (projected_key h m) n) log ∙ r.sums (λ m. cond (names_number (projected_key h m) n) 1 0)
+    (λ m fires projects. ap (λ o. cond {A = ℕ} (names_number o n) 1 0) projects)
     ∙ sym (projection_stops (stop_at h) n (climb h leaf))
 
 kept_visit : {h : List Event} {leaf : ℕ} (v : ℤ) {log : List Visit} {old new : List Marks} {before : List ℕ} (after : List ℕ) → IsLawful nothing_kept h

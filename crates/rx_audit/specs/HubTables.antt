@@ -1,7 +1,8 @@
 -- What is kept of the hubs, and of the open subscribers of each. No public clause cites this module.
 use Rattle.std.specs.Prelude.{◌≡◌, ◌&&◌, ◌||◌, slice_index_or, ◌<◌, ◌≤◌, if◌then◌else◌}
 use Rattle.rx_audit.specs.Imports.{ℕ, zero, suc, Bool, false, Option, Some, None, List, length, slice_get, true, not, option_and_then, option_map_or}
-use Rattle.rx_audit.specs.Imports.{Terminal, Event, Connect, End, Close, same_terminal, hubs, is_open, at, IsConnectDue, is_subscriber_of}
+use Rattle.rx_audit.specs.Imports.{Terminal, Event, Connect, End, Close, same_terminal, hubs, is_open, at, IsConnectDue, is_subscriber_of, is_root, sum_by}
+use Rattle.rx_event.specs.Claims.Connections.{falling}
 use Rattle.rx_audit.specs.declared.hubs.Hubs.{Hubs}
 use Rattle.rx_audit.specs.Latest.{IsLatest, last_below, IsNoted}
 use Rattle.rx_audit.specs.Marking.{forced_end}
@@ -73,18 +74,28 @@ abbrev pub hub_if_last : ℕ → ℕ → Option ℕ
 hub_if_last zero g = Some g
 hub_if_last (suc n) g = None
 
--- each hub's list leads over its subscribers that have a mark
+-- each hub's list leads over its subscribers that have a mark, and they are counted
 pub record AreLinked (h : List Event) (size : ℕ) (s : Subscribers) : Type 0 where
   pub rows : (g : ℕ) → IsRow (on_list h s.listed.items g) (length h) (slice_index_or s.last.items g 0) s.before.items s.after.items
   pub hubbed : (g k : ℕ) → on_list h s.listed.items g k ≡ true → g < size
+  pub counted : (g : ℕ) → slice_index_or s.counts.items g 0 ≡ sum_by (λ k. 1) (falling (on_list h s.listed.items g) (length h))
   pub listed_size : length s.listed.items ≡ size
   pub last_size : length s.last.items ≡ size
   pub before_size : length s.before.items ≡ size
   pub after_size : length s.after.items ≡ size
+  pub counts_size : length s.counts.items ≡ size
 
 -- a subscriber has a mark where it is open, and only there
 abbrev pub AreOpenListed : List Event → Subscribers → Type 0
 AreOpenListed h s = (g k : ℕ) → at (is_subscriber_of g) h k ≡ true → slice_index_or s.listed.items k false ≡ is_open h k
+
+-- a subscriber has a mark where it is open and no root, and only there
+abbrev pub AreNestedListed : List Event → Subscribers → Type 0
+AreNestedListed h s = (g k : ℕ) → at (is_subscriber_of g) h k ≡ true → slice_index_or s.listed.items k false ≡ (not (at is_root h k) && is_open h k)
+
+-- the marks of what the history has stay
+abbrev pub KeepsMarks : List Event → List Bool → List Bool → Type 0
+KeepsMarks h old new = (k : ℕ) → k < length h → slice_index_or new k false ≡ slice_index_or old k false
 
 -- the hub of node s, where s has a mark
 abbrev pub listed_hub : List Event → List Bool → ℕ → Option ℕ

@@ -5,7 +5,7 @@ use Rattle.rx_audit.specs.declared.advance.Nodes.{Nodes}
 use Rattle.rx_audit.specs.Found.{IsFoundHere}
 use Rattle.rx_audit.specs.Tables.{IsMarked}
 use Rattle.rx_audit.specs.Latest.{AreChildren}
-use Rattle.rx_audit.specs.HubTables.{AreLinked, AreOpenListed, AreHubs}
+use Rattle.rx_audit.specs.HubTables.{AreLinked, AreOpenListed, AreNestedListed, AreHubs}
 use Rattle.rx_audit.specs.Marking.{IsKept, IsCovered}
 use Rattle.rx_audit.specs.DueList.{Keeps, HasAll}
 
@@ -15,6 +15,8 @@ pub record IsFollowed (h : List Event) (size : ℕ) (nodes : Nodes) : Type 0 whe
   pub children : AreChildren h size nodes.children
   pub linked : AreLinked h size nodes.subscribers
   pub listed : AreOpenListed h nodes.subscribers
+  pub nested_linked : AreLinked h size nodes.nested
+  pub nested_listed : AreNestedListed h nodes.nested
   pub hubs : AreHubs h size nodes.hubs
   pub marks_size : length nodes.marks.items ≡ size
   pub kept : IsKept h nodes.marks.items
@@ -28,6 +30,7 @@ pub record AreNodesRemarked (h : List Event) (e : Event) (old new : Nodes) : Typ
   pub marks_size : length new.marks.items ≡ length old.marks.items
   pub children : new.children ≡ old.children
   pub subscribers : new.subscribers ≡ old.subscribers
+  pub nested : new.nested ≡ old.nested
   pub hubs : new.hubs ≡ old.hubs
 
 -- the same of a lawful history, with the marks of what is open and room for each event

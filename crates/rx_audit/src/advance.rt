@@ -7,7 +7,7 @@ ghost use Rattle.rx_audit.specs.Latest.{AreChildren, AreClosed};
 ghost use Rattle.rx_audit.specs.Flow.{IsReached};
 ghost use Rattle.rx_audit.specs.Found.{IsClimbed};
 ghost use Rattle.rx_audit.specs.Marking.{leaf_of};
-ghost use Rattle.rx_audit.specs.HubTables.{AreHubs, AreLinked, AreOpenListed};
+ghost use Rattle.rx_audit.specs.HubTables.{AreHubs, AreLinked, AreOpenListed, AreNestedListed};
 ghost use Rattle.rx_audit.specs.Standing.{IsFollowed, AreNodesRemarked};
 ghost use Rattle.rx_audit.specs.Verdict.{most_judged};
 
@@ -17,7 +17,7 @@ use crate::duties::{note_cut, note_left, note_touched};
 use crate::hubs::{Hubs, no_hubs, note_hubs};
 use crate::nodes::{remark, remark_visits};
 use crate::reach::Visit;
-use crate::subscribers::{Subscribers, let_go, list_new, no_subscribers};
+use crate::subscribers::{Subscribers, let_go, list_nested, list_new, no_subscribers};
 use rx_event::Event;
 use rx_marks::Marks;
 use std::alloc::{AllocError, Global};
@@ -28,6 +28,8 @@ pub struct Nodes {
     pub children: Children,
     /// The open subscribers of each hub.
     pub subscribers: Subscribers,
+    /// Those of them that are no roots.
+    pub nested: Subscribers,
     /// The hubs.
     pub hubs: Hubs,
     /// The nodes that the last event closed.
@@ -44,6 +46,7 @@ impl Drop for Nodes {
         let Nodes {
             children: _children,
             subscribers: _subscribers,
+            nested: _nested,
             hubs: _hubs,
             todo: _todo,
             marks: _marks,
@@ -69,6 +72,7 @@ pub fn no_nodes(alloc: Global, size: usize) -> Result<Nodes, AllocError>
     Ok(Nodes {
         children: no_children(alloc, size)?,
         subscribers: no_subscribers(alloc, size)?,
+        nested: no_subscribers(alloc, size)?,
         hubs: no_hubs(alloc, size)?,
         todo: Vec::new(alloc),
         marks: vec![in alloc; Marks::blank(); size]?,
@@ -148,6 +152,7 @@ fn relink(
     closed: &[usize],
     children: &mut Children,
     subs: &mut Subscribers,
+    nested: &mut Subscribers,
     hubs: &mut Hubs,
 )
     requires lawful { IsLawful nothing_kept past.now }
@@ -156,16 +161,22 @@ fn relink(
     requires children { AreChildren past.now (length children.old.youngest.items) children.old }
     requires linked { AreLinked past.now (length children.old.youngest.items) subs.old }
     requires listed { AreOpenListed past.now subs.old }
+    requires nested_linked { AreLinked past.now (length children.old.youngest.items) nested.old }
+    requires nested_listed { AreNestedListed past.now nested.old }
     requires hubs { AreHubs past.now (length children.old.youngest.items) hubs.old }
     requires room { length past.now < length children.old.youngest.items }
     requires short { length past.now < most_judged }
     ensures children { AreChildren (past.now ++ event ∷ []) (length children.old.youngest.items) children.new }
     ensures linked { AreLinked (past.now ++ event ∷ []) (length children.old.youngest.items) subs.new }
     ensures listed { AreOpenListed (past.now ++ event ∷ []) subs.new }
+    ensures nested_linked { AreLinked (past.now ++ event ∷ []) (length children.old.youngest.items) nested.new }
+    ensures nested_listed { AreNestedListed (past.now ++ event ∷ []) nested.new }
     ensures hubs { AreHubs (past.now ++ event ∷ []) (length children.old.youngest.items) hubs.new }
 {
     let_go(past, closed, subs);
     list_new(past, event, subs);
+    let_go(past, closed, nested);
+    list_nested(past, event, nested);
     note_hubs(past, event, hubs);
     link_child(past, event, children);
 }
@@ -210,6 +221,7 @@ pub fn advance(
         nodes.todo.as_slice(),
         &mut nodes.children,
         &mut nodes.subscribers,
+        &mut nodes.nested,
         &mut nodes.hubs,
     );
     Ok(())

@@ -18,7 +18,7 @@ ghost use Rattle.rx_register.specs.CallBehind.{may_fail, refusal_against, refusa
 ghost use Rattle.rx_audit.specs.Found.{IsFoundHere, IsClimbed};
 ghost use Rattle.rx_audit.specs.Standing.{IsKnown};
 ghost use Rattle.rx_audit.specs.Marking.{IsKept};
-ghost use Rattle.rx_audit.specs.HubTables.{AreLinked, AreOpenListed};
+ghost use Rattle.rx_audit.specs.HubTables.{AreLinked, AreOpenListed, AreNestedListed};
 ghost use Rattle.rx_audit.specs.Flow.{IsReached};
 ghost use Rattle.rx_audit.specs.Rules.{was_removed, was_taken, refused_simply};
 
@@ -582,6 +582,7 @@ fn item_refusal(
     past: &[Event],
     found: &Found,
     subs: &Subscribers,
+    nested: &Subscribers,
     climb: &mut Climb,
     l: u64,
     _value: i64,
@@ -589,6 +590,8 @@ fn item_refusal(
     requires found { IsFoundHere past.now found.now }
     requires linked { AreLinked past.now (length subs.now.listed.items) subs.now }
     requires listed { AreOpenListed past.now subs.now }
+    requires nested_linked { AreLinked past.now (length nested.now.listed.items) nested.now }
+    requires nested_listed { AreNestedListed past.now nested.now }
     ensures value { IfOk result (λ why. why ≡ refusal_against nothing_kept past.now (Emitting l _value)) }
     ensures climbed { IfOk result (λ why. why ≡ None → IsReached past.now l climb.new.log.items) }
 {
@@ -598,7 +601,7 @@ fn item_refusal(
     if !is_leaf(past, l) {
         return Ok(Some(Refusal::WrongKind));
     }
-    if !reached(past, subs, climb, l)? {
+    if !reached(past, subs, nested, climb, l)? {
         return Ok(Some(Refusal::TooMany));
     }
     Ok(None)
@@ -620,7 +623,15 @@ pub fn refusal(
 {
     match event {
         Event::Item(leaf, value) => {
-            item_refusal(past, found, &nodes.subscribers, climb, leaf, value)
+            item_refusal(
+                past,
+                found,
+                &nodes.subscribers,
+                &nodes.nested,
+                climb,
+                leaf,
+                value,
+            )
         }
         _ => Ok(refusal_simply(past, found, nodes, event)),
     }

@@ -1,12 +1,13 @@
 //! How often an item reaches each node.
 //!
 //! Nodes are counted and not listed one by one, so that an item that takes many paths costs no
-//! more than the nodes on them.
+//! more than the nodes on them. A root is counted and not listed: an item that is delivered there changes
+//! nothing.
 
 ghost use Rattle.std.specs.Prelude.{◌≡◌, ℕ, ◌+◌, ◌*◌, ◌^◌, ◌<◌, ◌≤◌, IfOk, OnOk, length, take, drop, sum_by};
 ghost use Rattle.std.specs.Bool.{MatchBool};
 ghost use Rattle.rx_event.specs.Climb.{onward, visits};
-ghost use Rattle.rx_audit.specs.HubTables.{AreLinked, AreOpenListed};
+ghost use Rattle.rx_audit.specs.HubTables.{AreLinked, AreOpenListed, AreNestedListed};
 ghost use Rattle.rx_audit.specs.Flow.{times, IsOften, IsReached};
 
 use crate::children::value_at;
@@ -30,9 +31,9 @@ pub struct Climb {
     /// By node: where in the log its last entry may be. What stands there from items before does no
     /// harm, since the entry itself is looked at.
     pub entries: Vec<u32>,
-    /// The nodes that the last item visits, and how often.
+    /// The nodes that the last item visits, and how often: its leaf, and those that are no roots.
     pub log: Vec<Visit>,
-    /// The nodes above the one that is looked at.
+    /// The nodes on which an item goes from the one that is looked at.
     pub next: Vec<u64>,
 }
 
@@ -119,16 +120,19 @@ fn spread(
     Ok(())
 }
 
-/// Finds how often an item of this leaf reaches each node, in the log, and whether it makes no more visits
-/// than it may.
+/// Finds how often an item of this leaf reaches each node that is no root, in the log, and whether it makes no
+/// more visits than it may.
 pub fn reached(
     past: &[Event],
     subs: &Subscribers,
+    nested: &Subscribers,
     climb: &mut Climb,
     leaf: u64,
 ) -> Result<bool, AllocError>
     requires linked { AreLinked past.now (length subs.now.listed.items) subs.now }
     requires listed { AreOpenListed past.now subs.now }
+    requires nested_linked { AreLinked past.now (length nested.now.listed.items) nested.now }
+    requires nested_listed { AreNestedListed past.now nested.now }
     ensures { IfOk result (λ b. MatchBool b
         (IsReached past.now leaf climb.new.log.items) (1048576 < visits past.now leaf)) }
 {
@@ -144,8 +148,8 @@ pub fn reached(
         }
         let visit = climb.log[i];
         climb.next.clear();
-        onward(past, subs, visit.node, &mut climb.next)?;
-        let more = u128::from(visit.count) * climb.next.len() as u128;
+        let size = onward(past, subs, nested, visit.node, &mut climb.next)?;
+        let more = u128::from(visit.count) * size as u128;
         if more > u128::from(MOST_VISITS - total) {
             return Ok(false);
         }

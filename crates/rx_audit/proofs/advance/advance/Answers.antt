@@ -17,6 +17,8 @@ returns-clause-followed c =
       children = subst (λ (n : ℕ). AreChildren (h ++ e ∷ []) n c.relink.new.children) size c.relink.ensures.children;
       linked = subst (λ (n : ℕ). AreLinked (h ++ e ∷ []) n c.relink.new.subs) size c.relink.ensures.linked;
       listed = c.relink.ensures.listed;
+      nested_linked = subst (λ (n : ℕ). AreLinked (h ++ e ∷ []) n c.relink.new.nested) size c.relink.ensures.nested_linked;
+      nested_listed = c.relink.ensures.nested_listed;
       hubs = subst (λ (n : ℕ). AreHubs (h ++ e ∷ []) n c.relink.new.hubs) size c.relink.ensures.hubs;
       marks_size = c.in_ok-keep.ensures.marks_size ∙ w.marks_size;
       kept = c.in_ok-keep.ensures.kept;
@@ -42,6 +44,12 @@ relink-requires-clause-linked c = search rules
 
 pub relink-requires-clause-listed : goal.relink-requires-clause-listed
 relink-requires-clause-listed c = rw c.in_ok-keep.ensures.subscribers c.requires.followed.listed
+
+pub relink-requires-clause-nested_linked : goal.relink-requires-clause-nested_linked
+relink-requires-clause-nested_linked c = search rules
+
+pub relink-requires-clause-nested_listed : goal.relink-requires-clause-nested_listed
+relink-requires-clause-nested_listed c = rw c.in_ok-keep.ensures.nested c.requires.followed.nested_listed
 
 pub relink-requires-clause-hubs : goal.relink-requires-clause-hubs
 relink-requires-clause-hubs c = search rules

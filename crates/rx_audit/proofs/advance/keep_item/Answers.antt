@@ -11,5 +11,6 @@ returns c = let r = c.requires in let w = c.in_ok-remark_visits.ensures in recor
   marks_size = w.size;
   children = refl;
   subscribers = refl;
+  nested = refl;
   hubs = refl;
 }

@@ -18,3 +18,6 @@ returns-in_default-clause-climbed c = λ none l v is. absurd (c.in_default.not-I
 
 pub item_refusal-requires-clause-linked : goal.item_refusal-requires-clause-linked
 item_refusal-requires-clause-linked c = rw c.requires.known.followed.linked.listed_size c.requires.known.followed.linked
+
+pub item_refusal-requires-clause-nested_linked : goal.item_refusal-requires-clause-nested_linked
+item_refusal-requires-clause-nested_linked c = rw c.requires.known.followed.nested_linked.listed_size c.requires.known.followed.nested_linked

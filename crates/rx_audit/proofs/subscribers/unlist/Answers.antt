@@ -14,8 +14,9 @@ returns-clause-linked c =
           (ap (λ (x : Subscribers). x.last.items) w.subs-is ∙ w.join_neighbours.ensures.last)
           (ap (λ (x : Subscribers). x.before.items) w.subs-is ∙ w.join_neighbours.ensures.before)
           (ap (λ (x : Subscribers). x.after.items) w.subs-is ∙ w.join_neighbours.ensures.after)
+          (ap (λ (x : Subscribers). x.counts.items) w.subs-is ∙ w.join_neighbours.ensures.counts)
       | in_default w ↦ rows_still _ c.args.s c.requires (sym w.in_default.ensures)
           (c.put_mark.ensures ∙ ap (λ (ms : List Bool). set ms c.args.s false) (ap (λ (x : Subscribers). x.listed.items) w.subs-is))
           (ap (λ (x : Subscribers). x.last.items) w.subs-is) (ap (λ (x : Subscribers). x.before.items) w.subs-is)
-          (ap (λ (x : Subscribers). x.after.items) w.subs-is)
+          (ap (λ (x : Subscribers). x.after.items) w.subs-is) (ap (λ (x : Subscribers). x.counts.items) w.subs-is)
     ]
