@@ -56,8 +56,14 @@ export class Stage {
   complete(leaf) { this.up.complete(leaf); }
 }
 
-/** An error for it, as soon as there is room to tell it. */
-export function failing(to, error) { realm.engine.surely(() => to.error(error)); }
+/** An error for it, as soon as there is room to tell it; a leaf tells nothing until then. */
+export function failing(to, error) {
+  let waits = false;
+  realm.engine.surely(() => {
+    if (waits) to.isStopped = to.owed === 0; // the engine has closed it
+    to.error(error);
+  }, () => { if (to instanceof Leaf && !to.isStopped) to.isStopped = waits = true; });
+}
 
 /** What the function of a source is given, and what the engine has for its node (a Thing). */
 export class Leaf extends Subscriber {

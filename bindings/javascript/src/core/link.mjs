@@ -10,6 +10,7 @@ export class Link extends Subscriber {
     this._onComplete = complete;
     this._onError = error;
     this._onFinalize = finalize;
+    this.is_linked = false; // whether it was opened with the leaf that it tells
   }
   get _isInner() { return true; }
 
@@ -27,8 +28,12 @@ export class Link extends Subscriber {
   }
   _next(value) {
     const { destination, _onNext } = this;
-    if (!_onNext) return destination.next(value);
-    try { _onNext(value); } catch (error) { failing(destination, error); }
+    try {
+      if (_onNext) _onNext(value); else destination.next(value);
+    } catch (error) {
+      if (!_onNext && !(error instanceof RangeError)) throw error;
+      failing(destination, error);
+    }
   }
   _error(error) {
     const { destination, _onError } = this;

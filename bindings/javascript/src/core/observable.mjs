@@ -2,7 +2,7 @@ import { realm } from '../engine/realm.mjs';
 import { farther, taking } from '../engine/tracing.mjs';
 import { config, inContext } from './config.mjs';
 import { Link } from './link.mjs';
-import { isAsked, isLeft, openLeaf } from './place.mjs';
+import { isAsked, isLeft, openLeaf, unopenedAt } from './place.mjs';
 import { SafeSubscriber, Subscriber, isSubscriber } from './subscriber.mjs';
 import { Leaf, failing } from './leaf.mjs';
 import { isFunction, observable, pipeFromArray } from './util.mjs';
@@ -51,12 +51,15 @@ export class Observable {
     if (operator && operator.opens) return operator.opens(at, source);
     const leaf = openLeaf(at);
     if (leaf === null || (leaf.closed && !isLeft(leaf))) return;
-    const teardown = operator ? this._called(operator, leaf, source) : source ? this._subscribe(leaf) : this._trySubscribe(leaf);
+    const teardown = operator ? this._called(operator, leaf, source) : source ? this._passed(leaf) : this._trySubscribe(leaf);
     if (teardown) leaf.add(teardown);
   }
 
   _called(operator, leaf, source) {
     try { return operator.call(leaf, source); } catch (error) { failing(leaf, error); }
+  }
+  _passed(leaf) {
+    try { return this._subscribe(leaf); } catch (error) { unopenedAt(leaf, error); }
   }
   _trySubscribe(leaf) {
     try { return this._subscribe(leaf); } catch (error) { failing(leaf, error); }

@@ -4,7 +4,7 @@ import { NOWHERE } from '../engine/crossing.mjs';
 import { realm } from '../engine/realm.mjs';
 import { Thing } from '../engine/thing.mjs';
 import { traced } from '../engine/tracing.mjs';
-import { Inner, Leaf, TERMINAL } from './leaf.mjs';
+import { Inner, Leaf, TERMINAL, failing } from './leaf.mjs';
 import { Link } from './link.mjs';
 import { Subscriber } from './subscriber.mjs';
 
@@ -48,6 +48,11 @@ function opens(at, kind, thing, flags, tag, share) {
       status = engine.open(at._place, kind, flags, at._above, thing, tag, share);
     }
   } catch (error) {
+    if (share !== null) share.status = GONE;
+    if (hears !== null && hears.is_linked) { // what it leads to stands at the place
+      failing(hears.destination, error);
+      return CLOSED;
+    }
     unopened.add(error);
     throw error;
   }
@@ -96,10 +101,11 @@ export function holdAt(below, tag) {
   if (below._inner !== null) below._inner = new Inner(tag, below._inner);
 }
 
-/** A tree of its own that tells a leaf at this place: the place of its root, or null. */
+/** A tree of its own that tells a leaf at this place: the place of its root, or null. Where there is no room for the root, that is an error of the leaf. */
 export function linked(at) {
-  const leaf = openLeaf(at);
-  return leaf && new Link(leaf);
+  const leaf = openLeaf(at), link = leaf && new Link(leaf);
+  if (link !== null) link.is_linked = true;
+  return link;
 }
 
 /** The place itself, or that of a link where functions before the book do something at an end that a node would come to. */
@@ -116,11 +122,13 @@ export function roomToMake() {
 /** Fails there. */
 export function failAt(at, error) { openLeaf(at)?.error(error); }
 
-/** Opens an observable below what is open: where there is no room for it, that is an error there, once there is. */
+/** Of what was thrown for want of room, with nothing opened: that is an error of the leaf, or at the place, once there is. What else was thrown goes on. */
+export function unopenedAt(at, error) {
+  if (!unopened.has(error)) throw error;
+  if (at instanceof Leaf) failing(at, error); else realm.engine.surely(() => failAt(at, error));
+}
+/** Opens an observable below what is open. */
 export function openAt(source, at) {
-  try { source._open(at); } catch (error) {
-    if (!unopened.has(error)) throw error;
-    realm.engine.surely(() => failAt(at, error));
-  }
+  try { source._open(at); } catch (error) { unopenedAt(at, error); }
 }
 

@@ -18,6 +18,14 @@ class Guest {
   complete() { this.subscriber.complete(); }
 }
 
+/** Tells it its end, or later where there is no room for that. */
+function ending(leaf, act) {
+  try { act(); } catch (error) {
+    if (!(leaf instanceof Leaf) || leaf.isStopped) throw error;
+    realm.engine.surely(act);
+  }
+}
+
 /** What it is told it tells to each that subscribed, each in order. */
 export class Subject extends Observable {
   constructor() {
@@ -80,7 +88,7 @@ export class Subject extends Observable {
     if (!this._tells()) return;
     this.hasError = this.isStopped = true;
     this.thrownError = error;
-    for (const leaf of this._emptied()) leaf.error(error);
+    for (const leaf of this._emptied()) ending(leaf, () => leaf.error(error));
   }
   complete() {
     this._throwIfClosed();
@@ -89,7 +97,7 @@ export class Subject extends Observable {
   _tellsEnd() {
     if (!this._tells()) return;
     this.isStopped = true;
-    for (const leaf of this._emptied()) leaf.complete();
+    for (const leaf of this._emptied()) ending(leaf, () => leaf.complete());
   }
   unsubscribe() {
     this.isStopped = this.closed = true;
@@ -120,7 +128,7 @@ export class Subject extends Observable {
     }
     const leaf = openLeaf(at);
     if (leaf === null) return;
-    const teardown = this._subscribe(leaf);
+    const teardown = super._trySubscribe(leaf);
     if (teardown) leaf.add(teardown);
   }
   _trySubscribe(subscriber) {

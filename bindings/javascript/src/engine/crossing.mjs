@@ -356,24 +356,25 @@ export class Crossing {
     if (this.#postponed === null) {
       this.#postponed = [];
       queueMicrotask(() => {
-        if (this.#depth === 0 && this.#postponed !== null) try { this.#resume(); } catch (error) { this.#report(error); }
+        if (this.#depth === 0 && this.#postponed !== null) try { this.#resume(true); } catch (error) { this.#report(error); }
       });
     }
     if (act !== undefined) this.#postponed.push(act);
   }
-  /** Does it, or later where there is no room for it. */
-  surely(act) {
+  /** Does it, or later where there is no room for it: then something is done about that now. */
+  surely(act, waits = null) {
     try {
       this.#glue.room(4); // more than `room` asks for an end
     } catch (error) {
       if (this.dead !== null) throw error;
+      if (waits !== null) waits();
       return this.#postpone(act);
     }
     return act();
   }
 
-  // The stack may still be as full: then all of it stays for a turn of its own.
-  #resume() {
+  // The stack may still be as full: then all of it, or what wants more, stays for a turn of its own.
+  #resume(is_own_turn = false) {
     let is_handed;
     try { is_handed = this.#glue.go(1); } catch (error) { return void this.#failed(error); }
     const acts = this.#postponed;
@@ -381,7 +382,7 @@ export class Crossing {
     this.#depth = 1;
     if (is_handed !== 0) this.#tellsNext();
     this.#tellsRest();
-    for (const act of acts) try { act(); } catch (error) { this.#report(error); }
+    for (const act of acts) try { if (is_own_turn) act(); else this.surely(act); } catch (error) { this.#report(error); }
     this.#tellsRest();
     this.#depth = 0;
   }

@@ -4,7 +4,7 @@ import { Inner, Stage, TERMINAL, failing, stops } from '../core/leaf.mjs';
 import { realm } from '../engine/realm.mjs';
 import { Link } from '../core/link.mjs';
 import { Observable } from '../core/observable.mjs';
-import { LEFT, Place, openAt, openLeaf, openNode, settled } from '../core/place.mjs';
+import { LEFT, Place, openAt, openLeaf, openNode, settled, unopenedAt } from '../core/place.mjs';
 import { operate, operator } from '../core/operator.mjs';
 import { Subject } from '../core/subject.mjs';
 import { noop } from '../core/util.mjs';
@@ -44,9 +44,9 @@ export function takeUntil(notifier) {
   return operator((at, source) => {
     const other = innerFrom(notifier), place = settled(at), body = { over: false, shut() { this.over = true; } }, thing = place && openNode(place, UNTIL, body);
     if (!thing) return;
-    const ends = place._inner && new Inner(null, place._inner);
-    notifies(other, new Place(NOTIFIER, thing, null, new Notifies(TERMINAL, ends)));
-    if (thing !== LEFT && !body.over) openAt(source, new Place(SOURCE, thing, null, place._way, null, ends));
+    const ends = place._inner && new Inner(null, place._inner), below = new Place(SOURCE, thing, null, place._way, null, ends);
+    try { notifies(other, new Place(NOTIFIER, thing, null, new Notifies(TERMINAL, ends))); } catch (error) { return unopenedAt(below, error); }
+    if (thing !== LEFT && !body.over) openAt(source, below);
   });
 }
 
