@@ -4,6 +4,7 @@ pub mod StockIsUnused
 pub mod KeysByNumber
 pub mod MadeOfOptions
 pub mod Texts
+pub mod NotesInARow
 pub mod LinesMade
 pub mod LeasesOut
 pub mod EventsCounted

@@ -4,6 +4,15 @@ use Rattle.rx_script.proofs.Common.{State, IsPromised, Tallies, AreNotesOf, Engi
 use Rattle.rx_script.specs.Engine.{StaysAt}
 use Rattle.rx_script.proofs.TakenUp.{take_next, counts_kept}
 
+module _ {R : Type 0} where
+  pub stays_on : {a b c : Engine R} → StaysAt a b → StaysAt b c → StaysAt a c
+  stays_on s t = record {
+    history = λ h w. t.history h (s.history h w);
+    stage = λ h. t.stage h ∙ s.stage h;
+    sound = t.sound;
+    limit = t.limit ∙ s.limit;
+  }
+
 module _ {R : Type 0} (e : Engine R) (note : Mail) (t : Tallies) (book : State) (sound : IsSound e)
     (same : book ≡ record e.book { given = e.book.given + 1 })
     (found : Some note ≡ slice_get (notes e.book.history) e.book.given) (kept : IsPromised book)

@@ -11,7 +11,7 @@ use Rattle.rx_scenario.specs.declared.scenario.Step.{Step as StepInCode, out-Ste
 use Rattle.rx_scenario.specs.Scenario.{command_of}
 use Rattle.rx_scenario.proofs.Laws.{step_of-parts, length-labels_in}
 use Rattle.rx_agenda.specs.declared.agenda.Agenda.{Agenda as AgendaInCode}
-use Rattle.rx_script.specs.Engine.{Performed, Followed}
+use Rattle.rx_script.specs.Engine.{Performed, Followed, StaysAt}
 use Rattle.rx_agenda.specs.Shown.{steps_to_come}
 use Rattle.std.proofs.Common.{rules}
 
@@ -111,6 +111,17 @@ module _ {R : Type 0} where
               (record { stage = stage_of new on.0; agenda = agenda_of now })) (sym is_pushed) (advanced to.1 (advances to.0 on.0 on.1)),
           on.2,
         )
+
+  -- it has led to where nothing but notes changes
+  pub led_stays : (limit until : ℕ) (first e new : Engine R) (begun now : AgendaInCode) (answers : List Answer) → StaysAt e new
+      → HasLed limit until first begun answers e now → HasLed limit until first begun answers new now
+  led_stays limit until first e new begun now answers stays led h w =
+      let to = led h w in (
+        to.0,
+        subst (λ t. LeadsBySteps (limited limit) until (record { stage = stage_of first h; agenda = agenda_of begun }) answers
+            (record { stage = t; agenda = agenda_of now })) (sym (stays.stage to.0)) to.1,
+        stays.history to.0 to.2,
+      )
 
   -- it has led to its end
   pub has_ended : {limit : ℕ} (until : ℕ) (first e : Engine R) (begun now : AgendaInCode) (answers : List Answer) → HasLed limit until first begun answers e now

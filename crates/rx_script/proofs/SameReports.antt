@@ -1,5 +1,5 @@
 -- Stages that are the same but for numbers are reported the same, line by line.
-use Rattle.rx_script.proofs.Common.{◌≡◌, ℕ, ◌+◌, Bool, true, false, List, [], ◌∷◌, ◌++◌, length, Option, Some, cond, map, filter, slice_get, refl, sym, ap, ◌∙◌}
+use Rattle.rx_script.proofs.Common.{◌≡◌, ℕ, Bool, true, false, List, [], ◌∷◌, ◌++◌, length, Option, Some, cond, map, filter, slice_get, refl, sym, ap, ◌∙◌}
 use Rattle.rx_script.proofs.Common.{flat_map, unwrap_or, option_and_then, option_map_or, false≢true, length-map, nothing_kept, Event, Accept, makes_node}
 use Rattle.rx_script.proofs.Common.{makes_resource, at, places, is_held, held_count, waiting_count, event_by, is_named, AreSameBy, accepted_count-parts}
 use Rattle.rx_script.proofs.Common.{accepted_tag, Answer, Binding, node_line, res_line, Held, Waiting, Taken, is_told, line_of_node, node_lines, account_of}

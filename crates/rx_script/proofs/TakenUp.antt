@@ -10,6 +10,7 @@ use Rattle.std.proofs.lemmas.Bool.{cases_lt}
 use Rattle.std.proofs.lemmas.Option.{get_or_from_slice_get}
 use Rattle.rx_event.specs.Kept.{event_since}
 use Rattle.rx_script.proofs.LeasesOut.{front_lawful}
+use Rattle.rx_script.specs.Repeated.{one_by_one}
 use Rattle.std.proofs.Common.{rules}
 
 slice_get-past : {A : Type 0} (xs : List A) (n : ℕ) → slice_get xs n ≡ None → length xs ≤ n
@@ -145,4 +146,4 @@ pub goes_kept : (front h : List Event) (old new : State) → new ≡ record old 
 goes_kept front h old new same goes = subst (λ s. GoesOnFromFront front h s) (sym same) (record { stored = goes.stored; rest = goes.rest })
 
 pub notes_kept : (mail : List Mail) (old new : Tallies) → new.notes ≡ old.notes → AreNotesOf mail old → AreNotesOf mail new
-notes_kept mail old new same before = λ n. ap (λ m. option_map_or (λ g. g.items) (get nat_eq m n) []) same ∙ before n
+notes_kept mail old new same before = λ n. ap (λ m. option_map_or (λ g. one_by_one g.items) (get nat_eq m n) []) same ∙ before n

@@ -2,6 +2,7 @@ pub mod Boxes
 pub mod Text
 pub mod Keys
 pub mod Lines
+pub mod Repeated
 pub mod Tallies
 pub mod Stage
 pub mod Course

@@ -16,6 +16,7 @@ use Rattle.rx_event.specs.Notes.{notes as notes_in}
 use Rattle.rx_event.specs.Lawful.{IsLawful}
 use Rattle.rx_book.specs.State.{State, accepted_tag}
 use Rattle.rx_script.specs.Lines.{is_told}
+use Rattle.rx_script.specs.Repeated.{one_by_one}
 use Rattle.rx_script.specs.declared.tallies.Tallies.{Tallies}
 
 -- the resource of the lease, while that is out
@@ -36,7 +37,8 @@ pub record AreCountsOf (h : List Event) (t : Tallies) : Type 0 where
 
 -- what each node was told by this mail, in order
 abbrev pub AreNotesOf : List Mail → Tallies → Type 0
-AreNotesOf mail t = (n : ℕ) → option_map_or (λ g. g.items) (get nat_eq t.notes n) [] ≡ map (λ m. m.note) (filter (λ m. m.to == n) mail)
+AreNotesOf mail t = (n : ℕ)
+    → option_map_or (λ g. one_by_one g.items) (get nat_eq t.notes n) [] ≡ map (λ m. m.note) (filter (λ m. m.to == n) mail)
 
 -- all that happened, and all that it told
 pub record AreTalliesOf (h : List Event) (t : Tallies) : Type 0 where

@@ -10,6 +10,7 @@ ghost use Rattle.rx_script.specs.Engine.{MovesOn, IsSound, Performed, Followed};
 
 use crate::calls::execute;
 use crate::engine::Engine;
+use crate::noting::keep_notes;
 use rx_agenda::{Agenda, Answer, add_all, cancel, empty_agenda, follow, next_step};
 use rx_resource::Resource;
 use rx_scenario::{Action, Step};
@@ -47,7 +48,7 @@ pub fn take_step<R: Resource>(
     Ok(answer)
 }
 
-// Takes all steps that come until this time, and lists their answers.
+// Takes all steps that come until this time, and lists their answers. The notes of a step are kept before the next one comes.
 fn take_all<R: Resource>(
     alloc: Global,
     engine: &mut Engine<R>,
@@ -63,7 +64,9 @@ fn take_all<R: Resource>(
 {
     let mut answers = Vec::new(alloc);
     while let Some(step) = next_step(agenda, until) {
-        answers.push(take_step(engine, agenda, step)?)?;
+        let answer = take_step(engine, agenda, step)?;
+        keep_notes(engine)?;
+        answers.push(answer)?;
     }
     Ok(answers)
 }

@@ -54,8 +54,9 @@
 //!   is that there are at most as many as accepted resources.
 //! - How often a resource was used is proved; that it was used on the word of its step, which no history
 //!   keeps, is tested.
-//! - How long a run takes is no clause: a name is found by a map, and the report is made in one pass over
-//!   the events and one over the notes.
+//! - How long a run takes, and in how much memory, is no clause: a name is found by a map, and the report is made in
+//!   one pass over the events and one over the notes. These are taken from the book after each step, and those in a
+//!   row that are the same take the memory of one.
 #![tactic(auto)]
 
 mod boxes;
@@ -69,6 +70,7 @@ mod line;
 mod naming;
 mod noting;
 mod opening;
+mod repeated;
 mod report;
 mod running;
 mod shelf;

@@ -1,4 +1,4 @@
-//! A note, taken while a run goes on.
+//! Notes, taken while a run goes on.
 
 ghost use Rattle.std.specs.Prelude.{◌≡◌, ◌+◌, slice_get, is_some, IfOk, OnOk, if◌then◌else◌};
 ghost use Rattle.rx_event.specs.Notes.{notes};
@@ -26,4 +26,14 @@ pub fn next_note<R: Resource>(engine: &mut Engine<R>) -> Result<Option<Mail>, Al
     engine.book.promise();
     engine.tallies.add_note(note)?;
     Ok(Some(note))
+}
+
+/// Takes all notes that the book did not hand out yet, and keeps them for the report, where those in a row that are
+/// the same take the memory of one. Err where memory is refused; then the scenario goes no further.
+pub fn keep_notes<R: Resource>(engine: &mut Engine<R>) -> Result<(), AllocError>
+    requires { IsSound engine.old }
+    ensures { OnOk result (StaysAt engine.old engine.new) }
+{
+    while next_note(engine)?.is_some() {}
+    Ok(())
 }

@@ -5,10 +5,11 @@ ghost use Rattle.std.specs.Option.{option_map_or};
 ghost use Rattle.std.specs.HashMap.{get};
 ghost use Rattle.std.specs.HashSet.{contains};
 ghost use Rattle.rx_event.specs.declared.mail.Mail.{Mail};
+ghost use Rattle.rx_script.specs.Repeated.{one_by_one};
 ghost use Rattle.rx_script.specs.Tallies.{AreCountsOf, AreNotesOf};
 
+use crate::repeated::{Repeated, add};
 use rx_book::Mail;
-use rx_note::Note;
 use std::alloc::{AllocError, Global};
 use std::collections::{HashMap, HashSet};
 
@@ -34,7 +35,7 @@ pub struct Tallies {
     /// The resources that were handed out for their release.
     pub(crate) taken: HashSet<u64>,
     /// The notes to each node, in order.
-    pub(crate) notes: HashMap<u64, Vec<Note>>,
+    pub(crate) notes: HashMap<u64, Vec<Repeated>>,
 }
 
 impl Tallies {
@@ -62,8 +63,7 @@ impl Tallies {
             → AreNotesOf (mail ++ sent ∷ []) self.new) }
         ensures kept { self.new ≡ record self.old { notes = self.new.notes } }
     {
-        self.notes.entry(sent.to)?.or_default().push(sent.note)?;
-        Ok(())
+        add(self.notes.entry(sent.to)?.or_default(), sent.note)
     }
 
     /// Whether the node is told something.
@@ -95,8 +95,8 @@ impl Tallies {
     }
 
     /// The notes to the node.
-    pub(crate) fn notes_to(&self, node: u64) -> &[Note]
-        ensures { result.now ≡ option_map_or (λ g. g.items) (get nat_eq self.now.notes node) [] }
+    pub(crate) fn notes_to(&self, node: u64) -> &[Repeated]
+        ensures { one_by_one result.now ≡ option_map_or (λ g. one_by_one g.items) (get nat_eq self.now.notes node) [] }
     {
         match self.notes.get(&node) {
             Some(notes) => notes.as_slice(),

@@ -4,8 +4,10 @@ ghost use Rattle.std.specs.Prelude.{◌≡◌, ◌++◌, flat_map, string_bytes,
 ghost use Rattle.rx_script.specs.Text.{cause_word, refused_line, note_in_line, node_line};
 ghost use Rattle.rx_script.specs.Text.{whereabouts_text, leases_text, res_line, totals_line, closed_line};
 ghost use Rattle.rx_script.specs.Lines.{refused_lines};
+ghost use Rattle.rx_script.specs.Repeated.{in_a_row, one_by_one};
 
 use crate::line::{Account, Totals, Whereabouts};
+use crate::repeated::Repeated;
 use rx_agenda::{Answer, Cause};
 use rx_event::Terminal;
 use rx_note::Note;
@@ -60,11 +62,20 @@ fn push_note(text: &mut String, note: &Note) -> Result<(), AllocError>
     }
 }
 
-fn push_notes(text: &mut String, notes: &[Note]) -> Result<(), AllocError>
-    ensures { OnOk result (string_bytes text.new ≡ string_bytes text.old ++ flat_map note_in_line notes.now) }
+fn push_in_a_row(text: &mut String, repeated: &Repeated) -> Result<(), AllocError>
+    ensures { OnOk result (string_bytes text.new ≡ string_bytes text.old ++ flat_map note_in_line (in_a_row repeated.now)) }
 {
-    for note in notes {
-        push_note(text, note)?;
+    for _ in 0..repeated.times {
+        push_note(text, &repeated.note)?;
+    }
+    Ok(())
+}
+
+fn push_notes(text: &mut String, notes: &[Repeated]) -> Result<(), AllocError>
+    ensures { OnOk result (string_bytes text.new ≡ string_bytes text.old ++ flat_map note_in_line (one_by_one notes.now)) }
+{
+    for repeated in notes {
+        push_in_a_row(text, repeated)?;
     }
     Ok(())
 }
@@ -75,9 +86,9 @@ pub fn push_node(
     text: &mut String,
     name: &str,
     is_open: bool,
-    notes: &[Note],
+    notes: &[Repeated],
 ) -> Result<(), AllocError>
-    ensures { OnOk result (string_bytes text.new ≡ string_bytes text.old ++ node_line name.now is_open notes.now) }
+    ensures { OnOk result (string_bytes text.new ≡ string_bytes text.old ++ node_line name.now is_open (one_by_one notes.now)) }
 {
     let openness = if is_open { "open" } else { "closed" };
     write!(text, "node {name} {openness}:")?;
