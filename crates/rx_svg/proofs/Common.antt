@@ -18,11 +18,11 @@ pub use Rattle.rx_svg.specs.Track.{x_of}
 unfoldable pub use Rattle.rx_svg.specs.Track.{row_text, tick_text, note_marble}
 pub use Rattle.rx_dump.specs.Names.{name_in_object}
 pub use Rattle.rx_svg.specs.Name.{name_label, byte_text, stands_in_name}
-unfoldable pub use Rattle.rx_svg.specs.Page.{point_text, listed_text, leak_entry, svg_text}
+unfoldable pub use Rattle.rx_svg.specs.Page.{point_text, svg_text}
 pub use Rattle.rx_svg.specs.Parts.{Part, words, number, signed}
 unfoldable pub use Rattle.rx_svg.specs.Parts.{text_of}
 unfoldable pub use Rattle.rx_svg.specs.Said.{said_label}
 pub use Rattle.rx_svg.specs.Stroke.{Look}
-unfoldable pub use Rattle.rx_svg.specs.Stroke.{line_text, bar_text, mark_text, code_text, leak_text}
+unfoldable pub use Rattle.rx_svg.specs.Stroke.{line_text, bar_text, mark_text, code_text}
 pub use Rattle.rx_svg.specs.WellFormed.{IsContent, nothing, is_plain, IsWellFormed, is_plain_character, element_text, reference_text, text_first}
 pub use Rattle.rx_svg.specs.WellFormed.{reference_first, element_first, are_distinct, Attribute, IsTag, is_tag_name, is_attribute, attribute_text, is_predefined}

@@ -1,12 +1,12 @@
 -- The elements of a picture are content, whatever the numbers in them are.
 use Rattle.rx_svg.proofs.Common.{◌≡◌, ℕ, true, List, [], ◌∷◌, ◌++◌, map, ℤ, codes, refl, subst, append_assoc, ◌==◌, list_all, and_from, and_parts}
 use Rattle.rx_svg.proofs.Common.{Note, Event, Part, words, number, signed, text_of, event_label, said_label, Look, line_text}
-use Rattle.rx_svg.proofs.Common.{bar_text, mark_text, code_text, leak_text, is_plain, are_distinct, IsContent, nothing}
-use Rattle.rx_svg.specs.Stroke.{Stretch, until_text, stretch_end, line_front, bar_front, arrow_shape, arrow_text, unreleased_text, marble_shape}
-use Rattle.rx_svg.specs.Stroke.{above_text, value_text, marble_front, by_text, marble_text, column_front, axis_text, column_text, broken_text}
+use Rattle.rx_svg.proofs.Common.{bar_text, mark_text, code_text, is_plain, are_distinct, IsContent, nothing}
+use Rattle.rx_svg.specs.Stroke.{Stretch, until_text, stretch_end, line_front, bar_front, arrow_shape, arrow_text, marble_shape}
+use Rattle.rx_svg.specs.Stroke.{above_text, value_text, marble_front, by_text, marble_text, column_front, column_text, axis_text, grid_text, broken_text}
 use Rattle.rx_svg.proofs.Characters.{both_are_plain, event_is_plain, note_is_plain}
 use Rattle.rx_svg.proofs.Contents.{content_append}
-use Rattle.rx_svg.proofs.Markup.{Valued, text_from, text_from-append, are_plain, attribute_of, is_valued, element_parts, tag_of, element_then, words_then}
+use Rattle.rx_svg.proofs.Markup.{Valued, text_from, text_from-append, are_plain, attribute_of, is_valued, element_parts, tag_of, element_then}
 use Rattle.rx_svg.proofs.Markup.{parts_are_plain, plain_parts, newline}
 use Rattle.std.proofs.Common.{rules}
 
@@ -26,6 +26,15 @@ path_then class drawn title rest c d t after =
     element_then (codes "title") [] title [] (tag_of (codes "title") [] refl refl refl) (plain_parts title t) nothing in
     element_then (codes "path") attributes (element_parts (codes "title") [] title ++ []) rest
     (tag_of (codes "path") attributes refl (and_from _ _ (and_from _ _ c refl) (and_from _ _ d refl)) refl) titled after
+
+-- one with nothing inside
+pub sign_then : (class : List ℕ) (drawn : List Part) → is_plain class ≡ true → are_plain drawn ≡ true
+    → IsContent (text_from (element_parts (codes "path") (valued (codes "class") (words class ∷ []) ∷ valued (codes "d") drawn ∷ []) []
+    ++ words (codes "\n") ∷ []))
+sign_then class drawn c d =
+    let attributes : List Valued = valued (codes "class") (words class ∷ []) ∷ valued (codes "d") drawn ∷ [] in
+    element_then (codes "path") attributes [] (words (codes "\n") ∷ [])
+    (tag_of (codes "path") attributes refl (and_from _ _ (and_from _ _ c refl) (and_from _ _ d refl)) refl) nothing newline
 
 -- a text of parts that are content, at the end of a line
 pub text_around : (attributes : List Valued) (inside : List Part) → list_all is_valued attributes ≡ true
@@ -96,28 +105,16 @@ mark_is_content class shape title x y at plain =
     let told : List Part = words title ∷ words (codes " by event ") ∷ number at ∷ [] in
     path_then class drawn told (words (codes "\n") ∷ []) of_class.0 (and_from _ _ of_shape.0 refl) (and_from _ _ of_title.0 refl) newline
 
-arrow_is_content : (x y : ℕ) → IsContent (arrow_text x y)
+pub arrow_is_content : (x y : ℕ) → IsContent (arrow_text x y)
 unfolding arrow_text text_of
 arrow_is_content x y =
     let drawn : List Part = words (codes "M") ∷ number x ∷ words (codes " ") ∷ number y ∷ words arrow_shape ∷ [] in
-    path_then (codes "arrow leak") drawn (words (codes "not released") ∷ []) (words (codes "\n") ∷ []) refl refl refl newline
-
-unreleased_is_content : (x y : ℕ) → IsContent (unreleased_text x y)
-unfolding unreleased_text text_of
-unreleased_is_content x y =
-    let attributes : List Valued =
-    valued (codes "class") (words (codes "leak") ∷ []) ∷ valued (codes "x") (number x ∷ []) ∷ valued (codes "y") (number y ∷ [])
-    ∷ valued (codes "dx") (words (codes "20") ∷ []) ∷ valued (codes "dy") (words (codes "4") ∷ []) ∷ [] in
-    text_content attributes (words (codes "not released") ∷ []) refl refl refl
-
-pub leak_is_content : (x y : ℕ) → IsContent (leak_text x y)
-unfolding leak_text
-leak_is_content x y = content_append (arrow_text x y) (unreleased_text x y) (arrow_is_content x y) (unreleased_is_content x y)
+    path_then (codes "arrow unreleased") drawn (words (codes "not released at the end") ∷ []) (words (codes "\n") ∷ []) refl refl refl newline
 
 pub broken_is_content : (x height place : ℕ) → IsContent (broken_text x height place)
 unfolding broken_text text_of
 broken_is_content x height place =
-    let drawn : List Part = words (codes "M") ∷ number x ∷ words (codes " 28v") ∷ number height ∷ [] in
+    let drawn : List Part = words (codes "M") ∷ number x ∷ words (codes " 20v") ∷ number height ∷ [] in
     path_then (codes "broken") drawn (words (codes "unlawful: event ") ∷ number place ∷ []) (words (codes "\n") ∷ []) refl refl refl newline
 
 pub code_is_content : (x y code : ℕ) → IsContent (code_text x y code)
@@ -164,19 +161,25 @@ marble_is_content x y at to note =
     (subst IsContent (between front ending (said_label note)) path) (value_is_content x y note)
 
 pub column_is_content : (x height place : ℕ) (event : Event) → IsContent (column_text x height place event)
-unfolding column_text column_front axis_text text_of
+unfolding column_text column_front text_of
 column_is_content x height place event =
-    let drawn : List Part = words (codes "M") ∷ number x ∷ words (codes " 28m-10 0h20v") ∷ number height ∷ words (codes "h-20z") ∷ [] in
+    let drawn : List Part = words (codes "M") ∷ number x ∷ words (codes " 20m-10 0h20v") ∷ number height ∷ words (codes "h-20z") ∷ [] in
     let told : List Part = number place ∷ words (codes ":") ∷ words (event_label event) ∷ [] in
     let front : List Part =
-    words (codes "<path class=\"place\" d=\"M") ∷ number x ∷ words (codes " 28m-10 0h20v") ∷ number height
+    words (codes "<path class=\"place\" d=\"M") ∷ number x ∷ words (codes " 20m-10 0h20v") ∷ number height
     ∷ words (codes "h-20z\"><title>") ∷ number place ∷ words (codes ":") ∷ [] in
-    let ending : List Part =
-    words (codes "</title></path>\n<text class=\"axis\" x=\"") ∷ number x ∷ words (codes "\" y=\"20\">") ∷ number place
-    ∷ words (codes "</text>\n") ∷ [] in
-    let axis : List Valued =
-    valued (codes "class") (words (codes "axis") ∷ []) ∷ valued (codes "x") (number x ∷ []) ∷ valued (codes "y") (words (codes "20") ∷ []) ∷ [] in
-    let beside : List Part = element_parts (codes "text") axis (number place ∷ []) ++ words (codes "\n") ∷ [] in
-    subst IsContent (between front ending (event_label event))
-    (path_then (codes "place") drawn told (words (codes "\n") ∷ beside) refl refl (and_from _ _ (event_is_plain event) refl)
-    (words_then (codes "\n") beside refl (text_content axis (number place ∷ []) refl refl refl)))
+    subst IsContent (between front (words (codes "</title></path>\n") ∷ []) (event_label event))
+    (path_then (codes "place") drawn told (words (codes "\n") ∷ []) refl refl (and_from _ _ (event_is_plain event) refl) newline)
+
+pub axis_is_content : (x place : ℕ) → IsContent (axis_text x place)
+unfolding axis_text text_of
+axis_is_content x place =
+    let attributes : List Valued =
+    valued (codes "class") (words (codes "axis") ∷ []) ∷ valued (codes "x") (number x ∷ []) ∷ valued (codes "y") (words (codes "14") ∷ []) ∷ [] in
+    text_content attributes (number place ∷ []) refl refl refl
+
+pub grid_is_content : (x y to : ℕ) → IsContent (grid_text x y to)
+unfolding grid_text text_of
+grid_is_content x y to =
+    let drawn : List Part = words (codes "M") ∷ number x ∷ words (codes " ") ∷ number y ∷ words (codes "m-10 0H") ∷ number to ∷ [] in
+    sign_then (codes "grid") drawn refl refl

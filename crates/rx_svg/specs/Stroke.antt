@@ -102,20 +102,11 @@ code_text x y code =
     text_of (words (codes "<text x=\"") ∷ number x ∷ words (codes "\" y=\"") ∷ number y ∷ words (codes "\" dx=\"10\" dy=\"4\">") ∷ number code
     ∷ words (codes "</text>\n") ∷ [])
 
--- the arrow of a resource that was never released
+-- the arrow of a resource that is not released at the end
 unfoldable pub arrow_text : ℕ → ℕ → List ℕ
 arrow_text x y =
-    text_of (words (codes "<path class=\"arrow leak\" d=\"M") ∷ number x ∷ words (codes " ") ∷ number y ∷ words arrow_shape
-    ∷ words (codes "\"><title>not released</title></path>\n") ∷ [])
-
--- the words behind it
-unfoldable pub unreleased_text : ℕ → ℕ → List ℕ
-unreleased_text x y =
-    text_of (words (codes "<text class=\"leak\" x=\"") ∷ number x ∷ words (codes "\" y=\"") ∷ number y
-    ∷ words (codes "\" dx=\"20\" dy=\"4\">not released</text>\n") ∷ [])
-
-unfoldable pub leak_text : ℕ → ℕ → List ℕ
-leak_text x y = arrow_text x y ++ unreleased_text x y
+    text_of (words (codes "<path class=\"arrow unreleased\" d=\"M") ∷ number x ∷ words (codes " ") ∷ number y ∷ words arrow_shape
+    ∷ words (codes "\"><title>not released at the end</title></path>\n") ∷ [])
 
 -- signs of the legend -----------------------------------------------------------------------------
 
@@ -134,7 +125,7 @@ meaning_text meaning x y =
 unfoldable pub key_text : List ℕ → List ℕ → List ℕ → ℕ → ℕ → List ℕ
 key_text class shape meaning x y = sign_text class shape x y ++ meaning_text meaning x y
 
--- a short line, a short bar, and a lower one
+-- a short line, a short bar, a lower one, and a flag in the row of its words
 abbrev pub line_sample : List ℕ
 line_sample = codes "m-10 0h20"
 
@@ -143,6 +134,9 @@ bar_sample = codes "m-10 -5h20v10h-20z"
 
 abbrev pub low_sample : List ℕ
 low_sample = codes "m-10 -3h20v6h-20z"
+
+abbrev pub flag_sample : List ℕ
+flag_sample = codes "m-5 -3h10l-5 6z"
 
 -- marbles -----------------------------------------------------------------------------------------
 
@@ -176,22 +170,28 @@ marble_text x y at to note = marble_front x y to (marble_shape note) ++ said_lab
 
 -- places ------------------------------------------------------------------------------------------
 
--- the column of a place, so high, and its number above it
+-- the column of a place, so high
 unfoldable pub column_front : ℕ → ℕ → ℕ → List ℕ
 column_front x height place =
-    text_of (words (codes "<path class=\"place\" d=\"M") ∷ number x ∷ words (codes " 28m-10 0h20v") ∷ number height
+    text_of (words (codes "<path class=\"place\" d=\"M") ∷ number x ∷ words (codes " 20m-10 0h20v") ∷ number height
     ∷ words (codes "h-20z\"><title>") ∷ number place ∷ words (codes ":") ∷ [])
 
+unfoldable pub column_text : ℕ → ℕ → ℕ → Event → List ℕ
+column_text x height place event = column_front x height place ++ event_label event ++ codes "</title></path>\n"
+
+-- its number above it
 unfoldable pub axis_text : ℕ → ℕ → List ℕ
 axis_text x place =
-    text_of (words (codes "</title></path>\n<text class=\"axis\" x=\"") ∷ number x ∷ words (codes "\" y=\"20\">") ∷ number place
-    ∷ words (codes "</text>\n") ∷ [])
+    text_of (words (codes "<text class=\"axis\" x=\"") ∷ number x ∷ words (codes "\" y=\"14\">") ∷ number place ∷ words (codes "</text>\n") ∷ [])
 
-unfoldable pub column_text : ℕ → ℕ → ℕ → Event → List ℕ
-column_text x height place event = column_front x height place ++ event_label event ++ axis_text x place
+-- the grid of a track: a line on each side of a place
+unfoldable pub grid_text : ℕ → ℕ → ℕ → List ℕ
+grid_text x y to =
+    text_of (words (codes "<path class=\"grid\" d=\"M") ∷ number x ∷ words (codes " ") ∷ number y ∷ words (codes "m-10 0H") ∷ number to
+    ∷ words (codes "\"></path>\n") ∷ [])
 
 -- the line through all tracks at the place whose event may not stand there
 unfoldable pub broken_text : ℕ → ℕ → ℕ → List ℕ
 broken_text x height place =
-    text_of (words (codes "<path class=\"broken\" d=\"M") ∷ number x ∷ words (codes " 28v") ∷ number height
+    text_of (words (codes "<path class=\"broken\" d=\"M") ∷ number x ∷ words (codes " 20v") ∷ number height
     ∷ words (codes "\"><title>unlawful: event ") ∷ number place ∷ words (codes "</title></path>\n") ∷ [])

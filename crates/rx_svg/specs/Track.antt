@@ -1,5 +1,5 @@
 -- What stands in the tracks of a picture.
-use Rattle.std.specs.Prelude.{ℕ, ℤ, ◌+◌, ◌-◌, ◌*◌, Option, Bool, false, not, ◌&&◌, min, nat_lt, if◌then◌else◌, List, [], ◌∷◌, ◌++◌, codes, length}
+use Rattle.std.specs.Prelude.{ℕ, ℤ, ◌+◌, ◌*◌, Option, Bool, false, not, ◌&&◌, min, max, nat_lt, if◌then◌else◌, List, [], ◌∷◌, ◌++◌, codes, length}
 use Rattle.std.specs.Prelude.{slice_get, slice_index_or}
 use Rattle.std.specs.Option.{option_map_or}
 use Rattle.std.specs.List.{fold}
@@ -19,18 +19,18 @@ use Rattle.rx_picture.specs.Rows.{track_of}
 use Rattle.rx_picture.specs.Leaks.{is_leaking_row}
 use Rattle.rx_svg.specs.Parts.{words, number, text_of}
 use Rattle.rx_svg.specs.Label.{called_text}
-use Rattle.rx_svg.specs.Stroke.{Stretch, Look, line_text, bar_text, mark_text, code_text, leak_text, above_text, marble_text}
+use Rattle.rx_svg.specs.Stroke.{Stretch, Look, line_text, bar_text, mark_text, code_text, arrow_text, above_text, grid_text, marble_text}
 use Rattle.rx_svg.specs.Stroke.{bar_shape, cross_shape, strokes_shape, check_shape, tick_shape, dot_shape, square_shape, struck_shape}
 
 -- where things stand --------------------------------------------------------------------------------
 
--- a place, from the left; before the first there is room for labels
+-- a place, from the left
 abbrev pub x_of : Drawing → ℕ → ℕ
-x_of d place = 4050 + 20 * min (slice_index_or d.columns.items place 0) 2000
+x_of d place = 20 + 20 * min (slice_index_or d.columns.items place 0) 2000
 
 -- the track of a number, from the top
 abbrev pub y_of : Drawing → ℕ → ℕ
-y_of d n = 48 + 28 * min (slice_index_or d.tracks.items n 0) 200
+y_of d n = 54 + 44 * min (slice_index_or d.tracks.items n 0) 200
 
 -- the list, which says of each number how many stand before it, counts this one
 abbrev pub is_counted : List ℕ → ℕ → Bool
@@ -57,13 +57,18 @@ is_root_of d n = option_map_or is_root_point (slice_get d.points.items (slice_in
 
 -- a row -------------------------------------------------------------------------------------------
 
--- what a track shows, up to here
-unfoldable pub label_front : ℕ → ℕ → List ℕ
-label_front x y =
-    text_of (words (codes "<text class=\"label\" x=\"") ∷ number x ∷ words (codes "\" y=\"") ∷ number y ∷ words (codes "\" dy=\"4\">") ∷ [])
+-- what is not released at the end has a colour of its own
+abbrev pub label_class : Bool → List ℕ
+label_class unreleased = if unreleased then codes "label unreleased" else codes "label"
 
-unfoldable pub label_element : ℕ → ℕ → ℕ → Option (List ℕ) → Event → List ℕ
-label_element x y n name made = label_front x y ++ called_text n name made ++ codes "</text>\n"
+-- what a track shows, up to here
+unfoldable pub label_front : List ℕ → ℕ → ℕ → List ℕ
+label_front class x y =
+    text_of (words (codes "<text class=\"") ∷ words class ∷ words (codes "\" x=\"") ∷ number x ∷ words (codes "\" y=\"") ∷ number y
+    ∷ words (codes "\" dx=\"-10\" dy=\"-22\">") ∷ [])
+
+unfoldable pub label_element : List ℕ → ℕ → ℕ → ℕ → Option (List ℕ) → Event → List ℕ
+label_element class x y n name made = label_front class x y ++ called_text n name made ++ codes "</text>\n"
 
 -- a bar for completed, a cross for an error with its code, two strokes for a disposal, nothing where it is still open
 abbrev pub ending_text : ℕ → ℕ → ℕ → Ending → List ℕ
@@ -83,53 +88,53 @@ life_text d y n until end ending =
 abbrev pub stretch_text : Drawing → Look → ℕ → ℕ → ℕ → ℕ → List ℕ
 stretch_text d look y after until end = if nat_lt after until then bar_text look (stretch_of d y after until end) else []
 
--- what leaks has a colour of its own
 abbrev pub held_class : Bool → List ℕ
-held_class leaking = if leaking then codes "held leak" else codes "held"
+held_class unreleased = if unreleased then codes "held unreleased" else codes "held"
 
 abbrev pub wait_class : Bool → List ℕ
-wait_class leaking = if leaking then codes "waiting leak" else codes "waiting"
+wait_class unreleased = if unreleased then codes "waiting unreleased" else codes "waiting"
 
 abbrev pub owned_look : Bool → Look
-owned_look leaking = record { class = held_class leaking; title = codes "held by its node"; above = codes "5"; height = codes "10" }
+owned_look unreleased = record { class = held_class unreleased; title = codes "held by its node"; above = codes "5"; height = codes "10" }
 
 abbrev pub loan_look : Bool → Look
-loan_look leaking = record { class = held_class leaking; title = codes "held by a lease"; above = codes "3"; height = codes "6" }
+loan_look unreleased = record { class = held_class unreleased; title = codes "held by a lease"; above = codes "3"; height = codes "6" }
 
 abbrev pub wait_look : Bool → Look
-wait_look leaking =
-    record { class = wait_class leaking; title = codes "waits, but where a lease holds it,"; above = codes "5"; height = codes "10" }
+wait_look unreleased =
+    record { class = wait_class unreleased; title = codes "waits, but where a lease holds it,"; above = codes "5"; height = codes "10" }
 
 abbrev pub owned_text : Drawing → Bool → ℕ → ℕ → ℕ → ℕ → List ℕ
-owned_text d leaking = stretch_text d (owned_look leaking)
+owned_text d unreleased = stretch_text d (owned_look unreleased)
 
 abbrev pub loan_text : Drawing → Bool → ℕ → ℕ → ℕ → ℕ → List ℕ
-loan_text d leaking = stretch_text d (loan_look leaking)
+loan_text d unreleased = stretch_text d (loan_look unreleased)
 
 abbrev pub wait_text : Drawing → Bool → ℕ → ℕ → ℕ → ℕ → List ℕ
-wait_text d leaking = stretch_text d (wait_look leaking)
+wait_text d unreleased = stretch_text d (wait_look unreleased)
 
--- a check mark where it is released, an arrow and words where it never was
+-- a check mark where it is released, an arrow where it is not
 abbrev pub release_text : Drawing → Bool → ℕ → ℕ → List ℕ
-release_text d leaking y taken =
-    if leaking then leak_text (x_of d taken) y else mark_text (codes "mark") check_shape (codes "released") (x_of d taken) y taken
+release_text d unreleased y taken =
+    if unreleased then arrow_text (x_of d taken) y else mark_text (codes "mark") check_shape (codes "released") (x_of d taken) y taken
 
 abbrev pub shape_text : Drawing → Bool → ℕ → ℕ → ℕ → Shape → List ℕ
-shape_text d leaking y n end (Node until ending) = life_text d y n until end ending
-shape_text d leaking y n end Hub = line_text (codes "hub") (codes "a hub") (stretch_of d y n end end)
-shape_text d leaking y n end (Resource after until taken) =
-    wait_text d leaking y n after end ++ wait_text d leaking y until taken end ++ owned_text d leaking y after until end
-    ++ release_text d leaking y taken
-shape_text d leaking y n end (Loan resource until) = if has_column d n then loan_text d leaking y n until end else []
+shape_text d unreleased y n end (Node until ending) = life_text d y n until end ending
+shape_text d unreleased y n end Hub = line_text (codes "hub") (codes "a hub") (stretch_of d y n end end)
+shape_text d unreleased y n end (Resource after until taken) =
+    wait_text d unreleased y n after end ++ wait_text d unreleased y until taken end ++ owned_text d unreleased y after until end
+    ++ release_text d unreleased y taken
+shape_text d unreleased y n end (Loan resource until) = if has_column d n then loan_text d unreleased y n until end else []
 
--- a label ends where its track begins. A lease has none, and lies in the track of its resource
-abbrev pub row_label : Drawing → ℕ → Option (List ℕ) → Event → List ℕ
-row_label d n name (Lease r) = []
-row_label d n name made = label_element (x_of d n - 12) (y_of d n) n name made
+-- a track has its grid from where it begins, and its label above that. A lease has none, and lies in the track of its resource
+abbrev pub row_head : Drawing → Bool → ℕ → ℕ → Option (List ℕ) → Event → List ℕ
+row_head d unreleased n end name (Lease r) = []
+row_head d unreleased n end name made =
+    grid_text (x_of d n) (y_of d n) (x_of d end) ++ label_element (label_class unreleased) (x_of d n) (y_of d n) n name made
 
 unfoldable pub row_text : Drawing → (ℕ → Option (List ℕ)) → ℕ → Row → List ℕ
 row_text d names end row =
-    row_label d row.number (names row.number) row.made
+    row_head d (is_leaking_row end row) row.number end (names row.number) row.made
     ++ shape_text d (is_leaking_row end row) (y_of d (track_of row.number row.made)) row.number end row.shape
 
 -- marks -------------------------------------------------------------------------------------------
@@ -161,12 +166,16 @@ tick_text d point = done_text d point.place point.event
 unfoldable pub note_marble : Drawing → Mail → List ℕ
 note_marble d m = marble_text (x_of d m.place) (y_of d m.to) m.place m.to m.note
 
--- the margin --------------------------------------------------------------------------------------
+-- the width ---------------------------------------------------------------------------------------
 
--- there is room for the label of a row before its track: 8 for each of its characters, of up to 500
-unfoldable pub label_start : Drawing → (ℕ → Option (List ℕ)) → Row → ℕ
-label_start d names row = x_of d row.number - (24 + 8 * min (length (called_text row.number (names row.number) row.made)) 500)
+-- the room of a label: 8 for each of its characters, of up to 2,000
+abbrev pub label_room : ℕ → Option (List ℕ) → Event → ℕ
+label_room n name (Lease r) = 0
+label_room n name made = 8 * min (length (called_text n name made)) 2000
 
--- where the first of the labels begins, and the picture with it
-abbrev pub margin : Drawing → (ℕ → Option (List ℕ)) → List Row → ℕ
-margin d names rows = fold (λ left row. min left (label_start d names row)) (x_of d 0) rows
+unfoldable pub label_end : Drawing → (ℕ → Option (List ℕ)) → Row → ℕ
+label_end d names row = x_of d row.number + label_room row.number (names row.number) row.made
+
+-- behind the last place there is room for an arrow, and the legend and each label have room
+abbrev pub width : Drawing → (ℕ → Option (List ℕ)) → ℕ → List Row → ℕ
+width d names end rows = fold (λ wide row. max wide (label_end d names row)) (max (x_of d end + 24) 400) rows

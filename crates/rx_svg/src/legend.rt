@@ -2,7 +2,7 @@
 
 ghost use Rattle.std.specs.Prelude.{◌≡◌, ◌++◌, ◌≤◌, string_bytes, OnOk};
 ghost use Rattle.rx_svg.specs.Stroke.{sign_text, key_text};
-ghost use Rattle.rx_svg.specs.Page.{nodes_legend, items_legend, resources_legend, legend_text};
+ghost use Rattle.rx_svg.specs.Page.{nodes_legend, others_legend, items_legend, resources_legend, legend_text};
 
 use crate::pieces::put;
 use std::alloc::AllocError;
@@ -50,14 +50,14 @@ fn push_nodes(text: &mut String, x: u64, y: u64) -> Result<(), AllocError>
     ensures { OnOk result (string_bytes text.new ≡ string_bytes text.old ++ nodes_legend x y) }
 {
     push_key(text, "life", LINE, "open", x, y)?;
-    push_key(text, "mark", "m0 -8v16", "completed", x, y + 20)?;
+    push_key(text, "mark", "m0 -8v16", "completed", x, y + 18)?;
     push_key(
         text,
         "mark",
         "m-6 -6l12 12m0 -12l-12 12",
         "error",
         x,
-        y + 40,
+        y + 36,
     )?;
     push_key(
         text,
@@ -65,41 +65,36 @@ fn push_nodes(text: &mut String, x: u64, y: u64) -> Result<(), AllocError>
         "m-5 8l6 -16m4 0l-6 16",
         "unsubscribed",
         x,
-        y + 60,
+        y + 54,
     )?;
-    push_key(text, "hub", LINE, "hub", x, y + 80)?;
-    push_key(text, "full", "m-4 -4h8v8h-8z", "connected", x, y + 100)?;
+    push_key(text, "hub", LINE, "hub", x, y + 72)?;
+    push_key(text, "full", "m-4 -4h8v8h-8z", "connected", x, y + 90)?;
     Ok(())
 }
 
-/// What becomes of items.
+/// What a FlatMap or Switch is to project, and what may not follow.
+fn push_others(text: &mut String, x: u64, y: u64) -> Result<(), AllocError>
+    requires { y ≤ 20000 }
+    ensures { OnOk result (string_bytes text.new ≡ string_bytes text.old ++ others_legend x y) }
+{
+    let diamond = "m-7 0l7 -7l7 7l-7 7z";
+    let struck = "m-7 0l7 -7l7 7l-7 7zm1 6l12 -12";
+    push_key(text, "marble", diamond, "item to project", x, y)?;
+    push_key(text, "marble", struck, "item declined", x, y + 18)?;
+    push_key(text, "broken", "m0 -8v16", "unlawful from here", x, y + 36)?;
+    Ok(())
+}
+
+/// What is emitted and received.
 fn push_items(text: &mut String, x: u64, y: u64) -> Result<(), AllocError>
     requires { y ≤ 20000 }
     ensures { OnOk result (string_bytes text.new ≡ string_bytes text.old ++ items_legend x y) }
 {
     let dot = "m-3 0a3 3 0 1 0 6 0a3 3 0 1 0 -6 0z";
     let ring = "m-6 0a6 6 0 1 0 12 0a6 6 0 1 0 -12 0z";
-    let struck = "m-7 0l7 -7l7 7l-7 7zm1 6l12 -12";
     push_key(text, "full", dot, "item emitted", x, y)?;
-    push_key(
-        text,
-        "marble",
-        "m-7 0l7 -7l7 7l-7 7z",
-        "item to project",
-        x,
-        y + 20,
-    )?;
-    push_key(text, "marble", struck, "item declined", x, y + 40)?;
-    push_key(text, "marble", ring, "item received", x, y + 60)?;
-    push_key(
-        text,
-        "marble",
-        "m-5 -11h10l-5 6z",
-        "end received",
-        x,
-        y + 80,
-    )?;
-    push_key(text, "broken", "m0 -8v16", "unlawful from here", x, y + 100)?;
+    push_key(text, "marble", ring, "item received", x, y + 18)?;
+    push_key(text, "marble", "m-5 -3h10l-5 6z", "end received", x, y + 36)?;
     Ok(())
 }
 
@@ -109,30 +104,30 @@ fn push_resources(text: &mut String, x: u64, y: u64) -> Result<(), AllocError>
     ensures { OnOk result (string_bytes text.new ≡ string_bytes text.old ++ resources_legend x y) }
 {
     push_key(text, "held", BAR, "resource held", x, y)?;
-    push_key(text, "held", "m-10 -3h20v6h-20z", "lease", x, y + 20)?;
-    push_sign(text, "held", BAR, x, y + 40)?;
-    push_key(text, "tick", "m0 -10v20", "resource used", x, y + 40)?;
-    push_key(text, "waiting", BAR, "waits for release", x, y + 60)?;
-    push_key(text, "mark", "m4 0l4 5l8 -10", "released", x, y + 80)?;
+    push_key(text, "held", "m-10 -3h20v6h-20z", "lease", x, y + 18)?;
+    push_sign(text, "held", BAR, x, y + 36)?;
+    push_key(text, "tick", "m0 -10v20", "resource used", x, y + 36)?;
+    push_key(text, "waiting", BAR, "waits for release", x, y + 54)?;
+    push_key(text, "mark", "m4 0l4 5l8 -10", "released", x, y + 72)?;
     push_key(
         text,
-        "arrow leak",
+        "arrow unreleased",
         "m0 -9l15 9l-15 9z",
-        "never released",
+        "not released at the end",
         x,
-        y + 100,
+        y + 90,
     )?;
     Ok(())
 }
 
-/// The legend, from this place on.
+/// The legend, from this height on, in two columns.
 #[tactic(auto, unfolding(crate::specs::Page::legend_text))]
-pub fn push_legend(text: &mut String, x: u64, y: u64) -> Result<(), AllocError>
-    requires near { x ≤ 50000 }
-    requires high { y ≤ 20000 }
-    ensures { OnOk result (string_bytes text.new ≡ string_bytes text.old ++ legend_text x y) }
+pub fn push_legend(text: &mut String, y: u64) -> Result<(), AllocError>
+    requires { y ≤ 19000 }
+    ensures { OnOk result (string_bytes text.new ≡ string_bytes text.old ++ legend_text y) }
 {
-    push_nodes(text, x, y)?;
-    push_items(text, x + 160, y)?;
-    push_resources(text, x + 350, y)
+    push_nodes(text, 20, y)?;
+    push_others(text, 20, y + 108)?;
+    push_items(text, 190, y)?;
+    push_resources(text, 190, y + 54)
 }

@@ -19,13 +19,13 @@
 
 mod labels;
 mod legend;
-mod margin;
 mod names;
 mod pictured;
 mod pieces;
 mod strokes;
 mod svg;
 mod tracks;
+mod width;
 
 pub use pictured::draw;
 pub use svg::{named_picture, picture};

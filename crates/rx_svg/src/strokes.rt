@@ -2,8 +2,8 @@
 
 ghost use Rattle.std.specs.Prelude.{◌≡◌, ◌++◌, string_bytes, OnOk};
 ghost use Rattle.rx_svg.specs.Stroke.{until_text, stretch_end, line_text, bar_text};
-ghost use Rattle.rx_svg.specs.Stroke.{mark_text, code_text, leak_text, marble_shape, above_text, value_text};
-ghost use Rattle.rx_svg.specs.Stroke.{marble_front, by_text, marble_text, column_text, broken_text};
+ghost use Rattle.rx_svg.specs.Stroke.{mark_text, code_text, arrow_text, marble_shape, above_text, value_text};
+ghost use Rattle.rx_svg.specs.Stroke.{marble_front, by_text, marble_text, column_text, axis_text, grid_text, broken_text};
 
 use crate::labels::{push_event, push_note};
 use crate::pieces::put;
@@ -108,17 +108,14 @@ pub fn push_code(text: &mut String, x: u64, y: u64, code: u64) -> Result<(), All
     put!(text; "<text x=\"" [x] "\" y=\"" [y] "\" dx=\"10\" dy=\"4\">" [code] "</text>\n")
 }
 
-/// The arrow of a resource that was never released, and its words.
-#[tactic(auto, unfolding(crate::specs::Stroke::leak_text, crate::specs::Stroke::arrow_text, crate::specs::Stroke::unreleased_text, crate::specs::Parts::text_of))]
-pub fn push_leak(text: &mut String, x: u64, y: u64) -> Result<(), AllocError>
-    ensures { OnOk result (string_bytes text.new ≡ string_bytes text.old ++ leak_text x y) }
+/// The arrow of a resource that is not released at the end.
+#[tactic(auto, unfolding(crate::specs::Stroke::arrow_text, crate::specs::Parts::text_of))]
+pub fn push_arrow(text: &mut String, x: u64, y: u64) -> Result<(), AllocError>
+    ensures { OnOk result (string_bytes text.new ≡ string_bytes text.old ++ arrow_text x y) }
 {
     put!(text;
-        "<path class=\"arrow leak\" d=\"M" [x] " " [y] "m0 -9l15 9l-15 9z"
-        "\"><title>not released</title></path>\n"
-    )?;
-    put!(text;
-        "<text class=\"leak\" x=\"" [x] "\" y=\"" [y] "\" dx=\"20\" dy=\"4\">not released</text>\n"
+        "<path class=\"arrow unreleased\" d=\"M" [x] " " [y] "m0 -9l15 9l-15 9z"
+        "\"><title>not released at the end</title></path>\n"
     )
 }
 
@@ -193,8 +190,8 @@ pub fn push_marble(
     push_value(text, x, y, note)
 }
 
-/// The column of a place, so high, and its number above it.
-#[tactic(auto, unfolding(crate::specs::Stroke::column_text, crate::specs::Stroke::column_front, crate::specs::Stroke::axis_text, crate::specs::Parts::text_of))]
+/// The column of a place, so high.
+#[tactic(auto, unfolding(crate::specs::Stroke::column_text, crate::specs::Stroke::column_front, crate::specs::Parts::text_of))]
 pub fn push_column(
     text: &mut String,
     x: u64,
@@ -205,10 +202,26 @@ pub fn push_column(
     ensures { OnOk result (string_bytes text.new ≡ string_bytes text.old ++ column_text x height place event) }
 {
     put!(text;
-        "<path class=\"place\" d=\"M" [x] " 28m-10 0h20v" [height] "h-20z\"><title>" [place] ":"
+        "<path class=\"place\" d=\"M" [x] " 20m-10 0h20v" [height] "h-20z\"><title>" [place] ":"
     )?;
     push_event(text, event)?;
-    put!(text; "</title></path>\n<text class=\"axis\" x=\"" [x] "\" y=\"20\">" [place] "</text>\n")
+    text.push_str("</title></path>\n")
+}
+
+/// The number of a place, above its column.
+#[tactic(auto, unfolding(crate::specs::Stroke::axis_text, crate::specs::Parts::text_of))]
+pub fn push_axis(text: &mut String, x: u64, place: u64) -> Result<(), AllocError>
+    ensures { OnOk result (string_bytes text.new ≡ string_bytes text.old ++ axis_text x place) }
+{
+    put!(text; "<text class=\"axis\" x=\"" [x] "\" y=\"14\">" [place] "</text>\n")
+}
+
+/// The grid of a track.
+#[tactic(auto, unfolding(crate::specs::Stroke::grid_text, crate::specs::Parts::text_of))]
+pub fn push_grid(text: &mut String, x: u64, y: u64, to: u64) -> Result<(), AllocError>
+    ensures { OnOk result (string_bytes text.new ≡ string_bytes text.old ++ grid_text x y to) }
+{
+    put!(text; "<path class=\"grid\" d=\"M" [x] " " [y] "m-10 0H" [to] "\"></path>\n")
 }
 
 /// The line through all tracks at the place whose event may not stand there.
@@ -217,7 +230,7 @@ pub fn push_broken(text: &mut String, x: u64, height: u64, place: u64) -> Result
     ensures { OnOk result (string_bytes text.new ≡ string_bytes text.old ++ broken_text x height place) }
 {
     put!(text;
-        "<path class=\"broken\" d=\"M" [x] " 28v" [height] "\"><title>unlawful: event " [place]
+        "<path class=\"broken\" d=\"M" [x] " 20v" [height] "\"><title>unlawful: event " [place]
         "</title></path>\n"
     )
 }

@@ -5,16 +5,15 @@ ghost use Rattle.serde_json.specs.Data.{null};
 ghost use Rattle.serde_json.specs.View.{view};
 ghost use Rattle.rx_dump.specs.Names.{name_in_object};
 ghost use Rattle.rx_svg.specs.Track.{row_text, tick_text, note_marble};
-ghost use Rattle.rx_svg.specs.Page.{tracks_shown, places_shown, width_of, head_text, point_text, legend_front, listed_text, list_text, lawful_text};
-ghost use Rattle.rx_svg.specs.Page.{verdict_label, leak_words, leak_entry, leaking_text, leaks_text, leaks_class};
-ghost use Rattle.rx_svg.specs.Page.{break_text, verdict_line, leaks_line, shares_line, under_text, tracks_text, page_text, svg_text, IsPicture};
+ghost use Rattle.rx_svg.specs.Page.{tracks_shown, places_shown, head_text, is_numbered, number_above, point_text, legend_front, lawful_text};
+ghost use Rattle.rx_svg.specs.Page.{verdict_label, unreleased_words, unreleased_text, unreleased_class};
+ghost use Rattle.rx_svg.specs.Page.{break_text, verdict_line, unreleased_line, shares_line, under_text, tracks_text, svg_text, IsPicture};
 
 use crate::legend::push_legend;
-use crate::margin::margin;
-use crate::names::push_named;
-use crate::pieces::{MOST_SHOWN, front, push_rest, put};
-use crate::strokes::{push_broken, push_column};
+use crate::pieces::put;
+use crate::strokes::{push_axis, push_broken, push_column};
 use crate::tracks::{push_row, push_tick, push_told, value_at, x_of};
+use crate::width::width;
 use rx_audit::{Verdict, audit};
 use rx_dump::Names;
 use rx_event::{Event, Mail};
@@ -24,16 +23,16 @@ use std::alloc::{AllocError, Global};
 
 /// How the marks look, on a bright page and on a dark one.
 const STYLE: &str =
-    "<style>text{font:12px monospace;fill:#222}.axis{font-size:8px;text-anchor:middle}\
-    .value{font-size:10px;text-anchor:middle}.label{text-anchor:end;pointer-events:none}\
-    path{stroke:#222;stroke-width:2;fill:none}\
-    .place{stroke:#ddd;stroke-width:1;pointer-events:all}.hub{stroke-dasharray:2 4}\
+    "<style>svg{background:#fff}text{font:12px monospace;fill:#222;pointer-events:none}\
+    .axis,.value{font-family:sans-serif;text-anchor:middle}\
+    path{stroke:#222;stroke-width:2;fill:none}.place{stroke:none;pointer-events:all}\
+    .grid{stroke:#ddd;stroke-width:26;stroke-dasharray:1 19;pointer-events:none}.hub{stroke-dasharray:2 4}\
     .held,.full{fill:#222}.waiting{fill:#fff;stroke-dasharray:3 3}.marble{fill:#fff}\
-    path.leak{stroke:#c22}text.leak,.held.leak,.arrow{fill:#c22}\
+    path.unreleased{stroke:#b45309}text.unreleased,.held.unreleased,.arrow{fill:#b45309}\
     .tick{stroke:#fff}.broken{stroke-width:5;stroke-dasharray:9 5}\
     @media(prefers-color-scheme:dark){svg{background:#111}text{fill:#eee}path{stroke:#eee}\
-    .place{stroke:#333}.held,.full{fill:#eee}.waiting,.marble{fill:#111}.tick{stroke:#111}\
-    path.leak{stroke:#f66}text.leak,.held.leak,.arrow{fill:#f66}}</style>\n";
+    .grid{stroke:#333}.held,.full{fill:#eee}.waiting,.marble{fill:#111}.tick{stroke:#111}\
+    path.unreleased{stroke:#fbbf24}text.unreleased,.held.unreleased,.arrow{fill:#fbbf24}}</style>\n";
 
 /// How many tracks are shown, of so many events.
 fn tracks_shown(drawing: &Drawing, end: u64) -> u64
@@ -50,22 +49,32 @@ fn places_shown(drawing: &Drawing, end: u64) -> u64
     value_at(&drawing.columns, end).min(2000) as u64
 }
 
-/// How wide the picture is that begins so far on the left.
-fn width_of(drawing: &Drawing, left: u64, end: u64) -> u64
-    ensures { result ≡ width_of drawing.now left end }
-{
-    (x_of(drawing, end) + 130).saturating_sub(left).max(560)
-}
-
-/// The head of the document, which begins so far on the left, and is so wide and so high.
+/// The head of the document, which is so wide and so high.
 #[tactic(auto, unfolding(crate::specs::Page::head_text, crate::specs::Parts::text_of))]
-fn push_head(text: &mut String, left: u64, width: u64, height: u64) -> Result<(), AllocError>
-    ensures { OnOk result (string_bytes text.new ≡ string_bytes text.old ++ head_text left width height) }
+fn push_head(text: &mut String, width: u64, height: u64) -> Result<(), AllocError>
+    ensures { OnOk result (string_bytes text.new ≡ string_bytes text.old ++ head_text width height) }
 {
     put!(text;
         "<svg xmlns=\"http://www.w3.org/2000/svg\" width=\"" [width] "\" height=\"" [height]
-        "\" viewBox=\"" [left] " 0 " [width] " " [height] "\">\n" STYLE
+        "\" viewBox=\"0 0 " [width] " " [height] "\">\n" STYLE
     )
+}
+
+/// Whether a number stands above the place.
+fn is_numbered(drawing: &Drawing, place: u64) -> bool
+    ensures { result ≡ is_numbered drawing.now place }
+{
+    place < 100 || value_at(&drawing.columns, place) % 5 == 0
+}
+
+/// The number above a place, if it has one.
+fn push_number(text: &mut String, drawing: &Drawing, place: u64) -> Result<(), AllocError>
+    ensures { OnOk result (string_bytes text.new ≡ string_bytes text.old ++ number_above drawing.now place) }
+{
+    if is_numbered(drawing, place) {
+        return push_axis(text, x_of(drawing, place), place);
+    }
+    Ok(())
 }
 
 /// The column of a place.
@@ -79,7 +88,8 @@ fn push_point(
     ensures { OnOk result (string_bytes text.new ≡ string_bytes text.old ++ point_text drawing.now height point) }
 {
     let x = x_of(drawing, point.place);
-    push_column(text, x, height, point.place, point.event)
+    push_column(text, x, height, point.place, point.event)?;
+    push_number(text, drawing, point.place)
 }
 
 /// The columns of all places.
@@ -136,54 +146,18 @@ fn push_marbles(text: &mut String, drawing: &Drawing, marbles: &[Mail]) -> Resul
 
 /// The front of a line of text of this class under the tracks.
 #[tactic(auto, unfolding(crate::specs::Page::legend_front, crate::specs::Parts::text_of))]
-fn push_below(text: &mut String, class: &'static str, x: u64, y: u64) -> Result<(), AllocError>
-    ensures { OnOk result (string_bytes text.new ≡ string_bytes text.old ++ legend_front class.now x y) }
+fn push_below(text: &mut String, class: &'static str, y: u64) -> Result<(), AllocError>
+    ensures { OnOk result (string_bytes text.new ≡ string_bytes text.old ++ legend_front class.now y) }
 {
-    put!(text; "<text class=\"" class "\" x=\"" [x] "\" y=\"" [y] "\">")
+    put!(text; "<text class=\"" class "\" x=\"10\" y=\"" [y] "\">")
 }
 
-/// One number after a space.
-#[tactic(auto, unfolding(crate::specs::Page::listed_text, crate::specs::Parts::text_of))]
-fn push_one(text: &mut String, n: u64) -> Result<(), AllocError>
-    ensures { OnOk result (string_bytes text.new ≡ string_bytes text.old ++ listed_text n) }
+/// How much a lawful history leaves.
+#[tactic(auto, unfolding(crate::specs::Page::lawful_text, crate::specs::Parts::text_of))]
+fn push_lawful(text: &mut String, live: u64, held: u64, waiting: u64) -> Result<(), AllocError>
+    ensures { OnOk result (string_bytes text.new ≡ string_bytes text.old ++ lawful_text live held waiting) }
 {
-    put!(text; " " [n])
-}
-
-/// Each number after a space.
-fn push_listed(text: &mut String, numbers: &[u64]) -> Result<(), AllocError>
-    ensures { OnOk result (string_bytes text.new ≡ string_bytes text.old ++ flat_map listed_text numbers.now) }
-{
-    for n in numbers {
-        push_one(text, *n)?;
-    }
-    Ok(())
-}
-
-/// A word, and the first of the numbers behind it.
-#[tactic(auto, unfolding(crate::specs::Page::list_text))]
-fn push_list(text: &mut String, name: &'static str, numbers: &[u64]) -> Result<(), AllocError>
-    ensures { OnOk result (string_bytes text.new ≡ string_bytes text.old ++ list_text name.now numbers.now) }
-{
-    text.push_str(name)?;
-    push_listed(text, front(numbers))?;
-    push_rest(text, numbers.len().saturating_sub(MOST_SHOWN))
-}
-
-/// What is left of a lawful history.
-#[tactic(auto, unfolding(crate::specs::Page::lawful_text, crate::specs::Page::untaken_text))]
-fn push_lawful(
-    text: &mut String,
-    live: &[u64],
-    held: &[u64],
-    waiting: &[u64],
-) -> Result<(), AllocError>
-    ensures { OnOk result (string_bytes text.new ≡ string_bytes text.old ++ lawful_text live.now held.now waiting.now) }
-{
-    text.push_str("lawful")?;
-    push_list(text, "; open:", live)?;
-    push_list(text, "; held:", held)?;
-    push_list(text, "; waiting:", waiting)
+    put!(text; "lawful; at the end " [live] " open, " [held] " held, " [waiting] " waiting")
 }
 
 /// The verdict.
@@ -196,7 +170,12 @@ fn push_verdict(text: &mut String, verdict: &Verdict) -> Result<(), AllocError>
             live,
             held,
             waiting,
-        } => push_lawful(text, live.as_slice(), held.as_slice(), waiting.as_slice()),
+        } => push_lawful(
+            text,
+            live.len() as u64,
+            held.len() as u64,
+            waiting.len() as u64,
+        ),
         Verdict::Unlawful { place } => {
             put!(text; "unlawful: event " [*place] " may not follow those before it")
         }
@@ -204,67 +183,34 @@ fn push_verdict(text: &mut String, verdict: &Verdict) -> Result<(), AllocError>
     }
 }
 
-/// What stands behind the number of resources that leak.
-fn leak_words(n: u64) -> &'static str
-    ensures { result.now ≡ leak_words n }
+/// What stands behind the number of resources that are not released.
+fn unreleased_words(n: u64) -> &'static str
+    ensures { result.now ≡ unreleased_words n }
 {
     if n == 1 {
-        " resource never released:"
+        " resource not released at the end"
     } else {
-        " resources never released:"
+        " resources not released at the end"
     }
 }
 
-/// One number after a space, and its name.
-#[tactic(auto, unfolding(crate::specs::Page::leak_entry))]
-fn push_entry(text: &mut String, names: Names<'_>, n: u64) -> Result<(), AllocError>
-    ensures { OnOk result
-        (string_bytes text.new ≡ string_bytes text.old ++ leak_entry (name_in_object (view names.entry.object.now)) n) }
+/// How many resources are not released, if any is not.
+#[tactic(auto, unfolding(crate::specs::Page::count_text, crate::specs::Parts::text_of))]
+fn push_unreleased(text: &mut String, n: u64) -> Result<(), AllocError>
+    ensures { OnOk result (string_bytes text.new ≡ string_bytes text.old ++ unreleased_text n) }
 {
-    push_one(text, n)?;
-    push_named(text, names, n)
-}
-
-/// Each number after a space, and its name.
-fn push_entries(text: &mut String, names: Names<'_>, numbers: &[u64]) -> Result<(), AllocError>
-    ensures { OnOk result (string_bytes text.new ≡ string_bytes text.old
-        ++ flat_map (leak_entry (name_in_object (view names.entry.object.now))) numbers.now) }
-{
-    for n in numbers {
-        push_entry(text, names, *n)?;
-    }
-    Ok(())
-}
-
-/// How many resources leak, and which.
-#[tactic(auto, unfolding(crate::specs::Page::leaking_text, crate::specs::Page::count_text, crate::specs::Parts::text_of))]
-fn push_leaking(text: &mut String, names: Names<'_>, leaks: &[u64]) -> Result<(), AllocError>
-    ensures { OnOk result (string_bytes text.new ≡ string_bytes text.old
-        ++ leaking_text (name_in_object (view names.entry.object.now)) leaks.now) }
-{
-    let count = leaks.len() as u64;
-    let words = leak_words(count);
-    put!(text; [count] words)?;
-    push_entries(text, names, front(leaks))?;
-    push_rest(text, leaks.len().saturating_sub(MOST_SHOWN))
-}
-
-/// How many resources leak, and which, if any does.
-fn push_leaks(text: &mut String, names: Names<'_>, leaks: &[u64]) -> Result<(), AllocError>
-    ensures { OnOk result (string_bytes text.new ≡ string_bytes text.old
-        ++ leaks_text (name_in_object (view names.entry.object.now)) leaks.now) }
-{
-    if leaks.len() == 0 {
+    if n == 0 {
         return text.push_str("all resources released");
     }
-    push_leaking(text, names, leaks)
+    let words = unreleased_words(n);
+    put!(text; [n] words)
 }
 
-/// The class of the line about leaks.
-fn leaks_class(leaks: &[u64]) -> &'static str
-    ensures { result.now ≡ leaks_class leaks.now }
+/// The class of the line about them.
+fn unreleased_class(n: u64) -> &'static str
+    ensures { result.now ≡ unreleased_class n }
 {
-    if leaks.len() == 0 { "under" } else { "leak" }
+    if n == 0 { "under" } else { "unreleased" }
 }
 
 /// The line through all tracks, where an event may not stand where it does.
@@ -284,35 +230,23 @@ fn push_break(
 
 /// The line of the verdict under the tracks, which are so high.
 #[tactic(auto, unfolding(crate::specs::Page::verdict_line))]
-fn push_verdict_line(
-    text: &mut String,
-    x: u64,
-    height: u64,
-    verdict: &Verdict,
-) -> Result<(), AllocError>
+fn push_verdict_line(text: &mut String, height: u64, verdict: &Verdict) -> Result<(), AllocError>
     requires { height ≤ 10000 }
-    ensures { OnOk result (string_bytes text.new ≡ string_bytes text.old ++ verdict_line x height verdict.now) }
+    ensures { OnOk result (string_bytes text.new ≡ string_bytes text.old ++ verdict_line height verdict.now) }
 {
-    push_below(text, "under", x, height + 48)?;
+    push_below(text, "under", height + 46)?;
     push_verdict(text, verdict)?;
     text.push_str("</text>\n")
 }
 
-/// The line of the resources that leak.
-#[tactic(auto, unfolding(crate::specs::Page::leaks_line))]
-fn push_leaks_line(
-    text: &mut String,
-    names: Names<'_>,
-    x: u64,
-    height: u64,
-    leaks: &[u64],
-) -> Result<(), AllocError>
+/// The line about the resources that are not released.
+#[tactic(auto, unfolding(crate::specs::Page::unreleased_line))]
+fn push_unreleased_line(text: &mut String, height: u64, n: u64) -> Result<(), AllocError>
     requires { height ≤ 10000 }
-    ensures { OnOk result (string_bytes text.new ≡ string_bytes text.old
-        ++ leaks_line (name_in_object (view names.entry.object.now)) x height leaks.now) }
+    ensures { OnOk result (string_bytes text.new ≡ string_bytes text.old ++ unreleased_line height n) }
 {
-    push_below(text, leaks_class(leaks), x, height + 72)?;
-    push_leaks(text, names, leaks)?;
+    push_below(text, unreleased_class(n), height + 64)?;
+    push_unreleased(text, n)?;
     text.push_str("</text>\n")
 }
 
@@ -322,13 +256,12 @@ fn push_shares_line(
     text: &mut String,
     drawing: &Drawing,
     end: u64,
-    x: u64,
     height: u64,
 ) -> Result<(), AllocError>
     requires { height ≤ 10000 }
-    ensures { OnOk result (string_bytes text.new ≡ string_bytes text.old ++ shares_line drawing.now end x height) }
+    ensures { OnOk result (string_bytes text.new ≡ string_bytes text.old ++ shares_line drawing.now end height) }
 {
-    push_below(text, "under", x, height + 96)?;
+    push_below(text, "under", height + 82)?;
     let tracks = tracks_shown(drawing, end);
     let places = places_shown(drawing, end);
     put!(text;
@@ -337,26 +270,22 @@ fn push_shares_line(
     text.push_str("</text>\n")
 }
 
-/// What stands under the tracks, which are so high, from this place on.
+/// What stands under the tracks, which are so high.
 #[tactic(auto, unfolding(crate::specs::Page::under_text))]
 fn push_under(
     text: &mut String,
-    names: Names<'_>,
     drawing: &Drawing,
     end: u64,
-    x: u64,
     height: u64,
     verdict: &Verdict,
 ) -> Result<(), AllocError>
-    requires near { x ≤ 45000 }
-    requires high { height ≤ 10000 }
-    ensures { OnOk result (string_bytes text.new ≡ string_bytes text.old
-        ++ under_text drawing.now (name_in_object (view names.entry.object.now)) end x height verdict.now) }
+    requires { height ≤ 10000 }
+    ensures { OnOk result (string_bytes text.new ≡ string_bytes text.old ++ under_text drawing.now end height verdict.now) }
 {
-    push_verdict_line(text, x, height, verdict)?;
-    push_leaks_line(text, names, x, height, drawing.leaks.as_slice())?;
-    push_shares_line(text, drawing, end, x, height)?;
-    push_legend(text, x + 10, height + 124)
+    push_verdict_line(text, height, verdict)?;
+    push_unreleased_line(text, height, drawing.leaks.len() as u64)?;
+    push_shares_line(text, drawing, end, height)?;
+    push_legend(text, height + 106)
 }
 
 /// What stands in the tracks, which are so high.
@@ -379,27 +308,6 @@ fn push_tracks(
     push_break(text, drawing, height, verdict)
 }
 
-/// The document that begins so far on the left.
-#[tactic(auto, unfolding(crate::specs::Page::page_text))]
-fn push_page(
-    text: &mut String,
-    names: Names<'_>,
-    drawing: &Drawing,
-    end: u64,
-    verdict: &Verdict,
-    left: u64,
-) -> Result<(), AllocError>
-    requires { left ≤ 44050 }
-    ensures { OnOk result (string_bytes text.new ≡ string_bytes text.old
-        ++ page_text drawing.now (name_in_object (view names.entry.object.now)) end verdict.now left) }
-{
-    let height = 32 + 28 * tracks_shown(drawing, end);
-    push_head(text, left, width_of(drawing, left, end), height + 240)?;
-    push_tracks(text, names, drawing, end, height, verdict)?;
-    push_under(text, names, drawing, end, left + 10, height, verdict)?;
-    text.push_str("</svg>\n")
-}
-
 /// The document of the drawing of so many events, with the verdict on them.
 #[tactic(auto, unfolding(crate::specs::Page::svg_text))]
 fn push_svg(
@@ -412,13 +320,17 @@ fn push_svg(
     ensures { OnOk result (string_bytes text.new ≡ string_bytes text.old
         ++ svg_text drawing.now (name_in_object (view names.entry.object.now)) end verdict.now) }
 {
-    let left = margin(names, drawing, drawing.rows.as_slice())?;
-    push_page(text, names, drawing, end, verdict, left)
+    let height = 4 + 44 * tracks_shown(drawing, end);
+    let wide = width(names, drawing, end, drawing.rows.as_slice())?;
+    push_head(text, wide, height + 264)?;
+    push_tracks(text, names, drawing, end, height, verdict)?;
+    push_under(text, drawing, end, height, verdict)?;
+    text.push_str("</svg>\n")
 }
 
 /// The picture of the events, which need not be lawful, with the verdict of the audit, as a well-formed
-/// SVG document. Behind a number that has a track, and behind one that leaks, stands its name, if the
-/// object `names` leads to a text from the number, written as a decimal; any other value has no names.
+/// SVG document. Behind a number that has a track stands its name, if the object `names` leads to a text
+/// from the number, written as a decimal; any other value has no names.
 /// The error comes where memory is refused, and for more events than `rx_audit` judges.
 pub fn named_picture(alloc: Global, events: &[Event], names: &Value) -> Result<String, AllocError>
     ensures { IfOk result (λ s. IsPicture events.now (name_in_object (view names.now)) (string_bytes s)) }

@@ -5,14 +5,14 @@ ghost use Rattle.rx_picture.specs.Rows.{track_of};
 ghost use Rattle.rx_picture.specs.Leaks.{is_leaking};
 ghost use Rattle.serde_json.specs.View.{view};
 ghost use Rattle.rx_dump.specs.Names.{name_in_object};
-ghost use Rattle.rx_svg.specs.Track.{x_of, y_of, is_counted, has_track, has_column, is_root_point, is_root_of, label_element, ending_text, life_text};
-ghost use Rattle.rx_svg.specs.Track.{stretch_text, held_class, wait_class, owned_text, loan_text, wait_text, release_text};
-ghost use Rattle.rx_svg.specs.Track.{shape_text, row_label, row_text, in_track_text, emitted_text, done_text, tick_text, note_marble};
+ghost use Rattle.rx_svg.specs.Track.{x_of, y_of, is_counted, has_track, has_column, is_root_point, is_root_of, label_class, label_element, ending_text};
+ghost use Rattle.rx_svg.specs.Track.{life_text, stretch_text, held_class, wait_class, owned_text, loan_text, wait_text, release_text};
+ghost use Rattle.rx_svg.specs.Track.{shape_text, row_head, row_text, in_track_text, emitted_text, done_text, tick_text, note_marble};
 
 use crate::labels::push_called;
 use crate::pieces::put;
 use crate::strokes::{
-    push_above, push_bar, push_code, push_leak, push_line, push_marble, push_mark,
+    push_above, push_arrow, push_bar, push_code, push_grid, push_line, push_marble, push_mark,
 };
 use rx_dump::Names;
 use rx_event::{Event, Mail, Place, Terminal};
@@ -30,17 +30,16 @@ pub fn value_at(table: &[usize], n: u64) -> usize
 /// Where the place stands, from the left.
 pub fn x_of(drawing: &Drawing, place: u64) -> u64
     ensures value { result ≡ x_of drawing.now place }
-    ensures far { 4050 ≤ result }
-    ensures few { result ≤ 44050 }
+    ensures few { result ≤ 40020 }
 {
-    4050 + 20 * value_at(&drawing.columns, place).min(2000) as u64
+    20 + 20 * value_at(&drawing.columns, place).min(2000) as u64
 }
 
 /// Where the track of the number stands, from the top.
 pub fn y_of(drawing: &Drawing, n: u64) -> u64
     ensures { result ≡ y_of drawing.now n }
 {
-    48 + 28 * value_at(&drawing.tracks, n).min(200) as u64
+    54 + 44 * value_at(&drawing.tracks, n).min(200) as u64
 }
 
 /// Whether the list, which says of each number how many stand before it, counts this one.
@@ -88,10 +87,22 @@ fn is_root_of(drawing: &Drawing, n: u64) -> bool
     }
 }
 
+/// The class of a label.
+fn label_class(unreleased: bool) -> &'static str
+    ensures { result.now ≡ label_class unreleased }
+{
+    if unreleased {
+        "label unreleased"
+    } else {
+        "label"
+    }
+}
+
 /// What a track shows.
 #[tactic(auto, unfolding(crate::specs::Track::label_element, crate::specs::Track::label_front, crate::specs::Parts::text_of))]
 fn push_label(
     text: &mut String,
+    class: &'static str,
     names: Names<'_>,
     x: u64,
     y: u64,
@@ -99,9 +110,9 @@ fn push_label(
     made: Event,
 ) -> Result<(), AllocError>
     ensures { OnOk result (string_bytes text.new ≡ string_bytes text.old
-        ++ label_element x y n (name_in_object (view names.entry.object.now) n) made) }
+        ++ label_element class.now x y n (name_in_object (view names.entry.object.now) n) made) }
 {
-    put!(text; "<text class=\"label\" x=\"" [x] "\" y=\"" [y] "\" dy=\"4\">")?;
+    put!(text; "<text class=\"" class "\" x=\"" [x] "\" y=\"" [y] "\" dx=\"-10\" dy=\"-22\">")?;
     push_called(text, names, n, made)?;
     text.push_str("</text>\n")
 }
@@ -177,32 +188,40 @@ fn push_stretch(
 }
 
 /// The class of a full bar.
-fn held_class(leaking: bool) -> &'static str
-    ensures { result.now ≡ held_class leaking }
+fn held_class(unreleased: bool) -> &'static str
+    ensures { result.now ≡ held_class unreleased }
 {
-    if leaking { "held leak" } else { "held" }
+    if unreleased {
+        "held unreleased"
+    } else {
+        "held"
+    }
 }
 
 /// The class of a hollow bar.
-fn wait_class(leaking: bool) -> &'static str
-    ensures { result.now ≡ wait_class leaking }
+fn wait_class(unreleased: bool) -> &'static str
+    ensures { result.now ≡ wait_class unreleased }
 {
-    if leaking { "waiting leak" } else { "waiting" }
+    if unreleased {
+        "waiting unreleased"
+    } else {
+        "waiting"
+    }
 }
 
 /// The bar of a resource while its node owns it.
 fn push_owned(
     text: &mut String,
     drawing: &Drawing,
-    leaking: bool,
+    unreleased: bool,
     y: u64,
     after: u64,
     until: u64,
     end: u64,
 ) -> Result<(), AllocError>
-    ensures { OnOk result (string_bytes text.new ≡ string_bytes text.old ++ owned_text drawing.now leaking y after until end) }
+    ensures { OnOk result (string_bytes text.new ≡ string_bytes text.old ++ owned_text drawing.now unreleased y after until end) }
 {
-    let class = held_class(leaking);
+    let class = held_class(unreleased);
     let title = "held by its node";
     push_stretch(text, drawing, class, title, "5", "10", y, after, until, end)
 }
@@ -211,15 +230,15 @@ fn push_owned(
 fn push_loan(
     text: &mut String,
     drawing: &Drawing,
-    leaking: bool,
+    unreleased: bool,
     y: u64,
     after: u64,
     until: u64,
     end: u64,
 ) -> Result<(), AllocError>
-    ensures { OnOk result (string_bytes text.new ≡ string_bytes text.old ++ loan_text drawing.now leaking y after until end) }
+    ensures { OnOk result (string_bytes text.new ≡ string_bytes text.old ++ loan_text drawing.now unreleased y after until end) }
 {
-    let class = held_class(leaking);
+    let class = held_class(unreleased);
     let title = "held by a lease";
     push_stretch(text, drawing, class, title, "3", "6", y, after, until, end)
 }
@@ -228,32 +247,32 @@ fn push_loan(
 fn push_wait(
     text: &mut String,
     drawing: &Drawing,
-    leaking: bool,
+    unreleased: bool,
     y: u64,
     after: u64,
     until: u64,
     end: u64,
 ) -> Result<(), AllocError>
-    ensures { OnOk result (string_bytes text.new ≡ string_bytes text.old ++ wait_text drawing.now leaking y after until end) }
+    ensures { OnOk result (string_bytes text.new ≡ string_bytes text.old ++ wait_text drawing.now unreleased y after until end) }
 {
-    let class = wait_class(leaking);
+    let class = wait_class(unreleased);
     let title = "waits, but where a lease holds it,";
     push_stretch(text, drawing, class, title, "5", "10", y, after, until, end)
 }
 
-/// Where a resource was released, or the arrow and the words of one that never was.
+/// Where a resource was released, or the arrow of one that is not.
 fn push_release(
     text: &mut String,
     drawing: &Drawing,
-    leaking: bool,
+    unreleased: bool,
     y: u64,
     taken: u64,
 ) -> Result<(), AllocError>
-    ensures { OnOk result (string_bytes text.new ≡ string_bytes text.old ++ release_text drawing.now leaking y taken) }
+    ensures { OnOk result (string_bytes text.new ≡ string_bytes text.old ++ release_text drawing.now unreleased y taken) }
 {
     let x = x_of(drawing, taken);
-    if leaking {
-        return push_leak(text, x, y);
+    if unreleased {
+        return push_arrow(text, x, y);
     }
     push_mark(text, "mark", "m4 0l4 5l8 -10", "released", x, y, taken)
 }
@@ -275,13 +294,13 @@ fn is_leaking(end: u64, shape: Shape) -> bool
 fn push_shape(
     text: &mut String,
     drawing: &Drawing,
-    leaking: bool,
+    unreleased: bool,
     y: u64,
     n: u64,
     end: u64,
     shape: Shape,
 ) -> Result<(), AllocError>
-    ensures { OnOk result (string_bytes text.new ≡ string_bytes text.old ++ shape_text drawing.now leaking y n end shape) }
+    ensures { OnOk result (string_bytes text.new ≡ string_bytes text.old ++ shape_text drawing.now unreleased y n end shape) }
 {
     match shape {
         Shape::Node { until, ending } => push_life(text, drawing, y, n, until, end, ending),
@@ -295,36 +314,40 @@ fn push_shape(
             owned_until,
             taken,
         } => {
-            push_wait(text, drawing, leaking, y, n, owned_after, end)?;
-            push_wait(text, drawing, leaking, y, owned_until, taken, end)?;
-            push_owned(text, drawing, leaking, y, owned_after, owned_until, end)?;
-            push_release(text, drawing, leaking, y, taken)
+            push_wait(text, drawing, unreleased, y, n, owned_after, end)?;
+            push_wait(text, drawing, unreleased, y, owned_until, taken, end)?;
+            push_owned(text, drawing, unreleased, y, owned_after, owned_until, end)?;
+            push_release(text, drawing, unreleased, y, taken)
         }
         Shape::Loan { until, .. } => {
             if !has_column(drawing, n) {
                 return Ok(());
             }
-            push_loan(text, drawing, leaking, y, n, until, end)
+            push_loan(text, drawing, unreleased, y, n, until, end)
         }
     }
 }
 
-/// The label of a row that has a track of its own.
-fn push_name(
+/// The grid and the label of a row that has a track of its own.
+fn push_row_head(
     text: &mut String,
     names: Names<'_>,
     drawing: &Drawing,
+    unreleased: bool,
     n: u64,
+    end: u64,
     made: Event,
 ) -> Result<(), AllocError>
     ensures { OnOk result (string_bytes text.new ≡ string_bytes text.old
-        ++ row_label drawing.now n (name_in_object (view names.entry.object.now) n) made) }
+        ++ row_head drawing.now unreleased n end (name_in_object (view names.entry.object.now) n) made) }
 {
     match made {
         Event::Lease(_) => Ok(()),
         _ => {
-            let x = x_of(drawing, n) - 12;
-            push_label(text, names, x, y_of(drawing, n), n, made)
+            let x = x_of(drawing, n);
+            let y = y_of(drawing, n);
+            push_grid(text, x, y, x_of(drawing, end))?;
+            push_label(text, label_class(unreleased), names, x, y, n, made)
         }
     }
 }
@@ -351,10 +374,10 @@ pub fn push_row(
     ensures { OnOk result (string_bytes text.new ≡ string_bytes text.old
         ++ row_text drawing.now (name_in_object (view names.entry.object.now)) end row) }
 {
-    push_name(text, names, drawing, row.number, row.made)?;
+    let unreleased = is_leaking(end, row.shape);
+    push_row_head(text, names, drawing, unreleased, row.number, end, row.made)?;
     let y = y_of(drawing, track_of(row.number, row.made));
-    let leaking = is_leaking(end, row.shape);
-    push_shape(text, drawing, leaking, y, row.number, end, row.shape)
+    push_shape(text, drawing, unreleased, y, row.number, end, row.shape)
 }
 
 /// A mark in the track of a number, if it has one.

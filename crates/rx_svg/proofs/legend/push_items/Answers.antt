@@ -6,11 +6,5 @@ pub returns : goal.returns
 unfolding items_legend
 returns c =
     one_more _ _ _ _ _
-    (one_more _ _ _ _ _
-    (one_more _ _ _ _ _
-    (one_more _ _ _ _ _
     (one_more _ _ _ _ _ c.in_ok-push_key.ensures c.in_ok-push_key-2.ensures)
-    c.in_ok-push_key-3.ensures)
-    c.in_ok-push_key-4.ensures)
-    c.in_ok-push_key-5.ensures)
-    c.in_ok-push_key-6.ensures
+    c.in_ok-push_key-3.ensures
