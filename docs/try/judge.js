@@ -63,7 +63,7 @@ async function load() {
   } catch {
     throw new Told('The module texts.wasm cannot be read. A browser loads none from a file: start a server in this folder, as python3 -m http.server, and open its address.');
   }
-  if (!answer.ok) throw new Told(`The module texts.wasm is not beside this page (the server says ${answer.status}). A release has it; in a checkout, tools/build-page makes it.`);
+  if (!answer.ok) throw new Told(`The module texts.wasm is not beside this page (the server says ${answer.status}). In a checkout tools/build-wasm makes it.`);
   try {
     return new Texts((await WebAssembly.instantiate(await answer.arrayBuffer())).instance);
   } catch (error) {
@@ -134,7 +134,7 @@ function history(texts, bytes, text, tell) {
     tell('Explaining');
     why = texts.ask('cellar_explain', its).text;
   }
-  const answer = { is: 'history', word: told.split(/\s/)[0], told, why, leaks: left.some(it => it.includes(':')) };
+  const answer = { is: 'history', word: told.split(/\s/)[0], told, why, left: left.some(it => it.includes(':')) };
   if (bytes.length > DRAWN) return { ...answer, undrawn: DRAWN };
   tell('Drawing');
   return { ...answer, ...draw(texts, text) };

@@ -92,13 +92,14 @@ function show({ told = '', why = '', caption = '', svg }) {
   at('place').textContent = '';
   if (!svg) return;
   hang(svg);
+  fit();
   const is_wide = at('picture').scrollWidth > at('picture').clientWidth;
   at('place').textContent = `Move over the picture, touch it, or use the arrow keys: what happened there, and what stays held.${is_wide ? ' It is wider than the screen, and goes on to the right.' : ''}`;
 }
 
 const host = at('picture').attachShadow({ mode: 'open' });
 const sheet = new CSSStyleSheet();
-sheet.replaceSync('svg { display: block; max-width: none; height: auto } .place.here { stroke: #1a4f8b; fill: #1a4f8b33 }');
+sheet.replaceSync('svg { display: block; max-width: none; height: auto } :host(.fits) svg { max-width: 100% } .place.here { stroke: #1a4f8b; fill: #1a4f8b33 }');
 host.adoptedStyleSheets = [sheet];
 
 /** The picture, as a document of its own in the shadow of its place, so that its styles stay there. It has no script. */
@@ -109,6 +110,12 @@ function hang(svg) {
   host.firstChild.setAttribute('aria-label', 'Picture of the history');
   place = -1;
   at('picture').setAttribute('aria-valuemax', String(Math.max(0, places - 1)));
+}
+
+/** A picture that is a little wider than the screen is made to fit it, as long as its text of 12 pixels keeps 9. */
+function fit() {
+  const room = at('picture').clientWidth - 2 * Number.parseFloat(getComputedStyle(at('picture')).paddingLeft);
+  if (host.firstChild) at('picture').classList.toggle('fits', host.firstChild.viewBox.baseVal.width * 0.75 <= room);
 }
 
 const title = it => it?.querySelector('title')?.textContent ?? '';
@@ -154,11 +161,12 @@ function words_of(said) {
   if (said.is === 'neither') return ['This is neither a scenario nor a history.', 'bad'];
   if (said.is === 'history') {
     if (said.word !== 'lawful') return [said.word === 'unlawful' ? 'The history is unlawful: an event may not come where it is.' : 'The history is unsettled: the rules force another event.', 'bad'];
-    return said.leaks ? ['The history is lawful, but at its end something is still open, held or waiting.', 'bad'] : ['The history is lawful, and leaves nothing.', 'good'];
+    return said.left ? ['The history is lawful. At its end something is still open, held or waiting: a leak, if the program has ended.', 'left'] : ['The history is lawful, and leaves nothing.', 'good'];
   }
-  if (said.held) return [`The scenario ran. At its end ${many(said.held, 'resource is', 'resources are')} still held: a leak, had the run not closed everything.`, 'bad'];
-  if (said.waiting) return [`The scenario ran. At its end ${many(said.waiting, 'resource waits', 'resources wait')} for release, and nothing is held.`, 'good'];
-  return ['The scenario ran. At its end nothing is held, and each resource was released.', 'good'];
+  const released = number => `the closing of the run released ${number === 1 ? 'it' : 'them'}`;
+  if (said.held) return [`The scenario ran. When its steps ended ${many(said.held, 'resource was', 'resources were')} still held; ${released(said.held)}.`, 'left'];
+  if (said.waiting) return [`The scenario ran. When its steps ended ${many(said.waiting, 'resource waited', 'resources waited')} for release; ${released(said.waiting)}.`, 'left'];
+  return ['The scenario ran. When its steps ended nothing was held, and each resource had been released.', 'good'];
 }
 
 async function run() {
@@ -321,6 +329,7 @@ const point = event => {
 host.addEventListener('pointermove', point);
 host.addEventListener('pointerdown', point);
 window.addEventListener('hashchange', open);
+window.addEventListener('resize', fit);
 if (typeof Worker !== 'function') fail('This browser has no workers, in which the library runs. Any newer one has them.');
 else if (typeof WebAssembly !== 'object') fail('This browser has no WebAssembly, in which the library runs. Any newer one has it.');
 else if (location.protocol === 'file:') fail('A browser loads no module from a file. Start a server in this folder, as python3 -m http.server, and open its address.');
