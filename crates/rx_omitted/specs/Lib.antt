@@ -1,0 +1,4 @@
+pub mod Imports
+pub mod Named
+pub mod Omitted
+pub mod Claims
