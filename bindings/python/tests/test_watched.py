@@ -1,6 +1,9 @@
 """An engine that remembers where what is open was made."""
+import ctypes
+import json
 import sys
 import unittest
+from unittest import mock
 
 from cellarcliff import audit, rx
 from cellarcliff.rx import operators as ops
@@ -105,6 +108,20 @@ class WatchedEngines(unittest.TestCase):
         subscription, resource = self.engine.open_now()
         self.assertTrue(self.engine.history().startswith('[["open","root","pass"],["accept",0'), self.engine.history())
         self.assertEqual((subscription.node, resource.node), (0, 0))
+
+    @unittest.skipIf(is_model(), "the model has no dump of an engine")
+    def test_an_item_that_comes_while_a_history_is_asked_for_takes_nothing_away(self):
+        source, made, items = Subject(), ctypes.create_string_buffer, [0]
+        source.subscribe()
+
+        def beside(size):  # another thread's item, behind the question how long the history is
+            if items[0] < 9:
+                items[0] += 1
+                source.on_next(0)
+            return made(size)
+        with mock.patch.object(ctypes, "create_string_buffer", beside):
+            history = self.engine.history()
+        self.assertEqual(json.loads(history), [["open", "root", "leaf"]] + 9 * [["item", 0, 0]])
 
     @unittest.skipIf(is_model(), "the model makes no checkpoint")
     def test_a_history_that_is_cut_is_none(self):

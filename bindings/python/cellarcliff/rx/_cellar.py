@@ -17,7 +17,7 @@ LEAF, PASS, FLAT, SWITCH, UNTIL, SHARED, PUBLISHED = range(7)
 WISHES, LANE_OF_NODE, OF_PROJECTIONS = 1, 2, 4
 #: Kinds of effects.
 E_NEXT, E_PROJECT, E_COMPLETED, E_FAILED, E_GONE, E_RELEASE, E_PUT, E_MERGED = range(8)
-NOTHING_KEPT, NO_MEMORY, FULL, GONE, NOTHING_OWED, NO_HUB, HUB_ORDER, CONNECTED, NOT_CONNECTED = 1, 4, 16, 17, 20, 22, 23, 24, 25
+NOTHING_KEPT, NO_MEMORY, SMALL, CUT, FULL, GONE, NOTHING_OWED, NO_HUB, HUB_ORDER, CONNECTED, NOT_CONNECTED = 1, 4, 7, 8, 16, 17, 20, 22, 23, 24, 25
 UNKNOWN_HUB = 2**64 - 1
 #: Of a stack; of an answer; of what is handed out: user, value, by, and the kind below whether it carries the value. All in words.
 DEPTH, BEGUN = 1, 2
@@ -106,12 +106,13 @@ class Cellar:
 
     def dump(self) -> Tuple[int, bytes]:
         """The status, and the history as a dump."""
-        told = c_uint64()
+        told, status = c_uint64(), SMALL
         with self.lock:
-            self._library.cellar_dump(self._at, addressof(told), 0, addressof(told))
-            buffer, size = ctypes.create_string_buffer(told.value), told.value
-            status = self._library.cellar_dump(self._at, addressof(buffer), size, addressof(told))
-        return status, buffer.raw
+            while status == SMALL:  # at first, and where another thread's event came between: the extension knows no lock but the interpreter's
+                size = told.value
+                buffer = ctypes.create_string_buffer(size)
+                status = self._library.cellar_dump(self._at, addressof(buffer), size, addressof(told))
+        return status, buffer.raw[:told.value]
 
     def finish(self) -> int:
         with self.lock:

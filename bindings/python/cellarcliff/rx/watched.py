@@ -21,7 +21,7 @@ import weakref
 from typing import Any, Callable, Dict, FrozenSet, List, NamedTuple, Optional
 
 from .._refused import Refused
-from ._cellar import Lent
+from ._cellar import CUT, Lent
 from ._crossing import IS_EXTENSION
 from ._engine import At, Engine
 
@@ -122,6 +122,8 @@ class Watched(Engine):
         """The history as a dump, which audit.audit() judges and audit.picture() draws: `node` of what was made is the place of an
         event in it. None where a checkpoint took events away."""
         status, found = (Lent(self.core) if IS_EXTENSION else self.core.calls).dump()
+        if status not in (0, CUT):
+            raise MemoryError
         return None if status else bytes(found).decode()
 
     # what is remembered
