@@ -10,6 +10,9 @@ import textwrap
 import unittest
 from importlib import util
 
+from cellarcliff import audit
+from cellarcliff.watch.hubs import without_unused_hubs
+
 HERE = pathlib.Path(__file__).resolve().parent
 LEAKS = HERE.parent / "examples/leaks"
 
@@ -218,6 +221,36 @@ class Watching(unittest.TestCase):
             found = json.loads(file.read_text())
         self.assertEqual(found["dump"][0], ["open", "root", "switch"])
         self.assertIn("Disposable dashboard.py:16", found["names"].values())
+
+    def test_a_dump_of_a_share_has_its_own_hub_alone(self):
+        with tempfile.TemporaryDirectory() as folder:
+            file = pathlib.Path(folder) / "history.json"
+            said = of_text("""
+                import rx
+                from rx import operators as ops
+                from rx.subject import Subject
+                source = Subject()
+                source.pipe(ops.publish()).subscribe()
+                source.pipe(ops.share()).subscribe()
+                source.on_next(1)
+                """, "--dump", file)
+            found = json.loads(file.read_text())
+        self.assertIn("the history is lawful", said.stderr)
+        self.assertEqual(audit.audit(found["dump"]).word, "lawful")
+        self.assertEqual(found, {"dump": [["hub", "auto"], ["hub", "manual"], ["open", "root", "sub", 1], ["open", "root", "sub", 0], ["connect", 0],
+                                          ["open", "source", 4, "leaf"], ["item", 5, 0]],
+                                 "names": {"2": "program.py:6", "3": "program.py:7"}})
+
+
+class Hubs(unittest.TestCase):
+    def test_hubs_that_nothing_names_are_left_out_and_the_others_counted_anew(self):
+        whole = [["hub", "auto"], ["hub", "manual"], ["hub", "auto"], ["open", "root", "sub", 2], ["connect", 2], ["open", "source", 4, "pass"], ["accept", 5, 1],
+                 ["open", "source", 5, "leaf"], ["lease", 6], ["use", 6], ["item", 7, 4], ["hub", "manual"], ["end", 7, "error", 3], ["return", 8], ["take", 6]]
+        self.assertEqual(without_unused_hubs({"dump": whole, "names": {"5": "mapped", "7": "prices", "15": "opened meanwhile"}}), {
+            "dump": [["hub", "auto"], ["open", "root", "sub", 0], ["connect", 0], ["open", "source", 2, "pass"], ["accept", 3, 1], ["open", "source", 3, "leaf"],
+                     ["lease", 4], ["use", 4], ["item", 5, 4], ["end", 5, "error", 3], ["return", 6], ["take", 4]],
+            "names": {"3": "mapped", "5": "prices"}})
+        self.assertEqual(without_unused_hubs({"dump": [], "names": {}}), {"dump": [], "names": {}})
 
 
 if __name__ == "__main__":

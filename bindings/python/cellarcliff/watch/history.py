@@ -25,6 +25,7 @@ from typing import Any, Callable, Dict, List, Optional, Tuple, Union
 from .._refused import Refused
 from ..rx import _cellar as c
 from ..rx.watched import Place, here
+from .hubs import without_unused_hubs
 from .recorder import GIVE_BACK, REMOVE, Recorder
 
 PLACES = {"root": c.ROOT, "source": c.SOURCE, "inner": c.INNER, "notifier": c.NOTIFIER}
@@ -184,7 +185,7 @@ class History:
     def named(self) -> Dict[str, Any]:
         """The history with names, for `rxbook picture`: those given, and the lines of what is open without one."""
         lines = {str(it.key[1]): f"{it.what} {os.path.basename(it.place.file)}:{it.place.line}" for it in self.open_now() if it.place}
-        return {"dump": json.loads(self.dump()), "names": {**lines, **self._names}}
+        return without_unused_hubs({"dump": json.loads(self.dump()), "names": {**lines, **self._names}})
 
     # how a call is made
 

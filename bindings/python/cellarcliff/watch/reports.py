@@ -9,6 +9,7 @@ import time
 from typing import Any, Dict, List, NamedTuple, Optional, Sequence, Tuple
 
 from ..rx.watched import Made, Place, Watched
+from .hubs import without_unused_hubs
 
 #: What belongs together: what it is, where its factory stands, and the line that subscribed.
 Group = Tuple[str, str, Optional[Place], Optional[Place]]
@@ -130,7 +131,7 @@ class Reports:
                 (n for n, it in enumerate(events) if it[0] == "accept" and it[1] == made.node), made.node)
             if place is not None:
                 names[str(number)] = f"{label}{os.path.basename(place.file)}:{place.line}"
-        return {"dump": events, "names": names}
+        return without_unused_hubs({"dump": events, "names": names})
 
 
 def verdict(history: str) -> str:
