@@ -121,6 +121,18 @@ const TESTS = {
     refused(history, 'Gone', () => history.item(source));
     isEmpty(history);
   },
+  'hubs that nobody shares are not in the history with names'(history) {
+    const auto = history.hub('auto'), manual = history.hub('manual'), first = history.opened(['sub', manual], 'root', null, 'first');
+    history.connected(manual);
+    history.opened(['sub', auto], 'root', null, 'second');
+    history.failed(history.opened('leaf', 'source', manual.connection));
+    assert.deepEqual(first.isOpen, false);
+    assert.deepEqual(JSON.parse(history.dumpNamed()), {
+      dump: [['hub', 'auto'], ['hub', 'manual'], ['open', 'root', 'sub', 1], ['connect', 1], ['open', 'root', 'sub', 0], ['connect', 0], ['open', 'source', 3, 'leaf'],
+        ['end', 6, 'error', 0], ['end', 3, 'error', 0], ['end', 2, 'error', 0]],
+      names: { 2: 'first', 4: 'second' },
+    });
+  },
   'many that close at once'(history) {
     const view = history.opened('flat'), routes = history.opened('leaf', 'source', view);
     for (let i = 0; i < 100; i++) {

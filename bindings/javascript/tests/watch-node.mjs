@@ -99,6 +99,10 @@ check('what grows below a subscription', /^ {2}GROWS what stands below these \(n
 check('the status of the program', watched('status.mjs', "import 'rxjs';\nprocess.exit(7);\n").status === 7, 'another');
 const dumped = watched('dashboard.mjs', readFileSync(join(leaks, 'dashboard.mjs'), 'utf8'), { CELLARCLIFF_DUMP: 'dump.json' });
 check('the history with names', JSON.parse(readFileSync(join(room, 'dump.json'), 'utf8')).names[0].startsWith('dashboard.mjs:'), dumped.stderr);
+watched('share.mjs', "import { NEVER, share } from 'rxjs';\nNEVER.subscribe();\nNEVER.pipe(share()).subscribe();\n", { CELLARCLIFF_DUMP: 'share.json' });
+const shared = readFileSync(join(room, 'share.json'), 'utf8');
+check('the hub of a share alone', shared === '{"dump":[["open","root","leaf"],["hub","auto"],["open","root","sub",1],["connect",1],["open","source",3,"leaf"]],' +
+  '"names":{"0":"share.mjs:2","2":"share.mjs:3"}}\n', shared);
 const cut = watched('cut.mjs', "import { Subject } from 'rxjs';\nconst s = new Subject();\ns.subscribe();\nfor (let i = 0; i < 70000; i++) s.next(i);\n");
 check('a history that is cut', cut.stderr.includes('made a checkpoint'), cut.stderr);
 rmSync(room, { recursive: true });

@@ -5,6 +5,7 @@
 // end of what mirrors a source, the engine writes down by itself. A resource that is held is lent out until `released`, so that the history
 // says it is held for as long as the program has not released it. An item has the value 0, an error the code 0.
 import { relative } from 'node:path';
+import { withoutUnusedHubs } from './hubs.mjs';
 import { Recorder } from './recorder.mjs';
 import { placeOf } from '../engine/tracing.mjs';
 
@@ -128,7 +129,7 @@ export class History {
       const place = placeOf(it.where);
       if (it.name === undefined && place !== null) names[it.key.place] = `${it.what} ${place.file.split('/').pop()}:${place.line}`;
     }
-    return `{"dump":${this.dump()},"names":${JSON.stringify(names)}}`;
+    return withoutUnusedHubs(this.dump(), names);
   }
   #names = {};
 

@@ -1,5 +1,6 @@
 // What a report says: what is open, by the lines that made it, and how that grew.
 import { relative } from 'node:path';
+import { withoutUnusedHubs } from './hubs.mjs';
 
 const began = Date.now(), counted = new Map(), below = [];
 let reports = 0;
@@ -59,5 +60,5 @@ export function named(history, open) {
     if (it.what === 'subscription') names[it.node] = label;
     else if (events[it.node]?.[0] === 'accept') names[it.node] = `${it.what} ${label}`;
   }
-  return `{"dump":${text},"names":${JSON.stringify(names)}}`;
+  return withoutUnusedHubs(text, names);
 }
