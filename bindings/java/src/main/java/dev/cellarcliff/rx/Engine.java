@@ -9,6 +9,7 @@ import java.nio.ByteBuffer;
 import java.nio.charset.StandardCharsets;
 import java.util.ArrayList;
 import java.util.List;
+import java.util.Map;
 
 /**
  * An engine of the library, and the objects for which its words stand. A command is made under the lock, and what it came to is read there;
@@ -721,9 +722,15 @@ final class Engine {
     }
 
     /** The history with its names; null where it is not whole. */
-    synchronized String history() {
-        byte[] dump = history == null ? null : Native.dump(desk);
-        return dump == null ? null : history.with(new String(dump, StandardCharsets.US_ASCII));
+    String history() {
+        if (history == null) { return null; }
+        byte[] dump;
+        Map<Long, String> names;
+        synchronized (this) {
+            dump = Native.dump(desk);
+            names = history.names();
+        }
+        return dump == null ? null : History.with(names, new String(dump, StandardCharsets.US_ASCII));
     }
 
     /** What is open: nodes, resources that are held, resources that are still to be released, effects; then trees and values kept here. */

@@ -6,7 +6,11 @@ import java.nio.file.Files;
 import java.nio.file.Path;
 import java.nio.file.StandardCopyOption;
 import java.util.Map;
+import java.util.NavigableMap;
+import java.util.StringJoiner;
 import java.util.TreeMap;
+import java.util.regex.Matcher;
+import java.util.regex.Pattern;
 
 /**
  * What the engine writes down: what was opened, made, told and released, and where in the program it was subscribed to. `rxbook audit` judges
@@ -16,6 +20,9 @@ public final class History {
     /** So many events are kept; a program that has more has no whole history. */
     private static final int MOST = 1 << 22;
     private static boolean isKept;
+    private static final Pattern EVENT = Pattern.compile("\\[[^\\[\\]]+\\]");
+    /** The place of another event stands behind a word; behind "error" it is a code. */
+    private static final Pattern PLACE = Pattern.compile("(\"(?!error)\\w+\",)(\\d+)");
 
     /** Where what is made was subscribed to, by the place of its event. Under the engine's lock. */
     private final Map<Long, String> names = new TreeMap<>();
@@ -86,14 +93,39 @@ public final class History {
 
     void name(long number, String what) { names.put(number, what); }
 
-    /** The dump with the names of what it has. */
-    String with(String dump) {
-        StringBuilder all = new StringBuilder("{\"dump\":").append(dump).append(",\"names\":{");
-        String comma = "";
-        for (Map.Entry<Long, String> each : names.entrySet()) {
-            all.append(comma).append('"').append(each.getKey()).append("\":\"").append(each.getValue().replaceAll("[\"\\\\\\p{Cntrl}]", "?")).append('"');
-            comma = ",";
+    /** Under the engine's lock. */
+    Map<Long, String> names() { return new TreeMap<>(names); }
+
+    /**
+     * The dump with the names of what it has, without the hubs that nothing in it names, and the places counted anew: at its first share an
+     * engine makes all that it has, 1,024, each of them an event. The audit judges both alike: no event is forced there, and no rule looks at these.
+     */
+    static String with(Map<Long, String> names, String dump) {
+        NavigableMap<Long, Long> unused = unusedHubs(dump);
+        StringJoiner events = new StringJoiner(",", "{\"dump\":[", "],\"names\":{"), named = new StringJoiner(",", "", "}}");
+        long place = 0;
+        for (Matcher it = EVENT.matcher(dump); it.find(); place++) {
+            if (unused.containsKey(place)) { continue; }
+            events.add(PLACE.matcher(it.group()).replaceAll(found -> found.group(1) + anew(Long.parseLong(found.group(2)), unused)));
         }
-        return all.append("}}").toString();
+        names.forEach((at, name) -> named.add("\"" + anew(at, unused) + "\":\"" + name.replaceAll("[\"\\\\\\p{Cntrl}]", "?") + '"'));
+        return events.toString() + named;
+    }
+
+    /** The places of hubs that no event names, each with how many there are up to it. */
+    private static NavigableMap<Long, Long> unusedHubs(String dump) {
+        NavigableMap<Long, Long> found = new TreeMap<>();
+        long place = 0, many = 0;
+        for (Matcher it = EVENT.matcher(dump); it.find(); place++) {
+            if (it.group().startsWith("[\"hub\"")) { found.put(place, 0L); }
+        }
+        for (Matcher it = PLACE.matcher(dump); it.find();) { found.remove(Long.valueOf(it.group(2))); }
+        for (Map.Entry<Long, Long> each : found.entrySet()) { each.setValue(++many); }
+        return found;
+    }
+
+    private static long anew(long place, NavigableMap<Long, Long> unused) {
+        Map.Entry<Long, Long> last = unused.floorEntry(place);
+        return last == null ? place : place - last.getValue();
     }
 }

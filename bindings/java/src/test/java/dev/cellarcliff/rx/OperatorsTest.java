@@ -189,6 +189,8 @@ class OperatorsTest {
         int line = new Throwable().getStackTrace()[0].getLineNumber() - 1;
         String text = History.text();
         same(true, text.startsWith("{\"dump\":[[") && text.contains("\"resource OperatorsTest.java:" + line + '"') && text.contains("\"OperatorsTest.java:" + line + '"'));
+        same(true, text.contains("[[\"hub\",\"auto\"],[\"open\",\"root\",\"sub\",0],[\"connect\",0],[\"open\",\"source\",2,"));
+        same(2, text.split("hub").length);
         d.dispose();
         same("[0, 0, 0, 0, 0, 0]", java.util.Arrays.toString(kept.counts()));
         log.clear();
