@@ -12,6 +12,7 @@ from importlib import util
 
 from cellarcliff import audit
 from cellarcliff.watch.hubs import without_unused_hubs
+from tests.test_watch_pytest import environment
 
 HERE = pathlib.Path(__file__).resolve().parent
 LEAKS = HERE.parent / "examples/leaks"
@@ -54,7 +55,8 @@ CLEAN = {
 
 
 def watched(*words, **more):
-    return subprocess.run([sys.executable, "-B", "-m", "cellarcliff.watch", *map(str, words)], capture_output=True, text=True, timeout=60, **more)
+    return subprocess.run([sys.executable, "-B", "-m", "cellarcliff.watch", *map(str, words)], capture_output=True, text=True, timeout=60,
+                          env=environment(), **more)
 
 
 def of_text(text, *words):

@@ -9,8 +9,10 @@ import textwrap
 import unittest
 from importlib import metadata, util
 
+import cellarcliff
 from tests.kits import is_model
 
+PACKAGE = str(pathlib.Path(cellarcliff.__file__).resolve().parents[1])
 PLUGIN = "cellarcliff.watch.pytest_plugin"
 HEAD = "import rx\nfrom rx import operators as ops\nfrom rx.disposable import Disposable\nfrom rx.subject import Subject\nimport pytest\nkept = Subject()\n"
 
@@ -24,9 +26,9 @@ def plugins():
 
 
 def environment():
-    """Of a process that finds the tests, over the model."""
+    """Of a process that finds this package; over the model, the tests."""
     paths = [str(pathlib.Path(__file__).resolve().parents[1])] if is_model() else []
-    return {**os.environ, "PYTHONPATH": os.pathsep.join([*paths, *filter(None, [os.environ.get("PYTHONPATH")])])}
+    return {**os.environ, "PYTHONPATH": os.pathsep.join([*paths, *filter(None, [os.environ.get("PYTHONPATH")]), PACKAGE])}
 
 
 @unittest.skipUnless(util.find_spec("pytest"), "pytest is not installed")
