@@ -1,5 +1,5 @@
 -- Numbers and labels are made of plain characters, whatever the history is.
-use Rattle.rx_svg.proofs.Common.{◌≡◌, ℕ, ◌<◌, Bool, true, false, List, [], ◌∷◌, ◌++◌, ℤ, codes, flat_map, decimal, refl, ◌∙◌, arith, ◌==◌, if◌then◌else◌}
+use Rattle.rx_svg.proofs.Common.{◌≡◌, ℕ, ◌<◌, Bool, true, false, List, [], ◌∷◌, ◌++◌, ℤ, codes, decimal, refl, ◌∙◌, arith, ◌==◌, if◌then◌else◌}
 use Rattle.rx_svg.proofs.Common.{and_from, Note, Event, event_label, said_label, is_plain_character, is_plain}
 use Rattle.std.proofs.Common.{zero, suc, ◌/◌, ◌%◌, rules}
 use Rattle.std.specs.Fmt.{digits, digits_onto, digit_glyph, signed_decimal}
@@ -32,10 +32,6 @@ signed_is_plain x0 = search (rules, decimal_is_plain)
 
 pub plain_append : (a b : List ℕ) → is_plain a ≡ true → is_plain b ≡ true → is_plain (a ++ b) ≡ true
 plain_append a b p q = list_all-append is_plain_character a b ∙ and_from _ _ p q
-
-pub plain_flat_map : {X : Type 0} (f : X → List ℕ) → ((x : X) → is_plain (f x) ≡ true) → (xs : List X) → is_plain (flat_map f xs) ≡ true
-plain_flat_map f each [] = refl
-plain_flat_map f each (x ∷ xs) = plain_append (f x) (flat_map f xs) (each x) (plain_flat_map f each xs)
 
 -- labels ------------------------------------------------------------------------------------------
 

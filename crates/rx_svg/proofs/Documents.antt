@@ -19,12 +19,12 @@ use Rattle.rx_svg.proofs.Legends.{legend_is_content}
 lawful_is_plain : (live held waiting : ℕ) → is_plain (lawful_text live held waiting) ≡ true
 unfolding lawful_text text_of
 lawful_is_plain live held waiting =
-    search (rules, parts_are_plain, words, codes, number)
+    search (rules, parts_are_plain)
 
 unlawful_is_plain : (place : ℕ) → is_plain (unlawful_text place) ≡ true
 unfolding unlawful_text text_of
 unlawful_is_plain place =
-    search (rules, parts_are_plain, words, codes, number)
+    search (rules, parts_are_plain)
 
 unsettled_is_plain : is_plain unsettled_text ≡ true
 unfolding unsettled_text
@@ -36,7 +36,7 @@ verdict_is_plain x0 = search (rules, lawful_is_plain, unlawful_is_plain, unsettl
 shares_is_plain : (d : Drawing) (end : ℕ) → is_plain (shares_text d end) ≡ true
 unfolding shares_text text_of
 shares_is_plain d end =
-    search (rules, parts_are_plain, number, words, codes)
+    search (rules, parts_are_plain)
 
 count_is_plain : (n : ℕ) (ending : List ℕ) → is_plain ending ≡ true → is_plain (count_text n ending) ≡ true
 unfolding count_text text_of
@@ -64,7 +64,7 @@ below_is_content class y text of_class plain =
 
 verdict_is_content : (height : ℕ) (verdict : Verdict) → IsContent (verdict_line height verdict)
 unfolding verdict_line
-verdict_is_content height verdict = search (rules, below_is_content, codes, verdict_is_plain)
+verdict_is_content height verdict = search (rules, below_is_content, verdict_is_plain)
 
 unreleased_are_content : (height n : ℕ) → IsContent (unreleased_line height n)
 unfolding unreleased_line
@@ -72,7 +72,7 @@ unreleased_are_content height n = below_is_content _ _ _ (class_is_plain n) (unr
 
 shares_are_content : (d : Drawing) (end height : ℕ) → IsContent (shares_line d end height)
 unfolding shares_line
-shares_are_content d end height = search (rules, below_is_content, codes, shares_is_plain)
+shares_are_content d end height = search (rules, below_is_content, shares_is_plain)
 
 under_is_content : (d : Drawing) (end height : ℕ) (verdict : Verdict) → IsContent (under_text d end height verdict)
 unfolding under_text

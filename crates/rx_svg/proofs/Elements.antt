@@ -163,11 +163,11 @@ marble_is_content x y at to note =
 pub column_is_content : (x height place : ℕ) (event : Event) → IsContent (column_text x height place event)
 unfolding column_text column_front text_of
 column_is_content x height place event =
-    let drawn : List Part = words (codes "M") ∷ number x ∷ words (codes " 20m-10 0h20v") ∷ number height ∷ words (codes "h-20z") ∷ [] in
+    let drawn : List Part = words (codes "M") ∷ number x ∷ words (codes " 20m-11 0h22v") ∷ number height ∷ words (codes "h-22z") ∷ [] in
     let told : List Part = number place ∷ words (codes ":") ∷ words (event_label event) ∷ [] in
     let front : List Part =
-    words (codes "<path class=\"place\" d=\"M") ∷ number x ∷ words (codes " 20m-10 0h20v") ∷ number height
-    ∷ words (codes "h-20z\"><title>") ∷ number place ∷ words (codes ":") ∷ [] in
+    words (codes "<path class=\"place\" d=\"M") ∷ number x ∷ words (codes " 20m-11 0h22v") ∷ number height
+    ∷ words (codes "h-22z\"><title>") ∷ number place ∷ words (codes ":") ∷ [] in
     subst IsContent (between front (words (codes "</title></path>\n") ∷ []) (event_label event))
     (path_then (codes "place") drawn told (words (codes "\n") ∷ []) refl refl (and_from _ _ (event_is_plain event) refl) newline)
 
@@ -181,5 +181,5 @@ axis_is_content x place =
 pub grid_is_content : (x y to : ℕ) → IsContent (grid_text x y to)
 unfolding grid_text text_of
 grid_is_content x y to =
-    let drawn : List Part = words (codes "M") ∷ number x ∷ words (codes " ") ∷ number y ∷ words (codes "m-10 0H") ∷ number to ∷ [] in
+    let drawn : List Part = words (codes "M") ∷ number x ∷ words (codes " ") ∷ number y ∷ words (codes "m-11 0H") ∷ number to ∷ [] in
     sign_then (codes "grid") drawn refl refl

@@ -1,6 +1,6 @@
 -- The legend is content, wherever it stands.
 use Rattle.rx_svg.proofs.Common.{◌≡◌, ℕ, true, List, [], ◌∷◌, ◌++◌, codes, refl, ap, ◌∙◌, append_assoc, and_from, and_parts, words}
-use Rattle.rx_svg.proofs.Common.{number, text_of, is_plain, IsContent, nothing}
+use Rattle.rx_svg.proofs.Common.{number, text_of, is_plain, IsContent}
 use Rattle.rx_svg.specs.Stroke.{bar_shape, cross_shape, strokes_shape, check_shape, tick_shape, arrow_shape, dot_shape, square_shape, ring_shape}
 use Rattle.rx_svg.specs.Stroke.{diamond_shape, struck_shape, flag_sample}
 use Rattle.rx_svg.specs.Stroke.{sign_text, meaning_text, key_text, line_sample, bar_sample, low_sample}

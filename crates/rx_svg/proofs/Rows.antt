@@ -31,10 +31,10 @@ unfolding label_element label_front text_of
 label_is_content class x y n name made plain =
     let front : List Part =
     words (codes "<text class=\"") ∷ words class ∷ words (codes "\" x=\"") ∷ number x ∷ words (codes "\" y=\"") ∷ number y
-    ∷ words (codes "\" dx=\"-10\" dy=\"-22\">") ∷ [] in
+    ∷ words (codes "\" dx=\"-11\" dy=\"-22\">") ∷ [] in
     let attributes : List Valued =
     valued (codes "class") (words class ∷ []) ∷ valued (codes "x") (number x ∷ []) ∷ valued (codes "y") (number y ∷ [])
-    ∷ valued (codes "dx") (words (codes "-10") ∷ []) ∷ valued (codes "dy") (words (codes "-22") ∷ []) ∷ [] in
+    ∷ valued (codes "dx") (words (codes "-11") ∷ []) ∷ valued (codes "dy") (words (codes "-22") ∷ []) ∷ [] in
     subst IsContent (between front (words (codes "</text>\n") ∷ []) (called_text n name made))
     (text_around attributes (words (called_text n name made) ∷ []) (and_from _ _ (and_from _ _ plain refl) refl) refl
     (content_then (called_text n name made) [] (called_is_content n name made) nothing))

@@ -28,14 +28,15 @@ height_of d end = 4 + 44 * tracks_shown d end
 abbrev pub style_text : List ℕ
 style_text =
     codes "<style>svg{background:#fff}text{font:12px monospace;fill:#222;pointer-events:none}"
-    ++ codes ".axis,.value{font-family:sans-serif;text-anchor:middle}"
+    ++ codes ".axis,.value{font-family:sans-serif;text-anchor:middle}.value{letter-spacing:-.4px}"
+    ++ codes ".label{paint-order:stroke;stroke:#fff;stroke-width:3}"
     ++ codes "path{stroke:#222;stroke-width:2;fill:none}.place{stroke:none;pointer-events:all}"
-    ++ codes ".grid{stroke:#ddd;stroke-width:26;stroke-dasharray:1 19;pointer-events:none}.hub{stroke-dasharray:2 4}"
+    ++ codes ".grid{stroke:#ddd;stroke-width:26;stroke-dasharray:1 21;pointer-events:none}.hub{stroke-dasharray:2 4}"
     ++ codes ".held,.full{fill:#222}.waiting{fill:#fff;stroke-dasharray:3 3}.marble{fill:#fff}"
     ++ codes "path.unreleased{stroke:#b45309}text.unreleased,.held.unreleased,.arrow{fill:#b45309}"
     ++ codes ".tick{stroke:#fff}.broken{stroke-width:5;stroke-dasharray:9 5}"
     ++ codes "@media(prefers-color-scheme:dark){svg{background:#111}text{fill:#eee}path{stroke:#eee}"
-    ++ codes ".grid{stroke:#333}.held,.full{fill:#eee}.waiting,.marble{fill:#111}.tick{stroke:#111}"
+    ++ codes ".label{stroke:#111}.grid{stroke:#333}.held,.full{fill:#eee}.waiting,.marble{fill:#111}.tick{stroke:#111}"
     ++ codes "path.unreleased{stroke:#fbbf24}text.unreleased,.held.unreleased,.arrow{fill:#fbbf24}}</style>\n"
 
 unfoldable pub head_text : ℕ → ℕ → List ℕ
@@ -153,8 +154,8 @@ under_text d end height verdict =
 
 unfoldable pub tracks_text : Drawing → (ℕ → Option (List ℕ)) → ℕ → ℕ → Verdict → List ℕ
 tracks_text d names end height verdict =
-    flat_map (point_text d height) d.points.items ++ flat_map (row_text d names end) d.rows.items ++ flat_map (note_marble d) d.marbles.items
-    ++ flat_map (tick_text d) d.points.items ++ break_text d height verdict
+    flat_map (point_text d height) d.points.items ++ break_text d height verdict ++ flat_map (row_text d names end) d.rows.items
+    ++ flat_map (note_marble d) d.marbles.items ++ flat_map (tick_text d) d.points.items
 
 -- the document of a drawing of so many events, with the names of numbers
 unfoldable pub svg_text : Drawing → (ℕ → Option (List ℕ)) → ℕ → Verdict → List ℕ

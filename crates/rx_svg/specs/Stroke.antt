@@ -94,7 +94,7 @@ abbrev pub struck_shape : List ℕ
 struck_shape = codes "m-7 0l7 -7l7 7l-7 7zm1 6l12 -12"
 
 abbrev pub flag_shape : List ℕ
-flag_shape = codes "m-5 -11h10l-5 6z"
+flag_shape = codes "m-5 -15h10l-5 6z"
 
 -- a text beside a place
 unfoldable pub code_text : ℕ → ℕ → ℕ → List ℕ
@@ -173,8 +173,8 @@ marble_text x y at to note = marble_front x y to (marble_shape note) ++ said_lab
 -- the column of a place, so high
 unfoldable pub column_front : ℕ → ℕ → ℕ → List ℕ
 column_front x height place =
-    text_of (words (codes "<path class=\"place\" d=\"M") ∷ number x ∷ words (codes " 20m-10 0h20v") ∷ number height
-    ∷ words (codes "h-20z\"><title>") ∷ number place ∷ words (codes ":") ∷ [])
+    text_of (words (codes "<path class=\"place\" d=\"M") ∷ number x ∷ words (codes " 20m-11 0h22v") ∷ number height
+    ∷ words (codes "h-22z\"><title>") ∷ number place ∷ words (codes ":") ∷ [])
 
 unfoldable pub column_text : ℕ → ℕ → ℕ → Event → List ℕ
 column_text x height place event = column_front x height place ++ event_label event ++ codes "</title></path>\n"
@@ -187,7 +187,7 @@ axis_text x place =
 -- the grid of a track: a line on each side of a place
 unfoldable pub grid_text : ℕ → ℕ → ℕ → List ℕ
 grid_text x y to =
-    text_of (words (codes "<path class=\"grid\" d=\"M") ∷ number x ∷ words (codes " ") ∷ number y ∷ words (codes "m-10 0H") ∷ number to
+    text_of (words (codes "<path class=\"grid\" d=\"M") ∷ number x ∷ words (codes " ") ∷ number y ∷ words (codes "m-11 0H") ∷ number to
     ∷ words (codes "\"></path>\n") ∷ [])
 
 -- the line through all tracks at the place whose event may not stand there

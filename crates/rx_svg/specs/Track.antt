@@ -1,5 +1,5 @@
 -- What stands in the tracks of a picture.
-use Rattle.std.specs.Prelude.{ℕ, ℤ, ◌+◌, ◌*◌, Option, Bool, false, not, ◌&&◌, min, max, nat_lt, if◌then◌else◌, List, [], ◌∷◌, ◌++◌, codes, length}
+use Rattle.std.specs.Prelude.{ℕ, ℤ, ◌+◌, ◌*◌, ◌/◌, Option, Bool, false, not, ◌&&◌, min, max, nat_lt, if◌then◌else◌, List, [], ◌∷◌, ◌++◌, codes, length}
 use Rattle.std.specs.Prelude.{slice_get, slice_index_or}
 use Rattle.std.specs.Option.{option_map_or}
 use Rattle.std.specs.List.{fold}
@@ -26,7 +26,7 @@ use Rattle.rx_svg.specs.Stroke.{bar_shape, cross_shape, strokes_shape, check_sha
 
 -- a place, from the left
 abbrev pub x_of : Drawing → ℕ → ℕ
-x_of d place = 20 + 20 * min (slice_index_or d.columns.items place 0) 2000
+x_of d place = 20 + 22 * min (slice_index_or d.columns.items place 0) 2000
 
 -- the track of a number, from the top
 abbrev pub y_of : Drawing → ℕ → ℕ
@@ -65,7 +65,7 @@ label_class unreleased = if unreleased then codes "label unreleased" else codes 
 unfoldable pub label_front : List ℕ → ℕ → ℕ → List ℕ
 label_front class x y =
     text_of (words (codes "<text class=\"") ∷ words class ∷ words (codes "\" x=\"") ∷ number x ∷ words (codes "\" y=\"") ∷ number y
-    ∷ words (codes "\" dx=\"-10\" dy=\"-22\">") ∷ [])
+    ∷ words (codes "\" dx=\"-11\" dy=\"-22\">") ∷ [])
 
 unfoldable pub label_element : List ℕ → ℕ → ℕ → ℕ → Option (List ℕ) → Event → List ℕ
 label_element class x y n name made = label_front class x y ++ called_text n name made ++ codes "</text>\n"
@@ -168,10 +168,10 @@ note_marble d m = marble_text (x_of d m.place) (y_of d m.to) m.place m.to m.note
 
 -- the width ---------------------------------------------------------------------------------------
 
--- the room of a label: 8 for each of its characters, of up to 2,000
+-- the room of a label: 7.5 for each of its characters, of up to 2,000
 abbrev pub label_room : ℕ → Option (List ℕ) → Event → ℕ
 label_room n name (Lease r) = 0
-label_room n name made = 8 * min (length (called_text n name made)) 2000
+label_room n name made = 15 * min (length (called_text n name made)) 2000 / 2
 
 unfoldable pub label_end : Drawing → (ℕ → Option (List ℕ)) → Row → ℕ
 label_end d names row = x_of d row.number + label_room row.number (names row.number) row.made

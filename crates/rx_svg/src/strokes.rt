@@ -126,7 +126,7 @@ fn marble_shape(note: Note) -> &'static str
     match note {
         Note::Next(_) => "m-6 0a6 6 0 1 0 12 0a6 6 0 1 0 -12 0z",
         Note::Project(_) => "m-7 0l7 -7l7 7l-7 7z",
-        Note::End(_) => "m-5 -11h10l-5 6z",
+        Note::End(_) => "m-5 -15h10l-5 6z",
     }
 }
 
@@ -202,7 +202,7 @@ pub fn push_column(
     ensures { OnOk result (string_bytes text.new ≡ string_bytes text.old ++ column_text x height place event) }
 {
     put!(text;
-        "<path class=\"place\" d=\"M" [x] " 20m-10 0h20v" [height] "h-20z\"><title>" [place] ":"
+        "<path class=\"place\" d=\"M" [x] " 20m-11 0h22v" [height] "h-22z\"><title>" [place] ":"
     )?;
     push_event(text, event)?;
     text.push_str("</title></path>\n")
@@ -221,7 +221,7 @@ pub fn push_axis(text: &mut String, x: u64, place: u64) -> Result<(), AllocError
 pub fn push_grid(text: &mut String, x: u64, y: u64, to: u64) -> Result<(), AllocError>
     ensures { OnOk result (string_bytes text.new ≡ string_bytes text.old ++ grid_text x y to) }
 {
-    put!(text; "<path class=\"grid\" d=\"M" [x] " " [y] "m-10 0H" [to] "\"></path>\n")
+    put!(text; "<path class=\"grid\" d=\"M" [x] " " [y] "m-11 0H" [to] "\"></path>\n")
 }
 
 /// The line through all tracks at the place whose event may not stand there.

@@ -24,14 +24,15 @@ use std::alloc::{AllocError, Global};
 /// How the marks look, on a bright page and on a dark one.
 const STYLE: &str =
     "<style>svg{background:#fff}text{font:12px monospace;fill:#222;pointer-events:none}\
-    .axis,.value{font-family:sans-serif;text-anchor:middle}\
+    .axis,.value{font-family:sans-serif;text-anchor:middle}.value{letter-spacing:-.4px}\
+    .label{paint-order:stroke;stroke:#fff;stroke-width:3}\
     path{stroke:#222;stroke-width:2;fill:none}.place{stroke:none;pointer-events:all}\
-    .grid{stroke:#ddd;stroke-width:26;stroke-dasharray:1 19;pointer-events:none}.hub{stroke-dasharray:2 4}\
+    .grid{stroke:#ddd;stroke-width:26;stroke-dasharray:1 21;pointer-events:none}.hub{stroke-dasharray:2 4}\
     .held,.full{fill:#222}.waiting{fill:#fff;stroke-dasharray:3 3}.marble{fill:#fff}\
     path.unreleased{stroke:#b45309}text.unreleased,.held.unreleased,.arrow{fill:#b45309}\
     .tick{stroke:#fff}.broken{stroke-width:5;stroke-dasharray:9 5}\
     @media(prefers-color-scheme:dark){svg{background:#111}text{fill:#eee}path{stroke:#eee}\
-    .grid{stroke:#333}.held,.full{fill:#eee}.waiting,.marble{fill:#111}.tick{stroke:#111}\
+    .label{stroke:#111}.grid{stroke:#333}.held,.full{fill:#eee}.waiting,.marble{fill:#111}.tick{stroke:#111}\
     path.unreleased{stroke:#fbbf24}text.unreleased,.held.unreleased,.arrow{fill:#fbbf24}}</style>\n";
 
 /// How many tracks are shown, of so many events.
@@ -302,10 +303,10 @@ fn push_tracks(
         ++ tracks_text drawing.now (name_in_object (view names.entry.object.now)) end height verdict.now) }
 {
     push_points(text, drawing, height, drawing.points.as_slice())?;
+    push_break(text, drawing, height, verdict)?;
     push_rows(text, names, drawing, end, drawing.rows.as_slice())?;
     push_marbles(text, drawing, drawing.marbles.as_slice())?;
-    push_ticks(text, drawing, drawing.points.as_slice())?;
-    push_break(text, drawing, height, verdict)
+    push_ticks(text, drawing, drawing.points.as_slice())
 }
 
 /// The document of the drawing of so many events, with the verdict on them.

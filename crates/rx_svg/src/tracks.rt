@@ -30,9 +30,9 @@ pub fn value_at(table: &[usize], n: u64) -> usize
 /// Where the place stands, from the left.
 pub fn x_of(drawing: &Drawing, place: u64) -> u64
     ensures value { result ≡ x_of drawing.now place }
-    ensures few { result ≤ 40020 }
+    ensures few { result ≤ 44020 }
 {
-    20 + 20 * value_at(&drawing.columns, place).min(2000) as u64
+    20 + 22 * value_at(&drawing.columns, place).min(2000) as u64
 }
 
 /// Where the track of the number stands, from the top.
@@ -112,7 +112,7 @@ fn push_label(
     ensures { OnOk result (string_bytes text.new ≡ string_bytes text.old
         ++ label_element class.now x y n (name_in_object (view names.entry.object.now) n) made) }
 {
-    put!(text; "<text class=\"" class "\" x=\"" [x] "\" y=\"" [y] "\" dx=\"-10\" dy=\"-22\">")?;
+    put!(text; "<text class=\"" class "\" x=\"" [x] "\" y=\"" [y] "\" dx=\"-11\" dy=\"-22\">")?;
     push_called(text, names, n, made)?;
     text.push_str("</text>\n")
 }

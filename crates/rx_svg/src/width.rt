@@ -15,14 +15,14 @@ use std::alloc::AllocError;
 /// The room of a label.
 fn label_room(names: Names<'_>, n: u64, made: Event) -> Result<u64, AllocError>
     ensures value { IfOk result (λ room. room ≡ label_room n (name_in_object (view names.entry.object.now) n) made) }
-    ensures few { IfOk result (λ room. room ≤ 16000) }
+    ensures few { IfOk result (λ room. room ≤ 15000) }
 {
     match made {
         Event::Lease(_) => Ok(0),
         _ => {
             let mut label = String::new(names.alloc);
             push_called(&mut label, names, n, made)?;
-            Ok(8 * label.len().min(2000) as u64)
+            Ok(15 * label.len().min(2000) as u64 / 2)
         }
     }
 }
@@ -31,7 +31,7 @@ fn label_room(names: Names<'_>, n: u64, made: Event) -> Result<u64, AllocError>
 #[tactic(auto, unfolding(crate::specs::Track::label_end))]
 fn label_end(names: Names<'_>, drawing: &Drawing, row: Row) -> Result<u64, AllocError>
     ensures value { IfOk result (λ x. x ≡ label_end drawing.now (name_in_object (view names.entry.object.now)) row) }
-    ensures few { IfOk result (λ x. x ≤ 56020) }
+    ensures few { IfOk result (λ x. x ≤ 59020) }
 {
     let room = label_room(names, row.number, row.made)?;
     Ok(x_of(drawing, row.number) + room)
