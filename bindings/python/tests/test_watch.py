@@ -3,6 +3,7 @@ import json
 import os
 import pathlib
 import re
+import signal
 import subprocess
 import sys
 import tempfile
@@ -207,6 +208,19 @@ class Watching(unittest.TestCase):
         text = "import rx\nfrom rx.subject import Subject\nsource = Subject()\nsource.subscribe()\nfor it in range(70000): source.on_next(it)"
         self.assertIn("made a checkpoint", of_text(text).stderr)
         self.assertNotIn("made a checkpoint", of_text(text, "--whole").stderr)
+
+    @unittest.skipUnless(os.name == "posix", "TERM ends a process without a word elsewhere")
+    def test_a_program_that_term_ends_is_told_of(self):
+        with tempfile.TemporaryDirectory() as folder:
+            file = pathlib.Path(folder) / "history.json"
+            said = of_text("""
+                import os, rx, signal, threading
+                rx.never().subscribe()
+                threading.Timer(0.2, os.kill, (os.getpid(), signal.SIGTERM)).start()
+                while True: signal.pause()
+                """, "--dump", file)
+            self.assertEqual((said.returncode, len(self.rows(said))), (-signal.SIGTERM, 1), said.stderr)
+            self.assertEqual(json.loads(file.read_text()), {"dump": [["open", "root", "leaf"]], "names": {"0": "program.py:3"}})
 
     def test_a_picture_has_the_lines_as_names(self):
         with tempfile.TemporaryDirectory() as folder:

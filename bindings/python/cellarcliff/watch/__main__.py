@@ -9,7 +9,7 @@ that subscribed to it or made it: at its end, and whenever it gets the signal US
     --dump FILE     the history, where it is whole, with these lines as names, for `rxbook picture`
     --fail          the status is 3 where something was left open, if the program's own is 0
 
-What this package lacks is RxPY's own, where that is installed. A process that is killed, or ends by os._exit, tells nothing.
+What this package lacks is RxPY's own, where that is installed. A process that ends by KILL, or by os._exit, tells nothing.
 """
 from __future__ import annotations
 
@@ -19,6 +19,7 @@ import json
 import os
 import pathlib
 import runpy
+import signal
 import sys
 import threading
 import types
@@ -88,6 +89,24 @@ def run(words: Words) -> None:
     exec(compile(source, words.program, "exec"), main.__dict__)
 
 
+def at_term(tell: Any) -> None:
+    """Tells before TERM ends the process, which it does as if nothing had been told. Of a thread, since the main one may hold any lock."""
+    process = os.getpid()
+
+    def tell_and_end() -> None:
+        try:
+            if os.getpid() == process:  # and not one that was forked from it
+                tell()
+        finally:
+            os.kill(os.getpid(), signal.SIGTERM)
+
+    def heard(*_: Any) -> None:
+        signal.signal(signal.SIGTERM, signal.SIG_DFL)
+        threading.Thread(target=tell_and_end, name="cellarcliff.watch").start()
+    if signal.getsignal(signal.SIGTERM) is signal.SIG_DFL:
+        signal.signal(signal.SIGTERM, heard)
+
+
 def end() -> None:
     """Ends the program as the interpreter does: waits for its threads, so that pools end too, then calls what was registered for its exit."""
     threading._shutdown()  # type: ignore[attr-defined]
@@ -106,6 +125,7 @@ def main() -> None:
         left.extend(reports().engine.open_now())
         for what, file in words.files.items():
             write(what, file)
+    at_term(tell)
     at_end(tell)  # behind what the program registers itself, which may let go of something
     try:
         run(words)
