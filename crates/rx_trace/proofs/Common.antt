@@ -1,5 +1,5 @@
 -- The names that most proofs here cite, passed on from one place. Declares nothing.
-pub use Rattle.rx_event.proofs.Laws.Common.{◌≡◌, ◌∙◌, sym, ◌++◌, ap, refl, List, Some, None, [], ℕ, ◌∷◌, arith, subst, length, nothing_kept, map, ◌+◌, ◌-◌, ◌≤◌, ◌<◌}
+pub use Rattle.rx_event.proofs.Laws.Common.{◌≡◌, ◌∙◌, sym, ◌++◌, ap, refl, List, Some, None, [], ℕ, suc, ◌∷◌, arith, subst, length, nothing_kept, map, ◌+◌, ◌-◌, ◌≤◌, ◌<◌}
 pub use Rattle.rx_event.proofs.Laws.Common.{inl, inr, ◌⊎◌, ◌==◌, ◌||◌, ◌&&◌, Bool, true, false, not, cond, take, drop, filter, slice_get, Option, list_any, append-nil, append_assoc}
 pub use Rattle.rx_event.proofs.Laws.Common.{length-append, map-append, rules, none-some, false≢true, cases_Bool, eqb-true, eq-eqb, ne_eqb, ◌≢◌, or_false, and_false, list_any-append}
 pub use Rattle.rx_event.proofs.Laws.Common.{slice_get_within, Call, IsStepOf, IsLawful, MayFollow, IsForcedOn, stays, more, is_take_of, makes_resource, at}
@@ -38,7 +38,7 @@ pub use Rattle.rx_script.specs.Keys.{node_binding, res_binding, IsHeldKey}
 pub use Rattle.rx_script.specs.Progress.{Progress, begin, PerformsStep, executes, cancels, Advances, LeadsBySteps, not_begun, advanced, Ends}
 pub use Rattle.rx_script.specs.Stage.{Ware, Stage, start, ware_of, call_of, after}
 pub use Rattle.rx_script.proofs.Laws.{kept_length, shown_length, stored_untold, take_next, event_within, few_events, all_told, history_agrees, history_lawful}
-pub use Rattle.rx_script.proofs.Laws.{has_res_key-is_held, course_in_order}
+pub use Rattle.rx_script.proofs.Laws.{has_res_key-is_held, course_in_order, stays_on}
 pub use Rattle.rx_line.specs.Pieces.{member_text, note_text}
 unfoldable pub use Rattle.rx_line.specs.Pieces.{name_text}
 pub use Rattle.rx_trace.specs.declared.handed.HandedOut.{HandedOut}
@@ -46,5 +46,5 @@ pub use Rattle.rx_trace.specs.Told.{names_where, told_between, told_note, waits_
 unfoldable pub use Rattle.rx_trace.specs.Told.{name_by_number}
 pub use Rattle.rx_trace.specs.Line.{step_told, trace_line, closing_text}
 unfoldable pub use Rattle.rx_trace.specs.Line.{step_text, outcome_text}
-pub use Rattle.rx_trace.specs.Taken.{AreHandedOut, waits_by, told_in_code, HasToldAll, HasRunOut, TakesTold}
+pub use Rattle.rx_trace.specs.Taken.{AreHandedOut, Rise, Knows, waits_by, told_in_code, HasToldAll, HasRunOut, TakesTold}
 pub use Rattle.rx_trace.specs.Traced.{Traces, nothing_done, one_more, TracesTo, IsTraceOf}

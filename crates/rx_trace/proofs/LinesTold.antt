@@ -9,8 +9,8 @@ use Rattle.rx_trace.proofs.Common.{IsSound, StaysAt, HandsOutNone, IsHistoryOf, 
 use Rattle.rx_trace.proofs.Common.{kept_length, shown_length, stored_untold, all_told, node_binding, res_binding}
 use Rattle.rx_trace.proofs.Common.{name_text, member_text, names_where, told_note, resource_told, taken_by, waits_after}
 use Rattle.rx_trace.proofs.Common.{step_told, trace_line, step_text, outcome_text, Traces, nothing_done, one_more}
-use Rattle.rx_trace.proofs.Common.{HandedOut, AreHandedOut, waits_by, told_in_code, HasToldAll, TakesTold, HasRunOut}
-use Rattle.rx_trace.proofs.StepsGoOn.{HasGoneOn, performed_on}
+use Rattle.rx_trace.proofs.Common.{HandedOut, AreHandedOut, Rise, Knows, waits_by, told_in_code, HasToldAll, TakesTold, HasRunOut}
+use Rattle.rx_trace.proofs.StepsGoOn.{HasGoneOn, AreInOrder, performed_on, performed_in_order}
 use Rattle.rx_trace.proofs.TakenOne.{taken_is}
 
 -- what a step does
@@ -154,9 +154,9 @@ module _ {R : Type 0} (old mid new : Engine R) (before now : AgendaInCode) (s : 
     (k place : ℕ) (text longer : List ℕ) (sound : IsSound old) (all : HasToldAll old) (is_place : place ≡ length old.book.history)
     (f : Followed old before s answer mid now) (stays : StaysAt mid new) (told : HasToldAll new)
     (taken : mid.book.base.at_length ≤ place → (h : List Event) → AreHandedOut handed h → AreHandedOut handed' (h ++ drop place mid.book.history))
-    (written : mid.book.base.at_length ≤ place → longer ≡ text ++ (step_text k before.timeline.clock (step_of s).action ++ outcome_text answer place
+    (written : mid.book.base.at_length ≤ place → Rise (map node_binding mid.nodes) → longer ≡ text ++ (step_text k before.timeline.clock (step_of s).action ++ outcome_text answer place
     ++ told_in_code mid handed' place ++ codes "}\n")) where
-  module _ (h : List Event) (w : IsHistoryOf h old.tallies old.book) (known : AreHandedOut handed h) where
+  module _ (h : List Event) (w : IsHistoryOf h old.tallies old.book) (known : Knows handed (stage_of old h)) where
     abbrev to : (j : List Event)
         × PerformsStep (limited old.book.limit) (record { stage = stage_of old h; agenda = agenda_of before }) (step_of s).action answer
         (record { stage = stage_of mid j; agenda = f.left }) × IsHistoryOf j mid.tallies mid.book
@@ -173,10 +173,13 @@ module _ {R : Type 0} (old mid new : Engine R) (before now : AgendaInCode) (s : 
 
     then : AreHandedOut handed' to.0
     then = subst (AreHandedOut handed') (ap (λ n. h ++ drop n mid.book.history) here ∙ all_events old mid h to.0 w to.2 sound f.sound all f.given on)
-        (taken within h known)
+        (taken within h known.handed)
+
+    in_order : AreInOrder (stage_of mid to.0)
+    in_order = performed_in_order to.1 (record { rise = known.rise; within = known.within })
 
     line : longer ≡ text ++ trace_line k before.timeline.clock (step_of s).action answer (stage_of old h) (stage_of new to.0)
-    line = written within
+    line = written within in_order.rise
         ∙ ap (λ n. text ++ (step_text k before.timeline.clock (step_of s).action ++ outcome_text answer n ++ told_in_code mid handed' n ++ codes "}\n")) here
         ∙ ap (λ l. text ++ (step_text k before.timeline.clock (step_of s).action ++ outcome_text answer (length h) ++ l ++ codes "}\n"))
         (told_is old mid h to.0 w to.2 sound f.sound all f.given on handed' then)
@@ -185,13 +188,13 @@ module _ {R : Type 0} (old mid new : Engine R) (before now : AgendaInCode) (s : 
     done : (j : List Event) × PerformsStep (limited old.book.limit) (record { stage = stage_of old h; agenda = agenda_of before }) (step_of s).action answer
         (record { stage = stage_of new j; agenda = f.left })
         × (longer ≡ text ++ trace_line k before.timeline.clock (step_of s).action answer (stage_of old h) (stage_of new j))
-        × AreHandedOut handed' j × IsHistoryOf j new.tallies new.book
+        × Knows handed' (stage_of new j) × IsHistoryOf j new.tallies new.book
     done = (
       to.0,
       subst (λ t. PerformsStep (limited old.book.limit) (record { stage = stage_of old h; agenda = agenda_of before }) (step_of s).action answer
           (record { stage = t; agenda = f.left })) (sym (stays.stage to.0)) to.1,
       line,
-      then,
+      subst (Knows handed') (sym (stays.stage to.0)) (record { handed = then; rise = in_order.rise; within = in_order.within }),
       stays.history to.0 to.2,
     )
 
@@ -210,20 +213,12 @@ module _ {R : Type 0} (old mid new : Engine R) (before now : AgendaInCode) (s : 
 -- the steps so far -----------------------------------------------------------------------------------
 
 module _ {R : Type 0} where
-  pub stays_on : {a b c : Engine R} → StaysAt a b → StaysAt b c → StaysAt a c
-  stays_on s t = record {
-    history = λ h w. t.history h (s.history h w);
-    stage = λ h. t.stage h ∙ s.stage h;
-    sound = t.sound;
-    limit = t.limit ∙ s.limit;
-  }
-
   -- what a run has led to, with its lines
   abbrev pub HasTraced : ℕ → ℕ → Engine R → AgendaInCode → HandedOut → List Answer → List ℕ → Engine R → AgendaInCode → HandedOut → Type 0
-  HasTraced limit until first begun handed answers text e now t = (h : List Event) → IsHistoryOf h first.tallies first.book → AreHandedOut handed h
+  HasTraced limit until first begun handed answers text e now t = (h : List Event) → IsHistoryOf h first.tallies first.book → Knows handed (stage_of first h)
       → (j : List Event) × Traces (limited limit) until (record { stage = stage_of first h; agenda = agenda_of begun }) answers text
       (record { stage = stage_of e j; agenda = agenda_of now })
-      × AreHandedOut t j × IsHistoryOf j e.tallies e.book
+      × Knows t (stage_of e j) × IsHistoryOf j e.tallies e.book
 
   pub not_traced : (limit until : ℕ) (first : Engine R) (begun : AgendaInCode) (handed : HandedOut) (answers : List Answer) (text : List ℕ)
       → answers ≡ [] → text ≡ [] → HasTraced limit until first begun handed answers text first begun handed
@@ -274,7 +269,7 @@ module _ {R : Type 0} where
   pub has_ended : {limit : ℕ} (until : ℕ) (first e : Engine R) (begun now : AgendaInCode) (handed t : HandedOut) (answers : List Answer) (text : List ℕ)
       → HasTraced limit until first begun handed answers text e now t → next_step until (agenda_of now) ≡ None
       → (refused : Bool) → refused ≡ has_refused answers
-      → (h : List Event) → IsHistoryOf h first.tallies first.book → AreHandedOut handed h
+      → (h : List Event) → IsHistoryOf h first.tallies first.book → Knows handed (stage_of first h)
       → HasRunOut limit until (stage_of first h) (agenda_of begun) text refused e t
   has_ended until first e begun now handed t answers text led none refused strict = λ h w known.
-      let to = led h w known in (to.0, record { answers = answers; left = agenda_of now; traces = to.1; over = none }, to.2, to.3, strict)
+      let to = led h w known in (to.0, record { answers = answers; left = agenda_of now; traces = to.1; over = none }, to.2.handed, to.3, strict)

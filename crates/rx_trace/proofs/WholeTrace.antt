@@ -4,7 +4,7 @@ use Rattle.rx_trace.proofs.Common.{Progress, begin, LeadsBySteps, not_begun, adv
 use Rattle.rx_trace.proofs.Common.{nothing_kept}
 use Rattle.rx_trace.proofs.Common.{Traces, nothing_done, one_more, TracesTo, IsTraceOf, IsLawful, HandedOut, AreHandedOut, contains, nat_eq, is_left_in, names_where}
 use Rattle.rx_trace.proofs.Common.{name_text, member_text, codes, append_assoc, Binding, [], length, length-append, arith, notes, Engine, IsHistoryOf, IsSound, HasToldAll}
-use Rattle.rx_trace.proofs.Common.{all_told, moments}
+use Rattle.rx_trace.proofs.Common.{all_told, moments, Knows, stage_of}
 use Rattle.rx_script.specs.Running.{has_refused}
 use Rattle.rx_trace.proofs.TakenOne.{taken_is}
 
@@ -28,6 +28,13 @@ told_at_first e sound w =
     let given = sound.kept.given in
     let parts = length-append (notes w.front) (notes e.book.history) in
     let whole = ap length (all_told w sound.kept ∙ nothing_told) in omega arith
+
+pub known_at_first : {R : Type 0} (e : Engine R) (t : HandedOut) (stock : List Ware) → stage_of e [] ≡ start stock → AreHandedOut t [] → Knows t (stage_of e [])
+known_at_first e t stock begun handed = subst (Knows t) (sym begun) (record {
+  handed = handed;
+  rise = λ i j d le lt. absurd (omega arith);
+  within = λ i d lt. absurd (omega arith);
+})
 
 -- the line of the closing, behind a text
 pub closing_behind : (h : List Event) → IsLawful nothing_kept h → (t : HandedOut) → AreHandedOut t h → (resources : List Binding) (old a b new : List ℕ)

@@ -1,6 +1,7 @@
 -- A step that was taken, with its line, by the parts of a run in code. No clause of `trace` cites this module.
-use Rattle.std.specs.Prelude.{◌≡◌, ℕ, ◌<◌, ◌+◌, ◌++◌, ◌&&◌, Bool, List, codes, length, drop, map, nat_eq}
-use Rattle.std.specs.List.{filter_map, list_any}
+use Rattle.std.specs.Prelude.{◌≡◌, ℕ, ◌<◌, ◌≤◌, ◌+◌, ◌++◌, ◌&&◌, Bool, List, codes, length, drop, map, nat_eq}
+use Rattle.std.specs.List.{All, filter_map, list_any}
+use Rattle.std.specs.List.Sorted.{IsNonDecreasingBy}
 use Rattle.std.specs.HashSet.{contains}
 use Rattle.std.proofs.Math.Bool.{not}
 use Rattle.rx_event.specs.declared.event.Event.{Event}
@@ -11,6 +12,7 @@ use Rattle.rx_book.specs.State.{State}
 use Rattle.rx_agenda.specs.declared.agenda.Agenda.{Agenda as AgendaInCode}
 use Rattle.rx_agenda.specs.declared.answer.Answer.{Answer}
 use Rattle.rx_agenda.specs.Agenda.{Agenda, followed_by}
+use Rattle.rx_agenda.specs.Bindings.{Binding}
 use Rattle.rx_agenda.specs.Shown.{agenda_of, steps_to_come, size_left}
 use Rattle.rx_line.specs.Pieces.{name_text, member_text}
 use Rattle.rx_scenario.specs.declared.scenario.Step.{Step as StepInCode}
@@ -27,9 +29,19 @@ use Rattle.rx_script.specs.Stage.{Stage}
 use Rattle.rx_trace.specs.Line.{trace_line}
 use Rattle.rx_trace.specs.Traced.{TracesTo}
 
+-- the numbers that names stand for rise, as those of nodes do
+abbrev pub Rise : List Binding → Type 0
+Rise bindings = IsNonDecreasingBy (λ b. b.number) bindings
+
 -- just those resources were handed out by this history
 abbrev pub AreHandedOut : HandedOut → List Event → Type 0
 AreHandedOut t h = (r : ℕ) → contains nat_eq t.numbers r ≡ list_any (is_take_of r) h
+
+-- what a trace knows of the stage that it is at: what was handed out, and that its nodes are named in the order in which they were made
+pub record Knows (t : HandedOut) (s : Stage) : Type 0 where
+  pub handed : AreHandedOut t s.history
+  pub rise : Rise s.nodes
+  pub within : All (λ b. b.number ≤ length s.history) s.nodes
 
 -- the resource is neither held by the book nor handed out
 abbrev pub waits_by : State → HandedOut → ℕ → Bool
@@ -56,11 +68,11 @@ HasRunOut limit until stage agenda text refused e t = (j : List Event)
 pub record TakesTold {R : Type 0} (old : Engine R) (before : AgendaInCode) (handed : HandedOut) (text : List ℕ) (k : ℕ) (step : StepInCode)
     (answer : Answer) (new : Engine R) (now : AgendaInCode) (handed' : HandedOut) (longer : List ℕ) : Type 0 where
   pub left : Agenda
-  pub performs : (h : List Event) → IsHistoryOf h old.tallies old.book → AreHandedOut handed h
+  pub performs : (h : List Event) → IsHistoryOf h old.tallies old.book → Knows handed (stage_of old h)
       → (j : List Event) × PerformsStep (limited old.book.limit) (record { stage = stage_of old h; agenda = agenda_of before }) (step_of step).action answer
       (record { stage = stage_of new j; agenda = left })
       × (longer ≡ text ++ trace_line k before.timeline.clock (step_of step).action answer (stage_of old h) (stage_of new j))
-      × AreHandedOut handed' j × IsHistoryOf j new.tallies new.book
+      × Knows handed' (stage_of new j) × IsHistoryOf j new.tallies new.book
   pub follows : agenda_of now ≡ followed_by answer (list_of (step_of step).followers) left
   pub sound : IsSound new
   pub told : HasToldAll new

@@ -22,7 +22,8 @@
 //!   error comes only for its cause; `Read` and `Write` never come.
 //! - That the book is closed in every outcome is tested alone, and so is that `Memory` comes only where memory was
 //!   refused.
-//! - A name is looked for from the first on, so a line takes time with the number of names.
+//! - How long a trace takes is no clause: the name of a note's node is found by halves, since nodes are named in the order
+//!   in which they were made; the resources of a stock are gone through for each line.
 #![tactic(auto)]
 
 mod front;

@@ -11,7 +11,7 @@ ghost use Rattle.rx_script.specs.Engine.{IsSound, StaysAt};
 ghost use Rattle.rx_book.specs.State.{IsPromised};
 ghost use Rattle.rx_script.specs.Keys.{node_binding, res_binding, IsHeldKey};
 ghost use Rattle.rx_trace.specs.Told.{name_by_number, names_where, told_note, taken_by, resource_told};
-ghost use Rattle.rx_trace.specs.Taken.{AreHandedOut, waits_by, told_in_code};
+ghost use Rattle.rx_trace.specs.Taken.{AreHandedOut, Rise, waits_by, told_in_code};
 
 use crate::handed::HandedOut;
 use rx_agenda::Named;
@@ -56,16 +56,15 @@ fn quoted(alloc: Global, name: &str) -> Result<String, AllocError>
     format!(in alloc; "\"{name}\"")
 }
 
-// The name of the node of this number.
+// The name of the node of this number. Nodes are named in the order in which they were made, so that their numbers rise.
 fn node_name(nodes: &[Named<Key>], number: u64) -> &str
-    ensures { result.now ≡ name_by_number (map node_binding nodes.now) number }
+    ensures { Rise (map node_binding nodes.now) → result.now ≡ name_by_number (map node_binding nodes.now) number }
 {
-    for named in nodes {
-        if named.key.number == number {
-            return named.name.as_str();
-        }
+    let place = nodes.partition_point(|named| named.key.number < number);
+    match nodes.get(place) {
+        Some(named) if named.key.number == number => named.name.as_str(),
+        _ => "",
     }
-    ""
 }
 
 // The name of the resource of this number.
@@ -83,7 +82,7 @@ fn res_name(resources: &[Named<ResKey>], number: u64) -> &str
 // The notes that the book did not hand out yet, which it hands out.
 fn notes_told<R: Resource>(alloc: Global, engine: &mut Engine<R>) -> Result<Vec<String>, AllocError>
     requires sound { IsSound engine.old }
-    ensures told { IfOk result (λ v. map string_bytes v.items
+    ensures told { IfOk result (λ v. Rise (map node_binding engine.old.nodes) → map string_bytes v.items
         ≡ map (told_note (map node_binding engine.old.nodes)) (drop engine.old.book.given (notes engine.old.book.history))) }
     ensures book { OnOk result (engine.new.book ≡ record engine.old.book { given = length (notes engine.old.book.history) }) }
     ensures stays { OnOk result (StaysAt engine.old engine.new) }
@@ -225,7 +224,7 @@ pub fn tell<R: Resource>(
     from: u64,
 ) -> Result<(), AllocError>
     requires sound { IsSound engine.old }
-    ensures told { OnOk result (engine.old.book.base.at_length ≤ from
+    ensures told { OnOk result (engine.old.book.base.at_length ≤ from → Rise (map node_binding engine.old.nodes)
         → string_bytes text.new ≡ string_bytes text.old ++ told_in_code engine.old handed.new from) }
     ensures handed { OnOk result (engine.old.book.base.at_length ≤ from
         → (h : List Event) → AreHandedOut handed.old h → AreHandedOut handed.new (h ++ drop from engine.old.book.history)) }

@@ -6,7 +6,7 @@ ghost use Rattle.rx_agenda.specs.Shown.{agenda_of};
 ghost use Rattle.rx_scenario.specs.Scenario.{step_of};
 ghost use Rattle.rx_event.specs.declared.event.Event.{Event};
 ghost use Rattle.rx_script.specs.Engine.{IsSound, IsHistoryOf, stage_of};
-ghost use Rattle.rx_trace.specs.Taken.{AreHandedOut, HasToldAll, HasRunOut, TakesTold};
+ghost use Rattle.rx_trace.specs.Taken.{Knows, HasToldAll, HasRunOut, TakesTold};
 
 use crate::front::{push_front, push_outcome};
 use crate::handed::HandedOut;
@@ -54,7 +54,7 @@ fn trace_all<R: Resource>(
     requires told { HasToldAll engine.old }
     requires ends { until ≤ 1000000000000000 }
     requires clock { agenda.old.timeline.clock ≤ until }
-    ensures traces { IfOk result (λ r. (h : List Event) → IsHistoryOf h engine.old.tallies engine.old.book → AreHandedOut handed.old h
+    ensures traces { IfOk result (λ r. (h : List Event) → IsHistoryOf h engine.old.tallies engine.old.book → Knows handed.old (stage_of engine.old h)
         → HasRunOut engine.old.book.limit until (stage_of engine.old h) (agenda_of agenda.old) (string_bytes r.text) r.has_refused
         engine.new handed.new) }
     ensures sound { OnOk result (IsSound engine.new) }
@@ -80,7 +80,7 @@ pub fn trace_course<R: Resource>(
     requires sound { IsSound engine.old }
     requires told { HasToldAll engine.old }
     requires ends { until ≤ 1000000000000000 }
-    ensures traces { IfOk result (λ r. (h : List Event) → IsHistoryOf h engine.old.tallies engine.old.book → AreHandedOut handed.old h
+    ensures traces { IfOk result (λ r. (h : List Event) → IsHistoryOf h engine.old.tallies engine.old.book → Knows handed.old (stage_of engine.old h)
         → HasRunOut engine.old.book.limit until (stage_of engine.old h) (with_steps (map step_of steps.items) empty_agenda) (string_bytes r.text)
         r.has_refused engine.new handed.new) }
     ensures sound { OnOk result (IsSound engine.new) }

@@ -1,7 +1,6 @@
 use Rattle.rx_trace.proofs.Common.{◌≡◌, ◌≤◌, ◌+◌, ◌∙◌, ◌++◌, ◌∷◌, [], ap, sym, map, map-append, drop, take, notes, arith, rules, string_bytes, State}
-use Rattle.rx_trace.proofs.Common.{note_text, name_by_number, node_binding, told_note, length}
+use Rattle.rx_trace.proofs.Common.{note_text, name_by_number, node_binding, told_note, length, subst, Rise, stays_on}
 use Rattle.rx_trace.proofs.TakenOne.{since_all, texts_next, still, one_more_given, note_there, none_more_given, no_note, all_given}
-use Rattle.rx_trace.proofs.LinesTold.{stays_on}
 use Rattle.rx_trace.proofs.told.notes_told.Goals as goal
 
 pub loop-told-preserved : goal.loop-told-preserved
@@ -16,18 +15,19 @@ loop-told-preserved g c =
     let stays = stays_on so_far.stays seen.stays in
     let same_nodes : map node_binding c.next_note.new.engine.nodes ≡ map node_binding c.args.engine.now.nodes = ap (λ s. s.nodes) (stays.stage []) in
     let pushed : c.push.new.self.items ≡ c.loop-told.told.items ++ c.in_ok-note_text.field-0 ∷ [] = search rules in
-    let text : string_bytes c.in_ok-note_text.field-0 ≡ told_note (map node_binding c.args.engine.now.nodes) mail =
-    c.in_ok-note_text.ensures ∙ ap (λ n. note_text n mail.note) (c.node_name-name.ensures
-    ∙ ap (λ l. name_by_number (map node_binding l) mail.to) c.in_order.ensures ∙ ap (λ l. name_by_number l mail.to) same_nodes) in
+    let listed = ap (map node_binding) c.in_order.ensures ∙ same_nodes in
+    let text : Rise (map node_binding c.args.engine.now.nodes) → string_bytes c.in_ok-note_text.field-0
+    ≡ told_note (map node_binding c.args.engine.now.nodes) mail = λ rise. c.in_ok-note_text.ensures ∙ ap (λ n. note_text n mail.note)
+    (c.node_name-name.ensures (subst Rise (sym listed) rise) ∙ ap (λ l. name_by_number l mail.to) listed) in
     let more : next.given ≡ now.given + 1 = one_more_given first now next asked so_far.book seen.handed seen.note mail c.in-Some.is in
     let begun = so_far.begun in
     record {
       begun = omega arith;
-      told = texts_next (told_note (map node_binding c.args.engine.now.nodes)) (notes first.history) first.given now.given mail begun
+      told = λ rise. texts_next (told_note (map node_binding c.args.engine.now.nodes)) (notes first.history) first.given now.given mail begun
           (note_there first now next asked so_far.book seen.handed seen.note mail c.in-Some.is) (map string_bytes c.loop-told.told.items)
-          (map string_bytes c.push.new.self.items) so_far.told
+          (map string_bytes c.push.new.self.items) (so_far.told rise)
           (ap (map string_bytes) pushed ∙ map-append string_bytes c.loop-told.told.items (c.in_ok-note_text.field-0 ∷ [])
-          ∙ ap (λ t. map string_bytes c.loop-told.told.items ++ t ∷ []) text)
+          ∙ ap (λ t. map string_bytes c.loop-told.told.items ++ t ∷ []) (text rise))
           ∙ ap (λ n. map (told_note (map node_binding c.args.engine.now.nodes)) (drop first.given (take n (notes first.history)))) (sym more);
       book = still first now next asked so_far.book seen.handed seen.note;
       stays = stays;
@@ -40,7 +40,7 @@ returns-clause-told g c =
     let now = c.loop-told.engine.book in
     let so_far = c.loop-told.invariant in
     let seen = c.in_ok-mail.ensures in
-    so_far.told ∙ ap (map (told_note (map node_binding c.args.engine.now.nodes))) (since_all (notes first.history) first.given now.given
+    λ rise. so_far.told rise ∙ ap (map (told_note (map node_binding c.args.engine.now.nodes))) (since_all (notes first.history) first.given now.given
     (no_note first now c.next_note.new.engine.book c.in_ok-mail.field-0 so_far.book seen.handed seen.note c.in_default.is))
 
 pub returns-clause-book : goal.returns-clause-book

@@ -4,7 +4,7 @@ use Rattle.rx_trace.proofs.LinesTold.{told_behind}
 use Rattle.rx_trace.proofs.told.tell.Goals as goal
 
 pub returns-clause-told : goal.returns-clause-told
-returns-clause-told g c = λ since.
+returns-clause-told g c = λ since rise.
     let old = c.args.engine.now in
     let new = c.notes_told.new.engine in
     let t = c.hand_out.new.handed in
@@ -16,7 +16,7 @@ returns-clause-told g c = λ since.
     (c.in_ok-push_list.ensures ∙ ap (λ l. string_bytes c.args.text.now ++ member_text (codes "notes") (map string_bytes l)) c.as_slice.ensures.value)
     (c.in_ok-push_list-2.ensures ∙ ap (λ l. string_bytes c.push_list.new.text ++ member_text (codes "waits") (map string_bytes l)) c.as_slice-2.ensures.value)
     (c.in_ok-push_list-3.ensures ∙ ap (λ l. string_bytes c.push_list-2.new.text ++ member_text (codes "release") (map string_bytes l)) c.as_slice-3.ensures.value)
-    c.in_ok-notes.ensures.told
+    (c.in_ok-notes.ensures.told rise)
     (c.in_ok-waiting.ensures ∙ ap (λ l. map name_text (names_where (waits_by new.book t) (map res_binding l))) c.in_order.ensures
     ∙ ap (λ (s : State). map name_text (names_where (waits_by s t) (map res_binding new.resources))) same
     ∙ ap (λ l. map name_text (names_where (waits_by old.book t) l)) same_res)

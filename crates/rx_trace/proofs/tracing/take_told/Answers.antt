@@ -13,9 +13,9 @@ returns g c =
     told_step c.args.engine.now mid c.tell.new.engine c.args.agenda.now c.take_step.new.agenda c.args.step c.in_ok-answer.answer c.args.handed.now
     c.tell.new.handed c.args.executed place text (string_bytes c.push_str.new.self) c.requires.sound c.requires.told c.len-place.ensures
     c.in_ok-answer.ensures c.in_ok-tell.ensures.stays all c.in_ok-tell.ensures.handed
-    (λ within. line_behind c.args.executed at (step_of c.args.step).action c.in_ok-answer.answer place (told_in_code mid c.tell.new.handed place) text
+    (λ within rise. line_behind c.args.executed at (step_of c.args.step).action c.in_ok-answer.answer place (told_in_code mid c.tell.new.handed place) text
     (string_bytes c.push_front.new.text) (string_bytes c.push_outcome.new.text) (string_bytes c.tell.new.text) (string_bytes c.push_str.new.self)
     (c.in_ok-push_front.ensures
     ∙ ap (λ n. text ++ step_text c.args.executed n (action_of (out-Step c.args.step).action)) c.now.ensures.value
     ∙ ap (λ a. text ++ step_text c.args.executed at a) (action_in c.args.step))
-    c.in_ok-push_outcome.ensures (c.in_ok-tell.ensures.told within) c.in_ok-push_str.ensures.bytes)
+    c.in_ok-push_outcome.ensures (c.in_ok-tell.ensures.told within rise) c.in_ok-push_str.ensures.bytes)
