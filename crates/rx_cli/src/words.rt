@@ -15,12 +15,14 @@ use std::convert::AsStr;
 
 const VERSION: &str = "0.2.0";
 
-// The usage of the program and of the subcommands that read; `clap` shows it with each usage error too.
+// The usage of the program and of its subcommands; `clap` shows it with each usage error too.
 const USAGE: &str = "rxbook [COMMAND] [FILE]";
 
 const RUN_USAGE: &str = "rxbook [run] [OPTIONS] [FILE]";
 
 const AUDIT_USAGE: &str = "rxbook audit [OPTIONS] [FILE]";
+
+const STORM_USAGE: &str = "rxbook storm [OPTIONS]";
 
 const NOTES: &str = "\
 Without a FILE the input is standard input, at most 16777216 bytes; a storm reads nothing. As in
@@ -62,7 +64,7 @@ Nothing is read; as in
 
 It prints how many resources were accepted, taken and released, one for each source; faults, how many releases failed: of
 the tags 0 to sources - 1 those that are 3 modulo 8 fail on purpose; held and waiting, 0 at the end; notes, sources times
-items + 1; and events, sources times items + 6.
+(items + 1); and events, sources times (items + 6).
 
 The exit status is 0 if the threads counted what the book says, otherwise 5; 1 if writing failed or a
 thread could not be started, 4 if out of memory.";
@@ -93,6 +95,7 @@ fn storm_command<'a>(alloc: Global) -> Result<Command<'a>, AllocError>
 {
     let bare = Command::new(alloc, "storm")
         .about("Run many threads at one book, and compare what they counted with it")
+        .override_usage(STORM_USAGE)
         .after_help(STORM_NOTES);
     let help = "How many threads subscribe and emit, 1 to 64";
     let first = bare.arg(number_option(alloc, "sources", help, "4", 1, 64))?;

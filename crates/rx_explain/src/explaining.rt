@@ -24,7 +24,7 @@ use crate::past::Past;
 use crate::refusals::{refusal_told, taking_told};
 use crate::scenario::scenario_fault;
 use crate::sentences::Sentence;
-use crate::texts::fault_in_text;
+use crate::texts::{Spot, early_close, fault_in_text};
 use crate::walk::{Walk, told_by};
 use json::Scratch;
 use rx_audit::{Verdict, audit, refused};
@@ -61,7 +61,11 @@ fn no_json(alloc: Global, input: &[u8], error: &Error) -> Result<String, AllocEr
         return String::from_str(alloc, BYTE_ORDER_MARK);
     }
     // The reader counts the bytes read on the line: none where the text ends at its beginning.
-    let (line, column) = (error.line(), error.column().max(1));
+    let told = Spot {
+        line: error.line(),
+        column: error.column().max(1),
+    };
+    let Spot { line, column } = early_close(input, told).unwrap_or(told);
     if error.is_eof() {
         return format!(in alloc; "line {line}, column {column}: the JSON text ends too early");
     }

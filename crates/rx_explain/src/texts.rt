@@ -1,4 +1,12 @@
-//! Where in a text of JSON a fault lies: a control character, or an escape that there is not.
+//! Where in a JSON text a fault lies, of which the reader tells another place: a control character within a text, an escape that
+//! there is not, a bracket that closes too early.
+
+/// A place in an input, by its line and column, both from 1.
+#[derive(Clone, Copy)]
+pub struct Spot {
+    pub line: usize,
+    pub column: usize,
+}
 
 // What a code unit is, which an escape writes in four digits.
 #[derive(Clone, Copy)]
@@ -73,9 +81,8 @@ fn before_fault(rest: &[u8]) -> Option<usize> {
 // Whether a text may begin behind these bytes, which are the front of a JSON text.
 fn may_begin(front: &[u8]) -> bool {
     for byte in front.iter().rev() {
-        match *byte {
-            b' ' | b'\t' | b'\n' | b'\r' => {}
-            other => return matches!(other, b'[' | b'{' | b',' | b':'),
+        if !is_blank(*byte) {
+            return matches!(*byte, b'[' | b'{' | b',' | b':');
         }
     }
     true
@@ -104,4 +111,55 @@ pub fn fault_in_text(input: &[u8], line: usize, column: usize) -> Option<usize> 
     }
     let before = before_fault(input.get(at.saturating_add(1)..)?)?;
     Some(column.saturating_add(before).saturating_add(1))
+}
+
+fn is_blank(byte: u8) -> bool {
+    matches!(byte, b' ' | b'\t' | b'\n' | b'\r')
+}
+
+// The last place before this one with a byte that is no blank.
+fn last_before(input: &[u8], place: usize) -> Option<usize> {
+    let mut left = place;
+    for _ in 0..place {
+        left = left.saturating_sub(1);
+        if !is_blank(*input.get(left)?) {
+            return Some(left);
+        }
+    }
+    None
+}
+
+// Whether a bracket that comes directly behind this byte closes too early.
+fn closes_early(before: u8, bracket: u8) -> bool {
+    match bracket {
+        b'}' => matches!(before, b'[' | b',' | b':'),
+        b']' => matches!(before, b'{' | b',' | b':'),
+        _ => false,
+    }
+}
+
+// The line and column of a place.
+fn spot_of(input: &[u8], place: usize) -> Spot {
+    let mut spot = Spot { line: 1, column: 1 };
+    for byte in input.iter().take(place) {
+        if *byte == b'\n' {
+            spot.line = spot.line.saturating_add(1);
+            spot.column = 1;
+        } else {
+            spot.column = spot.column.saturating_add(1);
+        }
+    }
+    spot
+}
+
+/// Where a bracket closes too early, which the reader passes over: it tells this spot, of what comes next. None where no
+/// such bracket is the last before it.
+pub fn early_close(input: &[u8], told: Spot) -> Option<Spot> {
+    let next = beginning_of(input, told.line).saturating_add(told.column.saturating_sub(1));
+    let place = last_before(input, next)?;
+    let before = last_before(input, place)?;
+    if !closes_early(*input.get(before)?, *input.get(place)?) {
+        return None;
+    }
+    Some(spot_of(input, place))
 }

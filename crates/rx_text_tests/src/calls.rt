@@ -183,7 +183,7 @@ const TRACE: &str = "\
 {\"closed\":true,\"release\":[\"q\"]}
 ";
 
-static OUTCOMES: [Row; 38] = [
+static OUTCOMES: [Row; 39] = [
     (&["rxbook"], EMPTY, 0, NOTHING_DONE, ""),
     (&["rxbook", "run"], EMPTY, 0, NOTHING_DONE, ""),
     (&["rxbook", "run", "--dump"], EMPTY, 0, "[]\n", ""),
@@ -369,6 +369,13 @@ static OUTCOMES: [Row; 38] = [
         2,
         "",
         "error: unexpected argument 'first-run.json' found\n\nUsage: rxbook [run] [OPTIONS] [FILE]\n\nFor more information, try '--help'.\n",
+    ),
+    (
+        &["rxbook", "storm", "--itemz", "5"],
+        EMPTY,
+        2,
+        "",
+        "error: unexpected argument '--itemz' found\n\n  tip: a similar argument exists: '--items'\n\nUsage: rxbook storm [OPTIONS]\n\nFor more information, try '--help'.\n",
     ),
     (
         &["rxbook", "storm", "--sources", "65"],
@@ -591,7 +598,7 @@ Nothing is read; as in
 
 It prints how many resources were accepted, taken and released, one for each source; faults, how many releases failed: of
 the tags 0 to sources - 1 those that are 3 modulo 8 fail on purpose; held and waiting, 0 at the end; notes, sources times
-items + 1; and events, sources times items + 6.
+(items + 1); and events, sources times (items + 6).
 
 The exit status is 0 if the threads counted what the book says, otherwise 5; 1 if writing failed or a
 thread could not be started, 4 if out of memory.
