@@ -1,5 +1,5 @@
 -- What stands against a call, without what is left out.
-use Rattle.rx_event.proofs.Laws.Common.{◌≡◌, ℕ, ℤ, ◌+◌, Bool, true, false, List, [], ◌∷◌, Some, None, cond, nat_lt, map}
+use Rattle.rx_event.proofs.Laws.Common.{is_open, makes_hub, ◌≡◌, ℕ, ℤ, ◌+◌, Bool, true, false, List, [], ◌∷◌, Some, None, cond, nat_lt, map}
 use Rattle.rx_event.proofs.Laws.Common.{refl, sym, ap, ◌∙◌, not, ◌||◌, ◌==◌, Kept, both_ways}
 use Rattle.rx_event.proofs.Laws.Common.{list_any, has_source, is_merging, is_until, is_root, is_manual_hub, at, ancestors}
 use Rattle.rx_event.proofs.Laws.Common.{IsLawful, most_visits, same_Some, none-some, place_by, event_by}
@@ -7,7 +7,7 @@ use Rattle.rx_event.specs.Events.{is_leaf}
 use Rattle.rx_event.specs.Allowed.{may_abort, most_hubs}
 use Rattle.rx_event.specs.Renumbered.{kind_by, call_by}
 use Rattle.rx_event.specs.Refusals.{first_of_these}
-use Rattle.rx_event.specs.Causes.{is_without_hub, is_out_of_order, connects_up_to, is_gone, is_wrong_place, is_taken_place, is_unowed_place, is_crowded, causes}
+use Rattle.rx_event.specs.Causes.{is_without_hub, is_out_of_order, connects_up_to, is_gone, is_wrong_place, is_taken_place, is_unowed_place, is_crowded, causes, is_over, added_by, projecting_causes}
 use Rattle.rx_event.specs.Calls.{Call, Opening, OpeningUsing, Holding, Applying, Removing, Leasing, GivingBack, Emitting, Ending, Aborting, Declining}
 use Rattle.rx_event.specs.Calls.{Failing, Disposing, Publishing, Connecting, Disconnecting, Taking}
 use Rattle.rx_event.specs.declared.refusal.Refusal.{Refusal}
@@ -98,139 +98,78 @@ module _ (base : Kept) (omit : ℕ → Bool) (h : List Event) (a : Omits base om
 
   -- the rows -----------------------------------------------------------------------------------------------------------
 
-  opening_eased : (limit : ℕ) (is_fresh : Bool) (place : Place) (kind : Kind) → Stay_all omit (named_in_call (Opening place kind)) → (why : Refusal) →
-      Eased why (causes base (what_stays omit h) limit is_fresh (call_by (number omit) (Opening place kind)) why)
-      (causes base h limit is_fresh (Opening place kind) why)
-  opening_eased limit is_fresh place kind all NoHub = is_same (without_hub_by kind (kind_stays base omit h a place kind all))
-  opening_eased limit is_fresh place kind all Gone = is_same (gone_by place (place_stays base omit h a law place kind all))
-  opening_eased limit is_fresh place kind all WrongKind = is_same (wrong_by place (place_stays base omit h a law place kind all))
-  opening_eased limit is_fresh place kind all PlaceTaken = is_same (taken_by place (place_stays base omit h a law place kind all))
-  opening_eased limit is_fresh place kind all NothingOwed = is_same (unowed_by place (place_stays base omit h a law place kind all))
-  opening_eased limit is_fresh place kind all HubOrder = is_same (order_by place kind all)
-  opening_eased limit is_fresh place kind all TooMany = has_room refl (λ stands. crowded_by base omit h a law _
-      (ap (is_crowded (what_stays omit h)) (sym (nodes_opened_by base omit h a kind (kind_stays base omit h a place kind all))) ∙ stands))
-  opening_eased limit is_fresh place kind all Full = has_room refl (over_by base omit h a law limit (Opening place kind) all)
-  opening_eased limit is_fresh place kind all _ = is_same refl
+  open_eased : {why : Refusal} (n : ℕ) → Stay_all omit (n ∷ []) → Eased why (not (is_open (what_stays omit h) (number omit n))) (not (is_open h n))
+  open_eased n all = is_same (ap not (open_by base omit h a n all.0))
 
-  using_eased : (limit : ℕ) (is_fresh : Bool) (place : Place) (tag : ℕ) → Stay_all omit (named_in_place place) → (why : Refusal) →
-      Eased why (causes base (what_stays omit h) limit is_fresh (call_by (number omit) (OpeningUsing place tag)) why)
-      (causes base h limit is_fresh (OpeningUsing place tag) why)
-  using_eased limit is_fresh place tag all Gone = is_same (gone_by place all)
-  using_eased limit is_fresh place tag all WrongKind = is_same (wrong_by place all)
-  using_eased limit is_fresh place tag all PlaceTaken = is_same (taken_by place all)
-  using_eased limit is_fresh place tag all NothingOwed = is_same (unowed_by place all)
-  using_eased limit is_fresh place tag all TooMany = has_room refl (crowded_by base omit h a law 1)
-  using_eased limit is_fresh place tag all Full = has_room refl (over_by base omit h a law limit (OpeningUsing place tag) all)
-  using_eased limit is_fresh place tag all _ = is_same refl
+  is_eased : {why : Refusal} (t : Event → Bool) → ((r : ℕ → ℕ) (e : Event) → t (event_by r e) ≡ t e) → (n : ℕ) → Stay_all omit (n ∷ []) →
+      Eased why (not (at t (what_stays omit h) (number omit n))) (not (at t h n))
+  is_eased t by n all = is_same (ap not (is_by t by n all.0))
 
-  holding_eased : (limit : ℕ) (is_fresh : Bool) (n tag : ℕ) → Stay_all omit (n ∷ []) → (why : Refusal) →
-      Eased why (causes base (what_stays omit h) limit is_fresh (call_by (number omit) (Holding n tag)) why) (causes base h limit is_fresh (Holding n tag) why)
-  holding_eased limit is_fresh n tag all Gone = is_same (ap not (open_by base omit h a n all.0))
-  holding_eased limit is_fresh n tag all Full = has_room refl (over_by base omit h a law limit (Holding n tag) all)
-  holding_eased limit is_fresh n tag all _ = is_same refl
-
-  applying_eased : (limit : ℕ) (is_fresh : Bool) (q : ℕ) → Stay_all omit (q ∷ []) → (why : Refusal) →
-      Eased why (causes base (what_stays omit h) limit is_fresh (call_by (number omit) (Applying q)) why) (causes base h limit is_fresh (Applying q) why)
-  applying_eased limit is_fresh q all NotHeld = is_same (ap not (held_by base omit h a q all.0))
-  applying_eased limit is_fresh q all Full = has_room refl (over_by base omit h a law limit (Applying q) all)
-  applying_eased limit is_fresh q all _ = is_same refl
-
-  removing_eased : (limit : ℕ) (is_fresh : Bool) (q : ℕ) → Stay_all omit (q ∷ []) → (why : Refusal) →
-      Eased why (causes base (what_stays omit h) limit is_fresh (call_by (number omit) (Removing q)) why) (causes base h limit is_fresh (Removing q) why)
-  removing_eased limit is_fresh q all NotHeld = is_same (ap not (held_by base omit h a q all.0))
-  removing_eased limit is_fresh q all Leased = is_same (ap not (owned_by base omit h a q all.0))
-  removing_eased limit is_fresh q all _ = is_same refl
-
-  leasing_eased : (limit : ℕ) (is_fresh : Bool) (q : ℕ) → Stay_all omit (q ∷ []) → (why : Refusal) →
-      Eased why (causes base (what_stays omit h) limit is_fresh (call_by (number omit) (Leasing q)) why) (causes base h limit is_fresh (Leasing q) why)
-  leasing_eased limit is_fresh q all NotHeld = is_same (ap not (held_by base omit h a q all.0))
-  leasing_eased limit is_fresh q all Leased = is_same (ap not (owned_by base omit h a q all.0))
-  leasing_eased limit is_fresh q all Full = has_room refl (over_by base omit h a law limit (Leasing q) all)
-  leasing_eased limit is_fresh q all _ = is_same refl
-
-  returning_eased : (limit : ℕ) (is_fresh : Bool) (l : ℕ) → Stay_all omit (l ∷ []) → (why : Refusal) →
-      Eased why (causes base (what_stays omit h) limit is_fresh (call_by (number omit) (GivingBack l)) why) (causes base h limit is_fresh (GivingBack l) why)
-  returning_eased limit is_fresh l all NoLease = is_same (ap not (out_by base omit h a l all.0))
-  returning_eased limit is_fresh l all _ = is_same refl
-
-  emitting_eased : (limit : ℕ) (is_fresh : Bool) (l : ℕ) (v : ℤ) → Stay_all omit (l ∷ []) → (why : Refusal) →
-      Eased why (causes base (what_stays omit h) limit is_fresh (call_by (number omit) (Emitting l v)) why) (causes base h limit is_fresh (Emitting l v) why)
-  emitting_eased limit is_fresh l v all Gone = is_same (ap not (open_by base omit h a l all.0))
-  emitting_eased limit is_fresh l v all WrongKind = is_same (ap not (is_by is_leaf leaf_by l all.0))
-  emitting_eased limit is_fresh l v all TooMany = is_same (ap (nat_lt most_visits) (visits_by base omit h a l all.0))
-  emitting_eased limit is_fresh l v all Full = has_room refl (over_by base omit h a law limit (Emitting l v) all)
-  emitting_eased limit is_fresh l v all _ = is_same refl
-
-  -- ending a leaf
-  ending_eased : (l : ℕ) → Stay_all omit (l ∷ []) → (why : Refusal) →
-      Eased why (Rattle.rx_event.specs.Causes.ending_causes (what_stays omit h) (number omit l) why) (Rattle.rx_event.specs.Causes.ending_causes h l why)
-  ending_eased l all Gone = is_same (ap not (open_by base omit h a l all.0))
-  ending_eased l all WrongKind = is_same (ap not (is_by is_leaf leaf_by l all.0))
-  ending_eased l all _ = is_same refl
-
-  aborting_eased : (n : ℕ) → Stay_all omit (n ∷ []) → (why : Refusal) →
-      Eased why (Rattle.rx_event.specs.Causes.aborting_causes (what_stays omit h) (number omit n) why) (Rattle.rx_event.specs.Causes.aborting_causes h n why)
-  aborting_eased n all Gone = is_same (ap not (open_by base omit h a n all.0))
-  aborting_eased n all WrongKind = is_same (ap not (is_by may_abort abort_by n all.0))
-  aborting_eased n all HasChild = is_same (has_child_by base omit h a n all.0)
-  aborting_eased n all _ = is_same refl
+  hub_eased : {why : Refusal} (g : ℕ) → Stay_all omit (g ∷ []) → Eased why (not (at makes_hub (what_stays omit h) (number omit g))) (not (at makes_hub h g))
+  hub_eased g all = is_same (ap not (hub_there base omit h a g all.0))
 
   projecting_eased : (f : ℕ) → Stay_all omit (f ∷ []) → (why : Refusal) →
-      Eased why (Rattle.rx_event.specs.Causes.projecting_causes base (what_stays omit h) (number omit f) why)
-      (Rattle.rx_event.specs.Causes.projecting_causes base h f why)
-  projecting_eased f all Gone = is_same (ap not (open_by base omit h a f all.0))
-  projecting_eased f all WrongKind = is_same (ap not (is_by is_merging merging_by f all.0))
+      Eased why (projecting_causes base (what_stays omit h) (number omit f) why) (projecting_causes base h f why)
+  projecting_eased f all Gone = open_eased f all
+  projecting_eased f all WrongKind = is_eased is_merging merging_by f all
   projecting_eased f all NothingOwed = is_same (ap (λ n. n == 0) (owed_by base omit h a law f all.0))
   projecting_eased f all _ = is_same refl
 
-  disposing_eased : (n : ℕ) → Stay_all omit (n ∷ []) → (why : Refusal) →
-      Eased why (Rattle.rx_event.specs.Causes.disposing_causes (what_stays omit h) (number omit n) why) (Rattle.rx_event.specs.Causes.disposing_causes h n why)
-  disposing_eased n all Gone = is_same (ap not (open_by base omit h a n all.0))
-  disposing_eased n all NotRoot = is_same (ap not (is_by is_root root_by n all.0))
-  disposing_eased n all _ = is_same refl
-
-  publishing_eased : (limit : ℕ) (is_fresh : Bool) (mode : Rattle.rx_event.specs.declared.event.Mode.Mode) → (why : Refusal) →
-      Eased why (causes base (what_stays omit h) limit is_fresh (Publishing mode) why) (causes base h limit is_fresh (Publishing mode) why)
-  publishing_eased limit is_fresh mode TooMany = is_same (ap (λ n. nat_lt most_hubs (n + 1)) (many_hubs base omit h a law))
-  publishing_eased limit is_fresh mode Full = has_room refl (over_by base omit h a law limit (Publishing mode) tt)
-  publishing_eased limit is_fresh mode _ = is_same refl
-
-  connecting_eased : (limit : ℕ) (is_fresh : Bool) (g : ℕ) → Stay_all omit (g ∷ []) → (why : Refusal) →
-      Eased why (causes base (what_stays omit h) limit is_fresh (call_by (number omit) (Connecting g)) why) (causes base h limit is_fresh (Connecting g) why)
-  connecting_eased limit is_fresh g all NoHub = is_same (ap not (hub_there base omit h a g all.0))
-  connecting_eased limit is_fresh g all WrongKind = is_same (ap not (is_by is_manual_hub manual_by g all.0))
-  connecting_eased limit is_fresh g all Connected = is_same (has_connection_by base omit h a g all.0)
-  connecting_eased limit is_fresh g all TooMany = has_room refl (crowded_by base omit h a law 1)
-  connecting_eased limit is_fresh g all Full = has_room refl (over_by base omit h a law limit (Connecting g) all)
-  connecting_eased limit is_fresh g all _ = is_same refl
-
-  disconnecting_eased : (g : ℕ) → Stay_all omit (g ∷ []) → (why : Refusal) →
-      Eased why (Rattle.rx_event.specs.Causes.disconnecting_causes (what_stays omit h) (number omit g) why)
-      (Rattle.rx_event.specs.Causes.disconnecting_causes h g why)
-  disconnecting_eased g all NoHub = is_same (ap not (hub_there base omit h a g all.0))
-  disconnecting_eased g all WrongKind = is_same (ap not (is_by is_manual_hub manual_by g all.0))
-  disconnecting_eased g all NotConnected = is_same (ap not (has_connection_by base omit h a g all.0))
-  disconnecting_eased g all _ = is_same refl
+  full_eased : (limit : ℕ) (call : Call) → Stay_all omit (named_in_call call) →
+      Eased Full (is_over base (what_stays omit h) limit (added_by (what_stays omit h) (call_by (number omit) call))) (is_over base h limit (added_by h call))
+  full_eased limit call all = has_room refl (over_by base omit h a law limit call all)
 
   pub eased : (limit : ℕ) (is_fresh : Bool) (call : Call) → Stay_all omit (named_in_call call) → (why : Refusal) →
       Eased why (causes base (what_stays omit h) limit is_fresh (call_by (number omit) call) why) (causes base h limit is_fresh call why)
-  eased limit is_fresh (Opening place kind) all why = opening_eased limit is_fresh place kind all why
-  eased limit is_fresh (OpeningUsing place tag) all why = using_eased limit is_fresh place tag all why
-  eased limit is_fresh (Holding n tag) all why = holding_eased limit is_fresh n tag all why
-  eased limit is_fresh (Applying q) all why = applying_eased limit is_fresh q all why
-  eased limit is_fresh (Removing q) all why = removing_eased limit is_fresh q all why
-  eased limit is_fresh (Leasing q) all why = leasing_eased limit is_fresh q all why
-  eased limit is_fresh (GivingBack l) all why = returning_eased limit is_fresh l all why
-  eased limit is_fresh (Emitting l v) all why = emitting_eased limit is_fresh l v all why
-  eased limit is_fresh (Ending l t) all why = ending_eased l all why
-  eased limit is_fresh (Aborting n code) all why = aborting_eased n all why
+  eased limit is_fresh (Opening place kind) all NoHub = is_same (without_hub_by kind (kind_stays base omit h a place kind all))
+  eased limit is_fresh (Opening place kind) all Gone = is_same (gone_by place (place_stays base omit h a law place kind all))
+  eased limit is_fresh (Opening place kind) all WrongKind = is_same (wrong_by place (place_stays base omit h a law place kind all))
+  eased limit is_fresh (Opening place kind) all PlaceTaken = is_same (taken_by place (place_stays base omit h a law place kind all))
+  eased limit is_fresh (Opening place kind) all NothingOwed = is_same (unowed_by place (place_stays base omit h a law place kind all))
+  eased limit is_fresh (Opening place kind) all HubOrder = is_same (order_by place kind all)
+  eased limit is_fresh (Opening place kind) all TooMany = has_room refl (λ stands. crowded_by base omit h a law _
+      (ap (is_crowded (what_stays omit h)) (sym (nodes_opened_by base omit h a kind (kind_stays base omit h a place kind all))) ∙ stands))
+  eased limit is_fresh (Opening place kind) all Full = full_eased limit (Opening place kind) all
+  eased limit is_fresh (OpeningUsing place tag) all Gone = is_same (gone_by place all)
+  eased limit is_fresh (OpeningUsing place tag) all WrongKind = is_same (wrong_by place all)
+  eased limit is_fresh (OpeningUsing place tag) all PlaceTaken = is_same (taken_by place all)
+  eased limit is_fresh (OpeningUsing place tag) all NothingOwed = is_same (unowed_by place all)
+  eased limit is_fresh (OpeningUsing place tag) all TooMany = has_room refl (crowded_by base omit h a law 1)
+  eased limit is_fresh (OpeningUsing place tag) all Full = full_eased limit (OpeningUsing place tag) all
+  eased limit is_fresh (Holding n tag) all Gone = open_eased n all
+  eased limit is_fresh (Holding n tag) all Full = full_eased limit (Holding n tag) all
+  eased limit is_fresh (Applying q) all NotHeld = is_same (ap not (held_by base omit h a q all.0))
+  eased limit is_fresh (Applying q) all Full = full_eased limit (Applying q) all
+  eased limit is_fresh (Removing q) all NotHeld = is_same (ap not (held_by base omit h a q all.0))
+  eased limit is_fresh (Removing q) all Leased = is_same (ap not (owned_by base omit h a q all.0))
+  eased limit is_fresh (Leasing q) all NotHeld = is_same (ap not (held_by base omit h a q all.0))
+  eased limit is_fresh (Leasing q) all Leased = is_same (ap not (owned_by base omit h a q all.0))
+  eased limit is_fresh (Leasing q) all Full = full_eased limit (Leasing q) all
+  eased limit is_fresh (GivingBack l) all NoLease = is_same (ap not (out_by base omit h a l all.0))
+  eased limit is_fresh (Emitting l v) all Gone = open_eased l all
+  eased limit is_fresh (Emitting l v) all WrongKind = is_eased is_leaf leaf_by l all
+  eased limit is_fresh (Emitting l v) all TooMany = is_same (ap (nat_lt most_visits) (visits_by base omit h a l all.0))
+  eased limit is_fresh (Emitting l v) all Full = full_eased limit (Emitting l v) all
+  eased limit is_fresh (Ending l t) all Gone = open_eased l all
+  eased limit is_fresh (Ending l t) all WrongKind = is_eased is_leaf leaf_by l all
+  eased limit is_fresh (Aborting n code) all Gone = open_eased n all
+  eased limit is_fresh (Aborting n code) all WrongKind = is_eased may_abort abort_by n all
+  eased limit is_fresh (Aborting n code) all HasChild = is_same (has_child_by base omit h a n all.0)
   eased limit is_fresh (Declining f) all why = projecting_eased f all why
   eased limit is_fresh (Failing f code) all why = projecting_eased f all why
-  eased limit is_fresh (Disposing n) all why = disposing_eased n all why
-  eased limit is_fresh (Publishing mode) all why = publishing_eased limit is_fresh mode why
-  eased limit is_fresh (Connecting g) all why = connecting_eased limit is_fresh g all why
-  eased limit is_fresh (Disconnecting g) all why = disconnecting_eased g all why
-  eased limit is_fresh (Taking q) all why = is_same refl
+  eased limit is_fresh (Disposing n) all Gone = open_eased n all
+  eased limit is_fresh (Disposing n) all NotRoot = is_eased is_root root_by n all
+  eased limit is_fresh (Publishing mode) all TooMany = is_same (ap (λ n. nat_lt most_hubs (n + 1)) (many_hubs base omit h a law))
+  eased limit is_fresh (Publishing mode) all Full = full_eased limit (Publishing mode) all
+  eased limit is_fresh (Connecting g) all NoHub = hub_eased g all
+  eased limit is_fresh (Connecting g) all WrongKind = is_eased is_manual_hub manual_by g all
+  eased limit is_fresh (Connecting g) all Connected = is_same (has_connection_by base omit h a g all.0)
+  eased limit is_fresh (Connecting g) all TooMany = has_room refl (crowded_by base omit h a law 1)
+  eased limit is_fresh (Connecting g) all Full = full_eased limit (Connecting g) all
+  eased limit is_fresh (Disconnecting g) all NoHub = hub_eased g all
+  eased limit is_fresh (Disconnecting g) all WrongKind = is_eased is_manual_hub manual_by g all
+  eased limit is_fresh (Disconnecting g) all NotConnected = is_same (ap not (has_connection_by base omit h a g all.0))
+  eased limit is_fresh call all why = is_same refl
 
 -- the first cause ------------------------------------------------------------------------------------------------------
 
