@@ -280,7 +280,9 @@ struct cellar_stepped {
  * status, hands out the next thing of this turn: first what was handed out at this depth and not begun, once more; then the rest of the lane
  * that it serves; then what each lane has that is due to it, in the order in which the lanes became due; then what calls deeper on this
  * stack did not come to, the nearest first; at depth 1 then, once a call was stopped, what no call is at, in any
- * order. An item is handed out at once where the turn has nothing else, and the item is first in its lane, which no call is at. */
+ * order. An item is handed out at once where the turn has nothing else, and the item is first in its lane, which no call is at. Where a command
+ * opens an inner in a lane that is due, to whatever turn, that lane is due to this turn, before those into which the command puts something;
+ * but not where another stack is at it. So what an earlier inner held is released before the next is subscribed to. */
 uint8_t cellar_step(struct cellar *engine, const struct cellar_stack *stack, const struct cellar_command *command,
                     struct cellar_stepped *step);
 

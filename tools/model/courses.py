@@ -38,6 +38,11 @@ class Followed(Turns):
         self.unsure.discard(claim.lane)
         super().claim(turn, claim)
 
+    def come_home(self, turn: Turn, lane: int) -> None:
+        was = self.unsure & {lane}
+        super().come_home(turn, lane)
+        self.unsure |= was
+
     def is_free(self, turn: Turn) -> bool:
         if turn in self.hands or any(self.is_sure(claim) for claim in self.due.get(turn, ())):
             return False

@@ -47,6 +47,7 @@ planted('a lane that is due again keeps its place', Followed, 'claim', lambda wa
     was(s, turn, claim) if not any(it.lane == claim.lane for it in s.due.get(turn, ())) else None))
 planted('a lane is due to two turns', Turns, 'claim', lambda was: lambda s, turn, claim: s.due.setdefault(turn, []).append(claim))
 planted('what is due last comes first', Followed, 'first_due', lambda was: lambda s, turn: next(iter(s.due.get(turn, ())[::-1]), None))
+planted('an inner is opened before what stands there', Followed, 'come_home', lambda was: lambda s, turn, lane: None)
 planted('deeper calls are forgotten', Turns, 'deeper', lambda was: lambda s, turn: [])
 planted('the deepest call comes first', Turns, 'deeper', lambda was: lambda s, turn: was(s, turn)[::-1])
 planted('a call further out is served too', Turns, 'deeper', lambda was: lambda s, turn: was(s, Turn(turn.by, 0)))

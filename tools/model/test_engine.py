@@ -186,6 +186,41 @@ class Examples(unittest.TestCase):
         self.one.depth = 1
         self.assertEqual(self.told(self.one), [(E_GONE, 7, 0)])
 
+    def switched(self):
+        """A Switch with an inner that holds something, its source, and another root."""
+        merging, other = self.make(OPEN, kind=SWITCH, user=7).made.node, self.make(OPEN, user=8).made.node
+        source = self.make(OPEN, place=1, node=merging).made.node
+        self.begins(self.make(NEXT, node=source, value=1))
+        inner = self.make(OPEN, place=2, node=merging).made.node
+        self.make(HOLD, node=inner, value=42)
+        self.one.depth = 1
+        self.assertEqual(self.told(self.one), [])
+        return merging, source, inner, other
+
+    def opens(self, merging, source):
+        """The source emits, and an inner is opened: what is told before that comes back."""
+        self.begins(self.make(NEXT, node=source, value=3))
+        return self.told(self.one, self.make(OPEN, place=2, node=merging))
+
+    def test_what_is_due_further_out_comes_before_an_inner_in_its_lane(self):
+        merging, source, inner, other = self.switched()
+        item = self.make(NEXT, node=other, value=2)
+        self.make(COMPLETE, node=inner)
+        self.begins(item)
+        self.assertEqual(self.opens(merging, source), [(E_RELEASE, 42, 0)])
+
+    def test_what_is_due_inside_comes_before_an_inner_but_not_another_stacks(self):
+        for stack, here in ((1, [(E_RELEASE, 42, 0)]), (2, [])):
+            with self.subTest(stack):
+                self.setUp()
+                merging, source, inner, other = self.switched()
+                outer = self.one if stack == 1 else self.two
+                self.begins(self.make(NEXT, outer, node=inner, value=2), outer)
+                item = self.make(NEXT, outer, node=other, value=4)
+                self.make(COMPLETE, outer, node=inner)
+                self.begins(item, outer)
+                self.assertEqual(self.opens(merging, source), here)
+
     def test_an_item_waits_where_its_turn_has_something_else(self):
         first, second = (self.make(OPEN, user=word).made.node for word in (7, 8))
         self.assertIsNone(self.engine.step(self.one).task)

@@ -8,7 +8,7 @@ from __future__ import annotations
 from dataclasses import dataclass, replace
 from typing import NamedTuple
 
-from .engine import DONE, NEXT, QUEUES, Answer, Command, Due, Effect, Engine
+from .engine import AT, DONE, NEXT, QUEUES, Answer, Command, Due, Effect, Engine
 from .scenario import Canonical
 
 
@@ -119,9 +119,17 @@ class Turns(Engine):
             self.hand(answer, due := self.due_at_once(answer))
             return answer, self.hand_out(turn, Claim(due.lane, due.inside), answer.handed)
         self.commands += 1
+        if answer.node is not None and AT[c.place] == 'inner' and c.node in self.homes:
+            self.come_home(turn, self.homes[c.node].lane)
         for due in answer.lanes:
             self.claim(turn, Claim(due.lane, due.inside, (self.commands, due.by)))
         return answer, None
+
+    def come_home(self, turn: Turn, lane: int) -> None:
+        """Where an inner was opened in a lane that is due, that is due to this turn; but not where another stack serves it."""
+        serves = any(it.by == turn.by and task.claim.lane == lane and not task.claim.inside for it, task in self.hands.items())
+        for claim in [it for claims in self.due.values() for it in claims if it.lane == lane and (serves or not it.inside)]:
+            self.claim(turn, claim._replace(part=(-self.commands, 0)))
 
     def due_at_once(self, answer: Answer) -> Due:
         return answer.lanes[0]

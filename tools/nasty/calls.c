@@ -72,7 +72,8 @@ static uint8_t made(struct kept *kept, struct turn *turn, const struct cellar_co
   if (it.status)
     return it.status;
   shuffle(&engine->book.chooser, CLOSINGS, engine->closings.at, engine->closings.many);
-  if (command->what == CELLAR_OPEN || command->what == CELLAR_USING)
+  bool opens = command->what == CELLAR_OPEN || command->what == CELLAR_USING;
+  if (opens)
     step->node = it.node;
   if (command->what == CELLAR_USING || command->what == CELLAR_HOLD || command->what == CELLAR_LEASE || command->what == CELLAR_CONNECT || it.is_connected)
     step->other = it.other;
@@ -83,6 +84,9 @@ static uint8_t made(struct kept *kept, struct turn *turn, const struct cellar_co
   step->closed = engine->closings.many;
   for (size_t i = 0; i < CELLAR_ROOM && i < step->closed; i++)
     step->closings[i] = engine->closings.at[i];
+  const struct node *above = opens && command->place == CELLAR_INNER ? shelf_find(&engine->book.nodes, command->node.number) : NULL;
+  if (above)
+    turn_comes_home(&kept->turns, turn, above->home);
   if (is_at_once(kept, &it)) {
     struct lane *lane = engine->touched.at[0];
     struct cellar_effect effect;

@@ -52,6 +52,19 @@ void turn_claims(struct turns *turns, struct turn *turn, struct claim claim) {
   turn->due[turn->many++] = claim;
 }
 
+void turn_comes_home(struct turns *turns, struct turn *turn, const struct lane *lane) {
+  bool is_ours = lane->is_served && lane->server == turn->by, is_due = false;
+  struct claim claim = {lane->number, false, 0};
+  for (size_t i = 0; i < turns->many; i++)
+    for (size_t j = 0; j < turns->at[i]->many; j++)
+      if (turns->at[i]->due[j].lane == lane->number) {
+        claim.inside = turns->at[i]->due[j].inside;
+        is_due = is_ours || !claim.inside;
+      }
+  if (is_due)
+    turn_claims(turns, turn, claim);
+}
+
 void turn_holds(struct turns *turns, struct turn *turn, struct claim claim, struct cellar_effect effect) {
   turn->has_hand = true;
   turn->is_begun = false;

@@ -37,6 +37,8 @@ bool turn_is_free(const struct turns *turns, const struct turn *turn);
 bool lane_is_due(const struct turns *turns, uint64_t lane);
 /* A lane is due to a turn, behind all others, and to no other turn; or, for want of memory, it is astray. */
 void turn_claims(struct turns *turns, struct turn *turn, struct claim claim);
+/* A lane in which an inner was opened is due to this turn, where it is due, and no other stack serves it. */
+void turn_comes_home(struct turns *turns, struct turn *turn, const struct lane *lane);
 /* A turn was handed an effect of a lane. */
 void turn_holds(struct turns *turns, struct turn *turn, struct claim claim, struct cellar_effect effect);
 /* Who has in hand what is to be done next in a turn: it, or a deeper call of its stack; none where there is nothing. */

@@ -23,8 +23,8 @@ use Rattle.rx_turns.specs.Agendas.{in_hand}
 use Rattle.rx_turns.specs.States.{TurnState, turn_state}
 use Rattle.rx_turns.specs.Courses.{Seen, handed_in, was_told, came_back, IsEngineCourse, tag_asked, tag_done, WasInHand, IsHandedOf, hands_none}
 use Rattle.rx_turns.specs.Courses.{hands_new, hands_old, IsStepCourse, AreBack, none_back, one_back, IsEndCourse}
-use Rattle.rx_turns.proofs.CallsAreCourses.{calls_are_courses}
-use Rattle.rx_turns.proofs.CoursesTold.{unchanged, and_then}
+use Rattle.rx_turns.proofs.Laws.CallsAreCourses.{calls_are_courses}
+use Rattle.rx_turns.proofs.Laws.CoursesTold.{unchanged, and_then}
 use Rattle.cellarcliff.specs.declared.stepping.Stack.{Stack}
 use Rattle.cellarcliff.specs.Calls.{IsLooked, looks, looks_at_none, IsNew, IsMade, makes, is_starved, is_held, IsFinished, finishes, is_untaken, is_absent}
 use Rattle.rx_turns.specs.Telling.{handed_told}

@@ -1,5 +1,5 @@
 -- An outcome that is handed out is an answer.
-use Rattle.std.proofs.Common.{◌≡◌, ℕ, List, Result, Ok, Err, IfOk, IsErrOf, inl, inr, refl, sym, subst, string_bytes}
+use Rattle.std.proofs.Common.{ℕ, List, Result, Ok, Err, IfOk, IsErrOf, inl, inr, refl, sym, subst, string_bytes}
 use Rattle.rx_device.specs.declared.fault.ScriptError.{ScriptError}
 use Rattle.rx_device.specs.declared.fault.ScriptError.TheVariants.{Read, Write, Syntax, Shape, Memory}
 use Rattle.cellarcliff.specs.declared.handing.Said.{Said}

@@ -18,8 +18,8 @@ use Rattle.rx_turns.specs.declared.turns.Turns.{Turns}
 use Rattle.rx_turns.specs.Agendas.{in_hand}
 use Rattle.rx_turns.specs.States.{TurnState, turn_state}
 use Rattle.rx_turns.specs.Courses.{Seen, WasInHand, HandsFrom, IsHandedOf, hands_none, hands_new, hands_old}
-use Rattle.rx_turns.proofs.CallsAreCourses.{calls_are_courses}
-use Rattle.rx_turns.proofs.HandsKept.{all_stay}
+use Rattle.rx_turns.proofs.Laws.CallsAreCourses.{calls_are_courses}
+use Rattle.rx_turns.proofs.Laws.HandsKept.{all_stay}
 use Rattle.cellarcliff.specs.declared.stepping.Stack.{Stack}
 use Rattle.rx_cellar.specs.declared.shapes.Answer.{Answer}
 use Rattle.cellarcliff.specs.Calls.{IsNew}

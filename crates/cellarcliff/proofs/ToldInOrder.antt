@@ -18,10 +18,11 @@ use Rattle.rx_turns.specs.States.{TurnState, turn_state}
 use Rattle.rx_cellar.specs.Serving.{words_due}
 use Rattle.rx_cellar.specs.Asking.{asked_of, asked_as}
 use Rattle.rx_cellar.specs.declared.shapes.Effect.{Effect}
+use Rattle.rx_turns.specs.Making.{inner_lane, ComesHome, opens_no_inner, is_not_due, is_of_another, is_due_here}
 use Rattle.rx_turns.specs.Making.{ComesIf, IsMadeBy, MakesOnLine, makes_there, finds_no_room, MakesIn, is_made, is_made_bare, finds_no_line}
 use Rattle.rx_turns.specs.Calls.{TurnGoesOn}
 use Rattle.rx_turns.specs.Promises.{NothingIsLeft, NothingIsAstray}
-use Rattle.rx_turns.proofs.Claimed.{loses_on}
+use Rattle.rx_turns.proofs.Laws.NothingLost.{loses_on}
 use Rattle.cellarcliff.specs.Refusals.{KeepsAllElse, is_as_before}
 use Rattle.rx_turns.specs.Telling.{handed_told, no_step}
 use Rattle.cellarcliff.specs.Steps.{turn_of}
@@ -114,22 +115,34 @@ module _ (g : Ghosts Token) (turn : Turn) (c : Command) where
   not_come true words given s t is_own undone comes = absurd (false≢true (sym undone))
   not_come false words given s t is_own undone comes = comes
 
+  none_home : (s t : TurnState) (home : Option ℕ) → ComesHome turn s t home → home ≡ None → t ≡ s
+  none_home s t _ (opens_no_inner same) none = same
+  none_home s t _ (is_not_due word nobody same) none = same
+  none_home s t _ (is_of_another word others same) none = same
+  none_home s t _ (is_due_here word e stands may claims) none = absurd (cc)
+
+  not_home : (done : Bool) (v : Cellar) (s t : TurnState) → done ≡ false → ComesHome turn s t (inner_lane done c v) → t ≡ s
+  not_home true v s t undone home = absurd (false≢true (sym undone))
+  not_home false v s t undone home = none_home s t None home refl
+
   made_refuses : (is_free : Bool) (s u t : TurnState) (a b : Answer) (status : ℕ) (is_own : Bool) → KeepsTurns s u →
       IsMadeBy g turn is_free c u t a b status is_own → status ≢ 0 → Refuses g s t a b is_own
   made_refuses is_free s u t a b status is_own keeps by undone =
       let asked = asked_as (not is_free) (asked_of c) in
       let kept = call_refused g asked turn.by u.cellar by.cellar (no_answer a) b by.given status by.made undone in
-      let none = not_come (status == 0) (words_due by.cellar) by.given (record u { cellar = by.cellar }) t is_own
-      (false_from_ne_true (status == 0) (λ zero_is. undone (eqb-true status 0 zero_is))) by.comes in
+      let made : TurnState = record u { cellar = by.cellar } in
+      let not_done : (status == 0) ≡ false = false_from_ne_true (status == 0) (λ zero_is. undone (eqb-true status 0 zero_is)) in
+      let none = not_come (status == 0) (words_due by.cellar) by.given by.between t is_own not_done by.comes in
+      let same : t ≡ made = none.0 ∙ not_home (status == 0) by.cellar made by.between not_done by.home in
       let before = ap (λ (x : TurnState). x.cellar) keeps.only in
-      let after = ap (λ (x : TurnState). x.cellar) none.0 in
+      let after = ap (λ (x : TurnState). x.cellar) same in
       record {
         engine = subst (λ (x : Cellar). KeepsAllElse g x.engine t.cellar.engine) before
             (subst (λ (x : Cellar). KeepsAllElse g u.cellar.engine x.engine) (sym after) kept.0.engine);
         released = ap (λ (x : Cellar). x.released) after ∙ kept.0.released ∙ ap (λ (x : Cellar). x.released) before;
-        agenda = subst (λ (x : TurnState). LosesNothing s.agenda x.agenda) (sym none.0) keeps.loses;
-        tickets = ap (λ (x : TurnState). x.tickets) none.0 ∙ ap (λ (x : TurnState). x.tickets) keeps.only;
-        astray = ap (λ (x : TurnState). x.astray) none.0 ∙ ap (λ (x : TurnState). x.astray) keeps.only;
+        agenda = subst (λ (x : TurnState). LosesNothing s.agenda x.agenda) (sym same) keeps.loses;
+        tickets = ap (λ (x : TurnState). x.tickets) same ∙ ap (λ (x : TurnState). x.tickets) keeps.only;
+        astray = ap (λ (x : TurnState). x.astray) same ∙ ap (λ (x : TurnState). x.astray) keeps.only;
         nothing_told = kept.1;
         no_own = none.1;
       }

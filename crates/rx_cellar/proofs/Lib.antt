@@ -1,6 +1,6 @@
 pub mod WordsFilled
 pub mod WordsFind
-pub mod ItemsAsked
+pub mod Laws
 pub mod ItemsEmitted
 pub mod FrequentAsked
 pub mod AnswersTold

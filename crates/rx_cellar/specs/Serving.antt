@@ -4,7 +4,11 @@ use Rattle.std.specs.Option.{option_and_then}
 use Rattle.rx_lanes.specs.declared.names.LaneName.{LaneName}
 use Rattle.rx_lanes.specs.State.{IsLeft}
 use Rattle.rx_roles.specs.declared.effect.Effect.{Effect as Sent}
+use Rattle.rx_engine.specs.declared.homes.LaneOf.TheVariants.{Node}
+use Rattle.rx_engine.specs.Homes.{lane_of}
 use Rattle.rx_engine.specs.Servings.{IsTake, IsGiveUp}
+use Rattle.rx_cellar.specs.Codes.{key_of}
+use Rattle.rx_cellar.specs.declared.shapes.NumberedKey.{NumberedKey}
 use Rattle.rx_cellar.specs.declared.shapes.Effect.{Effect}
 use Rattle.rx_cellar.specs.declared.cellar.Cellar.{Cellar}
 use Rattle.rx_cellar.specs.Crossings.{effect_of, inner_of, what_of}
@@ -82,6 +86,10 @@ pub record IsRestOf (xs : List ℕ) (from : ℕ) (old new : List ℕ) (count sta
   pub count_is : count ≡ min (length old) (length xs - from)
   pub words_are : new ≡ filled (drop from xs) old
   pub done : status ≡ 0
+
+-- the word of the lane of a node, where that is open
+abbrev pub node_word : Cellar → NumberedKey → Option ℕ
+node_word s node = option_map word_of (lane_of s.engine (Node (key_of node)))
 
 -- the words of the lanes that the last accepted command's caller is to serve
 abbrev pub words_due : Cellar → List ℕ

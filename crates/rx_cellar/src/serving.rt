@@ -3,14 +3,15 @@
 ghost use Rattle.std.specs.Prelude.{◌≡◌, length, slice_get};
 ghost use Rattle.rx_cellar.specs.Words.{named};
 ghost use Rattle.rx_cellar.specs.Serving.{IsTaken, undone_in, sent_of, left_number, given_up_status, IsGivenUp, IsLeftTold, IsRestOf};
-ghost use Rattle.rx_cellar.specs.Serving.{Gives, uncounted_where, words_due};
+ghost use Rattle.rx_cellar.specs.Serving.{Gives, uncounted_where, words_due, node_word};
 
 use crate::cellar::Cellar;
 use crate::rest::fill_closings;
-use crate::shapes::{Effect, inner_of, what_of};
+use crate::shapes::{Effect, NumberedKey, inner_of, key_of, what_of};
 use crate::status::{DONE, NO_SUCH_CODE, status_of};
 use crate::words::{is_inside, is_named, place_in, word_of, word_of_due};
 use rx_book::Refusal;
+use rx_engine::LaneOf;
 use rx_lanes::LaneName;
 use rx_roles::{Effect as Sent, What};
 
@@ -146,6 +147,16 @@ impl Cellar {
             }
         }
         DONE
+    }
+
+    /// The word of the lane of a node; none where the node is not open.
+    pub fn node_word(&self, node: NumberedKey) -> Option<u64>
+        ensures { result ≡ node_word self.now node }
+    {
+        match self.engine.lane_of(LaneOf::Node(key_of(node))) {
+            Some(name) => Some(word_of(name)),
+            None => None,
+        }
     }
 
     /// The word of one of the lanes that the last accepted command's caller is to serve; none past the last.

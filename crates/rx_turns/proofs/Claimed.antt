@@ -50,18 +50,7 @@ claimed turn place word line rows lists left joined words is within leaves joins
   places_are = omega (arith, members);
 }
 
-pub loses_none : (a : DueLists) → LosesNothing a a
-loses_none a = record { due = λ t. refl; hands = λ t. refl; words = λ p. refl; places_are = omega arith }
-
--- more room changes nothing
-pub loses_on : (a b c : DueLists) → LosesNothing a b → LosesNothing b c → LosesNothing a c
-loses_on a b c l m = record {
-  due = λ t. m.due t ∙ l.due t;
-  hands = λ t. m.hands t ∙ l.hands t;
-  words = λ p. m.words p ∙ l.words p;
-  places_are = let first = l.places_are in let second = m.places_are in omega (arith, first, second);
-}
-
+-- more room before it changes nothing
 pub claims_behind : (turn : Turn) (place word : ℕ) (a b c : DueLists) → LosesNothing a b → Claims turn place word b c → Claims turn place word a c
 claims_behind turn place word a b c l m = record {
   due = λ t. m.due t ∙ ap (λ (xs : List ℕ). cond (is_same turn t) (take_out place xs ++ place ∷ []) (take_out place xs)) (l.due t);

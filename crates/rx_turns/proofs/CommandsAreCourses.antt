@@ -41,7 +41,7 @@ use Rattle.rx_cellar.specs.Crossings.{effect_of}
 use Rattle.rx_cellar.specs.Makings.{shown, Shows, WithHubs, found_one as found_hub, made_none, made_all, IsPerformed, Outcome, of_made, of_given, ComesTo}
 use Rattle.rx_turns.specs.Courses.{Seen, handed_in, was_told, tag_asked}
 use Rattle.rx_turns.specs.Courses.{IsEngineCourse}
-use Rattle.rx_turns.proofs.CoursesTold.{unchanged, by_command, by_take, and_then}
+use Rattle.rx_turns.proofs.Laws.CoursesTold.{unchanged, by_command, by_take, and_then}
 
 -- commands -----------------------------------------------------------------------------------------------
 

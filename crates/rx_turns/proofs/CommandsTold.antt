@@ -21,7 +21,7 @@ use Rattle.rx_cellar.specs.Asking.{asked_as}
 use Rattle.rx_cellar.specs.Cellars.{is_due, IsAskedMade, is_done, is_refused as is_not_done, IsCommandMade}
 use Rattle.rx_cellar.specs.Crossings.{effect_of, no_answer}
 use Rattle.rx_turns.specs.Courses.{Seen, IsEngineCourse, tag_asked}
-use Rattle.rx_turns.proofs.CoursesTold.{unchanged, and_then}
+use Rattle.rx_turns.proofs.Laws.CoursesTold.{unchanged, and_then}
 use Rattle.rx_turns.proofs.CommandsAreCourses.{told_first, told_due, tidy, tried}
 
 -- a refusal is not done

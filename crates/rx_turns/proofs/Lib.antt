@@ -12,6 +12,8 @@ pub mod Marked
 pub mod Deeper
 pub mod Emptied
 pub mod DueOnce
+pub mod HandsServe
+pub mod NothingDue
 pub mod Asked
 pub mod Handed
 pub mod Promised
@@ -22,9 +24,7 @@ pub mod NothingAstray
 pub mod DeeperServed
 pub mod Ended
 pub mod WordsClaimed
-pub mod HandsKept
-pub mod CoursesTold
 pub mod CommandsAreCourses
 pub mod NothingHanded
 pub mod CommandsTold
-pub mod CallsAreCourses
+pub mod Laws

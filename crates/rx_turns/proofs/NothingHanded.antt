@@ -1,6 +1,7 @@
 -- A command that is no item hands nothing out with its answer.
-use Rattle.std.proofs.lemmas.Bool.{false≢true, eqb-true}
-use Rattle.std.proofs.Common.{◌≡◌, ℕ, ◌==◌, ◌&&◌, Bool, true, false, sym, Option, Some, None, is_some, Result, Ok, Err, refl, ap, ◌∙◌}
+use Rattle.std.proofs.lemmas.Bool.{false≢true, eqb-true, lt-ltb, ltb-true}
+use Rattle.std.proofs.Common.{◌≡◌, ℕ, ◌<◌, ◌==◌, ◌&&◌, ◌||◌, nat_lt, Bool, true, false, sym, Option, Some, None, is_some, Result, Ok, Err, refl, ap, ◌∙◌}
+use Rattle.std.proofs.Common.{arith, if◌then◌else◌}
 use Rattle.rx_resource.specs.declared.Resource.{Ghosts}
 use Rattle.rx_resource.specs.declared.token.Token.{Token}
 use Rattle.rx_event.specs.declared.refusal.Refusal.{Refusal}
@@ -14,11 +15,12 @@ use Rattle.rx_cellar.specs.declared.cellar.Cellar.{Cellar}
 use Rattle.rx_cellar.specs.declared.shapes.Effect.{Effect}
 use Rattle.rx_cellar.specs.Asking.{asked_of, asked_as, item_asked, asks_item, is_emission}
 use Rattle.rx_cellar.specs.Crossings.{effect_of, no_answer}
-use Rattle.rx_cellar.proofs.ItemsAsked.{other_asks, other_as}
+use Rattle.rx_cellar.proofs.Laws.ItemsAsked.{other_asks, other_as}
 use Rattle.rx_cellar.specs.Makings.{Outcome, of_made, shown, ComesToIf}
 use Rattle.rx_cellar.specs.Cellars.{IsTried, at_once, once_more, IsTriedAgain, behind_one, behind_none, IsAskedMade, is_done, is_refused}
 use Rattle.rx_cellar.specs.Cellars.{IsCommandMade}
-use Rattle.rx_turns.specs.Making.{may_ask}
+use Rattle.rx_cellar.specs.Serving.{node_word}
+use Rattle.rx_turns.specs.Making.{may_ask, opens_lanes, inner_lane}
 use Rattle.std.specs.Prelude.{option_map}
 
 abbrev given_of : Result Outcome Refusal → Option Sent
@@ -67,3 +69,41 @@ pub no_item : (c : Command) → may_ask c.what ≡ false → asks_item (asked_as
 no_item c asks =
     let plain = other_asks c (no_emission c asks) in
     ap asks_item (sym (other_as false (asked_of c) plain)) ∙ plain
+
+-- nor is what opens lanes
+none_emitted : (c : Command) → opens_lanes c.what ≡ true → is_emission c ≡ false
+none_emitted c opens = by_test (c.what == 3) refl
+  where
+    by_test : (b : Bool) → (c.what == 3) ≡ b → is_emission c ≡ false
+    by_test false is = ap (λ x. (x && (c.flags == 0)) && (c.spare == 0)) is
+    by_test true is = absurd (false≢true (sym (ap opens_lanes (eqb-true c.what 3 is)) ∙ opens))
+
+pub no_item_opened : (waits : Bool) (c : Command) → opens_lanes c.what ≡ true → asks_item (asked_as waits (asked_of c)) ≡ false
+no_item_opened waits c opens =
+    let plain = other_asks c (none_emitted c opens) in
+    ap asks_item (sym (other_as waits (asked_of c) plain)) ∙ plain
+
+-- what opens no lanes opens no inner
+no_home : (b : Bool) (o : Option ℕ) → (if b && false then o else None) ≡ None
+no_home true o = refl
+no_home false o = refl
+
+pub no_inner : (b : Bool) (c : Command) (s : Cellar) → nat_lt c.what 2 ≡ false → inner_lane b c s ≡ None
+no_inner b c s other = ap (λ x. if b && (x && c.place == 2) then node_word s c.node else None) other ∙ no_home b (node_word s c.node)
+
+pub not_opening : (what : ℕ) → opens_lanes what ≡ false → nat_lt what 2 ≡ false
+not_opening what none = by_test (nat_lt what 2) refl
+  where
+    by_test : (b : Bool) → nat_lt what 2 ≡ b → nat_lt what 2 ≡ false
+    by_test false is = is
+    by_test true is = absurd (false≢true (sym none ∙ ap (λ b. b || what == 9) is))
+
+may_of : (what : ℕ) → what < 2 → may_ask what ≡ true
+may_of what few = ap (λ b. b || what == 9 || what == 11 || what == 14 || what == 16) (lt-ltb what 4 (omega (arith, few)))
+
+pub not_asking : (what : ℕ) → may_ask what ≡ false → nat_lt what 2 ≡ false
+not_asking what asks = by_test (nat_lt what 2) refl
+  where
+    by_test : (b : Bool) → nat_lt what 2 ≡ b → nat_lt what 2 ≡ false
+    by_test false is = is
+    by_test true is = absurd (false≢true (sym asks ∙ may_of what (ltb-true what 2 is)))

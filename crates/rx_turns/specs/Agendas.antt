@@ -1,6 +1,6 @@
 -- What is due to whom: each turn has the lanes that it is to serve next, in order, and what it was handed of the lane that it serves.
-use Rattle.std.specs.Prelude.{◌≡◌, ℕ, ◌<◌, ◌≤◌, ◌==◌, ◌&&◌, Bool, true, cond, List, [], ◌∷◌, ◌++◌, length, Option, None, Some, is_none, slice_index_or}
-use Rattle.rx_slots.specs.Lists.{Lists, is_in, take_out, head_of}
+use Rattle.std.specs.Prelude.{◌≡◌, ℕ, ◌<◌, ◌≤◌, ◌==◌, ◌&&◌, Bool, true, false, cond, List, [], ◌∷◌, ◌++◌, length, Option, None, Some, is_none, slice_index_or}
+use Rattle.rx_slots.specs.Lists.{Lists, list_at, is_in, take_out, head_of}
 use Rattle.rx_turns.specs.declared.agenda.Turn.{Turn}
 use Rattle.rx_turns.specs.declared.agenda.Task.{Task}
 use Rattle.rx_turns.specs.declared.agenda.Row.{Row}
@@ -57,6 +57,14 @@ pub record IsAgenda (rows : List Row) (lists : Lists) (lines settled deepest : �
 -- no lane is due to two turns
 abbrev pub IsDueOnce : DueLists → Type 0
 IsDueOnce a = (t u : Turn) (place : ℕ) → is_in place (due_to a t) ≡ true → is_in place (due_to a u) ≡ true → t ≡ u
+
+-- on no list is this place
+abbrev pub IsDueToNobody : DueLists → ℕ → Type 0
+IsDueToNobody a place = (e : ℕ) → is_in place (list_at a.lists e) ≡ false
+
+-- this stack serves the lane of this word
+abbrev pub IsServing : DueLists → (by word : ℕ) → Type 0
+IsServing a by word = (t : Turn) × (h : Task) × (t.by ≡ by) × (in_hand a t ≡ Some h) × (h.word ≡ word)
 
 -- whoever asks is told the same, and there is no less room
 pub record LosesNothing (a b : DueLists) : Type 0 where

@@ -9,7 +9,7 @@ use Rattle.rx_cellar.specs.Words.{is_inside, place_in}
 use Rattle.rx_turns.specs.declared.agenda.Turn.{Turn}
 use Rattle.rx_turns.specs.declared.agenda.Task.{Task}
 use Rattle.rx_turns.specs.Rows.{is_deeper}
-use Rattle.rx_turns.specs.Agendas.{DueLists, due_to, in_hand, IsEmptied}
+use Rattle.rx_turns.specs.Agendas.{DueLists, due_to, in_hand, IsDueToNobody, IsEmptied}
 use Rattle.rx_turns.specs.States.{TurnState}
 use Rattle.rx_turns.specs.Serving.{Drops}
 use Rattle.rx_turns.specs.Making.{IsMadeDue}
@@ -61,10 +61,6 @@ pub record TurnIsOver (a : DueLists) (turn : Turn) : Type 0 where
 pub data StopsDeeper (turn : Turn) (t : TurnState) : TurnState → Type 0 where
   all_ended : ((u : Turn) → is_deeper turn u ≡ true → TurnIsOver t.agenda u) → StopsDeeper turn t t
   one_ended : (s v : TurnState) (u : Turn) → is_deeper turn u ≡ true → EndsTurn u s v → StopsDeeper turn t v → StopsDeeper turn t s
-
--- on no list is this place
-abbrev pub IsDueToNobody : DueLists → ℕ → Type 0
-IsDueToNobody a place = (e : ℕ) → is_in place (list_at a.lists e) ≡ false
 
 -- what is left under a word is due to a turn; but of a lane that its stack serves further out, nothing more where the whole lane is due already
 pub data LeavesWord (word : ℕ) (turn : Turn) (s t : TurnState) : Type 0 where

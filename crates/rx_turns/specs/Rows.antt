@@ -110,6 +110,11 @@ abbrev pub begun_by : ℕ → Option Task → Option Task
 begun_by ticket None = None
 begun_by ticket (Some h) = Some (record h { is_begun = h.is_begun || h.ticket == ticket })
 
+-- it is of the lane of this word
+abbrev pub is_of_lane : ℕ → Option Task → Bool
+is_of_lane word None = false
+is_of_lane word (Some h) = h.word == word
+
 abbrev pub is_by : ℕ → Option Turn → Bool
 is_by by None = false
 is_by by (Some t) = t.by == by

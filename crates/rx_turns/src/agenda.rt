@@ -4,7 +4,7 @@ ghost use Rattle.std.specs.Prelude.{◌≡◌, ◌<◌, ◌≤◌, ◌+◌, ◌^
 ghost use Rattle.std.specs.Prelude.{OnOk, IsOk, IfOk, IfSome, is_none, slice_index_or, vec_capacity};
 ghost use Rattle.rx_slots.specs.Lists.{list_at, head_of, is_in};
 ghost use Rattle.rx_turns.specs.Rows.{is_of, own_line, row_on, HaveOneRowEach, KeepsRows, HasLine, Grows, TellsAlike, AreListed};
-ghost use Rattle.rx_turns.specs.Rows.{IsToldOf, is_by, begun_by, with_begun, is_deeper, is_before, nearer, is_fresh, AreSettled, settled_behind, AreNoDeeper, IsTheLine, IsOn};
+ghost use Rattle.rx_turns.specs.Rows.{IsToldOf, is_by, is_of_lane, begun_by, with_begun, is_deeper, is_before, nearer, is_fresh, AreSettled, settled_behind, AreNoDeeper, IsTheLine, IsOn};
 ghost use Rattle.rx_turns.specs.Telling.{handed_told, no_step};
 ghost use Rattle.rx_turns.specs.Agendas.{IsAgenda};
 
@@ -251,6 +251,14 @@ fn admit(
     make_line(rows, lists, lines, turn)
 }
 
+// Whether something is due on a line.
+#[inline(always)]
+fn is_due_on(lists: &Rings, line: usize) -> bool
+    ensures { result ≡ false → list_at lists.now line ≡ [] }
+{
+    lists.first(line).is_some()
+}
+
 // Whether something is due or served on a line.
 #[inline(always)]
 fn is_busy(rows: &[Row], lists: &Rings, line: usize) -> bool
@@ -305,6 +313,16 @@ fn is_by(by: u64, turn: Option<Turn>) -> bool
 {
     match turn {
         Some(turn) => turn.by == by,
+        None => false,
+    }
+}
+
+// Whether what is in hand is of the lane of this word.
+fn is_of_lane(word: u64, in_hand: &Option<Task>) -> bool
+    ensures { result ≡ is_of_lane word in_hand.now }
+{
+    match in_hand {
+        Some(handed) => handed.word == word,
         None => false,
     }
 }
@@ -457,7 +475,7 @@ impl Agenda {
     ghost use Rattle.rx_turns.specs.Agendas.{due_to, in_hand, hand_at, lane_word, has_nothing, HasNothing, LaneHasRoom};
     ghost use Rattle.rx_turns.specs.Agendas.{LosesNothing, Claims, IsDueNoMore, IsEmptied, Holds, NotesBegun};
     ghost use Rattle.rx_turns.specs.Seen.{seen};
-    ghost use Rattle.rx_turns.specs.Agendas.{IsDueOnce};
+    ghost use Rattle.rx_turns.specs.Agendas.{IsDueOnce, IsServing};
     ghost use Rattle.rx_turns.specs.declared.agenda.Turn.{Turn};
 
     /// Nothing is due, which takes no memory.
@@ -677,6 +695,32 @@ impl Agenda {
         ensures free { result ≡ false → (e : ℕ) → is_in place (list_at (seen self.now).lists e) ≡ false }
     {
         !self.lists.is_free(place)
+    }
+
+    /// Whether something is due to anybody.
+    #[inline(always)]
+    pub(crate) fn has_due(&self) -> bool
+        ensures { result ≡ false → (e : ℕ) → list_at (seen self.now).lists e ≡ [] }
+    {
+        for line in 0..self.rows.len() {
+            if is_due_on(&self.lists, line) {
+                return true;
+            }
+        }
+        false
+    }
+
+    /// Whether a stack serves the lane of a word.
+    pub(crate) fn is_serving(&self, by: u64, word: u64) -> bool
+        ensures serves { result ≡ true → IsServing (seen self.now) by word }
+        ensures none { result ≡ false → IsServing (seen self.now) by word → ⊥ }
+    {
+        for line in 0..self.rows.len() {
+            if is_by(by, self.rows[line].turn) && is_of_lane(word, &self.rows[line].in_hand) {
+                return true;
+            }
+        }
+        false
     }
 
     /// Makes a lane due to nobody.

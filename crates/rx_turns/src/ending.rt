@@ -8,12 +8,9 @@ ghost use Rattle.rx_turns.specs.States.{turn_state};
 ghost use Rattle.rx_turns.specs.Ending.{at_depth, left_under, astray_if, GivesBack, LetsLaneGo, LeavesWord, LeavesTo, EndsTurn, StopsDeeper};
 
 use crate::agenda::{OnLine, Task, Turn};
-use crate::making::place_of;
+use crate::making::{INSIDE, place_of};
 use crate::turns::Turns;
 use rx_cellar::Cellar;
-
-// From here on a word says that its lane is served further out.
-const INSIDE: u64 = 9_223_372_036_854_775_808;
 
 // The call of this depth on the same stack.
 pub(crate) fn at_depth(turn: Turn, depth: u64) -> Turn

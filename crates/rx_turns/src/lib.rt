@@ -10,7 +10,8 @@
 //! - A lane is **due** to a turn that is to serve it, and **in hand** of the turn that serves it. What is due to whom is the
 //!   **agenda** (`specs/Agendas.antt`): to each turn the places of lanes, in the order in which they were claimed.
 //! - A lane is **claimed** for a turn: then it is due to that one, behind all others, and to no other turn (`Claims`).
-//! - A command of a turn claims the lanes that its answer names (`specs/Making.antt`).
+//! - A command of a turn claims the lanes that its answer names, and before these the lane in which it opens an inner, where
+//!   that is due (`specs/Making.antt`).
 //! - A turn is **served** (`specs/Serving.antt`): what was handed out and not begun is handed out again; else the lane in
 //!   hand is asked first, then those that are due. What is handed out is a [`Task`], which has a ticket.
 //! - What is due to no turn is **astray**: a walk over the lanes finds it ([`Turns::step`] at depth 1).
@@ -31,13 +32,13 @@
 
 mod agenda;
 mod ending;
-mod laws;
 mod making;
 mod serving;
+mod turn_laws;
 mod turns;
 
 pub use agenda::{Task, Turn, clear_step};
-pub use laws::{
+pub use turn_laws::{
     calls_are_courses, nothing_is_astray_where_the_outermost_hands_out_nothing,
     nothing_is_left_where_nothing_is_handed_out, other_turns_keep_theirs,
     what_is_handed_out_is_in_hand,

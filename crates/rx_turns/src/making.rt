@@ -1,23 +1,26 @@
 //! A command that a turn makes.
 
-ghost use Rattle.std.specs.Prelude.{◌≡◌, ◌==◌, ◌<◌, ◌≤◌, ◌^◌, ℕ, true, false, None};
+ghost use Rattle.std.specs.Prelude.{◌≡◌, ◌==◌, ◌&&◌, ◌<◌, ◌≤◌, ◌^◌, ℕ, nat_lt, true, false, Some, None};
 ghost use Rattle.rx_cellar.specs.Words.{place_in};
-ghost use Rattle.rx_cellar.specs.Serving.{words_due};
+ghost use Rattle.rx_cellar.specs.Serving.{words_due, node_word};
 ghost use Rattle.rx_turns.specs.States.{turn_state};
 ghost use Rattle.rx_turns.specs.Agendas.{LosesNothing, lanes_fit, has_nothing};
 ghost use Rattle.rx_turns.specs.Rows.{IsOn};
 ghost use Rattle.rx_turns.specs.Making.{may_ask, opens_lanes, IsMadeDue, AreMadeDue};
-ghost use Rattle.rx_turns.specs.Making.{Comes, ComesIf, IsMadeBy, MakesOnLine, MakesIn};
+ghost use Rattle.rx_turns.specs.Making.{inner_lane, ComesHome, Comes, ComesIf, IsMadeBy, MakesOnLine, MakesIn};
 
 use crate::agenda::{OnLine, Turn};
 use crate::turns::Turns;
 use rx_book::Resource;
-use rx_cellar::{Answer, Cellar, Command, Effect, NO_MEMORY};
+use rx_cellar::{Answer, Cellar, Command, Effect, NO_MEMORY, NumberedKey};
 use rx_resource::Token;
 use std::cmp::min;
 
 // A lane's place is below this.
 const PLACES: u64 = 536_870_912;
+
+// From here on a word says that its lane is served further out.
+pub(crate) const INSIDE: u64 = 9_223_372_036_854_775_808;
 
 // So many lanes at most are thought to have effects left of nodes that are closed, and so many more a command may open.
 const LEFT: u64 = 65_536;
@@ -59,6 +62,13 @@ fn opens_lanes(what: u8) -> bool
     what < 2 || what == 9
 }
 
+// What opens an inner.
+fn opens_inner(command: &Command) -> bool
+    ensures { result ≡ (nat_lt command.now.what 2 && command.now.place == 2) }
+{
+    command.what < 2 && command.place == 2
+}
+
 // So many lanes there may be behind a command that opens some: two for each node that is open or opened, those that have effects left, and
 // those that are served.
 fn lanes_wanted(cellar: &Cellar, turns: usize) -> usize {
@@ -91,6 +101,50 @@ impl Turns {
                 Some(word) => self.claim(turn, word),
                 None => return,
             }
+        }
+    }
+
+    // Makes the lane due to a turn in which an inner was opened, where it is due and no other stack serves it.
+    #[cold]
+    #[inline(never)]
+    fn come_home(&mut self, turn: Turn, word: u64)
+        ensures { ComesHome turn (turn_state self.old) (turn_state self.new) (Some word) }
+    {
+        let place = place_of(word);
+        if !self.agenda.is_due(place) {
+            return;
+        }
+        let due = self.agenda.word(place);
+        if due % INSIDE != word {
+            return;
+        }
+        if due < INSIDE || self.agenda.is_serving(turn.by, word) {
+            self.claim(turn, due);
+        }
+    }
+
+    // The same of the lane of a node, which is looked for only where something is due.
+    #[inline(always)]
+    fn come_home_to(&mut self, turn: Turn, node: NumberedKey)
+        ensures { ComesHome turn (turn_state self.old) (turn_state self.new) (node_word self.old.cellar node) }
+    {
+        if !self.agenda.has_due() {
+            return;
+        }
+        match self.cellar.node_word(node) {
+            Some(word) => self.come_home(turn, word),
+            None => {}
+        }
+    }
+
+    // What stands where a command opened an inner comes before what that emits.
+    #[inline(always)]
+    fn come_home_if(&mut self, is_done: bool, turn: Turn, command: &Command)
+        ensures { ComesHome turn (turn_state self.old) (turn_state self.new)
+            (inner_lane is_done command.now self.old.cellar) }
+    {
+        if is_done && opens_inner(command) {
+            self.come_home_to(turn, command.node);
         }
     }
 
@@ -128,10 +182,11 @@ impl Turns {
         if is_done { self.come(on, given) } else { false }
     }
 
-    // Makes a command in a turn that has a line.
+    // Makes a command that opens no lanes in a turn that has a line.
     #[inline(always)]
     fn make_by(&mut self, on: OnLine, is_free: bool, command: &Command, answer: &mut Answer) -> Done
-        requires { IsOn on self.old.agenda.rows.items }
+        requires line { IsOn on self.old.agenda.rows.items }
+        requires plain { opens_lanes command.now.what ≡ false }
         ensures { IsMadeBy ⟦<Token as Resource>⟧ on.turn is_free command.now (turn_state self.old) (turn_state self.new)
             answer.old answer.new result.status result.is_own }
     {
@@ -149,14 +204,36 @@ impl Turns {
     }
 
     // Has what comes of a command that hands nothing out.
-    #[cold]
-    #[inline(never)]
+    #[inline(always)]
     fn come_bare(&mut self, is_done: bool, turn: Turn)
         ensures { ComesIf is_done turn (words_due self.old.cellar) None (turn_state self.old) (turn_state self.new) false }
     {
         if is_done {
             self.claim_all(turn);
         }
+    }
+
+    // Makes a command that opens lanes.
+    #[inline(always)]
+    fn make_opening(
+        &mut self,
+        turn: Turn,
+        is_free: bool,
+        command: &Command,
+        answer: &mut Answer,
+    ) -> u8
+        requires { opens_lanes command.now.what ≡ true }
+        ensures { IsMadeBy ⟦<Token as Resource>⟧ turn is_free command.now (turn_state self.old) (turn_state self.new)
+            answer.old answer.new result false }
+    {
+        self.cellar.promise();
+        let mut given = None;
+        let status = self
+            .cellar
+            .make(command, turn.by, !is_free, answer, &mut given);
+        self.come_home_if(status == 0, turn, command);
+        self.come_bare(status == 0, turn);
+        status
     }
 
     // Makes a command that asks for no memory in a turn that has no line.
@@ -219,7 +296,11 @@ impl Turns {
             return self.make_by(on, is_free, command, answer);
         }
         if self.make_room() {
-            return self.make_by(on, is_free, command, answer);
+            return Done {
+                status: self.make_opening(on.turn, is_free, command, answer),
+                is_own: false,
+                line: on.line,
+            };
         }
         answer.clear();
         Done {

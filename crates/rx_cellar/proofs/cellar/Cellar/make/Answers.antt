@@ -2,7 +2,7 @@ use Rattle.std.proofs.Common.{rules, ◌≡◌, ◌≢◌}
 use Rattle.rx_resource.specs.contracts.token.TokenResource.TheImpl.{ghosts}
 use Rattle.rx_cellar.specs.Asking.{asked_of, asked_as}
 use Rattle.rx_cellar.specs.Crossings.{no_answer}
-use Rattle.rx_cellar.proofs.ItemsAsked.{tidy_as}
+use Rattle.rx_cellar.proofs.Laws.ItemsAsked.{tidy_as}
 use Rattle.rx_cellar.proofs.Tries.{made_first, made_again, none_given}
 use Rattle.rx_cellar.proofs.cellar.Cellar.make.Goals as goal
 

@@ -5,7 +5,7 @@ use Rattle.rx_cellar.specs.Asking.{asked_of, asked_as, asked_for, queued_for}
 use Rattle.rx_cellar.specs.Crossings.{no_answer}
 use Rattle.rx_cellar.specs.Frequent.{item_in}
 use Rattle.rx_cellar.specs.Attempts.{IsTriedOnce}
-use Rattle.rx_cellar.proofs.ItemsAsked.{item_as, other_as, other_asks}
+use Rattle.rx_cellar.proofs.Laws.ItemsAsked.{item_as, other_as, other_asks}
 use Rattle.rx_cellar.proofs.Tries.{known_once}
 use Rattle.rx_cellar.proofs.cellar.Cellar.make_once.Goals as goal
 

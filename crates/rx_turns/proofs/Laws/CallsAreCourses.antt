@@ -27,7 +27,7 @@ use Rattle.rx_turns.specs.Serving.{HandsOut, AsksLane, gives_one, gives_none, Ta
 use Rattle.rx_turns.specs.Serving.{Serves, hands_again, goes_on, ends_lane, serves_none, ServesDeeper, none_deeper, deeper_has_one, deeper_has_none}
 use Rattle.rx_cellar.specs.Asking.{asked_of, asked_as}
 use Rattle.rx_cellar.specs.Serving.{words_due}
-use Rattle.rx_turns.specs.Making.{lane_at_once, Comes, comes_at_once, all_wait, ComesIf, IsMadeBy, MakesOnLine, makes_there, finds_no_room, MakesIn, is_made}
+use Rattle.rx_turns.specs.Making.{inner_lane, lane_at_once, Comes, comes_at_once, all_wait, ComesIf, IsMadeBy, MakesOnLine, makes_there, finds_no_room, MakesIn, is_made}
 use Rattle.rx_turns.specs.Making.{is_made_bare, finds_no_line}
 use Rattle.rx_turns.specs.Ending.{LetsLaneGo, holds_none, stays_in_hand, lets_inner_go, gives_lane_up, EndsTurn, StopsDeeper, all_ended, one_ended}
 use Rattle.rx_turns.specs.Ending.{LeavesTo, is_claimed, stays_due}
@@ -36,8 +36,8 @@ use Rattle.rx_turns.specs.Calls.{TurnGoesOn, serves_own, serves_no_more, MakesAn
 use Rattle.rx_turns.specs.Courses.{Seen, was_told, came_back, seen_told, seen_back, IsEngineCourse, tag_done, HandsFrom, IsHandedOf, hands_none, hands_new, hands_old}
 use Rattle.rx_turns.specs.Courses.{IsStepCourse, as_back, AreBack, none_back, one_back, IsEndCourse, CallsAreCourses}
 use Rattle.rx_turns.proofs.Lines.{is_same-self}
-use Rattle.rx_turns.proofs.HandsKept.{all_stay, then_hands, was_unbegun, one_held, noted_hands, ChangesDues, claimed_dues, all_dues}
-use Rattle.rx_turns.proofs.CoursesTold.{unchanged, by_take, by_giving_up, and_then}
+use Rattle.rx_turns.proofs.Laws.HandsKept.{all_stay, then_hands, was_unbegun, one_held, noted_hands, ChangesDues, claimed_dues, same_dues, home_dues, all_dues}
+use Rattle.rx_turns.proofs.Laws.CoursesTold.{unchanged, by_take, by_giving_up, and_then}
 use Rattle.rx_turns.proofs.CommandsAreCourses.{told_first}
 use Rattle.rx_turns.proofs.CommandsTold.{handed_with, made_course, none_handed_with, same_tag}
 
@@ -236,42 +236,36 @@ no_first None due is = refl
 no_first (Some e) [] is = refl
 no_first (Some e) (d ∷ ds) is = absurd (cc)
 
-module _ (g : Ghosts Token) (turn : Turn) (tags : List Seen) (s u t : TurnState) (v : Cellar) (given : Option Effect) (line : Stays g s u)
+module _ (g : Ghosts Token) (turn : Turn) (tags : List Seen) (s w t : TurnState) (v : Cellar) (given : Option Effect) (cellar_is : w.cellar ≡ v)
+    (tickets_are : w.tickets ≡ s.tickets) (hands : HandsFrom s w None)
     (p : IsEngineCourse g s.cellar.engine v.engine (tags ++ handed_with v.engine.parts.lanes.due given)) where
-  at_once : (word : ℕ) (e : Effect) (h : Task) → given ≡ Some e → slice_get (words_due v) 0 ≡ Some word → HandsOut turn word e (record u { cellar = v }) t h →
+  at_once : (word : ℕ) (e : Effect) (h : Task) → given ≡ Some e → slice_get (words_due v) 0 ≡ Some word → HandsOut turn word e w t h →
       MakesCourse g turn tags s t
   at_once word e h gives now_is out =
       let first = first_told v.engine.parts.lanes.due e word now_is in
       let told : handed_with v.engine.parts.lanes.due given ≡ was_told first.0 h.effect ∷ [] =
       ap (handed_with v.engine.parts.lanes.due) gives
       ∙ (first.1 ∙ ap (λ (x : Effect). was_told first.0 x ∷ []) (sym (ap (λ (x : Task). x.effect) out.is_new))) in
-      takes_own first.0 h (out.holds.hands turn ∙ ap (λ x. cond x (Some h) (in_hand u.agenda turn)) (is_same-self turn)) (ap (λ (x : Task). x.is_begun) out.is_new)
-      (ap (λ (x : Task). x.ticket) out.is_new ∙ ap (λ (n : ℕ). min (n + 1) most) line.tickets) (ap (λ (x : TurnState). x.tickets) out.only)
-      (then_hands s (record u { cellar = v }) t (Some h) line.hands (one_held turn (Some h) (record u { cellar = v }) t out.holds))
-      (at_end g s t v (tags ++ was_told first.0 h.effect ∷ []) (ap (λ (x : TurnState). x.cellar) out.only)
+      takes_own first.0 h (out.holds.hands turn ∙ ap (λ x. cond x (Some h) (in_hand w.agenda turn)) (is_same-self turn)) (ap (λ (x : Task). x.is_begun) out.is_new)
+      (ap (λ (x : Task). x.ticket) out.is_new ∙ ap (λ (n : ℕ). min (n + 1) most) tickets_are) (ap (λ (x : TurnState). x.tickets) out.only)
+      (then_hands s w t (Some h) hands (one_held turn (Some h) w t out.holds))
+      (at_end g s t v (tags ++ was_told first.0 h.effect ∷ []) (ap (λ (x : TurnState). x.cellar) out.only ∙ cellar_is)
       (subst (λ (xs : List Seen). IsEngineCourse g s.cellar.engine v.engine (tags ++ xs)) told p))
 
-  later : handed_with v.engine.parts.lanes.due given ≡ [] → ChangesDues (record u { cellar = v }) t → MakesCourse g turn tags s t
+  later : handed_with v.engine.parts.lanes.due given ≡ [] → ChangesDues w t → MakesCourse g turn tags s t
   later none changes =
-      takes_none (at_end g s t v tags changes.cellar
+      takes_none (at_end g s t v tags (changes.cellar ∙ cellar_is)
       (subst (λ (xs : List Seen). IsEngineCourse g s.cellar.engine v.engine xs) (ap (λ (xs : List Seen). tags ++ xs) none ∙ append-nil tags) p))
-      (changes.tickets ∙ line.tickets)
-      (then_hands s (record u { cellar = v }) t None line.hands (all_stay (record u { cellar = v }) t None changes.hands))
+      (changes.tickets ∙ tickets_are)
+      (then_hands s w t None hands (all_stay w t None changes.hands))
 
-  come : (is_own : Bool) → Comes turn (words_due v) given (record u { cellar = v }) t is_own → MakesCourse g turn tags s t
+  come : (is_own : Bool) → Comes turn (words_due v) given w t is_own → MakesCourse g turn tags s t
   come _ (comes_at_once word e h gives now_is out) = at_once word e h gives now_is out
-  come _ (all_wait none claimed) =
-      later (no_first given v.engine.parts.lanes.due none) (all_dues turn t (words_due v) (record u { cellar = v }) claimed)
+  come _ (all_wait none claimed) = later (no_first given v.engine.parts.lanes.due none) (all_dues turn t (words_due v) w claimed)
 
-  come_if : (is_own done : Bool) → ComesIf done turn (words_due v) given (record u { cellar = v }) t is_own → (done ≡ false → given ≡ None) →
-      MakesCourse g turn tags s t
+  come_if : (is_own done : Bool) → ComesIf done turn (words_due v) given w t is_own → (done ≡ false → given ≡ None) → MakesCourse g turn tags s t
   come_if is_own true comes undone = come is_own comes
-  come_if is_own false (same, none) undone =
-      later (ap (handed_with v.engine.parts.lanes.due) (undone refl)) (record {
-        cellar = ap (λ (x : TurnState). x.cellar) same;
-        tickets = ap (λ (x : TurnState). x.tickets) same;
-        hands = λ w. ap (λ (x : TurnState). in_hand x.agenda w) same;
-      })
+  come_if is_own false (same, none) undone = later (ap (handed_with v.engine.parts.lanes.due) (undone refl)) (same_dues w t same)
 
 -- a command that a turn makes, from a state with the same engine
 made_by : (g : Ghosts Token) (turn : Turn) (is_free : Bool) (c : Command) (s u t : TurnState) (a b : Answer) (status : ℕ) (is_own : Bool) →
@@ -282,7 +276,10 @@ made_by g turn is_free c s u t a b status is_own line same by =
     let due = handed_with by.cellar.engine.parts.lanes.due by.given in
     let p = subst (λ (xs : List Seen). IsEngineCourse g u.cellar.engine by.cellar.engine ((if status == 0 then xs else []) ++ due))
     (same_tag (not is_free) (asked_of c)) made in
-    come_if g turn (tag_done (Some c) status) s u t by.cellar by.given line
+    let v : TurnState = record u { cellar = by.cellar } in
+    let home = home_dues turn v by.between (inner_lane (status == 0) c by.cellar) by.home in
+    come_if g turn (tag_done (Some c) status) s by.between t by.cellar by.given home.cellar (home.tickets ∙ line.tickets)
+    (then_hands s v by.between None line.hands (all_stay v by.between None home.hands))
     (subst (λ (x : Cellar). IsEngineCourse g x.engine by.cellar.engine (tag_done (Some c) status ++ due)) same p)
     is_own (status == 0) by.comes (none_handed_with g asked turn.by u.cellar by.cellar a b by.given status by.made)
 

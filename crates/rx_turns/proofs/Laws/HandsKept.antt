@@ -4,9 +4,11 @@ use Rattle.std.proofs.lemmas.Option.{same_Some}
 use Rattle.rx_turns.specs.declared.agenda.Turn.{Turn}
 use Rattle.rx_turns.specs.declared.agenda.Task.{Task}
 use Rattle.rx_turns.specs.Rows.{is_same, begun_by}
-use Rattle.rx_turns.specs.Agendas.{in_hand, Holds}
+use Rattle.rx_cellar.specs.Words.{place_in}
+use Rattle.rx_turns.specs.Agendas.{in_hand, lane_word, Holds}
 use Rattle.rx_turns.specs.States.{TurnState}
 use Rattle.rx_turns.specs.Making.{IsMadeDue, has_claimed, went_astray, AreMadeDue, all_claimed, one_claimed}
+use Rattle.rx_turns.specs.Making.{ComesHome, opens_no_inner, is_not_due, is_of_another, is_due_here}
 use Rattle.rx_turns.specs.Calls.{HasNoted}
 use Rattle.rx_turns.specs.Courses.{WasInHand, HandsFrom}
 
@@ -93,6 +95,19 @@ claimed_dues turn word s t (has_claimed claims only) =
     record { cellar = ap (λ (x : TurnState). x.cellar) only; tickets = ap (λ (x : TurnState). x.tickets) only; hands = claims.hands }
 claimed_dues turn word s t (went_astray full loses only) =
     record { cellar = ap (λ (x : TurnState). x.cellar) only; tickets = ap (λ (x : TurnState). x.tickets) only; hands = loses.hands }
+
+pub same_dues : (s t : TurnState) → t ≡ s → ChangesDues s t
+same_dues s t same = record {
+  cellar = ap (λ (x : TurnState). x.cellar) same;
+  tickets = ap (λ (x : TurnState). x.tickets) same;
+  hands = λ u. ap (λ (x : TurnState). in_hand x.agenda u) same;
+}
+
+pub home_dues : (turn : Turn) (s t : TurnState) (home : Option ℕ) → ComesHome turn s t home → ChangesDues s t
+home_dues turn s t _ (opens_no_inner same) = same_dues s t same
+home_dues turn s t _ (is_not_due word none same) = same_dues s t same
+home_dues turn s t _ (is_of_another word others same) = same_dues s t same
+home_dues turn s t _ (is_due_here word e stands may claims) = claimed_dues turn (lane_word s.agenda (place_in word)) s t claims
 
 pub all_dues : (turn : Turn) (t : TurnState) (words : List ℕ) (s : TurnState) → AreMadeDue turn t words s → ChangesDues s t
 all_dues turn t _ _ all_claimed = record { cellar = refl; tickets = refl; hands = λ u. refl }

@@ -1,0 +1,4 @@
+pub mod NothingLost
+pub mod HandsKept
+pub mod CoursesTold
+pub mod CallsAreCourses

@@ -1,5 +1,0 @@
-use Rattle.rx_turns.proofs.CallsAreCourses.{calls_are_courses}
-use Rattle.rx_turns.proofs.laws.calls_are_courses.Goals as goal
-
-pub returns : goal.returns
-returns c = calls_are_courses _
