@@ -8,6 +8,7 @@ mod CallsMakeCourses
 pub mod Common
 mod CountsOverLanes
 mod EffectsToldOnce
+mod FollowBothWays
 mod HeldToTheEnd
 mod NothingLeftToTell
 mod OwnTickets

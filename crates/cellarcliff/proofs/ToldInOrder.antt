@@ -4,6 +4,7 @@ use Rattle.std.proofs.Math.Bool.{not}
 use Rattle.std.proofs.lemmas.Bool.{false≢true, false_from_ne_true, eqb-true}
 use Rattle.rx_resource.specs.declared.Resource.{Ghosts}
 use Rattle.rx_resource.specs.declared.token.Token.{Token}
+use Rattle.rx_courses.specs.Refused.{RefusedIsUnchanged}
 use Rattle.rx_courses.specs.RootsTold.{TellsEachRoot}
 use Rattle.rx_courses.specs.Serving.{NothingIsStuck, ServesOneAtATime}
 use Rattle.rx_courses.specs.Tellings.{TellsInOrder}
@@ -29,6 +30,7 @@ use Rattle.cellarcliff.specs.Steps.{turn_of}
 use Rattle.cellarcliff.specs.LanesServed.{AreEffectsToldInOrder, AreRootsTold, AreLanesServedOneByOne, HasAllDone, StepsLeaveNothing}
 use Rattle.cellarcliff.specs.LanesServed.{RefusedCallsChangeNothing}
 use Rattle.cellarcliff.proofs.RefusalsChangeNothing.{call_refused}
+use Rattle.cellarcliff.proofs.FollowBothWays.{both_ways}
 use Rattle.cellarcliff.proofs.CallsMakeCourses.{said, by_calls, begins_so, shows_course}
 use Rattle.cellarcliff.proofs.EffectsToldOnce.{no_roles}
 
@@ -177,18 +179,20 @@ told_over : (handed : Option Task) (is_own : Bool) (a : Answer) → handed_told 
 told_over None is_own a = refl
 told_over (Some h) is_own a = refl
 
-pub refused_calls_change_nothing : (g : Ghosts Token) → RefusedCallsChangeNothing g
-refused_calls_change_nothing g stack c a b s t status on undone =
+pub refused_calls_change_nothing : (g : Ghosts Token) → RefusedIsUnchanged g → RefusedCallsChangeNothing g
+refused_calls_change_nothing g law stack c a b s t status on undone =
     let k = (said s t status on).0 in
     let steps = k.steps in
     let kept = refuses g (turn_of stack) c steps.marked steps.made a k.made k.step.status k.step.is_own steps.makes
     (λ zero_is. undone (k.status_is ∙ zero_is)) in
     let marked = ap (λ (x : TurnState). x.cellar) steps.marks.only in
+    let engine = subst (λ (x : Cellar). KeepsAllElse g x.engine steps.made.cellar.engine) marked kept.engine in
     record {
       marked = steps.marked;
       marks = steps.marks;
       between = steps.made;
-      engine = subst (λ (x : Cellar). KeepsAllElse g x.engine steps.made.cellar.engine) marked kept.engine;
+      engine = engine;
+      follows = λ only. both_ways g law s.cellar.engine steps.made.cellar.engine engine only;
       released = kept.released ∙ ap (λ (x : Cellar). x.released) marked;
       agenda = kept.agenda;
       tickets = kept.tickets ∙ ap (λ (x : TurnState). x.tickets) steps.marks.only;

@@ -8,6 +8,7 @@ use Rattle.rx_lanes.specs.State.{lane}
 use Rattle.rx_roles.specs.declared.effect.Effect.{Effect as Sent}
 use Rattle.rx_engine.specs.States.{State, IsPromised}
 use Rattle.rx_courses.specs.Courses.{all_effects}
+use Rattle.rx_courses.specs.Refused.{FollowsAlike}
 use Rattle.rx_courses.specs.RootsTold.{AllOpenOnly, TellsARoot}
 use Rattle.rx_courses.specs.Serving.{ends_serving, ServesAlone, named_there}
 use Rattle.rx_courses.specs.Tellings.{IsHonest, told_there, line_at, those_there, but_releases}
@@ -23,7 +24,7 @@ use Rattle.rx_turns.specs.Courses.{Seen, IsEngineCourse}
 use Rattle.rx_turns.specs.Promises.{LackedRoom}
 use Rattle.cellarcliff.specs.declared.stepping.Stack.{Stack}
 use Rattle.rx_cellar.specs.declared.shapes.Answer.{Answer}
-use Rattle.cellarcliff.specs.Refusals.{KeepsAllElse}
+use Rattle.cellarcliff.specs.Refusals.{KeepsAllElse, is_room_only}
 use Rattle.rx_turns.specs.Telling.{handed_told, no_step}
 use Rattle.cellarcliff.specs.Steps.{turn_of, IsStepTold}
 use Rattle.cellarcliff.specs.Courses.{Shown, OnTurns, CellarCourse, IsShownCourse, OfAllCalls}
@@ -79,13 +80,19 @@ StepsLeaveNothing g = (stack : Stack) (c : Option Command) (step step' : Answer)
 
 -- refused steps ------------------------------------------------------------------------------------------
 
+-- whatever may follow one of these may follow the other
+abbrev pub FollowEachOther : Ghosts Token → State → State → Type 0
+FollowEachOther g s t = FollowsAlike g s t × FollowsAlike g t s
+
 -- nothing is told of the command, and nothing changed by it but room, a checkpoint and hubs, when the turn goes on: of the engine, nor of what is due
--- and in hand once what was begun is noted, nor the ticket that was given last, nor what is astray
+-- and in hand once what was begun is noted, nor the ticket that was given last, nor what is astray. Where neither a checkpoint nor hubs were made,
+-- whatever may follow the engine as it was may follow it as it is, and the other way round
 pub record IsRefusedStep (g : Ghosts Token) (stack : Stack) (s t : TurnState) (step step' : Answer) : Type 0 where
   pub marked : TurnState
   pub marks : HasNoted stack.by stack.begun s marked
   pub between : TurnState
   pub engine : KeepsAllElse g s.cellar.engine between.cellar.engine
+  pub follows : is_room_only engine ≡ true → FollowEachOther g s.cellar.engine between.cellar.engine
   pub released : between.cellar.released ≡ s.cellar.released
   pub agenda : LosesNothing marked.agenda between.agenda
   pub tickets : between.tickets ≡ s.tickets

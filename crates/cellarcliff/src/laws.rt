@@ -6,8 +6,8 @@ ghost use Rattle.cellarcliff.specs.LiveCourses.{AreAnswersHandedOut};
 
 use rx_book::Resource;
 use rx_courses::{
-    each_is_told_once, lanes_are_served_one_at_a_time, nothing_is_stuck, roots_are_told_in_order,
-    tags_once, tells_in_order,
+    each_is_told_once, lanes_are_served_one_at_a_time, nothing_is_stuck, refused_is_unchanged,
+    roots_are_told_in_order, tags_once, tells_in_order,
 };
 use rx_resource::Token;
 use rx_turns::{
@@ -74,10 +74,13 @@ pub fn steps_leave_nothing()
 
 /// A step with a status that is not 0 tells nothing of its command, and the command changes nothing but room, a
 /// checkpoint and the hubs of shares: what is due to each turn and in hand, the ticket that was given last and what is astray
-/// are what a step without a command finds. Then the turn goes on as it would without it.
+/// are what a step without a command finds. Then the turn goes on as it would without it. Where neither a checkpoint nor
+/// hubs were made, whatever may follow the engine as it was may follow it as it is, and the other way round.
 pub fn refused_calls_change_nothing()
     ensures { RefusedCallsChangeNothing ⟦<Token as Resource>⟧ }
-{}
+{
+    refused_is_unchanged();
+}
 
 /// Of any calls on one handle of a live book, from a new book until the handle keeps nothing and without `cellar_live_drop`: the
 /// texts that were handed out with the status 0 are the answers to the lines that got 0 or 1, in order and each
