@@ -100,7 +100,8 @@ fn push_points(
     height: u64,
     points: &[Point],
 ) -> Result<(), AllocError>
-    ensures { OnOk result (string_bytes text.new ≡ string_bytes text.old ++ flat_map (point_text drawing.now height) points.now) }
+    ensures { OnOk result (string_bytes text.new ≡ string_bytes text.old
+        ++ flat_map (point_text drawing.now height) points.now) }
 {
     for point in points {
         push_point(text, drawing, height, *point)?;
@@ -127,7 +128,8 @@ fn push_rows(
 
 /// All ticks.
 fn push_ticks(text: &mut String, drawing: &Drawing, points: &[Point]) -> Result<(), AllocError>
-    ensures { OnOk result (string_bytes text.new ≡ string_bytes text.old ++ flat_map (tick_text drawing.now) points.now) }
+    ensures { OnOk result (string_bytes text.new ≡ string_bytes text.old
+        ++ flat_map (tick_text drawing.now) points.now) }
 {
     for point in points {
         push_tick(text, drawing, *point)?;
@@ -137,7 +139,8 @@ fn push_ticks(text: &mut String, drawing: &Drawing, points: &[Point]) -> Result<
 
 /// All marbles.
 fn push_marbles(text: &mut String, drawing: &Drawing, marbles: &[Mail]) -> Result<(), AllocError>
-    ensures { OnOk result (string_bytes text.new ≡ string_bytes text.old ++ flat_map (note_marble drawing.now) marbles.now) }
+    ensures { OnOk result (string_bytes text.new ≡ string_bytes text.old
+        ++ flat_map (note_marble drawing.now) marbles.now) }
 {
     for mail in marbles {
         push_told(text, drawing, *mail)?;
@@ -281,7 +284,8 @@ fn push_under(
     verdict: &Verdict,
 ) -> Result<(), AllocError>
     requires { height ≤ 10000 }
-    ensures { OnOk result (string_bytes text.new ≡ string_bytes text.old ++ under_text drawing.now end height verdict.now) }
+    ensures { OnOk result (string_bytes text.new ≡ string_bytes text.old
+        ++ under_text drawing.now end height verdict.now) }
 {
     push_verdict_line(text, height, verdict)?;
     push_unreleased_line(text, height, drawing.leaks.len() as u64)?;

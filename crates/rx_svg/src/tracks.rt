@@ -148,7 +148,8 @@ fn push_life(
     end: u64,
     ending: Ending,
 ) -> Result<(), AllocError>
-    ensures { OnOk result (string_bytes text.new ≡ string_bytes text.old ++ life_text drawing.now y n until end ending) }
+    ensures { OnOk result (string_bytes text.new ≡ string_bytes text.old
+        ++ life_text drawing.now y n until end ending) }
 {
     if n >= until {
         return Ok(());
@@ -219,7 +220,8 @@ fn push_owned(
     until: u64,
     end: u64,
 ) -> Result<(), AllocError>
-    ensures { OnOk result (string_bytes text.new ≡ string_bytes text.old ++ owned_text drawing.now unreleased y after until end) }
+    ensures { OnOk result (string_bytes text.new ≡ string_bytes text.old
+        ++ owned_text drawing.now unreleased y after until end) }
 {
     let class = held_class(unreleased);
     let title = "held by its node";
@@ -236,7 +238,8 @@ fn push_loan(
     until: u64,
     end: u64,
 ) -> Result<(), AllocError>
-    ensures { OnOk result (string_bytes text.new ≡ string_bytes text.old ++ loan_text drawing.now unreleased y after until end) }
+    ensures { OnOk result (string_bytes text.new ≡ string_bytes text.old
+        ++ loan_text drawing.now unreleased y after until end) }
 {
     let class = held_class(unreleased);
     let title = "held by a lease";
@@ -253,7 +256,8 @@ fn push_wait(
     until: u64,
     end: u64,
 ) -> Result<(), AllocError>
-    ensures { OnOk result (string_bytes text.new ≡ string_bytes text.old ++ wait_text drawing.now unreleased y after until end) }
+    ensures { OnOk result (string_bytes text.new ≡ string_bytes text.old
+        ++ wait_text drawing.now unreleased y after until end) }
 {
     let class = wait_class(unreleased);
     let title = "waits, but where a lease holds it,";
@@ -268,7 +272,8 @@ fn push_release(
     y: u64,
     taken: u64,
 ) -> Result<(), AllocError>
-    ensures { OnOk result (string_bytes text.new ≡ string_bytes text.old ++ release_text drawing.now unreleased y taken) }
+    ensures { OnOk result (string_bytes text.new ≡ string_bytes text.old
+        ++ release_text drawing.now unreleased y taken) }
 {
     let x = x_of(drawing, taken);
     if unreleased {
@@ -300,7 +305,8 @@ fn push_shape(
     end: u64,
     shape: Shape,
 ) -> Result<(), AllocError>
-    ensures { OnOk result (string_bytes text.new ≡ string_bytes text.old ++ shape_text drawing.now unreleased y n end shape) }
+    ensures { OnOk result (string_bytes text.new ≡ string_bytes text.old
+        ++ shape_text drawing.now unreleased y n end shape) }
 {
     match shape {
         Shape::Node { until, ending } => push_life(text, drawing, y, n, until, end, ending),
