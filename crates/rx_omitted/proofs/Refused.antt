@@ -7,7 +7,8 @@ use Rattle.rx_event.specs.Events.{is_leaf}
 use Rattle.rx_event.specs.Allowed.{may_abort, most_hubs}
 use Rattle.rx_event.specs.Renumbered.{kind_by, call_by}
 use Rattle.rx_event.specs.Refusals.{first_of_these}
-use Rattle.rx_event.specs.Causes.{is_without_hub, is_out_of_order, connects_up_to, is_gone, is_wrong_place, is_taken_place, is_unowed_place, is_crowded, causes, is_over, added_by, projecting_causes}
+use Rattle.rx_event.specs.Causes.{is_without_hub, is_out_of_order, connects_up_to, is_gone, is_wrong_place, is_taken_place, is_unowed_place, is_crowded}
+use Rattle.rx_event.specs.Causes.{causes, is_over, added_by, projecting_causes}
 use Rattle.rx_event.specs.Calls.{Call, Opening, OpeningUsing, Holding, Applying, Removing, Leasing, GivingBack, Emitting, Ending, Aborting, Declining}
 use Rattle.rx_event.specs.Calls.{Failing, Disposing, Publishing, Connecting, Disconnecting, Taking}
 use Rattle.rx_event.specs.declared.refusal.Refusal.{Refusal}
