@@ -42,7 +42,7 @@ class Loose {
 
 export class Things extends Table {
   #engine; #forgotten; #taken = 0; #lately = new Int32Array(LATELY);
-  #when = [0]; // by word, when it was taken in, or is due
+  #when = [0]; // by word, when it was taken in, or less than 0 and when it is due: a word that is taken in just then is another
   #again = WAITS.map(() => []); #due = Infinity; // words that are kept again, and when each is due
 
   constructor(engine) {
@@ -67,7 +67,7 @@ export class Things extends Table {
     this.#due = Infinity;
     for (const list of this.#again) {
       let at = 0;
-      for (; at < list.length && list[at + 1] <= now; at += 2) if (this.#when[list[at]] === list[at + 1]) this.#loosens(list[at]);
+      for (; at < list.length && list[at + 1] <= now; at += 2) if (this.#when[list[at]] === -list[at + 1]) this.#loosens(list[at]);
       list.splice(0, at);
       if (list.length) this.#due = Math.min(this.#due, list[1]);
     }
@@ -91,7 +91,7 @@ export class Things extends Table {
     if (this.get(word) !== loose) return;
     this.put(word, it);
     const at = Math.min(loose.times++, WAITS.length - 1), due = this.#taken + WAITS[at];
-    this.#when[word] = due;
+    this.#when[word] = -due;
     this.#again[at].push(word, due);
     this.#due = Math.min(this.#due, due);
   }
