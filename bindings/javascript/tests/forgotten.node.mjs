@@ -5,9 +5,10 @@ const INDEX = new URL('../index.mjs', import.meta.url).href, MANY = 40;
 /** What a program prints as JSON; it has `gone`, which waits until what can be collected has been. */
 function program(text) {
   const { stdout, stderr } = spawnSync(process.execPath, ['--expose-gc', '--input-type=module', '-e', `
-    const rx = await import(${JSON.stringify(INDEX)}), MANY = ${MANY}, hear = () => {};
+    const rx = await import(${JSON.stringify(INDEX)}), MANY = ${MANY}, hear = () => {}, of = rx.of(1);
+    const another = () => [new rx.Subject(), new rx.Subject().pipe(rx.mergeMap(() => of))].forEach((it) => it.subscribe(hear).unsubscribe());
     async function gone() {
-      for (let i = 0; i < 300; i++) new rx.Subject().subscribe(hear).unsubscribe(); // what was opened lately is kept
+      for (let i = 0; i < 300; i++) another(); // what was opened lately is kept
       for (let i = 0; i < 4; i++) {
         gc();
         await new Promise((done) => setTimeout(done, 5));
@@ -66,16 +67,15 @@ export const only_ours = {
     console.log(JSON.stringify(lost));`), is: {} },
   'what was told when it was not kept any more is collected later': { of: () => program(`
     let sources = Array.from({ length: MANY }, () => new rx.Subject());
-    sources.forEach((it) => it.subscribe(hear));
+    sources.forEach((it) => it.pipe(rx.mergeMap(() => of)).subscribe(hear));
     await gone();
     sources.forEach((it) => it.next(1));
     sources = null;
-    const again = () => new rx.Subject().subscribe(hear).unsubscribe();
     await gone();
     const early = rx.counts().nodes;
-    for (let i = 0; i < 1024; i++) again();
+    for (let i = 0; i < 1024; i++) another();
     await gone();
-    console.log(JSON.stringify([early, rx.counts().nodes]));`), is: [40, 0] },
+    console.log(JSON.stringify([early, rx.counts().nodes]));`), is: [2 * MANY, 0] },
   'more shares than an engine serves are collected': { of: () => program(`
     const forgets = () => {
       const s = new rx.Subject();

@@ -7,6 +7,7 @@
 //    --over FOLDER   over another copy of the package
 //    --show NAME     prints the programs of a difference; --shrink: prints the smallest program that goes wrong, or differs, in the same way
 //    --chains        chains of functions on items in their place
+//    --lone          over the package alone, with roots that need no engine told by it too: nothing differs
 //    --deep          each step where the stack is almost full, over the package alone: then only what stays open is looked at
 // It fails where the engine dies, a resource is not released once (what a share or a connection was told to keep is closed at the end), a difference has
 // no name, or more than two in a hundred differ by the manner of the package.
@@ -17,13 +18,14 @@ import { chains } from './random/chains.mjs';
 import { deeply } from './random/deep.mjs';
 import { FAULTS, isHeardSame, nameOf } from './random/differences.mjs';
 import { drawn } from './random/drawing.mjs';
+import { alone } from './random/lone.mjs';
 import { OPERATORS, SOURCES } from './random/mix.mjs';
 import { Run, inOrder } from './random/running.mjs';
 import { shrunk } from './random/shrinking.mjs';
 
 const words = process.argv.slice(2), take = (name, many) => (words.includes(name) ? words.splice(words.indexOf(name), many) : null);
 const given = take('--seeds', 2)?.[1].split(',').map(Number) ?? null;
-const show = take('--show', 2)?.[1], [is_chains, is_deep, is_busy, is_shrunk] = ['--chains', '--deep', '--busy', '--shrink'].map((it) => take(it, 1) !== null);
+const show = take('--show', 2)?.[1], [is_chains, is_deep, is_lone, is_busy, is_shrunk] = ['--chains', '--deep', '--lone', '--busy', '--shrink'].map((it) => take(it, 1) !== null);
 const folder = resolve(take('--over', 2)?.[1] ?? `${import.meta.dirname ?? new URL('.', import.meta.url).pathname}/..`), [many = 10000, first = 1] = words.map(Number);
 const require = createRequire(import.meta.url), home = '/usr/share/nodejs/rxjs/dist/cjs', load = (name) => import(pathToFileURL(`${folder}/${name}.mjs`).href);
 const peer = [require(home), require(`${home}/operators`)], ours = [await load('index'), await load('operators')];
@@ -70,6 +72,7 @@ function tried(it) {
 }
 
 if (is_chains) process.exit(chains(peer, ours, many, first));
+if (is_lone) process.exit(alone(ours, many, first, is_busy));
 if (is_deep) process.exit(await deeply(ours, many, first));
 
 const total = { programs: 0, on: 0, within: 0, items: 0, resources: 0, heard: 0, of_rxjs: 0, rows: 0, wrong: 0 }, by = new Map(), reached = new Map(), used = new Set();

@@ -1,24 +1,28 @@
 // A leaf of the engine: what a source tells goes in here, through the functions on items that stand before the book.
 import { realm } from '../engine/realm.mjs';
+import { IN_ENGINE, isLone, loneEnd, loneError, loneNext } from './lone.mjs';
 import { COMPLETION, Subscriber, collecting, errorOf } from './subscriber.mjs';
 import { stopped } from './config.mjs';
 import { UnsubscriptionError } from './errors.mjs';
 
-/** The end of a chain of functions on items: the engine. */
+/** The end of a chain of functions on items: the engine, or who hears a root that needs none. */
 export const TERMINAL = {
   hooked: false,
   next(value, leaf) {
-    if (leaf._many) realm.engine.nextOfMany(leaf, value);
+    if (leaf._lone !== IN_ENGINE) loneNext(leaf, value);
+    else if (leaf._many) realm.engine.nextOfMany(leaf, value);
     else realm.engine.next(leaf, value);
   },
   error(error, leaf) {
     leaf.isStopped = true;
-    realm.engine.error(leaf, error);
+    if (leaf._lone !== IN_ENGINE) loneError(leaf, error);
+    else realm.engine.error(leaf, error);
   },
   complete(leaf) {
     leaf.isStopped = true;
     if (leaf._inner !== null) releases(leaf);
-    realm.engine.complete(leaf);
+    if (leaf._lone !== IN_ENGINE) loneEnd(leaf);
+    else realm.engine.complete(leaf);
   },
 };
 
@@ -60,7 +64,7 @@ export class Stage {
 export function failing(to, error) {
   let waits = false;
   realm.engine.surely(() => {
-    if (waits) to.isStopped = to.owed === 0; // the engine has closed it
+    if (waits) to.isStopped = isLone(to) ? to.closed : to.owed === 0; // the engine has closed it
     to.error(error);
   }, () => { if (to instanceof Leaf && !to.isStopped) to.isStopped = waits = true; });
 }
@@ -81,6 +85,10 @@ export class Leaf extends Subscriber {
     this.hears = hears; // where this leaf is the whole tree, else null
     this._subject = this._before = this._after = null; // whose list it is on, and between which
     this._many = false; // whether its source tells items in one go
+    this._lone = IN_ENGINE; // or how it stands with a root that needs no engine, its place among those, what waits there, and how many came each of the one before
+    this._at = 0;
+    this._later = null;
+    this._level = 0;
     if (inner !== null) for (let it = inner; it.above !== null; it = it.above) it.leaf = this;
   }
 
@@ -104,10 +112,11 @@ export class Leaf extends Subscriber {
 
   /** What it is told within this is told in one go: as one item, where nothing happens between. */
   many(act) {
+    if (this._lone !== IN_ENGINE) realm.engine.looks();
     this._many = true;
     try { act(); } finally {
       this._many = false;
-      realm.engine.begins();
+      if (this._lone === IN_ENGINE) realm.engine.begins();
     }
   }
 

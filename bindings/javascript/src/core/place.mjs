@@ -6,6 +6,7 @@ import { Thing } from '../engine/thing.mjs';
 import { traced } from '../engine/tracing.mjs';
 import { Inner, Leaf, TERMINAL, failing } from './leaf.mjs';
 import { Link } from './link.mjs';
+import { IN_ENGINE, mayBeLone, opensLone } from './lone.mjs';
 import { Subscriber } from './subscriber.mjs';
 
 /** A place in a tree: below which node, who hears (of a root), and the functions that items go through. */
@@ -74,14 +75,19 @@ export function openNode(at, kind, body = null, tag = null, share = null) {
 
 /** Opens a leaf there: what tells it, or null. */
 export function openLeaf(at) {
-  const leaf = new Leaf(at._way, at._place === ROOT ? at._hears : null, at._leaves, at._inner), how = opens(at, LEAF, leaf, WISHES, null, null);
+  const hears = at._place === ROOT ? at._hears : null, leaf = new Leaf(at._way, hears, at._leaves, at._inner);
+  if (hears !== null && mayBeLone(hears)) {
+    opensLone(leaf);
+    return leaf;
+  }
+  const how = opens(at, LEAF, leaf, WISHES, null, null);
   if (how === CLOSED) return null;
   if (how === BEHIND) leaf.closed = leaf.isStopped = true;
   else if (leaf.hears === null) leaf._thing = leaf;
   return leaf;
 }
 /** Of a leaf that is closed: whether it stands for what is LEFT, and was never opened. */
-export const isLeft = (leaf) => leaf.slot === -1;
+export const isLeft = (leaf) => leaf.slot === -1 && leaf._lone === IN_ENGINE;
 
 /** Opens a node that passes everything, with a resource; the place below it, or null. Below LEFT the resource is to be released behind what is opened. */
 export function openUsing(at, tag) {

@@ -4,6 +4,7 @@ import { Tag } from '../engine/thing.mjs';
 import { traced } from '../engine/tracing.mjs';
 import { reportUnhandledError, stopped, unheard } from './config.mjs';
 import { UnsubscriptionError } from './errors.mjs';
+import { enters, isLone, loneLeft } from './lone.mjs';
 import { Own, Subscription, finalizeOne, isSubscription } from './subscription.mjs';
 import { isFunction, noop } from './util.mjs';
 
@@ -137,8 +138,8 @@ export class Subscriber extends Subscription {
 
   // Its finalizers are one resource of its node, released with that.
   _hold() {
-    const tag = traced(new Finalizers(this), 'teardown', this._thing);
-    if (realm.engine.hold(this._thing, tag) === 0) this._tag = tag;
+    const thing = this._thing, tag = traced(new Finalizers(this), 'teardown', thing);
+    if (enters(thing) && realm.engine.hold(thing, tag) === 0) this._tag = tag;
     else if (this.closed) { // as what had been put off was done
       const errors = this._finalized(null);
       if (errors !== null) thrown(errors);
@@ -147,10 +148,12 @@ export class Subscriber extends Subscription {
 
   _leave() {
     const { engine } = realm, thing = this._thing, hearing = this._hearing;
-    const goes_on = thing !== null && engine.dispose(thing); // where that throws nothing has been changed
+    let goes_on = false; // where any of these throws nothing has been changed
+    if (isLone(thing)) engine.room(); else if (thing !== null) goes_on = engine.dispose(thing);
     this.closed = this.isStopped = true;
     this._thing = null;
     this._hearing = 0;
+    if (isLone(thing)) loneLeft(thing);
     let errors = goes_on ? collecting(() => engine.goOn()) : null;
     // left while it hears its end: what stands behind that is released now
     if (hearing !== 0) errors = collecting(() => engine.releases(hearing));

@@ -16,7 +16,7 @@ import { Tag } from './thing.mjs';
 import { Things } from './things.mjs';
 
 const STOPPED = 'cellarcliff: the engine stopped within a call';
-const MOST = 100000; // items from within one command, each because of the one before: what goes on behind that never ends
+export const MOST = 100000; // items from within one command, each because of the one before: what goes on behind that never ends
 const THE_NEXT = -1; // of a value: the word that the next one has
 const REFUSED = { 4: 'no memory is left', 16: 'too much is open', 29: 'a node holds too many resources' };
 // Where the numbers of an answer stand.
@@ -79,7 +79,7 @@ export class Crossing {
 
   // What a dead engine held is known by its tags, and who heard by the roots: each is released once, and each is told, in a turn of its own.
   #endsAll(things) {
-    const surely = (act) => { try { act(); } catch (error) { this.#report(error); } };
+    const surely = (act) => { try { act(); } catch (error) { this.report(error); } };
     for (const it of things) if (!(it instanceof Tag)) surely(() => it.shut?.());
     for (const it of things) if (it instanceof Tag) surely(() => it.release());
     for (const it of things) if (it.hears) surely(() => it.hears.heardError(this.dead, 0));
@@ -91,6 +91,16 @@ export class Crossing {
     if (!is_item) try { return this.#glue.all(0); } catch { /* less will do */ }
     this.#glue.room(is_item ? 3 : 1);
   }
+
+  /** Whether there is room for any command, and for what leads to it, where no history is wanted. */
+  isRoomy() {
+    if (this.tracing) return false;
+    this.begins();
+    try { this.#glue.all(0); } catch { return false; }
+    return true;
+  }
+  /** Throws RangeError where there is no room for an item. */
+  looks() { this.#glue.all(0); }
 
   // Commands. Each answers its status, and first does what was put off for want of stack.
 
@@ -203,7 +213,7 @@ export class Crossing {
     // the usual case: one observer, who is told now
     const { hears } = this.#things.get(a[USER_AT]);
     this.#depth = depth;
-    try { hears.hear(value); } catch (error) { this.#report(error); }
+    try { hears.hear(value); } catch (error) { this.report(error); }
     if (node._many && this.#made === made) {
       this.#lingering = node;
       this.#lastHears = hears;
@@ -217,7 +227,7 @@ export class Crossing {
     if (this.#lingering !== node) return this.next(node, value);
     const made = this.#made;
     this.#lingering = null;
-    try { this.#lastHears.hear(value); } catch (error) { this.#report(error); }
+    try { this.#lastHears.hear(value); } catch (error) { this.report(error); }
     if (this.#made === made) this.#lingering = node; else this.#goesOn();
     return DONE;
   }
@@ -346,7 +356,7 @@ export class Crossing {
 
   /** A tree that nobody can hear, and that holds nothing of the program's, is left. */
   forgets(root) {
-    if (this.dead === null) try { this.#ends(DISPOSE, root); } catch (error) { this.#report(error); }
+    if (this.dead === null) try { this.#ends(DISPOSE, root); } catch (error) { this.report(error); }
   }
   /** A tag holds something else than it did. */
   changes(tag) { this.#things.anew(tag); }
@@ -356,7 +366,7 @@ export class Crossing {
     if (this.#postponed === null) {
       this.#postponed = [];
       queueMicrotask(() => {
-        if (this.#depth === 0 && this.#postponed !== null) try { this.#resume(true); } catch (error) { this.#report(error); }
+        if (this.#depth === 0 && this.#postponed !== null) try { this.#resume(true); } catch (error) { this.report(error); }
       });
     }
     if (act !== undefined) this.#postponed.push(act);
@@ -382,7 +392,7 @@ export class Crossing {
     this.#depth = 1;
     if (is_handed !== 0) this.#tellsNext();
     this.#tellsRest();
-    for (const act of acts) try { if (is_own_turn) act(); else this.surely(act); } catch (error) { this.#report(error); }
+    for (const act of acts) try { if (is_own_turn) act(); else this.surely(act); } catch (error) { this.report(error); }
     this.#tellsRest();
     this.#depth = 0;
   }
@@ -401,10 +411,10 @@ export class Crossing {
         case 6: return this.#drop(user, thing), thing.act();
         case 7: return this.#drop(user, thing);
       }
-    } catch (error) { this.#report(error); }
+    } catch (error) { this.report(error); }
   }
 
-  #report(error) {
+  report(error) {
     try { (this.#realm.report ?? later)(error); } catch { this.#postpone(() => (this.#realm.report ?? later)(error)); }
   }
 

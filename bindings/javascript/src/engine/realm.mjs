@@ -6,12 +6,16 @@ const KEY = Symbol.for('cellarcliff.realm.1');
 export const realm = globalThis[KEY] ??= {
   engine: null,
   report: null, // where an error goes that nobody hears
+  lones: null, // the roots that need no engine
   /** Makes the engine of its module and of the one between, unless another copy of the package has made it. */
   start(module, glue) {
     if (this.engine) return;
     this.make = () => new Crossing(new WebAssembly.Instance(module).exports, glue, this);
     this.engine = this.make();
-    atTheEnd(() => { if (this.engine.dead === null) this.engine.shut(); });
+    atTheEnd(() => {
+      this.lones?.shut();
+      if (this.engine.dead === null) this.engine.shut();
+    });
   },
   /** Has another engine in the place of this one, which is dead. */
   renews(dead) {

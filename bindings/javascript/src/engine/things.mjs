@@ -3,7 +3,7 @@
 // subscription. A resource of the program is kept until it is released, and with it what holds it and all above that.
 import { Table } from './table.mjs';
 
-const LATELY = 256; // a power of two
+export const LATELY = 256; // a power of two
 /** How many are taken in until what was not kept, and was spoken of, is looked at again: by how often that was so. So what is told much costs little. */
 const WAITS = [1024, 4096, 16384];
 
