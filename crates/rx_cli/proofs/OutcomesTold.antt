@@ -1,5 +1,5 @@
 -- How an outcome is told, with what is wrong with a faulty input and without it.
-use Rattle.rx_cli.proofs.Common.{◌≡◌, List, ℕ, Bool, [], Err, Ok, Result, true, false, refl, subst, sym, codes, true≢false, Watched, Bytes, IsTextWritten}
+use Rattle.rx_cli.proofs.Common.{◌≡◌, List, ℕ, [], Err, Ok, Result, true, false, refl, subst, sym, codes, true≢false, Watched, Bytes, IsTextWritten}
 use Rattle.std.specs.Prelude.{◌++◌}
 use Rattle.std.proofs.Common.{append-nil}
 use Rattle.rx_device.specs.declared.fault.ScriptError.{ScriptError}

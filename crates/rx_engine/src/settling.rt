@@ -1,6 +1,6 @@
 //! What a call of the book leaves to be done.
 
-ghost use Rattle.std.specs.Prelude.{◌≡◌, ◌+◌, ◌≤◌, length};
+ghost use Rattle.std.specs.Prelude.{◌+◌, ◌≤◌, length};
 ghost use Rattle.rx_lanes.specs.declared.names.LaneName.{LaneName};
 ghost use Rattle.rx_lanes.specs.State.{IsPromised as AreLanesPromised};
 ghost use Rattle.rx_roles.specs.Effects.{items_in, names_of};

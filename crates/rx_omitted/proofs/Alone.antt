@@ -1,10 +1,10 @@
 -- An item that is only heard, and a root that is a leaf alone, may be left out.
-use Rattle.rx_event.proofs.Laws.Common.{◌≡◌, ℕ, ℤ, zero, suc, ◌<◌, ◌≤◌, Bool, true, false, List, [], ◌∷◌, ◌++◌, length, Option, Some, None, slice_get, take}
+use Rattle.rx_event.proofs.Laws.Common.{◌≡◌, ℕ, ℤ, ◌<◌, ◌≤◌, true, false, List, [], ◌∷◌, length, Option, Some, None, slice_get, take}
 use Rattle.rx_event.proofs.Laws.Common.{refl, sym, ap, ◌∙◌, subst, inl, inr, ◌⊎◌, ◌==◌, ◌||◌, arith, Kept, shown, both_ways, false_from_ne_true, false≢true}
 use Rattle.rx_event.proofs.Laws.Common.{option_map_or}
-use Rattle.rx_event.proofs.Laws.Common.{makes_node, at, is_open, IsLawful, MayFollow, slice_get_within, same_Some, none-some, eq-eqb, eqb-true, ne_eqb}
-use Rattle.rx_event.proofs.Laws.Common.{or_parts, or_cases}
-use Rattle.rx_event.proofs.Laws.Common.{list_all, Stop, Delivery, stops, length-take-le, or_right, option_and_then}
+use Rattle.rx_event.proofs.Laws.Common.{makes_node, at, is_open, IsLawful, MayFollow, slice_get_within, same_Some, eq-eqb, eqb-true, ne_eqb}
+use Rattle.rx_event.proofs.Laws.Common.{or_cases}
+use Rattle.rx_event.proofs.Laws.Common.{list_all, Delivery, stops, length-take-le, or_right, option_and_then}
 use Rattle.rx_event.specs.Climb.{stop_made}
 use Rattle.rx_omitted.specs.Imports.{Event, Open, Accept, Item, End, Close, Root, Leaf}
 use Rattle.rx_omitted.specs.Omitted.{NeedsNone, only_heard, lone_leaf, lone_end, lone_close, befalls, MayOmit, HasOwnPlaces, IsOnlyHeard, IsLoneLeaf, is_at}

@@ -7,7 +7,7 @@ use Rattle.rx_event.proofs.Laws.Common.{open_connections}
 use Rattle.rx_event.proofs.Laws.Common.{mirrored, fired, failed, completed, cut, left, connecting, due, SourceEnded, ChildEnded, IsDue, IsForced, IsConnectDue}
 use Rattle.rx_event.proofs.Laws.Common.{IsConnected}
 use Rattle.rx_event.proofs.Laws.Common.{IsSettled, IsLawful, event_by, Completed, Error, is_fired, owed, source_completed}
-use Rattle.rx_omitted.specs.Imports.{Event, Open, Hub, Connect, Accept, Use, Remove, Lease, Return, Item, Decline, End, Close, Take, Terminal, Sub}
+use Rattle.rx_omitted.specs.Imports.{Event, Open, Connect, End, Close, Terminal, Sub}
 use Rattle.rx_omitted.specs.Named.{named_in, Stay_all}
 use Rattle.rx_omitted.specs.Omitted.{number, what_stays, NeedsNone, only_heard, lone_leaf, lone_end, lone_close}
 use Rattle.rx_omitted.proofs.Omits.{Omits}

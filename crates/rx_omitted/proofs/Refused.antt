@@ -1,5 +1,5 @@
 -- What stands against a call, without what is left out.
-use Rattle.rx_event.proofs.Laws.Common.{is_open, makes_hub, ◌≡◌, ℕ, ℤ, ◌+◌, Bool, true, false, List, [], ◌∷◌, Some, None, cond, nat_lt, map}
+use Rattle.rx_event.proofs.Laws.Common.{is_open, makes_hub, ◌≡◌, ℕ, ◌+◌, Bool, true, false, List, [], ◌∷◌, Some, None, cond, nat_lt, map}
 use Rattle.rx_event.proofs.Laws.Common.{refl, sym, ap, ◌∙◌, not, ◌||◌, ◌==◌, Kept, both_ways}
 use Rattle.rx_event.proofs.Laws.Common.{list_any, has_source, is_merging, is_until, is_root, is_manual_hub, at, ancestors}
 use Rattle.rx_event.proofs.Laws.Common.{IsLawful, most_visits, same_Some, none-some, place_by, event_by}
@@ -10,7 +10,7 @@ use Rattle.rx_event.specs.Refusals.{first_of_these}
 use Rattle.rx_event.specs.Causes.{is_without_hub, is_out_of_order, connects_up_to, is_gone, is_wrong_place, is_taken_place, is_unowed_place, is_crowded}
 use Rattle.rx_event.specs.Causes.{causes, is_over, added_by, projecting_causes}
 use Rattle.rx_event.specs.Calls.{Call, Opening, OpeningUsing, Holding, Applying, Removing, Leasing, GivingBack, Emitting, Ending, Aborting, Declining}
-use Rattle.rx_event.specs.Calls.{Failing, Disposing, Publishing, Connecting, Disconnecting, Taking}
+use Rattle.rx_event.specs.Calls.{Failing, Disposing, Publishing, Connecting, Disconnecting}
 use Rattle.rx_event.specs.declared.refusal.Refusal.{Refusal}
 use Rattle.rx_event.specs.declared.refusal.Refusal.TheVariants.{Full, Gone, WrongKind, PlaceTaken, NothingOwed, NotRoot, NoHub, HubOrder, Connected}
 use Rattle.rx_event.specs.declared.refusal.Refusal.TheVariants.{NotConnected, NoLease, NotHeld, Leased, HasChild, TooMany}

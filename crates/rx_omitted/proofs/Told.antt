@@ -1,14 +1,13 @@
 -- What each event does, without what is left out.
-use Rattle.rx_event.proofs.Laws.Common.{◌≡◌, ℕ, ℤ, zero, suc, ◌+◌, ◌-◌, ◌<◌, ◌≤◌, Bool, true, false, List, [], ◌∷◌, ◌++◌, length, Option, Some, None, cond}
+use Rattle.rx_event.proofs.Laws.Common.{◌≡◌, ℕ, ℤ, ◌+◌, ◌-◌, Bool, true, false, List, [], ◌∷◌, ◌++◌, length, Some, cond}
 use Rattle.rx_event.proofs.Laws.Common.{slice_get, map}
-use Rattle.rx_event.proofs.Laws.Common.{refl, sym, ap, subst, ◌∙◌, inl, inr, ◌⊎◌, ◌==◌, ◌&&◌, ◌||◌, not, arith, filter, take, Kept, both_ways, and_parts}
-use Rattle.rx_event.proofs.Laws.Common.{filter_map, cons_option}
+use Rattle.rx_event.proofs.Laws.Common.{refl, sym, ap, subst, ◌∙◌, ◌==◌, ◌&&◌, ◌||◌, not, arith, filter, take, Kept, both_ways}
+use Rattle.rx_event.proofs.Laws.Common.{filter_map}
 use Rattle.rx_event.proofs.Laws.Common.{AllByRecursion, list_any, list_all, count_by, sum_by-cons, is_root, event_by, at, Stop, Delivery, Projection, Firing}
-use Rattle.rx_event.proofs.Laws.Common.{stops, IsTrue}
+use Rattle.rx_event.proofs.Laws.Common.{stops}
 use Rattle.rx_event.proofs.Laws.Common.{is_projection_to, is_firing_of, stops_of, projections, is_fired, notes, mail_of, notes_to, moments, Next, map-append}
 use Rattle.rx_event.proofs.Laws.Common.{append-nil}
-use Rattle.rx_event.proofs.Laws.Common.{and_false, or_false, length-append, cases_Bool, common_steps, false≢true, eqb-true, slice_get_within}
-use Rattle.rx_event.proofs.Laws.Common.{false_from_ne_true}
+use Rattle.rx_event.proofs.Laws.Common.{or_false, false≢true, eqb-true, slice_get_within}
 use Rattle.rx_note.specs.declared.note.Note.TheVariants.{Project, End as EndNote}
 use Rattle.rx_event.specs.declared.mail.Mail.{Mail}
 use Rattle.rx_event.specs.Notes.{told}
