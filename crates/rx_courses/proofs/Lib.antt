@@ -7,6 +7,7 @@ pub mod ClosingsOfCourses
 pub mod OrderOfCourses
 pub mod TellingsOfCourses
 pub mod RunsOfLanes
+pub mod LeftByCommands
 pub mod OneAtATime
 pub mod NotesOfCommands
 pub mod EndsOfRoots

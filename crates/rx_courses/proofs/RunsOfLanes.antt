@@ -227,7 +227,7 @@ rests_fresh s t rests_none none = none
 rests_fresh s t (rests_kept {t = x} before k) none = k.fresh_is ∙ rests_fresh s x before none
 rests_fresh s t (rests_settled by before moves k is) none = ap (λ (x : LanesState Effect). x.fresh) is
 
-runs_fresh : (by : ℕ) (s t : LanesState Effect) (es : List Effect) (due : List Due) → Runs by s es due t → s.fresh ≡ [] → t.fresh ≡ []
+pub runs_fresh : (by : ℕ) (s t : LanesState Effect) (es : List Effect) (due : List Due) → Runs by s es due t → s.fresh ≡ [] → t.fresh ≡ []
 runs_fresh by s t es due (runs_resting rests) none = rests_fresh s t rests none
 runs_fresh by s t es due (runs_settled moves delivers is) none = ap (λ (x : LanesState Effect). x.fresh) is
 

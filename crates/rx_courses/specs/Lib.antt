@@ -1,5 +1,6 @@
 pub mod Calls
 pub mod Courses
+pub mod LeftNamed
 pub mod NotesTold
 pub mod NothingBehind
 pub mod Refused

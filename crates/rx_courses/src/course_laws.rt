@@ -2,6 +2,7 @@
 
 ghost use Rattle.rx_courses.specs.Calls.{AreCommands};
 ghost use Rattle.rx_courses.specs.Courses.{WordsEndOnce, TagsOnce, ClosingsOnce, NoNoteIsLost};
+ghost use Rattle.rx_courses.specs.LeftNamed.{CommandsNameWhatIsLeft};
 ghost use Rattle.rx_courses.specs.Tellings.{TellsInOrder, EachIsToldOnce};
 ghost use Rattle.rx_courses.specs.NotesTold.{TellsEachNote};
 ghost use Rattle.rx_courses.specs.NothingBehind.{NothingBehind};
@@ -71,6 +72,12 @@ pub fn lanes_are_served_one_at_a_time()
 /// A lane that has something, and that nobody serves, was named by an answer.
 pub fn nothing_is_stuck()
     ensures { NothingIsStuck ⟦<Token as Resource>⟧ }
+{}
+
+/// A lane that a command leaves, and that nobody serves, was left before or is named by the answer; who serves a lane behind
+/// the command served it before.
+pub fn commands_name_what_is_left()
+    ensures { CommandsNameWhatIsLeft ⟦<Token as Resource>⟧ }
 {}
 
 /// The effects of a command that tell are the notes that it adds to the book's, in order, each for the role that its

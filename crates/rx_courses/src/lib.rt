@@ -19,9 +19,9 @@ mod course_laws;
 mod share_laws;
 
 pub use course_laws::{
-    calls_are_commands, closings_once, each_is_told_once, each_note_is_told,
-    lanes_are_named_at_once, lanes_are_served_one_at_a_time, lanes_run, no_note_is_lost,
-    nothing_comes_behind_a_last_effect, nothing_is_stuck, refused_is_unchanged,
+    calls_are_commands, closings_once, commands_name_what_is_left, each_is_told_once,
+    each_note_is_told, lanes_are_named_at_once, lanes_are_served_one_at_a_time, lanes_run,
+    no_note_is_lost, nothing_comes_behind_a_last_effect, nothing_is_stuck, refused_is_unchanged,
     roots_are_told_in_order, tags_once, tells_in_order, values_once, words_end_once,
 };
 pub use share_laws::shares_are_served;

@@ -95,7 +95,7 @@ with_tag {A} is made g s t acts a sh done kept = by_answer sh.engine_answer sh.m
   by_answer (Ok x) so same = subst (λ (y : Result Made Refusal). IsEngineCourse g s t (if_ok acts y)) (sym same) (done x so)
   by_answer (Err why) so same = subst (λ (y : Result Made Refusal). IsEngineCourse g s t (if_ok acts y)) (sym same) (kept why so)
 
-alone : (kind : OwnKind) → connects_none (kind_of kind) ≡ true
+pub alone : (kind : OwnKind) → connects_none (kind_of kind) ≡ true
 alone OwnLeaf = refl
 alone OwnPass = refl
 alone OwnFlat = refl

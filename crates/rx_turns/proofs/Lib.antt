@@ -27,4 +27,9 @@ pub mod WordsClaimed
 pub mod CommandsAreCourses
 pub mod NothingHanded
 pub mod CommandsTold
+pub mod LanesTaken
+pub mod LanesAsked
+pub mod LanesNamed
+pub mod NoLaneLost
+pub mod LanesTended
 pub mod Laws

@@ -10,3 +10,4 @@ pub mod Ending
 pub mod Calls
 pub mod Courses
 pub mod Promises
+pub mod Tended

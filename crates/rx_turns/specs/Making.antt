@@ -81,6 +81,7 @@ pub record IsMadeBy (g : Ghosts Token) (turn : Turn) (is_free : Bool) (c : Comma
   pub given : Option Effect
   pub stood : IsPromised s.cellar.engine
   pub made : IsCommandMade g (asked_as (not is_free) (asked_of c)) turn.by s.cellar cellar a b given status
+  pub stands : IsPromised cellar.engine
   pub between : TurnState
   pub home : ComesHome turn (record s { cellar = cellar }) between (inner_lane (status == 0) c cellar)
   pub comes : ComesIf (status == 0) turn (words_due cellar) given between t is_own

@@ -39,7 +39,7 @@ mod turns;
 
 pub use agenda::{Task, Turn, clear_step};
 pub use turn_laws::{
-    calls_are_courses, nothing_is_astray_where_the_outermost_hands_out_nothing,
+    calls_are_courses, no_lane_is_lost, nothing_is_astray_where_the_outermost_hands_out_nothing,
     nothing_is_left_where_nothing_is_handed_out, other_turns_keep_theirs,
     what_is_handed_out_is_in_hand,
 };

@@ -195,6 +195,7 @@ impl Turns {
         let status = self
             .cellar
             .make(command, on.turn.by, !is_free, answer, &mut given);
+        self.cellar.promise();
         let is_own = self.come_if(status == 0, on, &given);
         Done {
             status,
@@ -231,6 +232,7 @@ impl Turns {
         let status = self
             .cellar
             .make(command, turn.by, !is_free, answer, &mut given);
+        self.cellar.promise();
         self.come_home_if(status == 0, turn, command);
         self.come_bare(status == 0, turn);
         status
@@ -249,6 +251,7 @@ impl Turns {
         let status = self
             .cellar
             .make(command, turn.by, false, answer, &mut given);
+        self.cellar.promise();
         self.come_bare(status == 0, turn);
         status
     }

@@ -2,9 +2,11 @@
 
 ghost use Rattle.rx_turns.specs.Courses.{CallsAreCourses};
 ghost use Rattle.rx_turns.specs.Promises.{NothingIsLeft, NothingIsAstray, HoldsWhatItHands, LeavesOthersAlone};
+ghost use Rattle.rx_turns.specs.Tended.{LosesNoLane};
 
 use rx_book::Resource;
 use rx_cellar::words_find_their_lanes;
+use rx_courses::commands_name_what_is_left;
 use rx_resource::Token;
 
 /// Each call is a course of the engine, so that the laws of `rx_courses` hold of it: a step takes what it hands out,
@@ -34,3 +36,12 @@ pub fn what_is_handed_out_is_in_hand()
 pub fn other_turns_keep_theirs()
     ensures { LeavesOthersAlone }
 {}
+
+/// Whatever calls a face makes: what waits in a lane that nobody serves is due to a turn or astray, and a lane that a stack
+/// serves is in hand of a turn of that stack. So nothing waits where no turn has anything to do and nothing is astray.
+pub fn no_lane_is_lost()
+    ensures { LosesNoLane ⟦<Token as Resource>⟧ }
+{
+    words_find_their_lanes();
+    commands_name_what_is_left();
+}

@@ -19,6 +19,7 @@ returns c =
       given = c.make-status.new.given;
       stood = c.promise.ensures;
       made = c.make-status.ensures;
+      stands = c.promise-2.ensures;
       between = between;
       home = subst (λ (o : Option _). ComesHome c.args.turn between between o) (sym (no_inner done c.args.command.now made (not_asking c.args.command.now.what c.requires))) (opens_no_inner refl);
       comes = subst (λ (o : Option Effect). ComesIf done c.args.turn (words_due made) o between (turn_state c.come_bare.new.self) false) (sym none)

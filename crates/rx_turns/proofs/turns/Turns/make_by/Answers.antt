@@ -13,6 +13,7 @@ returns c =
       given = c.make-status.new.given;
       stood = c.promise.ensures;
       made = c.make-status.ensures;
+      stands = c.promise-2.ensures;
       between = between;
       home = subst (λ (o : Option ℕ). ComesHome c.args.on.turn between between o)
           (sym (no_inner (c.make-status.result == 0) c.args.command.now made (not_opening c.args.command.now.what c.requires.plain))) (opens_no_inner refl);

@@ -25,6 +25,7 @@ returns c =
       given = c.make-status.new.given;
       stood = c.promise.ensures;
       made = c.make-status.ensures;
+      stands = c.promise-2.ensures;
       between = between;
       home = c.come_home_if.ensures;
       comes = subst (λ (o : Option Effect). ComesIf (status == 0) c.args.turn (words_due made) o between (turn_state c.come_bare.new.self) false) (sym none)
