@@ -1,10 +1,10 @@
 -- What `clap` makes of words that are written out.
-use Rattle.rx_cli.proofs.Common.{◌≡◌, false, [], ◌∷◌, map, codes, refl, fault_of, clap_on_literals, rxbook}
+use Rattle.rx_cli.proofs.Common.{◌≡◌, true, false, [], ◌∷◌, map, codes, refl, fault_of, clap_on_literals, rxbook}
 use Rattle.clap.specs.declared.error.kind.ErrorKind.TheVariants.{ValueValidation}
-use Rattle.rx_dump.specs.declared.judging.Labels.TheVariants.{Numbers}
+use Rattle.rx_dump.specs.declared.judging.Labels.TheVariants.{Numbers, Names}
 use Rattle.rx_script.specs.declared.Form.TheVariants.{Report, Dump, NamedDump}
 use Rattle.rx_cli.specs.declared.request.Order.TheVariants.{Say, Live, Storm}
-use Rattle.rx_cli.specs.declared.request.Asked.TheVariants.{Run, Audit, Explain, Picture}
+use Rattle.rx_cli.specs.declared.request.Asked.TheVariants.{Run, Trace, Audit, Explain, Picture}
 use Rattle.rx_cli.specs.Words.{Orders, greatest_storm, storms_beyond, questions, answers, file_words, refusals_of_files}
 
 pub alone : Orders (codes "rxbook" ∷ []) (Say (Run Report false))

@@ -30,7 +30,7 @@ use Rattle.rx_turns.specs.Calls.{PicksUp, none_astray, ends_walk, finds_no_room,
 use Rattle.rx_turns.specs.Calls.{TurnGoesOn, serves_own, serves_no_more}
 use Rattle.rx_turns.specs.Ending.{left_under, astray_if, LetsLaneGo, holds_none, stays_in_hand, lets_inner_go, gives_lane_up, EndsTurn, StopsDeeper, all_ended, one_ended}
 use Rattle.rx_turns.specs.Ending.{LeavesTo, is_claimed, stays_due}
-use Rattle.rx_turns.specs.Tended.{IsDue, IsAstray, NoLaneIsLost}
+use Rattle.rx_turns.specs.Tended.{StandsDue, IsAstray, NoLaneIsLost}
 use Rattle.rx_turns.proofs.LanesAsked.{lanes, place_named, own_word, one_there, same_named}
 use Rattle.rx_turns.proofs.LanesTaken.{give_fresh, give_left, give_served}
 use Rattle.rx_turns.proofs.NoLaneLost.{still_there, last_there, was_there, serving_same, serving_other, turn_is, HasKind, kinds_held}
@@ -42,7 +42,7 @@ use Rattle.rx_turns.proofs.TakenOut.{in_take_out}
 
 -- no lane is lost but for some, which may be left and neither due nor astray
 pub record LosesNoneBut (s : TurnState) (but : LaneName → Type 0) : Type 0 where
-  pub left : (n : LaneName) → IsLeft (lanes s.cellar) n → (IsDue s.agenda n ⊎ IsAstray s.astray n) ⊎ but n
+  pub left : (n : LaneName) → IsLeft (lanes s.cellar) n → (StandsDue s.agenda n ⊎ IsAstray s.astray n) ⊎ but n
   pub served : (n : LaneName) (by : ℕ) → IsServedBy (lanes s.cellar) n by → IsServing s.agenda by (word_of n)
   pub settled : (lanes s.cellar).fresh ≡ []
   pub placed : (u : Turn) (p : ℕ) → is_in p (due_to s.agenda u) ≡ true → place_in (lane_word s.agenda p) ≡ p
@@ -64,7 +64,7 @@ none_at_all s but never k = record {
 
 -- where one is claimed, another that stands due at that place would be lost
 abbrev pub Fits : TurnState → ℕ → Type 0
-Fits s word = (n : LaneName) → IsLeft (lanes s.cellar) n → n.place ≡ place_in word → IsDue s.agenda n → word ≡ word_of n
+Fits s word = (n : LaneName) → IsLeft (lanes s.cellar) n → n.place ≡ place_in word → StandsDue s.agenda n → word ≡ word_of n
 
 -- of those that were excused this one is due then, and the rest are
 abbrev Excuses : TurnState → ℕ → (but but' : LaneName → Type 0) → Type 0
@@ -89,7 +89,7 @@ made_due turn word s t but but' k fits excuses (has_claimed claims only) = recor
   place = place_in word
 
   -- the lane itself is due
-  own : (n : LaneName) → n.place ≡ place → word ≡ word_of n → IsDue t.agenda n
+  own : (n : LaneName) → n.place ≡ place → word ≡ word_of n → StandsDue t.agenda n
   own n at is = record {
     turn = turn;
     due = ap (λ (p : ℕ). is_in p (due_to t.agenda turn)) at
@@ -99,7 +99,7 @@ made_due turn word s t but but' k fits excuses (has_claimed claims only) = recor
   }
 
   -- and each other that was
-  other : (n : LaneName) (x : IsDue s.agenda n) → n.place ≢ place → IsDue t.agenda n
+  other : (n : LaneName) (x : StandsDue s.agenda n) → n.place ≢ place → StandsDue t.agenda n
   other n x differs = record {
     turn = x.turn;
     due = ap (is_in n.place) (claims.due x.turn) ∙ by_turn (is_same turn x.turn);
@@ -113,11 +113,11 @@ made_due turn word s t but but' k fits excuses (has_claimed claims only) = recor
     by_word true same = absurd (differs (sym (eqb-true place n.place same)))
     by_word false apart = refl
 
-  by_due : (n : LaneName) → IsLeft (lanes s.cellar) n → (x : IsDue s.agenda n) (b : Bool) → (n.place == place) ≡ b → IsDue t.agenda n
+  by_due : (n : LaneName) → IsLeft (lanes s.cellar) n → (x : StandsDue s.agenda n) (b : Bool) → (n.place == place) ≡ b → StandsDue t.agenda n
   by_due n is x true same = let at = eqb-true n.place place same in own n at (fits n is at x)
   by_due n is x false apart = other n x (λ same. false≢true (sym apart ∙ eq-eqb n.place place same))
 
-  by_left : (n : LaneName) → IsLeft (lanes s.cellar) n → (IsDue s.agenda n ⊎ IsAstray s.astray n) ⊎ but n → (IsDue t.agenda n ⊎ IsAstray t.astray n) ⊎ but' n
+  by_left : (n : LaneName) → IsLeft (lanes s.cellar) n → (StandsDue s.agenda n ⊎ IsAstray s.astray n) ⊎ but n → (StandsDue t.agenda n ⊎ IsAstray t.astray n) ⊎ but' n
   by_left n is (inl (inl x)) = inl (inl (by_due n is x (n.place == place) refl))
   by_left n is (inl (inr x)) = inl (inr (subst (λ (o : Option ℕ). IsAstray o n) (sym (ap (λ (s : TurnState). s.astray) only)) x))
   by_left n is (inr x) = elim (excuses n is x) [ inl now ↦ inl (inl (own n now.0 now.1)) | inr more ↦ inr more ]
@@ -308,7 +308,7 @@ module _ (find : WordsFindTheirLanes Sent) where
         })
         (λ n is at x. one n is (at ∙ sym place)) (λ n is x. behind n is x (n.place == name.place) refl) (has_claimed claims refl)
 
-    due : (n : LaneName) → IsDue u.agenda n ⊎ IsAstray None n → IsDue u.agenda n ⊎ IsAstray (Some next) n
+    due : (n : LaneName) → StandsDue u.agenda n ⊎ IsAstray None n → StandsDue u.agenda n ⊎ IsAstray (Some next) n
     due n (inl x) = inl x
     due n (inr x) = let both : None ≡ Some x.from = x.walks in absurd (cc)
 
@@ -501,7 +501,7 @@ module _ (find : WordsFindTheirLanes Sent) where
       by_turn true nay = absurd (false≢true nay)
       by_turn false so = so
 
-    with_left : ((n : LaneName) → IsLeft (lanes m.cellar) n → IsDue t.agenda n ⊎ IsAstray t.astray n) → NoLaneIsLost t
+    with_left : ((n : LaneName) → IsLeft (lanes m.cellar) n → StandsDue t.agenda n ⊎ IsAstray t.astray n) → NoLaneIsLost t
     with_left left = record {
       left = λ n is. left n (subst (λ (x : Cellar). IsLeft (lanes x) n) cellar is);
       served = λ n by is. serving_same m.agenda t.agenda by (word_of n) ends.emptied.hands
@@ -511,7 +511,7 @@ module _ (find : WordsFindTheirLanes Sent) where
       kinds = λ u h held. go.tended.kinds u h (sym (ends.emptied.hands u) ∙ held);
     }
 
-    still_due : due_to m.agenda turn ≡ [] → (n : LaneName) → IsDue m.agenda n → IsDue t.agenda n
+    still_due : due_to m.agenda turn ≡ [] → (n : LaneName) → StandsDue m.agenda n → StandsDue t.agenda n
     still_due none n x = record {
       turn = x.turn;
       due = ap (is_in n.place) (ends.emptied.due x.turn) ∙ by_turn (is_same turn x.turn) refl;

@@ -22,7 +22,7 @@ use Rattle.rx_turns.specs.States.{TurnState}
 use Rattle.rx_turns.specs.Serving.{AsksLane, gives_one, gives_none, TakesOff, Drops, TakesDue, nothing_due, has_one, has_none}
 use Rattle.rx_turns.specs.Serving.{Serves, hands_again, goes_on, ends_lane, serves_none, ServesDeeper, none_deeper, deeper_has_one, deeper_has_none}
 use Rattle.rx_turns.specs.Calls.{HasNoted}
-use Rattle.rx_turns.specs.Tended.{IsDue, IsAstray, NoLaneIsLost}
+use Rattle.rx_turns.specs.Tended.{StandsDue, IsAstray, NoLaneIsLost}
 use Rattle.rx_turns.proofs.Lines.{is_same-self}
 use Rattle.rx_turns.proofs.LanesAsked.{lanes, own_word, IsAsked, is_asked}
 use Rattle.rx_turns.proofs.TakenOut.{in_take_out}
@@ -82,7 +82,7 @@ turn_is t u same =
 
 -- agendas ----------------------------------------------------------------------------------------------------
 
-pub due_same : (a b : DueLists) (n : LaneName) → ((u : Turn) → due_to b u ≡ due_to a u) → ((p : ℕ) → lane_word b p ≡ lane_word a p) → IsDue a n → IsDue b n
+pub due_same : (a b : DueLists) (n : LaneName) → ((u : Turn) → due_to b u ≡ due_to a u) → ((p : ℕ) → lane_word b p ≡ lane_word a p) → StandsDue a n → StandsDue b n
 due_same a b n dues words is =
     record { turn = is.turn; due = ap (is_in n.place) (dues is.turn) ∙ is.due; word = words n.place ∙ is.word }
 
@@ -127,8 +127,8 @@ room_alike s t loses only = record {
 }
 
 pub covered_same : (s t : TurnState) (n : LaneName) → ((u : Turn) → due_to t.agenda u ≡ due_to s.agenda u) →
-    ((p : ℕ) → lane_word t.agenda p ≡ lane_word s.agenda p) → t.astray ≡ s.astray → IsDue s.agenda n ⊎ IsAstray s.astray n →
-    IsDue t.agenda n ⊎ IsAstray t.astray n
+    ((p : ℕ) → lane_word t.agenda p ≡ lane_word s.agenda p) → t.astray ≡ s.astray → StandsDue s.agenda n ⊎ IsAstray s.astray n →
+    StandsDue t.agenda n ⊎ IsAstray t.astray n
 covered_same s t n dues words astray (inl is) = inl (due_same s.agenda t.agenda n dues words is)
 covered_same s t n dues words astray (inr is) = inr (subst (λ (o : Option ℕ). IsAstray o n) (sym astray) is)
 
@@ -300,7 +300,7 @@ module _ (find : WordsFindTheirLanes Sent) where
     not_idle n by (u, h, stack, held, at) same =
         let both : None ≡ Some h = sym idle ∙ ap (λ (v : Turn). in_hand a.agenda v) (turn_is turn u same) ∙ sym (gone.gone.hands u) ∙ held in absurd (cc)
 
-    by_place : (n : LaneName) → IsLeft (lanes d.cellar) n → (x : IsDue a.agenda n) (b : Bool) → (n.place == place) ≡ b → IsDue d.agenda n ⊎ IsAstray d.astray n
+    by_place : (n : LaneName) → IsLeft (lanes d.cellar) n → (x : StandsDue a.agenda n) (b : Bool) → (n.place == place) ≡ b → StandsDue d.agenda n ⊎ IsAstray d.astray n
     by_place n is x true same =
         let was = q.asked.left n is in
         let own : word ≡ word_of n = ap (λ (p : ℕ). lane_word a.agenda p) (sym (eqb-true n.place place same)) ∙ x.word in
@@ -314,7 +314,7 @@ module _ (find : WordsFindTheirLanes Sent) where
           word = q.words n.place ∙ gone.gone.words n.place ∙ x.word;
         })
 
-    by_cover : (n : LaneName) → IsLeft (lanes d.cellar) n → IsDue a.agenda n ⊎ IsAstray a.astray n → IsDue d.agenda n ⊎ IsAstray d.astray n
+    by_cover : (n : LaneName) → IsLeft (lanes d.cellar) n → StandsDue a.agenda n ⊎ IsAstray a.astray n → StandsDue d.agenda n ⊎ IsAstray d.astray n
     by_cover n is (inl x) = by_place n is x (n.place == place) refl
     by_cover n is (inr x) = inr (subst (λ (o : Option ℕ). IsAstray o n) (sym (q.astray ∙ ap (λ (s : TurnState). s.astray) gone.only)) x)
 

@@ -22,7 +22,7 @@ use Rattle.rx_turns.specs.States.{TurnState}
 use Rattle.rx_turns.specs.Calls.{TurnStep, IsTurnStep, IsTurnPass, IsTurnStop}
 
 -- its place is due to a turn, under its own word
-pub record IsDue (a : DueLists) (name : LaneName) : Type 0 where
+pub record StandsDue (a : DueLists) (name : LaneName) : Type 0 where
   pub turn : Turn
   pub due : is_in name.place (due_to a turn) ≡ true
   pub word : lane_word a name.place ≡ word_of name
@@ -36,7 +36,7 @@ pub record IsAstray (astray : Option ℕ) (name : LaneName) : Type 0 where
 -- a lane that has something and that nobody serves is due, or astray; one that a stack serves is in hand of a turn of that stack; no lane got
 -- something that no answer named; what is due stands at the place of its word; and what is in hand is of a kind that may come back
 pub record NoLaneIsLost (s : TurnState) : Type 0 where
-  pub left : (name : LaneName) → IsLeft s.cellar.engine.parts.lanes name → IsDue s.agenda name ⊎ IsAstray s.astray name
+  pub left : (name : LaneName) → IsLeft s.cellar.engine.parts.lanes name → StandsDue s.agenda name ⊎ IsAstray s.astray name
   pub served : (name : LaneName) (by : ℕ) → IsServedBy s.cellar.engine.parts.lanes name by → IsServing s.agenda by (word_of name)
   pub settled : s.cellar.engine.parts.lanes.fresh ≡ []
   pub placed : (turn : Turn) (place : ℕ) → is_in place (due_to s.agenda turn) ≡ true → place_in (lane_word s.agenda place) ≡ place

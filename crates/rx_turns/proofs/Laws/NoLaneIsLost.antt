@@ -35,7 +35,7 @@ use Rattle.rx_turns.specs.Serving.{HandsOut}
 use Rattle.rx_turns.specs.Making.{inner_lane, lane_at_once, ComesHome, opens_no_inner, is_not_due, is_of_another, is_due_here}
 use Rattle.rx_turns.specs.Making.{Comes, comes_at_once, all_wait, ComesIf, IsMadeBy, MakesOnLine, makes_there, finds_no_room, MakesIn, is_made, is_made_bare, finds_no_line}
 use Rattle.rx_turns.specs.Calls.{MakesAny}
-use Rattle.rx_turns.specs.Tended.{IsDue, IsAstray, NoLaneIsLost, NothingToDo, LosesNoLane}
+use Rattle.rx_turns.specs.Tended.{StandsDue, IsAstray, NoLaneIsLost, NothingToDo, LosesNoLane}
 use Rattle.rx_turns.proofs.LanesAsked.{lanes, kind_of}
 use Rattle.rx_turns.proofs.LanesNamed.{Names, Hands, Leaves, was_done, was_refused, HandsIf, command_leaves}
 use Rattle.rx_turns.proofs.LanesTended.{LosesNoneBut, none_but, none_at_all, all_due, came_home, gone_on, let_go, left_to, ended, all_stopped}
@@ -272,7 +272,7 @@ module _ (g : Ghosts Token) (find : WordsFindTheirLanes Sent) (law : CommandsNam
     free : is_served l ≡ false
     free = by_server l.server refl
 
-    waiting : IsDue s.agenda n ⊎ IsAstray s.astray n → ⊥
+    waiting : StandsDue s.agenda n ⊎ IsAstray s.astray n → ⊥
     waiting (inl x) = false≢true (sym (ap (is_in n.place) (none.turns x.turn).0) ∙ x.due)
     waiting (inr x) = let both : None ≡ Some x.from = sym none.astray ∙ x.walks in cc
 
