@@ -10,6 +10,7 @@ mod CountsOverLanes
 mod EffectsToldOnce
 mod FollowBothWays
 mod HeldToTheEnd
+mod LanesTended
 mod NothingLeftToTell
 mod OwnTickets
 mod RefusalsChangeNothing

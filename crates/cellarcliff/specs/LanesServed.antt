@@ -3,7 +3,7 @@ use Rattle.std.specs.Prelude.{◌≡◌, ◌≢◌, ◌⊎◌, ℕ, true, false,
 use Rattle.rx_resource.specs.declared.Resource.{Ghosts}
 use Rattle.rx_resource.specs.declared.token.Token.{Token}
 use Rattle.rx_lanes.specs.declared.names.LaneName.{LaneName}
-use Rattle.rx_lanes.specs.Lane.{Lane, is_left}
+use Rattle.rx_lanes.specs.Lane.{Lane, has_any, is_left, is_served}
 use Rattle.rx_lanes.specs.State.{lane}
 use Rattle.rx_roles.specs.declared.effect.Effect.{Effect as Sent}
 use Rattle.rx_engine.specs.States.{State, IsPromised}
@@ -22,8 +22,10 @@ use Rattle.rx_turns.specs.States.{TurnState, turn_state}
 use Rattle.rx_turns.specs.Calls.{HasNoted, TurnGoesOn}
 use Rattle.rx_turns.specs.Courses.{Seen, IsEngineCourse}
 use Rattle.rx_turns.specs.Promises.{LackedRoom}
+use Rattle.rx_turns.specs.Tended.{NoLaneIsLost, NothingToDo}
 use Rattle.cellarcliff.specs.declared.stepping.Stack.{Stack}
 use Rattle.rx_cellar.specs.declared.shapes.Answer.{Answer}
+use Rattle.cellarcliff.specs.Calls.{IsMade}
 use Rattle.cellarcliff.specs.Refusals.{KeepsAllElse, is_room_only}
 use Rattle.rx_turns.specs.Telling.{handed_told, no_step}
 use Rattle.cellarcliff.specs.Steps.{turn_of, IsStepTold}
@@ -77,6 +79,17 @@ pub record HasAllDone (turn : Turn) (t : TurnState) : Type 0 where
 abbrev pub StepsLeaveNothing : Ghosts Token → Type 0
 StepsLeaveNothing g = (stack : Stack) (c : Option Command) (step step' : Answer) (s t : Turns) (status : ℕ) →
     OnTurns (λ s t n. IsStepTold g stack c s t step step' n) (step' ≡ no_step step) s t status → step'.handed ≡ 0 → HasAllDone (turn_of stack) (turn_state t)
+
+-- no lane is lost: what waits in one that nobody serves is due to a turn or astray, and who serves one has something of it in hand; so where no turn
+-- has anything to do, and nothing is astray, nothing waits in any lane, and nobody serves one
+pub record TendsEachLane (s : TurnState) : Type 0 where
+  pub tended : NoLaneIsLost s
+  pub over : NothingToDo s → (name : LaneName) (l : Lane Sent) → lane s.cellar.engine.parts.lanes name ≡ Some l → (has_any l ≡ false) × (is_served l ≡ false)
+
+-- behind any calls on one handle, from `cellar_new` on
+abbrev pub CallsTendEachLane : Ghosts Token → Type 0
+CallsTendEachLane g = (max_events made : ℕ) (first last : Turns) (shown : List Shown) → IsMade max_events None (Some first) made →
+    CellarCourse g first shown last → TendsEachLane (turn_state last)
 
 -- refused steps ------------------------------------------------------------------------------------------
 

@@ -1,7 +1,7 @@
 //! Laws of the calls on a handle, of an engine or a live book, which no call needs and a caller may cite.
 
 ghost use Rattle.cellarcliff.specs.Courses.{AreCallsCourses, AreTicketsOwn, AreEffectsToldOnce};
-ghost use Rattle.cellarcliff.specs.LanesServed.{AreEffectsToldInOrder, AreRootsTold, AreLanesServedOneByOne, StepsLeaveNothing, RefusedCallsChangeNothing};
+ghost use Rattle.cellarcliff.specs.LanesServed.{AreEffectsToldInOrder, AreRootsTold, AreLanesServedOneByOne, StepsLeaveNothing, CallsTendEachLane, RefusedCallsChangeNothing};
 ghost use Rattle.cellarcliff.specs.LiveCourses.{AreAnswersHandedOut};
 
 use rx_book::Resource;
@@ -11,7 +11,7 @@ use rx_courses::{
 };
 use rx_resource::Token;
 use rx_turns::{
-    nothing_is_astray_where_the_outermost_hands_out_nothing,
+    no_lane_is_lost, nothing_is_astray_where_the_outermost_hands_out_nothing,
     nothing_is_left_where_nothing_is_handed_out,
 };
 
@@ -70,6 +70,15 @@ pub fn steps_leave_nothing()
 {
     nothing_is_left_where_nothing_is_handed_out();
     nothing_is_astray_where_the_outermost_hands_out_nothing();
+}
+
+/// Of any calls on one handle, from `cellar_new` on and without `cellar_drop`: what waits in a lane that nobody serves is due to
+/// a turn or astray, and a lane that a stack serves is in hand of a turn of that stack. So where no turn has anything to do and
+/// nothing is astray, nothing waits in any lane.
+pub fn no_effect_is_lost()
+    ensures { CallsTendEachLane ⟦<Token as Resource>⟧ }
+{
+    no_lane_is_lost();
 }
 
 /// A step with a status that is not 0 tells nothing of its command, and the command changes nothing but room, a

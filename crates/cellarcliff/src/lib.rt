@@ -87,8 +87,8 @@ pub use audit::cellar_audit;
 pub use handle::CellarHandle;
 pub use laws::{
     answers_are_handed_out_once, calls_are_courses, effects_are_told_in_order,
-    effects_are_told_once, lanes_are_served_one_by_one, refused_calls_change_nothing,
-    roots_hear_in_order, steps_leave_nothing, tickets_are_own,
+    effects_are_told_once, lanes_are_served_one_by_one, no_effect_is_lost,
+    refused_calls_change_nothing, roots_hear_in_order, steps_leave_nothing, tickets_are_own,
 };
 pub use live::{
     cellar_live_drop, cellar_live_end, cellar_live_new, cellar_live_read, cellar_live_send,

@@ -49,8 +49,7 @@ pub record NothingToDo (s : TurnState) : Type 0 where
 
 -- From a new engine on, whatever calls a face makes: no lane is lost; so where there is nothing to do, nothing waits in any lane, and nobody serves one
 pub record LosesNoLane (g : Ghosts Token) : Type 0 where
-  pub begins : (limit : ℕ) (s : TurnState) → IsFresh limit s.cellar.engine → IsPromised s.cellar.engine → s.agenda.rows ≡ [] → s.agenda.lists.lists ≡ [] →
-      NoLaneIsLost s
+  pub begins : (limit : ℕ) (s : TurnState) → IsFresh limit s.cellar.engine → IsPromised s.cellar.engine → ((turn : Turn) → HasNothing s.agenda turn) → NoLaneIsLost s
   pub steps : (turn : Turn) (begun : ℕ) (c : Option Command) (s t : TurnState) (a b : Answer) (step : TurnStep) → NoLaneIsLost s →
       IsTurnStep g turn begun c s t a b step → NoLaneIsLost t
   pub passes : (turn : Turn) (begun from : ℕ) (now_is : Bool) (s t : TurnState) → NoLaneIsLost s → IsTurnPass turn begun from now_is s t → NoLaneIsLost t

@@ -27,9 +27,8 @@ use Rattle.rx_cellar.specs.Serving.{words_due}
 use Rattle.rx_cellar.specs.Words.{place_in, word_of, word_of_due, WordsFindTheirLanes}
 use Rattle.rx_turns.specs.declared.agenda.Turn.{Turn}
 use Rattle.rx_turns.specs.declared.agenda.Task.{Task}
-use Rattle.rx_turns.specs.declared.agenda.Row.{Row}
-use Rattle.rx_turns.specs.Rows.{is_same, own_line, row_on}
-use Rattle.rx_turns.specs.Agendas.{in_hand, has_nothing, IsServing}
+use Rattle.rx_turns.specs.Rows.{is_same}
+use Rattle.rx_turns.specs.Agendas.{in_hand, has_nothing, HasNothing, IsServing}
 use Rattle.rx_turns.specs.States.{TurnState}
 use Rattle.rx_turns.specs.Serving.{HandsOut}
 use Rattle.rx_turns.specs.Making.{inner_lane, lane_at_once, ComesHome, opens_no_inner, is_not_due, is_of_another, is_due_here}
@@ -233,23 +232,20 @@ module _ (g : Ghosts Token) (find : WordsFindTheirLanes Sent) (law : CommandsNam
 
   -- a new engine ---------------------------------------------------------------------------------------------
 
-  begun : (limit : ℕ) (s : TurnState) → IsFresh limit s.cellar.engine → IsPromised s.cellar.engine → s.agenda.rows ≡ [] → s.agenda.lists.lists ≡ [] →
+  begun : (limit : ℕ) (s : TurnState) → IsFresh limit s.cellar.engine → IsPromised s.cellar.engine → ((turn : Turn) → HasNothing s.agenda turn) →
       NoLaneIsLost s
-  begun limit s new kept rows lists_are = record {
+  begun limit s new kept nothing = record {
     left = λ n is. absurd (none_found n is.0 is.1);
     served = λ n by is. absurd (none_found n is.0 is.1);
     settled = none_fresh (lanes s.cellar).fresh refl;
-    placed = λ u p is. absurd (false≢true (sym (ap (λ (xs : List (List ℕ)). is_in p (slice_index_or xs (own_line u s.agenda.rows) [])) lists_are) ∙ is));
-    kinds = λ u h held. absurd (none_held u h held);
+    placed = λ u p is. absurd (false≢true (sym (ap (is_in p) (nothing u).0) ∙ is));
+    kinds = λ u h held. absurd (let both : None ≡ Some h = sym (nothing u).1 ∙ held in cc);
   } where
     none_at : (place : ℕ) → opened_at (lanes s.cellar) place ≡ None
     none_at place = ap (λ (ps : List (Option (Opened Sent))). slice_index_or ps place None) new.lanes
 
     none_found : (n : LaneName) (l : Lane Sent) → lane (lanes s.cellar) n ≡ Some l → ⊥
     none_found n l found = let both : None ≡ Some l = sym (ap (with_turn n.turn) (none_at n.place)) ∙ found in cc
-
-    none_held : (u : Turn) (h : Task) → in_hand s.agenda u ≡ Some h → ⊥
-    none_held u h held = let both : None ≡ Some h = sym (ap (λ (rs : List Row). (row_on rs (own_line u rs)).in_hand) rows) ∙ held in cc
 
     none_fresh : (xs : List ℕ) → (lanes s.cellar).fresh ≡ xs → xs ≡ []
     none_fresh [] is = refl
