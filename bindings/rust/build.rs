@@ -20,7 +20,7 @@ fn link(name: &str, folder: &Option<String>) {
 }
 
 fn main() {
-    println!("cargo:rustc-check-cfg=cfg(cellarcliff_helgrind)");
+    println!("cargo:rustc-check-cfg=cfg(cellarcliff_helgrind, cellarcliff_all_in_engine)");
     for name in ["CELLAR_LIB_DIR", "CELLAR_STATIC", "PKG_CONFIG_PATH"] {
         println!("cargo:rerun-if-env-changed={name}");
     }

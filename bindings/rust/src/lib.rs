@@ -31,8 +31,9 @@
 //! - **Memory.** What the engine cannot have it refuses, and nothing has changed. [`local::Scope::new`], `observe_in`, `connect_in` and
 //!   `try_next` answer that; their plain forms panic, and so does what is subscribed to from within, or told on by an operator that has a
 //!   root of its own. Closing asks the engine for none. What this crate's own lists and counts cannot have aborts, as in all of Rust.
-//! - **Speed.** A command takes a lock once, and once more for each thing that comes of it. An item that nothing stands before is in no
-//!   table: it goes from the emitter to the observer.
+//! - **Speed.** A subscription that hears one source, through functions on items alone, and holds nothing, is in no engine until it holds
+//!   something: what is emitted is told by whoever has its observer. Else a command takes a lock once, and once more for each thing that
+//!   comes of it; an item that nothing stands before is in no table, and goes from the emitter to the observer.
 //! - **Engines.** What borrows nothing uses one engine for each thread (`local`) or one for all (`sync`). A thread's own ends with the
 //!   thread: it closes what is open in it, and a panic goes no further then. A [`local::Scope`] is an engine of its own, in which functions
 //!   may borrow; dropping it closes all that is open in it.

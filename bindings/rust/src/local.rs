@@ -5,11 +5,12 @@
 
 pub(crate) mod form {
     use super::observables::{place::Place, root::Rooted, scope::Thing, using::Held, way::Way, Scope};
-    use crate::rx::panics::discard;
+    use crate::rx::{atomic::AtomicUsize, panics::discard};
     use crate::Refusal;
     use std::cell::RefCell;
     use std::panic::{catch_unwind, AssertUnwindSafe};
     pub(crate) use std::rc::{Rc as Ref, Weak};
+    use std::sync::atomic::Ordering::Relaxed;
 
     /// What a function has to be: here, anything.
     pub trait Fits {}
@@ -41,6 +42,12 @@ pub(crate) mod form {
         pub fn try_with<R>(&self, f: impl FnOnce(&mut T) -> R) -> Option<R> {
             self.0.try_borrow_mut().ok().map(|mut it| f(&mut it))
         }
+    }
+
+    /// Whether it is none for all who look behind this thread's last step: there are no others.
+    #[inline]
+    pub(crate) fn is_none(many: &AtomicUsize) -> bool {
+        many.load(Relaxed) == 0
     }
 
     struct Here(Scope<'static>);

@@ -6,7 +6,9 @@
 pub(crate) mod form {
     use super::observables::{place::Place, root::Rooted, scope::Thing, using::Held, way::Way, Scope};
     use crate::engine::helgrind::{acquired, released};
+    use crate::rx::atomic::AtomicUsize;
     use crate::Refusal;
+    use std::sync::atomic::Ordering::SeqCst;
     pub(crate) use std::sync::{Arc as Ref, Weak};
     use std::sync::{Mutex, OnceLock, PoisonError, TryLockError};
 
@@ -53,6 +55,13 @@ pub(crate) mod form {
             released(self);
             Some(done)
         }
+    }
+
+    /// Whether it is none for all who look behind this thread's last step: it writes what it read, so whoever adds to it comes before that,
+    /// and is seen, or behind, and sees that step.
+    #[inline]
+    pub(crate) fn is_none(many: &AtomicUsize) -> bool {
+        many.compare_exchange(0, 0, SeqCst, SeqCst).is_ok()
     }
 
     /// The engine of what borrows nothing: all threads have one.

@@ -1,7 +1,7 @@
 //! OrElse, Retry and Repeat: what is subscribed to in place of an observable that has ended, and has released what it had.
 use super::form::{ARoot, Lock, Ref};
+use super::heard::rooted;
 use super::leaf::{or_panic, unless_gone, Emitter};
-use super::observer::rooted;
 use super::root::{call, Root};
 use super::scope::Thing;
 use super::stage::Ends;

@@ -53,6 +53,9 @@ mod all {
         }
     }
     impl AtomicUsize {
+        pub fn fetch_sub(&self, value: usize, _: Ordering) -> usize {
+            self.0.fetch_sub(value, SeqCst)
+        }
         pub fn fetch_add(&self, value: usize, _: Ordering) -> usize {
             self.0.fetch_add(value, SeqCst)
         }

@@ -20,11 +20,11 @@ impl<'a, T: 'a, E: 'a> Observable<'a, T, E> {
     /// Of a function that is called for each subscription. What it returns is dropped once, when the source is closed.
     pub fn create<R: Moves + 'a>(subscribe: impl Fn(Emitter<'a, T, E>) -> R + Fits + 'a) -> Self {
         Observable::new(move |place| {
-            let emitter = Emitter::open(place)?;
             if std::mem::needs_drop::<R>() {
+                let emitter = Emitter::open(place)?;
                 emitter.hold(subscribe(emitter.clone()));
             } else {
-                subscribe(emitter);
+                subscribe(Emitter::open_source(place)?);
             }
             Ok(())
         })

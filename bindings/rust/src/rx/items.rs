@@ -1,6 +1,6 @@
 //! Functions on items: map, filter, inspect, and those that may fail. They are called in the thread that emits, before the engine has
 //! the item; several threads that emit may call them at once.
-use super::form::{AWay, Ref};
+use super::form::{AHeld, AWay, Ref};
 use super::root::{call, Root, Rooted};
 use super::way::{Tip, Way};
 use super::{Fits, Observable};
@@ -35,6 +35,10 @@ impl<'a, T, U, E, F: Fn(T) -> Result<Option<U>, E>> Way<'a, T, E> for Step<AWay<
     fn completed(&self, from: Tip) -> Result<(), Refusal> {
         self.way.completed(from)
     }
+
+    fn hold(&self, from: Tip, resource: Box<AHeld<'a>>) -> Result<(), Refusal> {
+        self.way.hold(from, resource)
+    }
 }
 
 struct Errors<W: ?Sized, F> {
@@ -60,6 +64,10 @@ impl<'a, T, E, G, F: Fn(E) -> G> Way<'a, T, E> for Errors<AWay<'a, T, G>, F> {
 
     fn completed(&self, from: Tip) -> Result<(), Refusal> {
         self.way.completed(from)
+    }
+
+    fn hold(&self, from: Tip, resource: Box<AHeld<'a>>) -> Result<(), Refusal> {
+        self.way.hold(from, resource)
     }
 }
 

@@ -5,7 +5,7 @@ use super::root::{Root, Rooted};
 use super::scope::Thing;
 use super::way::{End, Tip};
 use super::words::Word;
-use crate::engine::{kind, what, Command, NOTHING};
+use crate::engine::{kind, Key, NOTHING};
 use crate::rx::{late::LateKey, panics::Panics};
 use crate::Refusal;
 use crate::rx::atomic::AtomicU8;
@@ -25,9 +25,14 @@ pub(crate) struct Leaf<'a, T, E> {
 }
 
 impl<'a, T, E> Leaf<'a, T, E> {
+    fn new(way: Ref<AWay<'a, T, E>>) -> Ref<Self> {
+        Ref::new(Leaf { way, node: LateKey::new(NOTHING), state: AtomicU8::new(OPEN), closes: Lock::new(Vec::new()) })
+    }
+
     #[inline]
     pub fn tip(&self) -> Tip {
-        Tip { node: self.node.get(), end: End::Leaf }
+        let node = self.node.get();
+        Tip { node, end: if node == NOTHING { End::Alone } else { End::Leaf } }
     }
 
     #[inline]
@@ -57,6 +62,10 @@ impl<'a, T, E> Rooted<'a> for Leaf<'a, T, E> {
 }
 
 impl<T, E> Thing for Leaf<'_, T, E> {
+    fn opened(&self, node: Key) {
+        self.node.set(node)
+    }
+
     fn closing(&self) {
         let _ = self.state.compare_exchange(OPEN, CLOSED, SeqCst, SeqCst).or_else(|_| self.state.compare_exchange(LISTED, CLOSING, SeqCst, SeqCst));
     }
@@ -102,10 +111,18 @@ impl<'a, T: 'a, E: 'a> Emitter<'a, T, E> {
     pub(crate) fn open(place: Place<'a, T, E>) -> Result<Self, Refusal> {
         let Place { mut spot, way } = place;
         let above = spot.closes.take();
-        let leaf = Ref::new(Leaf { way, node: LateKey::new(NOTHING), state: AtomicU8::new(OPEN), closes: Lock::new(Vec::new()) });
+        let leaf = Leaf::new(way);
         above.into_iter().for_each(|it| leaf.when_closed(it));
         spot.closes = Some(leaf.clone());
         leaf.node.set(spot.open(leaf.way.root(), kind::LEAF, None, None)?.node);
+        Ok(Emitter { leaf })
+    }
+
+    /// Of a source that holds nothing, as far as is known: at a root it stands alone.
+    pub(crate) fn open_source(mut place: Place<'a, T, E>) -> Result<Self, Refusal> {
+        let Some(hears) = place.spot.hears_alone() else { return Emitter::open(place) };
+        let leaf = Leaf::new(place.way);
+        leaf.way.root().stand_alone(Word { hears: Some(hears), merges: None, closes: Some(leaf.clone()) });
         Ok(Emitter { leaf })
     }
 }
@@ -156,8 +173,10 @@ impl<'a, T, E> Emitter<'a, T, E> {
     }
 
     /// Keeps a resource until the source is closed, then drops it once; at once, if it is closed.
+    ///
+    /// # Panics
+    /// If the engine has no memory: the resource is dropped then, and the subscription closed if it was in no engine before.
     pub fn hold<R: super::Moves + 'a>(&self, resource: R) {
-        let command = Command { what: what::HOLD, node: self.leaf.tip().node, ..Command::default() };
-        or_panic(self.leaf.way.root().engine.make(command, Word::default(), Some(Box::new(resource)), |_| ()).map(drop))
+        or_panic(self.leaf.way.hold(self.leaf.tip(), Box::new(resource)))
     }
 }

@@ -1,16 +1,13 @@
 //! Observables, and what observes them: a closure or a channel.
-use super::form::{with_default, ARoot, AWay, Lock, Opens, Ref};
+use super::form::{with_default, ARoot, AWay, Opens, Ref};
+use super::heard::rooted;
 use super::leaf::{unless_gone, Emitter, Leaf};
-use super::place::{Place, Spot};
-use super::root::{Follows, Root, Rooted};
-use super::scope::{Inbox, Scope, Thing};
-use super::way::{End, Tip, Way};
-use super::words::Word;
+use super::place::Place;
+use super::root::{Follows, Root};
+use super::scope::Scope;
 use super::{Fits, Moves};
-use crate::engine::{effect, what, Command, Key};
 use crate::rx::panics::Panics;
 use crate::{Note, Refusal};
-use std::collections::VecDeque;
 use std::panic::{catch_unwind, resume_unwind, AssertUnwindSafe};
 use std::sync::mpsc;
 
@@ -46,136 +43,6 @@ impl<'a, T, E> Observable<'a, T, E> {
         let source = self.clone();
         Observable::new(move |place| source.open(place.by(&way)))
     }
-}
-
-/// What waits for an observer that is being told.
-struct Waiting<T, E> {
-    items: VecDeque<T>,
-    error: Option<E>,
-}
-
-/// The root of a subscription, its observer, and what waits for that in the engine.
-struct Heard<'a, T, E, O> {
-    root: Root<'a>,
-    waiting: Lock<Waiting<T, E>>,
-    observer: Lock<Option<O>>,
-}
-
-impl<T, E, O: FnMut(Note<T, E>)> Heard<'_, T, E, O> {
-    /// Only who serves the root's lane calls this, so the observer is free; and what it is told within itself stands behind.
-    fn hear(&self, note: Note<T, E>) {
-        if self.root.is_stopped() {
-            return;
-        }
-        if !matches!(note, Note::Next(_)) {
-            self.root.stop();
-        }
-        let over = self.observer.try_with(|it| {
-            if let Some(observer) = it {
-                observer(note)
-            }
-            if self.root.is_stopped() { it.take() } else { None }
-        });
-        drop(over);
-    }
-
-    fn leave(&self) {
-        drop(self.observer.try_with(Option::take)) // who calls it drops it, behind the call
-    }
-}
-
-impl<'a, T, E, O> Rooted<'a> for Heard<'a, T, E, O> {
-    fn root(&self) -> &Root<'a> {
-        &self.root
-    }
-}
-
-impl<T, E, O: FnMut(Note<T, E>)> Inbox<T> for Heard<'_, T, E, O> {
-    fn keep(&self, item: T) {
-        self.waiting.with(|it| it.items.push_back(item))
-    }
-
-    #[inline]
-    fn hear(&self, item: T) {
-        self.hear(Note::Next(item))
-    }
-
-    fn panicked(&self) {
-        self.root.panicked();
-        self.leave();
-    }
-}
-
-impl<'a, T, E, O: FnMut(Note<T, E>)> Way<'a, T, E> for Heard<'a, T, E, O> {
-    #[inline]
-    fn next(&self, from: Tip, item: T) -> Result<(), Refusal> {
-        if from.end == End::Direct {
-            self.hear(Note::Next(item));
-            return Ok(());
-        }
-        self.root.engine.emit(from.node, item, self)
-    }
-
-    fn error(&self, from: Tip, error: E) -> Result<(), Refusal> {
-        let what = match from.end {
-            End::Leaf => what::ERROR,
-            End::Merging => what::FAIL,
-            End::Direct => {
-                self.hear(Note::Error(error));
-                return Ok(());
-            }
-        };
-        let mut error = Some(error);
-        let keep = |copies| {
-            if copies > 0 {
-                self.waiting.with(|it| it.error = error.take()) // a root fails once
-            }
-        };
-        self.root.engine.make(Command { what, node: from.node, ..Command::default() }, Word::default(), None, keep).map(drop)
-    }
-
-    fn completed(&self, from: Tip) -> Result<(), Refusal> {
-        if from.end == End::Direct {
-            self.hear(Note::Completed);
-            return Ok(());
-        }
-        self.root.engine.send(what::COMPLETE, from.node)
-    }
-}
-
-impl<T, E, O: FnMut(Note<T, E>)> Thing for Heard<'_, T, E, O> {
-    fn tell(&self, kind: u32, _: u64) {
-        match kind {
-            effect::NEXT => {
-                if let Some(item) = self.waiting.with(|it| it.items.pop_front()) {
-                    self.hear(Note::Next(item))
-                }
-            }
-            effect::FAILED => {
-                if let Some(error) = self.waiting.with(|it| it.error.take()) {
-                    self.hear(Note::Error(error))
-                }
-            }
-            effect::COMPLETED => self.hear(Note::Completed),
-            _ => {
-                self.root.stop();
-                self.leave();
-            }
-        }
-    }
-
-    fn panicked(&self) {
-        Inbox::panicked(self)
-    }
-}
-
-/// A root, perhaps in the lane of another node, and the place of an observable that tells this observer.
-pub(crate) fn rooted<'a, T: Moves + 'a, E: Moves + 'a, O: FnMut(Note<T, E>) + Moves + 'a>(
-    root: Root<'a>, lane: Option<Key>, observer: O,
-) -> (Ref<ARoot<'a>>, Place<'a, T, E>) {
-    let waiting = Lock::new(Waiting { items: VecDeque::new(), error: None });
-    let heard = Ref::new(Heard { root, waiting, observer: Lock::new(Some(observer)) });
-    (heard.clone(), Place { spot: Spot::root(heard.clone(), lane), way: heard })
 }
 
 impl<'a, T: Moves + 'a, E: Moves + 'a> Observable<'a, T, E> {

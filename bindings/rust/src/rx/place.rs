@@ -21,6 +21,12 @@ impl<'a> Spot<'a> {
         Spot { at: place::ROOT, above: NOTHING, hears: Some(hears), closes: None, lane }
     }
 
+    /// Who hears of a root that nothing stands above or beside.
+    pub fn hears_alone(&mut self) -> Option<Ref<AThing<'a>>> {
+        let is_alone = self.at == place::ROOT && self.lane.is_none() && self.closes.is_none() && !cfg!(cellarcliff_all_in_engine);
+        if is_alone { self.hears.take() } else { None }
+    }
+
     pub fn below(at: u8, above: Key) -> Self {
         Spot { at, above, hears: None, closes: None, lane: None }
     }

@@ -13,6 +13,7 @@ pub(crate) struct Root<'a> {
     share: Option<Ref<AThing<'a>>>, // whose connection it is
     above: Option<Ref<ARoot<'a>>>,  // what it is beside
     key: LateKey,
+    pub(super) alone: LateKey, // its number among those that stand alone
     is_stopped: AtomicBool,
 }
 
@@ -29,7 +30,7 @@ impl<'a> Rooted<'a> for Root<'a> {
 
 impl<'a> Root<'a> {
     pub fn new(engine: Ref<Engine<'a>>) -> Self {
-        Root { engine, share: None, above: None, key: LateKey::new(NOTHING), is_stopped: AtomicBool::new(false) }
+        Root { engine, share: None, above: None, key: LateKey::new(NOTHING), alone: LateKey::new(NOTHING), is_stopped: AtomicBool::new(false) }
     }
 
     /// Of the connection of a share.
@@ -50,6 +51,10 @@ impl<'a> Root<'a> {
     #[inline]
     pub fn stop(&self) {
         self.is_stopped.store(true, Relaxed);
+    }
+
+    pub fn key(&self) -> Key {
+        self.key.get()
     }
 
     /// Its node is open.
@@ -79,6 +84,9 @@ impl<'a> Root<'a> {
     /// Nothing more is told; all is released.
     pub fn close(&self) {
         self.stop();
+        if let Some(word) = self.leave_alone() {
+            return word.leaves_alone();
+        }
         let mut node = self.key.get();
         if node == NOTHING {
             self.is_stopped.fetch_or(true, SeqCst);

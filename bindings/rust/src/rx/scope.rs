@@ -1,5 +1,6 @@
 //! An engine with the words of what is open in it: commands go in, and whoever makes one does what is handed out to him.
 use super::form::{AHeld, AThing, Lock, Ref};
+use super::lone::Lones;
 use super::words::{Word, Words};
 use crate::engine::{effect, what, Command, Crossing, Handed, Key, Stack, Stepped, NOTHING};
 use crate::rx::{by, openings, panics::Panics, slab::Slab};
@@ -18,6 +19,8 @@ pub(crate) trait Thing {
     fn closed(&self) {}
     /// `tell` panicked.
     fn panicked(&self) {}
+    /// Of a leaf: it stood alone, and is in the engine from now on.
+    fn opened(&self, _node: Key) {}
 }
 
 impl Thing for () {}
@@ -163,18 +166,24 @@ pub(crate) struct Made {
 
 pub(crate) struct Engine<'a> {
     state: Lock<State<'a>>,
+    pub lones: Lock<Lones<'a>>,
 }
 
 impl<'a> Engine<'a> {
     fn new(max_events: u32) -> Result<Ref<Self>, Refusal> {
         let (crossing, step) = (Crossing::new(max_events)?, Stepped::default());
         let state = State { crossing, step, words: Words::new(), tags: Slab::new(), stacks: Vec::new(), behind: Vec::new() };
-        Ok(Ref::new(Engine { state: Lock::new(state) }))
+        Ok(Ref::new(Engine { state: Lock::new(state), lones: Lock::new(Lones::new()) }))
     }
 
     /// A command on a node that carries nothing.
     pub fn send(&self, what: u8, node: Key) -> Result<(), Refusal> {
         self.make(Command { what, node, ..Command::default() }, Word::default(), None, |_| ()).map(drop)
+    }
+
+    /// A resource of a node's goes in.
+    pub fn hold(&self, node: Key, resource: Box<AHeld<'a>>) -> Result<(), Refusal> {
+        self.make(Command { what: what::HOLD, node, ..Command::default() }, Word::default(), Some(resource), |_| ()).map(drop)
     }
 
     /// An item goes in. Whom it is for hears it at once if nothing stands before it.
@@ -358,14 +367,16 @@ impl<'a> Scope<'a> {
         Ok(Scope { engine: Engine::new(max_events)? })
     }
 
-    /// How many words and tags the engine has: 0 if nothing is open or waits.
+    /// How many words and tags the engine has, and how many subscriptions need none: 0 if nothing is open or waits.
     pub fn words(&self) -> usize {
-        self.engine.state.with(|it| it.words.many() + it.tags.many())
+        self.engine.state.with(|it| it.words.many() + it.tags.many()) + self.engine.lones.with(|it| it.many())
     }
 
     /// How much is open, held and was handed out.
     pub fn totals(&self) -> crate::engine::Totals {
-        self.engine.state.with(|it| it.crossing.totals())
+        let mut totals = self.engine.state.with(|it| it.crossing.totals());
+        totals.nodes += self.engine.lones.with(|it| it.many()) as u64;
+        totals
     }
 
     /// Disposes of all that is open.
@@ -375,12 +386,15 @@ impl<'a> Scope<'a> {
     pub fn shut(&self) {
         let mut panics = Panics::default();
         loop {
+            let alone: Vec<_> = self.engine.lones.with(|it| it.take_all().collect());
+            let many = alone.len();
+            alone.into_iter().for_each(|it| _ = panics.run(|| it.leaves_alone()));
             let before = self.totals();
             if before.nodes == 0 && before.leases == 0 {
                 return panics.go_on();
             }
             panics.run(|| _ = self.engine.send(what::SHUT, NOTHING)); // it closes one of what is open, or all
-            if self.totals().events == before.events {
+            if many == 0 && self.totals().events == before.events {
                 return panics.go_on();
             }
         }

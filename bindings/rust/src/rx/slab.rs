@@ -53,6 +53,10 @@ impl<T> Slab<T> {
         self.cells.iter().filter_map(|it| if let Cell::Full(value) = it { Some(value) } else { None })
     }
 
+    pub fn into_iter(self) -> impl Iterator<Item = T> {
+        self.cells.into_iter().filter_map(|it| if let Cell::Full(value) = it { Some(value) } else { None })
+    }
+
     pub fn many(&self) -> usize {
         self.many
     }

@@ -81,7 +81,7 @@ impl<'a, T: Moves + 'a, E: Clone + Moves + 'a> Subject<'a, T, E> {
     pub fn observable(&self) -> Observable<'a, T, E> {
         let list = self.list.clone();
         Observable::new(move |place| {
-            let emitter = Emitter::open(place)?;
+            let emitter = Emitter::open_source(place)?;
             let number = list.with(|it| {
                 if let Some(end) = &it.end {
                     return Err(end.clone());
