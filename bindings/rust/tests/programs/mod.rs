@@ -84,7 +84,8 @@ impl Drop for Counted {
 
 use cellarcliff::Refusal;
 use program::Program;
-use std::collections::BTreeMap;
+use std::collections::{hash_map::DefaultHasher, BTreeMap};
+use std::hash::{Hash, Hasher};
 use std::sync::atomic::{AtomicIsize, AtomicU64, Ordering::SeqCst};
 use std::sync::{Arc, Mutex};
 use std::time::Duration;
@@ -92,8 +93,18 @@ use std::time::Duration;
 /// What programs came to, by name.
 pub type Counts = BTreeMap<String, u64>;
 
+/// What was heard and dropped, in its order.
+pub type Told = Vec<(&'static str, usize)>;
+
+fn digest(told: Told, is_whole: bool) -> String {
+    let mut hasher = DefaultHasher::new();
+    told.hash(&mut hasher);
+    let whole: String = if is_whole { told.iter().map(|(what, which)| format!("\n    {what} {which}")).collect() } else { String::new() };
+    format!("{:016x}{whole}", hasher.finish())
+}
+
 /// Which form, and how many events its engine is made for, which the test engine takes for its own switches.
-fn run(it: &Program, counts: &Mutex<Counts>, room: u32) -> Result<(), String> {
+fn run(it: &Program, counts: &Mutex<Counts>, room: u32) -> Result<Told, String> {
     let form = if it.threads > 1 || it.is_sync { sync::run } else { local::run };
     std::thread::scope(|scope| deep().spawn_scoped(scope, || form(it, counts, room)).unwrap().join().unwrap())
 }
@@ -109,7 +120,8 @@ fn shrink(mut least: Program, mut why: String, room: u32) -> (Program, String) {
     (least, why)
 }
 
-/// Runs the programs of these seeds; says what the first comes to that goes wrong, as small as it gets.
+/// Runs the programs of these seeds; says what the first comes to that goes wrong, as small as it gets. Where TOLD is set, it
+/// prints a digest of what each told that has one thread, or with `whole` all of it.
 pub fn run_all(seeds: std::ops::Range<u64>, room: u32) -> Result<Counts, String> {
     static AT: AtomicU64 = AtomicU64::new(0);
     let counts = Mutex::new(Counts::new());
@@ -125,14 +137,22 @@ pub fn run_all(seeds: std::ops::Range<u64>, room: u32) -> Result<Counts, String>
             _ => return,
         }
     });
-    let mut done = Ok(());
+    let (mut done, tells) = (Ok(()), std::env::var("TOLD").ok());
+    let tells = tells.as_deref();
     for seed in seeds {
         AT.store(seed, SeqCst);
         let program = Program::new(seed);
-        if let Err(why) = run(&program, &counts, room) {
-            let (least, least_why) = shrink(program, why.clone(), room);
-            done = Err(format!("seed {seed}: {why}\nat least: {least_why}\n{least:?}"));
-            break;
+        match run(&program, &counts, room) {
+            Ok(told) if tells.is_some() && program.threads == 1 => {
+                let shuts = if program.shuts() { "shuts" } else { "keeps" };
+                println!("told {seed} {shuts} {}", digest(told, tells == Some("whole")))
+            }
+            Ok(_) => (),
+            Err(why) => {
+                let (least, least_why) = shrink(program, why.clone(), room);
+                done = Err(format!("seed {seed}: {why}\nat least: {least_why}\n{least:?}"));
+                break;
+            }
         }
     }
     drop(stop);

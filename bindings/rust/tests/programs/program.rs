@@ -11,6 +11,8 @@ pub enum Act {
     Subscribe(usize),
     /// The oldest subscription of so many is disposed of.
     Dispose(usize),
+    /// A resource is held for one who subscribed to such a source.
+    Hold(usize),
     Connect(usize),
     Disconnect(usize),
     Panic,
@@ -40,6 +42,8 @@ pub struct Op {
 #[derive(Clone, Copy, Debug)]
 pub enum Source {
     Subject(usize),
+    /// Of a function that keeps who is to be told: what the subject is told, each of them is.
+    Made(usize),
     /// A pipeline that stands before this one.
     Pipe(usize),
 }
@@ -67,19 +71,21 @@ pub struct Program {
 }
 
 /// Operators that tell each item once, in order, and call a function of which this says what it may do.
-pub const EXACT: [&str; 27] = [
+pub const EXACT: [&str; 28] = [
     "map", "try_map", "filter", "filter_map", "inspect", "tap", "map_err", "enumerate", "scan", "materialize", "distinct",
     "distinct_until_changed", "buffer_count", "default_if_empty", "fail_if_empty", "take", "take_while", "take_through", "using", "holding",
     "finalize", "defer", "flat_map", "concat_map", "flat_map_at_most", "switch_map", "start_with",
+    "switch_map_open",
 ];
 /// Those that do so as long as no source of theirs has ended.
 pub const UNTIL_AN_END: [&str; 6] = ["retry", "repeat", "or_else", "concat_with", "end_with", "create"];
 /// Those that tell the items of two.
 pub const OF_BOTH: [&str; 2] = ["merge", "merge_with"];
 /// Those that leave items out, or tell them at the end, in their order.
-pub const LESS: [&str; 23] = [
+pub const LESS: [&str; 24] = [
     "skip", "skip_while", "skip_last", "pairwise", "exhaust_map", "take_last", "last", "first", "fold", "reduce", "count", "max", "min",
     "all", "any", "to_vec", "zip", "zip_with", "with_latest_from", "skip_until", "take_until", "publish", "ref_count",
+    "at_most_open",
 ];
 /// Those that may tell an item again.
 pub const AGAIN: [&str; 4] = ["combine_latest", "combine_latest_with", "flat_map_other", "switch_map_other"];
@@ -99,7 +105,8 @@ impl Random {
     }
 
     fn act(&mut self, subjects: usize, pipes: usize, may_panic: bool) -> Act {
-        match self.below(22) {
+        match self.below(24) {
+            22 | 23 => Act::Hold(self.below(subjects)),
             21 if self.one_in(4) => Act::Shut(self.below(2)),
             20 | 21 => Act::Spawn(Box::new(self.act(subjects, pipes, may_panic))),
             0 => Act::End(self.below(subjects), self.one_in(2)),
@@ -131,7 +138,11 @@ impl Random {
     }
 
     fn source(&mut self, subjects: usize, before: usize) -> Source {
-        if before > 0 && self.one_in(2) { Source::Pipe(self.below(before)) } else { Source::Subject(self.below(subjects)) }
+        match self.below(4) {
+            0 | 1 if before > 0 => Source::Pipe(self.below(before)),
+            2 => Source::Made(self.below(subjects)),
+            _ => Source::Subject(self.below(subjects)),
+        }
     }
 
     fn op(&mut self, subjects: usize, before: usize, pipes: usize) -> Op {
@@ -163,6 +174,11 @@ impl Program {
         acts.extend((0..2 + it.below(12) * threads).map(|_| it.act(subjects, many, false)));
         let (engines, dropped, cloned) = (1 + it.one_in(4) as usize, it.hook_of_items(many, 5), it.hook_of_items(many, 1));
         Program { threads, is_sync, engines, subjects, pipes, acts, dropped, cloned }
+    }
+
+    /// Whether an engine may be shut in it, in an order that nobody promises.
+    pub fn shuts(&self) -> bool {
+        format!("{self:?}").contains("Shut(")
     }
 
     /// This program with one thing left out.

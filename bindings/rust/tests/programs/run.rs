@@ -1,7 +1,7 @@
 //! Runs a program in one of the two forms.
-use super::form::{Connectable, Connection, Observable, Scope, Subject, Subscription};
+use super::form::{Connectable, Connection, Emitter, Observable, Scope, Subject, Subscription};
 use super::super::program::{Act, Hook, Op, Pipe, Program, Source, AGAIN, LESS, OF_BOTH, UNTIL_AN_END};
-use super::super::{is_order, Counted, Counts};
+use super::super::{is_order, Counted, Counts, Told};
 use cellarcliff::Note;
 use std::collections::BTreeMap;
 use std::hash::{Hash, Hasher};
@@ -115,6 +115,7 @@ struct Seen {
     heard: Vec<usize>,
     is_over: bool,
     subscription: Option<Subscription<'static>>,
+    released: Option<Arc<AtomicBool>>, // what it holds itself
 }
 
 #[derive(Default)]
@@ -126,6 +127,7 @@ struct State {
     is_broken: Vec<bool>, // pipelines in which a function panicked
     connections: Vec<Option<Connection<'static, Item, Item>>>,
     is_short: bool, // of hubs in an order: who hears what is not known any more
+    told: Told,
     wrong: Option<String>,
 }
 
@@ -133,6 +135,10 @@ impl State {
     fn now(&mut self) -> usize {
         self.clock += 1;
         self.clock
+    }
+
+    fn notes(&mut self, what: &'static str, which: usize) {
+        self.told.push((what, which))
     }
 }
 
@@ -182,14 +188,31 @@ impl Shape {
     }
 }
 
+/// Who subscribed to a source that is made of a function; and how that ended: whether it failed.
+#[derive(Default)]
+struct Made {
+    all: Vec<Emitter<'static, Item, Item>>,
+    end: Option<bool>,
+}
+
+/// Does the same with each; then the first panic goes on.
+fn with_each<T>(all: impl IntoIterator<Item = T>, mut work: impl FnMut(T)) {
+    let panics = all.into_iter().filter_map(|it| catch_unwind(AssertUnwindSafe(|| work(it))).err());
+    if let Some(first) = panics.reduce(|first, _| first) {
+        resume_unwind(first)
+    }
+}
+
 pub struct World {
     live: Arc<Live>,
     pub open: Arc<AtomicIsize>,
     depth: AtomicUsize,
     one_thread: bool,
+    threads: AtomicUsize, // which one waits for within another
     state: Mutex<State>,
     scopes: Vec<Scope<'static>>,
     subjects: Vec<Subject<'static, Item, Item>>,
+    made: Vec<Mutex<Made>>,
     shapes: Vec<Shape>,
     pipes: Vec<Obs>,
     hooks: Vec<[Option<Hook>; 2]>,
@@ -209,6 +232,7 @@ impl Drop for Res {
         if world.open.fetch_sub(1, SeqCst) <= 0 {
             world.wrong("a resource is released twice".into());
         }
+        world.state().notes("a release", 0);
         self.hook.call(&world, "a release");
     }
 }
@@ -217,14 +241,44 @@ impl Drop for Res {
 struct Last {
     world: Weak<World>,
     hook: Arc<Once>,
+    at: usize,
     _many: Counted,
 }
 
 impl Drop for Last {
     fn drop(&mut self) {
-        if let Some(world) = self.world.upgrade().filter(|_| !std::thread::panicking()) {
+        let Some(world) = self.world.upgrade() else { return };
+        world.state().notes("the drop of", self.at);
+        if !std::thread::panicking() {
             self.hook.call(&world, "the drop of an observer")
         }
+    }
+}
+
+/// What a subscription holds itself.
+struct Released(Arc<AtomicBool>, #[allow(dead_code)] Counted);
+
+impl Drop for Released {
+    fn drop(&mut self) {
+        self.0.store(true, SeqCst)
+    }
+}
+
+/// One of those of which at most so many are open at a time.
+struct Within(Arc<AtomicUsize>);
+
+impl Within {
+    fn new(open: &Arc<AtomicUsize>, most: usize, world: &Weak<World>) -> Within {
+        if open.fetch_add(1, SeqCst) >= most {
+            world.upgrade().into_iter().for_each(|it| it.wrong(format!("more than {most} are open at a time")))
+        }
+        Within(open.clone())
+    }
+}
+
+impl Drop for Within {
+    fn drop(&mut self) {
+        self.0.fetch_sub(1, SeqCst);
     }
 }
 
@@ -261,6 +315,7 @@ fn name_of(act: &Act) -> &'static str {
         Act::End(_, true) => "fails",
         Act::Subscribe(_) => "subscribes",
         Act::Dispose(_) => "disposes",
+        Act::Hold(_) => "holds",
         Act::Connect(_) => "connects",
         Act::Disconnect(_) => "disconnects",
         Act::Panic => "panics",
@@ -325,7 +380,12 @@ impl World {
                     state.items.push(Emitted { subject, begun, ended: NONE });
                     state.items.len() - 1
                 };
-                let done = catch_unwind(AssertUnwindSafe(|| self.subjects[subject].next(Item::new(number, &self.live))));
+                let done = catch_unwind(AssertUnwindSafe(|| {
+                    let made = self.made(subject).all.clone();
+                    let told = catch_unwind(AssertUnwindSafe(|| self.subjects[subject].next(Item::new(number, &self.live))));
+                    with_each(made, |to| to.next(Item::new(number, &self.live)));
+                    told.unwrap_or_else(|why| resume_unwind(why))
+                }));
                 let mut state = self.state();
                 state.items[number].ended = state.now();
                 drop(state);
@@ -333,16 +393,42 @@ impl World {
             }
             Act::End(subject, fails) => {
                 self.state().is_ended[subject] = true;
-                if fails { self.subjects[subject].error(Item::new(NONE, &self.live)) } else { self.subjects[subject].completed() }
+                let made = {
+                    let mut made = self.made(subject);
+                    made.end.get_or_insert(fails);
+                    std::mem::take(&mut made.all)
+                };
+                let told = catch_unwind(AssertUnwindSafe(|| {
+                    if fails { self.subjects[subject].error(Item::new(NONE, &self.live)) } else { self.subjects[subject].completed() }
+                }));
+                with_each(made, |to| self.end(to, fails));
+                told.unwrap_or_else(|why| resume_unwind(why))
+            }
+            Act::Hold(subject) => {
+                let to = {
+                    let made = self.made(subject);
+                    made.all.get(made.all.len() / 2).cloned()
+                };
+                if let Some(to) = to {
+                    self.count("resources of who subscribed");
+                    self.open.fetch_add(1, SeqCst);
+                    let world = Arc::downgrade(self);
+                    to.hold(Closed(Res { world: world.clone(), hook: Once::new(&None, "", 0) }, to.clone(), world))
+                }
             }
             Act::Subscribe(pipe) => self.subscribe(pipe),
             Act::Dispose(at) => {
-                let subscription = {
+                let (subscription, released) = {
                     let mut state = self.state();
                     let at = at.min(state.seen.len().saturating_sub(1));
-                    state.seen.get_mut(at).and_then(|it| it.subscription.take())
+                    let Some(seen) = state.seen.get_mut(at) else { return };
+                    (seen.subscription.take(), seen.released.clone())
                 };
-                drop(subscription) // outside the lock
+                let is_due = subscription.is_some() && self.one_thread && self.threads.load(SeqCst) == 0;
+                drop(subscription); // outside the lock
+                if is_due && released.is_some_and(|it| !it.load(SeqCst)) {
+                    self.wrong("what a subscription holds is not released as it has been disposed of".into())
+                }
             }
             Act::Connect(at) => {
                 let Some(it) = &self.published[at] else { return };
@@ -363,8 +449,37 @@ impl World {
                 self.state().is_short = true; // what another engine's subscribers share may have been here
                 self.scopes[at % self.scopes.len()].shut()
             }
-            Act::Spawn(ref act) => super::spawn(self, act),
+            Act::Spawn(ref act) => {
+                self.threads.fetch_add(1, SeqCst);
+                super::spawn(self, act);
+                self.threads.fetch_sub(1, SeqCst);
+            }
         }
+    }
+
+    fn made(&self, subject: usize) -> MutexGuard<'_, Made> {
+        self.made[subject].lock().unwrap_or_else(PoisonError::into_inner)
+    }
+
+    fn end(&self, to: Emitter<'static, Item, Item>, fails: bool) {
+        if fails { to.error(Item::new(NONE, &self.live)) } else { to.completed() }
+    }
+
+    fn keeps(&self, subject: usize, to: Emitter<'static, Item, Item>) {
+        let (mut made, mut gone) = (self.made(subject), vec![]);
+        match made.end {
+            Some(fails) => {
+                drop(made);
+                self.end(to, fails)
+            }
+            None => {
+                let (closed, open) = std::mem::take(&mut made.all).into_iter().partition(Emitter::is_closed);
+                (made.all, gone) = (open, closed);
+                made.all.push(to);
+                drop(made)
+            }
+        }
+        drop(gone) // outside the lock
     }
 
     fn subscribe(self: &Arc<Self>, pipe: usize) {
@@ -373,12 +488,12 @@ impl World {
             if state.seen.len() == MANY {
                 return;
             }
-            state.seen.push(Seen { pipe, opened: NONE, heard: vec![], is_over: false, subscription: None });
+            state.seen.push(Seen { pipe, opened: NONE, heard: vec![], is_over: false, subscription: None, released: None });
             state.seen.len() - 1
         };
         let [hook, last] = &self.hooks[pipe];
         let (world, busy, hook) = (Arc::downgrade(self), AtomicBool::new(false), Once::new(hook, "an observer", pipe));
-        let last = Last { world: world.clone(), hook: Once::new(last, "the drop of an observer", pipe), _many: Counted::new(&self.open) };
+        let last = Last { world: world.clone(), hook: Once::new(last, "the drop of an observer", pipe), at, _many: Counted::new(&self.open) };
         let observer = move |note: Note<Item, Item>| {
             let Some(world) = last.world.upgrade() else { return };
             if busy.swap(true, SeqCst) {
@@ -386,6 +501,13 @@ impl World {
             }
             {
                 let mut state = world.state();
+                state.notes("heard by", at);
+                let (what, number) = match &note {
+                    Note::Next(item) => ("the item", item.number),
+                    Note::Error(_) => ("an error", 0),
+                    Note::Completed => ("the end", 0),
+                };
+                state.notes(what, number);
                 let seen = &mut state.seen[at];
                 if seen.is_over {
                     state.wrong.get_or_insert(format!("the observer {at} is told behind its end"));
@@ -401,7 +523,13 @@ impl World {
                 resume_unwind(why)
             }
         };
-        match self.pipes[pipe].observe_in(&self.scopes[at % self.scopes.len()], observer) {
+        let mut whole = self.pipes[pipe].clone();
+        if at % 3 == 2 {
+            let (released, world) = (Arc::new(AtomicBool::new(false)), Arc::downgrade(self));
+            self.state().seen[at].released = Some(released.clone());
+            whole = whole.holding(move || Released(released.clone(), Counted::new(&world.upgrade().expect("it subscribes").open)));
+        }
+        match whole.observe_in(&self.scopes[at % self.scopes.len()], observer) {
             Ok(subscription) => {
                 self.count("subscriptions");
                 self.state().seen[at].subscription = Some(subscription)
@@ -413,7 +541,8 @@ impl World {
 
     /// Does what is done at the top; what panics of the program's own goes no further.
     pub fn top(self: &Arc<Self>, act: &Act) {
-        drop(catch_unwind(AssertUnwindSafe(|| self.act(act))))
+        let done = catch_unwind(AssertUnwindSafe(|| self.act(act)));
+        self.state().notes("done, and how many panics", done.is_err().into());
     }
 
     /// Behind what was done at the top: each observer that was open before, and is, has heard what it had to. Those that were opened
@@ -476,7 +605,8 @@ impl World {
         }
         let (nodes, words) = self.scopes.iter().fold((0, 0), |sum, it| (sum.0 + it.totals().nodes, sum.1 + it.words()));
         let open = self.open.load(SeqCst);
-        let listeners: usize = self.subjects.iter().map(|it| it.observers()).sum();
+        let made = self.made.iter().map(|it| it.lock().unwrap_or_else(PoisonError::into_inner).all.len());
+        let listeners: usize = self.subjects.iter().map(|it| it.observers()).chain(made).sum();
         if open != 0 || nodes != 0 || words != 0 || listeners != 0 {
             self.wrong(format!("{open} resources, {nodes} nodes, {words} words and {listeners} listeners are left"));
         }
@@ -501,6 +631,11 @@ impl Builder<'_> {
                 let times = BTreeMap::from([(at, 1)]);
                 (self.subjects[at].observable(), Shape { most: times.clone(), times, in_order: true, ..Shape::default() })
             }
+            Source::Made(at) => {
+                let world = self.world.clone();
+                let source = Observable::create(move |to| world.upgrade().into_iter().for_each(|it| it.keeps(at, to.clone())));
+                (source, self.source(Source::Subject(at)).1)
+            }
             Source::Pipe(at) => (self.pipes[at].clone(), self.shapes[at].clone()),
         }
     }
@@ -512,7 +647,7 @@ impl Builder<'_> {
         for op in &pipe.ops {
             let (other, others) = self.source(op.other);
             let uses_other = matches!(op.name, "or_else" | "concat_with") || [&OF_BOTH[..], &LESS, &AGAIN].iter().any(|all| all.contains(&op.name));
-            shape.stays |= matches!(op.name, "create" | "publish") || uses_other && others.stays;
+            shape.stays |= matches!(op.name, "create" | "publish" | "at_most_open" | "switch_map_open") || uses_other && others.stays;
             match op.name {
                 it if OF_BOTH.contains(&it) => {
                     shape.with(&others);
@@ -588,10 +723,17 @@ impl Builder<'_> {
             }
             "holding" => it.holding(acquire),
             "finalize" => {
-                let world = self.world.clone();
-                it.finalize(move || {
-                    world.upgrade().into_iter().for_each(|it| it.count("finalizers"));
+                let (opens, ends) = (self.world.clone(), self.world.clone());
+                let last = it.finalize(move || {
+                    if let Some(world) = ends.upgrade() {
+                        world.count("finalizers");
+                        world.open.fetch_sub(1, SeqCst);
+                    }
                     acts()
+                });
+                Observable::defer(move || {
+                    opens.upgrade().into_iter().for_each(|it| _ = it.open.fetch_add(1, SeqCst));
+                    last.clone()
                 })
             }
             "defer" => Observable::defer(move || (acts(), it.clone()).1),
@@ -627,6 +769,26 @@ impl Builder<'_> {
             "skip_while" => it.skip_while(move |it| it.number < number),
             "skip_last" => it.skip_last(number),
             "pairwise" => it.pairwise().map(move |it| (acts(), it.1).1),
+            "switch_map_open" => {
+                let world = self.world.clone();
+                Observable::defer(move || {
+                    let (open, world) = (Arc::default(), world.clone());
+                    it.switch_map(move |it| {
+                        let (open, world) = (Arc::clone(&open), world.clone());
+                        Observable::never().start_with([it]).holding(move || Within::new(&open, 1, &world))
+                    })
+                })
+            }
+            "at_most_open" => {
+                let (world, most) = (self.world.clone(), number % 2 + 1);
+                Observable::defer(move || {
+                    let (open, world, until) = (Arc::default(), world.clone(), other.clone());
+                    it.flat_map_at_most(most, move |it| {
+                        let (open, world) = (Arc::clone(&open), world.clone());
+                        Observable::never().start_with([it]).take_until(&until).holding(move || Within::new(&open, most, &world))
+                    })
+                })
+            }
             "exhaust_map" => it.exhaust_map(move |it| (acts(), one(it)).1),
             "take_last" => it.take_last(number),
             "last" => it.last(),
@@ -664,8 +826,8 @@ impl Drop for Closed {
     }
 }
 
-/// Runs a program: what is wrong in it.
-pub fn run(program: &Program, counts: &Mutex<Counts>, room: u32) -> Result<(), String> {
+/// Runs a program: what is wrong in it, or what was told.
+pub fn run(program: &Program, counts: &Mutex<Counts>, room: u32) -> Result<Told, String> {
     let (dropped, cloned) = (Once::new(&program.dropped, "", 0), Once::new(&program.cloned, "", 0));
     let live = Arc::new(Live { many: AtomicIsize::new(0), may_leak: AtomicBool::new(false), dropped, cloned, world: OnceLock::new() });
     let world = Arc::new_cyclic(|world| {
@@ -676,9 +838,9 @@ pub fn run(program: &Program, counts: &Mutex<Counts>, room: u32) -> Result<(), S
         let connections = (0..many).map(|_| None).collect();
         let state = State { is_ended: vec![false; program.subjects], is_broken: vec![false; many], connections, ..State::default() };
         World {
-            live: live.clone(), open: Arc::default(), depth: AtomicUsize::new(0), one_thread: program.threads == 1, state: Mutex::new(state),
+            live: live.clone(), open: Arc::default(), depth: AtomicUsize::new(0), one_thread: program.threads == 1, threads: AtomicUsize::new(0), state: Mutex::new(state),
             scopes: (0..program.engines).map(|_| Scope::with_room(room).expect("there is memory")).collect(),
-            subjects: all.subjects, shapes: all.shapes, pipes: all.pipes,
+            subjects: all.subjects, made: (0..program.subjects).map(|_| Mutex::default()).collect(), shapes: all.shapes, pipes: all.pipes,
             hooks: all.program.pipes.iter().map(|it| [it.hook.clone(), it.last.clone()]).collect(), published: all.published, counts: Mutex::default(),
         }
     });
@@ -686,7 +848,7 @@ pub fn run(program: &Program, counts: &Mutex<Counts>, room: u32) -> Result<(), S
     super::perform(&world, program);
     world.finish();
     let mut state = world.state();
-    let (wrong, items, heard) = (state.wrong.take(), state.items.len(), state.seen.iter().map(|it| it.heard.len()).sum::<usize>());
+    let (wrong, told, items, heard) = (state.wrong.take(), std::mem::take(&mut state.told), state.items.len(), state.seen.iter().map(|it| it.heard.len()).sum::<usize>());
     drop(state);
     let mut counts = counts.lock().unwrap();
     for (what, many) in [("programs", 1), ("items", items), ("heard", heard)] {
@@ -699,6 +861,6 @@ pub fn run(program: &Program, counts: &Mutex<Counts>, room: u32) -> Result<(), S
     match wrong {
         Some(why) => Err(why),
         None if users != 1 || live.many.load(SeqCst) != 0 && !live.may_leak.load(SeqCst) => Err(format!("{} items are left, and {users} use the program", live.many.load(SeqCst))),
-        None => Ok(()),
+        None => Ok(told),
     }
 }
