@@ -1,5 +1,5 @@
 //! Measures an item, one that goes through a root of an operator's own, a subscription with a resource and an item, and an item of a
-//! flat_map, in both forms, and an item of plain closures: nanoseconds of processor time, of each the least and the median of nine
+//! flat_map, in both forms, and an item of plain closures, in a cell and behind a mutex: nanoseconds of processor time, of each the least and the median of nine
 //! rounds. `tools/measure-rust` has the same work done in C over the same engine, in turns with this.
 use cellarcliff::{local, sync};
 use std::cell::{Cell, RefCell};
@@ -86,7 +86,12 @@ fn main() {
     let observers: RefCell<Vec<Box<dyn FnMut(u64)>>> = RefCell::new(vec![Box::new(move |it| sum.set(sum.get() + it))]);
     let next = |it: u64| black_box(&observers).borrow_mut().iter_mut().for_each(|to| to(black_box(it)));
     measure("plain closures, an item", MANY, || (0..MANY).for_each(&next));
+    let sum = Arc::new(AtomicU64::new(0));
+    let adds = sum.clone();
+    let observers: Mutex<Vec<Box<dyn FnMut(u64) + Send>>> = Mutex::new(vec![Box::new(move |it| adds.store(adds.load(Relaxed) + it, Relaxed))]);
+    let next = |it: u64| black_box(&observers).lock().unwrap().iter_mut().for_each(|to| to(black_box(it)));
+    measure("plain closures behind a mutex, an item", MANY, || (0..MANY).for_each(&next));
     works!(local);
     works!(sync);
-    assert!(heard.get() > 0);
+    assert!(heard.get() > 0 && sum.load(Relaxed) > 0);
 }

@@ -142,7 +142,7 @@ fn random_programs_hear_and_release_all_whatever_is_handed_out() {
     let (made, freed, lost) = counting(|| {
         for room in 0..REFUSED {
             let first = u64::from(room) * 40;
-            programs::run_all(first..first + 40, room).unwrap_or_else(|why| panic!("{why}"));
+            programs::run_all(first..first + 40, room, 1).unwrap_or_else(|why| panic!("{why}"));
         }
     });
     assert!(made > 520, "some have two, and some threads of their own");

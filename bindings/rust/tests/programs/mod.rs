@@ -88,6 +88,7 @@ use std::collections::{hash_map::DefaultHasher, BTreeMap};
 use std::hash::{Hash, Hasher};
 use std::sync::atomic::{AtomicIsize, AtomicU64, Ordering::SeqCst};
 use std::sync::{Arc, Mutex};
+use std::sync::mpsc::RecvTimeoutError;
 use std::time::Duration;
 
 /// What programs came to, by name.
@@ -106,7 +107,7 @@ fn digest(told: Told, is_whole: bool) -> String {
 /// Which form, and how many events its engine is made for, which the test engine takes for its own switches.
 fn run(it: &Program, counts: &Mutex<Counts>, room: u32) -> Result<Told, String> {
     let form = if it.threads > 1 || it.is_sync { sync::run } else { local::run };
-    std::thread::scope(|scope| deep().spawn_scoped(scope, || form(it, counts, room)).unwrap().join().unwrap())
+    form(it, counts, room)
 }
 
 /// The smallest program that still goes wrong, by leaving out one thing after another.
@@ -120,44 +121,62 @@ fn shrink(mut least: Program, mut why: String, room: u32) -> (Program, String) {
     (least, why)
 }
 
-/// Runs the programs of these seeds; says what the first comes to that goes wrong, as small as it gets. Where TOLD is set, it
-/// prints a digest of what each told that has one thread, or with `whole` all of it.
-pub fn run_all(seeds: std::ops::Range<u64>, room: u32) -> Result<Counts, String> {
-    static AT: AtomicU64 = AtomicU64::new(0);
-    let counts = Mutex::new(Counts::new());
-    let (stop, stopped) = std::sync::mpsc::channel::<()>();
-    let watch = std::thread::spawn(move || loop {
-        let before = AT.load(SeqCst);
-        match stopped.recv_timeout(Duration::from_secs(300)) {
-            Err(std::sync::mpsc::RecvTimeoutError::Timeout) if AT.load(SeqCst) == before => {
-                eprintln!("the program of the seed {before} stands");
-                std::process::abort()
-            }
-            Err(std::sync::mpsc::RecvTimeoutError::Timeout) => (),
-            _ => return,
+/// Ends the process if a worker has the same seed for five minutes.
+fn watch(at: &[AtomicU64], stopped: std::sync::mpsc::Receiver<()>) {
+    let seeds = || at.iter().map(|it| it.load(SeqCst)).collect::<Vec<_>>();
+    let mut before = seeds();
+    while stopped.recv_timeout(Duration::from_secs(300)) == Err(RecvTimeoutError::Timeout) {
+        let now = seeds();
+        if let Some(seed) = now.iter().zip(&before).find_map(|(now, before)| (now == before && *now != u64::MAX).then_some(now)) {
+            eprintln!("the program of the seed {seed} stands");
+            std::process::abort()
         }
-    });
-    let (mut done, tells) = (Ok(()), std::env::var("TOLD").ok());
-    let tells = tells.as_deref();
-    for seed in seeds {
-        AT.store(seed, SeqCst);
+        before = now;
+    }
+}
+
+/// Runs the programs of these seeds by so many workers; says what the first comes to that goes wrong, as small as it gets. Where TOLD is set,
+/// it prints a digest of what each told that has one thread, or with `whole` all of it.
+pub fn run_all(seeds: std::ops::Range<u64>, room: u32, workers: usize) -> Result<Counts, String> {
+    let (counts, wrong, next) = (Mutex::new(Counts::new()), Mutex::new(None), AtomicU64::new(seeds.start));
+    let tells = std::env::var("TOLD").ok();
+    let one = |seed| {
         let program = Program::new(seed);
-        match run(&program, &counts, room) {
-            Ok(told) if tells.is_some() && program.threads == 1 => {
-                let shuts = if program.shuts() { "shuts" } else { "keeps" };
-                println!("told {seed} {shuts} {}", digest(told, tells == Some("whole")))
-            }
-            Ok(_) => (),
-            Err(why) => {
-                let (least, least_why) = shrink(program, why.clone(), room);
-                done = Err(format!("seed {seed}: {why}\nat least: {least_why}\n{least:?}"));
+        let told = run(&program, &counts, room).map_err(|why| {
+            let (least, least_why) = shrink(program.clone(), why.clone(), room);
+            format!("seed {seed}: {why}\nat least: {least_why}\n{least:?}")
+        })?;
+        if tells.is_some() && program.threads == 1 {
+            let shuts = if program.shuts() { "shuts" } else { "keeps" };
+            println!("told {seed} {shuts} {}", digest(told, tells.as_deref() == Some("whole")))
+        }
+        Ok(())
+    };
+    let at: Vec<_> = (0..workers).map(|_| AtomicU64::new(u64::MAX)).collect();
+    let works = |at: &AtomicU64| {
+        while wrong.lock().unwrap().is_none() {
+            let seed = next.fetch_add(1, SeqCst);
+            if seed >= seeds.end {
                 break;
             }
+            at.store(seed, SeqCst);
+            if let Err(why) = one(seed) {
+                wrong.lock().unwrap().get_or_insert(why);
+            }
         }
+        at.store(u64::MAX, SeqCst)
+    };
+    let (stop, stopped) = std::sync::mpsc::channel();
+    std::thread::scope(|scope| {
+        scope.spawn(|| watch(&at, stopped));
+        let all: Vec<_> = at.iter().map(|at| deep().spawn_scoped(scope, || works(at)).unwrap()).collect();
+        all.into_iter().for_each(|it| it.join().unwrap());
+        drop(stop)
+    });
+    match wrong.into_inner().unwrap() {
+        Some(why) => Err(why),
+        None => Ok(counts.into_inner().unwrap()),
     }
-    drop(stop);
-    watch.join().unwrap();
-    done.map(|()| counts.into_inner().unwrap())
 }
 
 /// What an engine may refuse to a share, for want of hubs in that order, is no fault of a program.

@@ -422,7 +422,8 @@ impl World {
                     let mut state = self.state();
                     let at = at.min(state.seen.len().saturating_sub(1));
                     let Some(seen) = state.seen.get_mut(at) else { return };
-                    (seen.subscription.take(), seen.released.clone())
+                    let released = seen.released.clone().filter(|_| !seen.is_over); // else they stand behind the end, which it may be told now
+                    (seen.subscription.take(), released)
                 };
                 let is_due = subscription.is_some() && self.one_thread && self.threads.load(SeqCst) == 0;
                 drop(subscription); // outside the lock
