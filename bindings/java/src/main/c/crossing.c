@@ -68,6 +68,12 @@ static jlong JNICALL open_(STATIC, jint events) {
   return (jlong)desk;
 }
 
+static void JNICALL drop_(STATIC, jlong desk) {
+  UNUSED;
+  cellar_drop(&((struct desk *)desk)->engine);
+  free((struct desk *)desk);
+}
+
 static jobject JNICALL buffer_(STATIC, jlong desk) {
   (void)class;
   return (*env)->NewDirectByteBuffer(env, &((struct desk *)desk)->step, sizeof(struct desk) - offsetof(struct desk, step));
@@ -140,7 +146,7 @@ JNIEXPORT jint JNICALL JNI_OnLoad(JavaVM *machine, void *reserved) {
       CALL(fits, "", "Z"),          CALL(open, "I", "J"),        CALL(buffer, "J", "Ljava/nio/ByteBuffer;"),
       CALL(step, "JJJJJJJJJJ", "J"), CALL(next, "JJJJ", "J"),    CALL(pass, "JJJJZ", "V"),
       CALL(stop, "JJJJ", "V"),      CALL(closings, "JJ", "J"), CALL(totals, "J", "V"),
-      CALL(dump, "J", "[B"),
+      CALL(dump, "J", "[B"),        CALL(drop, "J", "V"),
   };
   JNIEnv *env;
   (void)reserved;

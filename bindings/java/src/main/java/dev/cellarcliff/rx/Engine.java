@@ -3,13 +3,16 @@ package dev.cellarcliff.rx;
 import static dev.cellarcliff.rx.Native.*;
 
 import io.reactivex.rxjava3.core.Observer;
+import java.lang.ref.PhantomReference;
 import java.lang.ref.Reference;
-import java.lang.ref.ReferenceQueue;
+import java.lang.ref.WeakReference;
 import java.nio.ByteBuffer;
 import java.nio.charset.StandardCharsets;
 import java.util.ArrayList;
 import java.util.List;
 import java.util.Map;
+import java.util.Set;
+import java.util.concurrent.ConcurrentHashMap;
 
 /**
  * An engine of the library, and the objects for which its words stand. A command is made under the lock, and what it came to is read there;
@@ -38,8 +41,6 @@ final class Engine {
     private final ThreadLocal<Stack> stacks = ThreadLocal.withInitial(Stack::new);
     private final Slots<Tree.Ref> trees = new Slots<>();
     private final Slots<Object> values = new Slots<>();
-    /** Trees that nobody could reach any more. */
-    final ReferenceQueue<Tree> collected = new ReferenceQueue<>();
     /** How many threads have calls under way; whether one of them left something; what may be told yet, though nobody holds it. */
     private int active;
     private boolean isLeft;
@@ -58,24 +59,49 @@ final class Engine {
         desk = Native.open(events);
         if (desk == 0) { throw new OutOfMemoryError("cellarcliff: no memory for an engine"); }
         memory = Native.memory(desk);
+        new Desk(this, desk);
         Errors.prepare();
         Guard.prepare();
     }
 
+    /** Gives back the memory of an engine that nobody can reach any more. */
+    private static final class Desk extends PhantomReference<Engine> implements Collected {
+        private static final Set<Desk> ALL = ConcurrentHashMap.newKeySet();
+        private final long at;
+
+        Desk(Engine engine, long at) {
+            super(engine, QUEUE);
+            this.at = at;
+            ALL.add(this);
+        }
+
+        @Override public void close() {
+            ALL.remove(this);
+            Native.drop(at);
+        }
+    }
+
     /** Further engines, for shares that find no hub in one: each share tries all that there are, from the one on that had room last. */
     private static final class Spares {
-        private final List<Engine> all = new ArrayList<>();
+        private final List<WeakReference<Engine>> all = new ArrayList<>();
         private int latest;
 
         synchronized Engine next(Share share) {
-            if (share.tried == all.size()) {
-                all.add(new Engine(this, 0, null));
-                latest = all.size() - 1;
-            } else if (share.tried > 0) {
-                latest = (latest + 1) % all.size();
+            all.removeIf(each -> each.get() == null);
+            Engine it = null;
+            for (; it == null && share.tried < all.size(); share.tried++) {
+                latest = (share.tried > 0 ? latest + 1 : latest) % all.size();
+                it = all.get(latest).get();
             }
+            return it == null ? add(share) : it;
+        }
+
+        private Engine add(Share share) {
+            Engine it = new Engine(this, 0, null);
+            latest = all.size();
+            all.add(new WeakReference<>(it));
             share.tried++;
-            return all.get(latest);
+            return it;
         }
     }
 
@@ -255,10 +281,21 @@ final class Engine {
         return tree.ref.owed > 0 && tree.ref.closedBy >= 0;
     }
 
+    /** What is at hand is there again, if it was collected: whoever disposes of what nobody could reach may come to it before its own guard does. */
+    private void meet(Tree tree) {
+        if (tree.ref.tree() == null) { find(tree); }
+    }
+
+    private void meet(Share share) {
+        Tree one = share.anyTree();
+        if (one != null) { meet(one); }
+    }
+
     /** The tree is there again, and so are all of its shares' that were collected with it: what is told of one may be told of the others. */
     private void find(Tree tree) {
         rounds++;
         for (Tree last = isFound(tree) ? tree : null, at = last, next; at != null; at = next) {
+            if (at instanceof Connection) { last = ((Connection) at).share.find(this, rounds, last); }
             for (int i = 0; i < at.things.top(); i++) {
                 Thing thing = at.things.get(i);
                 if (thing instanceof Share.Subscriber) { last = ((Share.Subscriber) thing).share.find(this, rounds, last); }
@@ -430,6 +467,7 @@ final class Engine {
         Stack stack = stacks.get();
         int status;
         synchronized (this) {
+            meet(tree);
             values.makeRoom(1);
             step(stack, NEXT, 0, leaf.slot, leaf.number, 0, values.next(), item);
             status = stack.status;
@@ -456,6 +494,7 @@ final class Engine {
         Stack stack = stacks.get();
         int status;
         synchronized (this) {
+            meet(tree);
             values.makeRoom(1);
             step(stack, what, 0, node.slot, node.number, 0, value == null ? 0 : values.next(), value);
             status = stack.status;
@@ -469,6 +508,7 @@ final class Engine {
         boolean isAround;
         synchronized (this) {
             if (!root.isOpen || root.isOver) { return; }
+            meet(root);
             isAround = root.eager > 0;
             step(stack, DISPOSE, 0, root.ref.slot, root.ref.number, 0, 0, null);
             isAround &= stack.status == DONE;
@@ -578,10 +618,12 @@ final class Engine {
         if (made != null) { made.line = tree.line; }
         Place source = made == null ? null : Place.source(made);
         boolean isConnected = false;
+        Throwable failed = null;
         int status;
         synchronized (this) {
             if (share.engine != this) { return NO_HUB; }
             if (share.hasEnded) { return ENDED; }
+            meet(share);
             makeRoom(tree, 1);
             guard(tree);
             long user = word(tree, node), flags = WISHES, slot = at.slot(), number = at.number();
@@ -614,14 +656,25 @@ final class Engine {
                 node.join();
                 opened(stack, at, node);
             } else if (status == NO_HUB) {
-                share.engine = spares.next(share);
+                failed = moveOn(share);
             }
         }
         serve(stack, tree, null);
+        if (failed != null) { throw Errors.thrown(failed); }
         if (status == NO_HUB || status == HUB_ORDER) { return status; }
         leave(at);
         if (isDone(status) && isConnected) { source.open(share.source); }
         return status;
+    }
+
+    /** A share for which there is no hub here goes to another engine: what that raises, which may not stand before what the step handed out. */
+    private Throwable moveOn(Share share) {
+        try {
+            share.engine = spares.next(share);
+            return null;
+        } catch (Throwable why) {
+            return why;
+        }
     }
 
     /** A subscriber came behind the end of a connection that was made by hand. */
@@ -631,10 +684,12 @@ final class Engine {
     Connection connect(Share share, Connection made) {
         if (history != null) { made.line = History.line(); }
         Stack stack = stacks.get();
+        Throwable failed = null;
         int status;
         synchronized (this) {
             if (share.engine != this) { return null; }
             if (share.connection != null && share.connection.isOpen) { return share.connection; }
+            meet(share);
             makeRoom(made, 1);
             long user = word(made, made.node);
             boolean isDone = false;
@@ -657,10 +712,11 @@ final class Engine {
                 share.hasEnded = false;
                 share.error = null;
             } else if (status == NO_HUB) {
-                share.engine = spares.next(share);
+                failed = moveOn(share);
             }
         }
         serve(stack, made, null);
+        if (failed != null) { throw Errors.thrown(failed); }
         if (status == NO_HUB) { return null; }
         isDone(status);
         return made;
@@ -676,6 +732,7 @@ final class Engine {
                 share.forget();
                 return;
             }
+            meet(connection);
             step(stack, DISCONNECT, share.hub, 0, 0, 0, share.word, null);
         }
         serve(stack, connection, null);
@@ -688,7 +745,7 @@ final class Engine {
 
     static void subscribe(Operator source, Observer<Object> observer) {
         Engine engine = source.engine();
-        engine.closeCollected();
+        Collected.closeAll();
         Root root = new Root(engine, observer);
         if (engine.history != null) { root.line = History.line(); }
         observer.onSubscribe(root);
@@ -705,20 +762,18 @@ final class Engine {
         Reference.reachabilityFence(root);
     }
 
-    /** Closes what nobody could reach any more. */
-    void closeCollected() {
-        for (Tree.Ref ref; (ref = (Tree.Ref) collected.poll()) != null;) {
-            Stack stack = stacks.get();
-            synchronized (this) {
-                if (ref.owed == 0 || ref.closedBy < 0 || ref.isGuarded) { continue; }
-                if (ref.closedBy == DISPOSE) {
-                    step(stack, DISPOSE, 0, ref.slot, ref.number, 0, 0, null);
-                } else {
-                    step(stack, DISCONNECT, ref.hub, 0, 0, 0, ref.word, null);
-                }
+    /** Closes a tree that nobody could reach any more and that has no guard. */
+    void close(Tree.Ref ref) {
+        Stack stack = stacks.get();
+        synchronized (this) {
+            if (ref.owed == 0 || ref.closedBy < 0 || ref.isGuarded) { return; }
+            if (ref.closedBy == DISPOSE) {
+                step(stack, DISPOSE, 0, ref.slot, ref.number, 0, 0, null);
+            } else {
+                step(stack, DISCONNECT, ref.hub, 0, 0, 0, ref.word, null);
             }
-            serve(stack, null, null);
         }
+        serve(stack, null, null);
     }
 
     /** The history with its names; null where it is not whole. */

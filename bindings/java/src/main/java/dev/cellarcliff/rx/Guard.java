@@ -11,7 +11,25 @@ final class Guard {
     private static Tree abandoned;
 
     static {
-        Thread thread = new Thread(Guard::disposeOfAbandoned, "cellarcliff: what nobody can reach");
+        start(Guard::disposeOfAbandoned, "cellarcliff: what nobody can reach");
+        start(Guard::closeCollected, "cellarcliff: what was collected");
+    }
+
+    /** A step of a thread of this package's. */
+    private interface Step {
+        void take() throws Throwable;
+    }
+
+    private static void start(Step step, String name) {
+        Thread thread = new Thread(() -> {
+            while (true) {
+                try {
+                    step.take();
+                } catch (Throwable why) {  // whatever is raised, others are disposed of
+                    tell(why);
+                }
+            }
+        }, name);
         thread.setDaemon(true);
         thread.start();
     }
@@ -20,7 +38,7 @@ final class Guard {
     /** Of those that the engine keeps for other trees. */
     Guard next;
 
-    /** Starts the thread that disposes of what nobody can reach. */
+    /** Starts the threads that dispose of what nobody can reach. */
     static void prepare() { }
 
     @SuppressWarnings({"deprecation", "removal"})
@@ -34,22 +52,19 @@ final class Guard {
         }
     }
 
-    private static void disposeOfAbandoned() {
-        while (true) {
-            try {
-                Tree found;
-                synchronized (WAITING) {
-                    while (abandoned == null) { WAITING.wait(); }
-                    found = abandoned;
-                    abandoned = found.abandonedNext;
-                    found.abandonedNext = null;
-                }
-                found.engine.disposeOf(found);
-                found.engine.closeCollected();
-            } catch (Throwable why) {  // whatever is raised, others are disposed of
-                tell(why);
-            }
+    private static void disposeOfAbandoned() throws InterruptedException {
+        Tree found;
+        synchronized (WAITING) {
+            while (abandoned == null) { WAITING.wait(); }
+            found = abandoned;
+            abandoned = found.abandonedNext;
+            found.abandonedNext = null;
         }
+        found.engine.disposeOf(found);
+    }
+
+    private static void closeCollected() throws InterruptedException {
+        ((Collected) Collected.QUEUE.remove()).close();
     }
 
     private static void tell(Throwable why) {

@@ -38,6 +38,8 @@ final class Native {
     private static native boolean fits();
     /** A desk whose history has so many events, or as many as it chooses for 0; or 0 where memory was refused. */
     static native long open(int events);
+    /** Gives back all that a desk has. No call on it comes behind this. */
+    static native void drop(long desk);
     private static native ByteBuffer buffer(long desk);
     static native long step(long desk, long by, long depth, long begun, long head, long hub, long slot, long number, long user, long value);
     static native long next(long desk, long by, long depth, long begun);

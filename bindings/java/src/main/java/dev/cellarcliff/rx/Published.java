@@ -45,7 +45,7 @@ final class Published extends ConnectableObservable<Object> implements Operator,
         Place source;
         do {
             Engine engine = share.engine;
-            engine.closeCollected();
+            Collected.closeAll();
             made = new Connection(share, engine);
             source = Place.source(made);
             connection = engine.connect(share, made);

@@ -7,7 +7,7 @@ import io.reactivex.rxjava3.core.Observer;
 final class RefCount extends Operator.Plain {
     private final Published published;
     private final Observable<?> theirs;
-    private final Share share;
+    final Share share;
     private int mode;
     private static final int OURS = 1, THEIRS = 2;
 

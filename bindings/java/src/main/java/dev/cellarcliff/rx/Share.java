@@ -50,6 +50,9 @@ final class Share {
         return tree;
     }
 
+    /** A tree that has it, if there is one. */
+    Tree anyTree() { return first == null ? connection : first.tree; }
+
     /** A subscription of which the lane can be another's too: one that has nothing but this share. */
     Subscriber beside() { return first != null && first.isAlone ? first : null; }
 

@@ -7,7 +7,7 @@ final class Slots<T> {
     private static final Object[] NONE = {};
     private static final int[] NO_COUNTS = {};
     /** More room than this is given back where nothing is left. */
-    private static final int KEPT = 1024;
+    private static final int KEPT = 128;
 
     private Object[] items = NONE;
     private int[] counts = NO_COUNTS;  // of a free number: the next one that is free

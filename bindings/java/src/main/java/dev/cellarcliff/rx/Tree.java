@@ -1,6 +1,5 @@
 package dev.cellarcliff.rx;
 
-import java.lang.ref.ReferenceQueue;
 import java.lang.ref.WeakReference;
 
 /**
@@ -26,11 +25,12 @@ abstract class Tree {
 
     Tree(Engine engine) {
         this.engine = engine;
-        this.ref = new Ref(this, engine.collected);
+        this.ref = new Ref(this);
     }
 
     /** What the engine keeps of a tree. */
-    static final class Ref extends WeakReference<Tree> {
+    static final class Ref extends WeakReference<Tree> implements Collected {
+        private final Engine engine;
         int index = -1;
         /** How many of its words are still to be told for the last time. */
         int owed;
@@ -41,9 +41,14 @@ abstract class Tree {
         boolean isGuarded;
         private Tree found;
 
-        Ref(Tree tree, ReferenceQueue<Tree> collected) { super(tree, collected); }
+        Ref(Tree tree) {
+            super(tree, QUEUE);
+            this.engine = tree.engine;
+        }
 
         Tree tree() { return found == null ? get() : found; }
+
+        @Override public void close() { engine.close(this); }
 
         /** All of it is told. */
         void lose() { found = null; }

@@ -298,9 +298,27 @@ class FaultsTest {
         for (int i = 0; i < 100 && engine.counts()[0] > 0; i++) {
             System.gc();
             Thread.sleep(10);
-            engine.closeCollected();
+            Collected.closeAll();
         }
         expectReleased(2000 + 1000);
+    }
+
+    /** All that nobody can reach is collected at once, but its guards hear of it one after another. */
+    void what_is_disposed_of_before_its_own_guard_hears_is_released() {
+        for (boolean isShared : new boolean[] {false, true}) {
+            PublishSubject<Integer> s = PublishSubject.create();
+            List<Tree> all = new ArrayList<>();
+            Observable<Integer> below = isShared ? held(s).share() : held(s);
+            held(below.doOnSubscribe(given -> all.add((Root) given))).doOnSubscribe(given -> all.add((Root) given)).subscribe();
+            if (isShared) { all.add(((RefCount) (Observable<?>) below).share.connection); }
+            for (Tree each : all) { each.ref.clear(); }
+            Tree outer = all.get(0);
+            same(true, outer.engine.isAbandoned(outer));
+            outer.engine.disposeOf(outer);
+            same(made.get(), released.get());
+            same(false, s.hasObservers());
+        }
+        expectReleased(4);
     }
 
     void what_somebody_can_reach_stays() throws Exception {
@@ -313,7 +331,7 @@ class FaultsTest {
         for (int i = 0; i < 5; i++) {
             System.gc();
             Thread.sleep(10);
-            Engine.current().closeCollected();
+            Collected.closeAll();
         }
         s.onNext(1);
         s.onNext(10);

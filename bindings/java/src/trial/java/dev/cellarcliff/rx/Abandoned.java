@@ -45,7 +45,7 @@ public final class Abandoned {
             told = released.get();
             System.gc();
             Thread.sleep(100);
-            Engine.current().closeCollected();
+            Collected.closeAll();
         }
     }
 

@@ -102,7 +102,7 @@ public final class Memory {
             boolean isLeft = false;
             for (int i = 0; i < 20 && !left.startsWith("[0, 0, 0, 0, 0"); i++) {  // a subscription whose observer was never handed it
                 System.gc();
-                Engine.current().closeCollected();
+                Collected.closeAll();
                 left = Arrays.toString(Engine.current().counts());
                 isLeft = true;
             }

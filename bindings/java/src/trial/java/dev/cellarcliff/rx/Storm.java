@@ -198,7 +198,7 @@ public final class Storm {
         for (int i = 0; i < 200 && Engine.current().counts()[0] > 0; i++) {
             System.gc();
             Thread.sleep(10);
-            Engine.current().closeCollected();
+            Collected.closeAll();
         }
     }
 
