@@ -8,6 +8,7 @@
 #include "cellarcliff.h"
 
 enum { WORDS = 64, NO_STACK = 255 };
+#define IS_TOLD (INT64_C(1) << 62) /* of a depth */
 
 /* What Java reads begins with `step`; Native.java has the places. */
 struct desk {
@@ -15,6 +16,7 @@ struct desk {
   struct cellar_stepped step;
   struct cellar_totals totals;
   uint64_t words[WORDS];
+  struct cellar_stack last; /* whose step was handed its own item last, and its ticket */
 };
 _Static_assert(offsetof(struct desk, totals) - offsetof(struct desk, step) == 192, "Native.java");
 _Static_assert(offsetof(struct desk, words) - offsetof(struct desk, step) == 256, "Native.java");
@@ -51,7 +53,16 @@ static jlong told(const struct desk *desk, uint8_t status) {
 
 #define STATIC JNIEnv *env, jclass class
 #define UNUSED (void)env, (void)class
-#define STACK {.by = (uint64_t)by, .depth = (uint64_t)depth, .begun = (uint64_t)begun}
+
+/* The stack of a call. If its depth says so, the last item is told, and its call, which left this to whatever call comes next, ends before
+ * that: nothing can stand behind the item, since no other call came. If something did all the same, it would not be lost. */
+static struct cellar_stack stack_of(struct desk *desk, jlong by, jlong depth, jlong begun) {
+  if (depth & IS_TOLD) {
+    cellar_next(&desk->engine, &desk->last, &desk->step);
+    if (desk->step.handed) cellar_stop(&desk->engine, &desk->last);
+  }
+  return (struct cellar_stack){.by = (uint64_t)by, .depth = (uint64_t)(depth & ~IS_TOLD), .begun = (uint64_t)begun};
+}
 
 static jboolean JNICALL fits_(STATIC) {
   UNUSED;
@@ -82,31 +93,35 @@ static jobject JNICALL buffer_(STATIC, jlong desk) {
 static jlong JNICALL step_(STATIC, jlong at, jlong by, jlong depth, jlong begun, jlong head, jlong hub, jlong slot, jlong number, jlong user, jlong value) {
   UNUSED;
   struct desk *desk = (struct desk *)at;
-  struct cellar_stack stack = STACK;
   struct cellar_command command = {.what = (uint8_t)head, .place = (uint8_t)(head >> 8), .kind = (uint8_t)(head >> 16), .flags = (uint8_t)(head >> 24),
                                    .level = (uint32_t)(head >> 32), .hub = (uint64_t)hub, .node = {(uint64_t)slot, (uint64_t)number},
                                    .user = (uint64_t)user, .value = (uint64_t)value};
   if (!has_stack(needed(command.what))) return NO_STACK;
-  return told(desk, cellar_step(&desk->engine, &stack, &command, &desk->step));
+  struct cellar_stack stack = stack_of(desk, by, depth, begun);
+  uint8_t status = cellar_step(&desk->engine, &stack, &command, &desk->step);
+  if (desk->step.own) desk->last = (struct cellar_stack){.by = stack.by, .depth = stack.depth, .begun = desk->step.ticket};
+  return told(desk, status);
 }
 
 static jlong JNICALL next_(STATIC, jlong at, jlong by, jlong depth, jlong begun) {
   UNUSED;
   struct desk *desk = (struct desk *)at;
-  struct cellar_stack stack = STACK;
+  struct cellar_stack stack = stack_of(desk, by, depth, begun);
   return told(desk, cellar_next(&desk->engine, &stack, &desk->step));
 }
 
 static void JNICALL pass_(STATIC, jlong at, jlong by, jlong depth, jlong begun, jboolean now) {
   UNUSED;
-  struct cellar_stack stack = STACK;
-  cellar_pass(&((struct desk *)at)->engine, &stack, stack.depth - 1, now);
+  struct desk *desk = (struct desk *)at;
+  struct cellar_stack stack = stack_of(desk, by, depth, begun);
+  cellar_pass(&desk->engine, &stack, stack.depth - 1, now);
 }
 
 static void JNICALL stop_(STATIC, jlong at, jlong by, jlong depth, jlong begun) {
   UNUSED;
-  struct cellar_stack stack = STACK;
-  cellar_stop(&((struct desk *)at)->engine, &stack);
+  struct desk *desk = (struct desk *)at;
+  struct cellar_stack stack = stack_of(desk, by, depth, begun);
+  cellar_stop(&desk->engine, &stack);
 }
 
 /* Further closings of the command, from this place on: how many stand in `words`. */

@@ -1,5 +1,5 @@
 /* Drives the native library without a JVM: stub LIBRARY. It loads the library, gives it an environment that only registers its calls, and makes the calls
- * of a Using with two items that is disposed of. By it a library for a machine on which no JVM is at hand is tried under an emulator. */
+ * of a Using with four items that is disposed of. By it a library for a machine on which no JVM is at hand is tried under an emulator. */
 #include <dlfcn.h>
 #include <jni.h>
 #include <stdint.h>
@@ -53,7 +53,8 @@ typedef jlong(JNICALL *step_call)(JNIEnv *, jclass, jlong, jlong, jlong, jlong, 
 typedef jlong(JNICALL *next_call)(JNIEnv *, jclass, jlong, jlong, jlong, jlong);
 
 /* As Native.java has them: of what a step answers, and places of 8 bytes in its memory. */
-enum { HANDED = 1 << 8, KIND = 16, NODE = 0, TICKET = 18, USER = 20, TOTALS = 24 };
+enum { HANDED = 1 << 8, OWN = 1 << 9, MORE = 1 << 11, KIND = 16, NODE = 0, TICKET = 18, USER = 20, TOTALS = 24 };
+#define IS_TOLD (INT64_C(1) << 62)
 enum { OPEN = 0, USING = 1, NEXT = 3, DISPOSE = 8, SOURCE = 1 };
 
 int main(int count, char **words) {
@@ -81,6 +82,12 @@ int main(int count, char **words) {
     begun = (jlong)told[TICKET];
     expect("behind it", 0, next(&env, NULL, desk, 1, 1, begun) & HANDED);
   }
+  for (int i = 0; i < 2; i++) { /* the second call ends the first, which did not end itself */
+    jlong it = step(&env, NULL, desk, 1, i ? IS_TOLD | 1 : 1, begun, NEXT, 0, leaf[0], leaf[1], 0, 300);
+    expect("the command's own item, alone", HANDED | OWN, it & (HANDED | OWN | MORE));
+    begun = (jlong)told[TICKET];
+  }
+  expect("behind both", 0, next(&env, NULL, desk, 1, 1, begun) & HANDED);
   int kinds = 0;
   for (jlong it = step(&env, NULL, desk, 1, 1, begun, DISPOSE, 0, root[0], root[1], 0, 0); it & HANDED; it = next(&env, NULL, desk, 1, 1, begun)) {
     kinds = 10 * kinds + (int)(it >> KIND);
@@ -89,6 +96,7 @@ int main(int count, char **words) {
   expect("gone, and then the release", 45, kinds);
   ((void(JNICALL *)(JNIEnv *, jclass, jlong))called("totals"))(&env, NULL, desk);
   for (int i = 0; i < 4; i++) expect("what is left", 0, (long long)told[TOTALS + i]);
-  puts("stub: two items, one release, nothing is left");
+  ((void(JNICALL *)(JNIEnv *, jclass, jlong))called("drop"))(&env, NULL, desk);
+  puts("stub: four items, one release, nothing is left");
   return 0;
 }

@@ -3,6 +3,8 @@ package dev.cellarcliff.rx;
 import static dev.cellarcliff.rx.Native.*;
 
 import io.reactivex.rxjava3.core.Observer;
+import java.lang.invoke.MethodHandles;
+import java.lang.invoke.VarHandle;
 import java.lang.ref.PhantomReference;
 import java.lang.ref.Reference;
 import java.lang.ref.WeakReference;
@@ -44,6 +46,22 @@ final class Engine {
     /** How many threads have calls under way; whether one of them left something; what may be told yet, though nobody holds it. */
     private int active;
     private boolean isLeft;
+    /**
+     * The ticket of the item that was handed out last, if it stood alone and no call came since: then nothing stands behind it, and the
+     * call that tells it ends without the lock, by the ticket below zero. The next call of this engine, whose ever, says so first.
+     */
+    private long lastItem;
+    private long lastDepth;
+    private static final VarHandle LAST_ITEM;
+
+    static {
+        try {
+            LAST_ITEM = MethodHandles.lookup().findVarHandle(Engine.class, "lastItem", long.class);
+        } catch (ReflectiveOperationException why) {
+            throw new ExceptionInInitializerError(why);
+        }
+    }
+
     private Tree pinned;
     private final Spares spares;
     private static final int MOST_GUARDS = 1024;
@@ -108,21 +126,47 @@ final class Engine {
     // a step and what it came to: all under the lock -------------------------------------------------------------------------
 
     private void step(Stack stack, long head, long hub, long slot, long number, long user, long word, Object value) {
-        long told;
-        stack.depth++;
+        long told, depth = ++stack.depth, last = takeLast();
         try {
-            told = Native.step(desk, stack.by, stack.depth, stack.begun, head, hub, slot, number, user, word);
+            told = Native.step(desk, stack.by, last < 0 ? depth | IS_TOLD : depth, stack.begun, head, hub, slot, number, user, word);
             if (told == NO_STACK) { throw new StackOverflowError(); }
         } catch (Throwable why) {
             stack.depth--;
+            if (last < 0) { lastItem = last; }
             throw why;
         }
-        if (stack.depth == 1) { active++; }
+        if (last < 0) { ended(); }
+        if (depth == 1) { active++; }
         stack.status = (int) told & 255;
         int copies = (told & (MORE | OWN)) == 0 ? 0 : (int) memory.getLong(COPIES);
         if ((told & MORE) != 0) { readClosings(stack, (int) head & 255, value); }
         if (copies > 0 && ((told & OWN) == 0 || toGoOn != null)) { values.put(value, copies); }
+        boolean isAlone = (told & (HANDED | OWN | MORE)) == (HANDED | OWN) && toGoOn == null && !isLeft;
         hand(stack, toGoOn == null ? told : goOn(stack, told), value);
+        stack.isAlone = isAlone && stack.kind == E_NEXT;
+        if (stack.isAlone) {
+            lastItem = stack.begun;
+            lastDepth = depth;
+        }
+    }
+
+    /** The item that was handed out last is the last no more. Below zero its call has ended, and is to be ended; then nobody else writes here. */
+    private long takeLast() {
+        long last = lastItem;
+        if (last > 0) { return (long) LAST_ITEM.getAndSet(this, 0L); }
+        lastItem = 0;
+        return last;
+    }
+
+    private void ended() {
+        if (lastDepth == 1) { active--; }
+    }
+
+    /** The depth of a call, and whether the one before is to be ended. */
+    private long depth(Stack stack) {
+        if (takeLast() >= 0) { return stack.depth; }
+        ended();
+        return stack.depth | IS_TOLD;
     }
 
     /** Has those that are to go on go on behind what stands in their lanes. What was handed out and not begun comes again. */
@@ -140,7 +184,7 @@ final class Engine {
     }
 
     private void next(Stack stack) {
-        hand(stack, Native.next(desk, stack.by, stack.depth, stack.begun), null);
+        hand(stack, Native.next(desk, stack.by, depth(stack), stack.begun), null);
     }
 
     /** A thread has no call under way any more. */
@@ -346,7 +390,8 @@ final class Engine {
         stack.closing = null;
         try {
             for (boolean isFirst = true;; isFirst = false) {
-                boolean isHanded = stack.isHanded;
+                boolean isHanded = stack.isHanded, isAlone = isFirst && stack.isAlone;
+                long ticket = stack.begun;
                 int kind = stack.kind;
                 long from = stack.from;
                 Tree tree = stack.tree;
@@ -367,6 +412,7 @@ final class Engine {
                     raised = from == stack.by || Errors.isFatal(why) ? Errors.raise(raised, why) : Errors.hear(raised, why);
                 }
                 stack.depth = depth;
+                if (isAlone && LAST_ITEM.compareAndSet(this, ticket, -ticket)) { break; }
                 synchronized (this) { next(stack); }
                 Reference.reachabilityFence(tree);  // what else its lane has finds it
             }
@@ -385,7 +431,7 @@ final class Engine {
         synchronized (this) {
             if (of != null) { pin(of); }
             isLeft = true;
-            Native.stop(desk, stack.by, depth, stack.begun);
+            Native.stop(desk, stack.by, depth(stack), stack.begun);
             if (depth == 1) { rest(); }
         }
         stack.depth = depth - 1;
@@ -439,7 +485,7 @@ final class Engine {
         synchronized (this) {
             stack.depth++;
             try {
-                Native.pass(desk, stack.by, stack.depth, stack.begun, true);
+                Native.pass(desk, stack.by, depth(stack), stack.begun, true);
                 next(stack);
             } catch (Throwable why) {
                 stack.depth--;

@@ -14,6 +14,8 @@ final class Native {
     static final int DONE = 0, NO_MEMORY = 4, FULL = 16, GONE = 17, NOTHING_OWED = 20, NO_HUB = 22, HUB_ORDER = 23, TOO_MANY = 29,
         NO_STACK = 255;
     static final long UNKNOWN_HUB = -1;
+    /** Of a depth: the last item is told, which its call did not say yet. */
+    static final long IS_TOLD = 1L << 62;
 
     // bits of what a step answers, and places in the buffer
     static final int HANDED = 1 << 8, OWN = 1 << 9, CARRIES = 1 << 10, MORE = 1 << 11, KIND = 16;

@@ -7,6 +7,7 @@ import io.reactivex.rxjava3.core.Observer;
 import io.reactivex.rxjava3.disposables.Disposable;
 import io.reactivex.rxjava3.subjects.PublishSubject;
 import java.util.ArrayList;
+import java.util.Arrays;
 import java.util.List;
 import java.util.concurrent.CountDownLatch;
 import java.util.concurrent.atomic.AtomicInteger;
@@ -226,7 +227,7 @@ class FaultsTest {
                     same(true, told[0] == 2 || fault.isRaised);
                     same(false, s.hasObservers() || other.hasObservers());
                     expectReleased(made.get());
-                    same(java.util.Arrays.toString(new long[6]), java.util.Arrays.toString(Engine.current().counts()));
+                    same(Arrays.toString(new long[6]), Arrays.toString(Engine.current().counts()));
                     if (!fault.isRaised) { break; }
                 }
             }
@@ -295,7 +296,7 @@ class FaultsTest {
             s.publish().connect();
             s.onNext(1);
         }
-        for (int i = 0; i < 100 && engine.counts()[0] > 0; i++) {
+        for (int i = 0; i < 100 && Arrays.stream(engine.counts()).sum() > 0; i++) {
             System.gc();
             Thread.sleep(10);
             Collected.closeAll();

@@ -100,7 +100,7 @@ public final class Memory {
             for (Disposable each : given) { if (each != null) { each.dispose(); } }
             String left = Arrays.toString(Engine.current().counts());
             boolean isLeft = false;
-            for (int i = 0; i < 20 && !left.startsWith("[0, 0, 0, 0, 0"); i++) {  // a subscription whose observer was never handed it
+            for (int i = 0; i < 20 && !left.equals("[0, 0, 0, 0, 0, 0]"); i++) {  // a subscription whose observer was never handed it
                 System.gc();
                 Collected.closeAll();
                 left = Arrays.toString(Engine.current().counts());

@@ -195,7 +195,7 @@ public final class Storm {
             }
         });
         if (heard.get() != pushed.get()) { wrong.add("told " + heard + " of " + pushed + " to who was dropped"); }
-        for (int i = 0; i < 200 && Engine.current().counts()[0] > 0; i++) {
+        for (int i = 0; i < 200 && Arrays.stream(Engine.current().counts()).sum() > 0; i++) {
             System.gc();
             Thread.sleep(10);
             Collected.closeAll();
