@@ -49,9 +49,9 @@ final class Parts {
         put("Single.doFinally", "single.SingleDoFinally", it -> new Finally(ofSingle(it.get(0)), it.get(1)).singleOrError(), "source", "onFinally");
         put("Maybe.doFinally", "maybe.MaybeDoFinally", it -> new Finally(ofMaybe(it.get(0)), it.get(1)).singleElement(), "source", "onFinally");
         put("Completable.doFinally", "completable.CompletableDoFinally", it -> new Finally(ofCompletable(it.get(0)), it.get(1)).ignoreElements(), "source", "onFinally");
-        flowable("using", "Using", it -> new Using(it.get(0), it.get(1), it.get(2), it.get(3)), "resourceSupplier", "sourceSupplier", "disposer", "eager");
+        flowable("using", "Using", it -> new Using(it.get(0), it.publisher("sourceSupplier"), it.get(2), it.get(3)), "resourceSupplier", "sourceSupplier", "disposer", "eager");
         flowable("flatMap", "FlatMap", it -> it.failsAtOnce(2) ? it.asking(FLAT, it.most(3), it.most(3)) : null, "source", "mapper", "delayErrors", "maxConcurrency");
-        flowable("switchMap", "SwitchMap", it -> it.failsAtOnce(2) ? new Merge(it.get(0), it.get(1), SWITCH) : null, "source", "mapper", "delayErrors");
+        flowable("switchMap", "SwitchMap", it -> it.failsAtOnce(2) ? new Merge(it.get(0), it.publisher("mapper"), SWITCH) : null, "source", "mapper", "delayErrors");
         flowable("concatMap", "ConcatMap", it -> it.failsAtOnce(2) ? it.asking(CONCAT, 1, it.get(3)) : null, "source", "mapper", "errorMode", "prefetch");
         flowable("concat", "ConcatArray", it -> it.<Boolean>get(1) ? null : new Merge(Observable.fromArray(it.<Object[]>get(0)), source -> source, CONCAT), "sources", "delayError");
         flowable("takeUntil", "TakeUntil", it -> new Until(it.get(0), it.get(1)), "source", "other");
@@ -152,8 +152,14 @@ final class Parts {
             return get(0) instanceof Operator ? new Through(of, get(0), function.apply(get(1))) : null;
         }
 
+        /** What a Flowable's function makes, of which RxJava tells by its own name if it is null. */
+        Function<Object, ?> publisher(String function) {
+            Function<Object, ?> given = get(1);
+            return it -> Objects.requireNonNull(given.apply(it), "The " + function + " returned a null Publisher");
+        }
+
         /** A Flowable's, which asks its source for so many items at first unless it asks for all. */
-        Operator asking(Merge.Manner manner, int most, int asks) { return new Merge(get(0), get(1), manner, most, most == Integer.MAX_VALUE ? 0 : asks); }
+        Operator asking(Merge.Manner manner, int most, int asks) { return new Merge(get(0), publisher("mapper"), manner, most, most == Integer.MAX_VALUE ? 0 : asks); }
 
         /** The array that it reads, if that is all that it reads. */
         private Object[] array() {

@@ -398,4 +398,13 @@ class OperatorsTest {
         same(false, s.hasObservers());
         log.clear();
     }
+
+    void a_null_source_of_a_flowable_is_told_of_by_its_own_name() {
+        Flowable<Integer> one = Flowable.just(1).hide();
+        List<String> told = new ArrayList<>();
+        for (Flowable<Object> each : List.of(Flowable.using(() -> 1, it -> null, it -> { }), one.flatMap(it -> null), one.switchMap(it -> null), one.concatMap(it -> null))) {
+            each.subscribe(v -> { }, why -> told.add(why.getMessage()));
+        }
+        same(List.of("The sourceSupplier returned a null Publisher", "The mapper returned a null Publisher", "The mapper returned a null Publisher", "The mapper returned a null Publisher"), told);
+    }
 }
