@@ -7,8 +7,14 @@
 
 #include "cellarcliff.h"
 
-enum { WORDS = 64, NO_STACK = 255 };
-#define IS_TOLD (INT64_C(1) << 62) /* of a depth */
+enum { WORDS = 64, NO_STACK = 255, BOTH = 1 << 12 };
+
+/* What stands above a depth: the last item is told, and its call is to be ended; others are let into the lane of what the call further out does;
+ * the item of what is opened comes with it. */
+#define IS_TOLD (INT64_C(1) << 62)
+#define LETS_IN (INT64_C(1) << 61)
+#define WITH_ITEM (INT64_C(1) << 60)
+#define ABOVE (IS_TOLD | LETS_IN | WITH_ITEM)
 
 /* What Java reads begins with `step`; Native.java has the places. */
 struct desk {
@@ -61,7 +67,7 @@ static struct cellar_stack stack_of(struct desk *desk, jlong by, jlong depth, jl
     cellar_next(&desk->engine, &desk->last, &desk->step);
     if (desk->step.handed) cellar_stop(&desk->engine, &desk->last);
   }
-  return (struct cellar_stack){.by = (uint64_t)by, .depth = (uint64_t)(depth & ~IS_TOLD), .begun = (uint64_t)begun};
+  return (struct cellar_stack){.by = (uint64_t)by, .depth = (uint64_t)(depth & ~ABOVE), .begun = (uint64_t)begun};
 }
 
 static jboolean JNICALL fits_(STATIC) {
@@ -95,12 +101,20 @@ static jlong JNICALL step_(STATIC, jlong at, jlong by, jlong depth, jlong begun,
   struct desk *desk = (struct desk *)at;
   struct cellar_command command = {.what = (uint8_t)head, .place = (uint8_t)(head >> 8), .kind = (uint8_t)(head >> 16), .flags = (uint8_t)(head >> 24),
                                    .level = (uint32_t)(head >> 32), .hub = (uint64_t)hub, .node = {(uint64_t)slot, (uint64_t)number},
-                                   .user = (uint64_t)user, .value = (uint64_t)value};
+                                   .user = (uint64_t)user, .value = depth & WITH_ITEM ? 0 : (uint64_t)value};
   if (!has_stack(needed(command.what))) return NO_STACK;
   struct cellar_stack stack = stack_of(desk, by, depth, begun);
   uint8_t status = cellar_step(&desk->engine, &stack, &command, &desk->step);
+  if (depth & LETS_IN && !status) cellar_pass(&desk->engine, &stack, stack.depth - 1, 0);
+  jlong both = depth & WITH_ITEM && !status && !desk->step.handed && !desk->step.closed ? BOTH : 0;
+  if (both) {
+    struct cellar_command next = {.what = CELLAR_NEXT, .node = desk->step.node, .value = (uint64_t)value};
+    desk->words[0] = next.node.slot;
+    desk->words[1] = next.node.number;
+    status = cellar_step(&desk->engine, &stack, &next, &desk->step);
+  }
   if (desk->step.own) desk->last = (struct cellar_stack){.by = stack.by, .depth = stack.depth, .begun = desk->step.ticket};
-  return told(desk, status);
+  return told(desk, status) | both;
 }
 
 static jlong JNICALL next_(STATIC, jlong at, jlong by, jlong depth, jlong begun) {

@@ -126,9 +126,13 @@ final class Engine {
     // a step and what it came to: all under the lock -------------------------------------------------------------------------
 
     private void step(Stack stack, long head, long hub, long slot, long number, long user, long word, Object value) {
+        step(stack, head, hub, slot, number, user, word, value, 0);
+    }
+
+    private void step(Stack stack, long head, long hub, long slot, long number, long user, long word, Object value, long above) {
         long told, depth = ++stack.depth, last = takeLast();
         try {
-            told = Native.step(desk, stack.by, last < 0 ? depth | IS_TOLD : depth, stack.begun, head, hub, slot, number, user, word);
+            told = Native.step(desk, stack.by, depth | above | (last < 0 ? IS_TOLD : 0), stack.begun, head, hub, slot, number, user, word);
             if (told == NO_STACK) { throw new StackOverflowError(); }
         } catch (Throwable why) {
             stack.depth--;
@@ -138,8 +142,9 @@ final class Engine {
         if (last < 0) { ended(); }
         if (depth == 1) { active++; }
         stack.status = (int) told & 255;
+        stack.isBoth = (told & BOTH) != 0;
         int copies = (told & (MORE | OWN)) == 0 ? 0 : (int) memory.getLong(COPIES);
-        if ((told & MORE) != 0) { readClosings(stack, (int) head & 255, value); }
+        if ((told & MORE) != 0) { readClosings(stack, stack.isBoth ? NEXT : (int) head & 255, value); }
         if (copies > 0 && ((told & OWN) == 0 || toGoOn != null)) { values.put(value, copies); }
         boolean isAlone = (told & (HANDED | OWN | MORE)) == (HANDED | OWN) && toGoOn == null && !isLeft;
         hand(stack, toGoOn == null ? told : goOn(stack, told), value);
@@ -211,12 +216,17 @@ final class Engine {
     }
 
     private void hand(Stack stack, long told, Object value) {
+        while (isDoneHere(stack, told, value)) { told = Native.next(desk, stack.by, stack.depth, stack.begun); }
+    }
+
+    /** Reads what is handed out; whether it is done with that, since there is nothing to tell anybody. */
+    private boolean isDoneHere(Stack stack, long told, Object value) {
         stack.isHanded = (told & HANDED) != 0;
         if (!stack.isHanded) {
-            if (stack.depth > 1) { return; }
+            if (stack.depth > 1) { return false; }
             isLeft = false;
             rest();
-            return;
+            return false;
         }
         stack.begun = memory.getLong(TICKET);
         stack.from = memory.getLong(BY);
@@ -233,10 +243,12 @@ final class Engine {
                 break;
             case E_COMPLETED:
             case E_FAILED:
-            case E_GONE:
-                if (stack.tree != null) { ((Root) stack.tree).isOver = true; }
-                settled(trees.get((int) (user >>> 32)));
+                over(stack.tree, user);
                 break;
+            case E_GONE:
+                if (stack.tree != null) { ((Root) stack.tree).gone(); }
+                over(stack.tree, user);
+                return true;
             case E_RELEASE:
                 stack.thing = told(user);
                 if (stack.thing != null) { hold(stack.tree, (Tag) stack.thing, -1); }
@@ -244,9 +256,15 @@ final class Engine {
             case E_MERGED:
                 stack.thing = told(user);
                 if (stack.thing != null) { ((Merging) stack.thing).over(); }
-                break;
+                return true;
             default:
         }
+        return false;
+    }
+
+    private void over(Tree tree, long word) {
+        if (tree != null) { ((Root) tree).isOver = true; }
+        settled(trees.get((int) (word >>> 32)));
     }
 
     private static void hold(Tree tree, Tag tag, int change) {
@@ -466,9 +484,6 @@ final class Engine {
             case E_FAILED:
                 ((Root) tree).end(stack, (Throwable) value);
                 break;
-            case E_GONE:
-                ((Root) tree).gone();
-                break;
             case E_RELEASE:
                 try {
                     ((Tag) thing).release();
@@ -591,7 +606,7 @@ final class Engine {
             if (at.isRoot() && hasWord) { tree.ref.owed++; }
             boolean isDone = false;
             try {
-                step(stack, head | at.place << 8, 0, at.slot(), at.number(), user, value, null);
+                step(stack, head | at.place << 8, 0, at.slot(), at.number(), user, value, null, at.letsOthersIn());
                 isDone = stack.status == DONE;
             } finally {
                 if (!isDone) {
@@ -602,7 +617,7 @@ final class Engine {
             }
             status = stack.status;
             if (isDone) {
-                opened(stack, at, node);
+                opened(at, node);
                 if (history != null && tag != null) { history.name(memory.getLong(OTHER + 8), "resource " + tree.line); }
                 if (hasWord) { node.opened(user); }
                 if (tag != null) { hold(tree, tag, 1); }
@@ -613,10 +628,28 @@ final class Engine {
         return isDone(status);
     }
 
+    /**
+     * Opens a leaf that has no word for an item that is known at once, and tells it, by one crossing where the opening comes to nothing else:
+     * whether it is open, or was.
+     */
+    boolean openItem(Place at, Leaf leaf, Object item) {
+        Stack stack = stacks.get();
+        int status;
+        boolean isTold;
+        synchronized (this) {
+            values.makeRoom(1);
+            step(stack, OPEN | LEAF << 16 | at.place << 8, 0, at.slot(), at.number(), 0, values.next(), item, WITH_ITEM | at.letsOthersIn());
+            status = stack.status;
+            isTold = stack.isBoth;
+            if (isTold || status == DONE) { leaf.has(memory.getLong(isTold ? MORE_CLOSINGS : NODE), memory.getLong((isTold ? MORE_CLOSINGS : NODE) + 8)); }
+        }
+        serve(stack, at.tree, null);
+        return isDone(status) && (isTold || next(leaf, at.tree, item));
+    }
+
     /** Reads the key of what was opened. The lock is held. */
-    private void opened(Stack stack, Place at, Node node) {
-        node.slot = memory.getLong(NODE);
-        node.number = memory.getLong(NODE + 8);
+    private void opened(Place at, Node node) {
+        node.has(memory.getLong(NODE), memory.getLong(NODE + 8));
         if (history != null && (at.isRoot() || node instanceof Share.Subscriber)) { history.name(node.number, at.tree.line); }
         if (at.isRoot()) {
             Root root = (Root) at.tree;
@@ -624,8 +657,6 @@ final class Engine {
             root.ref.closedBy = DISPOSE;
             root.ref.slot = node.slot;
             root.ref.number = node.number;
-        } else if (at.over != null && at.over.letsOthersIn()) {
-            Native.pass(desk, stack.by, stack.depth, stack.begun, false);
         }
     }
 
@@ -682,7 +713,7 @@ final class Engine {
             }
             boolean isDone = false;
             try {
-                step(stack, OPEN | at.place << 8 | share.kind << 16 | flags << 24 | (long) share.level << 32, share.hub, slot, number, user, share.word, null);
+                step(stack, OPEN | at.place << 8 | share.kind << 16 | flags << 24 | (long) share.level << 32, share.hub, slot, number, user, share.word, null, at.letsOthersIn());
                 isDone = stack.status == DONE;
             } finally {
                 if (!isDone) {
@@ -700,7 +731,7 @@ final class Engine {
                     share.connection = made;
                 }
                 node.join();
-                opened(stack, at, node);
+                opened(at, node);
             } else if (status == NO_HUB) {
                 failed = moveOn(share);
             }

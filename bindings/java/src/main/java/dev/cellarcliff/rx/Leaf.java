@@ -59,7 +59,16 @@ final class Leaf extends Node implements Observer<Object>, FlowableSubscriber<Ob
 
     @Override public void onNext(Object item) {
         Tree into = tree;
-        if (into != null && !engine.next(this, into, chain == null ? item : new Through.Carried(item, chain))) { tree = null; }
+        if (into != null && !engine.next(this, into, carried(item))) { tree = null; }
+    }
+
+    private Object carried(Object item) { return chain == null ? item : new Through.Carried(item, chain); }
+
+    /** Is opened with an item that is known at once, tells it, and ends: whether it was open. */
+    boolean openItem(Place at, Object item) {
+        if (!engine.openItem(at, this, carried(item))) { return false; }
+        onComplete();
+        return true;
     }
 
     @Override public void onError(Throwable error) {

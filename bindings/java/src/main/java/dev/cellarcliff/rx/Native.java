@@ -14,11 +14,11 @@ final class Native {
     static final int DONE = 0, NO_MEMORY = 4, FULL = 16, GONE = 17, NOTHING_OWED = 20, NO_HUB = 22, HUB_ORDER = 23, TOO_MANY = 29,
         NO_STACK = 255;
     static final long UNKNOWN_HUB = -1;
-    /** Of a depth: the last item is told, which its call did not say yet. */
-    static final long IS_TOLD = 1L << 62;
+    /** Above a depth: the last item is told, which its call did not say yet; others are let in as what is projected is answered; an item comes with what is opened. */
+    static final long IS_TOLD = 1L << 62, LETS_IN = 1L << 61, WITH_ITEM = 1L << 60;
 
     // bits of what a step answers, and places in the buffer
-    static final int HANDED = 1 << 8, OWN = 1 << 9, CARRIES = 1 << 10, MORE = 1 << 11, KIND = 16;
+    static final int HANDED = 1 << 8, OWN = 1 << 9, CARRIES = 1 << 10, MORE = 1 << 11, BOTH = 1 << 12, KIND = 16;
     static final int NODE = 0, OTHER = 16, IS_CONNECTED = 32, HUB = 40, COPIES = 48, CLOSED = 56, CLOSINGS = 64, ROOM = 8, TICKET = 144, USER = 160, VALUE = 168,
         BY = 176, TOTALS = 192, MORE_CLOSINGS = 256;
 

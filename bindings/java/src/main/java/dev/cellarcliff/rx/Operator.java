@@ -64,11 +64,7 @@ interface Operator {
             return false;
         }
         if (item == null) { return engine.decline(at.over); }
-        Leaf leaf = new Leaf(at);
-        if (!engine.open(at, OPEN | LEAF << 16, leaf, false, null)) { return false; }
-        leaf.onNext(item);
-        leaf.onComplete();
-        return true;
+        return new Leaf(at).openItem(at, item);
     }
 
     /** How a connection ended, for who comes behind its end. */

@@ -44,6 +44,9 @@ final class Place {
 
     long number() { return above == null ? 0 : above.number; }
 
+    /** What stands above the depth of a call that opens something here: whether others are let in then. */
+    long letsOthersIn() { return over != null && over.letsOthersIn() ? Native.LETS_IN : 0; }
+
     boolean isRoot() { return place == Native.ROOT; }
 
     /** What is opened here takes the place of another. */

@@ -11,6 +11,8 @@ final class Stack {
 
     int status, kind;
     boolean isHanded;
+    /** The item that came with what was opened is told as well. */
+    boolean isBoth;
     /** What is handed out is the command's own item, and nothing stands behind it. */
     boolean isAlone;
     /** Of what is handed out: whose tree, what of it, its value, and which thread's command it comes of. */
