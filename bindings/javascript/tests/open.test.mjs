@@ -32,6 +32,20 @@ export const only_ours = {
     say(of_program(rx).some((it) => it.at !== null));
     other.unsubscribe();
   }, [[true, true], false]),
+  'an item that is only heard is no event, unless somebody asks where subscriptions are made': test((rx, say) => {
+    const source = new rx.Subject(), stop = new rx.Subject(), subs = [source.pipe(rx.share()), source.pipe(rx.finalize(() => {}), rx.takeUntil(stop))].map((it) => it.subscribe());
+    const events = () => {
+      const { events: before } = rx.counts();
+      source.next(1);
+      return rx.counts().events - before;
+    };
+    say(events());
+    rx.trace();
+    say(events());
+    rx.trace(false);
+    say(events());
+    subs.forEach((it) => it.unsubscribe());
+  }, [0, 2, 0]),
   'the history is a dump, until it is cut': test((rx, say) => {
     const it = rx.dump();
     say(it === null || it instanceof Uint8Array);

@@ -35,7 +35,7 @@ export const only_ours = {
     renews('cellar_step', () => stops);
     const source = new rx.Subject(), held = (name, it) => rx.using(() => ({ unsubscribe: () => console.log('released', name) }), () => it);
     held('a', source).pipe(rx.finalize(() => { console.log('final'); throw new Error('no'); })).subscribe({ error: (e) => console.log('heard', e.message.split(':')[1].trim()) });
-    held('b', rx.NEVER).pipe(rx.switchMap(() => source)).subscribe({ error: () => console.log('heard') });
+    held('b', source).pipe(rx.switchMap(() => rx.NEVER)).subscribe({ error: () => console.log('heard') });
     rx.config.onUnhandledError = (e) => {
       console.log('reported', e.message);
       console.log(source.observed, rx.counts().nodes, realm.engine.dead);
@@ -95,6 +95,7 @@ export const only_ours = {
     const module = { memory, place: () => 1024n, cellar_abi: () => ABI, cellar_new: () => 0, cellar_step: step, cellar_next: () => hands(due.shift()), cellar_pass: () => 0 };
     const engine = new Crossing(module, new WebAssembly.Module(glue()), {}), thing = new Thing({ hear: (it) => said.push(it ?? 'late') }, null);
     engine.open(0, 0, 0, { slot: 0, top: 0, lo: 0, hi: 0 }, thing);
+    engine.isCalm = () => false; // so that each item is given at once
     engine.next(thing, 'a');
     due.push(late);
     said.push(engine.next(thing, 'b'));

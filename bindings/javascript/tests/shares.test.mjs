@@ -47,6 +47,44 @@ export const tests = {
     it.subscribe({ next: say, complete: () => say('end') });
     it.subscribe({ next: say, complete: () => say('end') });
   }, [1, 'end', 2, 'end']),
+  'who comes while a share tells an item hears the next one, and who leaves hears none': test((rx, say) => {
+    const source = new rx.Subject(), shared = source.pipe(rx.share());
+    shared.subscribe((x) => {
+      say(`a ${x}`);
+      if (x !== 1) return;
+      c.unsubscribe();
+      shared.subscribe((it) => say(`d ${it}`));
+    });
+    shared.subscribe((x) => say(`b ${x}`));
+    const c = shared.subscribe((x) => say(`c ${x}`));
+    source.next(1);
+    source.next(2);
+  }, ['a 1', 'b 1', 'a 2', 'b 2', 'd 2']),
+  'what a share is told from within comes behind, for each of its subscribers': test((rx, say) => {
+    const source = new rx.Subject(), shared = source.pipe(rx.share());
+    const hears = (name, at, act) => shared.subscribe({ next: (x) => {
+      say(`${name} ${x}`);
+      if (x === at) act();
+    }, complete: () => say(`${name} end`) });
+    hears('a', -1), hears('b', 0, () => source.next(1)), hears('c', 1, () => source.complete());
+    source.next(0);
+  }, ['a 0', 'b 0', 'a 1', 'c 0', 'c 1', 'a end', 'c end', 'b 1', 'b end'], ['a 0', 'b 0', 'a 1', 'b 1', 'c 1', 'a end', 'b end', 'c end']),
+  'of a thousand subscribers of whom half leave the others hear in their order': test((rx, say) => {
+    const source = new rx.Subject(), shared = source.pipe(rx.share()), heard = [];
+    const all = Array.from({ length: 1000 }, (_, i) => shared.subscribe((x) => heard.push(i + x)));
+    all.forEach((it, i) => { if (i % 2) it.unsubscribe(); });
+    source.next(0);
+    say(heard.length === 500 && heard.every((it, i) => it === 2 * i));
+    shared.subscribe((x) => heard.push(7000 + x));
+    all.forEach((it, i) => { if (i % 4) it.unsubscribe(); });
+    heard.length = 0;
+    source.next(1);
+    say(heard.length === 251 && heard.every((it, i) => it === (i < 250 ? 4 * i + 1 : 7001)));
+    all.forEach((it) => it.unsubscribe());
+    heard.length = 0;
+    source.next(2);
+    say(heard);
+  }, [true, true, [7002]]),
   'seven hundred shares of which each fails': test((rx, say) => {
     const sources = Array.from({ length: 700 }, () => new rx.Subject()), shares = sources.map((it) => it.pipe(rx.share()));
     let failed = 0;

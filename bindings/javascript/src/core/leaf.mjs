@@ -79,7 +79,10 @@ export class Leaf extends Subscriber {
     this.owed = 0;
     this.engine = null;
     this.above = null;
-    this.loose = null;
+    this.loose = this.member = null;
+    this.kind = 0;
+    this.to = null; // as of a Thing
+    this.is_told = false;
     this.leaves = leaves;
     this._inner = inner;
     this.hears = hears; // where this leaf is the whole tree, else null
@@ -144,3 +147,4 @@ export class Leaf extends Subscriber {
     if (errors !== null) throw new UnsubscriptionError(errors);
   }
 }
+Leaf.prototype.is_shared = false;

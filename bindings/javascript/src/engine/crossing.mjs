@@ -4,15 +4,18 @@
 // from within is one deeper. A word is a place in a table. A word is free behind the last effect that has it; a value, behind the last that carries it.
 // All of an answer is read before anything is called, since what is called may give commands.
 //
+// An item that is only heard, where no lane has anything, is told before it is given: `#ahead`. It is given as soon as anything else is asked of the
+// engine within it, which then has what it would have had; if nothing is, it is left out of the history, by the law `omitting_changes_nothing_else`.
+//
 // The stack has three marks. An item is given, and anything told, where there is room to tell it and for what that leads to; an end is told and
 // a node opened where two thirds of that are left; any other command where a third is. What a command hands out is told later
 // where there is no room for that. So what an effect leads to always finds room, and RangeError means that nothing was done.
 import {
-  ABI, COMPLETE, DECLINE, DISPOSE, DONE, ERROR, FAIL, FLAT, GONE, HOLD, NEXT, OPEN, PUT, REMOVE, ROOT, SHARED, SHUT, SWITCH, USING, WISHES,
+  ABI, COMPLETE, DECLINE, DISPOSE, DONE, ERROR, FAIL, FLAT, GONE, HOLD, INNER, NEXT, NOTIFIER, OPEN, PUT, REMOVE, ROOT, SHUT, SWITCH, USING, WISHES,
 } from './codes.mjs';
 import { LAYOUT } from './glue.mjs';
 import { Table } from './table.mjs';
-import { Tag } from './thing.mjs';
+import { Connection, Tag } from './thing.mjs';
 import { Things } from './things.mjs';
 
 const STOPPED = 'cellarcliff: the engine stopped within a call';
@@ -29,6 +32,8 @@ export class Crossing {
   #is_begun = false; // whether what the last command hands out can be told now
   #postponed = null;
   #level = 0; #ofLevel = 0; #queued = 0; // how many items so far came each of the one before; what is left of the last of them; what waits behind that
+  #ahead = []; #many = 0; #given = 0; // items that are told ahead, outermost first; how many there are, and how many of them were given
+  #isCalm = true; // while calls are under way: whether no lane has anything but what they tell
   #lingering = null; #lastHears = null; // what told the last item, to which observer, where its source may have more of the same go
   dead = null; // why no command can be made any more
   tracing = false;
@@ -66,7 +71,7 @@ export class Crossing {
       this.#renews();
       throw this.dead;
     };
-    this.#glue = { room: dies, make: dies, open: dies, step: dies, next: dies, goOn: dies, go: dies, pass: dies, all: dies, entered: { value: 1 } };
+    this.#glue = { room: dies, make: dies, give: dies, open: dies, step: dies, next: dies, goOn: dies, go: dies, pass: dies, all: dies, entered: { value: 1 } };
     this.#wasm = { ...this.#wasm, cellar_totals: dies, cellar_dump: dies, cellar_closings: dies };
     for (const it of this.#things.all()) it.slot = it.top = it.lo = it.hi = -1; // a key that names nothing, in any engine
     this.#renews();
@@ -95,7 +100,7 @@ export class Crossing {
   /** Whether there is room for any command, and for what leads to it, where no history is wanted. */
   isRoomy() {
     if (this.tracing) return false;
-    this.begins();
+    if (this.#many === 0) this.begins();
     try { this.#glue.all(0); } catch { return false; }
     return true;
   }
@@ -106,18 +111,23 @@ export class Crossing {
 
   /** Does what was put off, before somebody looks whether a place is open; and no item comes in the same go as the one before. */
   begins() {
+    if (this.#given !== this.#many) this.#gives();
     if (this.#lingering !== null) this.#goesOn();
     if (this.#postponed !== null && this.#depth === 0) this.#resume();
   }
 
   #make(what, node, user, value, opens = false, share = null) {
-    if (this.#c.length === 0) this.#look();
-    const c = this.#c;
+    if (this.#given !== this.#many) this.#gives();
+    const c = this.#command();
     c[0] = what;
     c[1] = share === null ? 0 : share.level, c[2] = share === null ? 0 : share.hub, c[3] = share === null ? 0 : share.hubHigh;
     c[4] = node.slot, c[5] = node.top, c[6] = node.lo, c[7] = node.hi;
     c[8] = user, c[10] = value === THE_NEXT ? this.#values.next() : value;
     return this.#give(opens);
+  }
+  #command() {
+    if (this.#c.length === 0) this.#look();
+    return this.#c;
   }
   // Gives what was written, with room for all that comes of it if there is so much. An opening wants more room than others, so that a resource can be held behind it.
   #give(opens) {
@@ -139,7 +149,7 @@ export class Crossing {
   open(place, kind, flags, above, thing, tag = null, share = null) {
     if (place !== ROOT && above.engine !== this) return GONE;
     const owed = (place === ROOT ? 1 : 0) + (kind === FLAT || kind === SWITCH ? 1 : 0) + (flags & WISHES);
-    const user = owed ? this.#things.take(thing) : 0, tagWord = tag === null ? 0 : this.#things.take(tag);
+    const user = owed === 0 ? 0 : share === null ? this.#things.take(thing) : this.#things.takeMember(thing), tagWord = tag === null ? 0 : this.#things.take(tag);
     let status = -1;
     try {
       status = this.#make((tag === null ? OPEN : USING) | place << 8 | kind << 16 | flags << 24, above, user, tag !== null ? tagWord : share !== null ? share.word : 0, true, share);
@@ -150,9 +160,12 @@ export class Crossing {
       }
     }
     if (status !== DONE) return this.#refused(status);
+    if (place === INNER && above.kind !== FLAT) this.#isCalm = false; // what is exchanged is released
     const a = this.#a;
     thing.engine = this;
     thing.owed = owed;
+    thing.kind = kind;
+    thing.to = place === ROOT ? thing : place === NOTIFIER || (place !== INNER && (above.kind === FLAT || above.kind === SWITCH)) ? null : above.to;
     thing.slot = a[0], thing.top = a[1], thing.lo = a[2], thing.hi = a[3];
     if (tag !== null) {
       this.#named(tag);
@@ -161,8 +174,9 @@ export class Crossing {
     if (share !== null) {
       share.hub = a[HUB_AT], share.hubHigh = a[HUB_AT + 1];
       share.isNew = a[CONNECTED_AT] !== 0;
-      if (share.isNew) share.connection = this.#named(share.make(this));
+      if (share.isNew) this.#things.connects(share.connection = this.#named(new Connection(this)));
       thing.above = share.connection;
+      this.#things.joins(user, thing);
     }
     this.#does(undefined);
     return DONE;
@@ -194,8 +208,79 @@ export class Crossing {
   /** Lets a resource go before its node closes. */
   remove(tag) { return this.#ends(REMOVE, tag); }
 
+  /** Whether an item for that alone is told ahead: no lane has anything, but what is told further out, which is not for it. */
+  isCalm(to) {
+    return !to.is_told && (this.#depth === 0 || this.#isCalm) && this.#lingering === null && this.#postponed === null && !this.tracing;
+  }
   /** An item. */
   next(node, value) {
+    const { to } = node;
+    if (to === null || node.engine !== this || !this.isCalm(to)) return this.#next(node, value);
+    if (!node._many) this.looks();
+    const it = this.#tells(node, value, to);
+    if (to.is_shared) this.#tellsAll(to.things, it); else try { to.hears.hear(value); } catch (error) { this.report(error); }
+    this.#told(it);
+    return DONE;
+  }
+  // Of an item told ahead the observers are told in the order in which the engine hands it out, until it is given: then that hands out the rest.
+  #tells(node, value, to) {
+    const at = this.#many++, it = this.#ahead[at] ??= new Ahead(at);
+    it.node = node;
+    it.value = value;
+    to.is_told = true;
+    return it;
+  }
+  #tellsAll(things, it) {
+    for (let i = 0; i < things.length; i++) {
+      if (things[i] === null) continue;
+      try { things[i].hears.hear(it.value); } catch (error) { this.report(error); }
+      if (it.is_given) return;
+      it.told++;
+    }
+  }
+  #told(it) {
+    const { is_given, node: { to } } = it;
+    this.#many = it.at;
+    it.node = it.value = null;
+    it.told = 0;
+    if (is_given) {
+      it.is_given = false;
+      this.#given = it.at;
+      this.#goesOn();
+    }
+    to.is_told = false;
+    if (this.#postponed !== null && this.#depth === 0 && this.#many === 0) this.#resume();
+  }
+  // Gives what is told ahead, outermost first: what comes next is within that.
+  #gives() {
+    while (this.#given < this.#many) {
+      const it = this.#ahead[this.#given], { node } = it, c = this.#command(), depth = this.#depth + 1;
+      c[0] = NEXT, c[4] = node.slot, c[5] = node.top, c[6] = node.lo, c[7] = node.hi, c[8] = 0, c[10] = this.#values.next();
+      let status;
+      try { status = this.#glue.give(depth); } catch (error) { throw this.#failed(error); }
+      if (status !== DONE) throw new Error(`cellarcliff: ${REFUSED[status] ?? `an item was refused (${status})`}`);
+      if (this.#a.length === 0) this.#look();
+      const is_own = this.#a[OWN_AT] !== 0;
+      this.#made++;
+      this.#given++;
+      this.#is_begun = it.is_given = true;
+      this.#isCalm = is_own && (this.#depth === 0 || this.#isCalm);
+      this.#depth = depth;
+      if (!is_own) this.#skips(it);
+    }
+  }
+  // Takes what has been told ahead.
+  #skips(it) {
+    const copies = this.#a[COPIES_AT];
+    this.#values.keep(it.value, copies);
+    this.#queued += copies;
+    for (let i = 0; i <= it.told; i++) {
+      if (i > 0) try { this.#glue.goOn(this.#depth); } catch (error) { throw this.#failed(error); }
+      this.#toldOne();
+      this.#values.give(this.#a[VALUE_AT]);
+    }
+  }
+  #next(node, value) {
     if (this.#level > MOST) throw new RangeError(`cellarcliff: ${MOST} items came each from within the one before`);
     this.line = null;
     this.begins();
@@ -210,10 +295,13 @@ export class Crossing {
       this.#does(value);
       return status;
     }
-    // the usual case: one observer, who is told now
-    const { hears } = this.#things.get(a[USER_AT]);
+    // one observer, who is told now
+    const { hears } = this.#things.get(a[USER_AT]), { to } = node;
+    if (this.#depth === 0) this.#isCalm = true;
     this.#depth = depth;
+    if (to !== null) to.is_told = true;
     try { hears.hear(value); } catch (error) { this.report(error); }
+    if (to !== null) to.is_told = false;
     if (node._many && this.#made === made) {
       this.#lingering = node;
       this.#lastHears = hears;
@@ -240,14 +328,18 @@ export class Crossing {
     this.line = null;
     this.begins();
     const status = this.#make(what, node, 0, word);
+    this.#isCalm = false;
     this.#does(value);
     return status;
   }
   /** Disposes of a root, and has called nobody yet: whether `goOn` is to do that. */
   dispose(node) {
     this.line = null;
+    if (this.#given !== this.#many) this.#gives();
     if (this.#lingering !== null) this.#goesOn();
     this.#make(DISPOSE, node, 0, 0, true);
+    this.#isCalm = false;
+    this.#things.leaves(node);
     return this.#a[HANDED_AT] !== 0 || this.#a[CLOSED_AT] !== 0;
   }
   goOn() { this.#does(undefined); }
@@ -259,6 +351,7 @@ export class Crossing {
   /** Something of the package's own that is done behind whatever the node's lane has. */
   put(node, act) {
     this.begins();
+    this.#isCalm = false;
     const word = this.#things.take(new Errand(act));
     let status = -1;
     try { status = this.#make(PUT, node, word, THE_NEXT); } finally { if (status !== DONE) this.#things.free(word); }
@@ -272,6 +365,7 @@ export class Crossing {
     const a = this.#a, copies = a[COPIES_AT], closed = a[CLOSED_AT], is_handed = a[HANDED_AT] !== 0;
     if (copies === 0 && closed === 0 && !is_handed) return;
     const is_own = is_handed && a[OWN_AT] !== 0, is_told = is_handed && this.#is_begun, user = a[USER_AT], kind = a[KIND_AT];
+    this.#isCalm = is_own && kind === 1 && (this.#depth === 0 || this.#isCalm); // a projection has a lane of its own
     if (copies !== 0 && !is_own) {
       this.#values.keep(value, copies);
       this.#queued += copies;
@@ -351,7 +445,7 @@ export class Crossing {
   #drop(word, thing) {
     if (--thing.owed !== 0) return;
     this.#things.free(word);
-    if (thing.loose !== null) this.#things.left(thing);
+    this.#things.leaves(thing);
   }
 
   /** A tree that nobody can hear, and that holds nothing of the program's, is left. */
@@ -390,6 +484,7 @@ export class Crossing {
     const acts = this.#postponed;
     this.#postponed = null;
     this.#depth = 1;
+    this.#isCalm = false;
     if (is_handed !== 0) this.#tellsNext();
     this.#tellsRest();
     for (const act of acts) try { if (is_own_turn) act(); else this.surely(act); } catch (error) { this.report(error); }
@@ -404,14 +499,20 @@ export class Crossing {
       switch (kind) {
         case 0: return thing.hears.hear(value);
         case 1: return thing.body.project(thing, value);
-        case 2: return this.#drop(user, thing), thing.hears.heardEnd(this.#depth);
-        case 3: return this.#drop(user, thing), thing.hears.heardError(value, this.#depth);
-        case 4: return this.#drop(user, thing), thing.hears.heardGone();
+        case 2: return this.#last(user, thing).heardEnd(this.#depth);
+        case 3: return this.#last(user, thing).heardError(value, this.#depth);
+        case 4: return this.#last(user, thing).heardGone();
         case 5: return this.#drop(user, thing), thing.release();
         case 6: return this.#drop(user, thing), thing.act();
         case 7: return this.#drop(user, thing);
       }
     } catch (error) { this.report(error); }
+  }
+
+  #last(user, thing) {
+    const { hears } = thing;
+    this.#drop(user, thing);
+    return hears;
   }
 
   report(error) {
@@ -420,7 +521,10 @@ export class Crossing {
 
   /** Lets others go on behind the projection that is being told, so that one from within an inner observable comes at once. */
   letGo() { this.#pass(this.#depth, 0); }
-  #pass(depth, now) { try { this.#glue.pass(this.#depth + 1, depth, now); } catch (error) { throw this.#failed(error); } }
+  #pass(depth, now) {
+    if (this.#given !== this.#many) this.#gives();
+    try { this.#glue.pass(this.#depth + 1, depth, now); } catch (error) { throw this.#failed(error); }
+  }
   /** Tells what stands behind the end that is being told by the call of this depth: what was held is released now. Where there is no room it is once the
    *  end has been told. */
   releases(depth) {
@@ -439,6 +543,7 @@ export class Crossing {
   // What the engine can say of itself.
 
   totals() {
+    if (this.#given !== this.#many) this.#gives();
     this.#wasm.cellar_totals(this.#places.engine, this.#places.words);
     if (this.#c.length === 0) this.#look();
     const words = new BigUint64Array(this.#wasm.memory.buffer, Number(this.#places.words), 8);
@@ -451,6 +556,7 @@ export class Crossing {
 
   /** The history, as a dump; null where it has been cut. */
   dump() {
+    this.begins();
     this.room();
     const { engine, count } = this.#places;
     let size = 65536;
@@ -468,10 +574,15 @@ export class Crossing {
   }
 }
 
+/** An item that is told ahead: how many have heard it whole, and whether it was given meanwhile. */
+class Ahead {
+  node = null; value = null; told = 0; is_given = false;
+  constructor(at) { this.at = at; }
+}
 /** What is done once, when its turn comes. */
 class Errand {
   owed = 1;
-  loose = null;
+  loose = null; member = null;
   constructor(act) { this.act = act; }
   isForgettable() { return false; }
 }

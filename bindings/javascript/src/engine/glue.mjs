@@ -26,7 +26,7 @@ const load32 = (at) => [0x28, 2, ...unsigned(at)], store32 = (at) => [0x36, 2, .
 const code = (locals, ...body) => sized([...list(locals), ...body.flat(), ...END]);
 
 // Numbers of functions and of globals, and of a command's fields.
-const STEP_CALL = 0, NEXT_CALL = 1, PASS_CALL = 2, ROOM = 3, GIVES = 4, GOES_ON = 5, ALL = 12;
+const STEP_CALL = 0, NEXT_CALL = 1, PASS_CALL = 2, ROOM = 3, GIVES = 4, GOES_ON = 5, ALL = 13;
 const BASE = 0, ENGINE = 1, STACK = 2, COMMAND = 3, STEPPED = 4, ENTERED = 5;
 /** Bytes behind the base at which the engine's handle, a command, what a step answers, the stack of calls, a count and words stand. */
 export const LAYOUT = { engine: 0, command: 64, stepped: 128, stack: 320, count: 352, words: 448, room: 64 };
@@ -59,14 +59,14 @@ function large(frame, next) {
 }
 
 const nodeFields = [16, 20, 24, 28].map((at, i) => field(at, get(i + 2))).flat(); // the four parts of its key
-const EXPORTS = { room: ROOM, make: 6, open: 7, step: 8, next: 9, goOn: GOES_ON, go: 10, pass: 11, all: ALL };
+const EXPORTS = { room: ROOM, make: 6, open: 7, step: 8, next: 9, goOn: GOES_ON, go: 10, pass: 11, give: 12, all: ALL };
 const header = () => [0, 0x61, 0x73, 0x6d, 1, 0, 0, 0,
   ...section(1, [type([I64, I64, I64, I64], [I32]), type([I64, I64, I64], [I32]), type([I64, I64, I64, I32], [I32]), type([I32], []), type([I32], [I32]),
     type([I32, I32, I32, I32, I32, I32, I32], [I32]), type([I32, I32, I32], [])]),
   ...section(2, [
     ...['cellar_step', 'cellar_next', 'cellar_pass'].map((it, i) => [...text('e'), ...text(it), FUNCTION, i]), [...text('e'), ...text('memory'), MEMORY, 0, 0],
     ...['base', 'engine', 'stack', 'command', 'stepped'].map((it) => [...text('e'), ...text(it), GLOBAL, it === 'base' ? I32 : I64, 0])]),
-  ...section(3, [[3], [4], [4], [4], [4], [4], [5], [4], [6], [3]]),
+  ...section(3, [[3], [4], [4], [4], [4], [4], [5], [4], [6], [4], [3]]),
   ...section(6, [[I32, 1, ...constant(0), ...END]]),
   ...section(7, [...Object.entries(EXPORTS).map(([name, n]) => [...text(name), FUNCTION, n]), [...text('entered'), GLOBAL, ENTERED]]),
 ];
@@ -81,6 +81,7 @@ const small = () => [
     code([], roomy(2), field(0, get(1)), nodeFields, field(32, constant(0)), field(40, get(6)), get(0), call(GIVES), begun),
     code([], roomy(2), get(0), call(GOES_ON)),
     code([], roomy(0), isSoDeep, entering(global(ENGINE), global(STACK), get(1), LONG, get(2), call(PASS_CALL), DROP)), // of the call so deep, and whether now
+    code([], roomy(0), get(0), call(GIVES), begun), // an item that is being told
 ];
 /** The bytes of the module. */
 export function glue() {

@@ -2,15 +2,11 @@
 // as long as the program does. That keeps a leaf by its source, the nodes above by the leaf (`above`), who hears by the root, and the root by the
 // subscription. A resource of the program is kept until it is released, and with it what holds it and all above that.
 import { Table } from './table.mjs';
+import { Member, NOBODY } from './thing.mjs';
 
 export const LATELY = 256; // a power of two
 /** How many are taken in until what was not kept, and was spoken of, is looked at again: by how often that was so. So what is told much costs little. */
 const WAITS = [1024, 4096, 16384];
-
-/** In the place of what was forgotten. */
-const NOBODY = {
-  hears: { hear() {}, heardEnd() {}, heardError() {}, heardGone() {} }, body: { project() {} }, leaves: null, shut() {}, release() {},
-};
 
 /** In the table for what that does not keep: it is kept again as soon as the engine speaks of it. */
 class Loose {
@@ -28,6 +24,7 @@ class Loose {
     return it ?? NOBODY;
   }
   get loose() { return this; }
+  get member() { return this.it.deref()?.member ?? null; }
   get hears() { return this.is().hears; }
   get body() { return this.is().body; }
   get leaves() { return this.is().leaves; }
@@ -41,7 +38,7 @@ class Loose {
 }
 
 export class Things extends Table {
-  #engine; #forgotten; #taken = 0; #lately = new Int32Array(LATELY);
+  #engine; #forgotten; #shares; #taken = 0; #lately = new Int32Array(LATELY);
   #when = [0]; // by word, when it was taken in, or less than 0 and when it is due: a word that is taken in just then is another
   #again = WAITS.map(() => []); #due = Infinity; // words that are kept again, and when each is due
 
@@ -49,7 +46,22 @@ export class Things extends Table {
     super();
     this.#engine = engine;
     this.#forgotten = new FinalizationRegistry((it) => { if (this.get(it.word) === it) engine.forgets(it); });
+    this.#shares = new FinalizationRegistry(({ list }) => { for (const it of list) if (it !== null && this.get(it.word) === it) engine.forgets(it); });
   }
+
+  /** A subscriber of a share, which its connection keeps. */
+  takeMember(thing) {
+    const word = super.take(thing);
+    this.#when[word] = 0;
+    return word;
+  }
+  joins(word, thing) {
+    const { above } = thing, member = above.joins(thing, word);
+    if (!this.#engine.tracing) this.put(word, member);
+  }
+  connects(connection) { this.#shares.register(connection, connection.members); }
+  /** Behind the last effect that has its word, or as soon as it is left. */
+  leaves({ member }) { if (member !== null) member.left(); }
 
   take(item) {
     const word = super.take(item);
@@ -76,14 +88,13 @@ export class Things extends Table {
   // Whatever is under watch is kept, so that it can be told.
   #loosens(word) {
     const it = this.get(word);
-    if (it === null || it instanceof Loose) return;
+    if (it === null || it instanceof Loose || it instanceof Member) return;
     it.word = word;
     if (this.#engine.tracing || !it.isForgettable()) return;
     if (it.loose === null) {
       it.loose = new Loose(it, word, this);
       if (it.hears) this.#forgotten.register(it, it.loose); // a root: without it nobody hears the tree
     }
-    if (isOfShare(it)) it.above.members.add(it);
     this.put(word, it.loose);
   }
   /** It is kept, for a while. */
@@ -104,13 +115,5 @@ export class Things extends Table {
     this.put(word, tag);
     this.#enters(word);
   }
-  /** Behind the last effect that has its word. */
-  left(of) {
-    const it = of instanceof Loose ? of.it.deref() : of;
-    if (it !== undefined && isOfShare(it)) it.above.members.delete(it);
-  }
-
-  all() { return super.all().flatMap((it) => (it instanceof Loose ? it.it.deref() ?? [] : it)); }
+  all() { return super.all().flatMap((it) => (it instanceof Loose ? it.it.deref() ?? [] : it instanceof Member ? it.things() : it)); }
 }
-/** A subscriber of a share: its connection keeps it. */
-const isOfShare = (it) => !!it.hears && it.above !== null;

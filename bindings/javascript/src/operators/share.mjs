@@ -1,6 +1,6 @@
 // One subscription for many: a share of the engine, or a subject that a program chose.
 import { DONE, HUB_ORDER, NO_HUB, ROOT, SHARED, SOURCE } from '../engine/codes.mjs';
-import { Tag, Thing } from '../engine/thing.mjs';
+import { Tag } from '../engine/thing.mjs';
 import { TERMINAL } from '../core/leaf.mjs';
 import { Place, linked, openAt, openNode, openUsing } from '../core/place.mjs';
 import { operate, operator } from '../core/operator.mjs';
@@ -20,12 +20,6 @@ class Share {
   isNew = false; // whether the last command made it
   status = DONE; // of the last command
   constructor(level) { this.level = level; }
-  make(engine) {
-    const made = new Thing(null, null);
-    made.engine = engine;
-    made.members = new Set();
-    return made;
-  }
 }
 
 /** Counts who leaves. */
