@@ -59,6 +59,7 @@ export const tests = {
     const c = shared.subscribe((x) => say(`c ${x}`));
     source.next(1);
     source.next(2);
+    source.complete();
   }, ['a 1', 'b 1', 'a 2', 'b 2', 'd 2']),
   'what a share is told from within comes behind, for each of its subscribers': test((rx, say) => {
     const source = new rx.Subject(), shared = source.pipe(rx.share());
@@ -84,6 +85,7 @@ export const tests = {
     heard.length = 0;
     source.next(2);
     say(heard);
+    source.complete();
   }, [true, true, [7002]]),
   'seven hundred shares of which each fails': test((rx, say) => {
     const sources = Array.from({ length: 700 }, () => new rx.Subject()), shares = sources.map((it) => it.pipe(rx.share()));

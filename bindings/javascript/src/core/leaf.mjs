@@ -79,7 +79,8 @@ export class Leaf extends Subscriber {
     this.owed = 0;
     this.engine = null;
     this.above = null;
-    this.loose = this.member = null;
+    this.loose = null;
+    this.at = -1;
     this.kind = 0;
     this.to = null; // as of a Thing
     this.is_told = false;

@@ -13,6 +13,7 @@ export class Link extends Subscriber {
     this.is_linked = false; // whether it was opened with the leaf that it tells
   }
   get _isInner() { return true; }
+  _needsNone() { return this._onFinalize === undefined && super._needsNone(); }
 
   // What it does once it has left comes behind all that it held.
   _over() {

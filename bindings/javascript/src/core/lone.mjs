@@ -37,7 +37,7 @@ const isOpenLone = (it) => !!it && it._lone !== IN_ENGINE && !it.closed;
 export const lones = realm.lones ??= new Lones();
 
 /** Whether a root there may be alone: with room for a command that opens it later. */
-export const mayBeLone = (hears) => !hears.closed && hears._finalizers === null && realm.engine.isRoomy();
+export const mayBeLone = (hears) => !hears.closed && hears._holdsNone() && realm.engine.isRoomy();
 export function opensLone(leaf) {
   leaf._lone = IDLE;
   lones.take(leaf);
@@ -54,6 +54,7 @@ export function enters(leaf) {
     return false;
   }
   const { engine } = realm;
+  leaf.hears._entersAbove();
   engine.begins();
   if (leaf.closed) return false;
   leaf._lone = IN_ENGINE;

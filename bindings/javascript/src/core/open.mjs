@@ -6,7 +6,12 @@ import { enters, lones } from './lone.mjs';
 /** How many nodes and resources are open, and how many came and went. */
 export const counts = () => {
   const totals = realm.engine.totals();
-  totals.nodes += lones.all().length;
+  for (const it of lones.all()) {
+    totals.nodes++;
+    if (it.hears._finalizers === null) continue;
+    totals.held++; // what it leaves with it
+    totals.accepted++;
+  }
   return totals;
 };
 /** The history of the engine, which the audit of the book reads; null if it has been cut. */

@@ -42,6 +42,7 @@ function opens(at, kind, thing, flags, tag, share) {
   const { hears } = thing, { engine } = realm;
   let status = GONE;
   if (at._above !== LEFT) try {
+    if (hears !== null) hears._entersAbove();
     engine.begins();
     if (hears === null || !hears.closed) {
       if (engine.tracing && hears !== null && isAsked(hears)) traced(thing, hears.asked ?? 'subscription');

@@ -64,6 +64,9 @@ class Finalizers extends Tag {
 /** Whether it holds nothing itself: what a subscriber holds is held by the tree that it hears. */
 const holdsNothing = (it) => it instanceof Own || (it instanceof Subscriber && it.initialTeardown === undefined);
 
+const isLoneOrNone = (it) => it === null || isLone(it);
+const needsNone = (it) => !it || (it._needsNone !== undefined && it._needsNone());
+
 /** A subscription that hears: what it is told goes to `destination`, and nothing behind the end. */
 export class Subscriber extends Subscription {
   constructor(destination) {
@@ -129,11 +132,29 @@ export class Subscriber extends Subscription {
   add(teardown) {
     super.add(teardown);
     if (this._tag !== null) realm.engine.changes(this._tag);
-    else if (this._thing !== null && this._finalizers !== null) this._hold();
+    else if (this._finalizers !== null && !(isLoneOrNone(this._thing) && needsNone(teardown))) {
+      if (this._thing !== null) this._hold(); else this._entersAbove();
+    }
   }
   remove(teardown) {
     super.remove(teardown);
     if (this._tag !== null) realm.engine.changes(this._tag);
+  }
+
+  /** Whether it holds nothing, but what hears roots that are leaves alone and hold nothing. */
+  _holdsNone() { return this._finalizers === null || this._finalizers.every(needsNone); }
+  _needsNone() {
+    return this.initialTeardown === undefined && isLoneOrNone(this._thing) && this.unsubscribe === Subscription.prototype.unsubscribe
+      && this._leave === Subscriber.prototype._leave && this._holdsNone();
+  }
+  /** What is left with it is opened in the engine first. */
+  _entersAbove() {
+    const parents = this._parents;
+    if (parents === null) return;
+    for (const it of Array.isArray(parents) ? parents : [parents]) {
+      if (!(it instanceof Subscriber)) continue;
+      if (isLone(it._thing)) it._hold(); else if (it._thing === null) it._entersAbove();
+    }
   }
 
   // Its finalizers are one resource of its node, released with that.

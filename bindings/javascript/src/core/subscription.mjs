@@ -9,6 +9,10 @@ export function finalizeOne(finalizer, errors) {
     if (typeof finalizer === 'function') finalizer();
     else finalizer.unsubscribe();
   } catch (error) {
+    if (error instanceof RangeError && finalizer._needsNone !== undefined && !finalizer.closed) { // for want of stack: nothing was done
+      realm.engine.surely(() => finalizer.unsubscribe());
+      return errors;
+    }
     errors ??= [];
     if (error instanceof UnsubscriptionError) errors.push(...error.errors);
     else errors.push(error);

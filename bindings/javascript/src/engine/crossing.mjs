@@ -149,7 +149,7 @@ export class Crossing {
   open(place, kind, flags, above, thing, tag = null, share = null) {
     if (place !== ROOT && above.engine !== this) return GONE;
     const owed = (place === ROOT ? 1 : 0) + (kind === FLAT || kind === SWITCH ? 1 : 0) + (flags & WISHES);
-    const user = owed === 0 ? 0 : share === null ? this.#things.take(thing) : this.#things.takeMember(thing), tagWord = tag === null ? 0 : this.#things.take(tag);
+    const user = owed ? this.#things.take(thing) : 0, tagWord = tag === null ? 0 : this.#things.take(tag);
     let status = -1;
     try {
       status = this.#make((tag === null ? OPEN : USING) | place << 8 | kind << 16 | flags << 24, above, user, tag !== null ? tagWord : share !== null ? share.word : 0, true, share);
@@ -174,9 +174,8 @@ export class Crossing {
     if (share !== null) {
       share.hub = a[HUB_AT], share.hubHigh = a[HUB_AT + 1];
       share.isNew = a[CONNECTED_AT] !== 0;
-      if (share.isNew) this.#things.connects(share.connection = this.#named(new Connection(this)));
-      thing.above = share.connection;
-      this.#things.joins(user, thing);
+      if (share.isNew) share.connection = this.#named(new Connection(this));
+      share.connection.joins(thing);
     }
     this.#does(undefined);
     return DONE;
@@ -581,8 +580,8 @@ class Ahead {
 }
 /** What is done once, when its turn comes. */
 class Errand {
-  owed = 1;
-  loose = null; member = null;
+  owed = 1; at = -1;
+  loose = null;
   constructor(act) { this.act = act; }
   isForgettable() { return false; }
 }

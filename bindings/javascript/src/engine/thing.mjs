@@ -11,7 +11,7 @@ export class Thing {
     this.kind = 0; // once it is open, and what hears an item of a leaf below it, where nothing else comes of that: a root or a connection
     this.to = null;
     this.is_told = false; // whether an item is told ahead to that
-    this.member = null; // of a subscriber of a share: its place there
+    this.at = -1; // of a subscriber of a share: its place there
     this.loose = null; // what stands for it in the table, once that does not keep it
     this.leaves = null; // what is called once it has closed, behind its body
     this.hears = hears;
@@ -20,71 +20,70 @@ export class Thing {
   isForgettable() { return true; }
   /** The engine has closed it. */
   shut() { if (this.body !== null) this.body.shut(this); }
+  /** A share's subscriber is on the list of its connection no more. */
+  left() { this.above.loses(this); }
 }
 
 Thing.prototype.is_shared = false;
 
 /** A connection of a share: its subscribers, in the order in which they came, which it alone need keep. Of those that left some places are empty. */
 export class Connection extends Thing {
-  things = []; #many = 0;
+  things = []; members = null; #many = 0;
   constructor(engine) {
     super(null, null);
     this.engine = engine;
     this.to = this;
-    this.members = new Members(this);
   }
-  joins(thing, word) {
-    this.#many++;
+  joins(thing) {
+    thing.above = this;
+    thing.at = this.things.length;
     this.things.push(thing);
-    return (thing.member = this.members.takes(thing, word));
+    this.#many++;
   }
-  loses(at) {
-    this.things[at].member = null;
-    this.things[at] = this.members.list[at] = null;
-    if (--this.#many >= this.things.length >> 1 || this.things.length < 32) return;
+  loses(thing) {
+    const { at } = thing;
+    thing.at = -1;
+    this.things[at] = null;
+    if (this.members !== null) this.members.list[at] = null;
+    if (--this.#many < this.things.length >> 1 && this.things.length >= 32) this.#closesUp();
+  }
+  #closesUp() {
+    const list = [];
     this.things = this.things.filter((it) => it !== null);
-    this.members.closesUp();
+    this.things.forEach((it, at) => {
+      const member = this.members?.list[it.at] ?? null;
+      if (member !== null) (list[at] = member).at = at;
+      it.at = at;
+    });
+    if (this.members !== null) this.members.list = list;
+  }
+  /** What stands for one of them in the table from now on. */
+  loosens(thing, word) {
+    this.members ??= new Members(this);
+    return (this.members.list[thing.at] = new Member(this.members, thing, word));
   }
 }
 Connection.prototype.is_shared = true;
 
 /** What the table has of a connection's subscribers, so that it keeps none of them. */
-export class Members {
+class Members {
   list = [];
   constructor(connection) { this.connection = new WeakRef(connection); }
-  takes(thing, word) {
-    const it = new Member(this, thing, word);
-    this.list.push(it);
-    return it;
-  }
-  closesUp() {
-    this.list = this.list.filter((it) => it !== null);
-    this.list.forEach((it, at) => { it.at = at; });
-  }
 }
 /** One of them. */
 export class Member {
   constructor(of, thing, word) {
     this.of = of;
-    this.at = of.list.length;
+    this.at = thing.at;
     this.word = word;
     this.owed = thing.owed;
     this.slot = thing.slot, this.top = thing.top, this.lo = thing.lo, this.hi = thing.hi;
   }
-  is() {
-    const connection = this.of.connection.deref();
-    return this.of.list[this.at] === this && connection !== undefined ? connection.things[this.at] : NOBODY;
-  }
-  /** The thing itself, if it is there. */
-  things() {
-    const it = this.is();
-    return it === NOBODY ? [] : it;
-  }
-  get hears() { return this.is().hears; }
+  /** The thing, if it is there. */
+  thing() { return this.of.list[this.at] === this ? this.of.connection.deref()?.things[this.at] ?? null : null; }
+  get hears() { return (this.thing() ?? NOBODY).hears; }
   get leaves() { return null; }
-  get member() { return this; }
-  /** It is on the list no more, if it was. */
-  left() { if (this.of.list[this.at] === this) this.of.connection.deref()?.loses(this.at); }
+  left() { this.thing()?.left(); }
   shut() {}
 }
 
@@ -97,7 +96,7 @@ export const NOBODY = {
 export class Tag {
   constructor(release) {
     this.owed = 1;
-    this.member = null;
+    this.at = -1;
     this.slot = this.top = this.lo = this.hi = 0;
     this.above = null; // the node that holds it
     this.loose = null;

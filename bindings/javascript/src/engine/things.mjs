@@ -24,7 +24,7 @@ class Loose {
     return it ?? NOBODY;
   }
   get loose() { return this; }
-  get member() { return this.it.deref()?.member ?? null; }
+  get at() { return -1; }
   get hears() { return this.is().hears; }
   get body() { return this.is().body; }
   get leaves() { return this.is().leaves; }
@@ -46,22 +46,11 @@ export class Things extends Table {
     super();
     this.#engine = engine;
     this.#forgotten = new FinalizationRegistry((it) => { if (this.get(it.word) === it) engine.forgets(it); });
-    this.#shares = new FinalizationRegistry(({ list }) => { for (const it of list) if (it !== null && this.get(it.word) === it) engine.forgets(it); });
+    this.#shares = new FinalizationRegistry(({ list }) => { for (const it of list) if (it && this.get(it.word) === it) engine.forgets(it); });
   }
 
-  /** A subscriber of a share, which its connection keeps. */
-  takeMember(thing) {
-    const word = super.take(thing);
-    this.#when[word] = 0;
-    return word;
-  }
-  joins(word, thing) {
-    const { above } = thing, member = above.joins(thing, word);
-    if (!this.#engine.tracing) this.put(word, member);
-  }
-  connects(connection) { this.#shares.register(connection, connection.members); }
   /** Behind the last effect that has its word, or as soon as it is left. */
-  leaves({ member }) { if (member !== null) member.left(); }
+  leaves(it) { if (it.at >= 0) it.left(); }
 
   take(item) {
     const word = super.take(item);
@@ -91,11 +80,17 @@ export class Things extends Table {
     if (it === null || it instanceof Loose || it instanceof Member) return;
     it.word = word;
     if (this.#engine.tracing || !it.isForgettable()) return;
+    if (it.at >= 0) return this.#isKeptByShare(it, word);
     if (it.loose === null) {
       it.loose = new Loose(it, word, this);
       if (it.hears) this.#forgotten.register(it, it.loose); // a root: without it nobody hears the tree
     }
     this.put(word, it.loose);
+  }
+  #isKeptByShare(it, word) {
+    const { above } = it, is_first = above.members === null;
+    this.put(word, above.loosens(it, word));
+    if (is_first) this.#shares.register(above, above.members);
   }
   /** It is kept, for a while. */
   again(word, loose, it) {
@@ -115,5 +110,5 @@ export class Things extends Table {
     this.put(word, tag);
     this.#enters(word);
   }
-  all() { return super.all().flatMap((it) => (it instanceof Loose ? it.it.deref() ?? [] : it instanceof Member ? it.things() : it)); }
+  all() { return super.all().flatMap((it) => (it instanceof Loose ? it.it.deref() ?? [] : it instanceof Member ? it.thing() ?? [] : it)); }
 }
