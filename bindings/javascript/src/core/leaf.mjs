@@ -91,6 +91,7 @@ export class Leaf extends Subscriber {
     this._many = false; // whether its source tells items in one go
     this._lone = IN_ENGINE; // or how it stands with a root that needs no engine, its place among those, what waits there, and how many came each of the one before
     this._at = 0;
+    this._stands = 1; // for how many nodes of an engine it stands
     this._later = null;
     this._level = 0;
     if (inner !== null) for (let it = inner; it.above !== null; it = it.above) it.leaf = this;

@@ -6,9 +6,10 @@ import { enters, lones } from './lone.mjs';
 /** How many nodes and resources are open, and how many came and went. */
 export const counts = () => {
   const totals = realm.engine.totals();
+  if (realm.holder?.engine === realm.engine) totals.nodes--; // it is no subscription
   for (const it of lones.all()) {
-    totals.nodes++;
-    if (it.hears._finalizers === null) continue;
+    totals.nodes += it._stands;
+    if (it.hears._tag !== null || it.hears._finalizers === null || it._stands > 1) continue;
     totals.held++; // what it leaves with it
     totals.accepted++;
   }

@@ -4,7 +4,7 @@ import { Tag } from '../engine/thing.mjs';
 import { traced } from '../engine/tracing.mjs';
 import { reportUnhandledError, stopped, unheard } from './config.mjs';
 import { UnsubscriptionError } from './errors.mjs';
-import { enters, isLone, loneLeft } from './lone.mjs';
+import { holdsLone, isLone, loneLeft } from './lone.mjs';
 import { Own, Subscription, finalizeOne, isSubscription } from './subscription.mjs';
 import { isFunction, noop } from './util.mjs';
 
@@ -45,17 +45,25 @@ export class Resource extends Tag {
     if (errors !== null) thrown(errors);
   }
 }
+/** What a subscriber holds for an operator. */
+export class Held {
+  constructor(resource) { this.resource = resource; }
+  unsubscribe() { new Resource(this.resource).release(); }
+}
 /** A subscriber's finalizers, as one resource of its node. */
 class Finalizers extends Tag {
-  constructor(of) {
+  constructor(of, is_lone = false) {
     super();
     this.of = of;
+    this.is_lone = is_lone; // whether that hears a root that is told without the engine
   }
   isForgettable() { return this.of._finalizers === null || this.of._finalizers.every(holdsNothing); }
   release() {
     const { of } = this;
+    if (of._tag !== this) return; // another one stands for it
     of._tag = null;
-    if (!of.closed && !of.isStopped) return; // it has not heard its end, which was told from within: they come with that
+    if (this.is_lone && this.above.engine.dead !== null) return of._heardDead(this.above.engine.dead);
+    if (!of.closed && !of.isStopped) return of._lets(); // it has not heard its end, which was told from within: others come with that
     const errors = of._finalized(null);
     if (errors !== null) thrown(errors);
   }
@@ -152,18 +160,80 @@ export class Subscriber extends Subscription {
     const parents = this._parents;
     if (parents === null) return;
     for (const it of Array.isArray(parents) ? parents : [parents]) {
-      if (!(it instanceof Subscriber)) continue;
+      if (!(it instanceof Subscriber) || it._tag !== null) continue;
       if (isLone(it._thing)) it._hold(); else if (it._thing === null) it._entersAbove();
     }
   }
 
   // Its finalizers are one resource of its node, released with that.
   _hold() {
-    const thing = this._thing, tag = traced(new Finalizers(this), 'teardown', thing);
-    if (enters(thing) && realm.engine.hold(thing, tag) === 0) this._tag = tag;
-    else if (this.closed) { // as what had been put off was done
-      const errors = this._finalized(null);
-      if (errors !== null) thrown(errors);
+    const thing = this._thing;
+    if (isLone(thing)) return this._holdsLone();
+    const tag = traced(new Finalizers(this), 'teardown', thing);
+    if (realm.engine.hold(thing, tag) === 0) this._tag = tag; else this._ifClosed();
+  }
+  _ifClosed() {
+    if (!this.closed) return; // else that was as what had been put off was done
+    const errors = this._finalized(null);
+    if (errors !== null) thrown(errors);
+  }
+  // Of a root that is told without the engine, or will be.
+  _holdsLone() {
+    this._entersAbove();
+    realm.engine.begins();
+    if (this.closed) return this._ifClosed();
+    const tag = this._tag = new Finalizers(this, true);
+    let status = -1;
+    try { status = holdsLone(tag); } finally { if (status !== 0) this._tag = null; }
+  }
+  /** Before the root is opened. */
+  _holdsFirst(it) {
+    (this._finalizers ??= []).push(it);
+    try { this._holdsLone(); } catch (error) {
+      this.remove(it);
+      it.unsubscribe();
+      throw error;
+    }
+  }
+  /** Releases what is not a teardown of its own. */
+  _lets() {
+    for (const it of [...this._finalizers ?? []]) {
+      if (!(it instanceof Held)) continue;
+      this.remove(it);
+      it.unsubscribe();
+    }
+  }
+  /** Another thing holds it from now on, and this one once that is called no more. */
+  _takesOff(it) {
+    const tag = this._tag;
+    this._tag = null;
+    this.remove(it);
+    if (this._finalizers?.length === 0) this._finalizers = null;
+    return () => { if (tag !== null) realm.engine.remove(tag); };
+  }
+  /** As a node of the engine's. */
+  _holdsAnew() {
+    const tag = this._tag;
+    if (this._finalizers === null) return;
+    this._tag = null;
+    this._hold();
+    if (tag !== null) realm.engine.remove(tag);
+  }
+  // Where the engine died that held it for a root that it did not have.
+  _heardDead(why) {
+    if (this.closed) return this._ifClosed();
+    if (isLone(this._thing)) loneLeft(this._thing);
+    this.heardError(why, 0);
+  }
+  // Releases what was held for such a root: later, where there is no room.
+  _letsGo() {
+    const tag = this._tag;
+    if (tag === null || !tag.is_lone) return;
+    const { engine } = tag.above;
+    if (engine.dead !== null) this._tag = null;
+    else try { engine.remove(tag); } catch (error) {
+      if (!(error instanceof RangeError)) throw error;
+      engine.surely(() => engine.remove(tag));
     }
   }
 
@@ -178,6 +248,7 @@ export class Subscriber extends Subscription {
     let errors = goes_on ? collecting(() => engine.goOn()) : null;
     // left while it hears its end: what stands behind that is released now
     if (hearing !== 0) errors = collecting(() => engine.releases(hearing));
+    if (this._tag !== null && this._tag.is_lone) errors = collecting(() => this._letsGo());
     if (this._tag === null) errors = this._finalized(errors);
     if (errors === null) return;
     if (is_collected) thrown(errors);

@@ -4,7 +4,7 @@ import { realm } from '../engine/realm.mjs';
 import { TERMINAL } from '../core/leaf.mjs';
 import { MERGED, Place, failAt, linked, openAt, openNode, openPass, settled } from '../core/place.mjs';
 import { operator } from '../core/operator.mjs';
-import { Subject } from '../core/subject.mjs';
+import { isBare } from '../core/subject.mjs';
 import { identity, isFunction } from '../core/util.mjs';
 import { innerFrom } from '../sources/from.mjs';
 import { map } from './items.mjs';
@@ -52,12 +52,6 @@ class Switches extends Projects {
     openAt(inner, at);
   }
 }
-/** Whether it is a subject, through functions on items alone: who hears that holds nothing. */
-function isBare(it) {
-  while (it.operator?.is_stage && it.source) it = it.source;
-  return !it.operator && !it.source && it._open === Subject.prototype._open && it._subscribe === Subject.prototype._subscribe;
-}
-
 /** So many at a time; items that wait are owed to the engine, which so keeps the node open. */
 class Bounded extends Projects {
   wishes = true;
