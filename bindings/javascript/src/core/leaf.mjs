@@ -1,6 +1,6 @@
 // A leaf of the engine: what a source tells goes in here, through the functions on items that stand before the book.
 import { realm } from '../engine/realm.mjs';
-import { IN_ENGINE, isLone, loneEnd, loneError, loneNext } from './lone.mjs';
+import { IN_ENGINE, isLone, loneEnd, loneError, loneNext, loneNextOfMany } from './lone.mjs';
 import { COMPLETION, Subscriber, collecting, errorOf } from './subscriber.mjs';
 import { stopped } from './config.mjs';
 import { UnsubscriptionError } from './errors.mjs';
@@ -123,6 +123,13 @@ export class Leaf extends Subscriber {
       this._many = false;
       if (this._lone === IN_ENGINE) realm.engine.begins();
     }
+  }
+
+  /** All of a list, in one go. */
+  all(list) {
+    if (this._lone === IN_ENGINE || this._way !== TERMINAL) return this.many(() => { for (let i = 0; i < list.length && !this.isStopped; i++) this.next(list[i]); });
+    realm.engine.looks();
+    for (let i = 0; i < list.length && !this.isStopped; i++) if (this._lone !== IN_ENGINE) loneNextOfMany(this, list[i]); else this.next(list[i]);
   }
 
   isForgettable() { return true; }

@@ -129,6 +129,9 @@ function tellsWaiting(leaf) {
 /** An item. Of those that its source tells in one go the first has looked at the stack. */
 export function loneNext(leaf, value) {
   if (!leaf._many) realm.engine.looks();
+  loneNextOfMany(leaf, value);
+}
+export function loneNextOfMany(leaf, value) {
   if (leaf._lone !== IDLE) return waitsLone(leaf, anItem, value);
   leaf._lone = BUSY;
   try { leaf.hears.hear(value); } catch (error) { realm.engine.report(error); }

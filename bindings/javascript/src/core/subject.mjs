@@ -3,6 +3,7 @@ import { ROOT } from '../engine/codes.mjs';
 import { config, inContext } from './config.mjs';
 import { ObjectUnsubscribedError } from './errors.mjs';
 import { Leaf, TERMINAL } from './leaf.mjs';
+import { IN_ENGINE, loneNextOfMany } from './lone.mjs';
 import { Observable } from './observable.mjs';
 import { failAt, openLeaf } from './place.mjs';
 import { Subscription } from './subscription.mjs';
@@ -77,7 +78,11 @@ export class Subject extends Observable {
   _goOn() {
     const telling = this._telling, { value, leaves } = telling;
     try {
-      while (telling.at < leaves.length) leaves[telling.at++].next(value);
+      realm.engine.looks(); // for those that are told without the engine
+      while (telling.at < leaves.length) {
+        const leaf = leaves[telling.at++];
+        if (leaf._lone > IN_ENGINE && leaf._way === TERMINAL && !leaf.isStopped) loneNextOfMany(leaf, value); else leaf.next(value);
+      }
     } finally { if (this._telling === telling) this._telling = null; }
   }
   error(error) {

@@ -45,8 +45,7 @@ function tellsAll(list, subscriber) {
 }
 export function fromArray(list) {
   return new Observable((subscriber) => {
-    if (list.length > 1) inOneGo(subscriber, () => tellsAll(list, subscriber));
-    else tellsAll(list, subscriber);
+    if (list.length > 1 && subscriber instanceof Leaf) subscriber.all(list); else tellsAll(list, subscriber);
     subscriber.complete();
   });
 }
