@@ -44,11 +44,11 @@ function told(rx, wrap, make) {
   return list;
 }
 const IN_TURN = ['made 1', 'released 1', 'made 2', 'released 2', 'made 3', 'released 3'];
-const test = (of, is, elsewhere) => ({ of: async (rx) => {
+const test = (of, is, elsewhere, rxjs = is) => ({ of: async (rx) => {
   const list = [];
   await of(rx, (it) => list.push(it));
   return list;
-}, is, elsewhere });
+}, is, elsewhere, rxjs });
 
 export const tests = {
   'an inner observable that takeUntil ends is released before the next one is made, and before the whole ends': test((rx, say) => {
@@ -85,6 +85,43 @@ export const tests = {
     words.next('a');
     words.next('ab');
   }, ['called a', 'released a', 'called ab']),
+  'switchMap hears nothing of the one before while it calls the function, whatever the one before holds': test((rx, say) => {
+    const words = new rx.Subject(), inner = new rx.Subject();
+    words.pipe(rx.switchMap((word) => {
+      inner.next(`${word}, of the one before`);
+      return word === 'a' ? inner.pipe(rx.finalize(() => say('released'))) : inner;
+    })).subscribe(say);
+    for (const word of ['a', 'b', 'c']) {
+      words.next(word);
+      inner.next(word);
+    }
+  }, ['a', 'released', 'b', 'c']),
+  'an item that waits for a function is dropped with the tree': test((rx, say) => {
+    const source = new rx.Subject(), other = new rx.Subject();
+    source.pipe(rx.switchMap((x) => {
+      say(x);
+      if (x === 2) return rx.NEVER;
+      source.next(2);
+      throw new Error('no');
+    })).subscribe({ error: () => say('error') });
+    other.pipe(rx.mergeMap((x) => {
+      say(x);
+      if (x === 3) other.next(4);
+      return rx.of(x, x);
+    }), rx.take(1)).subscribe({ next: () => say('item'), complete: () => say('end') });
+    source.next(1);
+    other.next(3);
+  }, [1, 'error', 3, 'item', 'end'], undefined, [1, 2, 'error', 3, 4, 'item', 'end']),
+  'who tells a result as it has ended is told nothing more': test((rx, say) => {
+    for (const result of [rx.max(), rx.toArray(), rx.reduce((a, b) => a || b), rx.takeLast(1), rx.last()]) {
+      const source = new rx.Subject();
+      source.pipe(rx.isEmpty(), result).subscribe({ next: (x) => {
+        say(x);
+        source.complete();
+      }, complete: () => say('end') });
+      source.next(0);
+    }
+  }, [false, 'end', [false], 'end', false, 'end', false, 'end', false, 'end']),
   'switchMap whose function throws has released the one before': test((rx, say) => {
     const words = new rx.Subject();
     words.pipe(rx.switchMap((word) => {

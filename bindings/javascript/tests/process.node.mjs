@@ -58,7 +58,14 @@ export const only_ours = {
         const at = counts.push(0) - 1;
         return () => { counts[at]++; };
       }, () => it);
+      const lone = () => {
+        const at = counts.push(0) - 1;
+        return () => { counts[at]++; };
+      };
       try {
+        a.pipe(rx.finalize(lone())).subscribe({ error: () => {} });
+        new rx.Observable(() => lone()).subscribe({ error: () => {} });
+        rx.NEVER.subscribe({ error: () => {} }).add(lone());
         held(a).pipe(rx.concatMap((x) => held(rx.of(x, x + 1)).pipe(rx.catchError(() => rx.EMPTY))), rx.share()).subscribe({ next: (x) => { if (x === 1) b.next(7); }, error: () => {} });
         held(b).pipe(rx.switchMap((x) => held(rx.of(x))), rx.tap({ complete: () => {} })).subscribe({ error: () => {} });
         [1, 5].forEach((x) => a.next(x));
@@ -66,8 +73,9 @@ export const only_ours = {
         [a, b].forEach((it) => it.complete());
       } catch (error) { if (error !== engine.dead) console.log(error.stack); }
       await new Promise((done) => setTimeout(done));
+      try { rx.close(); } catch (error) { if (error !== engine.dead) console.log(error.stack); }
+      await new Promise((done) => setTimeout(done));
       if (engine.dead) deaths++;
-      rx.close();
       if (counts.some((it) => it !== 1)) console.log(name, n, counts.join());
     }
     console.log(deaths > 50);`), is: ['true'] },

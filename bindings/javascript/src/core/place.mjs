@@ -85,6 +85,7 @@ export function openLeaf(at) {
   if (how === CLOSED) return null;
   if (how === BEHIND) leaf.closed = leaf.isStopped = true;
   else if (leaf.hears === null) leaf._thing = leaf;
+  if (how === OPENED && at._above.switches && (at._place === INNER || at._above.kind === PASS)) at._above.switches.latest = leaf;
   return leaf;
 }
 /** Whether what opens a leaf there, and nothing else, is told without the engine. */

@@ -12,6 +12,7 @@ const SILENT = { closed: true, next: noop, error(error) { throw error; }, comple
 const nextOf = (value) => ({ kind: 'N', value, error: undefined });
 export const errorOf = (error) => ({ kind: 'E', value: undefined, error });
 export const COMPLETION = { kind: 'C', value: undefined, error: undefined };
+export const OVER = -1;
 let is_collected = false, collected = null; // what finalizers throw while somebody unsubscribes
 
 /** What finalizers threw goes to who unsubscribes, or else is reported: each of them. */
@@ -83,7 +84,7 @@ export class Subscriber extends Subscription {
     this._thing = null; // the root that it hears
     this._tag = null; // what its finalizers are held by
     this._used = false;
-    this._hearing = 0; // how deep the call is in which it hears its end
+    this._hearing = 0; // how deep the call is in which it hears its end, or that it has heard it
     this.destination = destination ?? SILENT;
     if (destination && isSubscription(destination)) destination.add(this);
   }
@@ -110,7 +111,7 @@ export class Subscriber extends Subscription {
   _complete() { try { this.destination.complete(); } finally { this._over(); } }
   /** Leaves behind its end: what it held is released once that has been told. */
   _over() {
-    this._hearing = 0;
+    this._hearing = OVER;
     this.unsubscribe();
   }
 
@@ -230,11 +231,11 @@ export class Subscriber extends Subscription {
     const tag = this._tag;
     if (tag === null || !tag.is_lone) return;
     const { engine } = tag.above;
-    if (engine.dead !== null) this._tag = null;
-    else try { engine.remove(tag); } catch (error) {
-      if (!(error instanceof RangeError)) throw error;
-      engine.surely(() => engine.remove(tag));
+    try { if (engine.dead === null) engine.remove(tag); } catch (error) {
+      if (error instanceof RangeError) return engine.surely(() => engine.remove(tag));
+      if (engine.dead === null) throw error;
     }
+    if (engine.dead !== null) this._tag = null;
   }
 
   _leave() {
@@ -247,8 +248,8 @@ export class Subscriber extends Subscription {
     if (isLone(thing)) loneLeft(thing);
     let errors = goes_on ? collecting(() => engine.goOn()) : null;
     // left while it hears its end: what stands behind that is released now
-    if (hearing !== 0) errors = collecting(() => engine.releases(hearing));
-    if (this._tag !== null && this._tag.is_lone) errors = collecting(() => this._letsGo());
+    if (hearing > 0) errors = collecting(() => engine.releases(hearing));
+    if (this._tag !== null && this._tag.is_lone) if (hearing === OVER) this._letsGo(); else errors = collecting(() => this._letsGo());
     if (this._tag === null) errors = this._finalized(errors);
     if (errors === null) return;
     if (is_collected) thrown(errors);

@@ -497,7 +497,7 @@ export class Crossing {
     try {
       switch (kind) {
         case 0: return thing.hears.hear(value);
-        case 1: return thing.body.project(thing, value);
+        case 1: return thing.body.is_over ? undefined : thing.body.project(thing, value);
         case 2: return this.#last(user, thing).heardEnd(this.#depth);
         case 3: return this.#last(user, thing).heardError(value, this.#depth);
         case 4: return this.#last(user, thing).heardGone();

@@ -11,6 +11,7 @@ export class Thing {
     this.kind = 0; // once it is open, and what hears an item of a leaf below it, where nothing else comes of that: a root or a connection
     this.to = null;
     this.is_told = false; // whether an item is told ahead to that
+    this.switches = null; // what its latest inner observable is of
     this.at = -1; // of a subscriber of a share: its place there
     this.loose = null; // what stands for it in the table, once that does not keep it
     this.leaves = null; // what is called once it has closed, behind its body

@@ -9,7 +9,14 @@ import { filter } from './items.mjs';
 /** A stage with hooks: its functions get the item, how to tell on (`up`), and the leaf. What it told may have ended all that stands before the book:
  *  then the leaf is closed, and nothing more is told on. */
 class Hooked extends Stage {
+  #is_stopped = false; // whether it has been told an end: then nothing more is told to it, as from within what it tells of that
   constructor(up) { super(up, true); }
+  next(value, leaf) { if (!this.#is_stopped) this.onNext(value, leaf); }
+  error(error, leaf) { if (this.#stops()) this.onError(error, leaf); }
+  complete(leaf) { if (this.#stops()) this.onComplete(leaf); }
+  #stops() { return !this.#is_stopped && (this.#is_stopped = true); }
+  onError(error, leaf) { this.up.error(error, leaf); }
+  onComplete(leaf) { this.up.complete(leaf); }
   /** One item, and the end. */
   answers(value, leaf) {
     this.up.next(value, leaf);
@@ -23,7 +30,7 @@ class Take extends Hooked {
     super(up);
     this.#count = count;
   }
-  next(value, leaf) {
+  onNext(value, leaf) {
     if (++this.#seen > this.#count) return;
     this.up.next(value, leaf);
     if (this.#count <= this.#seen && !leaf.closed) this.up.complete(leaf);
@@ -38,7 +45,7 @@ class TakeWhile extends Hooked {
     this.#call = call;
     this.#inclusive = inclusive;
   }
-  next(value, leaf) {
+  onNext(value, leaf) {
     if (this.#over) return;
     let goes_on;
     try { goes_on = this.#call(value, this.#at++); } catch (error) { return this.up.error(error, leaf); }
@@ -57,11 +64,11 @@ class TakeLast extends Hooked {
     super(up);
     this.#count = count;
   }
-  next(value) {
+  onNext(value) {
     this.#items.push(value);
     if (this.#items.length > this.#count) this.#items.shift();
   }
-  complete(leaf) {
+  onComplete(leaf) {
     for (const value of this.#items.splice(0)) {
       if (leaf.closed) return;
       this.up.next(value, leaf);
@@ -80,7 +87,7 @@ class Fold extends Hooked {
     this.#state = state;
     this.#has = has;
   }
-  next(value, leaf) {
+  onNext(value, leaf) {
     const at = this.#at++;
     if (!this.#has) {
       this.#has = true;
@@ -89,7 +96,7 @@ class Fold extends Hooked {
     }
     try { this.#state = this.#call(this.#state, value, at); } catch (error) { this.up.error(error, leaf); }
   }
-  complete(leaf) {
+  onComplete(leaf) {
     if (this.#has) this.up.next(this.#state, leaf);
     if (!leaf.closed) this.up.complete(leaf);
   }
@@ -112,7 +119,7 @@ class Asks extends Hooked {
     this.#ask = ask;
     this.#otherwise = otherwise;
   }
-  next(value, leaf) {
+  onNext(value, leaf) {
     if (this.#over) return;
     let answer;
     try { answer = this.#ask(value, this.#at++); } catch (error) { return this.up.error(error, leaf); }
@@ -120,7 +127,7 @@ class Asks extends Hooked {
     this.#over = true;
     this.answers(answer.is, leaf);
   }
-  complete(leaf) { this.answers(this.#otherwise, leaf); }
+  onComplete(leaf) { this.answers(this.#otherwise, leaf); }
 }
 const asks = (make, otherwise) => (source) => staged((up) => new Asks(up, make(source), otherwise))(source);
 export const every = (predicate, thisArg) =>
@@ -137,11 +144,11 @@ class IfEmpty extends Hooked {
     super(up);
     this.#does = does;
   }
-  next(value, leaf) {
+  onNext(value, leaf) {
     this.#has = true;
     this.up.next(value, leaf);
   }
-  complete(leaf) {
+  onComplete(leaf) {
     if (!this.#has) this.#does(this.up, leaf);
     else this.up.complete(leaf);
   }
@@ -177,7 +184,7 @@ class Single extends Hooked {
     super(up);
     this.#call = call;
   }
-  next(value, leaf) {
+  onNext(value, leaf) {
     this.#seen = true;
     let is_it;
     try { is_it = !this.#call || this.#call(value, this.#at++); } catch (error) { return this.up.error(error, leaf); }
@@ -186,7 +193,7 @@ class Single extends Hooked {
     this.#has = true;
     this.#value = value;
   }
-  complete(leaf) {
+  onComplete(leaf) {
     if (this.#has) this.answers(this.#value, leaf);
     else this.up.error(this.#seen ? new NotFoundError('No matching values') : new EmptyError(), leaf);
   }

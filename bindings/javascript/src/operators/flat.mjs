@@ -12,7 +12,7 @@ import { map } from './items.mjs';
 /** What a node that projects is for: it opens an observable for each item. */
 class Projects {
   index = 0;
-  wishes = false;
+  is_over = false; // it has closed: then it is asked for no projection more
   constructor(call, way) {
     this.call = call;
     this.way = way;
@@ -29,19 +29,23 @@ class Projects {
     openAt(inner, this.place);
   }
   project(thing, value) { this.start(thing, value); }
-  shut() {}
+  shut() { this.is_over = true; }
 }
 
 /** The latest alone. The one before is released before the function is called: by a node that takes its place, in which the next one is opened. Where
- *  that has nothing to release it is left as the next one is opened. */
+ *  that has nothing to release its source leaves it, and it is closed as the next one is opened. */
 class Switches extends Projects {
   holds = false;
+  latest = null; // the leaf of one that holds nothing
   innerOf(inner) { return inner; }
   start(thing, value) {
     let at = this.place, inner;
+    if (!this.holds && this.latest !== null) this.latest.hushes();
+    this.latest = null;
     try {
       if (this.holds) at = openPass(at);
       if (at === null) return;
+      at._above.switches = this;
       inner = innerFrom(this.call(value, this.index++));
     } catch (error) {
       if (at === this.place) realm.engine.fail(thing, error); else failAt(at, error);
@@ -54,10 +58,8 @@ class Switches extends Projects {
 }
 /** So many at a time; items that wait are owed to the engine, which so keeps the node open. */
 class Bounded extends Projects {
-  wishes = true;
   active = 0;
   waiting = [];
-  is_over = false;
   constructor(call, way, bound) {
     super(call, way);
     this.bound = bound;

@@ -3,14 +3,14 @@ import { Notification, observeNotification } from '../core/notification.mjs';
 import { Hooked } from './ends.mjs';
 
 class Materialize extends Hooked {
-  next(value, leaf) { this.up.next(Notification.createNext(value), leaf); }
-  error(error, leaf) { this.answers(Notification.createError(error), leaf); }
-  complete(leaf) { this.answers(Notification.createComplete(), leaf); }
+  onNext(value, leaf) { this.up.next(Notification.createNext(value), leaf); }
+  onError(error, leaf) { this.answers(Notification.createError(error), leaf); }
+  onComplete(leaf) { this.answers(Notification.createComplete(), leaf); }
 }
 export const materialize = () => staged((up) => new Materialize(up));
 
 class Dematerialize extends Hooked {
-  next(notification, leaf) {
+  onNext(notification, leaf) {
     const { up } = this;
     try {
       observeNotification(notification, {
