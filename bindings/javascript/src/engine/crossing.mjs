@@ -33,6 +33,7 @@ export class Crossing {
   #postponed = null;
   #level = 0; #ofLevel = 0; #queued = 0; // how many items so far came each of the one before; what is left of the last of them; what waits behind that
   #ahead = []; #many = 0; #given = 0; // items that are told ahead, outermost first; how many there are, and how many of them were given
+  #more = false; // whether behind a root that has gone something else was handed out
   #isCalm = true; // while calls are under way: whether no lane has anything but what they tell
   #lingering = null; #lastHears = null; // what told the last item, to which observer, where its source may have more of the same go
   dead = null; // why no command can be made any more
@@ -339,9 +340,28 @@ export class Crossing {
     this.#make(DISPOSE, node, 0, 0, true);
     this.#isCalm = false;
     this.#things.leaves(node);
-    return this.#a[HANDED_AT] !== 0 || this.#a[CLOSED_AT] !== 0;
+    const a = this.#a;
+    if (a[HANDED_AT] === 0) return a[CLOSED_AT] !== 0;
+    if (a[CLOSED_AT] !== 0 || a[KIND_AT] !== 4 || !this.#is_begun || this.#postponed !== null) return true;
+    const thing = this.#things.get(a[USER_AT]);
+    return thing.lo !== node.lo || thing.hi !== node.hi || this.#isMoreThanGone(a[USER_AT], thing);
   }
-  goOn() { this.#does(undefined); }
+  // Of a root that held nothing: it need not hear that it is gone. Whether there is anything else.
+  #isMoreThanGone(user, thing) {
+    this.#drop(user, thing);
+    this.#depth++;
+    try { this.#more = this.#glue.goOn(this.#depth) !== 0; } catch (error) { throw this.#failed(error); }
+    this.#depth--;
+    if (!this.#more && this.#depth === 0) this.#level = this.#ofLevel = this.#queued = 0;
+    return this.#more;
+  }
+  goOn() {
+    if (!this.#more) return this.#does(undefined);
+    this.#more = false;
+    this.#depth++;
+    this.#tellsNext();
+    this.#goesOn();
+  }
   /** Closes all that is open: each command one root, connection or lease. What is opened meanwhile stays. */
   shut() {
     for (let many = this.totals().nodes; many > 0 && this.#ends(SHUT, NOWHERE) === DONE; many--) if (this.totals().nodes === 0) break;

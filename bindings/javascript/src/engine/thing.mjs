@@ -46,7 +46,14 @@ export class Connection extends Thing {
     thing.at = -1;
     this.things[at] = null;
     if (this.members !== null) this.members.list[at] = null;
-    if (--this.#many < this.things.length >> 1 && this.things.length >= 32) this.#closesUp();
+    this.#many--;
+    if (at === this.things.length - 1) this.#shortens();
+    else if (this.#many < this.things.length >> 1 && this.things.length >= 32) this.#closesUp();
+  }
+  #shortens() {
+    const { things, members } = this;
+    while (things.length > 0 && things[things.length - 1] === null) things.pop();
+    if (members !== null && members.list.length > things.length) members.list.length = things.length;
   }
   #closesUp() {
     const list = [];
