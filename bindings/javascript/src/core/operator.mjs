@@ -1,5 +1,5 @@
 // How operators are made: of functions on items, of nodes, and of links.
-import { from } from '../sources/from.mjs';
+import { innerFrom } from '../sources/from.mjs';
 import { Observable, isOurs } from './observable.mjs';
 import { failing } from './leaf.mjs';
 import { openLeaf } from './place.mjs';
@@ -17,7 +17,7 @@ export class Operator {
   /** As another library calls it. */
   call(subscriber, source) {
     const made = new Observable();
-    made.source = from(source);
+    made.source = innerFrom(source);
     made.operator = this;
     return made.subscribe(subscriber);
   }
@@ -28,7 +28,7 @@ export const operator = (opens, is_share, is_stage, isAlone) => {
   return (source) => {
     if (isOurs(source)) return source.lift(made);
     if (!source || !isFunction(source.lift)) throw new TypeError('Unable to lift unknown Observable type');
-    return from(source).lift(made);
+    return innerFrom(source).lift(made);
   };
 };
 

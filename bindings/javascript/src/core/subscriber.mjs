@@ -297,5 +297,5 @@ export class SafeSubscriber extends Subscriber {
 export const isSubscriber = (value) => value instanceof Subscriber
   || (!!value && isFunction(value.next) && isFunction(value.error) && isFunction(value.complete) && isSubscription(value));
 
-/** What the package's own functions throw in the midst of telling is reported too. */
-export const reportsOf = (it) => { it.report ??= reportUnhandledError; };
+// What the package's own functions throw in the midst of telling is reported too.
+realm.report ??= reportUnhandledError;
