@@ -1,6 +1,7 @@
 // What is JavaScript's own: promises and turns, iterables and their ends, events, timers, classes, values, errors that nobody hears. What each says
 // was recorded over RxJS 7.5.7 (own.said.mjs, by record.mjs); where the package says another thing it stands in UNLIKE with its reason.
 import { SAID } from './own.said.mjs';
+import { inAnyOrder } from './runner.mjs';
 
 const turn = (ms = 0) => new Promise((resolve) => { setTimeout(resolve, ms); });
 const PROGRAMS = {};
@@ -269,11 +270,11 @@ t('connect with a selector', (rx, say) => { rx.of(1, 2).pipe(rx.connect((it) => 
 // Marbles
 t('marbles', (rx, say) => { const clock = new rx.VirtualTimeScheduler(); rx.concat(rx.timer(5, clock), rx.of('b')).subscribe((x) => say([x, clock.frame])); clock.flush(); });
 
-const UNLIKE = {};
+const UNLIKE = {}, ELSEWHERE = { 'two finalizers': inAnyOrder(SAID['two finalizers']) };
 const logged = (of) => async (rx) => {
   const list = [];
   await of(rx, (it) => list.push(it));
   return list;
 };
 export const programs = Object.fromEntries(Object.entries(PROGRAMS).map(([name, of]) => [name, logged(of)]));
-export const tests = Object.fromEntries(Object.entries(programs).map(([name, of]) => [name, { of, is: UNLIKE[name]?.is ?? SAID[name], rxjs: SAID[name] }]));
+export const tests = Object.fromEntries(Object.entries(programs).map(([name, of]) => [name, { of, is: UNLIKE[name]?.is ?? SAID[name], rxjs: SAID[name], elsewhere: ELSEWHERE[name] }]));
