@@ -24,7 +24,7 @@ export const trace = (is_on = true) => {
 };
 /** What is open: a program's subscriptions, and the package's own nodes; of each subscription the place where it was made, and the whole stack, if
  *  that was asked for. */
-export const leaks = () => [...realm.engine.things().filter((it) => it.owed > 0 && 'hears' in it), ...lones.all()].map((it) => ({
+export const leaks = () => [...realm.engine.things().filter((it) => it.owed > 0 && 'hears' in it && it !== realm.holder), ...lones.all()].map((it) => ({
   kind: it.hears && !it.hears._isInner ? 'subscription' : 'node', at: it.where ? shown(placeOf(it.where)) : null, stack: it.where?.stack ?? null,
 }));
 const shown = (place) => place && `${place.function ? `${place.function} ` : ''}${place.file}:${place.line}:${place.column}`;
