@@ -35,25 +35,20 @@ static struct {
   uint8_t (*pass)(struct cellar *, const struct cellar_stack *, uint64_t, uint8_t);
   uint8_t (*stop)(struct cellar *, const struct cellar_stack *);
   uint8_t (*closings)(struct cellar *, uint64_t, uint64_t *, size_t, uint64_t *);
-  uint8_t (*totals)(struct cellar *, struct cellar_totals *);
   void (*drop)(struct cellar *);
 } calls;
 
-typedef struct {
-  PyObject_HEAD
-  struct cellar_node node;
-} Key;
-
+typedef struct Leaf Leaf;
+typedef struct { PyObject_HEAD struct cellar_node node; } Key;
 typedef struct {
   PyObject_HEAD
   struct cellar engine;
+  Leaf *alone;                        /* not held: the first of those that are open without the engine */
+  int64_t many_alone, waiting, kept;  /* how many those are, and how many notes wait for them; how many references the engine has */
   uint64_t *closed;                   /* a ring: words of nodes that closed and did not hear of it yet */
   size_t room, first, many, wishes;   /* its size, a power of two, is at least `wishes`: nodes that are to hear of it */
-  int64_t kept;                       /* how many references the engine has */
   unsigned generation;                /* a child of a fork has no part in an engine of its parent */
 } Core;
-
-typedef struct Leaf Leaf;
 typedef struct {
   PyObject_HEAD
   Core *core;
@@ -63,14 +58,12 @@ typedef struct {
   PyObject *references;                               /* weak ones */
   PyObject *thing;                                    /* not held: its word in the engine */
   int owed;                                           /* how many references to that the engine has for the root's part */
-  Leaf *below;                                        /* not held: the first of those that are open below it */
+  Leaf *below, *alone;                                /* not held: the first of those that are open below it; its own, where it is alone */
   struct Mine *ending;                                /* the thread that tells its end, or NULL; and how deep */
   uint64_t ending_at;
   char is_keyed, is_stopped, is_over, is_told; /* is_told: an item is told to it now */
 } Root;
-
 typedef struct Subject Subject;
-
 struct Leaf {
   PyObject_HEAD
   Core *core;
@@ -80,19 +73,22 @@ struct Leaf {
   PyObject *thing;          /* as of a root */
   int owed;
   PyObject *above;          /* the root or leaf that is held while this is open, or NULL */
-  Leaf *below, *next, **at; /* not held: those that are open below it, and its place among those below the same */
-  char is_stopped, is_fed;  /* is_fed: who can tell it something holds it */
+  Leaf *below, *next, **at; /* not held: those that are open below it, and its place among those below the same, or alone */
+  struct Waiting *waits, **last; /* notes */
+  char is_stopped, is_fed, way;  /* is_fed: who can tell it something holds it */
 };
-
+/* The way of what a leaf emits, where that is not straight into the engine: it is a root ALONE, it is BUSY as it is told something without the engine, and
+ * something WAITS for the end of that. */
+enum { ALONE = 1, BUSY = 2, WAITS = 4 };
+struct Waiting { struct Waiting *next; PyObject *value; uint64_t by; uint8_t what; };
 typedef struct {
   PyObject_HEAD
   PyObject *down, *down_next, *steps; /* steps: functions, of each a kind: 0 map, 1 filter */
   PyObject *relay;                    /* the leaf of the relay that they stand at, or NULL */
-  Leaf *leaf;                         /* not held: where items go on to, if that is a leaf */
+  Leaf *leaf, *emits;                 /* not held: where items go on to, if that is a leaf; what somebody else emits by, or NULL */
   Py_ssize_t many;
   char *kinds;
 } Chain;
-
 struct Subject {
   PyObject_HEAD
   PyObject *ups, *all;        /* by leaf, what it is told by; and the values of that, until they change */
@@ -100,30 +96,21 @@ struct Subject {
   Leaf *first;                /* not held: the first leaf of `all` */
   PyObject *memory;           /* a list of (time, item) for who comes later, or NULL */
   Py_ssize_t limit;           /* how many it has, or -1 */
-  char is_stopped, is_disposed;
+  char is_stopped, is_disposed, is_alone; /* is_alone: all that have subscribed are */
 };
-
-typedef struct {
-  PyObject_HEAD
-  PyObject *up;
-  Leaf *leaf;
-} Emitter;
 
 static PyTypeObject *key_type, *root_type, *leaf_type, *chain_type, *subject_type;
 static PyObject *s_on_next, *s_on_error, *s_on_completed, *s_dispose, *s_check, *s_connection;
 static PyObject *refuse, *unhandled; /* what a status is raised by, and what hears of an error that nobody raises */
+static PyObject *left; /* leaves alone and engines for which something waits that an interrupt left */
 static unsigned generation;
 
 /* A call on an engine that is under way in this thread. */
-typedef struct {
-  Core *core;
-  struct cellar_stack stack;
-} Turn;
+typedef struct { Core *core; struct cellar_stack stack; } Turn;
+/* What a telling puts back as it ends: what is told further out, what sources put off till that is told, and whether its lane is let go for them. */
+typedef struct { Turn telling; PyObject *put_off; int lets_go; } Telling;
 /* What a call of the package puts back as it ends: how many turns are further out than itself, and what comes behind these. */
-typedef struct {
-  uint64_t floor;
-  PyObject *behind;
-} Outer;
+typedef struct { uint64_t floor; PyObject *behind; } Outer;
 
 /* This thread: how deep it is in calls of the package, what was raised meanwhile; the innermost turn, that of which an effect is told, how many
  * are further out than the innermost call of the package, and what comes behind the others; and what sources put off: till the call further
@@ -142,19 +129,19 @@ static __attribute__((noinline)) struct Mine *here_is(void) {
 
 static PyObject *word(uint64_t it) { return (PyObject *)(uintptr_t)it; }
 static uint64_t me(void) { return here_is()->ident; }
-static PyObject *new_of(PyObject *it) {
-  Py_INCREF(it);
-  return it;
-}
+static PyObject *new_of(PyObject *it) { return Py_INCREF(it), it; }
 static int is_a(PyObject *it, PyTypeObject *type) { return Py_TYPE(it) == type || PyType_IsSubtype(Py_TYPE(it), type); }
 static int number(PyObject *value, uint64_t *to) {
   *to = PyLong_AsUnsignedLongLong(value);
   return !(*to == (uint64_t)-1 && PyErr_Occurred());
 }
-static int plain(PyObject *answer) {
-  Py_XDECREF(answer);
-  return answer ? 0 : -1;
+/* What is behind the argument of this place, and that. */
+static PyObject *split(PyObject *given, PyObject **first, Py_ssize_t from) {
+  if (MANY(given) < from) return PyErr_Format(PyExc_TypeError, "more arguments are wanted");
+  *first = ITEM(given, from - 1);
+  return PyTuple_GetSlice(given, from, MANY(given));
 }
+static int plain(PyObject *answer) { return Py_XDECREF(answer), answer ? 0 : -1; }
 static void keep(Core *core, PyObject *it, uint64_t times) {
   for (core->kept += (int64_t)times; times; times--) Py_INCREF(it);
 }
@@ -170,10 +157,7 @@ static inline void drop(PyObject *it, int failed) {
   PyErr_Restore(type, value, trace);
 }
 /* Gives a reference of the engine's back. */
-static void let_go(Core *core, PyObject *it) {
-  core->kept--;
-  drop(it, 1);
-}
+static void let_go(Core *core, PyObject *it) { core->kept--, drop(it, 1); }
 static int refused(uint8_t status) {
   if (status == CELLAR_NO_MEMORY) return PyErr_NoMemory(), -1;
   return plain(PyObject_CallFunction(refuse, "i", status));
@@ -184,13 +168,14 @@ static int refused(uint8_t status) {
  * once nobody can tell any of it something, and then its root is disposed of. What nobody feeds stays, and so does what has closed, until it
  * has heard so. */
 static Leaf **below_of(PyObject *it) { return is_a(it, root_type) ? &((Root *)it)->below : &((Leaf *)it)->below; }
-static void put_below(Leaf *leaf) {
-  if (!leaf->above) return;
-  leaf->at = below_of(leaf->above);
-  if ((leaf->next = *leaf->at)) leaf->next->at = &leaf->next;
-  *leaf->at = leaf;
+static void put_first(Leaf *leaf, Leaf **at) {
+  leaf->at = at;
+  if ((leaf->next = *at)) leaf->next->at = &leaf->next;
+  *at = leaf;
+  leaf->core->many_alone += leaf->way & ALONE;
 }
 static void take_out(Leaf *leaf) {
+  if (leaf->at) leaf->core->many_alone -= leaf->way & ALONE;
   if (leaf->at && (*leaf->at = leaf->next)) leaf->next->at = leaf->at;
   leaf->at = NULL;
 }
@@ -201,22 +186,18 @@ static int visit_below(Leaf *leaf, visitproc visit, void *arg) {
 }
 /* The root that hears of nothing but this leaf: a new reference to it, or to None. */
 static PyObject *alone(Leaf *leaf, void *Py_UNUSED(unused)) {
+  if (leaf->way & ALONE) return new_of(leaf->above ? leaf->above : Py_None);
   while (leaf->at && *below_of(leaf->above) == leaf && !leaf->next) {
     if (is_a(leaf->above, root_type)) return new_of(leaf->above);
     leaf = (Leaf *)leaf->above;
   }
   Py_RETURN_NONE;
 }
-static void let_go_word(Core *core, PyObject *thing, int *owed) {
-  --*owed;
-  let_go(core, thing);
-}
+static void let_go_word(Core *core, PyObject *thing, int *owed) { --*owed, let_go(core, thing); }
 
 /* What is raised ---------------------------------------------------------------------------------------------------------------*/
 
-static void to_hook(PyObject *error) {
-  if (plain(CALL1(unhandled, error))) PyErr_WriteUnraisable(unhandled);
-}
+static void to_hook(PyObject *error) { if (plain(CALL1(unhandled, error))) PyErr_WriteUnraisable(unhandled); }
 /* The exception that is raised, taken away: a new reference. */
 static PyObject *caught_one(void) {
   PyObject *type, *error, *trace;
@@ -227,9 +208,7 @@ static PyObject *caught_one(void) {
   Py_XDECREF(trace);
   return error;
 }
-static void raise_again(PyObject *error) {
-  PyErr_Restore(new_of((PyObject *)Py_TYPE(error)), error, PyException_GetTraceback(error));
-}
+static int raise_again(PyObject *error) { return PyErr_Restore(new_of((PyObject *)Py_TYPE(error)), error, PyException_GetTraceback(error)), -1; }
 /* What an observer or a release raised: the thread that emitted raises it, if it is this one; else the hook hears it. -1 where it is
  * no Exception, and goes on. */
 static int caught(uint64_t by) {
@@ -252,7 +231,9 @@ static struct Mine *enter(Outer *outer) {
 }
 /* The end of a call. The outermost raises the first of what observers and releases raised, unless something is raised already, or the
  * caller needs the answer. */
+static int tell_left(struct Mine *);
 static int leave(struct Mine *here, const Outer *outer, int failed, int is_quiet) {
+  if (here->depth == 1 && !failed && PyList_Size(left)) failed = tell_left(here);
   here->floor = outer->floor, here->behind = outer->behind;
   if (--here->depth || !here->errors) return failed;
   PyObject *errors = here->errors, *first = failed ? caught_one() : NULL;
@@ -263,9 +244,7 @@ static int leave(struct Mine *here, const Outer *outer, int failed, int is_quiet
     else first = new_of(it);
   }
   Py_DECREF(errors);
-  if (!first) return failed;
-  raise_again(first);
-  return -1;
+  return first ? raise_again(first) : failed;
 }
 
 /* Commands ---------------------------------------------------------------------------------------------------------------------*/
@@ -309,13 +288,16 @@ static uint8_t make(struct Mine *here, const struct cellar_command *c, struct ce
   if (!status && s->closed) take_in_closed(core, s);
   return status;
 }
-static int do_all(struct Mine *here, struct cellar_stepped *s, int is_own);
+static int do_all(struct Mine *here, struct cellar_stepped *s);
 static int do_behind(struct Mine *here, int failed);
-/* The end of a turn: does what was handed out, and what comes of it. */
-static inline int end(struct Mine *here, const Turn *outer, struct cellar_stepped *s, int is_own) {
-  int failed = s->handed || here->turn.core->many ? do_all(here, s, is_own) : 0;
+/* The end of a turn, and what comes behind it. */
+static inline int end_turn(struct Mine *here, const Turn *outer, int failed) {
   here->turn = *outer;
   return here->behind && outer->stack.depth == here->floor ? do_behind(here, failed) : failed;
+}
+/* The same: does what was handed out, and what comes of it. */
+static inline int end(struct Mine *here, const Turn *outer, struct cellar_stepped *s) {
+  return end_turn(here, outer, s->handed || here->turn.core->many ? do_all(here, s) : 0);
 }
 /* Makes a command of this value, or of none, and does what comes of it. */
 static int command(Core *core, const struct cellar_command *c, PyObject *value, uint8_t *status) {
@@ -324,24 +306,19 @@ static int command(Core *core, const struct cellar_command *c, PyObject *value, 
   Turn outer = begin(here, core);
   *status = make(here, c, &s);
   if (value) keep(core, value, s.copies);
-  return end(here, &outer, &s, 0);
+  return end(here, &outer, &s);
 }
 
 /* Telling ----------------------------------------------------------------------------------------------------------------------*/
 
 static int chain_tell(struct Mine *, Chain *, PyObject *);
-static int emit(struct Mine *, Leaf *, PyObject *);
+static int note(struct Mine *, Leaf *, uint8_t, PyObject *);
 static int root_dispose(Root *);
 
 /* What was raised goes on, once the root is disposed of. */
 static int dispose_and_go_on(Root *root) {
   PyObject *error = caught_one();
-  if (root_dispose(root)) {
-    Py_DECREF(error);
-    return -1;
-  }
-  raise_again(error);
-  return -1;
+  return root_dispose(root) ? Py_DECREF(error), -1 : raise_again(error);
 }
 /* Tells a root an item. What it raises is raised, and disposes of it unless that is an interrupt, which is nobody's fault. */
 static inline int root_tell(struct Mine *here, Root *root, PyObject *value) {
@@ -349,7 +326,7 @@ static inline int root_tell(struct Mine *here, Root *root, PyObject *value) {
   PyObject *target = new_of(root->target);
   char outer = root->is_told;
   root->is_told = 1;
-  int status = Py_TYPE(target) == leaf_type    ? emit(here, (Leaf *)target, value)
+  int status = Py_TYPE(target) == leaf_type    ? note(here, (Leaf *)target, CELLAR_NEXT, value)
                : Py_TYPE(target) == chain_type ? chain_tell(here, (Chain *)target, value)
                                                : plain(CALL1(target, value));
   root->is_told = outer;
@@ -368,8 +345,8 @@ static int root_end(Root *root, PyObject *error) {
 static int root_ended(Root *root, PyObject *error) {
   root->is_over = 1;
   if (root->is_stopped) return 0;
-  struct Mine *here = root->ending = here_is();
-  root->ending_at = here->telling.stack.depth;
+  struct Mine *here = here_is();
+  root->ending = root->is_keyed ? here : NULL, root->ending_at = here->telling.stack.depth;
   PyObject *head = root->head ? new_of(root->head) : NULL;
   int status = head ? plain(PyObject_CallMethodObjArgs(head, error ? s_on_error : s_on_completed, error, NULL)) : root_end(root, error);
   Py_XDECREF(head);
@@ -380,12 +357,14 @@ static int root_ended(Root *root, PyObject *error) {
 static int release(PyObject *tag) {
   return plain(PyTuple_Check(tag) ? PyObject_CallMethodObjArgs(ITEM(tag, 0), s_dispose, NULL) : CALL0(tag));
 }
-/* Does what an effect says that is no item. */
-static int tell(Core *core, const struct cellar_effect *e, PyObject *value) {
-  PyObject *user = word(e->user);
+/* Does what an effect says. The engine keeps the word of whoever hears an item. */
+static int tell(struct Mine *here, Core *core, const struct cellar_effect *e) {
+  PyObject *user = word(e->user), *value = e->carries && e->value ? word(e->value) : NULL;
   int status = 0;
   Py_INCREF(user);
   switch (e->kind) {
+    case CELLAR_E_NEXT: status = root_tell(here, (Root *)ITEM(user, 0), value); break;
+    case CELLAR_E_PROJECT: status = plain(CALL1(ITEM(user, 2), value)); break;
     case CELLAR_E_COMPLETED: status = root_ended((Root *)ITEM(user, 0), NULL); break;
     case CELLAR_E_FAILED: status = root_ended((Root *)ITEM(user, 0), value); break;
     case CELLAR_E_GONE: ((Root *)ITEM(user, 0))->is_over = ((Root *)ITEM(user, 0))->is_stopped = 1; break;
@@ -394,17 +373,8 @@ static int tell(Core *core, const struct cellar_effect *e, PyObject *value) {
   }
   drop(user, status);
   if (e->kind == CELLAR_E_RELEASE || e->kind == CELLAR_E_PUT) let_go(core, user);
-  else let_go_word(core, user, e->kind == CELLAR_E_MERGED ? &((Leaf *)ITEM(user, 1))->owed : &((Root *)ITEM(user, 0))->owed);
-  if (e->carries && value) let_go(core, value);
-  return status;
-}
-/* Tells an item, which is to be mapped to an observable or for an observer: the engine keeps its word. Its value is kept, or the caller's. */
-static inline int tell_item(struct Mine *here, Core *core, const struct cellar_effect *e, PyObject *value, int is_own) {
-  PyObject *user = word(e->user);
-  Py_INCREF(user);
-  int status = e->kind == CELLAR_E_NEXT ? root_tell(here, (Root *)ITEM(user, 0), value) : plain(CALL1(ITEM(user, 2), value));
-  drop(user, status);
-  if (value && !is_own) core->kept--, drop(value, status);
+  else if (e->kind > CELLAR_E_PROJECT) let_go_word(core, user, e->kind == CELLAR_E_MERGED ? &((Leaf *)ITEM(user, 1))->owed : &((Root *)ITEM(user, 0))->owed);
+  if (value) core->kept--, drop(value, status);
   return status;
 }
 static int is_some(PyObject *queue) { return queue && PyList_Size(queue) > 0; }
@@ -425,34 +395,53 @@ static int go_on(PyObject *queue) {
 }
 /* What is told counts as told: its lane is free. */
 static void let_pass(struct Mine *here) {
+  if (!here->telling.stack.by) return;
   struct cellar_stack deeper = here->telling.stack;
   deeper.depth++;
   calls.pass(&here->telling.core->engine, &deeper, deeper.depth - 1, 0);
 }
+/* Begins to tell what comes of this turn: what was told further out. By 0 where the engine does not know of it. */
+static Telling begin_telling(struct Mine *here, uint64_t by) {
+  Telling outer = {here->telling, here->put_off, here->lets_go};
+  here->telling = here->turn, here->telling.stack.by = by, here->lets_go = 0, here->put_off = NULL;
+  return outer;
+}
+static void end_telling(struct Mine *here, const Telling *outer) {
+  Py_XDECREF(here->put_off);
+  here->telling = outer->telling, here->lets_go = outer->lets_go, here->put_off = outer->put_off;
+}
+/* Does what was put off as something was told. */
+static int do_put_off(struct Mine *here, uint64_t by) {
+  int status = 0;
+  while (!status && is_some(here->put_off)) {
+    if (here->lets_go && here->telling.core->generation == generation) let_pass(here);
+    if (go_on(here->put_off)) status = caught(by);
+  }
+  return status;
+}
 /* Does what was handed out, and what comes next, until nothing does: 0, or -1 where what is no Exception goes on. */
-static int do_each(struct Mine *here, struct cellar_stepped *s, int is_own) {
+static int do_each(struct Mine *here, struct cellar_stepped *s) {
   Core *core = here->turn.core;
-  struct cellar_effect *e = &s->effect;
-  Turn telling = here->telling;
-  PyObject *put_off = here->put_off;
-  int status = 0, lets_go = here->lets_go;
-  here->telling = here->turn, here->lets_go = 0, here->put_off = NULL;
+  Telling outer = begin_telling(here, here->ident);
+  int status;
   do {
-    PyObject *value = e->carries && e->value ? word(e->value) : NULL;
+    uint64_t by = s->effect.by;
     here->turn.stack.begun = here->telling.stack.begun = s->ticket;
-    status = e->kind <= CELLAR_E_PROJECT ? tell_item(here, core, e, value, is_own) : tell(core, e, value);
-    if (status) status = caught(e->by);
-    while (!status && is_some(here->put_off)) {
-      if (here->lets_go && core->generation == generation) let_pass(here);
-      if (go_on(here->put_off)) status = caught(e->by);
-    }
-    is_own = 0;
+    status = tell(here, core, &s->effect) ? caught(by) : 0;
+    if (!status) status = do_put_off(here, by);
     if (status || core->generation != generation) break;
     calls.next(&core->engine, &here->turn.stack, s);
   } while (s->handed);
-  Py_XDECREF(here->put_off);
-  here->telling = telling, here->lets_go = lets_go, here->put_off = put_off;
+  end_telling(here, &outer);
   return status;
+}
+/* Its subject has it no more. */
+static void disown(Leaf *leaf) {
+  Subject *owner = leaf->owner;
+  leaf->owner = NULL;
+  if (!owner) return;
+  Py_CLEAR(owner->all);
+  if (PyDict_DelItem(owner->ups, (PyObject *)leaf)) PyErr_Clear();
 }
 /* Tells those that closed, the first first: only the outermost does, so that nothing recurses. */
 static int hear_closed(Core *core) {
@@ -464,12 +453,7 @@ static int hear_closed(Core *core) {
     Leaf *leaf = (Leaf *)ITEM(it, 1);
     core->first = (core->first + 1) & (core->room - 1);
     core->many--, core->wishes--;
-    Subject *owner = leaf->owner;
-    if (owner) {
-      leaf->owner = NULL;
-      Py_CLEAR(owner->all);
-      if (PyDict_DelItem(owner->ups, (PyObject *)leaf)) PyErr_Clear();
-    }
+    disown(leaf);
     PyObject *call = leaf->on_closed;
     leaf->on_closed = NULL;
     if (call && plain(CALL0(call))) status = caught(me());
@@ -481,12 +465,12 @@ static int hear_closed(Core *core) {
   return status;
 }
 /* Closings first. An interrupt leaves the rest to the next call that reaches the engine. */
-static int do_all(struct Mine *here, struct cellar_stepped *s, int is_own) {
+static int do_all(struct Mine *here, struct cellar_stepped *s) {
   Core *core = here->turn.core;
   if (core->generation != generation) return 0;
   int status = core->many ? hear_closed(core) : 0;
-  if (!status && s->handed) status = do_each(here, s, is_own);
-  if (status && core->generation == generation) calls.stop(&core->engine, &here->turn.stack);
+  if (!status && s->handed) status = do_each(here, s);
+  if (status && core->generation == generation) calls.stop(&core->engine, &here->turn.stack), PyList_Append(left, (PyObject *)core);
   return status;
 }
 /* Each of what comes behind, also where something was interrupted. */
@@ -499,35 +483,125 @@ static int do_behind(struct Mine *here, int failed) {
       else error = caught_one();
     }
   Py_DECREF(behind);
-  if (!error) return 0;
-  raise_again(error);
-  return -1;
+  return error ? raise_again(error) : 0;
 }
 
-/* Leaves, functions, emitters --------------------------------------------------------------------------------------------------*/
+/* Leaves, functions ------------------------------------------------------------------------------------------------------------*/
 
-/* An item into the engine by one leaf, and to whoever is to hear it. The caller holds the value: told at once, it is not kept. */
-static int emit(struct Mine *here, Leaf *leaf, PyObject *value) {
-  if (leaf->is_stopped) return 0;
-  Core *core = leaf->core;
-  struct cellar_command c = {.what = CELLAR_NEXT, .node = leaf->node, .value = (uintptr_t)value};
+/* An item or an end into its lane; its value is kept. What the engine refuses it by, or 0. */
+static uint8_t put_there(struct Mine *here, Leaf *leaf, uint8_t what, PyObject *value, struct cellar_stepped *s) {
+  struct cellar_command c = {.what = what, .node = leaf->node, .value = what == CELLAR_COMPLETE ? 0 : (uintptr_t)value};
+  uint8_t status = make(here, &c, s);
+  if (!status) keep(leaf->core, value, s->copies);
+  if (status != CELLAR_GONE) return status;
+  return leaf->is_stopped = 1, 0;
+}
+/* The same, and to whoever is to hear it. */
+static int note_there(struct Mine *here, Leaf *leaf, uint8_t what, PyObject *value) {
   struct cellar_stepped s;
-  Turn outer = begin(here, core);
-  uint8_t status = make(here, &c, &s);
-  int is_own = s.own && !core->many;
-  if (!is_own) keep(core, value, s.copies);
-  if (status == CELLAR_GONE) leaf->is_stopped = 1;
-  int failed = end(here, &outer, &s, is_own);
-  return failed || !status || status == CELLAR_GONE ? failed : refused(status);
+  Turn outer = begin(here, leaf->core);
+  uint8_t status = put_there(here, leaf, what, value, &s);
+  int failed = end(here, &outer, &s);
+  return failed || !status ? failed : refused(status);
 }
-/* The leaf completes, or fails. */
-static int end_leaf(Leaf *leaf, PyObject *error) {
-  if (leaf->is_stopped) return 0;
+
+/* A root that is a leaf alone and holds nothing needs no engine: nothing but its end and its disposal closes it, nothing is released with it, and of
+ * an item nothing comes but that it is heard. So it is told by a mark, as long as it is told something, and a list of what comes meanwhile. It enters
+ * the engine as soon as it holds something, or its subject has a subscriber that is there; what waits then goes there in its turn. */
+static int wait(struct Mine *here, Leaf *leaf, uint8_t what, PyObject *value) {
+  struct Waiting *it = PyMem_Malloc(sizeof *it);
+  if (!it) return PyErr_NoMemory(), -1;
+  *it = (struct Waiting){NULL, new_of(value), here->ident, what};
+  leaf->last = &(*(leaf->waits ? leaf->last : &leaf->waits) = it)->next;
+  leaf->way |= WAITS, leaf->core->waiting++;
+  return 0;
+}
+/* What waits first, taken away. */
+static struct Waiting first_of(Leaf *leaf) {
+  struct Waiting *first = leaf->waits, it = *first;
+  if (!(leaf->waits = it.next)) leaf->way &= ~WAITS;
+  leaf->core->waiting--;
+  PyMem_Free(first);
+  return it;
+}
+static void forget_waiting(Leaf *leaf) { while (leaf->waits) drop(first_of(leaf).value, 1); }
+/* It has ended, or was left. */
+static void leave_alone(Leaf *leaf) {
   leaf->is_stopped = 1;
-  struct cellar_command c = {.what = error ? CELLAR_ERROR : CELLAR_COMPLETE, .node = leaf->node, .value = (uintptr_t)error};
-  uint8_t status;
-  int failed = command(leaf->core, &c, error, &status);
-  return failed || !status || status == CELLAR_GONE ? failed : refused(status);
+  if (!(leaf->way & ALONE)) return;
+  take_out(leaf);
+  disown(leaf);
+}
+/* Tells a note, by the engine where it has entered that. */
+static int hears(struct Mine *here, Leaf *leaf, uint8_t what, PyObject *value) {
+  if (!(leaf->way & ALONE)) return note_there(here, leaf, what, value);
+  Root *root = (Root *)leaf->above;
+  if (!root) return 0;
+  Py_INCREF(root);
+  if (what != CELLAR_NEXT) {
+    root->alone = NULL;
+    Py_CLEAR(leaf->above);
+  }
+  int status = what == CELLAR_NEXT ? root_tell(here, root, value) : root_ended(root, what == CELLAR_ERROR ? value : NULL);
+  drop((PyObject *)root, status);
+  return status;
+}
+/* Tells this, unless that is NULL, and what waits; with what sources put off meanwhile, as a lane is served. */
+static int tell_alone(struct Mine *here, Leaf *leaf, uint8_t what, PyObject *value) {
+  Core *core = leaf->core;
+  Turn outer = begin(here, core);
+  Telling telling = begin_telling(here, 0);
+  struct Waiting it = {NULL, value, here->ident, what};
+  int status = 0, is_busy = 1;
+  Py_INCREF(leaf);
+  Py_XINCREF(value);
+  leaf->way |= BUSY;
+  while (!status && is_busy && core->generation == generation && (it.value || leaf->waits)) {
+    if (!it.value) it = first_of(leaf);
+    if (hears(here, leaf, it.what, it.value)) status = caught(it.by);
+    drop(it.value, status);
+    it.value = NULL;
+    if (here->put_off) {
+      if (here->lets_go) leaf->way &= ~BUSY;
+      if (!status) status = do_put_off(here, it.by);
+      is_busy = !here->lets_go || !(leaf->way & BUSY); /* else another thread is at it */
+      leaf->way |= BUSY;
+    }
+  }
+  if (is_busy) leaf->way &= ~BUSY;
+  if (core->generation != generation) forget_waiting(leaf);
+  if (is_busy && leaf->waits) PyList_Append(left, (PyObject *)leaf);
+  end_telling(here, &telling);
+  drop((PyObject *)leaf, status);
+  return end_turn(here, &outer, status);
+}
+/* Tells what waits, unless somebody is at it; after an interrupt the next call of any thread does. */
+static int tell_waiting(struct Mine *here, Leaf *leaf, int failed) {
+  if (!(leaf->way & WAITS) || leaf->way & BUSY) return failed;
+  return failed ? PyList_Append(left, (PyObject *)leaf), failed : tell_alone(here, leaf, 0, NULL);
+}
+/* A note of one alone, or of one that was and is told something. */
+static int note_alone(struct Mine *here, Leaf *leaf, uint8_t what, PyObject *value) {
+  if (leaf->core->generation != generation) return leaf->is_stopped = 1, 0;
+  if (leaf->way == ALONE) return tell_alone(here, leaf, what, value);
+  return wait(here, leaf, what, value) ? -1 : tell_waiting(here, leaf, 0);
+}
+static int go_through(Core *, int);
+static int tell_left(struct Mine *here) {
+  int status = 0;
+  while (!status && PyList_Size(left)) {
+    PyObject *it = pop(left);
+    status = Py_TYPE(it) == leaf_type ? tell_waiting(here, (Leaf *)it, 0) : go_through((Core *)it, 0);
+    drop(it, status);
+  }
+  return status;
+}
+
+/* An item or an end that a leaf tells. */
+static int note(struct Mine *here, Leaf *leaf, uint8_t what, PyObject *value) {
+  if (leaf->is_stopped) return 0;
+  if (what != CELLAR_NEXT) leave_alone(leaf);
+  return leaf->way ? note_alone(here, leaf, what, value) : note_there(here, leaf, what, value);
 }
 /* An item through functions, until one ends what they stand at: a new reference to what comes out; NULL where nothing does, with `failed` -1
  * where that is raised. */
@@ -539,12 +613,9 @@ static PyObject *through(Chain *chain, PyObject *value, int *failed) {
     if (leaf ? leaf->is_stopped : !chain->down_next && ((Root *)chain->down)->is_stopped) return Py_DECREF(value), NULL;
     PyObject *answer = CALL1(ITEM(chain->steps, i), value);
     int passes = !answer ? -1 : !chain->kinds[i] || answer == Py_True ? 1 : answer == Py_False ? 0 : PyObject_IsTrue(answer);
-    if (passes > 0 && !chain->kinds[i]) {
-      Py_DECREF(value);
-      value = answer;
-      continue;
-    }
-    Py_XDECREF(answer);
+    PyObject *over = passes > 0 && !chain->kinds[i] ? value : answer; /* a mapped item gives way */
+    if (over == value) value = answer;
+    Py_XDECREF(over);
     if (passes > 0) continue;
     Py_DECREF(value);
     if (!passes) return NULL;
@@ -560,30 +631,28 @@ static int chain_tell(struct Mine *here, Chain *chain, PyObject *value) {
   int failed;
   PyObject *it = through(chain, value, &failed);
   if (!it) return failed;
-  if (chain->leaf) failed = emit(here, chain->leaf, it);
+  if (chain->leaf) failed = note(here, chain->leaf, CELLAR_NEXT, it);
   else if (chain->down_next) failed = plain(CALL1(chain->down_next, it));
   else if (!((Root *)chain->down)->is_stopped) failed = plain(CALL1(((Root *)chain->down)->on_next, it));
   Py_DECREF(it);
   return failed;
 }
 static inline int tell_up(struct Mine *here, PyObject *up, PyObject *value) {
-  if (Py_TYPE(up) == leaf_type) return emit(here, (Leaf *)up, value);
+  if (Py_TYPE(up) == leaf_type) return note(here, (Leaf *)up, CELLAR_NEXT, value);
   if (Py_TYPE(up) == chain_type) return chain_tell(here, (Chain *)up, value);
   return plain(PyObject_CallMethodObjArgs(up, s_on_next, value, NULL));
 }
 
-static PyObject *none_or_null(int status) {
-  if (status) return NULL;
-  Py_RETURN_NONE;
-}
-static PyObject *leaf_next(Leaf *self, PyObject *value) { return none_or_null(emit(here_is(), self, value)); }
+static Leaf *leaf_at(PyObject *all, Py_ssize_t i) { return (Leaf *)(Py_TYPE(all) == leaf_type ? all : ITEM(ITEM(all, i), 1)); }
+static PyObject *none_or_null(int status) { return status ? NULL : new_of(Py_None); }
+static PyObject *leaf_next(Leaf *self, PyObject *value) { return none_or_null(note(here_is(), self, CELLAR_NEXT, value)); }
 /* The leaf whose `on_next` this is, or NULL. */
 static Leaf *leaf_of(PyObject *next) {
   int is_leafs = Py_TYPE(next) == &PyCFunction_Type && PyCFunction_GetFunction(next) == (PyCFunction)leaf_next;
   return is_leafs ? (Leaf *)PyCFunction_GetSelf(next) : NULL;
 }
-static PyObject *leaf_error(Leaf *self, PyObject *error) { return none_or_null(end_leaf(self, error)); }
-static PyObject *leaf_completed(Leaf *self, PyObject *Py_UNUSED(unused)) { return none_or_null(end_leaf(self, NULL)); }
+static PyObject *leaf_error(Leaf *self, PyObject *error) { return none_or_null(note(here_is(), self, CELLAR_ERROR, error)); }
+static PyObject *leaf_completed(Leaf *self, PyObject *Py_UNUSED(unused)) { return none_or_null(note(here_is(), self, CELLAR_COMPLETE, Py_None)); }
 static int leaf_init(Leaf *self, PyObject *given, PyObject *Py_UNUSED(named)) {
   PyObject *core;
   if (!PyArg_ParseTuple(given, "O", &core)) return -1;
@@ -593,24 +662,26 @@ static int leaf_init(Leaf *self, PyObject *given, PyObject *Py_UNUSED(named)) {
 static PyMethodDef leaf_methods[] = {{"on_next", (PyCFunction)leaf_next, METH_O, NULL}, {"on_error", (PyCFunction)leaf_error, METH_O, NULL},
                                      {"on_completed", (PyCFunction)leaf_completed, METH_NOARGS, NULL}, {NULL, NULL, 0, NULL}};
 static PyMemberDef leaf_members[] = {{"number", T_ULONGLONG, offsetof(Leaf, node.number), READONLY, NULL}, {"is_stopped", T_BOOL, offsetof(Leaf, is_stopped), 0, NULL}, {"on_closed", T_OBJECT, offsetof(Leaf, on_closed), 0, NULL},
-                                     {"is_fed", T_BOOL, offsetof(Leaf, is_fed), 0, NULL}, {"above", T_OBJECT, offsetof(Leaf, above), 0, NULL},
-                                     {NULL, 0, 0, 0, NULL}};
+                                     {"is_fed", T_BOOL, offsetof(Leaf, is_fed), 0, NULL}, {"above", T_OBJECT, offsetof(Leaf, above), 0, NULL}, {NULL, 0, 0, 0, NULL}};
 static int leaf_traverse(Leaf *self, visitproc visit, void *arg) {
   Py_VISIT(Py_TYPE(self)); Py_VISIT(self->core); Py_VISIT(self->on_closed); Py_VISIT(self->above);
+  for (struct Waiting *it = self->waits; it; it = it->next) Py_VISIT(it->value);
   for (int i = 0; !self->above && self->below && i < self->owed; i++) Py_VISIT(self->thing); /* a connection's */
   return visit_below(self->below, visit, arg);
 }
 static int leaf_clear(Leaf *self) {
   self->is_stopped = 1;
   take_out(self);
+  forget_waiting(self);
+  if (self->way & ALONE && self->above) ((Root *)self->above)->alone = NULL;
   Py_CLEAR(self->core); Py_CLEAR(self->on_closed); Py_CLEAR(self->above);
   return 0;
 }
 
 static int chain_init(Chain *self, PyObject *given, PyObject *Py_UNUSED(named)) {
-  PyObject *down, *kinds, *steps;
-  if (!PyArg_ParseTuple(given, "OO!O!", &down, &PyBytes_Type, &kinds, &PyTuple_Type, &steps)) return -1;
-  self->down = new_of(down), self->steps = new_of(steps);
+  PyObject *down, *kinds, *steps, *emits = NULL;
+  if (!PyArg_ParseTuple(given, "OO!O!|O!", &down, &PyBytes_Type, &kinds, &PyTuple_Type, &steps, leaf_type, &emits)) return -1;
+  self->down = new_of(down), self->steps = new_of(steps), self->emits = emits ? (Leaf *)new_of(emits) : NULL;
   self->many = MANY(steps);
   if (!(self->kinds = PyMem_Malloc(self->many + 1))) return PyErr_NoMemory(), -1;
   memcpy(self->kinds, PyBytes_AsString(kinds), self->many);
@@ -620,67 +691,46 @@ static int chain_init(Chain *self, PyObject *given, PyObject *Py_UNUSED(named)) 
   if (self->down_next && !self->leaf && !(self->relay = PyObject_GetAttrString(down, "node_is"))) PyErr_Clear();
   return 0;
 }
-static PyObject *chain_next(Chain *self, PyObject *value) { return none_or_null(chain_tell(here_is(), self, value)); }
-static PyObject *chain_error(Chain *self, PyObject *error) { return PyObject_CallMethodObjArgs(self->down, s_on_error, error, NULL); }
-static PyObject *chain_completed(Chain *self, PyObject *Py_UNUSED(unused)) {
-  return PyObject_CallMethodObjArgs(self->down, s_on_completed, NULL);
+/* What create() gives, and timers have, `emits`: from anywhere, and it is told before the call ends. */
+static PyObject *chain_tells(Chain *self, PyObject *name, PyObject *value) {
+  if (self->emits && self->emits->is_stopped) Py_RETURN_NONE;
+  Outer outer;
+  struct Mine *here = self->emits ? enter(&outer) : here_is();
+  int status = name ? plain(PyObject_CallMethodObjArgs(self->down, name, value, NULL)) : chain_tell(here, self, value);
+  return none_or_null(self->emits ? leave(here, &outer, status, 0) : status);
 }
+static PyObject *chain_next(Chain *self, PyObject *value) { return chain_tells(self, NULL, value); }
+static PyObject *chain_error(Chain *self, PyObject *error) { return chain_tells(self, s_on_error, error); }
+static PyObject *chain_completed(Chain *self, PyObject *Py_UNUSED(unused)) { return chain_tells(self, s_on_completed, NULL); }
+static PyObject *chain_dispose(Chain *Py_UNUSED(self), PyObject *Py_UNUSED(unused)) { Py_RETURN_NONE; }
+static PyObject *chain_is_stopped(Chain *self, void *Py_UNUSED(unused)) { return PyBool_FromLong(self->emits && self->emits->is_stopped); }
 static PyMethodDef chain_methods[] = {{"on_next", (PyCFunction)chain_next, METH_O, NULL}, {"on_error", (PyCFunction)chain_error, METH_O, NULL},
-                                      {"on_completed", (PyCFunction)chain_completed, METH_NOARGS, NULL}, {NULL, NULL, 0, NULL}};
+                                      {"on_completed", (PyCFunction)chain_completed, METH_NOARGS, NULL}, {"dispose", (PyCFunction)chain_dispose, METH_NOARGS, NULL}, {NULL, NULL, 0, NULL}};
 static PyMemberDef chain_members[] = {{"down", T_OBJECT, offsetof(Chain, down), READONLY, NULL}, {NULL, 0, 0, 0, NULL}};
+static PyGetSetDef leaf_getset[] = {{"alone", (getter)alone, NULL, NULL, NULL}, {NULL, NULL, NULL, NULL, NULL}};
+static PyGetSetDef chain_getset[] = {{"is_stopped", (getter)chain_is_stopped, NULL, NULL, NULL}, {NULL, NULL, NULL, NULL, NULL}};
 static int chain_traverse(Chain *self, visitproc visit, void *arg) {
-  Py_VISIT(Py_TYPE(self)); Py_VISIT(self->down); Py_VISIT(self->down_next); Py_VISIT(self->steps); Py_VISIT(self->relay);
+  Py_VISIT(Py_TYPE(self)); Py_VISIT(self->down); Py_VISIT(self->down_next); Py_VISIT(self->steps); Py_VISIT(self->relay); Py_VISIT(self->emits);
   return 0;
 }
 static int chain_clear(Chain *self) {
-  Py_CLEAR(self->down); Py_CLEAR(self->down_next); Py_CLEAR(self->steps); Py_CLEAR(self->relay);
+  Py_CLEAR(self->down); Py_CLEAR(self->down_next); Py_CLEAR(self->steps); Py_CLEAR(self->relay); Py_CLEAR(self->emits);
   self->leaf = NULL, self->many = 0;
-  return 0;
-}
-
-/* What create() gives, and timers have: what is emitted from anywhere is told before the call ends. */
-static int emitter_init(Emitter *self, PyObject *given, PyObject *Py_UNUSED(named)) {
-  PyObject *up, *leaf;
-  if (!PyArg_ParseTuple(given, "OO!", &up, leaf_type, &leaf)) return -1;
-  self->up = new_of(up), self->leaf = (Leaf *)new_of(leaf);
-  return 0;
-}
-static PyObject *emitter_next(Emitter *self, PyObject *value) {
-  if (self->leaf->is_stopped) Py_RETURN_NONE;
-  Outer outer;
-  struct Mine *here = enter(&outer);
-  return none_or_null(leave(here, &outer, tell_up(here, self->up, value), 0));
-}
-static PyObject *emitter_end(Emitter *self, PyObject *error) {
-  if (self->leaf->is_stopped) Py_RETURN_NONE;
-  Outer outer;
-  struct Mine *here = enter(&outer);
-  int status = plain(PyObject_CallMethodObjArgs(self->up, error ? s_on_error : s_on_completed, error, NULL));
-  return none_or_null(leave(here, &outer, status, 0));
-}
-static PyObject *emitter_completed(Emitter *self, PyObject *Py_UNUSED(unused)) { return emitter_end(self, NULL); }
-static PyObject *emitter_is_stopped(Emitter *self, void *Py_UNUSED(unused)) { return PyBool_FromLong(self->leaf->is_stopped); }
-static PyObject *emitter_dispose(PyObject *Py_UNUSED(self), PyObject *Py_UNUSED(unused)) {
-  Py_RETURN_NONE;
-}
-static PyMethodDef emitter_methods[] = {
-    {"on_next", (PyCFunction)emitter_next, METH_O, NULL}, {"on_error", (PyCFunction)emitter_end, METH_O, NULL},
-    {"on_completed", (PyCFunction)emitter_completed, METH_NOARGS, NULL}, {"dispose", emitter_dispose, METH_NOARGS, NULL}, {NULL, NULL, 0, NULL}};
-static PyGetSetDef leaf_getset[] = {{"alone", (getter)alone, NULL, NULL, NULL}, {NULL, NULL, NULL, NULL, NULL}};
-static PyGetSetDef emitter_getset[] = {{"is_stopped", (getter)emitter_is_stopped, NULL, NULL, NULL}, {NULL, NULL, NULL, NULL, NULL}};
-static int emitter_traverse(Emitter *self, visitproc visit, void *arg) {
-  Py_VISIT(Py_TYPE(self)); Py_VISIT(self->up); Py_VISIT(self->leaf);
-  return 0;
-}
-static int emitter_clear(Emitter *self) {
-  Py_CLEAR(self->up); Py_CLEAR(self->leaf);
   return 0;
 }
 
 /* Roots ------------------------------------------------------------------------------------------------------------------------*/
 
 static int root_dispose(Root *root) {
+  Leaf *leaf = root->alone;
   root->is_stopped = 1;
+  if (leaf) {
+    root->is_over = 1, root->alone = NULL;
+    Py_INCREF(leaf);
+    leave_alone(leaf), forget_waiting(leaf);
+    Py_CLEAR(leaf->above);
+    Py_DECREF(leaf);
+  }
   if (root->is_over || !root->is_keyed) return 0;
   root->is_over = 1;
   struct cellar_command c = {.what = CELLAR_DISPOSE, .node = root->node};
@@ -696,10 +746,9 @@ static int root_init(Root *self, PyObject *given, PyObject *Py_UNUSED(named)) {
   return 0;
 }
 static PyObject *root_disposed(Root *self, PyObject *Py_UNUSED(unused)) { return none_or_null(root_dispose(self)); }
-static int go_through(Core *, int);
 /* The same as a call of the user's: from within its end what it held is released now. */
 static PyObject *root_unsubscribe(Root *self, PyObject *Py_UNUSED(unused)) {
-  if (!self->core) Py_RETURN_NONE;
+  if (!self->core || self->alone) return none_or_null(root_dispose(self));
   Outer outer;
   struct Mine *here = enter(&outer);
   int status = root_dispose(self);
@@ -741,7 +790,7 @@ static void root_finalize(PyObject *self) {
   if (error) raise_again(error);
 }
 static int root_clear(Root *self) {
-  self->is_stopped = self->is_over = 1;
+  self->is_stopped = self->is_over = 1, self->alone = NULL;
   Py_CLEAR(self->core); Py_CLEAR(self->head); Py_CLEAR(self->target);
   Py_CLEAR(self->on_next); Py_CLEAR(self->on_error); Py_CLEAR(self->on_completed);
   return 0;
@@ -749,61 +798,49 @@ static int root_clear(Root *self) {
 
 /* Subjects ---------------------------------------------------------------------------------------------------------------------*/
 
-/* Those that are told, what each is told, or NULL where nothing comes out of its functions, and its leaf. */
-typedef struct {
-  Py_ssize_t many, ready; /* so many are there, and of so many it is known what they are told */
-  struct { PyObject *value; Leaf *leaf; } *of, here[16];
-} Told;
-
-static int told_begin(Told *it, Py_ssize_t many) {
-  it->many = many, it->ready = 0;
-  it->of = many <= (Py_ssize_t)(sizeof it->here / sizeof *it->here) ? it->here : PyMem_Malloc(many * sizeof *it->of);
-  return it->of ? 0 : (PyErr_NoMemory(), -1);
-}
-/* What was raised stays so. */
-static int told_end(Told *it, int status) {
-  PyObject *error = status ? caught_one() : NULL;
-  for (Py_ssize_t i = 0; i < it->ready; i++) Py_XDECREF(it->of[i].value);
-  if (it->of != it->here) PyMem_Free(it->of);
-  if (error) raise_again(error);
-  return status;
-}
-/* Each has a command of this kind in its lane before anybody is told, so every observer hears one order. */
-static int put_all(struct Mine *here, Core *core, Told *it, uint8_t what) {
-  struct cellar_command c = {.what = what};
+/* Each has a note of this kind in its lane, or where it is alone waiting, before anybody is told, so every observer hears one order. `all` are they with
+ * what they are told by, or one leaf; `values` has NULL for whom nothing comes out of his functions. */
+static int put_all(struct Mine *here, Core *core, PyObject *all, uint8_t what, PyObject *values) {
   struct cellar_stepped s = {.handed = 0};
   uint8_t refusal = 0;
   Turn outer = begin(here, core);
-  for (Py_ssize_t i = 0; i < it->many; i++) {
-    Leaf *leaf = it->of[i].leaf;
-    PyObject *value = it->of[i].value;
+  int failed = 0;
+  for (Py_ssize_t i = 0; i < MANY(values); i++) {
+    Leaf *leaf = leaf_at(all, i);
+    PyObject *value = ITEM(values, i);
     if (!value || leaf->is_stopped) continue;
-    if (what != CELLAR_NEXT) leaf->is_stopped = 1;
-    c.node = leaf->node, c.value = what == CELLAR_COMPLETE ? 0 : (uintptr_t)value;
-    uint8_t status = make(here, &c, &s);
-    if (status == CELLAR_GONE) leaf->is_stopped = 1;
-    else if (status) refusal = status;
-    else if (c.value) keep(core, value, s.copies);
+    uint8_t status = 0;
+    if (what != CELLAR_NEXT) leave_alone(leaf);
+    while (leaf->way == WAITS && !status) { /* it has entered the engine */
+      struct Waiting first = first_of(leaf);
+      status = put_there(here, leaf, first.what, first.value, &s);
+      Py_DECREF(first.value);
+    }
+    if (!status) status = !leaf->way ? put_there(here, leaf, what, value, &s) : wait(here, leaf, what, value) ? CELLAR_NO_MEMORY : 0;
+    if (status) refusal = status;
   }
-  int failed = end(here, &outer, &s, 0);
+  if (s.handed || core->many) failed = do_all(here, &s);
+  for (Py_ssize_t i = 0; i < MANY(values); i++) failed = ITEM(values, i) ? tell_waiting(here, leaf_at(all, i), failed) : failed;
+  failed = end_turn(here, &outer, failed);
   return failed || !refusal ? failed : refused(refusal);
 }
 static int tell_all(struct Mine *here, PyObject *all, uint8_t what, PyObject *value) {
-  Told it;
-  int status = told_begin(&it, MANY(all)), is_one = 1;
-  Core *core = ((Leaf *)ITEM(ITEM(all, 0), 1))->core;
-  for (; !status && it.ready < it.many; it.ready++) { /* functions first */
-    PyObject *pair = ITEM(all, it.ready), *up = ITEM(pair, 0);
-    Leaf *leaf = it.of[it.ready].leaf = (Leaf *)ITEM(pair, 1);
+  PyObject *values = PyTuple_New(MANY(all)), *it;
+  Core *core = leaf_at(all, 0)->core;
+  int status = values ? 0 : -1, is_one = 1;
+  for (Py_ssize_t i = 0; !status && i < MANY(all); i++) { /* functions first */
+    PyObject *up = ITEM(ITEM(all, i), 0);
+    Leaf *leaf = leaf_at(all, i);
     if (leaf->core != core) is_one = 0;
-    if (what != CELLAR_NEXT || up == (PyObject *)leaf) it.of[it.ready].value = new_of(value);
-    else it.of[it.ready].value = leaf->is_stopped ? NULL : through((Chain *)up, value, &status);
+    it = what != CELLAR_NEXT || up == (PyObject *)leaf ? new_of(value) : leaf->is_stopped ? NULL : through((Chain *)up, value, &status);
+    if (it) PyTuple_SetItem(values, i, it);
   }
-  if (!status && is_one) status = put_all(here, core, &it, what);
+  if (!status && is_one) status = put_all(here, core, all, what, values);
   else /* an engine was exchanged meanwhile */
-    for (Py_ssize_t i = 0; !status && i < it.many; i++)
-      if (it.of[i].value) status = what == CELLAR_NEXT ? emit(here, it.of[i].leaf, it.of[i].value) : end_leaf(it.of[i].leaf, what == CELLAR_ERROR ? value : NULL);
-  return told_end(&it, status);
+    for (Py_ssize_t i = 0; !status && i < MANY(all); i++)
+      if (ITEM(values, i)) status = note(here, leaf_at(all, i), what, value);
+  if (values) drop(values, status);
+  return status;
 }
 /* Those that have subscribed: a new reference. */
 static PyObject *subscribers(Subject *self) {
@@ -827,10 +864,7 @@ static int remember(Subject *self, PyObject *kept) {
 static int subject_tell(Subject *self, uint8_t what, PyObject *value) {
   PyObject *all = subscribers(self);
   if (!all) return -1;
-  if (!self->first) {
-    Py_DECREF(all);
-    return 0;
-  }
+  if (!self->first) return Py_DECREF(all), 0;
   Core *core = (Core *)new_of((PyObject *)self->first->core);
   Outer outer;
   struct Mine *here = enter(&outer);
@@ -841,19 +875,11 @@ static int subject_tell(Subject *self, uint8_t what, PyObject *value) {
   return status;
 }
 /* One argument, by its place or as `value`. */
-static PyObject *the_value(PyObject *const *given, Py_ssize_t many, PyObject *names) {
-  if (many == 1 && !names) return given[0];
-  if (many == 0 && names && MANY(names) == 1 && !PyUnicode_CompareWithASCIIString(ITEM(names, 0), "value")) return given[0];
-  return PyErr_Format(PyExc_TypeError, "on_next() takes one argument, value");
-}
 static PyObject *subject_next(Subject *self, PyObject *const *given, Py_ssize_t many, PyObject *names) {
-  PyObject *value = the_value(given, many, names);
-  if (!value) return NULL;
-  if (self->is_stopped) {
-    if (self->is_disposed) return PyObject_CallMethodObjArgs((PyObject *)self, s_check, NULL);
-    Py_RETURN_NONE;
-  }
-  return none_or_null(subject_tell(self, CELLAR_NEXT, value));
+  int is_named = !many && names && MANY(names) == 1 && !PyUnicode_CompareWithASCIIString(ITEM(names, 0), "value");
+  if (!is_named && (many != 1 || names)) return PyErr_Format(PyExc_TypeError, "on_next() takes one argument, value");
+  if (self->is_stopped) return self->is_disposed ? PyObject_CallMethodObjArgs((PyObject *)self, s_check, NULL) : none_or_null(0);
+  return none_or_null(subject_tell(self, CELLAR_NEXT, given[0]));
 }
 /* An item for all, and what is remembered of it for who comes later. */
 static PyObject *subject_next_kept(Subject *self, PyObject *const *given, Py_ssize_t many) {
@@ -867,11 +893,25 @@ static PyObject *subject_end(Subject *self, PyObject *error) {
 }
 /* A newcomer, who hears at once what is remembered, and from then on what is emitted. Where the subject has ended, only that: the end is
  * the caller's. */
+static int enter_engine(Leaf *);
+/* All that have subscribed are alone, or none is: else the engine would not know in which order they are told. */
+static int is_joined(Subject *self, Leaf *leaf) {
+  int is_alone = leaf->way & ALONE, status = 0;
+  if (!PyDict_Size(self->ups)) self->is_alone = is_alone;
+  if (self->is_alone == is_alone) return 0;
+  if (is_alone) return enter_engine(leaf);
+  PyObject *all = subscribers(self);
+  self->is_alone = 0;
+  for (Py_ssize_t i = 0; all && !status && i < MANY(all); i++) status = enter_engine((Leaf *)ITEM(ITEM(all, i), 1));
+  if (all) drop(all, status);
+  return all ? status : -1;
+}
 static PyObject *subject_join(Subject *self, PyObject *const *given, Py_ssize_t many) {
   if (many != 2 || Py_TYPE(given[1]) != leaf_type) return PyErr_Format(PyExc_TypeError, "what is told and its leaf are wanted");
   Leaf *leaf = (Leaf *)given[1];
   int status = 0, is_open = !self->is_stopped;
   if (is_open && !leaf->is_stopped) {
+    if (is_joined(self, leaf)) return NULL;
     PyObject *both = PyTuple_Pack(2, given[0], given[1]);
     if (!both) return NULL;
     Py_CLEAR(self->all);
@@ -880,33 +920,24 @@ static PyObject *subject_join(Subject *self, PyObject *const *given, Py_ssize_t 
     if (status) return NULL;
     leaf->owner = self;
   }
-  PyObject *items = self->memory ? PyList_GetSlice(self->memory, 0, PyList_Size(self->memory)) : NULL;
-  if (self->memory && !items) return NULL;
-  Py_ssize_t many_items = items ? PyList_Size(items) : 0;
-  Told it;
-  if (given[0] != given[1])
-    for (Py_ssize_t i = 0; !status && i < many_items; i++) status = tell_up(here_is(), given[0], ITEM(PyList_GetItem(items, i), 1));
-  else if (many_items) { /* put into its lane before anybody can emit */
-    for (status = told_begin(&it, many_items); !status && it.ready < many_items; it.ready++)
-      it.of[it.ready].leaf = leaf, it.of[it.ready].value = new_of(ITEM(PyList_GetItem(items, it.ready), 1));
-    status = told_end(&it, status ? status : put_all(here_is(), leaf->core, &it, CELLAR_NEXT));
-  }
-  Py_XDECREF(items);
+  PyObject *items = self->memory ? PyList_AsTuple(self->memory) : PyTuple_New(0), *values = items ? PyTuple_New(MANY(items)) : NULL;
+  if (!values) status = -1;
+  for (Py_ssize_t i = 0; !status && i < MANY(items); i++)
+    if (given[0] != given[1]) status = tell_up(here_is(), given[0], ITEM(ITEM(items, i), 1));
+    else PyTuple_SetItem(values, i, new_of(ITEM(ITEM(items, i), 1)));
+  if (!status && given[0] == given[1] && MANY(items)) status = put_all(here_is(), leaf->core, given[1], CELLAR_NEXT, values); /* into its lane before anybody can emit */
+  Py_XDECREF(items), Py_XDECREF(values);
   if (status) return NULL;
   return PyBool_FromLong(is_open);
 }
-static int forget(Subject *self) {
+static PyObject *subject_forget(Subject *self, PyObject *Py_UNUSED(unused)) {
   PyObject *key, *value;
   Py_ssize_t at = 0;
   while (self->ups && PyDict_Next(self->ups, &at, &key, &value))
     if (Py_TYPE(key) == leaf_type) ((Leaf *)key)->owner = NULL;
-  return 0;
-}
-static PyObject *subject_forget(Subject *self, PyObject *Py_UNUSED(unused)) {
-  forget(self);
   Py_CLEAR(self->all);
-  PyDict_Clear(self->ups);
-  Py_RETURN_NONE;
+  if (self->ups) PyDict_Clear(self->ups);
+  return none_or_null(0);
 }
 static PyObject *subject_new(PyTypeObject *type, PyObject *Py_UNUSED(given), PyObject *Py_UNUSED(named)) {
   Subject *self = (Subject *)PyType_GenericAlloc(type, 0);
@@ -928,7 +959,7 @@ static int subject_traverse(Subject *self, visitproc visit, void *arg) {
   return 0;
 }
 static int subject_clear(Subject *self) {
-  forget(self);
+  Py_DECREF(subject_forget(self, NULL));
   Py_CLEAR(self->ups); Py_CLEAR(self->all); Py_CLEAR(self->memory);
   return 0;
 }
@@ -981,7 +1012,7 @@ static int opened(Core *core, Opening *it) {
   it->status = make(here, c, &s);
   if (it->status) {
     for (; roles; roles--) let_go(core, thing);
-    return end(here, &outer, &s, 0);
+    return end(here, &outer, &s);
   }
   if (c->flags & CELLAR_WISHES) core->wishes++;
   if (it->node) it->node->node = s.node;
@@ -993,13 +1024,13 @@ static int opened(Core *core, Opening *it) {
     if (is_root) ((Root *)hears)->node = s.node, ((Root *)hears)->is_keyed = 1, ((Root *)hears)->thing = thing, ((Root *)hears)->owed = 1;
     if (Py_TYPE(close) == leaf_type) {
       ((Leaf *)close)->node = s.node, ((Leaf *)close)->thing = thing, ((Leaf *)close)->owed = (int)roles - is_root;
-      put_below((Leaf *)close);
+      if (((Leaf *)close)->above) put_first((Leaf *)close, below_of(((Leaf *)close)->above));
     }
   }
   it->c.hub = s.hub;
   if (it->share && PyObject_SetAttr(it->share, s_connection, (PyObject *)it->other)) return calls.stop(&core->engine, &here->turn.stack), here->turn = outer, -1;
   if (it->is_exchange && here->telling.core == core) let_pass(here);
-  return end(here, &outer, &s, 0);
+  return end(here, &outer, &s);
 }
 /* what, the node above, (root, what closes, what projects) or None, a release or None, whether it takes the place of something: the key. */
 static PyObject *core_open(Core *self, PyObject *const *given, Py_ssize_t many) {
@@ -1012,19 +1043,18 @@ static PyObject *core_open(Core *self, PyObject *const *given, Py_ssize_t many) 
   if (failed || (it.status && refused(it.status))) Py_CLEAR(it.node);
   return (PyObject *)it.node;
 }
-/* The answer is in the book, or released at once; its place in the tuple was made before. */
-static int held(Core *core, Opening *it, PyObject *tag) {
+/* The answer is in the book, or released at once; its place in the tuple was made before. Where something has `failed` that is raised. */
+static int held(Core *core, Opening *it, PyObject *tag, int failed) {
+  PyObject *error = failed ? caught_one() : NULL;
   it->c.value = (uintptr_t)tag;
   keep(core, tag, 1);
-  int failed = it->thing ? opened(core, it) : command(core, &it->c, NULL, &it->status);
-  if (!it->status) return failed;
-  PyObject *error = failed ? caught_one() : NULL;
-  failed = release(tag) ? caught(me()) : 0;
-  let_go(core, tag);
+  failed = it->thing ? opened(core, it) : command(core, &it->c, NULL, &it->status);
+  if (failed && error) PyErr_Clear();
+  else if (failed) error = caught_one();
+  failed = it->status && release(tag) ? caught(me()) : 0;
+  if (it->status) let_go(core, tag);
   if (!error) return failed;
-  if (failed) Py_DECREF(error);
-  else raise_again(error);
-  return -1;
+  return failed ? Py_DECREF(error), -1 : raise_again(error);
 }
 /* what, the node above, (root, None, None) or None, a factory: calls it, and opens a node that holds its answer, with nothing between.
  * Answers the key and the resource. */
@@ -1033,43 +1063,43 @@ static PyObject *core_using(Core *self, PyObject *const *given, Py_ssize_t many)
   if (!asked_for(&it.c, given, many, 4)) return NULL;
   it.thing = given[2], it.node = new_key();
   PyObject *tag = it.node ? PyTuple_New(1) : NULL, *answer = tag ? PyTuple_New(2) : NULL, *resource = answer ? CALL0(given[3]) : NULL;
-  if (!resource) {
-    Py_XDECREF(it.node), Py_XDECREF(tag), Py_XDECREF(answer);
-    return NULL;
-  }
+  if (!resource) return Py_XDECREF(it.node), Py_XDECREF(tag), Py_XDECREF(answer), NULL;
   PyTuple_SetItem(tag, 0, new_of(resource));
   PyTuple_SetItem(answer, 1, resource);
   PyTuple_SetItem(answer, 0, (PyObject *)it.node);
   if (resource == Py_None) it.c.what = CELLAR_OPEN, it.c.kind = CELLAR_PASS;
-  int failed = resource == Py_None ? opened(self, &it) : held(self, &it, tag);
+  int failed = resource == Py_None ? opened(self, &it) : held(self, &it, tag, 0);
   Py_DECREF(tag);
   if (failed || (it.status && refused(it.status))) Py_CLEAR(answer);
   return answer;
 }
 /* A node, a function and its arguments: calls it, and lets the node hold the answer, with nothing between: something with `dispose`, a
  * function, or None. Where the node is closed it is released at once. */
-static PyObject *core_hold(Core *self, PyObject *const *given, Py_ssize_t many) {
+static int enter_engine(Leaf *leaf) {
+  Opening it = {.c = {.what = CELLAR_OPEN, .flags = CELLAR_WISHES}};
+  if (!(leaf->way & ALONE) || !leaf->at) return 0;
+  if (!(it.thing = PyTuple_Pack(3, leaf->above, leaf, Py_None))) return -1;
+  Root *root = (Root *)leaf->above;
+  take_out(leaf);
+  leaf->way &= ~ALONE, root->alone = NULL;
+  int failed = opened(leaf->core, &it);
+  if (it.status) leaf->way |= ALONE, root->alone = leaf, put_first(leaf, &leaf->core->alone);
+  drop(it.thing, failed);
+  return failed || !it.status ? failed : refused(it.status);
+}
+static PyObject *core_hold(Core *self, PyObject *given) {
   Opening it = {.c = {.what = CELLAR_HOLD}};
-  if (many < 2 || !node_of(given[0], &it.c.node)) return NULL;
-  PyObject *words = PyTuple_New(many - 2), *tag = words ? PyTuple_New(1) : NULL;
-  if (!tag) {
-    Py_XDECREF(words);
-    return NULL;
-  }
-  for (Py_ssize_t i = 2; i < many; i++) PyTuple_SetItem(words, i - 2, new_of(given[i]));
-  PyObject *resource = PyObject_CallObject(given[1], words);
+  PyObject *call, *words = split(given, &call, 2), *tag = words ? PyTuple_New(1) : NULL, *node = tag ? ITEM(given, 0) : NULL;
+  if (!tag || !node_of(node, &it.c.node)) return Py_XDECREF(words), Py_XDECREF(tag), NULL;
+  PyObject *resource = PyObject_CallObject(call, words);
   Py_DECREF(words);
-  if (!resource || resource == Py_None) {
-    Py_DECREF(tag);
-    return resource;
-  }
+  if (!resource || resource == Py_None) return Py_DECREF(tag), resource;
   if (PyObject_HasAttr(resource, s_dispose)) PyTuple_SetItem(tag, 0, new_of(resource));
-  else {
-    Py_DECREF(tag);
-    tag = new_of(resource);
-  }
-  int failed = held(self, &it, tag);
-  Py_DECREF(tag);
+  else Py_DECREF(tag), tag = new_of(resource);
+  int failed = Py_TYPE(node) == leaf_type ? enter_engine((Leaf *)node) : 0;
+  node_of(node, &it.c.node);
+  failed = held(self, &it, tag, failed);
+  drop(tag, failed);
   if (failed || (it.status && it.status != CELLAR_GONE && refused(it.status))) Py_CLEAR(resource);
   return resource;
 }
@@ -1088,27 +1118,16 @@ static PyObject *core_share(Core *self, PyObject *const *given, Py_ssize_t many)
   Py_XDECREF(it.node), Py_XDECREF(it.other);
   return answer;
 }
-/* what, the node, a value or None: the status. */
+/* what, the node, a value or None, or (a call,) that stands in the node's lane: the status. */
 static PyObject *core_do(Core *self, PyObject *const *given, Py_ssize_t many) {
   struct cellar_command c = {0};
   uint8_t status;
   if (!asked_for(&c, given, many, 3)) return NULL;
-  PyObject *value = given[2] == Py_None ? NULL : given[2];
-  c.value = (uintptr_t)value;
-  return command(self, &c, value, &status) ? NULL : PyLong_FromLong(status);
-}
-/* what, the node, a call: it stands in the node's lane. The status. */
-static PyObject *core_put(Core *self, PyObject *const *given, Py_ssize_t many) {
-  struct cellar_command c = {0};
-  uint8_t status;
-  if (!asked_for(&c, given, many, 3)) return NULL;
-  PyObject *thing = PyTuple_Pack(1, given[2]);
-  if (!thing) return NULL;
-  c.user = (uintptr_t)thing;
-  keep(self, thing, 1);
-  int failed = command(self, &c, NULL, &status);
-  if (status) let_go(self, thing);
-  Py_DECREF(thing);
+  PyObject *value = given[2] == Py_None ? NULL : given[2], *call = c.what == CELLAR_PUT ? value : NULL;
+  if (call) c.user = (uintptr_t)call, keep(self, call, 1);
+  else c.value = (uintptr_t)value;
+  int failed = command(self, &c, call ? NULL : value, &status);
+  if (call && status) let_go(self, call);
   return failed ? NULL : PyLong_FromLong(status);
 }
 /* A turn of no command: `passes` where what is told counts as told before, so that what stands behind it is this turn's. */
@@ -1117,17 +1136,29 @@ static int go_through(Core *core, int passes) {
   struct cellar_stepped s = {.handed = 0};
   if (core->generation != generation) return 0;
   Turn outer = begin(here, core);
-  if (passes) here->turn.stack.begun = here->telling.stack.begun, calls.pass(&core->engine, &here->turn.stack, here->telling.stack.depth, 1);
+  if (passes && here->telling.stack.by) here->turn.stack.begun = here->telling.stack.begun, calls.pass(&core->engine, &here->turn.stack, here->telling.stack.depth, 1);
   calls.next(&core->engine, &here->turn.stack, &s);
-  return end(here, &outer, &s, 0);
+  return end(here, &outer, &s);
 }
 /* Does what is to be done, also what interrupted calls left. */
-static PyObject *core_serve_left(Core *self, PyObject *Py_UNUSED(unused)) { return none_or_null(go_through(self, 0)); }
-static PyObject *core_totals(Core *self, PyObject *Py_UNUSED(unused)) {
-  struct cellar_totals t = {0};
-  if (self->generation == generation) calls.totals(&self->engine, &t);
-  return Py_BuildValue("(KKKKKKKK)", t.nodes, t.held, t.waiting, t.leases, t.accepted, t.taken, t.events, t.effects);
+static PyObject *core_serve_left(Core *self, PyObject *Py_UNUSED(unused)) {
+  Outer outer;
+  struct Mine *here = enter(&outer);
+  return none_or_null(leave(here, &outer, go_through(self, 0), 0));
 }
+/* A root, which is to be alone: its leaf. */
+static PyObject *core_alone(Core *self, PyObject *root) {
+  if (!is_a(root, root_type)) return PyErr_Format(PyExc_TypeError, "a root is wanted");
+  if (self->generation != generation) return none_or_null(refused(CELLAR_GONE));
+  Leaf *leaf = (Leaf *)PyType_GenericAlloc(leaf_type, 0);
+  if (!leaf) return NULL;
+  leaf->core = (Core *)new_of((PyObject *)self), leaf->above = new_of(root);
+  leaf->node.slot = leaf->node.number = UINT64_MAX, leaf->way = ALONE, leaf->is_fed = 1, ((Root *)root)->alone = leaf;
+  put_first(leaf, &self->alone);
+  return (PyObject *)leaf;
+}
+/* The root of one that is, or None. */
+static PyObject *core_first_alone(Core *self, void *Py_UNUSED(unused)) { return new_of(self->alone && self->generation == generation ? self->alone->above : Py_None); }
 /* Where the engine is, for the calls that ctypes makes on it as well: none is on the way of an item. */
 static PyObject *core_address(Core *self, void *Py_UNUSED(unused)) { return PyLong_FromVoidPtr(&self->engine); }
 static PyObject *core_new(PyTypeObject *type, PyObject *given, PyObject *Py_UNUSED(named)) {
@@ -1136,10 +1167,7 @@ static PyObject *core_new(PyTypeObject *type, PyObject *given, PyObject *Py_UNUS
   Core *self = (Core *)PyType_GenericAlloc(type, 0);
   if (!self) return NULL;
   self->generation = generation;
-  if (calls.begin(&self->engine, (uint32_t)events)) {
-    Py_DECREF(self);
-    return PyErr_NoMemory();
-  }
+  if (calls.begin(&self->engine, (uint32_t)events)) return Py_DECREF(self), PyErr_NoMemory();
   return (PyObject *)self;
 }
 static void core_dealloc(Core *self) {
@@ -1150,44 +1178,39 @@ static void core_dealloc(Core *self) {
   Py_DECREF(type);
 }
 static PyMethodDef core_methods[] = {
-    {"open", FAST(core_open), METH_FASTCALL, NULL}, {"using", FAST(core_using), METH_FASTCALL, NULL}, {"hold", FAST(core_hold), METH_FASTCALL, NULL},
-    {"share", FAST(core_share), METH_FASTCALL, NULL}, {"do", FAST(core_do), METH_FASTCALL, NULL}, {"put", FAST(core_put), METH_FASTCALL, NULL},
-    {"serve_left", (PyCFunction)core_serve_left, METH_NOARGS, NULL}, {"totals", (PyCFunction)core_totals, METH_NOARGS, NULL},
-    {NULL, NULL, 0, NULL}};
-static PyGetSetDef core_getset[] = {{"address", (getter)core_address, NULL, NULL, NULL}, {NULL, NULL, NULL, NULL, NULL}};
-static PyMemberDef core_members[] = {{"kept", T_LONGLONG, offsetof(Core, kept), READONLY, NULL}, {NULL, 0, 0, 0, NULL}};
+    {"open", FAST(core_open), METH_FASTCALL, NULL}, {"using", FAST(core_using), METH_FASTCALL, NULL}, {"hold", (PyCFunction)core_hold, METH_VARARGS, NULL},
+    {"share", FAST(core_share), METH_FASTCALL, NULL}, {"do", FAST(core_do), METH_FASTCALL, NULL}, 
+    {"serve_left", (PyCFunction)core_serve_left, METH_NOARGS, NULL}, {"alone", (PyCFunction)core_alone, METH_O, NULL}, {NULL, NULL, 0, NULL}};
+static PyGetSetDef core_getset[] = {{"address", (getter)core_address, NULL, NULL, NULL}, {"first_alone", (getter)core_first_alone, NULL, NULL, NULL}, {NULL, NULL, NULL, NULL, NULL}};
+static PyMemberDef core_members[] = {{"kept", T_LONGLONG, offsetof(Core, kept), READONLY, NULL}, {"many_alone", T_LONGLONG, offsetof(Core, many_alone), READONLY, NULL},
+                                     {"waiting", T_LONGLONG, offsetof(Core, waiting), READONLY, NULL}, {NULL, 0, 0, 0, NULL}};
 
 /* This thread ------------------------------------------------------------------------------------------------------------------*/
 
-/* Calls, and behind that does what sources put off meanwhile; unless a call further out does. */
-static PyObject *trampolined(PyObject *call, PyObject *given) {
-  if (mine.trampoline) return PyObject_CallObject(call, given);
-  PyObject *queue = PyList_New(0), *answer;
-  if (!queue) return NULL;
+/* Calls, and behind that does what sources put off meanwhile; unless a call further out does, where this is not to be apart from that. */
+static PyObject *trampolined(PyObject *call, PyObject *given, int is_apart) {
+  PyObject *before = mine.trampoline, *queue = before && !is_apart ? NULL : PyList_New(0), *answer;
+  if (!queue) return before && !is_apart ? PyObject_CallObject(call, given) : NULL;
   mine.trampoline = queue;
   answer = PyObject_CallObject(call, given);
   while (answer && is_some(queue))
     if (go_on(queue)) Py_CLEAR(answer);
-  mine.trampoline = NULL;
+  mine.trampoline = before;
   Py_DECREF(queue);
   return answer;
 }
-static PyObject *split(PyObject *given, PyObject **first, Py_ssize_t from) {
-  if (MANY(given) < from) return PyErr_Format(PyExc_TypeError, "more arguments are wanted");
-  *first = ITEM(given, from - 1);
-  return PyTuple_GetSlice(given, from, MANY(given));
+static PyObject *called(PyObject *given, int is_apart) {
+  PyObject *call, *rest = split(given, &call, 1), *answer = rest ? trampolined(call, rest, is_apart) : NULL;
+  return Py_XDECREF(rest), answer;
 }
-static PyObject *module_trampolined(PyObject *Py_UNUSED(module), PyObject *given) {
-  PyObject *call, *rest = split(given, &call, 1), *answer = rest ? trampolined(call, rest) : NULL;
-  Py_XDECREF(rest);
-  return answer;
-}
+static PyObject *module_trampolined(PyObject *Py_UNUSED(module), PyObject *given) { return called(given, 0); }
+static PyObject *apart(PyObject *Py_UNUSED(module), PyObject *given) { return called(given, 1); }
 static PyObject *within(PyObject *given, Root *root) {
   PyObject *call, *rest = split(given, &call, root ? 2 : 1);
   if (!rest) return NULL;
   Outer outer;
   struct Mine *here = enter(&outer);
-  PyObject *answer = root ? trampolined(call, rest) : PyObject_CallObject(call, rest);
+  PyObject *answer = root ? trampolined(call, rest, 0) : PyObject_CallObject(call, rest);
   Py_DECREF(rest);
   if (!answer && root) dispose_and_go_on(root);
   if (leave(here, &outer, answer ? 0 : -1, root && !root->is_over)) Py_CLEAR(answer);
@@ -1203,7 +1226,7 @@ static PyObject *behind_the_lane(PyObject *given, int lets_go) {
   PyObject *call, *rest = split(given, &call, 1), *answer;
   if (!rest) return NULL;
   if (mine.trampoline) answer = PyObject_CallObject(call, rest);
-  else if (!mine.telling.core || (!mine.put_off && !(mine.put_off = PyList_New(0)))) answer = trampolined(call, rest);
+  else if (!mine.telling.core || (!mine.put_off && !(mine.put_off = PyList_New(0)))) answer = trampolined(call, rest, 0);
   else {
     mine.trampoline = mine.put_off;
     mine.lets_go |= lets_go;
@@ -1217,25 +1240,13 @@ static PyObject *behind_the_lane(PyObject *given, int lets_go) {
 static PyObject *projected(PyObject *Py_UNUSED(module), PyObject *given) { return behind_the_lane(given, 0); }
 /* What an operator subscribes to as its lane is served emits into that lane: so that it is told at once, the lane is let go for it. */
 static PyObject *fed(PyObject *Py_UNUSED(module), PyObject *given) { return behind_the_lane(given, 1); }
-/* With nothing put off behind what is under way. */
-static PyObject *apart(PyObject *Py_UNUSED(module), PyObject *given) {
-  PyObject *call, *rest = split(given, &call, 1), *before = mine.trampoline;
-  if (!rest) return NULL;
-  mine.trampoline = NULL;
-  PyObject *answer = PyObject_CallObject(call, rest);
-  mine.trampoline = before;
-  Py_DECREF(rest);
-  return answer;
-}
 static PyObject *put_off(PyObject *Py_UNUSED(module), PyObject *call) {
   if (!mine.trampoline) Py_RETURN_FALSE;
   if (PyList_Append(mine.trampoline, call)) return NULL;
   Py_RETURN_TRUE;
 }
 /* What this thread puts off, if somebody goes on with it. */
-static PyObject *queue(PyObject *Py_UNUSED(module), PyObject *Py_UNUSED(unused)) {
-  return new_of(mine.trampoline ? mine.trampoline : Py_None);
-}
+static PyObject *queue(PyObject *Py_UNUSED(module), PyObject *Py_UNUSED(unused)) { return new_of(mine.trampoline ? mine.trampoline : Py_None); }
 /* Something was raised by what is none of a call's own. */
 static PyObject *raised(PyObject *Py_UNUSED(module), PyObject *error) {
   raise_again(new_of(error));
@@ -1252,10 +1263,7 @@ static PyObject *finish(PyObject *Py_UNUSED(module), PyObject *root) {
   Core *core = ((Root *)root)->core;
   return none_or_null(mine.telling.core == core ? go_through(core, 1) : 0);
 }
-static PyObject *forked(PyObject *Py_UNUSED(module), PyObject *Py_UNUSED(unused)) {
-  generation++;
-  Py_RETURN_NONE;
-}
+static PyObject *forked(PyObject *Py_UNUSED(module), PyObject *Py_UNUSED(unused)) { return generation++, none_or_null(0); }
 /* What is told, its leaf, and an iterator: its items, until the leaf is closed. Whether it came to its end. */
 static PyObject *pull(PyObject *Py_UNUSED(module), PyObject *const *given, Py_ssize_t many) {
   if (many != 3 || Py_TYPE(given[1]) != leaf_type) return PyErr_Format(PyExc_TypeError, "what is told, its leaf and an iterator are wanted");
@@ -1263,10 +1271,7 @@ static PyObject *pull(PyObject *Py_UNUSED(module), PyObject *const *given, Py_ss
   struct Mine *here = here_is();
   for (unsigned count = 1; !leaf->is_stopped; count++) {
     PyObject *value = PyIter_Next(given[2]);
-    if (!value) {
-      if (PyErr_Occurred()) return NULL;
-      Py_RETURN_TRUE;
-    }
+    if (!value) return PyErr_Occurred() ? NULL : new_of(Py_True);
     int status = tell_up(here, given[0], value);
     drop(value, status);
     if (status || PyErr_CheckSignals()) return NULL;
@@ -1294,7 +1299,6 @@ static PyObject *bind(PyObject *Py_UNUSED(module), PyObject *given) {
 DEALLOC(Subject, subject_clear, )
 DEALLOC(Leaf, leaf_clear, )
 DEALLOC(Root, root_clear, PyObject_ClearWeakRefs((PyObject *)self))
-DEALLOC(Emitter, emitter_clear, )
 DEALLOC(Chain, chain_clear, PyMem_Free(self->kinds))
 #define COLLECTED(Name, name) {Py_tp_dealloc, Name##_dealloc}, {Py_tp_methods, name##_methods}, {Py_tp_traverse, name##_traverse}, {Py_tp_clear, name##_clear}
 static PyType_Slot core_slots[] = {{Py_tp_new, core_new}, {Py_tp_dealloc, core_dealloc}, {Py_tp_methods, core_methods}, {Py_tp_getset, core_getset}, {Py_tp_members, core_members}, {0, NULL}};
@@ -1302,9 +1306,8 @@ static PyMemberDef key_members[] = {{"number", T_ULONGLONG, offsetof(Key, node.n
 static PyType_Slot key_slots[] = {{Py_tp_members, key_members}, {0, NULL}};
 static PyType_Slot root_slots[] = {COLLECTED(Root, root), {Py_tp_finalize, root_finalize}, {Py_tp_init, root_init}, {Py_tp_getset, root_getset}, {Py_tp_members, root_members}, {0, NULL}};
 static PyType_Slot leaf_slots[] = {COLLECTED(Leaf, leaf), {Py_tp_init, leaf_init}, {Py_tp_getset, leaf_getset}, {Py_tp_members, leaf_members}, {0, NULL}};
-static PyType_Slot chain_slots[] = {COLLECTED(Chain, chain), {Py_tp_init, chain_init}, {Py_tp_members, chain_members}, {0, NULL}};
+static PyType_Slot chain_slots[] = {COLLECTED(Chain, chain), {Py_tp_init, chain_init}, {Py_tp_getset, chain_getset}, {Py_tp_members, chain_members}, {0, NULL}};
 static PyType_Slot subject_slots[] = {COLLECTED(Subject, subject), {Py_tp_new, subject_new}, {Py_tp_members, subject_members}, {0, NULL}};
-static PyType_Slot emitter_slots[] = {COLLECTED(Emitter, emitter), {Py_tp_init, emitter_init}, {Py_tp_getset, emitter_getset}, {0, NULL}};
 #define GC (Py_TPFLAGS_DEFAULT | Py_TPFLAGS_HAVE_GC)
 static PyType_Spec core_spec = {"cellarcliff._engine.Core", sizeof(Core), 0, Py_TPFLAGS_DEFAULT, core_slots};
 static PyType_Spec key_spec = {"cellarcliff._engine.Key", sizeof(Key), 0, Py_TPFLAGS_DEFAULT, key_slots};
@@ -1312,7 +1315,6 @@ static PyType_Spec root_spec = {"cellarcliff._engine.Root", sizeof(Root), 0, GC 
 static PyType_Spec leaf_spec = {"cellarcliff._engine.Leaf", sizeof(Leaf), 0, GC, leaf_slots};
 static PyType_Spec chain_spec = {"cellarcliff._engine.Chain", sizeof(Chain), 0, GC, chain_slots};
 static PyType_Spec subject_spec = {"cellarcliff._engine.Subject", sizeof(Subject), 0, GC | Py_TPFLAGS_BASETYPE, subject_slots};
-static PyType_Spec emitter_spec = {"cellarcliff._engine.Emitter", sizeof(Emitter), 0, GC, emitter_slots};
 
 static PyMethodDef functions[] = {
     {"bind", bind, METH_VARARGS, NULL}, {"pull", FAST(pull), METH_FASTCALL, NULL}, {"subscribe", subscribe, METH_VARARGS, NULL},
@@ -1327,8 +1329,8 @@ PyMODINIT_FUNC PyInit__engine(void) {
   PyObject *module = PyModule_Create(&definition);
   struct { const char *name; PyType_Spec *spec; PyTypeObject **to; } all[] = {
       {"Core", &core_spec, NULL}, {"Key", &key_spec, &key_type}, {"Root", &root_spec, &root_type}, {"Leaf", &leaf_spec, &leaf_type},
-      {"Chain", &chain_spec, &chain_type}, {"Subject", &subject_spec, &subject_type}, {"Emitter", &emitter_spec, NULL}};
-  if (!module) return NULL;
+      {"Chain", &chain_spec, &chain_type}, {"Subject", &subject_spec, &subject_type}};
+  if (!module || !(left = PyList_New(0))) return NULL;
   for (size_t i = 0; i < sizeof all / sizeof *all; i++) {
     PyObject *type = PyType_FromSpec(all[i].spec);
     if (!type) return NULL;

@@ -246,7 +246,8 @@ class Watching(unittest.TestCase):
                 from rx import operators as ops
                 from rx.subject import Subject
                 source = Subject()
-                source.pipe(ops.publish()).subscribe()
+                published = source.pipe(ops.publish())
+                published.subscribe()
                 source.pipe(ops.share()).subscribe()
                 source.on_next(1)
                 """, "--dump", file)
@@ -255,7 +256,7 @@ class Watching(unittest.TestCase):
         self.assertEqual(audit.audit(found["dump"]).word, "lawful")
         self.assertEqual(found, {"dump": [["hub", "auto"], ["hub", "manual"], ["open", "root", "sub", 1], ["open", "root", "sub", 0], ["connect", 0],
                                           ["open", "source", 4, "leaf"], ["item", 5, 0]],
-                                 "names": {"2": "program.py:6", "3": "program.py:7"}})
+                                 "names": {"2": "program.py:7", "3": "program.py:8"}})
 
 
 class Hubs(unittest.TestCase):

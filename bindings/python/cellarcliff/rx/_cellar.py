@@ -26,7 +26,7 @@ HANDED, TICKET, EFFECT = 0, 2, 4
 _ROOM, _REST = 8, 16
 _ABI, _SIZES = 0x30000, {0: 8, 1: 64, 3: 32, 4: 64, 5: 32, 6: 24, 7: 192}
 #: Those that the extension makes, in its order.
-FAST = "new step next pass stop closings totals drop".split()
+FAST = "new step next pass stop closings drop".split()
 _ARGUMENTS = {
     "new": [c_void_p, c_uint32], "step": [c_void_p] * 4, "next": [c_void_p] * 3, "pass": [c_void_p, c_void_p, c_uint64, c_uint8], "stop": [c_void_p] * 2,
     "closings": [c_void_p, c_uint64, c_void_p, c_size_t, c_void_p], "totals": [c_void_p] * 2, "event": [c_void_p, c_uint64, c_void_p],

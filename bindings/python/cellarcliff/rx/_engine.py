@@ -13,8 +13,8 @@ from typing import Any, Callable, List, NamedTuple, Optional, Tuple
 
 from .._refused import REFUSALS, Refused
 from ._cellar import (ABORT, CONNECT, CONNECTED, DECLINE, DISCONNECT, FAIL, FULL, GONE, HUB_ORDER, LANE_OF_NODE, LEAF, NO_HUB, NO_MEMORY,
-                      NOT_CONNECTED, NOTHING_OWED, OF_PROJECTIONS, OPEN, PASS, PUT, ROOT, SHUT, SOURCE, USING, WISHES)
-from ._crossing import C, bind
+                      NOT_CONNECTED, NOTHING_OWED, OF_PROJECTIONS, OPEN, PASS, PUT, ROOT, SHUT, SOURCE, USING, WISHES, Lent)
+from ._crossing import C, IS_EXTENSION, bind
 
 Leaf, Root, Key = C.Leaf, C.Root, C.Key
 
@@ -81,10 +81,12 @@ class Engine:
     """An engine of libcellarcliff."""
 
     opens: Any = None  # what opens a root that the user subscribes: open_root() of _observable.py
+    leaves_alone = IS_EXTENSION  # whether a root that is a source alone and holds nothing may go without the engine: it is in no history
 
     def __init__(self, max_events: int = 0) -> None:
         bind(refuse, on_unhandled)
         self.core = C.Core(max_events)
+        self._process, self._calls = os.getpid(), None  # type: Any, Any
 
     def open(self, at: At, kind: int, close: Any = None, project: Optional[Callable[[Any], Any]] = None) -> Any:
         """Opens a node: `close` is a leaf that stops as it closes, or what is called then; `project` is given what a FlatMap or Switch
@@ -98,6 +100,15 @@ class Engine:
         what = OPEN | at.place << 8 | kind << 16 | (at.flags | (WISHES if close is not None else 0)) << 24
         at.node = self.core.open(what, at.above, None if root is close is project is None else (root, close, project), None, at.is_exchange)
         return at.node
+
+    def source(self, at: At, holds: bool = False) -> Any:
+        """Opens a source, which may hold something: its leaf, for who tells it something, and holds it."""
+        if self.leaves_alone and at.place == ROOT and at.above is None and not holds:
+            return self.core.alone(at.root)
+        leaf = Leaf(self.core)
+        leaf.is_fed = True
+        self.open(at, LEAF, leaf)
+        return leaf
 
     def using(self, at: At, factory: Callable[[], Any]) -> Tuple[At, Any]:
         """Calls the factory, and opens a node that holds the resource: the place below it, and the resource."""
@@ -158,7 +169,7 @@ class Engine:
 
     def put(self, node: Any, call: Callable[[], Any], is_projected: bool = False) -> bool:
         """Puts a call into the lane of a node, or of what is projected to it: whether that is open."""
-        status = self.core.put(PUT | (OF_PROJECTIONS << 24 if is_projected else 0), node, call)
+        status = self.core.do(PUT | (OF_PROJECTIONS << 24 if is_projected else 0), node, (call,))
         if status not in (0, GONE):
             refuse(status)
         return not status
@@ -199,16 +210,25 @@ class Engine:
 
     def _close(self) -> None:
         for _ in range(100):  # a release may subscribe
-            for _ in range(self.core.totals()[0]):  # each closes a root or a connection, or more
-                if self._do(SHUT, None, None, GONE) or not self.core.totals()[0]:
+            while IS_EXTENSION and (root := self.core.first_alone) is not None:
+                root.dispose()
+            for _ in range(self.counts().nodes):  # each closes a root or a connection, or more
+                if self._do(SHUT, None, None, GONE) or not self.counts().nodes:
                     break
             self.core.serve_left()
-            if not any(self.core.totals()[:3]):
+            if not any(self.counts()[:3]):
                 return
 
     def counts(self) -> Totals:
         """How much is open and held."""
-        return Totals(*self.core.totals())
+        if self._process != os.getpid():  # that of a parent is none of ours
+            return Totals(*[0] * 8)
+        if not IS_EXTENSION:
+            return Totals(*self.core.totals())
+        if self._calls is None:
+            self._calls = Lent(self.core)
+        totals = Totals(*self._calls.totals())
+        return totals._replace(nodes=totals.nodes + self.core.many_alone, effects=totals.effects + self.core.waiting)
 
     def __repr__(self) -> str:
         counts = self.counts()

@@ -256,13 +256,14 @@ def open_below(observable: Any, at: At) -> None:
 def create(subscribe: Callable[[Any, Any], Any], at: At, makes: Any) -> None:
     """A source that a function of the user's subscribes to; what it answers is held by the engine."""
     from ._functions import chained
-    engine, leaf = at.engine, Leaf(at.engine.core)
-    engine.open(at, LEAF, leaf)
+    engine = at.engine
+    leaf = engine.source(at)
+    leaf.is_fed = False
     up = chained(makes, leaf)
     if leaf.is_stopped:
         return
     try:
-        engine.answered(at, leaf, subscribe, C.Emitter(up, leaf), at.scheduler)
+        engine.answered(at, leaf, subscribe, C.Chain(up, b"", (), leaf), at.scheduler)
     except Exception as error:
         if leaf.is_stopped:
             raise

@@ -14,7 +14,7 @@ from threading import get_ident
 from typing import Any, Callable, Deque, Dict, List, Optional, Tuple
 
 from ._cellar import (BEGUN, COMPLETE, CONNECT, COPIES, DEPTH, DISPOSE, E_COMPLETED, E_FAILED, E_GONE, E_NEXT, E_PROJECT, E_PUT,
-                      E_RELEASE, EFFECT, ERROR, FLAT, GONE, HANDED, HOLD, NEXT, NOTHING_KEPT, OPEN, PASS, SWITCH, TICKET, WISHES, Cellar)
+                      E_RELEASE, EFFECT, ERROR, FLAT, GONE, HANDED, HOLD, NEXT, NOTHING_KEPT, OPEN, PASS, PUT, SWITCH, TICKET, WISHES, Cellar)
 
 make_calls: Callable[..., Any] = Cellar  # what an engine is made of; the tests exchange it
 _words = count(1)
@@ -348,11 +348,13 @@ class Core:
         return 0, Key((a[0], a[1])), other if share is None else share.connection, a[5]
 
     def do(self, what: int, node: Any, value: Any) -> int:
+        if what & 255 == PUT:
+            return self.put(what, node, value)
         word = self._keep(value, _MANY) if value is not None else 0
         return self.turn(self.make, (what, 0, *(node.node if node is not None else (0, 0)), 0, word), word)[0]
 
-    def put(self, what: int, node: Any, call: Callable[[], Any]) -> int:
-        word = self._keep((call,), 1)
+    def put(self, what: int, node: Any, call: Tuple[Callable[[], Any]]) -> int:
+        word = self._keep(call, 1)
         status, _ = self.turn(self.make, (what, 0, *node.node, word, 0))
         if status:
             self._count(word, -1)
@@ -510,8 +512,8 @@ class Leaf:
 
 
 class Chain:
-    def __init__(self, down: Any, kinds: bytes, steps: Tuple[Any, ...]):
-        self.down, self._steps = down, tuple(zip(kinds, steps))
+    def __init__(self, down: Any, kinds: bytes, steps: Tuple[Any, ...], emits: Optional[Leaf] = None):
+        self.down, self._steps, self._emits = down, tuple(zip(kinds, steps)), emits
         at = down if isinstance(down, (Leaf, Root)) else getattr(down.on_next, "__self__", None)
         self._at = at if isinstance(at, (Leaf, Root)) else getattr(down, "node_is", None)
 
@@ -530,37 +532,27 @@ class Chain:
             return None
         return (value,)
 
+    @property
+    def is_stopped(self) -> bool:
+        return self._emits is not None and self._emits.is_stopped
+
+    def _tells(self, tell: Callable[..., Any], *given: Any) -> None:
+        """What create() gives, and timers have, emits from anywhere, and it is told before the call ends."""
+        if self._emits is None:
+            tell(*given)
+        elif not self._emits.is_stopped:
+            call(tell, *given)
+
     def on_next(self, value: Any) -> None:
         found = self.through(value)
         if found is not None:
-            self.down.on_next(found[0])
+            self._tells(self.down.on_next, found[0])
 
     def on_error(self, error: Any) -> None:
-        self.down.on_error(error)
+        self._tells(self.down.on_error, error)
 
     def on_completed(self) -> None:
-        self.down.on_completed()
-
-
-class Emitter:
-    def __init__(self, up: Any, leaf: Leaf):
-        self._up, self._leaf = up, leaf
-
-    @property
-    def is_stopped(self) -> bool:
-        return self._leaf.is_stopped
-
-    def on_next(self, value: Any) -> None:
-        if not self._leaf.is_stopped:
-            call(self._up.on_next, value)
-
-    def on_error(self, error: Any) -> None:
-        if not self._leaf.is_stopped:
-            call(self._up.on_error, error)
-
-    def on_completed(self) -> None:
-        if not self._leaf.is_stopped:
-            call(self._up.on_completed)
+        self._tells(self.down.on_completed)
 
     def dispose(self) -> None:
         pass
@@ -783,5 +775,5 @@ def pull(up: Any, leaf: Leaf, items: Any) -> bool:
     return False
 
 
-__all__ = ["Chain", "Core", "Emitter", "Key", "Leaf", "Root", "Subject", "apart", "behind", "bind", "call", "fed", "finish", "forked", "projected",
+__all__ = ["Chain", "Core", "Key", "Leaf", "Root", "Subject", "apart", "behind", "bind", "call", "fed", "finish", "forked", "projected",
            "pull", "put_off", "queue", "raised", "subscribe", "trampolined"]

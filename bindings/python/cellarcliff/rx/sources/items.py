@@ -3,8 +3,7 @@ from __future__ import annotations
 
 from typing import Any, Callable, Iterable
 
-from .._cellar import LEAF
-from .._engine import At, C, Leaf
+from .._engine import At, C
 from .._functions import chained
 from .._observable import Observable
 from ..disposable import MultipleAssignmentDisposable
@@ -20,11 +19,9 @@ class Scheduled(Observable[Any]):
         raise NotImplementedError
 
     def _open_with(self, at: At, makes: Any) -> bool:
-        engine, leaf = at.engine, Leaf(at.engine.core)
-        leaf.is_fed = True
-        engine.open(at, LEAF, leaf)
+        engine, scheduler = at.engine, self.scheduler or at.scheduler
+        leaf = engine.source(at, scheduler is not None)
         up = chained(makes, leaf) if makes else leaf
-        scheduler = self.scheduler or at.scheduler
 
         def action(*_: Any) -> None:
             if not leaf.is_stopped:
@@ -60,10 +57,9 @@ class Stepwise(Observable[Any]):
         self._items, self._scheduler = items, scheduler
 
     def _open_with(self, at: At, makes: Any) -> bool:
-        engine, leaf = at.engine, Leaf(at.engine.core)
-        leaf.is_fed = True
-        engine.open(at, LEAF, leaf)
-        up, items, scheduler = chained(makes, leaf), iter(self._items()), self._scheduler or at.scheduler
+        engine, scheduler = at.engine, self._scheduler or at.scheduler
+        leaf = engine.source(at, scheduler is not None)
+        up, items = chained(makes, leaf), iter(self._items())
 
         def step() -> bool:
             """Whether there is more."""

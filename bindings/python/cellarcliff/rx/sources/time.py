@@ -21,7 +21,7 @@ class Timer(Observable[Any]):
     def _open_with(self, at: At, makes: Any) -> bool:
         engine, leaf = at.engine, Leaf(at.engine.core)
         engine.open(at, LEAF, leaf)
-        emitter = C.Emitter(chained(makes, leaf), leaf)
+        emitter = C.Chain(chained(makes, leaf), b"", (), leaf)
         if not leaf.is_stopped:
             engine.hold(leaf, self._start, self._scheduler or at.scheduler or TimeoutScheduler.singleton(), emitter)
         return True

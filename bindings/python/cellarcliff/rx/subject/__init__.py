@@ -5,8 +5,7 @@ import math
 from typing import TYPE_CHECKING, Any, Dict, List, Optional, TypeVar
 
 from ..._nearest import lacking
-from .._cellar import LEAF
-from .._engine import At, C, Leaf
+from .._engine import At, C
 from .._functions import chained
 from .._observable import Observable, create
 from .._observer import Observer
@@ -87,9 +86,7 @@ class Subject(_Base, Observable[S], Observer):
 
     def _open_here(self, at: At, makes: Any) -> bool:
         self.check_disposed()
-        leaf = Leaf(at.engine.core)
-        leaf.is_fed = True
-        at.engine.open(at, LEAF, leaf)
+        leaf = at.engine.source(at)
         up = chained(makes, leaf) if makes else leaf
         if not leaf.is_stopped and not self._join(up, leaf):
             self._tell_end(up)

@@ -1,0 +1,223 @@
+"""Roots that need no engine, told without it and again by it: the same programs at random tell the same, in the same order.
+
+CELLARCLIFF_PIPELINES says how many programs there are (400); `python3 -m tests.test_alone FIRST MANY` runs those of other seeds.
+"""
+import os
+import random
+import sys
+import unittest
+
+from cellarcliff import rx
+from cellarcliff.rx import operators as ops
+from cellarcliff.rx.disposable import Disposable
+from cellarcliff.rx.subject import AsyncSubject, BehaviorSubject, ReplaySubject, Subject
+from tests import kits
+
+FIRST, MANY = 0, int(os.environ.get("CELLARCLIFF_PIPELINES", "400"))
+
+
+class Planned(Exception):
+    """What callbacks raise."""
+
+
+class Interrupt(BaseException):
+    """What leaves a call at once."""
+
+
+class Program:
+    """Made of a seed; its callbacks emit, end, subscribe, dispose and raise."""
+
+    def __init__(self, seed, is_alone, interrupts=False):
+        self.random, self.interrupts = random.Random(seed), interrupts
+        self.engine = rx.use(kits.fresh_engine())
+        self.engine.leaves_alone = is_alone
+        self.trace, self.subscriptions, self.told, self.depth, self.kept = [], [], {}, 0, []
+        self.left = self.random.choice((20, 60, 200))  # how many things callbacks do in all
+        kinds = (Subject, Subject, Subject, lambda: BehaviorSubject(0), lambda: ReplaySubject(2), AsyncSubject)
+        self.subjects = [self.random.choice(kinds)() for _ in range(3)]
+        self.sources = [self.source(3) for _ in range(5)] + self.subjects[:2]
+
+    # what is subscribed to
+
+    def source(self, depth):
+        rand, kind = self.random, self.random.randrange(12)
+        if depth <= 0 or kind < 4:
+            return rand.choice(self.subjects)
+        if kind == 4:
+            return rand.choice([lambda: rx.of(1, 2, 3), lambda: rx.range(0, 3), lambda: rx.empty(), lambda: rx.just(4), lambda: rx.from_callable(self.called),
+                                lambda: rx.throw(ValueError("thrown")), lambda: rx.from_iterable(self.items()), lambda: rx.never()])()
+        if kind == 5:
+            return self.created()
+        below = self.source(depth - 1)
+        if kind < 10:
+            return below.pipe(rand.choice([
+                lambda: ops.map(self.function(lambda it: it + 1)), lambda: ops.filter(self.function(lambda it: it % 3 != 1)), lambda: ops.take(2),
+                lambda: ops.scan(self.function(lambda a, b=1: (a + b) % 9)), lambda: ops.skip(1), lambda: ops.distinct_until_changed(),
+                lambda: ops.do_action(self.function(lambda it: None)), lambda: ops.to_list(), lambda: ops.take_while(lambda it: it != 5)])())
+        return self.by_engine(below, depth)
+
+    def by_engine(self, below, depth):
+        if self.interrupts:  # what hears of one subject alone, since those that heard nothing hear it in any order
+            return below.pipe(self.random.choice([lambda: ops.start_with(7), lambda: ops.finally_action(lambda: None)])())
+        other = self.source(depth - 2)
+        return self.random.choice([
+            lambda: below.pipe(ops.flat_map(lambda _: other)), lambda: below.pipe(ops.flat_map_latest(lambda _: other)), lambda: rx.merge(below, other),
+            lambda: below.pipe(ops.take_until(other)), lambda: below.pipe(ops.start_with(7)), lambda: below.pipe(ops.share()),
+            lambda: rx.using(lambda: Disposable(lambda: self.note("released")), lambda _: below), lambda: rx.zip(below, other),
+            lambda: below.pipe(ops.finally_action(lambda: self.note("finally")))])()
+
+    def created(self):
+        answer = self.random.choice((lambda: None, lambda: Disposable(lambda: self.note("left")), lambda: lambda: self.note("called")))
+        what, kept = self.random.randrange(4), self.subjects[0]
+
+        def subscribe(observer, _):
+            self.kept.append(observer)  # else it is collected, where it holds nothing
+            self.act()
+            if what < 3:
+                observer.on_next(1)
+                self.act()
+                observer.on_next(2)
+            if what == 1:
+                observer.on_completed()
+            if what == 2:
+                kept.subscribe(observer)
+            return answer()
+        return rx.create(subscribe)
+
+    def items(self):
+        for it in (1, 2, 3):
+            self.act()
+            yield it
+
+    def called(self):
+        self.act()
+        return 6
+
+    def function(self, call):
+        """A function that does something now and then."""
+        def work(*given):
+            self.note(("function", given))
+            if not self.interrupts and self.random.random() < 0.1:
+                self.act()
+            if not self.interrupts and self.random.random() < 0.02:
+                raise Planned("function")
+            try:
+                return call(*given)
+            except TypeError:
+                return 0
+        return work
+
+    # what is done
+
+    def note(self, it):
+        self.trace.append(it)
+
+    def attempt(self, call, *given):
+        try:
+            return call(*given)
+        except (Exception, Interrupt) as error:
+            self.note((type(error).__name__, str(error)))
+            return type(error)
+
+    def subscribe(self):
+        name, fails, told = len(self.told), self.random.random() < 0.1, []
+        own = random.Random(name)
+        self.told[name] = told
+
+        def tell(*it):
+            self.note((name, *it))
+            told.append(it)
+            self.depth += 1
+            try:
+                if self.interrupts:
+                    if own.random() < 0.1:
+                        raise Interrupt
+                elif self.depth < 5 and self.random.random() < 0.5:
+                    self.act()
+                if fails and own.random() < 0.3:
+                    raise Planned(name)
+            finally:
+                self.depth -= 1
+            self.note((name, "heard"))
+        words = (lambda it: tell("next", repr(it)), lambda error: tell("error", str(error)), lambda: tell("completed"))
+        at = len(self.subscriptions)
+        self.subscriptions.append(None)
+        found = self.attempt(self.random.choice(self.sources).subscribe, *words)
+        self.subscriptions[at] = found if hasattr(found, "dispose") else None
+
+    def act(self, is_within=True):
+        """Something, of which there is not too much; where calls are interrupted nothing from within, since what they left comes in any order."""
+        if self.left <= 0 or is_within and self.interrupts:
+            return
+        self.left -= 1
+        rand, kind, subject = self.random, self.random.randrange(20), self.random.choice(self.subjects)
+        self.note(("begins", kind))
+        if kind < 11:
+            self.attempt(subject.on_next, rand.randrange(6))
+        elif kind == 11:
+            self.attempt(subject.on_completed if rand.random() < 0.7 else lambda: subject.on_error(ValueError("failed")))
+        elif kind < 16:
+            self.subscribe()
+        elif kind < 19 and self.subscriptions:
+            found = rand.choice(self.subscriptions)
+            if found is not None:
+                self.attempt(found.dispose)
+        elif not self.depth:
+            self.note(tuple(self.engine.counts()[:2]))
+        self.note("done")
+
+    def run(self, actions=30):
+        for _ in range(4):
+            self.subscribe()
+        for at in range(actions):
+            self.left += 1
+            self.act(False)
+            while self.interrupts and self.attempt(self.engine.core.serve_left) is Interrupt:
+                pass
+            self.note((at, self.engine.counts()[:3], self.engine.counts().effects if not self.interrupts else 0))
+            if self.random.random() < 0.05:
+                self.subjects[self.random.randrange(3)] = Subject()
+        self.attempt(self.engine.core.serve_left)
+        for it in self.subscriptions:
+            if it is not None:
+                self.attempt(it.dispose)
+        self.note(self.engine.counts()[:3])
+        self.note(self.engine.counts().effects)
+        return self
+
+
+@unittest.skipUnless(kits.is_exact(), "without the extension all are told by the engine")
+class Alone(unittest.TestCase):
+    def setUp(self):
+        self.unhandled = []
+        rx.set_error_hook(self.unhandled.append)
+
+    def tearDown(self):
+        rx.set_error_hook(None)
+        rx.use(None)
+
+    def run_one(self, seed, is_alone, **words):
+        self.unhandled.clear()
+        program = Program(seed, is_alone, **words).run()
+        return program, [*program.trace, [repr(it) for it in self.unhandled]]
+
+    def test_the_same_is_told_in_the_same_order(self):
+        for seed in range(FIRST, FIRST + MANY):
+            (_, by_engine), (program, found) = self.run_one(seed, False), self.run_one(seed, True)
+            if found != by_engine:
+                at = next((i for i, (a, b) in enumerate(zip(by_engine, found)) if a != b), min(len(by_engine), len(found)))
+                self.fail(f"seed {seed}, at {at}\n by the engine {by_engine[max(0, at - 12):at + 8]}\n alone         {found[max(0, at - 12):at + 8]}")
+            program.engine.close()
+            self.assertEqual((program.engine.counts()[:3], program.engine.core.kept), ((0, 0, 0), 0), seed)
+
+    def test_each_hears_the_same_where_calls_are_left(self):
+        for seed in range(FIRST, FIRST + MANY):
+            (a, _), (b, _) = (self.run_one(seed, it, interrupts=True) for it in (False, True))
+            self.assertEqual(a.told, b.told, seed)
+
+
+if __name__ == "__main__":
+    if len(sys.argv) == 3:
+        FIRST, MANY = map(int, sys.argv[1:])
+        del sys.argv[1:]
+    unittest.main()
