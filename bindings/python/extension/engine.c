@@ -995,7 +995,8 @@ static uint64_t roles_of(const struct cellar_command *c) {
 typedef struct {
   struct cellar_command c;
   PyObject *thing, *share;
-  Key *node, *other;
+  Key *node, *other; /* other: of a connection that is asked for */
+  struct cellar_node opened;
   int is_exchange, is_connected;
   uint8_t status;
 } Opening;
@@ -1017,7 +1018,7 @@ static int opened(Core *core, Opening *it) {
   if (c->flags & CELLAR_WISHES) core->wishes++;
   if (it->node) it->node->node = s.node;
   if (it->other) it->other->node = s.other;
-  it->is_connected = s.is_connected && c->what == CELLAR_OPEN;
+  it->is_connected = s.is_connected && c->what == CELLAR_OPEN, it->opened = s.other;
   if (thing != Py_None) {
     PyObject *hears = ITEM(thing, 0), *close = ITEM(thing, 1);
     int is_root = c->place == CELLAR_ROOT && c->what != CELLAR_CONNECT;
@@ -1110,10 +1111,10 @@ static PyObject *core_share(Core *self, PyObject *const *given, Py_ssize_t many)
   PyObject *answer = NULL;
   if (!asked_for(&it.c, given, many, 7) || !number(given[3], &it.c.value) || !number(given[4], &it.c.hub)) return NULL;
   it.thing = given[2], it.share = given[5] == Py_None ? NULL : given[5], it.is_exchange = given[6] == Py_True;
-  it.node = new_key(), it.other = it.node ? new_key() : NULL;
-  if (it.other && !opened(self, &it)) {
-    PyObject *connection = it.share || it.is_connected ? (PyObject *)it.other : Py_None;
-    answer = Py_BuildValue("(iOOK)", it.status, it.node, connection, it.c.hub);
+  it.node = new_key(), it.other = it.node && it.share ? new_key() : NULL;
+  if (it.node && (it.other || !it.share) && !opened(self, &it)) {
+    if (it.is_connected && (it.other = new_key())) it.other->node = it.opened;
+    answer = Py_BuildValue("(iOOK)", it.status, it.node, it.other ? (PyObject *)it.other : Py_None, it.c.hub);
   }
   Py_XDECREF(it.node), Py_XDECREF(it.other);
   return answer;
@@ -1146,14 +1147,14 @@ static PyObject *core_serve_left(Core *self, PyObject *Py_UNUSED(unused)) {
   struct Mine *here = enter(&outer);
   return none_or_null(leave(here, &outer, go_through(self, 0), 0));
 }
-/* A root, which is to be alone: its leaf. */
-static PyObject *core_alone(Core *self, PyObject *root) {
-  if (!is_a(root, root_type)) return PyErr_Format(PyExc_TypeError, "a root is wanted");
-  if (self->generation != generation) return none_or_null(refused(CELLAR_GONE));
+/* A leaf for somebody who feeds it, and of a root, or None, one alone. */
+static PyObject *core_leaf(Core *self, PyObject *root) {
+  if (root != Py_None && (!is_a(root, root_type) || self->generation != generation)) return none_or_null(refused(CELLAR_GONE));
   Leaf *leaf = (Leaf *)PyType_GenericAlloc(leaf_type, 0);
   if (!leaf) return NULL;
-  leaf->core = (Core *)new_of((PyObject *)self), leaf->above = new_of(root);
-  leaf->node.slot = leaf->node.number = UINT64_MAX, leaf->way = ALONE, leaf->is_fed = 1, ((Root *)root)->alone = leaf;
+  leaf->core = (Core *)new_of((PyObject *)self), leaf->is_fed = 1, leaf->node.slot = leaf->node.number = UINT64_MAX;
+  if (root == Py_None) return (PyObject *)leaf;
+  leaf->above = new_of(root), leaf->way = ALONE, ((Root *)root)->alone = leaf;
   put_first(leaf, &self->alone);
   return (PyObject *)leaf;
 }
@@ -1180,7 +1181,7 @@ static void core_dealloc(Core *self) {
 static PyMethodDef core_methods[] = {
     {"open", FAST(core_open), METH_FASTCALL, NULL}, {"using", FAST(core_using), METH_FASTCALL, NULL}, {"hold", (PyCFunction)core_hold, METH_VARARGS, NULL},
     {"share", FAST(core_share), METH_FASTCALL, NULL}, {"do", FAST(core_do), METH_FASTCALL, NULL}, 
-    {"serve_left", (PyCFunction)core_serve_left, METH_NOARGS, NULL}, {"alone", (PyCFunction)core_alone, METH_O, NULL}, {NULL, NULL, 0, NULL}};
+    {"serve_left", (PyCFunction)core_serve_left, METH_NOARGS, NULL}, {"leaf", (PyCFunction)core_leaf, METH_O, NULL}, {NULL, NULL, 0, NULL}};
 static PyGetSetDef core_getset[] = {{"address", (getter)core_address, NULL, NULL, NULL}, {"first_alone", (getter)core_first_alone, NULL, NULL, NULL}, {NULL, NULL, NULL, NULL, NULL}};
 static PyMemberDef core_members[] = {{"kept", T_LONGLONG, offsetof(Core, kept), READONLY, NULL}, {"many_alone", T_LONGLONG, offsetof(Core, many_alone), READONLY, NULL},
                                      {"waiting", T_LONGLONG, offsetof(Core, waiting), READONLY, NULL}, {NULL, 0, 0, 0, NULL}};

@@ -311,6 +311,14 @@ class InSteps(Case):
 
 
 class Small(Case):
+    def test_a_composition_that_is_closed_as_it_is_opened(self):
+        subject, told = Subject(), []
+        subject.pipe(ops.flat_map(lambda _: rx.of(5, 6).pipe(ops.concat_map(lambda _: rx.range(3)))),
+                     ops.timeout_with_mapper(rx.merge(subject, rx.never()), lambda _: subject, subject)).subscribe(told.append)
+        subject.on_next(1)
+        subject.on_next(2)
+        self.assertEqual(told, [2])
+
     def test_each_kind_of_subject_raises_what_an_observer_raised(self):
         for make in Subject, ReplaySubject, lambda: BehaviorSubject(None), AsyncSubject:
             subject, told = make(), []

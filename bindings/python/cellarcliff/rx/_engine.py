@@ -56,21 +56,17 @@ class Totals(NamedTuple):
 class At:
     """A place at which an observable opens something."""
 
-    __slots__ = ("engine", "place", "above", "root", "scheduler", "is_exchange", "flags", "top", "node", "holder")
+    is_exchange = False  # whether what stands at this place gives way
+    flags = 0
+    node: Any = None  # what was opened here
 
-    def __init__(self, engine: "Engine", place: int, above: Any, root: Any, scheduler: Any, is_exchange: bool = False, top: Any = None,
-                 flags: int = 0):
+    def __init__(self, engine: "Engine", place: int, above: Any, root: Any, scheduler: Any, top: Any = None, holder: Any = None):
         self.engine, self.place, self.above, self.root, self.scheduler = engine, place, above, root, scheduler
-        self.is_exchange = is_exchange  # whether what stands at this place gives way
-        self.top = top if root is None else root  # the root of the subscription, if there is one
-        self.flags = flags
-        self.node: Any = None  # what was opened here
-        self.holder: Any = root  # the nearest root or leaf above, or what was opened here: what is open below holds it
+        self.top = root or top  # the root of the subscription, if there is one
+        self.holder = root or holder  # the nearest root or leaf above, or what was opened here: what is open below holds it
 
     def below(self, place: int, above: Any) -> "At":
-        at = At(self.engine, place, above, None, self.scheduler, False, self.top)
-        at.holder = self.holder
-        return at
+        return At(self.engine, place, above, None, self.scheduler, self.top, self.holder)
 
     def inside(self, above: Any) -> "At":
         """The place below a node that has this source alone."""
@@ -103,11 +99,12 @@ class Engine:
 
     def source(self, at: At, holds: bool = False) -> Any:
         """Opens a source, which may hold something: its leaf, for who tells it something, and holds it."""
+        root = at.root
         if self.leaves_alone and at.place == ROOT and at.above is None and not holds:
-            return self.core.alone(at.root)
-        leaf = Leaf(self.core)
-        leaf.is_fed = True
-        self.open(at, LEAF, leaf)
+            return self.core.leaf(root)
+        leaf = self.core.leaf(None)
+        leaf.above, at.holder = at.holder, leaf
+        at.node = self.core.open(OPEN | at.place << 8 | LEAF << 16 | (at.flags | WISHES) << 24, at.above, (root, leaf, None), None, at.is_exchange)
         return leaf
 
     def using(self, at: At, factory: Callable[[], Any]) -> Tuple[At, Any]:
@@ -176,20 +173,20 @@ class Engine:
 
     # shares
 
-    def share(self, at: At, share: Any, leaf: Any, level: int) -> Tuple[int, Any]:
+    def share(self, at: At, share: Any, leaf: Any) -> Tuple[int, Any]:
         """Opens a subscriber of a share, with the leaf that stops as it closes: the status, and the connection if there is a new one."""
         leaf.above = at.holder
-        status, node, connection, hub = self.core.share(OPEN | at.place << 8 | share.kind << 16 | (at.flags | WISHES) << 24 | level << 32, at.above,
-                                                        (at.root, leaf, None), share.word, share.hub, None, at.is_exchange)
+        status, node, connection, hub = self.core.share(share.opens | at.place << 8 | at.flags << 24, at.above, (at.root, leaf, None), share.word,
+                                                        share.hub, None, at.is_exchange)
         if status == 0:
             at.node, share.hub = node, hub
         elif status not in (HUB_ORDER, NO_HUB):
             refuse(status)
         return status, connection
 
-    def connect(self, share: Any, leaf: Any, level: int) -> Any:
+    def connect(self, share: Any, leaf: Any) -> Any:
         """The connection, if there was none, with the leaf that is called as it closes."""
-        status, _, connection, hub = self.core.share(CONNECT | WISHES << 24 | level << 32, None, (None, leaf, None), share.word, share.hub, share, False)
+        status, _, connection, hub = self.core.share(CONNECT | WISHES << 24 | share.level << 32, None, (None, leaf, None), share.word, share.hub, share, False)
         if status == CONNECTED:
             return None
         if status:

@@ -27,10 +27,13 @@ class Link:
         self._roots: Dict[Any, None] = {}
         self._held: List[Any] = []  # timers
         self._is_ending = False  # whether the end of a source is being heard
+        self._keeper = Root(at.engine.core, noop, noop, noop)
         leaf.is_fed, leaf.on_closed = True, self._closed
         self.engine.open(at, LEAF, leaf)
-        self._keeper = Root(at.engine.core, noop, noop, noop)
-        self.engine.open(At(at.engine, ROOT, None, self._keeper, None), LEAF)
+        if not leaf.is_stopped:  # what is under way may end what it stands below, as it is opened
+            self.engine.open(At(at.engine, ROOT, None, self._keeper, None), LEAF)
+            if leaf.is_stopped:
+                self._keeper.dispose()
         self.up = chained(makes, _Last(self))
         self.on_next = self.up.on_next
 
@@ -103,7 +106,8 @@ class Link:
             return root
         roots = self._roots
         roots[root] = None
-        at = At(self.engine, ROOT, self._keeper, root, scheduler or self.scheduler, flags=LANE_OF_NODE)
+        at = At(self.engine, ROOT, self._keeper, root, scheduler or self.scheduler)
+        at.flags = LANE_OF_NODE
         try:
             C.fed(C.subscribe, root, open_root, to_observable(source), at)
         except Exception as error:

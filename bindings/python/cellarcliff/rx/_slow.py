@@ -283,6 +283,12 @@ class Core:
 
     # commands of the operators
 
+    def leaf(self, _: Any) -> "Leaf":
+        """A leaf for somebody who feeds it."""
+        leaf = Leaf(self)
+        leaf.is_fed = True
+        return leaf
+
     def _opened(self, what: int, above: Any, thing: Any, value: int, hub: int = 0, share: Any = None, is_exchange: bool = False) -> Tuple[int, List[int]]:
         command, place, kind, flags = what & 255, what >> 8 & 255, what >> 16 & 255, what >> 24 & 255
         roles = flags & WISHES

@@ -193,11 +193,11 @@ class Watched(Engine):
             kept[0].node = node.number
         return answer.resource if isinstance(answer, _Kept) else answer
 
-    def connect(self, share: Any, leaf: Any, level: int) -> Any:
+    def connect(self, share: Any, leaf: Any) -> Any:
         made = Made("connection", repr(share.source), None, None, self._skipped)
         leaf.on_closed = self._keep(made, leaf.on_closed)
         try:
-            connection = super().connect(share, leaf, level)
+            connection = super().connect(share, leaf)
         except BaseException:
             self._kept.pop(id(made), None)
             raise

@@ -39,8 +39,8 @@ class Merging(Observable[Any]):
         def project(value: Any) -> None:
             if node_is.is_stopped:
                 return
-            at = At(engine, INNER, node, None, scheduler, is_switch, top)
-            at.holder = node_is
+            at = At(engine, INNER, node, None, scheduler, top, node_is)
+            at.is_exchange = is_switch
             try:
                 opens(value, at)
             except Refused as why:

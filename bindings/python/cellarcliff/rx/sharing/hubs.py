@@ -3,10 +3,10 @@ from __future__ import annotations
 
 import threading
 from itertools import count
-from typing import Any, Callable, Dict, List, Optional
+from typing import Any, Callable, List, Optional
 
-from .._cellar import HUB_ORDER, NO_HUB, PUBLISHED, SHARED, SOURCE, UNKNOWN_HUB
-from .._engine import At, C, Engine, Leaf, current, refuse
+from .._cellar import HUB_ORDER, NO_HUB, OPEN, PUBLISHED, SHARED, SOURCE, UNKNOWN_HUB, WISHES
+from .._engine import At, C, Engine, current, refuse
 from .._functions import linked
 from .._observable import Observable, open_below, to_observable
 from ..disposable import CompositeDisposable, Disposable
@@ -24,8 +24,9 @@ class _Share:
         self.source, self.kind, self.word = source, kind, next(_words)
         self.hub = UNKNOWN_HUB  # the last that it had
         self._engine: Any = None  # in which that is
-        self._subscribers: Dict[Any, None] = {}  # their leaves: held by what is below the connection
+        self._subscribers = C.Subject()  # of their leaves, while they are open: held by what is below the connection
         self._level: Optional[int] = None
+        self._opens = 0
 
     @property
     def level(self) -> int:
@@ -34,31 +35,34 @@ class _Share:
             self._level = level(self.source)
         return self._level
 
+    @property
+    def opens(self) -> int:
+        """The command that opens a subscriber, but for its place."""
+        self._opens = self._opens or OPEN | self.kind << 16 | WISHES << 24 | self.level << 32
+        return self._opens
+
     def open(self, at: At) -> int:
         """Opens a subscriber: 0, HUB_ORDER where the order of hubs forbids it there, or NO_HUB."""
-        leaf = self._leaf(at.engine, lambda: self._subscribers.pop(leaf, None))
-        self._subscribers[leaf] = None
-        status = NO_HUB
+        leaf, status = at.engine.core.leaf(None), NO_HUB
+        self._subscribers._join(leaf, leaf)
         try:
-            status, connection = at.engine.share(at, self, leaf, self.level)
+            status, connection = at.engine.share(at, self, leaf)
         finally:
             if status:
-                del self._subscribers[leaf]
+                del self._subscribers._ups[leaf]
         if connection is not None:
             self._open_source(at.engine, connection, self._leaf(at.engine, self._closed), at.scheduler)
         return status
 
     @staticmethod
     def _leaf(engine: Engine, closed: Callable[[], Any]) -> Any:
-        leaf = Leaf(engine.core)
-        leaf.is_fed, leaf.on_closed = True, closed
+        leaf = engine.core.leaf(None)
+        leaf.on_closed = closed
         return leaf
 
     def _open_source(self, engine: Engine, connection: Any, leaf: Any, scheduler: Any) -> None:
         """Opens the source below a connection, whose leaf is held by what feeds it."""
-        at = At(engine, SOURCE, connection, None, scheduler)
-        at.holder = leaf
-        open_below(self.source, at)
+        open_below(self.source, At(engine, SOURCE, connection, None, scheduler, None, leaf))
 
     def _closed(self) -> None:
         self.connection = None
@@ -71,7 +75,7 @@ class _Share:
     def connect(self, engine: Engine, scheduler: Any) -> Any:
         """The connection, which is made if there is none."""
         leaf, self._engine = self._leaf(engine, self._closed), engine
-        connection = engine.connect(self, leaf, self.level)
+        connection = engine.connect(self, leaf)
         if connection is None:
             return self.connection
         C.trampolined(self._open_source, engine, connection, leaf, scheduler)
