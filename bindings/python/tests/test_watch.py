@@ -193,6 +193,17 @@ class Watching(unittest.TestCase):
         self.assertEqual(re.findall(r'File "(.*?)"', said.stderr)[0].rpartition("/")[2], "program.py")
         self.assertNotIn("__main__", said.stderr)
 
+    @unittest.skipUnless(os.name == "posix", "an interrupt ends a process by its status elsewhere")
+    def test_a_program_that_is_interrupted(self):
+        text = "import os, rx, signal\nheld = rx.never().subscribe()\nprint('told')\nos.kill(os.getpid(), signal.SIGINT)\nsignal.pause()\n"
+        with tempfile.TemporaryDirectory() as folder:
+            (pathlib.Path(folder) / "program.py").write_text(text)
+            for words in ["program.py"], ["-m", "program"]:
+                said = watched(*words, cwd=folder)
+                self.assertEqual((said.returncode, said.stdout, len(self.rows(said))), (-signal.SIGINT, "told\n", 1), said.stderr)
+                self.assertRegex(said.stderr, r'^Traceback .*\n  File ".*program.py", line [45], in <module>\n')
+                self.assertNotRegex(said.stderr, "runpy|__main__")
+
     def test_what_only_a_cycle_holds_is_no_leak(self):
         said = of_text("""
             import rx

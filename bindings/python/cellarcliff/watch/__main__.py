@@ -23,12 +23,13 @@ import signal
 import sys
 import threading
 import types
-from typing import Any, Dict, List
+from typing import Any, Callable, Dict, List
 
 from . import at_end, begin, on_signal, report, reports
 
 
 _kept: List[Any] = []
+INTERRUPTED = object()
 
 
 class Words:
@@ -113,11 +114,33 @@ def end() -> None:
     atexit._run_exitfuncs()
 
 
+def status_of(call: Callable[[], Any]) -> Any:
+    """Calls, and prints what that raises, without the rows of this module and of runpy: the status."""
+    try:
+        call()
+    except SystemExit as ended:
+        return ended.code
+    except BaseException as error:
+        trace = error.__traceback__
+        while trace is not None and any(trace.tb_frame.f_globals is it for it in (globals(), vars(runpy))):
+            trace = trace.tb_next
+        sys.excepthook(type(error), error.with_traceback(trace), trace)
+        return INTERRUPTED if isinstance(error, KeyboardInterrupt) else 1
+    return 0
+
+
+def interrupt() -> None:
+    """Ends the process as the interpreter does that was interrupted."""
+    sys.stdout.flush()
+    sys.stderr.flush()
+    signal.signal(signal.SIGINT, signal.SIG_DFL)
+    os.kill(os.getpid(), signal.SIGINT)
+
+
 def main() -> None:
     words = Words(sys.argv[1:])
     begin(words.whole)
     on_signal()
-    status: Any = 0
     left: List[Any] = []
 
     def tell() -> None:
@@ -127,19 +150,10 @@ def main() -> None:
             write(what, file)
     at_term(tell)
     at_end(tell)  # behind what the program registers itself, which may let go of something
-    try:
-        run(words)
-    except SystemExit as ended:
-        status = ended.code
-    except Exception as error:
-        trace = error.__traceback__
-        for _ in range(2):  # without the rows of this module
-            trace = trace.tb_next if trace is not None else None
-        sys.excepthook(type(error), error.with_traceback(trace), trace)
-        status = 1
-    finally:
-        end()
-    sys.exit(3 if words.fails and left and status in (0, None) else status)
+    status, ended = status_of(lambda: run(words)), status_of(end)
+    if INTERRUPTED in (status, ended):
+        interrupt()
+    sys.exit(3 if words.fails and left and status in (0, None) else status or ended)
 
 
 if __name__ == "__main__":
