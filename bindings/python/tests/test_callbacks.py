@@ -13,6 +13,7 @@ from cellarcliff.rx.core.notification import OnCompleted, OnNext
 from cellarcliff.rx.disposable import Disposable
 from cellarcliff.rx.internal import SequenceContainsNoElementsError
 from cellarcliff.rx.subject import AsyncSubject, BehaviorSubject, ReplaySubject, Subject
+from cellarcliff.rx.testing import TestScheduler
 from tests.kits import fresh_engine, is_exact, is_model, rxpy
 
 
@@ -311,6 +312,32 @@ class InSteps(Case):
 
 
 class Small(Case):
+    def test_an_item_as_old_as_the_span_is_one_of_the_last(self):
+        clock, subject, told = TestScheduler(), Subject(), []
+        subject.pipe(ops.take_last_with_time(0.5, scheduler=clock)).subscribe(told.append)
+        subject.on_next(1)
+        clock.advance_by(0.5)
+        subject.on_completed()
+        self.assertEqual(told, [1])
+
+    def test_no_function_is_called_behind_dispose(self):
+        subject, opened, subscriptions = Subject(), [], {}
+        subject.subscribe(lambda _: subscriptions[2].dispose())
+        for key in 1, 2:
+            toggled = ops.window_toggle(subject, lambda value, key=key: (opened.append((key, value)), rx.never())[1])
+            subscriptions[key] = subject.pipe(toggled, ops.flat_map(ops.to_list())).subscribe()
+        subject.on_next("item")
+        self.assertEqual(opened, [(1, "item")])
+
+    def test_a_notifier_that_completed_says_nothing_and_holds_nothing(self):
+        clock, told, left = TestScheduler(), [], []
+        late = rx.empty().pipe(ops.timeout_with_mapper(rx.timer(0.5, scheduler=clock), None, rx.of(3)))
+        made = rx.create(lambda observer, _: (observer.on_completed(), Disposable(lambda: left.append("create")))[1])
+        for it in late, made:
+            rx.never().pipe(ops.take_until(it)).subscribe(told.append, None, lambda: told.append("end"))
+        clock.advance_by(1.0)
+        self.assertEqual((told, left), ([], ["create"]))
+
     def test_a_composition_that_is_closed_as_it_is_opened(self):
         subject, told = Subject(), []
         subject.pipe(ops.flat_map(lambda _: rx.of(5, 6).pipe(ops.concat_map(lambda _: rx.range(3)))),

@@ -102,8 +102,8 @@ class Fn(Observable[Any]):
             return
         if at.root is not None and is_hot:
             self._at_root(core, at, makes)
-        elif is_hot and any(type(it) is not Make for it in makes):
-            linked(core, at, makes)
+        elif manner == KEEPING or is_hot and any(type(it) is not Make for it in makes):
+            linked(core, at, makes)  # an end that is kept is one of the source's all the same
         elif core._open_with(at, makes):
             pass
         elif at.root is not None:

@@ -39,6 +39,8 @@ class Link:
 
     def _closed(self) -> None:
         roots, self._roots, held, self._held = self._roots, {}, self._held, []
+        for it in roots:
+            it.is_stopped = True  # what stands in the lane for one of them is not told as another goes
         for it in (*reversed(tuple(roots)), self._keeper):
             it.dispose()
         for it in held:

@@ -467,10 +467,10 @@ class _LastOf(Stage):
 
     def on_completed(self) -> None:
         now = self._clock.now
-        self._trim(now)
-        if not self._is_skip:
-            while self._queue:
-                at, value = self._queue.popleft()
+        if self._is_skip:
+            self._trim(now)
+        else:
+            for at, value in self._queue:
                 if now - at <= self._span:
                     self.down.on_next(value)
         self.down.on_completed()
