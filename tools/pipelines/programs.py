@@ -274,6 +274,61 @@ def made(seed, manner, threads=1):
     return Maker(seed, manner, threads).program()
 
 
+# as functions: what a trial runs, since a program that is compiled takes longer than its run
+
+def _made_into_functions():
+    """Of each word a function of what its text names: the source, expressions (functions of their own), callbacks, numbers."""
+    found = {}
+    for form, text in FORMS.items():
+        names = [f"x{i}" for i in range(len(slots(form)))]
+        values = [names[slots(form).index("n")] if it == "same" else f"{name}()" if it in "eh" else name for name, it in zip(names, slots(form))]
+        parts = text.split("{")
+        text = parts[0] + "".join(value + part.split("}", 1)[1] for value, part in zip(values, parts[1:]))
+        text = f"source().pipe({text})" if form in OPERATORS else text
+        source = ["source"] if form in OPERATORS else []
+        given = [name for name, it in zip(names, slots(form)) if it != "same"]
+        found[form] = eval(f"lambda {', '.join(['w', 'rx', 'ops', 's', *source, *given])}: {text}")
+    return found
+
+
+_FUNCTIONS = _made_into_functions()
+
+
+def _function(it, w):
+    """An expression as a function that builds it."""
+    call, rest = _FUNCTIONS[it[0]], [_function(part, w) if isinstance(part, list) else part for part in it[1:]]
+    return lambda: call(w, w.rx, w.ops, w.subjects, *rest)
+
+
+def run(program, w):
+    """Does a program over a world, as its text does."""
+    w.deeds = program["deeds"]
+    for kind in program["subjects"]:
+        w.subject(kind)
+    for it in program["shared"]:
+        w.shared.append(_function(it, w)())
+    for it in program["pipelines"]:
+        w.pipelines.append(_function(it, w)())
+    w.kept, w.is_collected = kept(program), not STAYS & set(forms(program))
+    is_plain = program["manner"] == "plain"
+    w.begin(program["first"], is_calm=is_plain)
+    w.run(*program["steps"])
+    if is_plain:
+        w.expects(*expected(program))
+
+
+def kept(program):
+    """Whose subscriptions a program disposes of."""
+    done = [program["first"], *program["steps"], *(those for calls in program["deeds"].values() for those in calls.values())]
+    return {it[1] for deeds in done for it in deeds if it[0] == "dispose"}
+
+
+def expected(program):
+    """How often each item comes to each observer of a plain program, and whether in order: inner observables of one bound have no order between them,
+    where several threads tell them."""
+    return ways(program), len(program["steps"]) == 1 or "merge_2_just" not in forms(program)
+
+
 # as Python
 
 def written(it):
@@ -300,14 +355,11 @@ def as_python(program, package="cellarcliff.rx"):
              f"    w.deeds = {program['deeds']}", f"    s = [w.subject(kind) for kind in {program['subjects']}]"]
     lines += [f"    w.shared.append({written(it)})" for it in program["shared"]]
     lines += [f"    w.pipelines.append({written(it)})" for it in program["pipelines"]]
-    first, steps = program["first"], program["steps"]
-    done = [it for deeds in [first, *steps, *(those for calls in program["deeds"].values() for those in calls.values())] for it in deeds]
-    lines.append(f"    w.kept, w.is_collected = {set(it[1] for it in done if it[0] == 'dispose')}, {not STAYS & set(forms(program))}")
+    lines.append(f"    w.kept, w.is_collected = {kept(program)}, {not STAYS & set(forms(program))}")
     is_plain = program["manner"] == "plain"
-    lines += [f"    w.begin({first}, is_calm={is_plain})", f"    w.run({', '.join(map(str, steps))})"]
+    lines += [f"    w.begin({program['first']}, is_calm={is_plain})", f"    w.run({', '.join(map(str, program['steps']))})"]
     if is_plain:
-        # inner observables of one bound have no order between them, where several threads tell them
-        lines.append(f"    w.expects({ways(program)}, {len(steps) == 1 or 'merge_2_just' not in forms(program)})")
+        lines.append("    w.expects({}, {})".format(*expected(program)))
     lines += ["", "", "if __name__ == '__main__':", f"    w = World({package!r})", "    program(w)", "    print(w.report())"]
     return "\n".join(lines) + "\n"
 

@@ -42,6 +42,7 @@ class Resource:
 
     def __init__(self, world, k):
         self.world, self.k, self.released = world, k, 0
+        self.made_in, self.released_in = world.at, None  # steps
         world.resources.append(self)
 
     def holds(self, value):
@@ -54,6 +55,7 @@ class Resource:
 
     def dispose(self):
         self.released += 1
+        self.released_in = self.world.at
         self.world.called(self.k, "release")
 
 
@@ -65,6 +67,7 @@ class Gate:
 
     def enter(self):
         self.many += 1
+        self.world.reached["a bound reached"] += self.many == self.most
         if self.many > self.most and self.world.is_ours:
             self.world.wrong("more inner observables at a time than the bound")
         return self
@@ -125,6 +128,7 @@ class World:
     def __init__(self, package="cellarcliff.rx", engine=None):
         of = lambda name: importlib.import_module(f"{package}.{name}")
         self.rx, self.ops, self.is_ours = importlib.import_module(package), of("operators"), package != "rx"
+        self.is_extension = self.is_ours and of("_crossing").IS_EXTENSION
         self.testing, self.kinds_of_subject = of("testing"), of("subject")
         self.engine = self.rx.use(engine) if self.is_ours else None
         self.clock = self.testing.TestScheduler()
@@ -133,6 +137,7 @@ class World:
         self.counts, self.subscriptions, self.reached = collections.Counter(), {}, collections.Counter()
         self.emitted, self.depth, self.is_spoiled, self.is_ordered, self.many_threads = [], threading.local(), False, True, 1
         self.lock, self.notes, self.is_calm = threading.RLock(), 0, False
+        self.at = 0  # which step is under way: those that begin are less than 0
         self.kept, self.is_collected = set(), False  # whose subscriptions are not dropped; whether nothing stays where all is dropped
         if self.is_ours:
             self.rx.set_error_hook(lambda error: self.hooked.append(type(error).__name__))
@@ -273,6 +278,7 @@ class World:
     # the course of a program
 
     def step(self, at, it):
+        self.at = at
         try:
             self.do(*it)
         except RecursionError:
@@ -283,8 +289,8 @@ class World:
     def begin(self, steps, is_calm=False):
         """Subscribes and connects; where it is calm, with nothing done from within."""
         self.is_calm = is_calm
-        for at, it in enumerate(steps):
-            self.step(-at, it)
+        for at, it in enumerate(steps, -len(steps)):
+            self.step(at, it)
         self.is_calm = False
 
     def run(self, *threads):
@@ -306,6 +312,7 @@ class World:
             for it in all_of_them:
                 it.join()
         self.is_calm = True
+        self.held = [[it.k, it.made_in, it.released_in] for it in self.resources]
         self.told = [[it.name, [list(note) for note in it.heard]] for it in self.observers]
         if self.is_ours:
             self.step("close", ("serve",))
@@ -317,8 +324,7 @@ class World:
             it.clear()
         self.clock = None
         gc.collect()
-        is_extension = self.is_ours and importlib.import_module("cellarcliff.rx._crossing").IS_EXTENSION
-        if self.is_collected and is_extension and self.engine.counts().nodes:
+        if self.is_collected and self.is_extension and self.engine.counts().nodes:
             self.wrong("something stays that nobody can tell anything")
         for _ in range(3):
             try:
@@ -365,5 +371,5 @@ class World:
         """What is compared, and what was reached. The program has ended, and holds nothing any more."""
         if self.is_ours:
             self.close()
-        return {"notes": self.told, "raised": [it for it in self.raised if it[0] != "close"], "made": len(self.resources),
+        return {"notes": self.told, "raised": [it for it in self.raised if it[0] != "close"], "made": len(self.resources), "held": self.held,
                 "found": self.found, "hooked": sorted(self.hooked), "reached": dict(self.reached), "is_long": self.notes > LONGEST}
