@@ -251,6 +251,7 @@ class Lane:
 
     now = None  # the lane that is served
     told = None  # where a subject tells all of its observers: the lanes of these
+    depth, later = 0, collections.deque()  # how many subjects are at it, and what comes behind all that is under way
 
     def __init__(self):
         self.waiting, self.is_at_work = collections.deque(), False
@@ -307,16 +308,21 @@ class InLane(Asked):
         self.told(lambda: super(InLane, self).on_next(value))
 
     def on_error(self, error):
-        self.ends(lambda: super(InLane, self).on_error(error))
+        goes_on = self.by is not None and self.by.goes_on in ("fails", "ends")
+        self.ends((lambda: self.makes_way(self._on_error, error)) if goes_on else lambda: super(InLane, self).on_error(error))
 
     def on_completed(self):
-        self.ends(self.completes if self.by is not None and self.by.goes_on else super().on_completed)
+        goes_on = self.by is not None and self.by.goes_on in ("completes", "ends")
+        self.ends((lambda: self.makes_way(self._on_completed)) if goes_on else super().on_completed)
 
-    def completes(self):
-        """What takes its place comes behind its release."""
+    def makes_way(self, call, *error):
+        """What takes its place comes behind its release, and behind what is under way."""
         if not self.is_stopped:
             self.dispose()
-            self._on_completed()
+            if Lane.depth:
+                Lane.later.append(lambda: call(*error))
+            else:
+                call(*error)
 
     def ends(self, tell):
         of = InLane.ending
@@ -339,22 +345,43 @@ def told_to_all(tell):
     """A subject puts a note into the lane of each observer, and then they are served."""
     def tells(self, *note):
         before, Lane.told = Lane.told, []
+        Lane.depth += 1
         try:
             tell(self, *note)
         finally:
             lanes, Lane.told = Lane.told, before
-        for it in lanes:
-            it.serve()
+            try:
+                for it in lanes:
+                    it.serve()
+                while Lane.depth == 1 and Lane.later:
+                    Lane.later.popleft()()
+            finally:
+                Lane.depth -= 1
     return tells
 
 
-def marked(name):
+def scheduled_in_lane(init):
+    """What a composition puts off is done in its lane."""
+    def make(self, scheduler, state, action, duetime):
+        by = Asked.asking
+
+        def in_lane(*given, **more):
+            found = []
+            by.inner.tell(lambda: found.append(asked(by, action)(*given, **more)))
+            return Disposable(lambda: [it.dispose() for it in found if it is not None])
+        init(self, scheduler, state, in_lane if getattr(by, "is_composition", False) else action, duetime)
+    return make
+
+
+def marked(name, value=True):
     """A function of observables, which bear this mark."""
     def mark(make):
         def makes(*given, **more):
             found = make(*given, **more)
-            setattr(found, name, True)
-            return found
+            if isinstance(found, Observable):
+                setattr(found, name, value)
+                return found
+            return marked(name, value)(found)
         return makes
     return mark
 
@@ -405,7 +432,9 @@ def bounded(make):
 IN_LANES = [
     *NOTHING_BEHIND_THE_END, ("core.operators.publish", "_publish", published), (Asked, "of", lambda _: InLane),
     *[(Subject, f"on_{it}", told_to_all) for it in ("next", "error", "completed")], ("core.operators.merge", "_merge", bounded),
-    (rx, "create", marked("is_create")), ("core.observable.concat", "_concat_with_iterable", marked("goes_on")),
+    (rx, "create", marked("is_create")), ("core.observable.concat", "_concat_with_iterable", marked("goes_on", "completes")),
+    ("core.observable.catch", "_catch_with_iterable", marked("goes_on", "fails")), ("core.operators.catch", "_catch", marked("goes_on", "fails")),
+    ("core.observable.onerrorresumenext", "_on_error_resume_next", marked("goes_on", "ends")), (ScheduledItem, "__init__", scheduled_in_lane),
     *[(f"{place}.{it.split('.')[0]}", it.split(".")[1], composed) for place, those in COMPOSED.items() for it in those.split()]]
 #: Each row: its name, the words of which a program has one, or None where any may have it, and what is put into RxPY.
 ROWS = [
