@@ -119,7 +119,7 @@ def hands_on(tell):
 class Hub(ConnectableObservable):
     """publish(), which remembers no end: who comes behind that waits for the next connection."""
 
-    asker = types.SimpleNamespace(is_stopped=False, by=None, inner=None, goes_on=False)
+    asker = types.SimpleNamespace(is_stopped=False, is_past=False, by=None, inner=None, goes_on=None, exchanges=False)
 
     def __init__(self, source):
         super().__init__(source, Subject())
@@ -163,9 +163,13 @@ class Asked(AutoDetachObserver):
         self.by = Asked.asking
         self._on_next, self._on_error, self._on_completed = (asked(self.by, it) for it in (self._on_next, self._on_error, self._on_completed))
 
+    def on_next(self, value):
+        if not self.is_past:
+            super().on_next(value)
+
     @property
     def is_past(self):
-        """Whether one above has ended."""
+        """Whether it has ended, or one above."""
         it = self
         while it is not None:
             if it.is_stopped:
@@ -193,7 +197,8 @@ def subscribe_asked(self, on_next=None, on_error=None, on_completed=None, schedu
     it = Asked.of(on_next, on_error, on_completed)
     if it.is_past:
         return Disposable()
-    it.is_composition, it.goes_on = getattr(self, "is_composition", False), getattr(self, "goes_on", False)
+    it.is_composition, it.goes_on = getattr(self, "is_composition", False), getattr(self, "goes_on", None)
+    it.exchanges = getattr(self, "exchanges", False)
     if it.is_composition or getattr(self, "is_create", False):
         it.inner = Lane()
 
@@ -218,8 +223,18 @@ def connected_for_all(connect):
     def connects(self, scheduler=None):
         if Asked.asking is not None and Asked.asking.is_past:
             return Disposable()
-        return asked(self.asker if isinstance(self, Hub) else None, connect)(self, scheduler)
+        return asked(self.asker if isinstance(self, Hub) else Connection(), connect)(self, scheduler)
     return connects
+
+
+class Connection:
+    """For whom the source of a connectable is subscribed to: for no observer, in a lane of its own."""
+
+    is_stopped = is_past = exchanges = False
+    by, goes_on = None, "connection"
+
+    def __init__(self):
+        self.inner = Lane()
 
 
 def other_of_amb(make):
@@ -238,9 +253,13 @@ def other_of_amb(make):
 
 
 def scheduled(init):
-    """An action is done for whoever had it put off."""
+    """An action is done for whoever had it put off, unless that has ended."""
     def make(self, scheduler, state, action, duetime):
-        init(self, scheduler, state, asked(Asked.asking, action), duetime)
+        by = Asked.asking
+
+        def done(*given, **more):
+            return None if by is not None and by.is_past else asked(by, action)(*given, **more)
+        init(self, scheduler, state, done, duetime)
     return make
 
 
@@ -292,7 +311,7 @@ class InLane(Asked):
     def __init__(self, *calls):
         super().__init__(*calls)
         self.lane = self.inner = Lane() if self.by is None else self.by.inner
-        self.is_composition, self.goes_on, self.behind = False, False, []
+        self.is_composition, self.goes_on, self.exchanges, self.behind = False, None, False, []
 
     def told(self, call):
         """Calls it in the lane; whether that has been."""
@@ -305,21 +324,40 @@ class InLane(Asked):
         return self.lane.tell(call)
 
     def on_next(self, value):
-        self.told(lambda: super(InLane, self).on_next(value))
+        is_open = not self.is_stopped
+        self.told(lambda: self.tells_left(value) if is_open and self.is_stopped else super(InLane, self).on_next(value))
+
+    def tells_left(self, value):
+        """Tells what stood in the lane before the inner observable that it came of was exchanged."""
+        left = [self]
+        while left[-1].by is not None and left[-1].is_stopped and not left[-1].by.exchanges:
+            left.append(left[-1].by)
+        last = left[-1]
+        if last.by is None or not last.is_stopped or last.by.is_past:
+            return
+        before, last._on_next = last._on_next, last.by.on_next
+        for it in left:
+            it.is_stopped = False
+        try:
+            super().on_next(value)
+        finally:
+            last._on_next = before
+            for it in left:
+                it.is_stopped = True
 
     def on_error(self, error):
-        goes_on = self.by is not None and self.by.goes_on in ("fails", "ends")
+        goes_on = self.by is not None and self.by.goes_on in ("fails", "ends", "connection")
         self.ends((lambda: self.makes_way(self._on_error, error)) if goes_on else lambda: super(InLane, self).on_error(error))
 
     def on_completed(self):
-        goes_on = self.by is not None and self.by.goes_on in ("completes", "ends")
+        goes_on = self.by is not None and self.by.goes_on in ("completes", "ends", "connection")
         self.ends((lambda: self.makes_way(self._on_completed)) if goes_on else super().on_completed)
 
     def makes_way(self, call, *error):
-        """What takes its place comes behind its release, and behind what is under way."""
+        """What takes its place comes behind its release, and behind what is under way; what a connectable tells at its end, behind the first."""
         if not self.is_stopped:
             self.dispose()
-            if Lane.depth:
+            if Lane.depth and self.by.goes_on != "connection":
                 Lane.later.append(lambda: call(*error))
             else:
                 call(*error)
@@ -373,6 +411,27 @@ def scheduled_in_lane(init):
     return make
 
 
+def behind_all(make):
+    """An operator whose other observable is opened behind what is under way."""
+    def makes(*given, **more):
+        others = [Observable(lambda it, scheduler=None, other=other: opened_behind(other, it, scheduler)) if isinstance(other, Observable) and at else other
+                  for at, other in enumerate(given)]
+        return make(*others, **more)
+    return makes
+
+
+def opened_behind(source, observer, scheduler):
+    found, by = SingleAssignmentDisposable(), Asked.asking
+
+    def begin():
+        found.disposable = source.subscribe_(observer.on_next, observer.on_error, observer.on_completed, scheduler)
+    if Lane.depth:
+        Lane.later.append(asked(by, begin))
+    else:
+        begin()
+    return found
+
+
 def marked(name, value=True):
     """A function of observables, which bear this mark."""
     def mark(make):
@@ -387,9 +446,15 @@ def marked(name, value=True):
 
 
 def composed(make):
-    """An operator that has subscriptions of its own."""
+    """An operator that has subscriptions of its own; those that RxPY makes it of have none."""
     def makes(*given, **more):
-        found = make(*given, **more)
+        if composed.is_within:
+            return make(*given, **more)
+        composed.is_within = True
+        try:
+            found = make(*given, **more)
+        finally:
+            composed.is_within = False
         if isinstance(found, Observable):
             found.is_composition = True
             return found
@@ -397,9 +462,17 @@ def composed(make):
     return makes
 
 
+composed.is_within = False
+
+
 def done_for_nobody(do):
     """What a callback does is its own."""
     return lambda self, *of: asked(None, do)(self, *of)
+
+
+def merged(_):
+    """merge() subscribes to all at once."""
+    return lambda *sources: rx.from_iterable(sources, scheduler=ImmediateScheduler.singleton()).pipe(ops.merge_all())
 
 
 def by_order(_):
@@ -412,7 +485,7 @@ NOTHING_BEHIND_THE_END = [
     (ConnectableObservable, "connect", connected_for_all), (Hub, "connect", connected_for_all), ("core.operators.amb", "_amb", other_of_amb)]
 #: Where operators stand that have subscriptions of their own.
 COMPOSED = {
-    "core.observable": "zip._zip combinelatest._combine_latest withlatestfrom._with_latest_from forkjoin._fork_join catch._catch_with_iterable "
+    "core.observable": "amb._amb zip._zip combinelatest._combine_latest withlatestfrom._with_latest_from forkjoin._fork_join catch._catch_with_iterable "
                        "onerrorresumenext._on_error_resume_next",
     "core.operators": "amb._amb window._window window._window_when window._window_toggle windowwithcount._window_with_count windowwithtime._window_with_time "
                       "windowwithtimeorcount._window_with_time_or_count buffer._buffer buffer._buffer_when buffer._buffer_toggle buffer._buffer_with_count "
@@ -432,9 +505,10 @@ def bounded(make):
 IN_LANES = [
     *NOTHING_BEHIND_THE_END, ("core.operators.publish", "_publish", published), (Asked, "of", lambda _: InLane),
     *[(Subject, f"on_{it}", told_to_all) for it in ("next", "error", "completed")], ("core.operators.merge", "_merge", bounded),
-    (rx, "create", marked("is_create")), ("core.observable.concat", "_concat_with_iterable", marked("goes_on", "completes")),
+    ("core.operators.switchlatest", "_switch_latest", marked("exchanges")), (rx, "create", marked("is_create")), ("core.observable.concat", "_concat_with_iterable", marked("goes_on", "completes")),
     ("core.observable.catch", "_catch_with_iterable", marked("goes_on", "fails")), ("core.operators.catch", "_catch", marked("goes_on", "fails")),
-    ("core.observable.onerrorresumenext", "_on_error_resume_next", marked("goes_on", "ends")), (ScheduledItem, "__init__", scheduled_in_lane),
+    ("core.observable.onerrorresumenext", "_on_error_resume_next", marked("goes_on", "ends")),
+    *[(f"core.operators.timeout{it}", f"_timeout{under}", behind_all) for it, under in (("", ""), ("withmapper", "_with_mapper"))], (ScheduledItem, "__init__", scheduled_in_lane),
     *[(f"{place}.{it.split('.')[0]}", it.split(".")[1], composed) for place, those in COMPOSED.items() for it in those.split()]]
 #: Each row: its name, the words of which a program has one, or None where any may have it, and what is put into RxPY.
 ROWS = [
@@ -451,6 +525,8 @@ ROWS = [
     ("a share, or what is published, has no end that it remembers", "share share_of publish_of publish_counted partition", [
         ("core.operators.publish", "_publish", published)]),
     ("what has ended is connected for nobody", "replay_counted multicast_counted publish_value_counted", [(ConnectableObservable, "connect", connected)]),
+    ("merge subscribes to all at once", "merge merge_of lasting publish replay", [("core.observable.merge", "_merge", merged)]),
+    ("subscribe_on disposes at once", "subscribe_on", [("core.operators.subscribeon", "ScheduledDisposable", lambda _: lambda _, it: it)]),
     ("a composition tells behind what stands in its lane, and its end behind a release", None, IN_LANES),
 ]
 
@@ -461,8 +537,14 @@ def rows_of(program):
     return [name for name, of, _ in ROWS if of is None or words & set(of.split())]
 
 
+def tells_at_once(program):
+    """Whether something of a program tells as it is subscribed to, whatever is at work."""
+    words = {*programs.forms(program), *program["subjects"]}
+    return bool(words & set("expand replay replay_counted replay_of publish_value publish_value_counted publish_value_of BehaviorSubject ReplaySubject".split()))
+
+
 @contextlib.contextmanager
 def with_rows(names):
     """RxPY with what these rows put in."""
-    with put_in(change for name, _, changes in ROWS if name in names for change in changes):
+    with put_in(dict.fromkeys(change for name, _, changes in ROWS if name in names for change in changes)):
         yield

@@ -4,6 +4,7 @@ A program is a dictionary. `subjects` has their kinds; `shared` and `pipelines` 
 n-th call; `steps` has what each thread does. An expression is a list: a word, its expressions, callbacks and numbers, as FORMS has them.
 """
 import copy
+import functools
 import itertools
 import random
 
@@ -96,6 +97,7 @@ SHARES = {"share_of": "{e}.pipe(ops.share())", "publish_of": "{e}.pipe(ops.publi
           "multicast_of": "{e}.pipe(ops.multicast(w.kinds_of_subject.Subject()))", "publish_value_of": "{e}.pipe(ops.publish_value({v}))"}
 CONNECTED = "publish_of replay_of multicast_of publish_value_of".split()
 FORMS = {**SOURCES, **OPERATORS, **SHARES}
+ALL_OPERATORS, ALL_SHARES = list(OPERATORS), list(SHARES)
 TIMED = [it for it, text in FORMS.items() if "w.clock" in text]
 TRANSPARENT = list(itertools.takewhile(lambda it: it != "flat_map", OPERATORS))
 KINDS = "Subject Subject Subject BehaviorSubject ReplaySubject AsyncSubject".split()
@@ -111,9 +113,10 @@ ROWED = ("expand time_interval zip_of zip publish_value skip_until sample sample
 JOINS = "using using using defer merge_of concat_of zip_of combine_latest_of amb_of fork_join_of catch_of resume_of if_then case for_in create".split()
 
 
+@functools.lru_cache(None)
 def slots(form):
     """The places of a form, in their order."""
-    return [part.split("}")[0] for part in FORMS[form].split("{")[1:]]
+    return tuple(part.split("}")[0] for part in FORMS[form].split("{")[1:])
 
 
 class Maker:
@@ -131,7 +134,7 @@ class Maker:
         shared = []
         for _ in range(rand.choice([0, 1, 1, 2])):
             self.used = set()
-            form = "share_of" if plain else rand.choice(list(SHARES))
+            form = "share_of" if plain else rand.choice(ALL_SHARES)
             form = "replay_of" if self.is_rare(form) else form
             shared.append([form, *self.fill(form, 1)])
             self.many_shared += 1
@@ -229,7 +232,7 @@ class Maker:
             form = "lasting" if is_hot else "subject"
         found = [form, *self.fill(form, depth)]
         for _ in range(0 if is_hot else rand.choice([0, 1, 1, 2, 3] if depth == 2 else [0, 0, 1, 2])):
-            name = rand.choice(TRANSPARENT) if self.manner == "plain" or rand.random() < 0.3 else rand.choice(list(OPERATORS))
+            name = rand.choice(TRANSPARENT) if self.manner == "plain" or rand.random() < 0.3 else rand.choice(ALL_OPERATORS)
             if self.threads > 1 and name in TIMED or self.is_rare(name):
                 continue
             found = [name, found, *self.fill(name, depth)]
@@ -309,7 +312,7 @@ def run(program, w):
         w.shared.append(_function(it, w)())
     for it in program["pipelines"]:
         w.pipelines.append(_function(it, w)())
-    w.kept, w.is_collected = kept(program), not STAYS & set(forms(program))
+    w.kept, w.is_collected = kept(program), not STAYS & forms(program)
     is_plain = program["manner"] == "plain"
     w.begin(program["first"], is_calm=is_plain)
     w.run(*program["steps"])
@@ -355,7 +358,7 @@ def as_python(program, package="cellarcliff.rx"):
              f"    w.deeds = {program['deeds']}", f"    s = [w.subject(kind) for kind in {program['subjects']}]"]
     lines += [f"    w.shared.append({written(it)})" for it in program["shared"]]
     lines += [f"    w.pipelines.append({written(it)})" for it in program["pipelines"]]
-    lines.append(f"    w.kept, w.is_collected = {kept(program)}, {not STAYS & set(forms(program))}")
+    lines.append(f"    w.kept, w.is_collected = {kept(program)}, {not STAYS & forms(program)}")
     is_plain = program["manner"] == "plain"
     lines += [f"    w.begin({program['first']}, is_calm={is_plain})", f"    w.run({', '.join(map(str, program['steps']))})"]
     if is_plain:
@@ -381,14 +384,13 @@ def ways(program):
 
 
 def forms(program):
-    """All words of a program."""
-    def of(it):
-        if isinstance(it, list):
-            if it and isinstance(it[0], str) and it[0] in FORMS:
-                yield it[0]
-            for part in it:
-                yield from of(part)
-    yield from of([*program["shared"], *program["pipelines"]])
+    """The words of a program."""
+    found, left = set(), [*program["shared"], *program["pipelines"]]
+    while left:
+        it = left.pop()
+        found.add(it[0])
+        left += [part for part in it[1:] if isinstance(part, list)]
+    return found
 
 
 # smaller

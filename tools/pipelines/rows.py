@@ -1,8 +1,12 @@
 """Whether two packages tell the same of a program, by which rows of the page of differences they do not, and faults that are planted to try that.
 
 A row is fixed before the run: of what programs it is, and what it puts into RxPY (peer.py). It holds of a program where RxPY with that put in
-tells what the package tells.
+tells what the package tells. One row is no change of RxPY: an item that waits while the operator that subscribes is at work is told behind the
+release that came meanwhile; there all else has to be the same.
 """
+import itertools
+
+WAITS = "an item that waits is told behind the release"
 
 
 def in_time(ours, theirs):
@@ -40,8 +44,8 @@ def differs(ours, theirs):
 class Rows:
     """Of one program, those that hold: `ask` answers what RxPY comes to with those of the names that it is given."""
 
-    def __init__(self, names, ask):
-        self.names, self.ask, self.answers = names, ask, {}
+    def __init__(self, names, ask, tells_at_once=False):
+        self.names, self.ask, self.tells_at_once, self.answers = names, ask, tells_at_once, {}
 
     def with_rows(self, names):
         names = tuple(names)
@@ -54,18 +58,28 @@ class Rows:
         return theirs is not None and not differs(ours, theirs)
 
     def that_hold(self, ours):
-        """One by which the two tell the same, or the least of all that the program may differ by; none where they do not."""
-        for name in self.names:
-            if self.excuse(ours, [name]):
-                return [name]
-        found = list(self.names)
-        if not found or not self.excuse(ours, found):
-            return []
-        for name in self.names:
+        """The fewest by which the two tell the same; none where they do not."""
+        names = self.names
+        for some in [*([it] for it in names), names, *([it for it in names if it != less] for less in names), *itertools.combinations(names, 2)]:
+            if self.excuse(ours, some):
+                return self.fewest(ours, list(some))
+        return [WAITS] if self.waits(ours) else []
+
+    def fewest(self, ours, found):
+        for name in list(found):
             less = [it for it in found if it != name]
-            if len(found) > 1 and self.excuse(ours, less):
+            if less and self.excuse(ours, less):
                 found = less
         return found
+
+    def waits(self, ours):
+        """Whether something tells as it is subscribed to, and all is told but what stands on the wrong side of a release."""
+        return self.tells_at_once and any(it is not None and not differs(plain(ours), plain(it)) for it in self.answers.values())
+
+
+def plain(one):
+    """What was told, whether its resource was released or not."""
+    return {**one, "notes": [[name, [[it.replace("!", "") for it in note] for note in heard]] for name, heard in one["notes"]]}
 
 
 def planted(ours):
